@@ -1,0 +1,113 @@
+//! What the office answers.
+
+ghost use Rattle.std.specs.Prelude.{◌≡◌};
+
+use crate::denial::Denial;
+use crate::revision::State;
+use crate::text::Text;
+use crate::word::Word;
+use std::marker::Model;
+
+/// A profile in the list of a team's profiles.
+#[derive(Debug, Drop)]
+pub struct ListedProfile {
+    pub profile: Word,
+    /// The number of the revision that is issued, or 0.
+    pub issued: u32,
+    /// How many revisions there are.
+    pub revisions: u32,
+    /// The state of the last revision.
+    pub state: State,
+}
+
+/// The profiles of a team, by name.
+#[derive(Debug, Drop)]
+pub struct Listing {
+    profiles: Vec<ListedProfile>,
+}
+
+impl Model for Listing {
+    ghost use Rattle.std.specs.Prelude.{List};
+    ghost use Rattle.review_policy.specs.declared.answer.ListedProfile.{ListedProfile};
+
+    ghost Value = { List ListedProfile };
+
+    ghost view = { λ l. l.profiles.items };
+}
+
+impl Listing {
+    /// These profiles, in their order.
+    pub fn new(profiles: Vec<ListedProfile>) -> Listing
+        ensures { result ≡ profiles.items }
+    {
+        Listing { profiles }
+    }
+
+    /// The profiles in their order.
+    pub fn profiles(&self) -> &[ListedProfile]
+        ensures { result.now ≡ self.now }
+    {
+        self.profiles.as_slice()
+    }
+}
+
+/// What a request that was carried out is told. Digests are of SHA-256.
+#[derive(Debug, Drop)]
+pub enum Reply {
+    Enrolled,
+    Submitted {
+        digest: [u8; 32],
+        revision: u32,
+    },
+    Voted,
+    Issued {
+        digest: [u8; 32],
+    },
+    Withdrawn,
+    Adopted,
+    Shown {
+        digest: [u8; 32],
+        document: Text,
+        state: State,
+    },
+    Sheet {
+        sheet: Text,
+    },
+    Listed {
+        profiles: Listing,
+    },
+    Fetched {
+        digest: [u8; 32],
+        document: Text,
+        revision: u32,
+    },
+    Held,
+    Released,
+}
+
+/// What failed, so that a request was not carried out.
+#[derive(Clone, Copy, Debug, PartialEq, Eq)]
+pub enum Fault {
+    /// There was no memory.
+    Memory,
+    /// The disk failed.
+    Disk,
+    /// The disk is full, or a value is too big for it.
+    Full,
+    /// The tables aren't those of an office.
+    NotAnOffice,
+}
+
+/// The answer to a request.
+#[derive(Debug, Drop)]
+pub enum Answer {
+    /// It was carried out.
+    Done(Reply),
+    /// A rule refuses it, and nothing changed; for a refused document, why.
+    Denied {
+        denial: Denial,
+        fault: Option<Text>,
+    },
+    /// Something failed, and nothing changed.
+    Fault(Fault),
+}

@@ -1,0 +1,61 @@
+//! What is asked of the office.
+
+use crate::role::Roles;
+use crate::token::Token;
+use crate::word::Word;
+
+/// A profile, by its team and its own name.
+#[derive(Debug, Drop)]
+pub struct ProfileName {
+    pub team: Word,
+    pub profile: Word,
+}
+
+/// What a request asks for. Digests are of SHA-256; revisions are numbered from 1.
+#[derive(Debug, Drop)]
+pub enum Ask {
+    /// To enrol a user, or to give an enrolled one these roles and this token.
+    Enrol {
+        user: Word,
+        team: Word,
+        roles: Roles,
+        digest: [u8; 32],
+    },
+    /// To hand in a document, its bytes as they came.
+    Submit {
+        name: ProfileName,
+        document: Vec<u8>,
+    },
+    /// To vote on a revision whose text has this digest.
+    Vote {
+        name: ProfileName,
+        revision: u32,
+        digest: [u8; 32],
+        approve: bool,
+    },
+    /// To issue a revision to hosts.
+    Issue { name: ProfileName, revision: u32 },
+    /// To take a revision back.
+    Withdraw { name: ProfileName, revision: u32 },
+    /// To make a revision the baseline of its team.
+    Adopt { name: ProfileName, revision: u32 },
+    /// To see a revision's text.
+    Show { name: ProfileName, revision: u32 },
+    /// To see the review sheet of a revision.
+    Sheet { name: ProfileName, revision: u32 },
+    /// To see the profiles of a team.
+    List { team: Word },
+    /// To fetch what was issued of a profile.
+    Fetch { name: ProfileName },
+    /// To hold a profile back from being issued and fetched.
+    Hold { name: ProfileName },
+    /// To release a held profile.
+    Release { name: ProfileName },
+}
+
+/// A request: what is asked, and the token that its caller shows.
+#[derive(Debug, Drop)]
+pub struct Request {
+    pub token: Token,
+    pub ask: Ask,
+}

@@ -1,0 +1,31 @@
+//! Revisions of a profile and the votes on them.
+
+use crate::word::Word;
+
+/// Where a revision stands.
+#[derive(Clone, Copy, Debug, PartialEq, Eq)]
+pub enum State {
+    /// The last submission of its profile, on which reviewers may vote.
+    Open,
+    /// A later submission took its place before it was issued.
+    Closed,
+    /// What hosts fetch.
+    Issued,
+    /// It was issued, and a later revision was issued after it.
+    Replaced,
+    /// It was taken back.
+    Withdrawn,
+}
+
+/// The standing vote of a user on a revision.
+#[derive(Debug, Drop)]
+pub struct VoteRow {
+    /// Who voted.
+    pub voter: Word,
+    /// Whether the vote approves; else it rejects.
+    pub approve: bool,
+    /// Whether it counts, and the voter held the role security at the vote and holds it now.
+    pub security: bool,
+    /// Whether the voter is a reviewer now; else the vote has lapsed.
+    pub counts: bool,
+}

@@ -1,0 +1,101 @@
+//! Roles, and sets of them.
+
+ghost use Rattle.std.specs.Prelude.{◌≡◌, ◌<◌, ◌^◌, Some, None, if◌then◌else◌, nat_lt};
+ghost use Rattle.std.specs.Int.RustNames.{bit_or};
+ghost use Rattle.review_policy.specs.Role.{has_role, place_of};
+
+use std::marker::Model;
+
+/// What a user may do in the office.
+#[derive(Clone, Copy, Debug, PartialEq, Eq)]
+pub enum Role {
+    /// Enrols users.
+    Registrar,
+    /// Hands in profiles of the own team.
+    Author,
+    /// Votes on revisions.
+    Reviewer,
+    /// Gives the approvals that a wider profile needs, adopts baselines, holds and withdraws.
+    Security,
+    /// Issues approved revisions.
+    Issuer,
+    /// Fetches what was issued for the own team.
+    Machine,
+}
+
+/// A set of roles.
+#[derive(Clone, Copy, Debug, PartialEq, Eq)]
+pub struct Roles {
+    bits: u8,
+}
+
+impl Model for Roles {
+    ghost use Rattle.std.specs.Prelude.{◌<◌, ℕ};
+
+    ghost Value = { ℕ };
+
+    ghost view = { λ r. r.bits };
+
+    ghost invariant = { λ r. r.bits < 64 };
+
+    ghost inverse = { λ n. record { bits = n } };
+}
+
+impl Roles {
+    /// No role.
+    pub fn empty() -> Roles
+        ensures { result ≡ 0 }
+    {
+        Roles { bits: 0 }
+    }
+
+    /// The roles whose bits are set, where none is above the last role's.
+    pub fn from_bits(bits: u8) -> Option<Roles>
+        ensures { result ≡ (if nat_lt bits 64 then Some bits else None) }
+    {
+        if bits < 64 {
+            Some(Roles { bits })
+        } else {
+            None
+        }
+    }
+
+    /// The number whose bit is set at the place of each role.
+    pub fn bits(self) -> u8
+        ensures value { result ≡ self }
+        ensures small { result < 64 }
+    {
+        self.bits
+    }
+
+    /// Whether the role is in the set.
+    pub fn has(self, role: Role) -> bool
+        ensures { result ≡ has_role self role }
+    {
+        (self.bits >> place_of(role)) & 1 == 1
+    }
+
+    /// The set with the role in it.
+    pub fn with(self, role: Role) -> Roles
+        ensures { result ≡ bit_or self (2 ^ place_of role) }
+    {
+        Roles {
+            bits: self.bits | (1 << place_of(role)),
+        }
+    }
+}
+
+// The place of a role's bit.
+fn place_of(role: Role) -> u8
+    ensures place { result ≡ place_of role }
+    ensures small { result < 6 }
+{
+    match role {
+        Role::Registrar => 0,
+        Role::Author => 1,
+        Role::Reviewer => 2,
+        Role::Security => 3,
+        Role::Issuer => 4,
+        Role::Machine => 5,
+    }
+}
