@@ -104,10 +104,7 @@ pub enum Answer {
     /// It was carried out.
     Done(Reply),
     /// A rule refuses it, and nothing changed; for a refused document, why.
-    Denied {
-        denial: Denial,
-        fault: Option<Text>,
-    },
+    Denied { denial: Denial, fault: Option<Text> },
     /// Something failed, and nothing changed.
     Fault(Fault),
 }

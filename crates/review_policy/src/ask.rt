@@ -34,23 +34,46 @@ pub enum Ask {
         approve: bool,
     },
     /// To issue a revision to hosts.
-    Issue { name: ProfileName, revision: u32 },
+    Issue {
+        name: ProfileName,
+        revision: u32,
+    },
     /// To take a revision back.
-    Withdraw { name: ProfileName, revision: u32 },
+    Withdraw {
+        name: ProfileName,
+        revision: u32,
+    },
     /// To make a revision the baseline of its team.
-    Adopt { name: ProfileName, revision: u32 },
+    Adopt {
+        name: ProfileName,
+        revision: u32,
+    },
     /// To see a revision's text.
-    Show { name: ProfileName, revision: u32 },
+    Show {
+        name: ProfileName,
+        revision: u32,
+    },
     /// To see the review sheet of a revision.
-    Sheet { name: ProfileName, revision: u32 },
+    Sheet {
+        name: ProfileName,
+        revision: u32,
+    },
     /// To see the profiles of a team.
-    List { team: Word },
+    List {
+        team: Word,
+    },
     /// To fetch what was issued of a profile.
-    Fetch { name: ProfileName },
+    Fetch {
+        name: ProfileName,
+    },
     /// To hold a profile back from being issued and fetched.
-    Hold { name: ProfileName },
+    Hold {
+        name: ProfileName,
+    },
     /// To release a held profile.
-    Release { name: ProfileName },
+    Release {
+        name: ProfileName,
+    },
 }
 
 /// A request: what is asked, and the token that its caller shows.

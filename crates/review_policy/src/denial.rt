@@ -28,10 +28,7 @@ pub enum Rule {
     AuthorIssues,
     Rejected,
     /// With the number of approvals that count, and the need.
-    ApprovalsShort {
-        got: u64,
-        need: Need,
-    },
+    ApprovalsShort { got: u64, need: Need },
     SecurityMissing,
     NotStanding,
     AuthorAdopts,

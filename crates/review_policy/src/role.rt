@@ -80,7 +80,7 @@ impl Roles {
         ensures { result ≡ bit_or self (2 ^ place_of role) }
     {
         Roles {
-            bits: self.bits | (1 << place_of(role)),
+            bits: self.bits | mask_of(role),
         }
     }
 }
@@ -97,5 +97,20 @@ fn place_of(role: Role) -> u8
         Role::Security => 3,
         Role::Issuer => 4,
         Role::Machine => 5,
+    }
+}
+
+// The number whose one bit is the role's.
+fn mask_of(role: Role) -> u8
+    ensures mask { result ≡ 2 ^ place_of role }
+    ensures small { result < 64 }
+{
+    match role {
+        Role::Registrar => 1,
+        Role::Author => 2,
+        Role::Reviewer => 4,
+        Role::Security => 8,
+        Role::Issuer => 16,
+        Role::Machine => 32,
     }
 }
