@@ -1,0 +1,35 @@
+//! Why a store gives no answer.
+
+use std::alloc::AllocError;
+use thiserror::Error;
+
+/// Why a store gives no answer. The tables are as they were.
+#[derive(Clone, Copy, Debug, Drop, PartialEq, Eq, Error)]
+pub enum StoreFault {
+    /// There was no memory.
+    #[error("memory")]
+    NoMemory,
+    /// The disk failed.
+    #[error("disk")]
+    Disk,
+    /// The disk is full, or a value is too big for it.
+    #[error("full")]
+    Full,
+    /// A table or a row isn't of an office's form.
+    #[error("not-an-office")]
+    NotAnOffice,
+    /// One of the tables is there already.
+    #[error("already-founded")]
+    AlreadyFounded,
+}
+
+impl From<AllocError> for StoreFault {
+    ghost use Rattle.std.specs.Prelude.{◌≡◌};
+    ghost use Rattle.office_tables.specs.declared.fault.StoreFault.TheVariants.{NoMemory};
+
+    ghost from_gives = { λ _ e. e ≡ NoMemory };
+
+    fn from(_error: AllocError) -> StoreFault {
+        StoreFault::NoMemory
+    }
+}
