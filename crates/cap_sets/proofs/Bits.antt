@@ -5,9 +5,10 @@ use Rattle.std.proofs.Math.Nat.{mod-lt, mod-eq_of_lt}
 use Rattle.std.proofs.lemmas.Nat.{and_mask, and_le_l}
 use Rattle.std.proofs.lemmas.Nat.Bits.{bit_at_and, bit_at_or, bit_at_not, bit_at_above, bit_at-zero, bit_at-lt, bit_at-pow_same, bit_at-pow_other, bit_at-trailing_zeros, same_from_bits}
 use Rattle.std.proofs.lemmas.Bool.{cases_eq, cases_lt}
+use Rattle.std.specs.Bool.{OnFalse}
 use Rattle.std.specs.Int.{bit_at, bit_not, trailing_zeros, w64}
 use Rattle.std.specs.Int.RustNames.{bit_and, bit_or}
-use Rattle.std.specs.Prelude.{IsTrue, ◌↔◌, Option, Some, None, nat_lt, if◌then◌else◌}
+use Rattle.std.specs.Prelude.{IsTrue, Bool, true, false, ◌↔◌, Option, Some, None, nat_lt, if◌then◌else◌}
 use Rattle.std.proofs.Common.{lt-ltb, le-ltb}
 use Rattle.bitflags.proofs.OnLiterals.{bitflags_on_literals}
 use Rattle.bitflags.specs.Sets.{known_bits}
@@ -134,3 +135,15 @@ only_member k n h = elim (cases_eq n k) [ inl same ↦ same | inr other ↦ let 
 -- a capability alone is the only member of its set
 pub has_single : (k n : ℕ) → Has (single k) n ↔ (n ≡ k)
 has_single k n = (only_member k n, λ e. rw e (bit_at-pow_same k))
+
+-- a set that is not within another has a member that the other hasn't
+pub some_lacking : (a b : ℕ) → a < 2 ^ 64 → b < 2 ^ 64 → (bit_and a b == b) ≡ false → (n : ℕ) × (Has b n × ¬ Has a n)
+some_lacking a b small_a small_b test =
+    elim (cases_eq (outside b a) 0) [
+      | inl none ↦ let within = test_from_within a b (within_from_none b a small_b small_a none) in cc
+      | inr some ↦ let lowest = lowest_from_some b a small_b small_a some in (trailing_zeros w64 (outside b a), lowest.holds)
+    ]
+
+pub lacking_from_test : (a b : ℕ) (test : Bool) → a < 2 ^ 64 → b < 2 ^ 64 → test ≡ (bit_and a b == b) → OnFalse test ((n : ℕ) × (Has b n × ¬ Has a n))
+lacking_from_test a b true small_a small_b is = tt
+lacking_from_test a b false small_a small_b is = some_lacking a b small_a small_b (sym is)

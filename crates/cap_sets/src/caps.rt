@@ -1,6 +1,7 @@
 // A set of capabilities.
 
 ghost use Rattle.std.specs.Prelude.{◌≡◌, ◌<◌, ◌^◌, ◌⊎◌, ◌↔◌, ◌==◌, ℕ, Some, None, IsTrue, IfSome, IfNone, nat_lt, if◌then◌else◌, option_map};
+ghost use Rattle.std.specs.Bool.{OnFalse};
 ghost use Rattle.std.specs.Int.{bit_at};
 ghost use Rattle.std.specs.Int.RustNames.{bit_and, bit_or};
 ghost use Rattle.cap_sets.specs.Capability.{Has, IsWithin, single, number_named, names_of, IsLowest};
@@ -68,6 +69,7 @@ impl Caps {
     /// Whether each member of the other set is in this one.
     pub fn contains(self, other: Caps) -> bool
         ensures members { IsTrue result ↔ IsWithin other self }
+        ensures lacks { OnFalse result ((n : ℕ) × (Has other n × ¬ Has self n)) }
         ensures bits { result ≡ (bit_and self other == other) }
     {
         self.flags.contains(other.flags)

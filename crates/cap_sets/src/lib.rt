@@ -4,10 +4,12 @@
 #![tactic(auto)]
 
 mod caps;
+mod exec;
 mod flags;
 mod names;
 mod state;
 
 pub use caps::Caps;
+pub use exec::{Eperm, File, execve, execve_root};
 pub use names::Names;
 pub use state::{CapFault, CapState};
