@@ -3,7 +3,7 @@ use Rattle.std.proofs.Common.{◌≡◌, ◌∙◌, ℕ, ◌-◌, ◌%◌, ◌^�
 use Rattle.std.proofs.Math.Pow.{pow_pos}
 use Rattle.std.proofs.Math.Nat.{mod-lt, mod-eq_of_lt}
 use Rattle.std.proofs.lemmas.Nat.{and_mask, and_le_l}
-use Rattle.std.proofs.lemmas.Nat.Bits.{bit_at_and, bit_at_or, bit_at_not, bit_at_above, bit_at-zero, bit_at-lt, bit_at-pow_same, bit_at-pow_other, bit_at-trailing_zeros, same_from_bits}
+use Rattle.std.proofs.lemmas.Nat.Bits.{bit_at_and, bit_at_or, bit_at_not, bit_at_above, bit_at-zero, bit_at-lt, bit_at-pow_same, bit_at-pow_other, bit_at_ones, bit_at-trailing_zeros, same_from_bits}
 use Rattle.std.proofs.lemmas.Bool.{cases_eq, cases_lt}
 use Rattle.std.specs.Bool.{OnFalse}
 use Rattle.std.specs.Int.{bit_at, bit_not, trailing_zeros, w64}
@@ -147,3 +147,11 @@ some_lacking a b small_a small_b test =
 pub lacking_from_test : (a b : ℕ) (test : Bool) → a < 2 ^ 64 → b < 2 ^ 64 → test ≡ (bit_and a b == b) → OnFalse test ((n : ℕ) × (Has b n × ¬ Has a n))
 lacking_from_test a b true small_a small_b is = tt
 lacking_from_test a b false small_a small_b is = some_lacking a b small_a small_b (sym is)
+
+-- a number none of whose bits is above 40 is kept by the mask of the 41
+pub kept_from_members : (bits : ℕ) → ((n : ℕ) → Has bits n → n < 41) → bit_and bits (2 ^ 41 - 1) ≡ bits
+kept_from_members bits known =
+    same_members (bit_and bits (2 ^ 41 - 1)) bits (λ n. (
+      λ has. (both_from_and bits (2 ^ 41 - 1) n has).0,
+      λ has. and_from_both bits (2 ^ 41 - 1) n (has, bit_at_ones 41 n (known n has)),
+    ))

@@ -1,13 +1,16 @@
 -- A look-up in the table of names, and its numbers.
 use Rattle.std.proofs.Common.{◌≡◌, ◌∙◌, ℕ, ◌+◌, ◌^◌, ◌<◌, ◌≤◌, drop, List, [], ◌∷◌, true, false, zero, suc, map, get_or, Option, Some, None, cond, length, refl, sym, ap, arith, ne_eqb, ◌≢◌}
-use Rattle.std.specs.Prelude.{nat_eq, option_map, ◌==◌, slice_get}
-use Rattle.std.specs.Cmp.Lexicographic.{pointwise}
+use Rattle.std.specs.Prelude.{◌↔◌, nat_eq, option_map, ◌==◌, slice_get}
+use Rattle.std.specs.Cmp.Lexicographic.{pointwise, same_text, other_text}
 use Rattle.std.proofs.lemmas.Nat.{pow_below}
 use Rattle.std.proofs.lemmas.List.{drop_more, drop_all, length-map}
 use Rattle.std.proofs.lemmas.Option.{slice_get_within, slice_get-get_or, slice_get-map}
 use Rattle.std.specs.Int.{bit_at}
 use Rattle.bitflags.specs.Sets.{find_row, find_name}
-use Rattle.cap_sets.specs.Capability.{names_from, names_left, rows_from, number_from, number_named, cap_names, cap_table, single}
+use Rattle.cap_sets.specs.Capability.{names_from, names_left, rows_from, number_from, number_named, cap_names, cap_table, single, Has, IsNamed, names_of}
+use Rattle.cap_sets.proofs.Bits.{cases_bit}
+use Rattle.std.proofs.Common.{eq-eqb, ◌⊎◌, inl, inr, add-zero, zero-add, Bool}
+use Rattle.std.specs.List.{Contains}
 
 pub find_row_number : (n : ℕ) (names : List (List ℕ)) (name : List ℕ) → find_row (rows_from n names) name ≡ option_map single (number_from n names name)
 unfolding find_row number_from
@@ -76,3 +79,103 @@ names_miss i caps lt test = rw (drop_more cap_names i [] lt, test) refl
 pub names_end : (i caps : ℕ) → 41 ≤ i → names_left i caps ≡ []
 unfolding names_from
 names_end i caps ge = rw (drop_all i cap_names ge) refl
+
+names_from-hit : (n : ℕ) (first : List ℕ) (names : List (List ℕ)) (caps : ℕ) → Has caps n → names_from n (first ∷ names) caps ≡ first ∷ names_from (n + 1) names caps
+unfolding names_from
+names_from-hit n first names caps one = rw (eq-eqb (bit_at caps n) 1 one) refl
+
+names_from-miss : (n : ℕ) (first : List ℕ) (names : List (List ℕ)) (caps : ℕ) → bit_at caps n ≡ 0 → names_from n (first ∷ names) caps ≡ names_from (n + 1) names caps
+unfolding names_from
+names_from-miss n first names caps none = rw (ne_eqb (bit_at caps n) 1 (omega arith)) refl
+
+contains_head_or_tail : (first : List ℕ) (rest : List (List ℕ)) (name : List ℕ) → Contains (first ∷ rest) name → (first ≡ name) ⊎ Contains rest name
+contains_head_or_tail first rest name (zero, lt, at) = inl at
+contains_head_or_tail first rest name (suc k, lt, at) = inr (k, omega arith, at)
+
+contains_head : (first : List ℕ) (rest : List (List ℕ)) (name : List ℕ) → first ≡ name → Contains (first ∷ rest) name
+contains_head first rest name same = (zero, omega arith, same)
+
+contains_tail : (first : List ℕ) (rest : List (List ℕ)) (name : List ℕ) → Contains rest name → Contains (first ∷ rest) name
+contains_tail first rest name (k, lt, at) = (suc k, omega arith, at)
+
+-- the name of a member, where the first of these names has number n
+abbrev IsMemberName : ℕ → List (List ℕ) → ℕ → List ℕ → Type 0
+IsMemberName n names caps name = (i : ℕ) × (slice_get names i ≡ Some name) × Has caps (n + i)
+
+member_name-tail : (n : ℕ) (first : List ℕ) (names : List (List ℕ)) (caps : ℕ) (name : List ℕ) → IsMemberName (n + 1) names caps name → IsMemberName n (first ∷ names) caps name
+member_name-tail n first names caps name (i, at, has) =
+    let place : n + suc i ≡ n + 1 + i = omega arith in
+    (suc i, at, rw place has)
+
+from_listed : (n : ℕ) (names : List (List ℕ)) (caps : ℕ) (name : List ℕ) → Contains (names_from n names caps) name → IsMemberName n names caps name
+unfolding names_from
+from_listed n [] caps name (k, lt, at) = absurd (omega arith)
+from_listed n (first ∷ names) caps name listed = elim (cases_bit caps n) [
+  | inl none ↦ member_name-tail n first names caps name (from_listed (n + 1) names caps name (rw (names_from-miss n first names caps none) at listed))
+  | inr one ↦ elim (contains_head_or_tail first (names_from (n + 1) names caps) name (rw (names_from-hit n first names caps one) at listed)) [
+    | inl same ↦ (zero, ap (λ x. Some x) same, rw (add-zero n) one)
+    | inr later ↦ member_name-tail n first names caps name (from_listed (n + 1) names caps name later)
+  ]
+]
+
+to_listed : (n : ℕ) (names : List (List ℕ)) (caps : ℕ) (name : List ℕ) → IsMemberName n names caps name → Contains (names_from n names caps) name
+to_listed n [] caps name (i, at, has) = cc
+to_listed n (first ∷ names) caps name (zero, at, has) =
+    let one : Has caps n = rw (add-zero n) at has in
+    let same : first ≡ name = cc in
+    rw (names_from-hit n first names caps one) (contains_head first _ name same)
+to_listed n (first ∷ names) caps name (suc i, at, has) =
+    let place : n + suc i ≡ n + 1 + i = omega arith in
+    let later = to_listed (n + 1) names caps name (i, at, rw place at has) in
+    elim (cases_bit caps n) [
+      | inl none ↦ rw (names_from-miss n first names caps none) later
+      | inr one ↦ rw (names_from-hit n first names caps one) (contains_tail first _ name later)
+    ]
+
+-- the names of a set are those of its members
+pub names_of-members : (caps : ℕ) (name : List ℕ) → Contains (names_of caps) name ↔ ((n : ℕ) × IsNamed n name × Has caps n)
+names_of-members caps name = (
+  λ listed. let (i, at, has) = from_listed 0 cap_names caps name listed in (i, at, rw (zero-add i) at has),
+  λ (n, at, has). to_listed 0 cap_names caps name (n, at, rw (zero-add n) has),
+)
+
+named_at : (n : ℕ) (names : List (List ℕ)) (name : List ℕ) (k : ℕ) → number_from n names name ≡ Some k → (i : ℕ) × (k ≡ n + i) × (slice_get names i ≡ Some name)
+unfolding number_from
+named_at n [] name k e = cc
+named_at n (first ∷ names) name k e =
+    (elim (pointwise nat_eq first name) as (λ b. b ≡ pointwise nat_eq first name → cond b (Some n) (number_from (n + 1) names name) ≡ Some k → (i : ℕ) × (k ≡ n + i) × (slice_get (first ∷ names) i ≡ Some name)) [
+      | true ↦ λ test e. let same : first ≡ name = same_text first name test in let here : n ≡ k = cc in (zero, omega arith, ap (λ x. Some x) same)
+      | false ↦ λ test e. let later = named_at (n + 1) names name k e in (suc later.0, omega (arith, later.1), later.2)
+    ]) refl e
+
+not_here : (test : Bool) (n : ℕ) (rest : Option ℕ) → cond test (Some n) rest ≡ None → (test ≡ false) × (rest ≡ None)
+not_here true n rest e = cc
+not_here false n rest e = (refl, e)
+
+nowhere_named : (n : ℕ) (names : List (List ℕ)) (name : List ℕ) → number_from n names name ≡ None → (i : ℕ) → slice_get names i ≢ Some name
+unfolding number_from
+nowhere_named n [] name e i at = cc
+nowhere_named n (first ∷ names) name e zero at =
+    let same : first ≡ name = cc in
+    other_text first name (sym (not_here (pointwise nat_eq first name) n (number_from (n + 1) names name) e).0) same
+nowhere_named n (first ∷ names) name e (suc i) at =
+    nowhere_named (n + 1) names name (not_here (pointwise nat_eq first name) n (number_from (n + 1) names name) e).1 i at
+
+-- the set of a name is that of the capability that has it
+pub single_of_name : (name : List ℕ) (caps : ℕ) → Some caps ≡ option_map single (number_named name) → (n : ℕ) × IsNamed n name × (caps ≡ single n)
+single_of_name name caps e = of_number (number_named name) refl e
+  where
+    of_number : (found : Option ℕ) → number_named name ≡ found → Some caps ≡ option_map single found → (n : ℕ) × IsNamed n name × (caps ≡ single n)
+    of_number None is e = cc
+    of_number (Some k) is e =
+        let (i, place, at) = named_at 0 cap_names name k is in
+        let same : k ≡ i = omega (arith, place) in
+        (i, at, cc)
+
+-- where no set is found, no capability has the name
+pub nobody_named : (name : List ℕ) → None ≡ option_map single (number_named name) → (n : ℕ) → ¬ IsNamed n name
+nobody_named name e = of_number (number_named name) refl e
+  where
+    of_number : (found : Option ℕ) → number_named name ≡ found → ◌≡◌ {A = Option ℕ} None (option_map single found) → (n : ℕ) → ¬ IsNamed n name
+    of_number None is e = nowhere_named 0 cap_names name is
+    of_number (Some k) is e = cc

@@ -1,6 +1,6 @@
 -- The capabilities by number and name, and sets of them.
 -- A set is known by its members: a contract sees it as the number whose bit n is set where capability n is a member.
-use Rattle.std.specs.Prelude.{◌≡◌, ℕ, ◌+◌, ◌^◌, ◌==◌, ◌<◌, List, [], ◌∷◌, Option, Some, None, if◌then◌else◌, codes, drop, nat_eq}
+use Rattle.std.specs.Prelude.{◌≡◌, ℕ, ◌+◌, ◌^◌, ◌==◌, ◌<◌, List, [], ◌∷◌, Option, Some, None, if◌then◌else◌, codes, drop, nat_eq, slice_get}
 use Rattle.std.specs.Int.{bit_at}
 use Rattle.std.specs.Cmp.Lexicographic.{pointwise}
 
@@ -48,6 +48,10 @@ cap_names =
     codes "CAP_PERFMON" ∷
     codes "CAP_BPF" ∷
     codes "CAP_CHECKPOINT_RESTORE" ∷ []
+
+-- capability n has this name
+abbrev pub IsNamed : ℕ → List ℕ → Type 0
+IsNamed n name = slice_get cap_names n ≡ Some name
 
 -- capability n is in the set
 abbrev pub Has : ℕ → ℕ → Type 0

@@ -1,10 +1,10 @@
 // A set of capabilities.
 
-ghost use Rattle.std.specs.Prelude.{◌≡◌, ◌<◌, ◌^◌, ◌⊎◌, ◌↔◌, ◌==◌, ℕ, Some, None, IsTrue, IfSome, IfNone, nat_lt, if◌then◌else◌, option_map};
+ghost use Rattle.std.specs.Prelude.{◌≡◌, ◌<◌, ◌^◌, ◌⊎◌, ◌↔◌, ◌==◌, ℕ, List, Some, None, Contains, IsTrue, IsSome, IfSome, IfNone, nat_lt, if◌then◌else◌, option_map};
 ghost use Rattle.std.specs.Bool.{OnFalse};
 ghost use Rattle.std.specs.Int.{bit_at};
 ghost use Rattle.std.specs.Int.RustNames.{bit_and, bit_or};
-ghost use Rattle.cap_sets.specs.Capability.{Has, IsWithin, single, number_named, names_of, IsLowest};
+ghost use Rattle.cap_sets.specs.Capability.{Has, IsNamed, IsWithin, single, number_named, names_of, IsLowest};
 
 use crate::flags::CapFlags;
 use crate::names::Names;
@@ -40,7 +40,9 @@ impl Caps {
 
     /// The set of the one capability of this name, as `CAP_CHOWN`; none where no capability has it.
     pub fn from_name(name: &str) -> Option<Caps>
-        ensures { result ≡ option_map single (number_named name.now) }
+        ensures named { IfSome result (λ caps. (n : ℕ) × IsNamed n name.now × (caps ≡ single n)) }
+        ensures unknown { IfNone result ((n : ℕ) → ¬ IsNamed n name.now) }
+        ensures value { result ≡ option_map single (number_named name.now) }
     {
         match CapFlags::from_name(name) {
             Some(flags) => Some(Caps { flags }),
@@ -50,7 +52,8 @@ impl Caps {
 
     /// The set that has capability n where bit n is set; none where a bit above 40 is set.
     pub fn from_bits(bits: u64) -> Option<Caps>
-        ensures { result ≡ (if nat_lt bits (2 ^ 41) then Some bits else None) }
+        ensures known { IsSome result ↔ ((n : ℕ) → Has bits n → n < 41) }
+        ensures value { result ≡ (if nat_lt bits (2 ^ 41) then Some bits else None) }
     {
         match CapFlags::from_bits(bits) {
             Some(flags) => Some(Caps { flags }),
@@ -87,7 +90,8 @@ impl Caps {
 
     /// The names of the members, by rising number.
     pub fn names(self) -> Names
-        ensures { result ≡ names_of self }
+        ensures members { (name : List ℕ) → Contains result name ↔ ((n : ℕ) × IsNamed n name × Has self n) }
+        ensures rising { result ≡ names_of self }
     {
         Names::new(self)
     }
