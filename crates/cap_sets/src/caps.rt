@@ -5,6 +5,7 @@ ghost use Rattle.std.specs.Bool.{OnFalse};
 ghost use Rattle.std.specs.Int.{bit_at};
 ghost use Rattle.std.specs.Int.RustNames.{bit_and, bit_or};
 ghost use Rattle.cap_sets.specs.Capability.{Has, IsNamed, IsWithin, single, number_named, names_of, IsLowest};
+ghost use Rattle.cap_sets.specs.NumberSet.{HasExactly, nothing, members, ◌∪◌, ◌∩◌};
 
 use crate::flags::CapFlags;
 use crate::names::Names;
@@ -33,7 +34,7 @@ impl Caps {
     /// The set with no member.
     pub fn empty() -> Caps
         ensures bits { result ≡ 0 }
-        ensures members { (n : ℕ) → ¬ Has result n }
+        ensures members { HasExactly result nothing }
     {
         Caps { flags: CapFlags(0) }
     }
@@ -80,7 +81,7 @@ impl Caps {
 
     /// The members of either set.
     pub fn union(self, other: Caps) -> Caps
-        ensures members { (n : ℕ) → Has result n ↔ (Has self n ⊎ Has other n) }
+        ensures members { HasExactly result (members self ∪ members other) }
         ensures bits { result ≡ bit_or self other }
     {
         Caps {
@@ -98,7 +99,7 @@ impl Caps {
 
     /// The members of both sets.
     pub(crate) fn intersection(self, other: Caps) -> Caps
-        ensures members { (n : ℕ) → Has result n ↔ (Has self n × Has other n) }
+        ensures members { HasExactly result (members self ∩ members other) }
         ensures bits { result ≡ bit_and self other }
     {
         Caps {

@@ -1,6 +1,6 @@
 // What execve makes of a state: capabilities(7), "Transformation of capabilities during execve()".
 
-ghost use Rattle.std.specs.Prelude.{◌≡◌, IfOk, IfErr};
+ghost use Rattle.std.specs.Prelude.{◌≡◌, IfOk, IfErr, OnErr};
 ghost use Rattle.cap_sets.specs.NumberSet.{HasExactly};
 ghost use Rattle.cap_sets.specs.Execve.{file_permitted, file_inheritable, file_effective, ambient_after, permitted_after, IsAfter, IsDenied, IsAfterRoot};
 
@@ -99,6 +99,7 @@ fn permitted_after(before: &CapState, file: &File, ambient: Caps) -> Caps
 pub fn execve(before: &CapState, file: File) -> Result<CapState, Eperm>
     ensures after { IfOk result (IsAfter before.now file) }
     ensures denied { IfErr result (λ _. IsDenied before.now file) }
+    ensures none { OnErr result ((after : CapState) → ¬ IsAfter before.now file after) }
 {
     let ambient = ambient_after(before, &file);
     let permitted = permitted_after(before, &file, ambient);

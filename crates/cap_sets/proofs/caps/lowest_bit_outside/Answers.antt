@@ -1,5 +1,5 @@
 use Rattle.std.proofs.Common.{arith}
-use Rattle.cap_sets.proofs.Bits.{within_from_none, lowest_from_some}
+use Rattle.cap_sets.proofs.Lowest.{within_from_none, lowest_from_some}
 use Rattle.cap_sets.proofs.caps.lowest_bit_outside.Goals as goal
 
 pub returns-then-outside-eq0-clause-none : goal.returns-then-outside-eq0-clause-none

@@ -1,5 +1,5 @@
 use Rattle.std.proofs.Common.{◌∙◌, ap, sym, Some}
-use Rattle.cap_sets.proofs.Naming.{flag_name}
+use Rattle.cap_sets.proofs.Listing.{flag_name}
 use Rattle.cap_sets.proofs.names.name_of.Goals as goal
 
 pub returns : goal.returns

@@ -1,6 +1,7 @@
 use Rattle.std.proofs.Common.{◌≡◌, ◌==◌, ◌<◌, ◌^◌, arith}
 use Rattle.std.specs.Int.RustNames.{bit_and}
-use Rattle.cap_sets.proofs.Bits.{within_from_test, test_from_within, lacking_from_test}
+use Rattle.cap_sets.proofs.Bits.{within_from_test, test_from_within}
+use Rattle.cap_sets.proofs.Lowest.{lacking_from_test}
 use Rattle.cap_sets.proofs.caps.Caps.contains.Goals as goal
 
 pub returns : goal.returns

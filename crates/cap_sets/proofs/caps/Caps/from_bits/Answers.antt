@@ -1,6 +1,6 @@
 use Rattle.std.proofs.Common.{◌≡◌, ◌-◌, ◌<◌, ◌^◌, refl, true, false}
 use Rattle.std.specs.Int.RustNames.{bit_and}
-use Rattle.cap_sets.proofs.Bits.{below_from_mask, known_all, accepted, refused, has_known, kept_from_members}
+use Rattle.cap_sets.proofs.Known.{below_from_mask, known_all, accepted, refused, has_known, kept_from_members}
 use Rattle.cap_sets.proofs.caps.Caps.from_bits.Goals as goal
 
 pub invariant_of-result : goal.invariant_of-result

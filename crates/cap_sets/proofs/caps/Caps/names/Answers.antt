@@ -1,4 +1,4 @@
-use Rattle.cap_sets.proofs.Naming.{names_of-members}
+use Rattle.cap_sets.proofs.Listing.{names_of-members}
 use Rattle.cap_sets.proofs.caps.Caps.names.Goals as goal
 
 pub returns-clause-members : goal.returns-clause-members

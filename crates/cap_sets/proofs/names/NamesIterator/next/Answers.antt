@@ -1,6 +1,6 @@
 use Rattle.std.proofs.Common.{◌≡◌, ◌∙◌, ◌+◌, ◌∷◌, length, ap, arith, sym}
 use Rattle.cap_sets.specs.Capability.{names_left}
-use Rattle.cap_sets.proofs.Naming.{names_hit, names_miss, names_end}
+use Rattle.cap_sets.proofs.Listing.{names_hit, names_miss, names_end}
 use Rattle.cap_sets.proofs.names.NamesIterator.next.Goals as goal
 
 pub returns-then-has-clause-steps : goal.returns-then-has-clause-steps
