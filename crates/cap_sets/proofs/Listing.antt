@@ -1,12 +1,11 @@
 -- The names of the members of a set, one after another.
-use Rattle.std.proofs.Common.{◌≡◌, ◌∙◌, ℕ, ◌+◌, ◌<◌, ◌≤◌, drop, List, [], ◌∷◌, true, false, zero, suc, map, get_or, Option, Some, length, refl, sym, ap, arith, ne_eqb}
+use Rattle.std.proofs.Common.{◌≡◌, ◌∙◌, ℕ, ◌+◌, ◌<◌, ◌≤◌, drop, List, [], ◌∷◌, true, false, zero, suc, map, get_or, Option, Some, length, refl, sym, ap, arith, ne_eqb, eq-eqb, ◌⊎◌, inl, inr, add-zero, zero-add}
 use Rattle.std.specs.Prelude.{◌↔◌, option_map, ◌==◌, slice_get}
 use Rattle.std.proofs.lemmas.List.{drop_more, drop_all, length-map}
 use Rattle.std.proofs.lemmas.Option.{slice_get_within, slice_get-get_or, slice_get-map}
 use Rattle.std.specs.Int.{bit_at}
 use Rattle.cap_sets.specs.Capability.{names_from, names_left, rows_from, cap_names, cap_table, Has, IsNamed, names_of}
 use Rattle.cap_sets.proofs.Bits.{cases_bit}
-use Rattle.std.proofs.Common.{eq-eqb, ◌⊎◌, inl, inr, add-zero, zero-add}
 use Rattle.std.specs.List.{Contains}
 
 -- the rows have the names in their order

@@ -1,11 +1,10 @@
 -- Looking a name up in the table, and the number that it has there.
-use Rattle.std.proofs.Common.{◌≡◌, ℕ, ◌+◌, ◌^◌, ◌<◌, List, [], ◌∷◌, true, false, zero, suc, Option, Some, None, cond, length, refl, sym, ap, arith, ne_eqb, ◌≢◌}
+use Rattle.std.proofs.Common.{◌≡◌, ℕ, ◌+◌, ◌^◌, ◌<◌, List, [], ◌∷◌, true, false, zero, suc, Option, Some, None, cond, length, refl, sym, ap, arith, ne_eqb, ◌≢◌, Bool}
 use Rattle.std.specs.Prelude.{nat_eq, option_map, slice_get}
 use Rattle.std.specs.Cmp.Lexicographic.{pointwise, same_text, other_text}
 use Rattle.std.proofs.lemmas.Nat.{pow_below}
 use Rattle.bitflags.specs.Sets.{find_row, find_name}
 use Rattle.cap_sets.specs.Capability.{rows_from, number_from, number_named, cap_names, cap_table, single, IsNamed}
-use Rattle.std.proofs.Common.{Bool}
 
 -- a row of the table is found by its name as its number is
 find_row_number : (n : ℕ) (names : List (List ℕ)) (name : List ℕ) → find_row (rows_from n names) name ≡ option_map single (number_from n names name)

@@ -14,10 +14,13 @@ use std::fmt;
 pub enum File {
     /// A file without capabilities.
     Plain,
-    /// A file with capabilities; the effective set of a file is one bit.
+    /// A file with capabilities, also where both sets are empty.
     WithCaps {
+        /// The file's permitted set.
         permitted: Caps,
+        /// The file's inheritable set.
         inheritable: Caps,
+        /// The file's effective bit: whether what is permitted after execve is effective too.
         effective: bool,
     },
 }

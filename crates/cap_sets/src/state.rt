@@ -11,10 +11,15 @@ use std::fmt;
 /// both permitted and inheritable.
 #[derive(Clone, Copy, PartialEq, Eq, Debug)]
 pub struct CapState {
+    /// What the kernel checks the process against.
     pub effective: Caps,
+    /// What the process may make effective.
     pub permitted: Caps,
+    /// What stays inheritable through execve, and is permitted after it where the file's inheritable set has it too.
     pub inheritable: Caps,
+    /// What the process may gain from a file's permitted set.
     pub bounding: Caps,
+    /// What stays permitted and effective through the execve of a plain file.
     pub ambient: Caps,
     pub ghost lawful: { IsLawful effective permitted inheritable ambient },
 }
