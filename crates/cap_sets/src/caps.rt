@@ -1,6 +1,6 @@
 // A set of capabilities.
 
-ghost use Rattle.std.specs.Prelude.{◌≡◌, ◌<◌, ◌^◌, ◌⊎◌, ◌↔◌, ◌==◌, ℕ, List, Some, None, Contains, IsTrue, IsSome, IfSome, IfNone, nat_lt, if◌then◌else◌, option_map};
+ghost use Rattle.std.specs.Prelude.{◌≡◌, ◌<◌, ◌^◌, ◌↔◌, ◌==◌, ℕ, List, Some, None, Contains, IsTrue, IsSome, IfSome, IfNone, nat_lt, if◌then◌else◌, option_map};
 ghost use Rattle.std.specs.Bool.{OnFalse};
 ghost use Rattle.std.specs.Int.{bit_at};
 ghost use Rattle.std.specs.Int.RustNames.{bit_and, bit_or};
