@@ -1,3 +1,4 @@
 pub mod Words
 pub mod Role
+pub mod Rules
 pub mod WordTables

@@ -5,6 +5,9 @@ ghost use Rattle.review_policy.specs.WordTables.{state_word};
 
 use crate::word::Word;
 
+/// The greatest number of revisions of a profile.
+pub const MAX_REVISIONS: u32 = 9_999;
+
 /// Where a revision stands.
 #[derive(Clone, Copy, Debug, PartialEq, Eq)]
 pub enum State {

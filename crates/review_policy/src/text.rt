@@ -1,6 +1,6 @@
 //! Texts of any length, as contracts see them.
 
-ghost use Rattle.std.specs.Prelude.{◌≡◌, string_bytes, IfOk};
+ghost use Rattle.std.specs.Prelude.{◌≡◌, bytes_eq, string_bytes, IfOk};
 
 use std::alloc::{AllocError, Global};
 use std::marker::Model;
@@ -40,5 +40,12 @@ impl Text {
     {
         let text = String::from_str(alloc, self.text.as_str())?;
         Ok(Text { text })
+    }
+
+    /// Whether it is the same text.
+    pub fn is(&self, other: &Text) -> bool
+        ensures { result ≡ bytes_eq self.now other.now }
+    {
+        self.text.as_str() == other.text.as_str()
     }
 }

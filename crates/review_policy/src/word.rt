@@ -1,6 +1,6 @@
 //! Words: the names of users, teams and profiles.
 
-ghost use Rattle.std.specs.Prelude.{◌≡◌, ◌↔◌, true, false, Err, string_bytes, IfOk, OnOk};
+ghost use Rattle.std.specs.Prelude.{◌≡◌, ◌↔◌, true, false, Err, bytes_eq, string_bytes, IfOk, OnOk};
 ghost use Rattle.review_policy.specs.Words.{is_word, is_word_byte};
 ghost use Rattle.std.specs.List.{list_all};
 
@@ -75,6 +75,13 @@ impl Word {
     {
         let text = String::from_str(alloc, self.text.as_str())?;
         Ok(Word { text })
+    }
+
+    /// Whether it is the same word.
+    pub fn is(&self, other: &Word) -> bool
+        ensures { result ≡ bytes_eq self.now other.now }
+    {
+        self.text.as_str() == other.text.as_str()
     }
 }
 
