@@ -1,6 +1,7 @@
 //! Why a request is denied.
 
 ghost use Rattle.std.specs.Prelude.{◌≡◌};
+ghost use Rattle.review_policy.specs.Rules.{approvals_of, asks_security};
 ghost use Rattle.review_policy.specs.WordTables.{rule_word};
 
 /// How many approvals a revision needs to be issued.
@@ -10,6 +11,28 @@ pub enum Need {
     One,
     /// Two approvals of distinct users, at least one with the role security.
     TwoWithSecurity,
+}
+
+impl Need {
+    /// How many approvals it asks for.
+    pub fn approvals(self) -> u64
+        ensures { result ≡ approvals_of self }
+    {
+        match self {
+            Need::One => 1,
+            Need::TwoWithSecurity => 2,
+        }
+    }
+
+    /// Whether one of the approvals has to be with the role security.
+    pub fn asks_security(self) -> bool
+        ensures { result ≡ asks_security self }
+    {
+        match self {
+            Need::One => false,
+            Need::TwoWithSecurity => true,
+        }
+    }
 }
 
 /// The rules of the policy, each with when it refuses a request.
