@@ -1,12 +1,12 @@
 -- The rules of each request, in the order in which they are asked, each with whether it refuses.
-use Rattle.std.specs.Prelude.{ℕ, suc, List, [], ◌∷◌, Bool, true, false, not, ◌||◌, ◌&&◌, nat_lt, nat_le, ◌==◌, if◌then◌else◌, Option, Some, None, is_none, Result, Ok, Err, ⊤}
+use Rattle.std.specs.Prelude.{ℕ, suc, List, [], ◌∷◌, Bool, true, false, not, ◌||◌, ◌&&◌, nat_lt, nat_le, ◌==◌, if◌then◌else◌, Option, Some, is_none, Result, Ok, Err, ⊤}
 use Rattle.review_policy.specs.declared.denial.Denial.{Denial}
 use Rattle.review_policy.specs.declared.denial.Need.{Need}
 use Rattle.review_policy.specs.declared.denial.Need.TheVariants.{One, TwoWithSecurity}
 use Rattle.review_policy.specs.declared.denial.Rule.{Rule}
 use Rattle.review_policy.specs.declared.denial.Rule.TheVariants.{CallerUnknown, RoleMissing, OwnRow, TeamFixed, TokenTaken, OtherTeam, Document, SameAsOpen, RevisionsFull, NoRevision, AuthorVotes, NotOpen, OtherBytes, AuthorIssues, Rejected, ApprovalsShort, SecurityMissing, NotStanding, AuthorAdopts, NotIssued, NothingIssued, NoProfile, AlreadyHeld, NotHeld, Held}
 use Rattle.review_policy.specs.declared.revision.State.{State}
-use Rattle.review_policy.specs.declared.revision.State.TheVariants.{Open, Closed, Issued, Replaced, Withdrawn}
+use Rattle.review_policy.specs.declared.revision.State.TheVariants.{Open, Issued}
 use Rattle.review_policy.specs.declared.facts.EnrolFacts.{EnrolFacts}
 use Rattle.review_policy.specs.declared.facts.SubmitFacts.{SubmitFacts}
 use Rattle.review_policy.specs.declared.facts.VoteFacts.{VoteFacts}

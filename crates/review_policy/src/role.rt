@@ -155,3 +155,52 @@ fn mask_of(role: Role) -> u8
         Role::Machine => 32,
     }
 }
+
+#[cfg(test)]
+mod tests {
+    use super::*;
+
+    #[test]
+    fn a_role_is_in_the_sets_that_it_was_put_into(rt: HostRuntime) {
+        let both = Roles::empty().with(Role::Author).with(Role::Security);
+        for (role, wanted) in [
+            (Role::Registrar, false),
+            (Role::Author, true),
+            (Role::Reviewer, false),
+            (Role::Security, true),
+            (Role::Issuer, false),
+            (Role::Machine, false),
+        ] {
+            assert_eq!(rt; both.has(role), wanted, "{role:?}");
+            assert!(rt; !Roles::empty().has(role), "{role:?}");
+            assert_eq!(rt; both.with(role).has(role), true, "{role:?}");
+        }
+        assert_eq!(rt; both.with(Role::Author), both);
+    }
+
+    #[test]
+    fn the_first_role_has_the_lowest_bit_and_the_last_the_highest(rt: HostRuntime) {
+        assert_eq!(rt; Roles::empty().with(Role::Registrar).bits(), 1);
+        assert_eq!(rt; Roles::empty().with(Role::Machine).bits(), 32);
+        assert_eq!(rt; Roles::from_bits(63).map(|roles| roles.bits()), Some(63));
+        assert_eq!(rt; Roles::from_bits(64), None);
+    }
+
+    #[test]
+    fn a_role_is_read_by_its_word(rt: HostRuntime) {
+        for (role, word) in [
+            (Role::Registrar, "registrar"),
+            (Role::Author, "author"),
+            (Role::Reviewer, "reviewer"),
+            (Role::Security, "security"),
+            (Role::Issuer, "issuer"),
+            (Role::Machine, "machine"),
+        ] {
+            assert_eq!(rt; role.word(), word);
+            assert_eq!(rt; Role::from_word(word), Some(role));
+        }
+        for word in ["", "Author", "author ", "authors", "admin"] {
+            assert_eq!(rt; Role::from_word(word), None, "{word}");
+        }
+    }
+}
