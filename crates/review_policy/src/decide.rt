@@ -1,7 +1,9 @@
 //! The decisions: the first rule that refuses a request, by its facts.
 
-ghost use Rattle.std.specs.Prelude.{◌≡◌, Ok, Err, if◌then◌else◌};
-ghost use Rattle.review_policy.specs.Rules.{need_of, is_open, is_issued};
+ghost use Rattle.std.specs.Prelude.{◌≡◌, List, Bool, Ok, Err, if◌then◌else◌};
+ghost use Rattle.review_policy.specs.FirstRefusal.{IsDecision};
+ghost use Rattle.review_policy.specs.Rules.{first_denial, need_of, is_open, is_issued};
+ghost use Rattle.review_policy.specs.declared.denial.Rule.{Rule};
 
 mod adopt;
 mod enrol;
@@ -38,6 +40,13 @@ pub fn need(wide: bool, listed: bool) -> Need
         Need::One
     }
 }
+
+/// The law of the decisions: the rule that a denial names refuses, no rule before it does, and its number is its place;
+/// where nothing is denied, no rule refuses.
+#[tactic(auto, using(crate::proofs::Decisions::first_denial_is_decision))]
+pub fn the_first_refusing_rule_is_named()
+    ensures { (rules : List (Rule × Bool)) → IsDecision 1 rules (first_denial rules) }
+{}
 
 // Denies by this rule, where it refuses.
 fn refuse_if(refuses: bool, number: u8, rule: Rule) -> Result<(), Denial>
