@@ -1,2 +1,5 @@
 pub mod Words
 pub mod Role
+pub mod Rules
+pub mod FirstRefusal
+pub mod WordTables

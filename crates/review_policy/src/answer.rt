@@ -1,6 +1,7 @@
 //! What the office answers.
 
 ghost use Rattle.std.specs.Prelude.{◌≡◌};
+ghost use Rattle.review_policy.specs.WordTables.{fault_word};
 
 use crate::denial::Denial;
 use crate::revision::State;
@@ -11,6 +12,7 @@ use std::marker::Model;
 /// A profile in the list of a team's profiles.
 #[derive(Debug, Drop)]
 pub struct ListedProfile {
+    /// Its name within the team.
     pub profile: Word,
     /// The number of the revision that is issued, or 0.
     pub issued: u32,
@@ -51,37 +53,49 @@ impl Listing {
     }
 }
 
-/// What a request that was carried out is told. Digests are of SHA-256.
+/// What a request that was carried out is told. Digests are of SHA-256; revisions are numbered from 1.
 #[derive(Debug, Drop)]
 pub enum Reply {
+    /// The user is enrolled.
     Enrolled,
+    /// The document is there as this revision; the digest is of its canonical text.
     Submitted {
         digest: [u8; 32],
         revision: u32,
     },
+    /// The vote stands.
     Voted,
+    /// The revision is what hosts fetch; the digest is of its text.
     Issued {
         digest: [u8; 32],
     },
+    /// The revision is taken back.
     Withdrawn,
+    /// The revision is the baseline of its team.
     Adopted,
+    /// A revision: its canonical text, the digest of that, and where it stands.
     Shown {
         digest: [u8; 32],
         document: Text,
         state: State,
     },
+    /// A review sheet.
     Sheet {
         sheet: Text,
     },
+    /// The profiles of a team.
     Listed {
         profiles: Listing,
     },
+    /// What was issued of a profile: the canonical text, the digest of that, and the revision's number.
     Fetched {
         digest: [u8; 32],
         document: Text,
         revision: u32,
     },
+    /// The profile is held.
     Held,
+    /// The profile is no longer held.
     Released,
 }
 
@@ -98,6 +112,20 @@ pub enum Fault {
     NotAnOffice,
 }
 
+impl Fault {
+    /// Its word, as answers name it.
+    pub fn word(self) -> &'static str
+        ensures { result.now ≡ fault_word self }
+    {
+        match self {
+            Fault::Memory => "memory",
+            Fault::Disk => "disk",
+            Fault::Full => "full",
+            Fault::NotAnOffice => "not-an-office",
+        }
+    }
+}
+
 /// The answer to a request.
 #[derive(Debug, Drop)]
 pub enum Answer {
@@ -107,4 +135,42 @@ pub enum Answer {
     Denied { denial: Denial, fault: Option<Text> },
     /// Something failed, and nothing changed.
     Fault(Fault),
+}
+
+#[cfg(test)]
+mod tests {
+    use super::*;
+    use std::test::Fail;
+
+    #[test]
+    fn each_fault_has_its_word(rt: HostRuntime) {
+        for (fault, word) in [
+            (Fault::Memory, "memory"),
+            (Fault::Disk, "disk"),
+            (Fault::Full, "full"),
+            (Fault::NotAnOffice, "not-an-office"),
+        ] {
+            assert_eq!(rt; fault.word(), word);
+        }
+    }
+
+    #[test]
+    fn a_listing_keeps_its_profiles_in_order(rt: HostRuntime) -> Result<(), Fail> {
+        let mut profiles = Vec::new(rt.alloc());
+        for (name, issued) in [("web", 0), ("api", 2)] {
+            profiles.push(ListedProfile {
+                profile: Word::new(rt.alloc(), name)?,
+                issued,
+                revisions: 2,
+                state: State::Open,
+            })?;
+        }
+        let listing = Listing::new(profiles);
+        let names = ["web", "api"];
+        assert_eq!(rt; listing.profiles().len(), 2);
+        for (listed, name) in listing.profiles().iter().zip(names.iter()) {
+            assert_eq!(rt; listed.profile.as_str(), *name);
+        }
+        Ok(())
+    }
 }

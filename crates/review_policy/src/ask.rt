@@ -7,14 +7,16 @@ use crate::word::Word;
 /// A profile, by its team and its own name.
 #[derive(Debug, Drop)]
 pub struct ProfileName {
+    /// The team that the profile is of.
     pub team: Word,
+    /// Its name within the team.
     pub profile: Word,
 }
 
-/// What a request asks for. Digests are of SHA-256; revisions are numbered from 1.
+/// What a request asks for. Digests are of SHA-256; revisions are numbered from 1 to [`crate::MAX_REVISIONS`].
 #[derive(Debug, Drop)]
 pub enum Ask {
-    /// To enrol a user, or to give an enrolled one these roles and this token.
+    /// To enrol a user, or to give an enrolled one these roles and the token of this digest.
     Enrol {
         user: Word,
         team: Word,
@@ -79,6 +81,8 @@ pub enum Ask {
 /// A request: what is asked, and the token that its caller shows.
 #[derive(Debug, Drop)]
 pub struct Request {
+    /// What the caller shows to be known.
     pub token: Token,
+    /// What is asked.
     pub ask: Ask,
 }

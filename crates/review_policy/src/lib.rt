@@ -3,7 +3,9 @@
 
 pub mod answer;
 pub mod ask;
+pub mod decide;
 pub mod denial;
+pub mod facts;
 pub mod revision;
 pub mod role;
 pub mod text;
@@ -12,8 +14,17 @@ pub mod word;
 
 pub use answer::{Answer, Fault, ListedProfile, Listing, Reply};
 pub use ask::{Ask, ProfileName, Request};
+pub use decide::{
+    decide_adopt, decide_enrol, decide_fetch, decide_hold, decide_issue, decide_read,
+    decide_release, decide_submit, decide_vote, decide_withdraw, need,
+    the_first_refusing_rule_is_named,
+};
 pub use denial::{Denial, Need, Rule};
-pub use revision::{State, VoteRow};
+pub use facts::{
+    AdoptFacts, EnrolFacts, FetchFacts, HoldFacts, IssueFacts, ReadFacts, ReleaseFacts,
+    SubmitFacts, VoteFacts, WithdrawFacts,
+};
+pub use revision::{MAX_REVISIONS, State, VoteRow};
 pub use role::{Role, Roles};
 pub use text::Text;
 pub use token::Token;

@@ -1,6 +1,12 @@
 //! Revisions of a profile and the votes on them.
 
+ghost use Rattle.std.specs.Prelude.{◌≡◌};
+ghost use Rattle.review_policy.specs.WordTables.{state_word};
+
 use crate::word::Word;
+
+/// The greatest number of revisions of a profile.
+pub const MAX_REVISIONS: u32 = 9_999;
 
 /// Where a revision stands.
 #[derive(Clone, Copy, Debug, PartialEq, Eq)]
@@ -17,6 +23,21 @@ pub enum State {
     Withdrawn,
 }
 
+impl State {
+    /// Its word, as answers and sheets name it.
+    pub fn word(self) -> &'static str
+        ensures { result.now ≡ state_word self }
+    {
+        match self {
+            State::Open => "open",
+            State::Closed => "closed",
+            State::Issued => "issued",
+            State::Replaced => "replaced",
+            State::Withdrawn => "withdrawn",
+        }
+    }
+}
+
 /// The standing vote of a user on a revision.
 #[derive(Debug, Drop)]
 pub struct VoteRow {
@@ -28,4 +49,22 @@ pub struct VoteRow {
     pub security: bool,
     /// Whether the voter is a reviewer now; else the vote has lapsed.
     pub counts: bool,
+}
+
+#[cfg(test)]
+mod tests {
+    use super::*;
+
+    #[test]
+    fn each_state_has_its_word(rt: HostRuntime) {
+        for (state, word) in [
+            (State::Open, "open"),
+            (State::Closed, "closed"),
+            (State::Issued, "issued"),
+            (State::Replaced, "replaced"),
+            (State::Withdrawn, "withdrawn"),
+        ] {
+            assert_eq!(rt; state.word(), word);
+        }
+    }
 }

@@ -1,8 +1,10 @@
 //! Roles, and sets of them.
 
-ghost use Rattle.std.specs.Prelude.{◌≡◌, ◌<◌, ◌^◌, Some, None, if◌then◌else◌, nat_lt};
+ghost use Rattle.std.specs.Prelude.{◌≡◌, ◌<◌, ◌^◌, Some, None, IfSome, if◌then◌else◌, nat_lt};
 ghost use Rattle.std.specs.Int.RustNames.{bit_or};
 ghost use Rattle.review_policy.specs.Role.{has_role, place_of};
+ghost use Rattle.review_policy.specs.WordTables.{role_word, role_of};
+ghost use Rattle.review_policy.specs.declared.role.Role.{Role};
 
 use std::marker::Model;
 
@@ -21,6 +23,45 @@ pub enum Role {
     Issuer,
     /// Fetches what was issued for the own team.
     Machine,
+}
+
+impl Role {
+    /// Its word, as requests name it.
+    pub fn word(self) -> &'static str
+        ensures { result.now ≡ role_word self }
+    {
+        match self {
+            Role::Registrar => "registrar",
+            Role::Author => "author",
+            Role::Reviewer => "reviewer",
+            Role::Security => "security",
+            Role::Issuer => "issuer",
+            Role::Machine => "machine",
+        }
+    }
+
+    /// The role of this word; `None` where it is no role's.
+    pub fn from_word(text: &str) -> Option<Role>
+        ensures value { result ≡ role_of text.now }
+        ensures found { IfSome result (λ role. role_word role ≡ text.now) }
+        ensures known { (role : Role) → role_word role ≡ text.now → result ≡ Some role }
+    {
+        if text == "registrar" {
+            Some(Role::Registrar)
+        } else if text == "author" {
+            Some(Role::Author)
+        } else if text == "reviewer" {
+            Some(Role::Reviewer)
+        } else if text == "security" {
+            Some(Role::Security)
+        } else if text == "issuer" {
+            Some(Role::Issuer)
+        } else if text == "machine" {
+            Some(Role::Machine)
+        } else {
+            None
+        }
+    }
 }
 
 /// A set of roles.
@@ -112,5 +153,54 @@ fn mask_of(role: Role) -> u8
         Role::Security => 8,
         Role::Issuer => 16,
         Role::Machine => 32,
+    }
+}
+
+#[cfg(test)]
+mod tests {
+    use super::*;
+
+    #[test]
+    fn a_role_is_in_the_sets_that_it_was_put_into(rt: HostRuntime) {
+        let both = Roles::empty().with(Role::Author).with(Role::Security);
+        for (role, wanted) in [
+            (Role::Registrar, false),
+            (Role::Author, true),
+            (Role::Reviewer, false),
+            (Role::Security, true),
+            (Role::Issuer, false),
+            (Role::Machine, false),
+        ] {
+            assert_eq!(rt; both.has(role), wanted, "{role:?}");
+            assert!(rt; !Roles::empty().has(role), "{role:?}");
+            assert_eq!(rt; both.with(role).has(role), true, "{role:?}");
+        }
+        assert_eq!(rt; both.with(Role::Author), both);
+    }
+
+    #[test]
+    fn the_first_role_has_the_lowest_bit_and_the_last_the_highest(rt: HostRuntime) {
+        assert_eq!(rt; Roles::empty().with(Role::Registrar).bits(), 1);
+        assert_eq!(rt; Roles::empty().with(Role::Machine).bits(), 32);
+        assert_eq!(rt; Roles::from_bits(63).map(|roles| roles.bits()), Some(63));
+        assert_eq!(rt; Roles::from_bits(64), None);
+    }
+
+    #[test]
+    fn a_role_is_read_by_its_word(rt: HostRuntime) {
+        for (role, word) in [
+            (Role::Registrar, "registrar"),
+            (Role::Author, "author"),
+            (Role::Reviewer, "reviewer"),
+            (Role::Security, "security"),
+            (Role::Issuer, "issuer"),
+            (Role::Machine, "machine"),
+        ] {
+            assert_eq!(rt; role.word(), word);
+            assert_eq!(rt; Role::from_word(word), Some(role));
+        }
+        for word in ["", "Author", "author ", "authors", "admin"] {
+            assert_eq!(rt; Role::from_word(word), None, "{word}");
+        }
     }
 }

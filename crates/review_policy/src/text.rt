@@ -1,6 +1,6 @@
 //! Texts of any length, as contracts see them.
 
-ghost use Rattle.std.specs.Prelude.{◌≡◌, string_bytes, IfOk};
+ghost use Rattle.std.specs.Prelude.{◌≡◌, bytes_eq, string_bytes, IfOk};
 
 use std::alloc::{AllocError, Global};
 use std::marker::Model;
@@ -38,7 +38,30 @@ impl Text {
     pub fn copy(&self, alloc: Global) -> Result<Text, AllocError>
         ensures { IfOk result (λ text. text ≡ self.now) }
     {
-        let text = String::from_str(alloc, self.text.as_str())?;
+        let text = String::from_str(alloc, self.as_str())?;
         Ok(Text { text })
+    }
+
+    /// Whether it is the same text.
+    pub fn is(&self, other: &Text) -> bool
+        ensures { result ≡ bytes_eq self.now other.now }
+    {
+        self.as_str() == other.as_str()
+    }
+}
+
+#[cfg(test)]
+mod tests {
+    use super::*;
+    use std::test::Fail;
+
+    #[test]
+    fn a_copied_text_is_the_same_text(rt: HostRuntime) -> Result<(), Fail> {
+        let text = Text::new(String::from_str(rt.alloc(), "a b\n")?);
+        let copy = text.copy(rt.alloc())?;
+        assert_eq!(rt; copy.as_str(), "a b\n");
+        assert!(rt; text.is(&copy));
+        assert!(rt; !text.is(&Text::new(String::new(rt.alloc()))));
+        Ok(())
     }
 }

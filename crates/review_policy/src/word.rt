@@ -1,6 +1,6 @@
 //! Words: the names of users, teams and profiles.
 
-ghost use Rattle.std.specs.Prelude.{◌≡◌, ◌↔◌, true, false, Err, string_bytes, IfOk, OnOk};
+ghost use Rattle.std.specs.Prelude.{◌≡◌, ◌↔◌, true, false, Err, bytes_eq, string_bytes, IfOk, OnOk};
 ghost use Rattle.review_policy.specs.Words.{is_word, is_word_byte};
 ghost use Rattle.std.specs.List.{list_all};
 
@@ -73,8 +73,15 @@ impl Word {
     pub fn copy(&self, alloc: Global) -> Result<Word, AllocError>
         ensures { IfOk result (λ word. word ≡ self.now) }
     {
-        let text = String::from_str(alloc, self.text.as_str())?;
+        let text = String::from_str(alloc, self.as_str())?;
         Ok(Word { text })
+    }
+
+    /// Whether it is the same word.
+    pub fn is(&self, other: &Word) -> bool
+        ensures { result ≡ bytes_eq self.now other.now }
+    {
+        self.as_str() == other.as_str()
     }
 }
 
@@ -101,5 +108,50 @@ fn is_a_word(text: &str) -> bool
         false
     } else {
         has_word_bytes(text.as_bytes())
+    }
+}
+
+#[cfg(test)]
+mod tests {
+    use super::*;
+    use std::test::Fail;
+
+    #[test]
+    fn a_word_is_of_small_letters_digits_and_hyphens(rt: HostRuntime) -> Result<(), Fail> {
+        let longest = "a".repeat(rt.alloc(), 64)?;
+        for text in ["web-1", "a", "-", "0", "az09", longest.as_str()] {
+            let word = Word::new(rt.alloc(), text)?;
+            assert_eq!(rt; word.as_str(), text);
+            assert_eq!(rt; word.copy(rt.alloc())?.as_str(), text);
+        }
+        let too_long = "a".repeat(rt.alloc(), 65)?;
+        for text in [
+            "",
+            "Web",
+            "web_1",
+            "web 1",
+            "web/1",
+            "w\u{e9}b",
+            "`",
+            "{",
+            too_long.as_str(),
+        ] {
+            assert_eq!(rt;
+                Word::new(rt.alloc(), text).err(),
+                Some(WordFault::NotAWord),
+                "{text}"
+            );
+        }
+        Ok(())
+    }
+
+    #[test]
+    fn words_are_the_same_where_their_texts_are(rt: HostRuntime) -> Result<(), Fail> {
+        let web = Word::new(rt.alloc(), "web")?;
+        assert!(rt; web.is(&Word::new(rt.alloc(), "web")?));
+        for text in ["we", "webs", "wed"] {
+            assert!(rt; !web.is(&Word::new(rt.alloc(), text)?), "{text}");
+        }
+        Ok(())
     }
 }

@@ -1,0 +1,155 @@
+-- The rules of each request, in the order in which they are asked, each with whether it refuses.
+use Rattle.std.specs.Prelude.{ℕ, suc, List, [], ◌∷◌, Bool, true, false, not, ◌||◌, ◌&&◌, nat_lt, nat_le, ◌==◌, if◌then◌else◌, Option, Some, is_none, Result, Ok, Err, ⊤}
+use Rattle.review_policy.specs.declared.denial.Denial.{Denial}
+use Rattle.review_policy.specs.declared.denial.Need.{Need}
+use Rattle.review_policy.specs.declared.denial.Need.TheVariants.{One, TwoWithSecurity}
+use Rattle.review_policy.specs.declared.denial.Rule.{Rule}
+use Rattle.review_policy.specs.declared.denial.Rule.TheVariants.{CallerUnknown, RoleMissing, OwnRow, TeamFixed, TokenTaken, OtherTeam, Document, SameAsOpen, RevisionsFull, NoRevision, AuthorVotes, NotOpen, OtherBytes, AuthorIssues, Rejected, ApprovalsShort, SecurityMissing, NotStanding, AuthorAdopts, NotIssued, NothingIssued, NoProfile, AlreadyHeld, NotHeld, Held}
+use Rattle.review_policy.specs.declared.revision.State.{State}
+use Rattle.review_policy.specs.declared.revision.State.TheVariants.{Open, Issued}
+use Rattle.review_policy.specs.declared.facts.EnrolFacts.{EnrolFacts}
+use Rattle.review_policy.specs.declared.facts.SubmitFacts.{SubmitFacts}
+use Rattle.review_policy.specs.declared.facts.VoteFacts.{VoteFacts}
+use Rattle.review_policy.specs.declared.facts.IssueFacts.{IssueFacts}
+use Rattle.review_policy.specs.declared.facts.WithdrawFacts.{WithdrawFacts}
+use Rattle.review_policy.specs.declared.facts.AdoptFacts.{AdoptFacts}
+use Rattle.review_policy.specs.declared.facts.ReadFacts.{ReadFacts}
+use Rattle.review_policy.specs.declared.facts.FetchFacts.{FetchFacts}
+use Rattle.review_policy.specs.declared.facts.HoldFacts.{HoldFacts}
+use Rattle.review_policy.specs.declared.facts.ReleaseFacts.{ReleaseFacts}
+
+-- the greatest number of revisions of a profile
+abbrev pub max_revisions : ℕ
+max_revisions = 9999
+
+-- a revision that is there and open
+abbrev pub is_open : Option State → Bool
+is_open (Some Open) = true
+is_open _ = false
+
+-- a revision that is there and issued
+abbrev pub is_issued : Option State → Bool
+is_issued (Some Issued) = true
+is_issued _ = false
+
+-- a revision that is there and may be taken back
+abbrev pub is_standing : Option State → Bool
+is_standing state = is_open state || is_issued state
+
+-- two approvals, one of them with security, where the document is wider than the baseline or holds a listed capability
+abbrev pub need_of : Bool → Bool → Need
+need_of wide listed = if wide || listed then TwoWithSecurity else One
+
+-- how many approvals a need asks for
+abbrev pub approvals_of : Need → ℕ
+approvals_of One = 1
+approvals_of TwoWithSecurity = 2
+
+-- whether a need asks for an approval with security
+abbrev pub asks_security : Need → Bool
+asks_security One = false
+asks_security TwoWithSecurity = true
+
+abbrev pub enrol_rules : EnrolFacts → List (Rule × Bool)
+enrol_rules f =
+    (CallerUnknown, f.caller_unknown)
+    ∷ (RoleMissing, f.role_missing)
+    ∷ (OwnRow, f.own_row)
+    ∷ (TeamFixed, f.team_fixed)
+    ∷ (TokenTaken, f.token_taken)
+    ∷ []
+
+abbrev pub submit_rules : SubmitFacts → List (Rule × Bool)
+submit_rules f =
+    (CallerUnknown, f.caller_unknown)
+    ∷ (RoleMissing, f.role_missing)
+    ∷ (OtherTeam, f.other_team)
+    ∷ (Document, f.document)
+    ∷ (SameAsOpen, f.same_as_open)
+    ∷ (RevisionsFull, nat_le max_revisions f.revisions)
+    ∷ []
+
+abbrev pub vote_rules : VoteFacts → List (Rule × Bool)
+vote_rules f =
+    (CallerUnknown, f.caller_unknown)
+    ∷ (RoleMissing, f.role_missing)
+    ∷ (NoRevision, is_none f.state)
+    ∷ (AuthorVotes, f.author_votes)
+    ∷ (NotOpen, not (is_open f.state))
+    ∷ (OtherBytes, f.other_bytes)
+    ∷ []
+
+abbrev pub issue_rules : IssueFacts → List (Rule × Bool)
+issue_rules f =
+    (CallerUnknown, f.caller_unknown)
+    ∷ (RoleMissing, f.role_missing)
+    ∷ (NoRevision, is_none f.state)
+    ∷ (AuthorIssues, f.author_issues)
+    ∷ (NotOpen, not (is_open f.state))
+    ∷ (Rejected, nat_lt 0 f.rejections)
+    ∷ (ApprovalsShort f.approvals f.need, nat_lt f.approvals (approvals_of f.need))
+    ∷ (SecurityMissing, asks_security f.need && (f.secure == 0))
+    ∷ (Held, f.held)
+    ∷ []
+
+abbrev pub withdraw_rules : WithdrawFacts → List (Rule × Bool)
+withdraw_rules f =
+    (CallerUnknown, f.caller_unknown)
+    ∷ (RoleMissing, f.role_missing)
+    ∷ (OtherTeam, f.other_team)
+    ∷ (NoRevision, is_none f.state)
+    ∷ (NotStanding, not (is_standing f.state))
+    ∷ []
+
+abbrev pub adopt_rules : AdoptFacts → List (Rule × Bool)
+adopt_rules f =
+    (CallerUnknown, f.caller_unknown)
+    ∷ (RoleMissing, f.role_missing)
+    ∷ (NoRevision, is_none f.state)
+    ∷ (AuthorAdopts, f.author_adopts)
+    ∷ (NotIssued, not (is_issued f.state))
+    ∷ []
+
+-- show, sheet and list
+abbrev pub read_rules : ReadFacts → List (Rule × Bool)
+read_rules f =
+    (CallerUnknown, f.caller_unknown)
+    ∷ (RoleMissing, f.role_missing)
+    ∷ (OtherTeam, f.other_team)
+    ∷ (NoRevision, f.no_revision)
+    ∷ []
+
+abbrev pub fetch_rules : FetchFacts → List (Rule × Bool)
+fetch_rules f =
+    (CallerUnknown, f.caller_unknown)
+    ∷ (RoleMissing, f.role_missing)
+    ∷ (OtherTeam, f.other_team)
+    ∷ (NothingIssued, f.nothing_issued)
+    ∷ (Held, f.held)
+    ∷ []
+
+abbrev pub hold_rules : HoldFacts → List (Rule × Bool)
+hold_rules f =
+    (CallerUnknown, f.caller_unknown)
+    ∷ (RoleMissing, f.role_missing)
+    ∷ (NoProfile, f.no_profile)
+    ∷ (AlreadyHeld, f.already_held)
+    ∷ []
+
+abbrev pub release_rules : ReleaseFacts → List (Rule × Bool)
+release_rules f =
+    (CallerUnknown, f.caller_unknown)
+    ∷ (RoleMissing, f.role_missing)
+    ∷ (NoProfile, f.no_profile)
+    ∷ (NotHeld, f.not_held)
+    ∷ []
+
+-- the first rule that refuses, where the first of the list has this number
+abbrev pub first_from : ℕ → List (Rule × Bool) → Result ⊤ Denial
+first_from number [] = Ok tt
+first_from number ((rule, refuses) ∷ rules) =
+    if refuses then Err (record { number = number; rule = rule }) else first_from (suc number) rules
+
+-- the first rule that refuses, numbered by its place from 1
+abbrev pub first_denial : List (Rule × Bool) → Result ⊤ Denial
+first_denial rules = first_from 1 rules

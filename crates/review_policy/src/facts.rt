@@ -1,0 +1,154 @@
+//! What the rules of each request ask. A truth value named by a rule's word is true where the rule refuses.
+
+use crate::denial::Need;
+use crate::revision::State;
+
+/// What the rules of enrol ask.
+#[derive(Clone, Copy, Debug, PartialEq, Eq)]
+pub struct EnrolFacts {
+    /// No user's present token is the one that is shown.
+    pub caller_unknown: bool,
+    /// The caller is no registrar.
+    pub role_missing: bool,
+    /// The user to be enrolled is the caller.
+    pub own_row: bool,
+    /// The user to be enrolled is in another team already.
+    pub team_fixed: bool,
+    /// Another user's present token is the one to be given.
+    pub token_taken: bool,
+}
+
+/// What the rules of submit ask.
+#[derive(Clone, Copy, Debug, PartialEq, Eq)]
+pub struct SubmitFacts {
+    /// No user's present token is the one that is shown.
+    pub caller_unknown: bool,
+    /// The caller is no author.
+    pub role_missing: bool,
+    /// The team isn't the caller's.
+    pub other_team: bool,
+    /// The bytes handed in are no document.
+    pub document: bool,
+    /// The canonical text is that of the open revision.
+    pub same_as_open: bool,
+    /// How many revisions the profile has.
+    pub revisions: u32,
+}
+
+/// What the rules of vote ask.
+#[derive(Clone, Copy, Debug, PartialEq, Eq)]
+pub struct VoteFacts {
+    /// No user's present token is the one that is shown.
+    pub caller_unknown: bool,
+    /// The caller is no reviewer.
+    pub role_missing: bool,
+    /// The state of the revision, if there is one of this number.
+    pub state: Option<State>,
+    /// The caller is an author of the profile.
+    pub author_votes: bool,
+    /// The digest named isn't that of the revision's text.
+    pub other_bytes: bool,
+}
+
+/// What the rules of issue ask.
+#[derive(Clone, Copy, Debug, PartialEq, Eq)]
+pub struct IssueFacts {
+    /// No user's present token is the one that is shown.
+    pub caller_unknown: bool,
+    /// The caller is no issuer.
+    pub role_missing: bool,
+    /// The state of the revision, if there is one of this number.
+    pub state: Option<State>,
+    /// The caller is an author of the profile.
+    pub author_issues: bool,
+    /// How many standing votes count and reject.
+    pub rejections: u64,
+    /// How many standing votes count and approve.
+    pub approvals: u64,
+    /// How many of the approvals have the role security.
+    pub secure: u64,
+    /// How many approvals are needed.
+    pub need: Need,
+    /// The profile is held.
+    pub held: bool,
+}
+
+/// What the rules of withdraw ask.
+#[derive(Clone, Copy, Debug, PartialEq, Eq)]
+pub struct WithdrawFacts {
+    /// No user's present token is the one that is shown.
+    pub caller_unknown: bool,
+    /// The caller is neither author nor security.
+    pub role_missing: bool,
+    /// The team isn't the caller's, who isn't security.
+    pub other_team: bool,
+    /// The state of the revision, if there is one of this number.
+    pub state: Option<State>,
+}
+
+/// What the rules of adopt ask.
+#[derive(Clone, Copy, Debug, PartialEq, Eq)]
+pub struct AdoptFacts {
+    /// No user's present token is the one that is shown.
+    pub caller_unknown: bool,
+    /// The caller isn't security.
+    pub role_missing: bool,
+    /// The state of the revision, if there is one of this number.
+    pub state: Option<State>,
+    /// The caller is an author of the profile.
+    pub author_adopts: bool,
+}
+
+/// What the rules of show, sheet and list ask.
+#[derive(Clone, Copy, Debug, PartialEq, Eq)]
+pub struct ReadFacts {
+    /// No user's present token is the one that is shown.
+    pub caller_unknown: bool,
+    /// The caller is none of author, reviewer, security and issuer.
+    pub role_missing: bool,
+    /// The team isn't the caller's, who is none of reviewer, security and issuer.
+    pub other_team: bool,
+    /// The profile has no revision of this number; never so for list, which names none.
+    pub no_revision: bool,
+}
+
+/// What the rules of fetch ask.
+#[derive(Clone, Copy, Debug, PartialEq, Eq)]
+pub struct FetchFacts {
+    /// No user's present token is the one that is shown.
+    pub caller_unknown: bool,
+    /// The caller is no machine.
+    pub role_missing: bool,
+    /// The team isn't the caller's.
+    pub other_team: bool,
+    /// No revision of the profile is issued.
+    pub nothing_issued: bool,
+    /// The profile is held.
+    pub held: bool,
+}
+
+/// What the rules of hold ask.
+#[derive(Clone, Copy, Debug, PartialEq, Eq)]
+pub struct HoldFacts {
+    /// No user's present token is the one that is shown.
+    pub caller_unknown: bool,
+    /// The caller isn't security.
+    pub role_missing: bool,
+    /// The profile has no revision.
+    pub no_profile: bool,
+    /// The profile is held.
+    pub already_held: bool,
+}
+
+/// What the rules of release ask.
+#[derive(Clone, Copy, Debug, PartialEq, Eq)]
+pub struct ReleaseFacts {
+    /// No user's present token is the one that is shown.
+    pub caller_unknown: bool,
+    /// The caller isn't security.
+    pub role_missing: bool,
+    /// The profile has no revision.
+    pub no_profile: bool,
+    /// The profile isn't held.
+    pub not_held: bool,
+}
