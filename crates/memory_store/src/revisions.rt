@@ -80,8 +80,10 @@ pub(crate) fn last_of<'a>(
 
 // The number of a profile's next revision, where it fits.
 pub(crate) fn next_number(revisions: &[StoredRevision], name: &ProfileName) -> Option<u32>
-    ensures next { IfSome result (λ number. (last : Option RevisionRow) → IsLastOf name.now revisions.now last → number ≡ next_number last) }
-    ensures full { IfNone result ((last : Option RevisionRow) → IsLastOf name.now revisions.now last → 2 ^ 32 ≤ next_number last) }
+    ensures next { IfSome result (λ number.
+        (last : Option RevisionRow) → IsLastOf name.now revisions.now last → number ≡ next_number last) }
+    ensures full { IfNone result (
+        (last : Option RevisionRow) → IsLastOf name.now revisions.now last → 2 ^ 32 ≤ next_number last) }
 {
     match last_of(revisions, name) {
         Some(row) => row.number.checked_add(1),
@@ -113,7 +115,8 @@ pub(crate) fn add(
     name: ProfileName,
     row: RevisionRow,
 ) -> Result<(), AllocError>
-    ensures ok { OnOk result (revisions.new.items ≡ map (after_one_of name) revisions.old.items ++ (record { name = name; row = row }) ∷ []) }
+    ensures ok { OnOk result (
+        revisions.new.items ≡ map (after_one_of name) revisions.old.items ++ (record { name = name; row = row }) ∷ []) }
     ensures err { OnErr result (revisions.new.items ≡ revisions.old.items) }
 {
     revisions.reserve(1)?;

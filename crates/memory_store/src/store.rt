@@ -38,7 +38,8 @@ impl MemoryStore {
         digest: [u8; 32],
         listed: Caps,
     ) -> Result<MemoryStore, StoreFault>
-        ensures founded { IfOk result (λ store. Shows store (founded_tables (record { name = name; team = team; roles = 1; digest = digest }) listed)) }
+        ensures founded { IfOk result (λ store. Shows store
+            (founded_tables (record { name = name; team = team; roles = 1; digest = digest }) listed)) }
         ensures fault { IfErr result (λ fault. fault ≡ StoreFault.NoMemory) }
     {
         let mut rows = Vec::new(alloc);
@@ -107,7 +108,8 @@ impl MemoryStore {
         name: &ProfileName,
         number: u32,
     ) -> Result<Option<RevisionRow>, StoreFault>
-        ensures found { (t : Tables) → Shows self.now t → IfOk result (λ revision. revision ≡ t.revisions name.now number) }
+        ensures found { (t : Tables) → Shows self.now t
+            → IfOk result (λ revision. revision ≡ t.revisions name.now number) }
         ensures fault { IfErr result (λ fault. fault ≡ StoreFault.NoMemory) }
     {
         let found = revisions::revision_at(self.revisions.as_slice(), name, number);
@@ -136,10 +138,20 @@ impl MemoryStore {
         body: Text,
         digest: [u8; 32],
     ) -> Result<u32, StoreFault>
-        ensures added { IfOk result (λ number. (t : Tables) → Shows self.old t → (last : Option RevisionRow) → IsLast t name last → (number ≡ next_number last) × Shows self.new (with_revision name (record { number = number; author = author; state = State.Open; body = body; digest = digest }) t)) }
+        ensures added { IfOk result (λ number. (t : Tables) → Shows self.old t
+            → (last : Option RevisionRow) → IsLast t name last → (number ≡ next_number last)
+            × Shows self.new (with_revision name (record {
+              number = number;
+              author = author;
+              state = State.Open;
+              body = body;
+              digest = digest;
+            }) t)) }
         ensures kept { OnErr result ((t : Tables) → Shows self.old t → Shows self.new t) }
         ensures fault { IfErr result (λ fault. (fault ≡ StoreFault.NoMemory) ⊎ (fault ≡ StoreFault.Full)) }
-        ensures full { result ≡ Err StoreFault.Full → (t : Tables) → Shows self.old t → (last : Option RevisionRow) → IsLast t name last → 2 ^ 32 ≤ next_number last }
+        ensures full { result ≡ Err StoreFault.Full
+            → (t : Tables) → Shows self.old t
+            → (last : Option RevisionRow) → IsLast t name last → 2 ^ 32 ≤ next_number last }
     {
         let Some(number) = revisions::next_number(self.revisions.as_slice(), &name) else {
             return Err(StoreFault::Full);
