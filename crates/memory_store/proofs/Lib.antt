@@ -1,0 +1,2 @@
+pub mod UserLemmas
+pub mod RevisionLemmas
