@@ -1,0 +1,13 @@
+//! Sets of Linux capabilities, the lawful states of a process, and what `execve` makes of them.
+//!
+//! The rules are those of capabilities(7). No call takes memory.
+#![tactic(auto)]
+
+mod caps;
+mod flags;
+mod names;
+mod state;
+
+pub use caps::Caps;
+pub use names::Names;
+pub use state::{CapFault, CapState};
