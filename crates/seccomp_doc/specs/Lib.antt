@@ -1,3 +1,6 @@
 pub mod Action
 pub mod Compare
 pub mod Word
+pub mod Filter
+pub mod Meaning
+pub mod Lawful

@@ -142,9 +142,7 @@ impl CallName {
 fn is_of_arch(bytes: &[u8]) -> bool
     ensures { result ≡ list_all is_arch_byte bytes.now }
 {
-    bytes
-        .iter()
-        .all(|byte| byte.is_ascii_uppercase() || byte.is_ascii_digit() || *byte == b'_')
+    bytes.iter().all(|byte| byte.is_ascii_uppercase() || byte.is_ascii_digit() || *byte == b'_')
 }
 
 fn is_of_flag(bytes: &[u8]) -> bool
@@ -158,9 +156,7 @@ fn is_of_flag(bytes: &[u8]) -> bool
 fn is_of_call(bytes: &[u8]) -> bool
     ensures { result ≡ list_all is_call_byte bytes.now }
 {
-    bytes
-        .iter()
-        .all(|byte| byte.is_ascii_lowercase() || byte.is_ascii_digit() || *byte == b'_')
+    bytes.iter().all(|byte| byte.is_ascii_lowercase() || byte.is_ascii_digit() || *byte == b'_')
 }
 
 // Whether the length is 1 to a number.
