@@ -1,5 +1,5 @@
 -- Actions: their names, their numbers and their order.
-use Rattle.std.specs.Prelude.{ℕ, List, [], ◌∷◌, Bool, true, false, Option, Some, None, if◌then◌else◌, find, bytes_eq, codes}
+use Rattle.std.specs.Prelude.{ℕ, List, [], ◌∷◌, Bool, true, false, Option, Some, None, ◌&&◌, ◌==◌, unwrap_or, if◌then◌else◌, find, bytes_eq, codes}
 use Rattle.seccomp_doc.specs.declared.action.ActionWord.{ActionWord}
 use Rattle.seccomp_doc.specs.declared.action.ActionWord.TheVariants as words
 use Rattle.seccomp_doc.specs.declared.action.Action.{Action}
@@ -55,3 +55,7 @@ rank_of (actions.Errno number) = 3
 rank_of (actions.Trace number) = 4
 rank_of actions.Log = 5
 rank_of actions.Allow = 6
+
+-- the same name and the same number
+abbrev pub same_action : Action → Action → Bool
+same_action a b = rank_of a == rank_of b && unwrap_or (errno_of a) 0 == unwrap_or (errno_of b) 0

@@ -4,3 +4,5 @@ pub mod Word
 pub mod Filter
 pub mod Meaning
 pub mod Lawful
+pub mod Parts
+pub mod Checks

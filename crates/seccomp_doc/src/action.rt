@@ -1,7 +1,7 @@
 // What becomes of a system call.
 
 ghost use Rattle.std.specs.Prelude.{◌≡◌, Some};
-ghost use Rattle.seccomp_doc.specs.Action.{action_word_named, action_word_text, errno_of, rank_of, takes_errno, word_of};
+ghost use Rattle.seccomp_doc.specs.Action.{action_word_named, action_word_text, errno_of, rank_of, same_action, takes_errno, word_of};
 
 /// The name of an action, without the number that some actions carry.
 #[derive(Clone, Copy, PartialEq, Eq, Debug)]
@@ -132,4 +132,10 @@ impl Action {
             _ => None,
         }
     }
+}
+
+fn is_same(a: Action, b: Action) -> bool
+    ensures { result ≡ same_action a b }
+{
+    a == b
 }

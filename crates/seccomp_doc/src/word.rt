@@ -5,6 +5,7 @@ ghost use Rattle.std.specs.List.{list_all};
 ghost use Rattle.seccomp_doc.specs.Word.{Reads, is_arch, is_arch_byte, is_call_byte, is_call_name, is_flag, is_flag_byte};
 
 use std::alloc::Global;
+use std::fmt;
 use std::marker::Model;
 use thiserror::Error;
 
@@ -136,6 +137,12 @@ impl CallName {
         ensures form { is_call_name self.now ≡ true }
     {
         self.text.as_str()
+    }
+}
+
+impl fmt::Display for CallName {
+    fn fmt<W: fmt::Write>(&self, f: &mut fmt::Formatter<W>) -> fmt::Result {
+        f.write_str(self.as_str())
     }
 }
 
