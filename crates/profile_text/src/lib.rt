@@ -4,11 +4,14 @@
 //! as `capabilities`, and Seccomp of `config-linux.md` as `seccomp`.
 #![tactic(auto)]
 
+mod canonical;
 mod fault;
+mod filter_json;
 mod hash;
 mod profile;
 mod sets;
 
+pub use canonical::print;
 pub use fault::{DocFault, Path, fault_text};
 pub use hash::digest;
 pub use profile::Profile;
