@@ -26,7 +26,7 @@ same_state s t e p i b a =
     let first : P_a s.ambient = λ l. ap (state s.effective s.permitted s.inheritable s.bounding s.ambient) (lawful_prop s.effective s.permitted s.inheritable s.ambient s.lawful l) in
     subst P_e e (subst P_p p (subst P_i i (subst P_b b (subst P_a a first)))) t.lawful
 
-same_profile : (p q : Profile) → p.caps ≡ q.caps → p.filter ≡ q.filter → p ≡ q
+pub same_profile : (p q : Profile) → p.caps ≡ q.caps → p.filter ≡ q.filter → p ≡ q
 same_profile p q caps filter =
     let with_caps : CapState → Profile = λ s. record { caps = s; filter = p.filter } in
     let with_filter : Option FilterValue → Profile = λ f. record { caps = q.caps; filter = f } in

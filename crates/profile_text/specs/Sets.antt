@@ -1,5 +1,5 @@
 -- The five sets that a document names. A set is the number whose bit n is set where capability n is a member.
-use Rattle.std.specs.Prelude.{ℕ, List, [], ◌∷◌, Option, find, bytes_eq, codes}
+use Rattle.std.specs.Prelude.{ℕ, List, [], ◌∷◌, Option, Some, None, find, bytes_eq, codes, option_map, unwrap_or, if◌then◌else◌}
 use Rattle.std.specs.Option.{option_map_or}
 use Rattle.std.specs.Int.RustNames.{bit_or}
 use Rattle.serde_json.specs.Data.{Data, null, boolean, number, string, array, object, Items, no_items, item, Members}
@@ -69,6 +69,11 @@ set_of (number n) = 0
 set_of (string s) = 0
 set_of (object ms) = 0
 
+-- the sets with the one that a member of `capabilities` gives
+abbrev pub sets_with : Option CapSet → Data → Sets → Sets
+sets_with None d s = s
+sets_with (Some set) d s = with_set set (set_of d) s
+
 -- the set of a member, empty where the member is absent
 abbrev pub member_set : List ℕ → Members → ℕ
 member_set name ms = option_map_or set_of (member_of name ms) 0
@@ -91,9 +96,17 @@ sets_of (number n) = no_sets
 sets_of (string s) = no_sets
 sets_of (array ds) = no_sets
 
+-- the sets of the member `capabilities`, where it is there
+abbrev pub found_in : Members → Option Sets
+found_in ms = option_map sets_of (member_of (codes "capabilities") ms)
+
+-- the sets found so far, with those of one more member
+abbrev pub found_with : List ℕ → Data → Option Sets → Option Sets
+found_with name d found = if bytes_eq name (codes "capabilities") then Some (sets_of d) else found
+
 -- the sets of a document
 unfoldable pub document_sets : Data → Sets
-document_sets (object ms) = option_map_or sets_of (member_of (codes "capabilities") ms) no_sets
+document_sets (object ms) = unwrap_or (found_in ms) no_sets
 document_sets null = no_sets
 document_sets (boolean b) = no_sets
 document_sets (number n) = no_sets

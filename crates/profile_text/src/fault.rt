@@ -25,11 +25,30 @@ impl Model for Path {
 }
 
 impl Path {
+    ghost use Rattle.std.specs.Prelude.{decimal};
+    ghost use Rattle.profile_text.specs.Shape.{below};
+
     /// The path of this text.
     pub(crate) fn new(alloc: Global, text: &str) -> Result<Path, AllocError>
         ensures { IfOk result (λ path. path ≡ text.now) }
     {
         let text = String::from_str(alloc, text)?;
+        Ok(Path { text })
+    }
+
+    /// The path of the member of this name, below another path.
+    pub(crate) fn of_member(alloc: Global, path: &str, name: &str) -> Result<Path, AllocError>
+        ensures { IfOk result (λ found. found ≡ below path.now name.now) }
+    {
+        let text = format!(in alloc; "{path}/{name}")?;
+        Ok(Path { text })
+    }
+
+    /// The path of the item at this position, below another path.
+    pub(crate) fn of_item(alloc: Global, path: &str, position: usize) -> Result<Path, AllocError>
+        ensures { IfOk result (λ found. found ≡ below path.now (decimal position)) }
+    {
+        let text = format!(in alloc; "{path}/{position}")?;
         Ok(Path { text })
     }
 

@@ -5,6 +5,8 @@
 #![tactic(auto)]
 
 mod canonical;
+mod capabilities;
+mod document;
 mod fault;
 mod filter_json;
 mod hash;
@@ -12,6 +14,7 @@ mod profile;
 mod sets;
 
 pub use canonical::print;
+pub use document::read;
 pub use fault::{DocFault, Path, fault_text};
 pub use hash::digest;
 pub use profile::Profile;

@@ -1,9 +1,10 @@
 // The five capability sets of a document.
 
 ghost use Rattle.std.specs.Prelude.{◌≡◌};
-ghost use Rattle.profile_text.specs.Sets.{no_sets, set_in, set_name, set_named, with_set};
+ghost use Rattle.profile_text.specs.Sets.{no_sets, set_name, set_named, with_set};
+ghost use Rattle.profile_text.specs.State.{state_of};
 
-use cap_sets::Caps;
+use cap_sets::{CapFault, CapState, Caps};
 
 /// One of the five capability sets of a process.
 #[derive(Clone, Copy, PartialEq, Eq, Debug)]
@@ -68,6 +69,19 @@ impl Sets {
             inheritable: none,
             permitted: none,
         }
+    }
+
+    /// The state of the sets, or the first fault of sets that are no lawful state.
+    pub(crate) fn state(self) -> Result<CapState, CapFault>
+        ensures { result ≡ state_of self }
+    {
+        CapState::new(
+            self.effective,
+            self.permitted,
+            self.inheritable,
+            self.bounding,
+            self.ambient,
+        )
     }
 
     /// The same sets but for one.
