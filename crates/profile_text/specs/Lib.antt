@@ -1,0 +1,9 @@
+pub mod Profile
+pub mod Digest
+pub mod FaultText
+pub mod Text
+pub mod Shape
+pub mod Document
+pub mod Sets
+pub mod State
+pub mod Reading

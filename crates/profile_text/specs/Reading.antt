@@ -1,0 +1,62 @@
+-- What bytes read as: a profile, or the first fault.
+use Rattle.std.specs.Prelude.{◌≡◌, ◌⊎◌, ℕ, List, [], ◌∷◌, length, nat_lt, if◌then◌else◌, Option, Some, None, Result, Ok, Err}
+use Rattle.std.specs.Str.{is_utf8}
+use Rattle.serde_json.specs.Data.{Data}
+use Rattle.serde_json.specs.Read.{read}
+use Rattle.cap_sets.specs.declared.state.CapState.{CapState}
+use Rattle.cap_sets.specs.declared.state.CapFault.{CapFault}
+use Rattle.profile_text.specs.declared.fault.DocFault.{DocFault}
+use Rattle.profile_text.specs.declared.fault.DocFault.TheVariants.{TooLong, NotJson, Caps, NoMemory, TextTooLong}
+use Rattle.profile_text.specs.declared.profile.Profile.{Profile}
+use Rattle.profile_text.specs.Document.{document_faults}
+use Rattle.profile_text.specs.Sets.{document_sets}
+use Rattle.profile_text.specs.State.{state_of}
+use Rattle.profile_text.specs.Text.{text_of}
+
+-- how many bytes a document and a canonical text may have
+abbrev pub most_bytes : ℕ
+most_bytes = 262144
+
+infixl 10 ◌>>=◌
+-- the first fault stands in place of what comes after it
+abbrev pub ◌>>=◌ : {X Y : Type 0} → Result X DocFault → (X → Result Y DocFault) → Result Y DocFault
+(Ok x) >>= next = next x
+(Err fault) >>= next = Err fault
+
+-- the value, unless there are faults: then the first of them
+abbrev pub unless_faulty : {X : Type 0} → List DocFault → X → Result X DocFault
+unless_faulty [] x = Ok x
+unless_faulty (fault ∷ faults) x = Err fault
+
+-- the JSON value of the bytes, as serde_json reads them: UTF-8, of at most 127 levels
+abbrev pub json_of : List ℕ → Option Data
+json_of bytes = if is_utf8 bytes then read bytes else None
+
+-- the fault of five sets is a fault of the document
+abbrev pub caps_or_fault : Result CapState CapFault → Result CapState DocFault
+caps_or_fault (Ok caps) = Ok caps
+caps_or_fault (Err fault) = Err (Caps fault)
+
+-- a profile has a text that is not too long
+abbrev pub if_short : Profile → Result Profile DocFault
+if_short p = if nat_lt most_bytes (length (text_of p)) then Err TextTooLong else Ok p
+
+-- the profile of a JSON value: the walk, the state of the sets, the length of the text
+unfoldable pub profile_of : Data → Result Profile DocFault
+profile_of d = do
+  sets ← unless_faulty (document_faults d) (document_sets d)
+  caps ← caps_or_fault (state_of sets)
+  if_short (record { caps = caps; filter = None })
+
+abbrev pub profile_of_json : Option Data → Result Profile DocFault
+profile_of_json None = Err NotJson
+profile_of_json (Some d) = profile_of d
+
+-- what the bytes read as, or the first fault; it is never want of memory
+unfoldable pub reading_of : List ℕ → Result Profile DocFault
+reading_of bytes = if nat_lt most_bytes (length bytes) then Err TooLong else profile_of_json (json_of bytes)
+
+-- what a reader gives is what is read; want of memory may stand in its place
+abbrev pub Gives : {X : Type 0} → Result X DocFault → Result X DocFault → Type 0
+Gives (Ok x) reading = reading ≡ Ok x
+Gives (Err fault) reading = (fault ≡ NoMemory) ⊎ (reading ≡ Err fault)

@@ -1,0 +1,104 @@
+// The reader of `capabilities`.
+
+ghost use Rattle.std.specs.Prelude.{codes, decimal, option_map};
+ghost use Rattle.serde_json.specs.View.{items_view, members_view, view};
+ghost use Rattle.profile_text.specs.Document.{caps_faults, caps_row, caps_rows, is_cap_name, set_faults};
+ghost use Rattle.profile_text.specs.Reading.{Gives, unless_faulty};
+ghost use Rattle.profile_text.specs.Sets.{cap_of, caps_of, set_of, sets_in, sets_of, sets_with};
+ghost use Rattle.profile_text.specs.Shape.{below, items_faults, object_faults, row_faults, word_faults};
+
+use crate::fault::{DocFault, Path};
+use crate::sets::{CapSet, Sets};
+use cap_sets::Caps;
+use serde_json::{Map, Value};
+use std::alloc::Global;
+
+// One name of a list.
+#[tactic(auto, unfolding(crate::specs::Shape::word_faults))]
+fn cap_of(alloc: Global, path: &str, position: usize, value: &Value) -> Result<Caps, DocFault>
+    ensures { Gives result (unless_faulty
+        (word_faults is_cap_name (below path.now (decimal position)) (view value.now))
+        (cap_of (view value.now))) }
+{
+    match value {
+        Value::String(word) => match Caps::from_name(word.as_str()) {
+            Some(caps) => Ok(caps),
+            None => Err(DocFault::UnknownWord(Path::of_item(alloc, path, position)?)),
+        },
+        _ => Err(DocFault::WrongShape(Path::of_item(alloc, path, position)?)),
+    }
+}
+
+// The names of a list.
+fn caps_of(alloc: Global, path: &str, values: &[Value]) -> Result<Caps, DocFault>
+    ensures { Gives result (unless_faulty
+        (items_faults (word_faults is_cap_name) path.now 0 (items_view values.now))
+        (caps_of (items_view values.now))) }
+{
+    let mut caps = Caps::empty();
+    for (position, value) in values.iter().enumerate() {
+        caps = caps.union(cap_of(alloc, path, position, value)?);
+    }
+    Ok(caps)
+}
+
+// The value of a set.
+#[tactic(auto, unfolding(crate::specs::Shape::optional_faults, crate::specs::Shape::list_faults, crate::specs::Sets::set_of))]
+fn set_of(alloc: Global, path: &str, value: &Value) -> Result<Caps, DocFault>
+    ensures { Gives result (unless_faulty (set_faults path.now (view value.now)) (set_of (view value.now))) }
+{
+    match value {
+        Value::Null => Ok(Caps::empty()),
+        Value::Array(values) => caps_of(alloc, path, values.as_slice()),
+        _ => Err(DocFault::WrongShape(Path::new(alloc, path)?)),
+    }
+}
+
+// The sets with that of one more member.
+fn sets_with(
+    alloc: Global,
+    path: Path,
+    sets: Sets,
+    set: Option<CapSet>,
+    value: &Value,
+) -> Result<Sets, DocFault>
+    ensures { Gives result (unless_faulty
+        (row_faults (option_map caps_row set) path (view value.now))
+        (sets_with set (view value.now) sets)) }
+{
+    match set {
+        Some(set) => {
+            let caps = set_of(alloc, path.as_str(), value)?;
+            Ok(sets.with(set, caps))
+        }
+        None => Err(DocFault::UnknownMember(path)),
+    }
+}
+
+// The sets of the members.
+fn sets_in(alloc: Global, members: &Map<String, Value>) -> Result<Sets, DocFault>
+    ensures { Gives result (unless_faulty
+        (object_faults caps_rows (codes "/capabilities") (members_view members.now.entries))
+        (sets_in (members_view members.now.entries))) }
+{
+    let mut sets = Sets::empty();
+    for (name, value) in members {
+        let name = name.as_str();
+        let path = Path::of_member(alloc, "/capabilities", name)?;
+        sets = sets_with(alloc, path, sets, CapSet::from_name(name), value)?;
+    }
+    Ok(sets)
+}
+
+/// The sets of the member `capabilities` of a document.
+#[tactic(auto, unfolding(crate::specs::Document::caps_faults, crate::specs::Sets::sets_of))]
+pub(crate) fn capabilities_of(alloc: Global, value: &Value) -> Result<Sets, DocFault>
+    ensures { Gives result (unless_faulty
+        (caps_faults (codes "/capabilities") (view value.now))
+        (sets_of (view value.now))) }
+{
+    match value {
+        Value::Object(members) => sets_in(alloc, members),
+        _ => Err(DocFault::WrongShape(Path::new(alloc, "/capabilities")?)),
+    }
+}

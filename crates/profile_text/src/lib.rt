@@ -1,0 +1,21 @@
+//! Sandbox profiles as documents: their reader, their canonical text and its digest.
+//!
+//! A document is JSON in the form of the OCI Runtime Specification 1.x: the member `process.capabilities` of `config.md`
+//! as `capabilities`, and Seccomp of `config-linux.md` as `seccomp`.
+#![tactic(auto)]
+
+mod canonical;
+mod capabilities;
+mod document;
+mod fault;
+mod filter_json;
+mod hash;
+mod profile;
+mod sets;
+
+pub use canonical::print;
+pub use document::read;
+pub use fault::{DocFault, Path, fault_text};
+pub use hash::digest;
+pub use profile::Profile;
+pub use sets::CapSet;

@@ -1,0 +1,45 @@
+// Profiles.
+
+ghost use Rattle.std.specs.Prelude.{◌≡◌};
+
+use cap_sets::{CapState, Caps};
+use seccomp_doc::{Action, Filter};
+use std::alloc::Global;
+
+/// What a container may do: its capability sets, and its filter of system calls, where it has one. Without a filter
+/// every call is allowed.
+#[derive(Debug, Drop)]
+pub struct Profile {
+    pub caps: CapState,
+    pub filter: Option<Filter>,
+}
+
+impl Profile {
+    ghost use Rattle.profile_text.specs.Profile.{closed_profile};
+
+    /// The profile with these capability sets and this filter.
+    pub fn new(caps: CapState, filter: Option<Filter>) -> Profile
+        ensures caps { result.caps ≡ caps }
+        ensures filter { result.filter ≡ filter }
+    {
+        Profile { caps, filter }
+    }
+
+    /// The profile that permits nothing: no capabilities, and a filter whose default is to end the process. It takes no
+    /// memory.
+    pub fn closed(alloc: Global) -> Profile
+        ensures { result ≡ closed_profile }
+    {
+        let none = Caps::empty();
+        Profile {
+            caps: CapState {
+                effective: none,
+                permitted: none,
+                inheritable: none,
+                bounding: none,
+                ambient: none,
+            },
+            filter: Some(Filter::only_default(alloc, Action::KillProcess)),
+        }
+    }
+}

@@ -1,0 +1,8 @@
+pub mod Action
+pub mod Compare
+pub mod Word
+pub mod Filter
+pub mod Meaning
+pub mod Lawful
+pub mod Parts
+pub mod Checks

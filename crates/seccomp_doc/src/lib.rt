@@ -1,0 +1,18 @@
+//! Seccomp filters as an OCI runtime configuration writes them: actions, comparisons, entries, and what a filter means.
+#![tactic(auto)]
+
+pub mod action;
+pub mod compare;
+pub mod entry;
+pub mod fault;
+pub mod filter;
+pub mod parts;
+pub mod word;
+
+pub use action::{Action, ActionWord};
+pub use compare::{Compare, Op};
+pub use entry::Entry;
+pub use fault::FilterFault;
+pub use filter::{Filter, action_for};
+pub use parts::{ArgParts, EntryParts, FilterParts};
+pub use word::{Arch, CallName, ScmpFlag, WordFault};

@@ -1,0 +1,64 @@
+// The parts that a filter is made of, as a document has them.
+
+use crate::action::ActionWord;
+use crate::compare::Op;
+use crate::word::{Arch, ScmpFlag};
+use std::marker::Model;
+
+/// A comparison as a document has it.
+#[derive(Clone, Copy, PartialEq, Eq, Debug)]
+pub struct ArgParts {
+    /// Which argument, from 0.
+    pub index: u64,
+    /// How it is compared.
+    pub op: Op,
+    /// What it is compared with, or the mask.
+    pub value: u64,
+    /// The second value, 0 where there is none.
+    pub value_two: u64,
+}
+
+/// An entry as a document has it.
+#[derive(Debug, Drop)]
+pub struct EntryParts {
+    /// The names of calls.
+    pub names: Vec<String>,
+    /// The name of the action.
+    pub word: ActionWord,
+    /// The number of the action, if one stands there.
+    pub errno: Option<u64>,
+    /// The comparisons.
+    pub args: Vec<ArgParts>,
+}
+
+impl Model for EntryParts {
+    ghost use Rattle.std.specs.Prelude.{map, string_bytes};
+    ghost use Rattle.seccomp_doc.specs.Parts.{EntryPartsValue};
+
+    ghost Value = { EntryPartsValue };
+
+    ghost view = { λ e. record { names = map string_bytes e.names.items; word = e.word; errno = e.errno; args = e.args.items } };
+}
+
+/// A filter as a document has it.
+#[derive(Debug, Drop)]
+pub struct FilterParts {
+    /// The name of the action of a call that no entry matches.
+    pub default: ActionWord,
+    /// The number of that action, if one stands there.
+    pub default_errno: Option<u64>,
+    /// The architectures.
+    pub architectures: Vec<Arch>,
+    /// The flags.
+    pub flags: Vec<ScmpFlag>,
+    /// The entries.
+    pub entries: Vec<EntryParts>,
+}
+
+impl Model for FilterParts {
+    ghost use Rattle.seccomp_doc.specs.Parts.{FilterPartsValue};
+
+    ghost Value = { FilterPartsValue };
+
+    ghost view = { λ f. record { default = f.default; default_errno = f.default_errno; architectures = f.architectures.items; flags = f.flags.items; entries = f.entries.items } };
+}
