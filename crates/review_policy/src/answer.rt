@@ -1,6 +1,7 @@
 //! What the office answers.
 
 ghost use Rattle.std.specs.Prelude.{◌≡◌};
+ghost use Rattle.review_policy.specs.WordTables.{fault_word};
 
 use crate::denial::Denial;
 use crate::revision::State;
@@ -96,6 +97,20 @@ pub enum Fault {
     Full,
     /// The tables aren't those of an office.
     NotAnOffice,
+}
+
+impl Fault {
+    /// Its word, as answers name it.
+    pub fn word(self) -> &'static str
+        ensures { result.now ≡ fault_word self }
+    {
+        match self {
+            Fault::Memory => "memory",
+            Fault::Disk => "disk",
+            Fault::Full => "full",
+            Fault::NotAnOffice => "not-an-office",
+        }
+    }
 }
 
 /// The answer to a request.

@@ -1,5 +1,8 @@
 //! Revisions of a profile and the votes on them.
 
+ghost use Rattle.std.specs.Prelude.{◌≡◌};
+ghost use Rattle.review_policy.specs.WordTables.{state_word};
+
 use crate::word::Word;
 
 /// Where a revision stands.
@@ -15,6 +18,21 @@ pub enum State {
     Replaced,
     /// It was taken back.
     Withdrawn,
+}
+
+impl State {
+    /// Its word, as answers and sheets name it.
+    pub fn word(self) -> &'static str
+        ensures { result.now ≡ state_word self }
+    {
+        match self {
+            State::Open => "open",
+            State::Closed => "closed",
+            State::Issued => "issued",
+            State::Replaced => "replaced",
+            State::Withdrawn => "withdrawn",
+        }
+    }
 }
 
 /// The standing vote of a user on a revision.

@@ -1,8 +1,10 @@
 //! Roles, and sets of them.
 
-ghost use Rattle.std.specs.Prelude.{◌≡◌, ◌<◌, ◌^◌, Some, None, if◌then◌else◌, nat_lt};
+ghost use Rattle.std.specs.Prelude.{◌≡◌, ◌<◌, ◌^◌, Some, None, IfSome, if◌then◌else◌, nat_lt};
 ghost use Rattle.std.specs.Int.RustNames.{bit_or};
 ghost use Rattle.review_policy.specs.Role.{has_role, place_of};
+ghost use Rattle.review_policy.specs.WordTables.{role_word, role_of};
+ghost use Rattle.review_policy.specs.declared.role.Role.{Role};
 
 use std::marker::Model;
 
@@ -21,6 +23,45 @@ pub enum Role {
     Issuer,
     /// Fetches what was issued for the own team.
     Machine,
+}
+
+impl Role {
+    /// Its word, as requests name it.
+    pub fn word(self) -> &'static str
+        ensures { result.now ≡ role_word self }
+    {
+        match self {
+            Role::Registrar => "registrar",
+            Role::Author => "author",
+            Role::Reviewer => "reviewer",
+            Role::Security => "security",
+            Role::Issuer => "issuer",
+            Role::Machine => "machine",
+        }
+    }
+
+    /// The role of this word; `None` where it is no role's.
+    pub fn from_word(text: &str) -> Option<Role>
+        ensures value { result ≡ role_of text.now }
+        ensures found { IfSome result (λ role. role_word role ≡ text.now) }
+        ensures known { (role : Role) → role_word role ≡ text.now → result ≡ Some role }
+    {
+        if text == "registrar" {
+            Some(Role::Registrar)
+        } else if text == "author" {
+            Some(Role::Author)
+        } else if text == "reviewer" {
+            Some(Role::Reviewer)
+        } else if text == "security" {
+            Some(Role::Security)
+        } else if text == "issuer" {
+            Some(Role::Issuer)
+        } else if text == "machine" {
+            Some(Role::Machine)
+        } else {
+            None
+        }
+    }
 }
 
 /// A set of roles.
