@@ -1,0 +1,2 @@
+pub mod SplitFacts
+pub mod AnswerFacts
