@@ -8,3 +8,6 @@ pub mod whole;
 pub use counted::{Counted, is_interrupted};
 pub use step::{ReadStep, read_step};
 pub use whole::{WriteFailed, write_whole};
+
+#[cfg(test)]
+mod tests;
