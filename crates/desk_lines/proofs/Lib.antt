@@ -1,0 +1,3 @@
+pub mod SplitFacts
+pub mod AnswerFacts
+pub mod RequestFacts

@@ -1,0 +1,8 @@
+pub mod Lines
+pub mod Bad
+pub mod Answers
+pub mod Kinds
+pub mod Plain
+pub mod Members
+pub mod Requests
+pub mod Faults

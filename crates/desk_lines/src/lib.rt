@@ -1,0 +1,19 @@
+//! The lines of the desk: one request to a line, and one answer to a line.
+#![tactic(auto)]
+
+pub mod answer;
+pub mod ask;
+pub mod bad;
+pub mod denial;
+pub mod fault;
+pub mod kind;
+pub mod member;
+pub mod request;
+pub mod split;
+
+pub use answer::{answer_text, line};
+pub use bad::BadLine;
+pub use fault::LineFault;
+pub use kind::Kind;
+pub use request::read_line;
+pub use split::split_line;
