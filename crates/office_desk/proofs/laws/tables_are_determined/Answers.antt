@@ -1,0 +1,5 @@
+use Rattle.office_desk.proofs.Histories.{alike}
+use Rattle.office_desk.proofs.laws.tables_are_determined.Goals as goal
+
+pub returns : goal.returns
+returns c = alike

@@ -1,0 +1,43 @@
+-- What holds of every history, above the definitions.
+use Rattle.std.specs.Prelude.{◌≡◌, ◌<◌, ◌≤◌, ◌↔◌, ℕ, List, ◌∷◌, true, Some, is_some}
+use Rattle.review_policy.specs.declared.ask.ProfileName.{ProfileName}
+use Rattle.review_policy.specs.declared.revision.State.TheVariants.{Open}
+use Rattle.office_tables.specs.declared.row.UserRow.{UserRow}
+use Rattle.office_tables.specs.declared.row.RevisionRow.{RevisionRow}
+use Rattle.office_tables.specs.Tables.{Tables}
+use Rattle.office_desk.specs.History.{Event, History}
+use Rattle.office_desk.specs.Users.{user_of}
+use Rattle.office_desk.specs.Revisions.{Submission, submission_of, revision_of, last_number, is_issued}
+
+-- at every key the tables have the same
+pub record AreAlike (t u : Tables) : Type 0 where
+  pub listed : t.listed ≡ u.listed
+  pub users : (name : List ℕ) → t.users name ≡ u.users name
+  pub revisions : (p : ProfileName) (n : ℕ) → t.revisions p n ≡ u.revisions p n
+  pub votes : (p : ProfileName) (n : ℕ) (voter : List ℕ) → t.votes p n voter ≡ u.votes p n voter
+  pub baselines : (team : List ℕ) → t.baselines team ≡ u.baselines team
+  pub holds : (p : ProfileName) → t.holds p ≡ u.holds p
+
+-- no two users show one digest
+abbrev pub AreApart : History → Type 0
+AreApart h = (a b : List ℕ) (u v : UserRow) → user_of h a ≡ Some u → user_of h b ≡ Some v → u.digest ≡ v.digest → a ≡ b
+
+-- the team of each user is the same after one more event
+abbrev pub KeepsTeams : History → Event → Type 0
+KeepsTeams h e = (name : List ℕ) (u v : UserRow) → user_of h name ≡ Some u → user_of (e ∷ h) name ≡ Some v → v.team ≡ u.team
+
+-- each submission is the same after one more event
+abbrev pub KeepsSubmissions : History → Event → Type 0
+KeepsSubmissions h e = (p : ProfileName) (n : ℕ) (s : Submission) → submission_of h p n ≡ Some s → submission_of (e ∷ h) p n ≡ Some s
+
+-- the numbers of a profile's submissions are those from 1 to the last
+abbrev pub NumbersRun : History → ProfileName → Type 0
+NumbersRun h p = (n : ℕ) → (is_some (submission_of h p n) ≡ true) ↔ ((0 < n) × (n ≤ last_number h p))
+
+-- an open revision is the last of its profile
+abbrev pub OpenIsLast : History → ProfileName → Type 0
+OpenIsLast h p = (n : ℕ) (r : RevisionRow) → revision_of h p n ≡ Some r → r.state ≡ Open → n ≡ last_number h p
+
+-- no two revisions of a profile are issued
+abbrev pub OneIssued : History → ProfileName → Type 0
+OneIssued h p = (n k : ℕ) → is_issued (revision_of h p n) ≡ true → is_issued (revision_of h p k) ≡ true → n ≡ k

@@ -1,0 +1,62 @@
+//! The office: it carries out what the policy allows, and nothing else.
+
+use crate::carry_out::carry_out;
+use cap_sets::Caps;
+use memory_store::MemoryStore;
+use office_tables::StoreFault;
+use review_policy::{Answer, Fault, Request, Word};
+use std::alloc::Global;
+
+/// An office.
+#[derive(Drop)]
+pub struct Office {
+    store: MemoryStore,
+}
+
+impl Office {
+    ghost use Rattle.std.specs.Prelude.{◌≡◌, [], ◌∷◌, true, IfOk};
+    ghost use Rattle.office_desk.specs.History.{History, founded};
+    ghost use Rattle.office_desk.specs.Verdict.{Meaning};
+    ghost use Rattle.office_desk.specs.Handled.{is_served, IsOffice, IsAnswer, history_after};
+
+    /// A new office, with its first user, who is a registrar and shows the token of this digest, and with the listed
+    /// capabilities: a document that holds one of them needs two approvals.
+    ///
+    /// Where there is no memory it answers [`StoreFault::NoMemory`].
+    pub fn found(
+        alloc: Global,
+        name: Word,
+        team: Word,
+        digest: [u8; 32],
+        listed: Caps,
+    ) -> Result<Office, StoreFault>
+        ensures { IfOk result (λ office. (m : Meaning) → IsOffice m (founded name team digest listed ∷ []) office) }
+    {
+        let store = MemoryStore::found(alloc, name, team, digest, listed)?;
+        Ok(Office { store })
+    }
+
+    /// Carries a request out where every rule of the policy allows it, and else names the first rule that refuses it.
+    ///
+    /// A [`Fault`] says that memory was wanted, and that nothing changed.
+    pub fn handle(&mut self, alloc: Global, request: &Request) -> Answer
+        requires { is_served request.now.ask ≡ true }
+        ensures answer { (m : Meaning) (h : History) → IsOffice m h self.old → IsAnswer m h request.now result }
+        ensures office { (m : Meaning) (h : History) → IsOffice m h self.old → IsOffice m (history_after m h request.now result) self.new }
+    {
+        match carry_out(&mut self.store, alloc, request) {
+            Ok(answer) => answer,
+            Err(fault) => Answer::Fault(told(fault)),
+        }
+    }
+}
+
+// What is told of a fault of the store.
+fn told(fault: StoreFault) -> Fault {
+    match fault {
+        StoreFault::NoMemory => Fault::Memory,
+        StoreFault::Disk => Fault::Disk,
+        StoreFault::Full => Fault::Full,
+        StoreFault::NotAnOffice | StoreFault::AlreadyFounded => Fault::NotAnOffice,
+    }
+}
