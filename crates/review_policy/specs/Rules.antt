@@ -50,6 +50,7 @@ abbrev pub asks_security : Need → Bool
 asks_security One = false
 asks_security TwoWithSecurity = true
 
+-- a registrar enrols another user, whose team stays, with a token that no other user shows
 abbrev pub enrol_rules : EnrolFacts → List (Rule × Bool)
 enrol_rules f =
     (CallerUnknown, f.caller_unknown)
@@ -59,6 +60,7 @@ enrol_rules f =
     ∷ (TokenTaken, f.token_taken)
     ∷ []
 
+-- an author hands in a document of the own team, which isn't the open one again
 abbrev pub submit_rules : SubmitFacts → List (Rule × Bool)
 submit_rules f =
     (CallerUnknown, f.caller_unknown)
@@ -69,6 +71,7 @@ submit_rules f =
     ∷ (RevisionsFull, nat_le max_revisions f.revisions)
     ∷ []
 
+-- a reviewer who is no author of the profile votes on the open revision, naming its text's digest
 abbrev pub vote_rules : VoteFacts → List (Rule × Bool)
 vote_rules f =
     (CallerUnknown, f.caller_unknown)
@@ -79,6 +82,7 @@ vote_rules f =
     ∷ (OtherBytes, f.other_bytes)
     ∷ []
 
+-- an issuer who is no author of the profile issues an open revision that nobody rejects and enough approve, unless it is held
 abbrev pub issue_rules : IssueFacts → List (Rule × Bool)
 issue_rules f =
     (CallerUnknown, f.caller_unknown)
@@ -92,6 +96,7 @@ issue_rules f =
     ∷ (Held, f.held)
     ∷ []
 
+-- an author of the team, or security, takes back a revision that is open or issued
 abbrev pub withdraw_rules : WithdrawFacts → List (Rule × Bool)
 withdraw_rules f =
     (CallerUnknown, f.caller_unknown)
@@ -101,6 +106,7 @@ withdraw_rules f =
     ∷ (NotStanding, not (is_standing f.state))
     ∷ []
 
+-- security that is no author of the profile makes an issued revision the baseline of its team
 abbrev pub adopt_rules : AdoptFacts → List (Rule × Bool)
 adopt_rules f =
     (CallerUnknown, f.caller_unknown)
@@ -110,7 +116,7 @@ adopt_rules f =
     ∷ (NotIssued, not (is_issued f.state))
     ∷ []
 
--- show, sheet and list
+-- show, sheet and list: an author of the team, or a reviewer, security or an issuer, looks at it
 abbrev pub read_rules : ReadFacts → List (Rule × Bool)
 read_rules f =
     (CallerUnknown, f.caller_unknown)
@@ -119,6 +125,7 @@ read_rules f =
     ∷ (NoRevision, f.no_revision)
     ∷ []
 
+-- a machine of the team fetches what is issued, unless the profile is held
 abbrev pub fetch_rules : FetchFacts → List (Rule × Bool)
 fetch_rules f =
     (CallerUnknown, f.caller_unknown)
@@ -128,6 +135,7 @@ fetch_rules f =
     ∷ (Held, f.held)
     ∷ []
 
+-- security holds a profile that isn't held
 abbrev pub hold_rules : HoldFacts → List (Rule × Bool)
 hold_rules f =
     (CallerUnknown, f.caller_unknown)
@@ -136,6 +144,7 @@ hold_rules f =
     ∷ (AlreadyHeld, f.already_held)
     ∷ []
 
+-- security releases a held profile
 abbrev pub release_rules : ReleaseFacts → List (Rule × Bool)
 release_rules f =
     (CallerUnknown, f.caller_unknown)
