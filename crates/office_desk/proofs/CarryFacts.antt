@@ -1,5 +1,5 @@
 -- How the parts of a request meet its verdict.
-use Rattle.std.proofs.Common.{◌≡◌, ◌∙◌, ℕ, List, ◌∷◌, Bool, true, false, not, Some, None, Option, Ok, Err, refl, sym, ap, subst}
+use Rattle.std.proofs.Common.{◌≡◌, ◌∙◌, ℕ, List, ◌∷◌, Bool, true, false, not, Some, None, Option, Ok, Err, refl, sym, ap, subst, inl, inr, ◌⊎◌}
 use Rattle.std.specs.Prelude.{Result, ⊤, is_some, is_none}
 use Rattle.review_policy.specs.declared.ask.ProfileName.{ProfileName}
 use Rattle.review_policy.specs.declared.ask.Ask.{Ask}
@@ -12,6 +12,7 @@ use Rattle.review_policy.specs.declared.denial.Denial.{Denial}
 use Rattle.review_policy.specs.Rules.{first_denial, enrol_rules, read_rules}
 use Rattle.profile_text.specs.Digest.{digest_of}
 use Rattle.office_tables.specs.declared.fault.StoreFault.{StoreFault}
+use Rattle.office_tables.specs.declared.fault.StoreFault.TheVariants.{NoMemory, Full}
 use Rattle.office_tables.specs.declared.row.UserRow.{UserRow}
 use Rattle.office_tables.specs.declared.row.RevisionRow.{RevisionRow}
 use Rattle.office_tables.specs.Changes.{with_user}
@@ -25,6 +26,7 @@ use Rattle.office_desk.specs.Facts.{enrol_facts, enrol_facts_by, read_facts}
 use Rattle.office_desk.specs.Verdict.{Meaning, Verdict, accepted, denied, rules_of, done_of, fault_of, judged, of_revision, verdict_of, verdict}
 use Rattle.office_desk.specs.Lawful.{IsLawful}
 use Rattle.office_desk.specs.TablesOf.{tables_of}
+use Rattle.office_desk.specs.Told.{IsPassing}
 use Rattle.office_desk.specs.Handled.{CarriesOut, IsOffice, answer_of, event_of, with_event, history_after}
 use Rattle.office_desk.specs.Laws.{AreApart}
 use Rattle.office_desk.proofs.UserFacts.{showing_one, showing_none}
@@ -40,6 +42,15 @@ refused m h caller a d store e shows =
 pub allowed : (m : Meaning) (h : History) (caller : Option UserRow) (a : Ask) (result : Result Answer StoreFault) (store : MemoryStore) → first_denial (rules_of m h caller a) ≡ Ok tt
     → CarriesOut h (done_of m h caller a) result store → CarriesOut h (verdict_of m h caller a) result store
 allowed m h caller a result store e done = subst (λ r. CarriesOut h (judged m h caller a r) result store) (sym e) done
+
+-- want of memory passes
+pub memory_passes : (f : StoreFault) → f ≡ NoMemory → IsPassing f
+memory_passes f is = subst IsPassing (sym is) tt
+
+-- and so does want of room
+pub room_passes : (f : StoreFault) → (f ≡ NoMemory) ⊎ (f ≡ Full) → IsPassing f
+room_passes f (inl is) = subst IsPassing (sym is) tt
+room_passes f (inr is) = subst IsPassing (sym is) tt
 
 -- the user that a store finds by a digest is the one that shows it
 pub shower_is : (h : History) → AreApart h → (digest : List ℕ) (found : Option UserRow) → IsUserShowing (tables_of h) digest found → user_showing h digest ≡ found

@@ -7,7 +7,7 @@ use Rattle.office_tables.specs.declared.row.RevisionRow.{RevisionRow}
 use Rattle.office_tables.specs.Tables.{is_profile}
 use Rattle.office_tables.specs.Reads.{IsLast}
 use Rattle.office_desk.specs.History.{Event, submitted, History}
-use Rattle.office_desk.specs.Revisions.{submits, last_number, submission_of, revision_of, standing_of}
+use Rattle.office_desk.specs.Revisions.{submits, last_number, submission_of, revision_of, state_in}
 use Rattle.office_desk.specs.TablesOf.{tables_of}
 
 -- the count after one more event that may be a submission
@@ -84,7 +84,7 @@ last_is h p None is = is (last_number h p)
 last_is h p (Some r) is = ap (revision_of h p) (number_is h p r is) ∙ is.0
 
 -- a revision that is there has a number up to the last
-pub standing_within : (h : History) (p : ProfileName) (n : ℕ) → is_none (standing_of (revision_of h p n)) ≡ false → n ≤ last_number h p
+pub standing_within : (h : History) (p : ProfileName) (n : ℕ) → is_none (state_in (revision_of h p n)) ≡ false → n ≤ last_number h p
 standing_within h p n there = within_last h p n (λ none. absurd (false_there none))
   where
     false_there : submission_of h p n ≡ None → ⊥

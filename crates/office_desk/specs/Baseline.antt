@@ -23,7 +23,7 @@ adoption_of (adopted c q n ∷ before) team =
     if bytes_eq team q.team then Some (record { profile = q.profile; number = n }) else adoption_of before team
 adoption_of (_ ∷ before) team = adoption_of before team
 
--- the document of a revision, unless it was withdrawn
+-- the document of a revision, or the closed profile where it was withdrawn
 abbrev pub document_unless_withdrawn : Option RevisionRow → Profile
 document_unless_withdrawn None = closed_profile
 document_unless_withdrawn (Some r) = unless r.state

@@ -20,7 +20,7 @@ use Rattle.office_tables.specs.declared.row.UserRow.{UserRow}
 use Rattle.office_tables.specs.declared.row.RevisionRow.{RevisionRow}
 use Rattle.office_desk.specs.History.{History}
 use Rattle.office_desk.specs.Users.{user_of, user_showing, holds_role, is_named, is_of_team, name_of}
-use Rattle.office_desk.specs.Revisions.{revision_of, last_number, if_open, issued_revision, is_author, standing_of}
+use Rattle.office_desk.specs.Revisions.{revision_of, last_number, if_open, issued_revision, is_author, state_in}
 use Rattle.office_desk.specs.Votes.{approvals, rejections, secure_approvals}
 use Rattle.office_desk.specs.Holds.{is_held}
 
@@ -92,7 +92,7 @@ module _ (h : History) (caller : Option UserRow) where
   vote_facts p n digest = record {
     caller_unknown = is_none caller;
     role_missing = not (holds_role caller Reviewer);
-    state = standing_of (revision_of h p n);
+    state = state_in (revision_of h p n);
     author_votes = is_author h p (name_of caller);
     other_bytes = not (has_digest (revision_of h p n) digest);
   }
@@ -101,7 +101,7 @@ module _ (h : History) (caller : Option UserRow) where
   issue_facts need p n = record {
     caller_unknown = is_none caller;
     role_missing = not (holds_role caller Issuer);
-    state = standing_of (revision_of h p n);
+    state = state_in (revision_of h p n);
     author_issues = is_author h p (name_of caller);
     rejections = length (rejections h p n);
     approvals = length (approvals h p n);
@@ -115,14 +115,14 @@ module _ (h : History) (caller : Option UserRow) where
     caller_unknown = is_none caller;
     role_missing = not (holds_role caller Author || holds_role caller Security);
     other_team = not (is_of_team caller p.team || holds_role caller Security);
-    state = standing_of (revision_of h p n);
+    state = state_in (revision_of h p n);
   }
 
   abbrev pub adopt_facts : ProfileName → (number : ℕ) → AdoptFacts
   adopt_facts p n = record {
     caller_unknown = is_none caller;
     role_missing = not (holds_role caller Security);
-    state = standing_of (revision_of h p n);
+    state = state_in (revision_of h p n);
     author_adopts = is_author h p (name_of caller);
   }
 

@@ -5,6 +5,7 @@ use Rattle.review_policy.specs.declared.ask.Ask.TheVariants as ask
 use Rattle.review_policy.specs.declared.ask.Request.{Request}
 use Rattle.review_policy.specs.declared.answer.Answer.{Answer}
 use Rattle.review_policy.specs.declared.answer.Answer.TheVariants.{Done, Denied, Fault}
+use Rattle.review_policy.specs.declared.answer.Fault.TheVariants as faults
 use Rattle.office_tables.specs.declared.fault.StoreFault.{StoreFault}
 use Rattle.memory_store.specs.declared.store.MemoryStore.{MemoryStore}
 use Rattle.memory_store.specs.Shows.{Shows}
@@ -13,6 +14,7 @@ use Rattle.office_desk.specs.History.{Event, History}
 use Rattle.office_desk.specs.Verdict.{Meaning, Verdict, accepted, denied, verdict}
 use Rattle.office_desk.specs.Lawful.{IsLawful}
 use Rattle.office_desk.specs.TablesOf.{tables_of}
+use Rattle.office_desk.specs.Told.{IsPassing}
 
 -- the kinds of request that are served
 abbrev pub is_served : Ask → Bool
@@ -21,7 +23,8 @@ is_served (ask.Submit p document) = true
 is_served (ask.Show p n) = true
 is_served _ = false
 
--- the office has the tables of a lawful history
+-- The office has the tables of a lawful history. While only three kinds of request are served, that is one without votes,
+-- adoptions and holds.
 pub record IsOffice (m : Meaning) (h : History) (o : Office) : Type 0 where
   pub lawful : IsLawful m h
   pub tables : Shows o.store (tables_of h)
@@ -41,17 +44,20 @@ abbrev pub event_of : Verdict → Option Event
 event_of (accepted reply event) = event
 event_of (denied denial fault) = None
 
--- the answer tells the verdict and the store shows the tables with its event; a fault leaves the tables
+-- the answer tells the verdict and the store shows the tables with its event; a passing fault leaves the tables
 abbrev pub CarriesOut : History → Verdict → Result Answer StoreFault → MemoryStore → Type 0
 CarriesOut h v (Ok a) store = (a ≡ answer_of v) × Shows store (tables_of (with_event (event_of v) h))
-CarriesOut h v (Err f) store = Shows store (tables_of h)
+CarriesOut h v (Err f) store = IsPassing f × Shows store (tables_of h)
 
 -- the history after a request: a fault adds no event
 abbrev pub history_after : Meaning → History → Request → Answer → History
 history_after m h r (Fault f) = h
 history_after m h r answer = with_event (event_of (verdict m h r)) h
 
--- the answer is the verdict's, or a fault
+-- the answer is the verdict's, or the fault of memory, of the disk or of room on it
 abbrev pub IsAnswer : Meaning → History → Request → Answer → Type 0
-IsAnswer m h r (Fault f) = Unit {0}
+IsAnswer m h r (Fault faults.Memory) = Unit {0}
+IsAnswer m h r (Fault faults.Disk) = Unit {0}
+IsAnswer m h r (Fault faults.Full) = Unit {0}
+IsAnswer m h r (Fault faults.NotAnOffice) = ⊥
 IsAnswer m h r answer = answer ≡ answer_of (verdict m h r)

@@ -1,4 +1,4 @@
--- What has happened in an office: its founding, and each request that was carried out and changed something.
+-- What has happened in an office: its founding, and each request of a changing kind that was carried out.
 use Rattle.std.specs.Prelude.{ℕ, List, Bool}
 use Rattle.review_policy.specs.declared.ask.ProfileName.{ProfileName}
 

@@ -10,5 +10,6 @@ pub mod Facts
 pub mod Verdict
 pub mod Lawful
 pub mod TablesOf
+pub mod Told
 pub mod Handled
 pub mod Laws

@@ -45,7 +45,7 @@ submission_of (submitted c q t ∷ before) p n =
     if is_profile p q && (n == suc (last_number before p)) then Some (record { author = c; text = t }) else submission_of before p n
 submission_of (_ ∷ before) p n = submission_of before p n
 
--- the events that are newer than the newest that passes the test
+-- the events that are newer than the newest that passes the test, or all where none passes
 abbrev pub since : (Event → Bool) → History → History
 since test [] = []
 since test (e ∷ before) = if test e then [] else e ∷ since test before
@@ -76,8 +76,8 @@ abbrev pub is_author : History → ProfileName → List ℕ → Bool
 is_author h p name = list_any (is_submission_by name p) h
 
 -- the state of a revision that is there
-abbrev pub standing_of : Option RevisionRow → Option State
-standing_of r = option_map (λ row. row.state) r
+abbrev pub state_in : Option RevisionRow → Option State
+state_in r = option_map (λ row. row.state) r
 
 -- whether a revision is there and open
 abbrev pub is_open : Option RevisionRow → Bool

@@ -19,7 +19,7 @@ user_of (enrolled c n t r d ∷ before) name =
     if bytes_eq name n then Some (record { name = n; team = t; roles = r; digest = d }) else user_of before name
 user_of (_ ∷ before) name = user_of before name
 
--- the names that were enrolled, the last one first
+-- the names that were enrolled, the last one first; a name stands once for each enrolment
 abbrev pub names_of : History → List (List ℕ)
 names_of [] = []
 names_of (founded n t d listed ∷ before) = n ∷ names_of before

@@ -34,7 +34,7 @@ pub record Meaning : Type 0 where
   pub is_wider : Profile → Profile → Bool
   pub sheet : History → ProfileName → ℕ → List ℕ
 
--- a request is carried out, with its reply and the event of what it changes, or a rule refuses it
+-- a request is carried out, with its reply and, where its kind changes something, its event, or a rule refuses it
 pub data Verdict : Type 0 where
   accepted : Reply → Option Event → Verdict
   denied : Denial → (fault : Option (List ℕ)) → Verdict

@@ -10,3 +10,6 @@ mod show;
 mod submit;
 
 pub use office::Office;
+
+#[cfg(test)]
+mod tests;

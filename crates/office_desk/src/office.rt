@@ -1,5 +1,8 @@
 //! The office: it carries out what the policy allows, and nothing else.
 
+ghost use Rattle.std.specs.Prelude.{◌≡◌};
+ghost use Rattle.office_desk.specs.Told.{told_of};
+
 use crate::carry_out::carry_out;
 use cap_sets::Caps;
 use memory_store::MemoryStore;
@@ -52,7 +55,9 @@ impl Office {
 }
 
 // What is told of a fault of the store.
-fn told(fault: StoreFault) -> Fault {
+fn told(fault: StoreFault) -> Fault
+    ensures { result ≡ told_of fault }
+{
     match fault {
         StoreFault::NoMemory => Fault::Memory,
         StoreFault::Disk => Fault::Disk,

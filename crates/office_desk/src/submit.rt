@@ -1,6 +1,6 @@
 // Documents that are handed in.
 
-ghost use Rattle.std.specs.Prelude.{◌≡◌, IfOk};
+ghost use Rattle.std.specs.Prelude.{◌≡◌, IfOk, IfErr};
 ghost use Rattle.review_policy.specs.declared.ask.Ask.TheVariants as ask;
 ghost use Rattle.profile_text.specs.Reading.{reading_of};
 ghost use Rattle.memory_store.specs.Shows.{Shows};
@@ -23,7 +23,8 @@ use std::alloc::{AllocError, Global};
 
 // What the bytes read as, or why they don't.
 fn reading(alloc: Global, document: &[u8]) -> Result<Result<Profile, DocFault>, StoreFault>
-    ensures { IfOk result (λ reading. reading ≡ reading_of document.now) }
+    ensures read { IfOk result (λ reading. reading ≡ reading_of document.now) }
+    ensures fault { IfErr result (λ fault. fault ≡ StoreFault.NoMemory) }
 {
     match read(alloc, document) {
         Err(DocFault::NoMemory) => Err(StoreFault::NoMemory),

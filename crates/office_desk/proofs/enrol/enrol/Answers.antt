@@ -6,7 +6,7 @@ use Rattle.review_policy.specs.declared.ask.Ask.TheVariants as ask
 use Rattle.review_policy.specs.Rules.{first_denial, enrol_rules}
 use Rattle.office_desk.specs.Users.{name_of}
 use Rattle.office_desk.specs.TablesOf.{tables_of}
-use Rattle.office_desk.proofs.CarryFacts.{refused, allowed, enrol_decided, enrol_done}
+use Rattle.office_desk.proofs.CarryFacts.{refused, allowed, enrol_decided, enrol_done, memory_passes}
 use Rattle.office_desk.proofs.enrol.enrol.Goals as goal
 
 pub returns-in-Err : goal.returns-in-Err
@@ -20,7 +20,7 @@ returns-in-Err c = λ m h lawful shows.
 pub returns-in_err-put_user : goal.returns-in_err-put_user
 returns-in_err-put_user c = λ m h lawful shows.
     let p = err_from_is_err_and c.from_residual-in_err-put_user.result c.from_residual-in_err-put_user.ensures.1 in
-    rw p.1 (c.in_err-put_user.ensures.kept (tables_of h) shows)
+    rw (p.1, p.2) (memory_passes c.in_err-put_user.field-0.0 c.in_err-put_user.ensures.fault, c.in_err-put_user.ensures.kept (tables_of h) shows)
 
 pub returns : goal.returns
 returns c = λ m h lawful shows.
