@@ -6,3 +6,10 @@ pub mod Picks
 pub mod WalkFacts
 pub mod StateFacts
 pub mod ReadFacts
+pub mod NameFacts
+pub mod ShapeFacts
+pub mod ReadsFacts
+pub mod ListedNames
+pub mod KnownCaps
+pub mod PrintedBack
+pub mod ReadBack

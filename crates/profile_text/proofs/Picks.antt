@@ -68,18 +68,18 @@ branched n d s = record {
 }
 
 -- a name is that of no set
-record IsNoSet (n : List ℕ) : Type 0 where
-  ambient : bytes_eq n (codes "ambient") ≡ false
-  bounding : bytes_eq n (codes "bounding") ≡ false
-  effective : bytes_eq n (codes "effective") ≡ false
-  inheritable : bytes_eq n (codes "inheritable") ≡ false
-  permitted : bytes_eq n (codes "permitted") ≡ false
+pub record IsNoSet (n : List ℕ) : Type 0 where
+  pub ambient : bytes_eq n (codes "ambient") ≡ false
+  pub bounding : bytes_eq n (codes "bounding") ≡ false
+  pub effective : bytes_eq n (codes "effective") ≡ false
+  pub inheritable : bytes_eq n (codes "inheritable") ≡ false
+  pub permitted : bytes_eq n (codes "permitted") ≡ false
 
-same_name : (a b : List ℕ) → bytes_eq a b ≡ true → a ≡ b
+pub same_name : (a b : List ℕ) → bytes_eq a b ≡ true → a ≡ b
 same_name a b e = (bytes_eq-Decides a b).0 e
 
 -- a name is that of a set, or of none
-name_cases : (n : List ℕ) → ((set : CapSet) × (n ≡ set_name set)) ⊎ IsNoSet n
+pub name_cases : (n : List ℕ) → ((set : CapSet) × (n ≡ set_name set)) ⊎ IsNoSet n
 name_cases n =
     let Told : Type 0 = ((set : CapSet) × (n ≡ set_name set)) ⊎ IsNoSet n in
     elim (cases_Bool (bytes_eq n (codes "ambient"))) as (λ _. Told) [
@@ -120,7 +120,7 @@ branched_is n d s =
 pub filled_more : (n : List ℕ) (d : Data) (s : Sets) (ms : Members) → filled s (member n d ms) ≡ filled (sets_with (set_named n) d s) ms
 filled_more n d s ms = ap (λ t. filled t ms) (branched_is n d s)
 
-row_at : (set : CapSet) → row_named caps_rows (set_name set) ≡ option_map caps_row (set_named (set_name set))
+pub row_at : (set : CapSet) → row_named caps_rows (set_name set) ≡ option_map caps_row (set_named (set_name set))
 unfolding set_named
 row_at Ambient = refl
 row_at Bounding = refl
@@ -128,7 +128,7 @@ row_at Effective = refl
 row_at Inheritable = refl
 row_at Permitted = refl
 
-row_none : (n : List ℕ) → IsNoSet n → row_named caps_rows n ≡ option_map caps_row (set_named n)
+pub row_none : (n : List ℕ) → IsNoSet n → row_named caps_rows n ≡ option_map caps_row (set_named n)
 unfolding set_named
 row_none n h = rw (h.ambient, h.bounding, h.effective, h.inheritable, h.permitted) refl
 

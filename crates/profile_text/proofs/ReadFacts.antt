@@ -2,7 +2,6 @@
 use Rattle.std.proofs.Common.{◌≡◌, ℕ, ◌<◌, ◌≤◌, List, [], length, Bool, true, cond, Option, Some, None, option_map, bytes_eq, Result, Ok, Err, inl, inr, refl, sym, subst, le-ltb, lt-ltb}
 use Rattle.std.specs.Prelude.{IsUtf8, codes, unwrap_or}
 use Rattle.std.specs.Str.{is_utf8}
-use Rattle.std.proofs.lemmas.Slice.Eq.{bytes_eq-Decides}
 use Rattle.std.proofs.lemmas.Str.{IsUtf8-from_is_utf8, is_utf8-from_IsUtf8}
 use Rattle.std.proofs.lemmas.Bool.{cases_Bool}
 use Rattle.serde_json.specs.Data.{Data, Members}
@@ -15,6 +14,7 @@ use Rattle.profile_text.specs.Reading.{Gives, unless_faulty, profile_of, profile
 use Rattle.profile_text.specs.Sets.{sets_of, found_in, found_with, no_sets}
 use Rattle.profile_text.specs.Shape.{below, member_of, members_faults, missing_faults, object_faults, row_faults, row_named}
 use Rattle.profile_text.proofs.GivesFacts.{gives_first, ok_parts}
+use Rattle.profile_text.proofs.Picks.{same_name}
 
 -- the fault of a member is the fault of the document
 pub document_err : (ms : Members) (fault : DocFault) → Gives {X = Option Sets} (Err fault) (unless_faulty (members_faults document_rows [] ms) (found_in ms))
@@ -45,9 +45,6 @@ pub document_missing : (ms : Members) → unless_faulty (members_faults document
 document_missing ms told =
     let parts = ok_parts (members_faults document_rows [] ms) (found_in ms) None told in
     missing_by ms (member_of (codes "capabilities") ms) refl parts.1 parts.0
-
-same_name : (a b : List ℕ) → bytes_eq a b ≡ true → a ≡ b
-same_name a b e = (bytes_eq-Decides a b).0 e
 
 -- the member `capabilities`
 pub found_caps : (name : List ℕ) (d : Data) (found : Option Sets) (sets : Sets) → bytes_eq name (codes "capabilities") ≡ true

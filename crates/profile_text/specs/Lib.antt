@@ -7,3 +7,4 @@ pub mod Document
 pub mod Sets
 pub mod State
 pub mod Reading
+pub mod Reads

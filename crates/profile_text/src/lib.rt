@@ -10,6 +10,7 @@ mod document;
 mod fault;
 mod filter_json;
 mod hash;
+pub mod law;
 mod profile;
 mod sets;
 
