@@ -3,6 +3,7 @@ use Rattle.std.specs.Prelude.{◌≡◌, ◌≢◌, ℕ, List, [], ◌∷◌, �
 use Rattle.std.specs.List.{list_any}
 use Rattle.seccomp_doc.specs.declared.action.ActionWord.{ActionWord}
 use Rattle.seccomp_doc.specs.declared.action.Action.{Action}
+use Rattle.seccomp_doc.specs.declared.parts.ArgParts.{ArgParts}
 use Rattle.seccomp_doc.specs.declared.fault.FilterFault.{FilterFault}
 use Rattle.seccomp_doc.specs.declared.fault.FilterFault.TheVariants.{NoNames, BadCallName, BadIndex, IndexTwice, ErrnoNotTaken, ErrnoTooLarge, TwoActions, TooMany, NoMemory}
 use Rattle.seccomp_doc.specs.Action.{takes_errno, same_action}
@@ -29,14 +30,20 @@ errno_checks word errno =
     ∷ (ErrnoTooLarge, nat_lt 65535 (unwrap_or errno 1))
     ∷ []
 
+abbrev pub is_no_call_name : List ℕ → Bool
+is_no_call_name name = not (is_call_name name)
+
+-- the checks of an entry's names
+abbrev pub names_checks : List (List ℕ) → List Check
+names_checks names = (NoNames, length names == 0) ∷ (BadCallName, list_any is_no_call_name names) ∷ []
+
+-- the checks of an entry's comparisons
+abbrev pub arg_checks : List ArgParts → List Check
+arg_checks args = (BadIndex, list_any (λ a. nat_lt 5 a.index) args) ∷ (IndexTwice, has_repeat (map (λ a. a.index) args)) ∷ []
+
 -- the checks of one entry
 abbrev pub entry_checks : EntryPartsValue → List Check
-entry_checks e =
-    (NoNames, length e.names == 0)
-    ∷ (BadCallName, list_any (λ name. not (is_call_name name)) e.names)
-    ∷ (BadIndex, list_any (λ a. nat_lt 5 a.index) e.args)
-    ∷ (IndexTwice, has_repeat (map (λ a. a.index) e.args))
-    ∷ errno_checks e.word e.errno
+entry_checks e = names_checks e.names ++ arg_checks e.args ++ errno_checks e.word e.errno
 
 -- an entry has the name under another action
 abbrev pub contradicts : List ℕ → Action → EntryValue → Bool

@@ -1,10 +1,10 @@
 // Names in a filter: architectures, flags and system calls.
 
-ghost use Rattle.std.specs.Prelude.{◌≡◌, true, ◌&&◌, length, nat_le, nat_lt};
+ghost use Rattle.std.specs.Prelude.{◌≡◌, true, ◌&&◌, if◌then◌else◌, Some, None, IfOk, length, nat_le, nat_lt, string_bytes};
 ghost use Rattle.std.specs.List.{list_all};
 ghost use Rattle.seccomp_doc.specs.Word.{Reads, is_arch, is_arch_byte, is_call_byte, is_call_name, is_flag, is_flag_byte};
 
-use std::alloc::Global;
+use std::alloc::{AllocError, Global};
 use std::fmt;
 use std::marker::Model;
 use thiserror::Error;
@@ -129,6 +129,26 @@ impl CallName {
             Ok(text) => Ok(CallName { text }),
             Err(_) => Err(WordFault::NoMemory),
         }
+    }
+
+    // The call whose name this text is.
+    pub(crate) fn from_string(text: String) -> Option<CallName>
+        ensures { result ≡ (if is_call_name (string_bytes text) then Some (string_bytes text) else None) }
+    {
+        if is_a_call_name(text.as_str()) {
+            Some(CallName { text })
+        } else {
+            None
+        }
+    }
+
+    // A second one.
+    pub(crate) fn copy(&self, alloc: Global) -> Result<CallName, AllocError>
+        ensures { IfOk result (λ name. name ≡ self.now) }
+    {
+        Ok(CallName {
+            text: String::from_str(alloc, self.text.as_str())?,
+        })
     }
 
     /// Its text.
