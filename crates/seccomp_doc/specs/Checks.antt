@@ -17,11 +17,15 @@ use Rattle.seccomp_doc.specs.Parts.{EntryPartsValue, FilterPartsValue, entry_of}
 abbrev pub Check : Type 0
 Check = FilterFault × Bool
 
+-- more names or comparisons than an entry may have
+abbrev pub is_large : EntryPartsValue → Bool
+is_large e = nat_lt 1024 (length e.names) || nat_lt 6 (length e.args)
+
 -- a count is above its limit
 abbrev pub has_too_many : FilterPartsValue → Bool
 has_too_many p =
     nat_lt 2048 (length p.entries) || nat_lt 64 (length p.architectures) || nat_lt 64 (length p.flags)
-    || list_any (λ e. nat_lt 1024 (length e.names) || nat_lt 6 (length e.args)) p.entries
+    || list_any is_large p.entries
 
 -- the checks of a number beside an action's name
 abbrev pub errno_checks : ActionWord → Option ℕ → List Check
@@ -49,9 +53,13 @@ entry_checks e = names_checks e.names ++ arg_checks e.args ++ errno_checks e.wor
 abbrev pub contradicts : List ℕ → Action → EntryValue → Bool
 contradicts name action e = has_name name e && not (same_action e.action action)
 
--- each name of an entry, with whether an earlier entry has it under another action
+-- an earlier entry has the name under another action
+abbrev pub name_check : List EntryValue → Action → List ℕ → Check
+name_check earlier action name = (TwoActions name, list_any (contradicts name action) earlier)
+
+-- the same of each name of an entry
 abbrev pub name_checks : List EntryValue → EntryValue → List Check
-name_checks earlier e = map (λ name. (TwoActions name, list_any (contradicts name e.action) earlier)) e.names
+name_checks earlier e = map (name_check earlier e.action) e.names
 
 -- the same for all entries, in their order
 unfoldable pub all_name_checks : List EntryValue → List EntryValue → List Check

@@ -123,9 +123,7 @@ fn call_names(alloc: Global, texts: Vec<String>) -> Result<Vec<CallName>, Filter
         let Some(name) = CallName::from_string(text) else {
             return Err(FilterFault::BadCallName);
         };
-        names
-            .push(name)
-            .map_err(|_| FilterFault::NoMemory)?;
+        names.push(name).map_err(|_| FilterFault::NoMemory)?;
     }
     Ok(names)
 }
@@ -173,8 +171,7 @@ fn has_index_twice(args: &[ArgParts]) -> bool
 fn has_index(args: &[ArgParts], index: u64) -> bool
     ensures { result ≡ list_any (λ a. index == a.index) args.now }
 {
-    args.iter()
-        .any(|arg| index == arg.index)
+    args.iter().any(|arg| index == arg.index)
 }
 
 // The comparison that these parts make: the second value counts where the operator is masked.
@@ -187,10 +184,6 @@ fn compare_with(arg: ArgParts) -> Compare
         index: arg.index as u8,
         op: arg.op,
         value: arg.value,
-        value_two: if arg.op.is_masked() {
-            arg.value_two
-        } else {
-            0
-        },
+        value_two: if arg.op.is_masked() { arg.value_two } else { 0 },
     }
 }

@@ -6,6 +6,7 @@ pub mod compare;
 pub mod entry;
 pub mod fault;
 pub mod filter;
+mod names;
 pub mod parts;
 pub mod word;
 
