@@ -5,3 +5,4 @@ pub mod SameAction
 pub mod FaultFacts
 pub mod NameFacts
 pub mod FilterFacts
+pub mod MeaningFacts

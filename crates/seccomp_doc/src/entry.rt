@@ -8,10 +8,10 @@ ghost use Rattle.seccomp_doc.specs.Parts.{compare_of, entry_of};
 ghost use Rattle.seccomp_doc.specs.Checks.{Answers, arg_checks, entry_checks, first_fault, is_no_call_name};
 
 use crate::action::Action;
+use crate::call_name::CallName;
 use crate::compare::Compare;
 use crate::fault::FilterFault;
 use crate::parts::{ArgParts, EntryParts};
-use crate::word::CallName;
 use std::alloc::Global;
 use std::marker::Model;
 
@@ -94,7 +94,7 @@ impl Entry {
     pub fn admits(&self, words: &[u64; 6]) -> bool
         ensures { result ≡ admits_words self.now.args words.now }
     {
-        all_admit(self.args.as_slice(), words)
+        all_admit(self.args(), words)
     }
 }
 

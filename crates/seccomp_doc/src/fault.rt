@@ -1,6 +1,6 @@
 // Why parts are no filter.
 
-use crate::word::CallName;
+use crate::call_name::CallName;
 use std::alloc::AllocError;
 use thiserror::Error;
 

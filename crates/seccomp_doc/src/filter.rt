@@ -9,11 +9,12 @@ ghost use Rattle.seccomp_doc.specs.Parts.{entry_of, filter_of};
 ghost use Rattle.seccomp_doc.specs.Checks.{Answers, entry_checks, fault_of, first_fault, has_too_many, is_large};
 
 use crate::action::Action;
+use crate::arch::Arch;
 use crate::entry::Entry;
 use crate::fault::FilterFault;
+use crate::flag::ScmpFlag;
 use crate::names::refuse_two_actions;
 use crate::parts::{EntryParts, FilterParts};
-use crate::word::{Arch, ScmpFlag};
 use std::alloc::Global;
 use std::marker::Model;
 

@@ -7,9 +7,9 @@ ghost use Rattle.seccomp_doc.specs.Lawful.{HasOneAction};
 ghost use Rattle.seccomp_doc.specs.Names.{AgreesWith, DiffersFrom, Knows, action_under};
 
 use crate::action::Action;
+use crate::call_name::CallName;
 use crate::entry::Entry;
 use crate::fault::FilterFault;
-use crate::word::CallName;
 use std::alloc::Global;
 use std::collections::BTreeMap;
 
