@@ -18,7 +18,22 @@ use crate::parts::{EntryParts, FilterParts};
 use std::alloc::Global;
 use std::marker::Model;
 
-/// A filter: what becomes of each system call. It has at most 2,048 entries, and all entries of a call have one action.
+/// The most entries of a filter.
+pub const MAX_ENTRIES: usize = 2048;
+
+/// The most names of an entry.
+pub const MAX_NAMES: usize = 1024;
+
+/// The most comparisons of an entry.
+pub const MAX_ARGS: usize = 6;
+
+/// The most architectures of a filter.
+pub const MAX_ARCHITECTURES: usize = 64;
+
+/// The most flags of a filter.
+pub const MAX_FLAGS: usize = 64;
+
+/// A filter: what becomes of each system call. All entries of a call have one action, so their order means nothing.
 #[derive(Debug, Drop)]
 pub struct Filter {
     default: Action,
@@ -135,9 +150,9 @@ fn matching<'a>(entries: &'a [Entry], name: &str, words: &[u64; 6]) -> Option<&'
 fn has_too_many(parts: &FilterParts) -> bool
     ensures { result ≡ has_too_many parts.now }
 {
-    parts.entries.len() > 2048
-        || parts.architectures.len() > 64
-        || parts.flags.len() > 64
+    parts.entries.len() > MAX_ENTRIES
+        || parts.architectures.len() > MAX_ARCHITECTURES
+        || parts.flags.len() > MAX_FLAGS
         || has_large_entry(parts.entries.as_slice())
 }
 
@@ -151,7 +166,7 @@ fn has_large_entry(entries: &[EntryParts]) -> bool
 fn is_large(entry: &EntryParts) -> bool
     ensures { result ≡ is_large entry.now }
 {
-    entry.names.len() > 1024 || entry.args.len() > 6
+    entry.names.len() > MAX_NAMES || entry.args.len() > MAX_ARGS
 }
 
 // The entries that the parts make.

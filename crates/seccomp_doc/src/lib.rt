@@ -12,6 +12,8 @@ pub mod flag;
 pub mod laws;
 mod names;
 pub mod parts;
+#[cfg(test)]
+mod tests;
 pub mod word;
 
 pub use action::{Action, ActionWord};
