@@ -3,6 +3,7 @@ use Rattle.std.specs.Prelude.{◌≡◌, ◌≢◌, ℕ, List, [], ◌∷◌, �
 use Rattle.std.specs.List.{list_any}
 use Rattle.seccomp_doc.specs.declared.action.ActionWord.{ActionWord}
 use Rattle.seccomp_doc.specs.declared.action.Action.{Action}
+use Rattle.seccomp_doc.specs.declared.parts.ArgParts.{ArgParts}
 use Rattle.seccomp_doc.specs.declared.fault.FilterFault.{FilterFault}
 use Rattle.seccomp_doc.specs.declared.fault.FilterFault.TheVariants.{NoNames, BadCallName, BadIndex, IndexTwice, ErrnoNotTaken, ErrnoTooLarge, TwoActions, TooMany, NoMemory}
 use Rattle.seccomp_doc.specs.Action.{takes_errno, same_action}
@@ -16,11 +17,15 @@ use Rattle.seccomp_doc.specs.Parts.{EntryPartsValue, FilterPartsValue, entry_of}
 abbrev pub Check : Type 0
 Check = FilterFault × Bool
 
+-- more names or comparisons than an entry may have
+abbrev pub is_large : EntryPartsValue → Bool
+is_large e = nat_lt 1024 (length e.names) || nat_lt 6 (length e.args)
+
 -- a count is above its limit
 abbrev pub has_too_many : FilterPartsValue → Bool
 has_too_many p =
     nat_lt 2048 (length p.entries) || nat_lt 64 (length p.architectures) || nat_lt 64 (length p.flags)
-    || list_any (λ e. nat_lt 1024 (length e.names) || nat_lt 6 (length e.args)) p.entries
+    || list_any is_large p.entries
 
 -- the checks of a number beside an action's name
 abbrev pub errno_checks : ActionWord → Option ℕ → List Check
@@ -29,22 +34,32 @@ errno_checks word errno =
     ∷ (ErrnoTooLarge, nat_lt 65535 (unwrap_or errno 1))
     ∷ []
 
+abbrev pub is_no_call_name : List ℕ → Bool
+is_no_call_name name = not (is_call_name name)
+
+-- the checks of an entry's names
+abbrev pub names_checks : List (List ℕ) → List Check
+names_checks names = (NoNames, length names == 0) ∷ (BadCallName, list_any is_no_call_name names) ∷ []
+
+-- the checks of an entry's comparisons
+abbrev pub arg_checks : List ArgParts → List Check
+arg_checks args = (BadIndex, list_any (λ a. nat_lt 5 a.index) args) ∷ (IndexTwice, has_repeat (map (λ a. a.index) args)) ∷ []
+
 -- the checks of one entry
 abbrev pub entry_checks : EntryPartsValue → List Check
-entry_checks e =
-    (NoNames, length e.names == 0)
-    ∷ (BadCallName, list_any (λ name. not (is_call_name name)) e.names)
-    ∷ (BadIndex, list_any (λ a. nat_lt 5 a.index) e.args)
-    ∷ (IndexTwice, has_repeat (map (λ a. a.index) e.args))
-    ∷ errno_checks e.word e.errno
+entry_checks e = names_checks e.names ++ arg_checks e.args ++ errno_checks e.word e.errno
 
 -- an entry has the name under another action
 abbrev pub contradicts : List ℕ → Action → EntryValue → Bool
 contradicts name action e = has_name name e && not (same_action e.action action)
 
--- each name of an entry, with whether an earlier entry has it under another action
+-- an earlier entry has the name under another action
+abbrev pub name_check : List EntryValue → Action → List ℕ → Check
+name_check earlier action name = (TwoActions name, list_any (contradicts name action) earlier)
+
+-- the same of each name of an entry
 abbrev pub name_checks : List EntryValue → EntryValue → List Check
-name_checks earlier e = map (λ name. (TwoActions name, list_any (contradicts name e.action) earlier)) e.names
+name_checks earlier e = map (name_check earlier e.action) e.names
 
 -- the same for all entries, in their order
 unfoldable pub all_name_checks : List EntryValue → List EntryValue → List Check

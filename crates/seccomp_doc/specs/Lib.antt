@@ -6,3 +6,4 @@ pub mod Meaning
 pub mod Lawful
 pub mod Parts
 pub mod Checks
+pub mod Names

@@ -1,7 +1,12 @@
 // What becomes of a system call.
 
-ghost use Rattle.std.specs.Prelude.{◌≡◌, Some};
+ghost use Rattle.std.specs.Prelude.{◌≡◌, Some, IfOk};
+ghost use Rattle.seccomp_doc.specs.Checks.{Answers, errno_checks, first_fault};
+ghost use Rattle.seccomp_doc.specs.Lawful.{IsLawfulAction};
+ghost use Rattle.seccomp_doc.specs.Parts.{action_of};
 ghost use Rattle.seccomp_doc.specs.Action.{action_word_named, action_word_text, errno_of, rank_of, same_action, takes_errno, word_of};
+
+use crate::fault::FilterFault;
 
 /// The name of an action, without the number that some actions carry.
 #[derive(Clone, Copy, PartialEq, Eq, Debug)]
@@ -101,6 +106,37 @@ impl Action {
         }
     }
 
+    // The action of this name, with this number. An absent number is 1.
+    pub(crate) fn new(word: ActionWord, errno: Option<u64>) -> Result<Action, FilterFault>
+        ensures answers { Answers (first_fault (errno_checks word errno)) (action_of word errno) result }
+        ensures lawful { IfOk result IsLawfulAction }
+    {
+        if errno.is_some() && !word.takes_errno() {
+            return Err(FilterFault::ErrnoNotTaken);
+        }
+        let errno = errno.unwrap_or(1);
+        if errno > 65535 {
+            return Err(FilterFault::ErrnoTooLarge);
+        }
+        let errno = errno as u16;
+        Ok(match word {
+            ActionWord::KillProcess => Action::KillProcess,
+            ActionWord::KillThread => Action::KillThread,
+            ActionWord::Trap => Action::Trap,
+            ActionWord::Errno => Action::Errno(errno),
+            ActionWord::Trace => Action::Trace(errno),
+            ActionWord::Log => Action::Log,
+            ActionWord::Allow => Action::Allow,
+        })
+    }
+
+    // Whether it is the same action, with the same number.
+    pub(crate) fn is_same(self, other: Action) -> bool
+        ensures { result ≡ same_action self other }
+    {
+        self == other
+    }
+
     /// Its name without its number.
     pub fn action_word(self) -> ActionWord
         ensures { result ≡ word_of self }
@@ -132,10 +168,4 @@ impl Action {
             _ => None,
         }
     }
-}
-
-fn is_same(a: Action, b: Action) -> bool
-    ensures { result ≡ same_action a b }
-{
-    a == b
 }

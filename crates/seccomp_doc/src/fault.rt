@@ -1,6 +1,7 @@
 // Why parts are no filter.
 
-use crate::word::CallName;
+use crate::call_name::CallName;
+use std::alloc::AllocError;
 use thiserror::Error;
 
 /// Why parts are no filter.
@@ -33,4 +34,15 @@ pub enum FilterFault {
     /// Memory was refused.
     #[error("out of memory")]
     NoMemory,
+}
+
+impl From<AllocError> for FilterFault {
+    ghost use Rattle.std.specs.Prelude.{◌≡◌};
+    ghost use Rattle.seccomp_doc.specs.declared.fault.FilterFault.TheVariants.{NoMemory};
+
+    ghost from_gives = { λ _ e. e ≡ NoMemory };
+
+    fn from(_error: AllocError) -> FilterFault {
+        FilterFault::NoMemory
+    }
 }

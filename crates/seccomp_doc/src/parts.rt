@@ -1,8 +1,9 @@
 // The parts that a filter is made of, as a document has them.
 
 use crate::action::ActionWord;
+use crate::arch::Arch;
 use crate::compare::Op;
-use crate::word::{Arch, ScmpFlag};
+use crate::flag::ScmpFlag;
 use std::marker::Model;
 
 /// A comparison as a document has it.
