@@ -1,11 +1,11 @@
 -- The request of a line, and the set of its roles.
-use Rattle.std.proofs.Common.{◌≡◌, ◌∙◌, ℕ, ◌+◌, ◌<◌, ◌≤◌, ◌^◌, List, [], ◌∷◌, length, get_or, drop, Option, Some, None, Result, Ok, Err, option_map, refl, sym, ap, arith, inl, inr}
+use Rattle.std.proofs.Common.{le-ltb, ◌≡◌, ℕ, ◌+◌, ◌<◌, ◌≤◌, ◌^◌, List, length, get_or, drop, Option, Some, None, Result, Ok, Err, option_map, refl, sym, ap, arith, inl, inr}
 use Rattle.std.proofs.lemmas.List.{drop_more, drop_all}
 use Rattle.std.proofs.lemmas.Bool.{cases_Bool}
 use Rattle.std.proofs.lemmas.Nat.Bits.{bit_at_or, same_from_bits}
 use Rattle.std.proofs.lemmas.Str.{IsUtf8-from_is_utf8, is_utf8-from_IsUtf8}
 use Rattle.std.specs.Prelude.{IsUtf8, option_and_then, cond}
-use Rattle.std.specs.Int.Bits.{or_zero_l, or_zero_r}
+use Rattle.std.specs.Int.Bits.{or_zero_r}
 use Rattle.std.specs.Int.RustNames.{bit_or}
 use Rattle.std.specs.Str.{is_utf8}
 use Rattle.serde_json.specs.Data.{Data}
@@ -23,7 +23,7 @@ use Rattle.desk_lines.specs.declared.fault.LineFault.TheVariants.{NotJson, NotAR
 use Rattle.desk_lines.specs.Faults.{Gives, Reads}
 use Rattle.desk_lines.specs.Members.{◌>>=◌, roles_of}
 use Rattle.desk_lines.specs.Plain.{PlainRequest, plain}
-use Rattle.desk_lines.specs.Requests.{request_at, request_in, request_of, or_not_a_request}
+use Rattle.desk_lines.specs.Requests.{asked, request_at, request_in, request_of, or_not_a_request}
 
 -- ---- the value of a line
 
@@ -38,6 +38,10 @@ line_is_none line h =
       | inl text ↦ rw (text, h (IsUtf8-from_is_utf8 line text)) refl
       | inr wrong ↦ rw wrong refl
     ]
+
+pub asked_is : (line : List ℕ) → length line ≤ 300000 → asked line ≡ request_in line
+unfolding asked
+asked_is line small = rw (le-ltb 300000 (length line) small) refl
 
 pub line_reads : (r : Result Request LineFault) (o : Option PlainRequest) → Gives plain r o → Reads r (or_not_a_request o)
 line_reads (Ok r) o g = rw g refl

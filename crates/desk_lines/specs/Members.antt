@@ -1,5 +1,5 @@
 -- The members of a request's line, each of its form.
-use Rattle.std.specs.Prelude.{ℕ, ◌^◌, ◌&&◌, ◌||◌, List, Bool, true, false, Option, Some, None, if◌then◌else◌, option_and_then, option_map, codes, nat_le}
+use Rattle.std.specs.Prelude.{ℕ, ◌^◌, ◌&&◌, ◌||◌, List, Bool, true, false, Option, Some, None, if◌then◌else◌, option_and_then, codes, nat_le}
 use Rattle.std.specs.List.{list_all}
 use Rattle.std.specs.Result.{result_ok}
 use Rattle.std.specs.Str.{bytes_eq}
@@ -11,7 +11,6 @@ use Rattle.review_policy.specs.Words.{is_word, is_token}
 use Rattle.review_policy.specs.Role.{place_of}
 use Rattle.review_policy.specs.WordTables.{role_of}
 use Rattle.review_policy.specs.declared.ask.ProfileName.{ProfileName}
-use Rattle.review_policy.specs.declared.role.Role.{Role}
 
 infixl 10 ◌>>=◌
 abbrev pub ◌>>=◌ : {A B : Type 0} → Option A → (A → Option B) → Option B

@@ -2,12 +2,12 @@
 #![tactic(auto)]
 
 pub mod answer;
-pub mod ask;
+mod ask;
 pub mod bad;
-pub mod denial;
+mod denial;
 pub mod fault;
 pub mod kind;
-pub mod member;
+mod member;
 pub mod request;
 pub mod split;
 
@@ -17,3 +17,6 @@ pub use fault::LineFault;
 pub use kind::Kind;
 pub use request::read_line;
 pub use split::split_line;
+
+#[cfg(test)]
+mod tests;

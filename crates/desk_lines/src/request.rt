@@ -1,10 +1,10 @@
 //! The request of a line.
 
-ghost use Rattle.std.specs.Prelude.{◌≡◌};
+ghost use Rattle.std.specs.Prelude.{◌≡◌, ◌≤◌, length};
 ghost use Rattle.serde_json.specs.View.{view, members_view};
 ghost use Rattle.desk_lines.specs.Faults.{Gives, Reads};
 ghost use Rattle.desk_lines.specs.Plain.{plain};
-ghost use Rattle.desk_lines.specs.Requests.{all_belong, has_no_other, kind_at, request_at, request_in};
+ghost use Rattle.desk_lines.specs.Requests.{all_belong, asked, has_no_other, kind_at, request_at, request_in};
 
 use crate::ask::ask_of;
 use crate::fault::LineFault;
@@ -66,10 +66,11 @@ fn request_of(alloc: Global, value: &Value) -> Result<Request, LineFault>
     }
 }
 
-/// The request of a line, without its line feed. The length of the line isn't looked at.
-#[tactic(auto, unfolding(crate::specs::Requests::request_in))]
+/// The request of a line, which is passed without its line feed. The length of the line isn't looked at: one that is
+/// longer than 300,000 bytes is answered as [`BadLine::TooLong`](crate::BadLine) before it gets here.
 pub fn read_line(alloc: Global, line: &[u8]) -> Result<Request, LineFault>
-    ensures { Reads result (request_in line.now) }
+    ensures request { Reads result (request_in line.now) }
+    ensures asked { length line.now ≤ 300000 → Reads result (asked line.now) }
 {
     match Value::from_slice(alloc, line) {
         Ok(value) => request_of(alloc, &value),

@@ -1,4 +1,4 @@
-use Rattle.std.proofs.Common.{◌≡◌, ◌∙◌, sym, rules}
+use Rattle.std.proofs.Common.{◌∙◌, sym}
 use Rattle.desk_lines.proofs.RequestFacts.{roles_more, roles_end}
 use Rattle.desk_lines.proofs.member.roles_in.Goals as goal
 
