@@ -1,12 +1,20 @@
 -- A run goes on by one request.
-use Rattle.std.proofs.Common.{◌≡◌, ℕ, ◌+◌, ◌<◌, List, [], ◌∷◌, ◌++◌, length, get_or, take, refl}
+use Rattle.std.proofs.Common.{◌≡◌, ◌∙◌, ℕ, ◌+◌, ◌<◌, List, [], ◌∷◌, ◌++◌, true, length, get_or, take, refl, sym, ap}
+use Rattle.std.specs.List.{list_all}
+use Rattle.std.proofs.lemmas.Bool.{true_from_ne_false, true≢false}
+use Rattle.std.proofs.lemmas.List.Folds.{list_all_at}
 use Rattle.std.proofs.lemmas.List.{take_more}
 use Rattle.review_policy.specs.declared.ask.Request.{Request}
 use Rattle.review_policy.specs.declared.answer.Answer.{Answer}
 use Rattle.office_desk.specs.History.{History}
 use Rattle.office_desk.specs.Verdict.{Meaning}
-use Rattle.office_desk.specs.Handled.{IsAnswer, history_after}
+use Rattle.office_desk.specs.Handled.{is_served, IsAnswer, history_after}
 use Rattle.line_desk.specs.Runs.{Took, history_after_all}
+
+-- each request is of a kind that is served
+pub served_at : (requests : List Request) (i : ℕ) (r : Request) → i < length requests → r ≡ get_or requests i r → list_all (λ x. is_served x.ask) requests ≡ true → is_served r.ask ≡ true
+served_at requests i r lt at all =
+    true_from_ne_false (is_served r.ask) (λ f. true≢false (sym all ∙ list_all_at (λ x. is_served x.ask) requests i r lt (ap (λ x. is_served x.ask) (sym at) ∙ f)))
 
 module _ (m : Meaning) where
   took_more : (h : History) (rs : List Request) (told : List Answer) (r : Request) (a : Answer) → Took m h rs told → IsAnswer m (history_after_all m h rs told) r a

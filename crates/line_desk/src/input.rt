@@ -36,8 +36,10 @@ pub fn read_input<R: Read>(alloc: Global, reader: &mut Counted<R>) -> Result<Inp
     requires faults { reader.old.faults ≤ 2 ^ 62 }
     ensures bytes { IfOk result (λ input. Consumes (R.remaining reader.old.inner) (R.remaining reader.new.inner) input.bytes.items) }
     ensures end { IfOk result (λ input. input.stop ≡ Stop.End → IsAtEnd (R.remaining reader.new.inner)) }
+    ensures end_no_fault { IfOk result (λ input. input.stop ≡ Stop.End → reader.new.faults ≡ reader.old.faults) }
     ensures fault { IfOk result (λ input. input.stop ≡ Stop.Fault → reader.old.faults < reader.new.faults) }
     ensures too_many { IfOk result (λ input. input.stop ≡ Stop.TooManyReads → reader.new.calls ≡ reader.old.calls + 4194304) }
+    ensures too_many_no_fault { IfOk result (λ input. input.stop ≡ Stop.TooManyReads → reader.new.faults ≡ reader.old.faults) }
     ensures calls { reader.new.calls ≤ reader.old.calls + 4194304 }
 {
     let mut bytes = Vec::new(alloc);

@@ -13,3 +13,6 @@ pub use input::MAX_READS;
 pub use outcome::{MAX_LINE, Outcome};
 pub use requests::run;
 pub use serve::desk;
+
+#[cfg(test)]
+mod tests;

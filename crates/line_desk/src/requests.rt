@@ -1,6 +1,7 @@
 //! A list of requests.
 
-ghost use Rattle.std.specs.Prelude.{◌≡◌, true, IfOk, OnErr, All};
+ghost use Rattle.std.specs.Prelude.{◌≡◌, true, IfOk, OnErr};
+ghost use Rattle.std.specs.List.{list_all};
 ghost use Rattle.office_desk.specs.History.{History};
 ghost use Rattle.office_desk.specs.Verdict.{Meaning};
 ghost use Rattle.office_desk.specs.Handled.{is_served, IsOffice};
@@ -20,7 +21,7 @@ pub fn run(
     alloc: Global,
     requests: &[Request],
 ) -> Result<Vec<Answer>, AllocError>
-    requires { All (λ request. is_served request.ask ≡ true) requests.now }
+    requires { list_all (λ request. is_served request.ask) requests.now ≡ true }
     ensures answers { IfOk result (λ answers. (m : Meaning) (h : History) → IsOffice m h office.old →
         Took m h requests.now answers.items) }
     ensures office { IfOk result (λ answers. (m : Meaning) (h : History) → IsOffice m h office.old →

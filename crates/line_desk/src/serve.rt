@@ -80,6 +80,7 @@ fn serve_lines<W: Write>(
     ensures answered { OnOk result (AreAnswered office.old office.new (W.contents writer.old.inner) (W.contents writer.new.inner) (lines_of bytes.now)) }
     ensures stopped { IfErr result (StopsWriting office.old office.new (W.contents writer.old.inner) (W.contents writer.new.inner) (lines_of bytes.now)) }
     ensures write { IfErr result (λ e. (line : ℕ) → e ≡ DeskFault.Write line → writer.old.faults < writer.new.faults) }
+    ensures no_fault { OnOk result (writer.new.faults ≡ writer.old.faults) }
 {
     let mut rest = bytes;
     let mut line = 0u64;
@@ -119,7 +120,9 @@ pub fn desk<R: Read, W: Write>(
         (W.contents writer.old.inner) (W.contents writer.new.inner)) }
     ensures read { IfErr result (λ e. (line : ℕ) → e ≡ DeskFault.Read line → reader.old.faults < reader.new.faults) }
     ensures write { IfErr result (λ e. (line : ℕ) → e ≡ DeskFault.Write line → writer.old.faults < writer.new.faults) }
-    ensures too_many { IfErr result (λ e. (line : ℕ) → e ≡ DeskFault.TooManyReads line → reader.new.calls ≡ reader.old.calls + 4194304) }
+    ensures too_many { IfErr result (λ e. (line : ℕ) → e ≡ DeskFault.TooManyReads line →
+        (reader.new.calls ≡ reader.old.calls + 4194304) × (reader.new.faults ≡ reader.old.faults)) }
+    ensures no_fault { OnOk result ((reader.new.faults ≡ reader.old.faults) × (writer.new.faults ≡ writer.old.faults)) }
     ensures calls { reader.new.calls ≤ reader.old.calls + 4194304 }
 {
     let input = match read_input(alloc, reader) {

@@ -1,7 +1,6 @@
 use Rattle.std.proofs.Common.{◌≡◌, ◌∙◌, ap, ◌+◌, le_trans, take}
-use Rattle.std.proofs.lemmas.List.Elements.{All-get_or}
 use Rattle.line_desk.specs.Runs.{history_after_all}
-use Rattle.line_desk.proofs.RunFacts.{took_next, after_next}
+use Rattle.line_desk.proofs.RunFacts.{served_at, took_next, after_next}
 use Rattle.line_desk.proofs.requests.run.Goals as goal
 
 pub loop-request-preserved : goal.loop-request-preserved
@@ -20,3 +19,6 @@ loop-request-preserved c =
           rw (c.in_ok-push.ensures.items, after_next m h requests i c.request-item.result c.loop-request.answers.items c.handle-answer.result c.loop-request-test.true c.request-item.is (c.loop-request.invariant.answers m h is))
           (c.handle-answer.ensures.office m (history_after_all m h (take i requests) c.loop-request.answers.items) before);
     }
+
+pub handle-answer-requires : goal.handle-answer-requires
+handle-answer-requires c = served_at c.args.requests.now c.loop-request.request-index c.request-item.result c.loop-request-test.true c.request-item.is c.requires
