@@ -1,0 +1,5 @@
+pub mod RunFacts
+pub mod OutcomeFacts
+pub mod PartFacts
+pub mod ServeFacts
+pub mod AskedFacts

@@ -1,0 +1,5 @@
+pub mod Runs
+pub mod Outcomes
+pub mod Parts
+pub mod Stands
+pub mod Written
