@@ -11,16 +11,28 @@ use std::io::{ErrorKind, Read, Write};
 use std::test::Fail;
 
 // The digest is of the token `hello`.
-const ENROL_ANN: &str = "{\"ask\":\"enrol\",\"token\":\"abc\",\"user\":\"ann\",\"team\":\"blue\",\"roles\":[\"author\"],\"digest\":\"2cf24dba5fb0a30e26e83b2ac5b9e29e1b161e5c1fa7425e73043362938b9824\"}\n";
-const SUBMIT: &str = "{\"ask\":\"submit\",\"token\":\"hello\",\"team\":\"blue\",\"profile\":\"web\",\"document\":\"{\\\"capabilities\\\":{}}\"}\n";
-const SHOW: &str = "{\"ask\":\"show\",\"token\":\"hello\",\"team\":\"blue\",\"profile\":\"web\",\"revision\":1}\n";
+const ENROL_ANN: &str =
+    "{\"ask\":\"enrol\",\"token\":\"abc\",\"user\":\"ann\",\"team\":\"blue\",\"roles\":[\"author\"],\"digest\":\"2cf24dba5fb0a30e26e83b2ac5b9e29e1b161e5c1fa7425e73043362938b9824\"}\n";
+
+const SUBMIT: &str =
+    "{\"ask\":\"submit\",\"token\":\"hello\",\"team\":\"blue\",\"profile\":\"web\",\"document\":\"{\\\"capabilities\\\":{}}\"}\n";
+
+const SHOW: &str =
+    "{\"ask\":\"show\",\"token\":\"hello\",\"team\":\"blue\",\"profile\":\"web\",\"revision\":1}\n";
 
 const DONE: &str = "{\"answer\":\"done\"}\n";
-const SUBMITTED: &str = "{\"answer\":\"done\",\"digest\":\"67d59648e3164479ed30407333c338a60764f60cd31c54ca1cd477602ac5e5d6\",\"revision\":1}\n";
+
+const SUBMITTED: &str =
+    "{\"answer\":\"done\",\"digest\":\"67d59648e3164479ed30407333c338a60764f60cd31c54ca1cd477602ac5e5d6\",\"revision\":1}\n";
+
 const SAME_AS_OPEN: &str = "{\"answer\":\"denied\",\"rule\":5,\"word\":\"same-as-open\"}\n";
+
 const CALLER_UNKNOWN: &str = "{\"answer\":\"denied\",\"rule\":1,\"word\":\"caller-unknown\"}\n";
+
 const TOO_LONG: &str = "{\"answer\":\"bad\",\"word\":\"too-long\"}\n";
+
 const NOT_JSON: &str = "{\"answer\":\"bad\",\"word\":\"not-json\"}\n";
+
 const NOT_A_REQUEST: &str = "{\"answer\":\"bad\",\"word\":\"not-a-request\"}\n";
 
 // An office in which root of the team office may enrol users, by the token abc.
@@ -128,12 +140,18 @@ fn an_empty_input_has_an_empty_output(rt: HostRuntime) -> Result<(), Fail> {
 fn an_author_hands_a_profile_in_and_sees_it(rt: HostRuntime) -> Result<(), Fail> {
     let alloc = rt.alloc();
     let mut office = trial_office(alloc)?;
-    let by_root = "{\"ask\":\"show\",\"token\":\"abc\",\"team\":\"blue\",\"profile\":\"web\",\"revision\":1}\n";
-    let by_nobody = "{\"ask\":\"show\",\"token\":\"nobody\",\"team\":\"blue\",\"profile\":\"web\",\"revision\":1}\n";
-    let shown = "{\"answer\":\"done\",\"digest\":\"67d59648e3164479ed30407333c338a60764f60cd31c54ca1cd477602ac5e5d6\",\"document\":\"{\\\"capabilities\\\":{\\\"ambient\\\":[],\\\"bounding\\\":[],\\\"effective\\\":[],\\\"inheritable\\\":[],\\\"permitted\\\":[]}}\",\"state\":\"open\"}\n";
+    let by_root =
+        "{\"ask\":\"show\",\"token\":\"abc\",\"team\":\"blue\",\"profile\":\"web\",\"revision\":1}\n";
+    let by_nobody =
+        "{\"ask\":\"show\",\"token\":\"nobody\",\"team\":\"blue\",\"profile\":\"web\",\"revision\":1}\n";
+    let shown =
+        "{\"answer\":\"done\",\"digest\":\"67d59648e3164479ed30407333c338a60764f60cd31c54ca1cd477602ac5e5d6\",\"document\":\"{\\\"capabilities\\\":{\\\"ambient\\\":[],\\\"bounding\\\":[],\\\"effective\\\":[],\\\"inheritable\\\":[],\\\"permitted\\\":[]}}\",\"state\":\"open\"}\n";
     let role_missing = "{\"answer\":\"denied\",\"rule\":2,\"word\":\"role-missing\"}\n";
     let input = joined(alloc, &[ENROL_ANN, SUBMIT, SHOW, by_root, by_nobody])?;
-    let wanted = joined(alloc, &[DONE, SUBMITTED, shown, role_missing, CALLER_UNKNOWN])?;
+    let wanted = joined(
+        alloc,
+        &[DONE, SUBMITTED, shown, role_missing, CALLER_UNKNOWN],
+    )?;
     let output = answers_to(alloc, &mut office, &input)?;
     assert_eq!(rt; output.as_slice(), wanted.as_slice());
     Ok(())
@@ -162,7 +180,10 @@ fn a_line_that_is_no_request_is_told_so(rt: HostRuntime) -> Result<(), Fail> {
         ("\r\n", NOT_JSON),
         ("{\"ask\":\"list\"}\n", NOT_A_REQUEST),
         ("{\"ask\":\"list\"}", NOT_A_REQUEST),
-        ("{\"ask\":\"show\",\"token\":\"abc\",\"team\":\"blue\",\"profile\":\"web\"}\n", NOT_A_REQUEST),
+        (
+            "{\"ask\":\"show\",\"token\":\"abc\",\"team\":\"blue\",\"profile\":\"web\"}\n",
+            NOT_A_REQUEST,
+        ),
     ] {
         let mut office = trial_office(alloc)?;
         let output = answers_to(alloc, &mut office, line.as_bytes())?;
@@ -175,7 +196,13 @@ fn a_line_that_is_no_request_is_told_so(rt: HostRuntime) -> Result<(), Fail> {
 fn a_last_line_needs_no_line_feed(rt: HostRuntime) -> Result<(), Fail> {
     let alloc = rt.alloc();
     let mut office = trial_office(alloc)?;
-    let input = joined(alloc, &[ENROL_ANN, "{\"ask\":\"submit\",\"token\":\"hello\",\"team\":\"blue\",\"profile\":\"web\",\"document\":\"{\\\"capabilities\\\":{}}\"}"])?;
+    let input = joined(
+        alloc,
+        &[
+            ENROL_ANN,
+            "{\"ask\":\"submit\",\"token\":\"hello\",\"team\":\"blue\",\"profile\":\"web\",\"document\":\"{\\\"capabilities\\\":{}}\"}",
+        ],
+    )?;
     let wanted = joined(alloc, &[DONE, SUBMITTED])?;
     let output = answers_to(alloc, &mut office, &input)?;
     assert_eq!(rt; output.as_slice(), wanted.as_slice());
@@ -204,7 +231,8 @@ fn a_stream_in_single_bytes_has_the_same_answers(rt: HostRuntime) -> Result<(), 
 fn a_line_that_the_reader_cuts_is_not_handled(rt: HostRuntime) -> Result<(), Fail> {
     let alloc = rt.alloc();
     let mut office = trial_office(alloc)?;
-    let whole = "{\"ask\":\"submit\",\"token\":\"hello\",\"team\":\"blue\",\"profile\":\"web\",\"document\":\"{\\\"capabilities\\\":{}}\"}";
+    let whole =
+        "{\"ask\":\"submit\",\"token\":\"hello\",\"team\":\"blue\",\"profile\":\"web\",\"document\":\"{\\\"capabilities\\\":{}}\"}";
     let input = joined(alloc, &[ENROL_ANN, whole])?;
     let mut reader = Counted::new(Dripping {
         bytes: &input,
@@ -249,7 +277,10 @@ fn a_submission_whose_answer_is_cut_stands(rt: HostRuntime) -> Result<(), Fail> 
     let stopped = desk(&mut office, alloc, &mut reader, &mut writer);
     assert_eq!(rt; stopped, Err(DeskFault::Write { line: 1 }));
     assert_eq!(rt; writer.faults(), 1);
-    assert_eq!(rt; writer.into_inner().held.as_slice(), b"{\"answer\":".as_slice());
+    assert_eq!(rt;
+        writer.into_inner().held.as_slice(),
+        b"{\"answer\":".as_slice()
+    );
     let output = answers_to(alloc, &mut office, SUBMIT.as_bytes())?;
     assert_eq!(rt; output.as_slice(), SAME_AS_OPEN.as_bytes());
     Ok(())

@@ -6,9 +6,8 @@ mod trial;
 use crate::trial::{Trouble, trial_office};
 use counted_io::Counted;
 use line_desk::desk;
-use std::env;
-use std::io;
 use std::process::ExitCode;
+use std::{env, io};
 
 // Serves the lines of standard input at the trial desk.
 fn serve(rt: &HostRuntime) -> Result<(), Trouble> {

@@ -1,6 +1,5 @@
 //! The office of the trial desk.
 
-
 use cap_sets::Caps;
 use line_desk::DeskFault;
 use office_desk::Office;

@@ -24,10 +24,16 @@ caps_profile caps = record { caps = caps; filter = None }
 written_caps : (s : CapState) → HasKnownCaps s → IsCapsValue (caps_data s)
 written_caps s h = (
   ((Ambient, refl), (names_listed s.ambient h.ambient).0),
-  (((Bounding, refl), (names_listed s.bounding h.bounding).0),
-  (((Effective, refl), (names_listed s.effective h.effective).0),
-  (((Inheritable, refl), (names_listed s.inheritable h.inheritable).0),
-  (((Permitted, refl), (names_listed s.permitted h.permitted).0), tt)))),
+  (
+    ((Bounding, refl), (names_listed s.bounding h.bounding).0),
+    (
+      ((Effective, refl), (names_listed s.effective h.effective).0),
+      (
+        ((Inheritable, refl), (names_listed s.inheritable h.inheritable).0),
+        (((Permitted, refl), (names_listed s.permitted h.permitted).0), tt),
+      ),
+    ),
+  ),
 )
 
 stands_for_own_caps : (s : CapState) → HasKnownCaps s → StandsForCaps (caps_data s) s
