@@ -10,7 +10,7 @@ use std::alloc::Global;
 
 /// Why the trial desk ended before its input did.
 #[derive(Clone, Copy, Debug, PartialEq, Eq)]
-pub enum Trouble {
+pub(crate) enum Trouble {
     /// The office was not founded, for want of memory.
     Found,
     /// The desk stopped.
@@ -19,7 +19,7 @@ pub enum Trouble {
 
 impl Trouble {
     /// The word for it on standard error.
-    pub fn word(self) -> &'static str {
+    pub(crate) fn word(self) -> &'static str {
         match self {
             Trouble::Found | Trouble::Desk(DeskFault::NoMemory { .. }) => "memory",
             Trouble::Desk(DeskFault::Read { .. }) => "read",
@@ -43,7 +43,7 @@ impl From<WordFault> for Trouble {
 
 /// The office that the trial desk begins with: its first user is root of the team office, a registrar with the token
 /// abc, and its one listed capability is CAP_SYS_ADMIN.
-pub fn trial_office(alloc: Global) -> Result<Office, Trouble> {
+pub(crate) fn trial_office(alloc: Global) -> Result<Office, Trouble> {
     let name = Word::new(alloc, "root")?;
     let team = Word::new(alloc, "office")?;
     let listed = Caps::from_name("CAP_SYS_ADMIN").unwrap_or(Caps::empty());
