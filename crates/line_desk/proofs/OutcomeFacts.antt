@@ -5,7 +5,7 @@ use Rattle.std.specs.Io.KnownBytes.{Appends}
 use Rattle.counted_io.specs.Steps.{AppendsPart}
 use Rattle.office_desk.specs.declared.office.Office.{Office}
 use Rattle.office_desk.specs.History.{History}
-use Rattle.office_desk.specs.Verdict.{Meaning}
+use Rattle.office_desk.specs.Verdict.{Measures}
 use Rattle.office_desk.specs.Handled.{IsOffice}
 use Rattle.desk_lines.specs.Answers.{line_of}
 use Rattle.desk_lines.specs.Bad.{bad_line}
@@ -14,7 +14,7 @@ use Rattle.line_desk.specs.declared.outcome.Outcome.TheVariants.{Bad, NoMemory, 
 use Rattle.line_desk.specs.Outcomes.{IsOutcome, history_after_line, told, AreOutcomes, history_after_lines, transcript}
 use Rattle.line_desk.specs.Stands.{IsHandled, AreHandled, AreAnswered, AreCutShort}
 
-module _ (m : Meaning) where
+module _ (m : Measures) where
   outcomes_more : (h : History) (lines : List (List ℕ)) (os : List Outcome) (line : List ℕ) (o : Outcome) → AreOutcomes m h lines os
       → IsOutcome m (history_after_lines m h os) line o → AreOutcomes m h (lines ++ line ∷ []) (os ++ o ∷ [])
   outcomes_more h [] [] line o all is = (is, tt)

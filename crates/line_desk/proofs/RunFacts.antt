@@ -7,7 +7,7 @@ use Rattle.std.proofs.lemmas.List.{take_more}
 use Rattle.review_policy.specs.declared.ask.Request.{Request}
 use Rattle.review_policy.specs.declared.answer.Answer.{Answer}
 use Rattle.office_desk.specs.History.{History}
-use Rattle.office_desk.specs.Verdict.{Meaning}
+use Rattle.office_desk.specs.Verdict.{Measures}
 use Rattle.office_desk.specs.Handled.{is_served, IsAnswer, history_after}
 use Rattle.line_desk.specs.Runs.{Took, history_after_all}
 
@@ -16,7 +16,7 @@ pub served_at : (requests : List Request) (i : ℕ) (r : Request) → i < length
 served_at requests i r lt at all =
     true_from_ne_false (is_served r.ask) (λ f. true≢false (sym all ∙ list_all_at (λ x. is_served x.ask) requests i r lt (ap (λ x. is_served x.ask) (sym at) ∙ f)))
 
-module _ (m : Meaning) where
+module _ (m : Measures) where
   took_more : (h : History) (rs : List Request) (told : List Answer) (r : Request) (a : Answer) → Took m h rs told → IsAnswer m (history_after_all m h rs told) r a
       → Took m h (rs ++ r ∷ []) (told ++ a ∷ [])
   took_more h [] [] r a t is = (is, tt)

@@ -3,7 +3,7 @@ use Rattle.std.specs.Prelude.{◌≡◌, ℕ, List, [], ◌∷◌, ◌++◌, Err
 use Rattle.review_policy.specs.declared.answer.Answer.TheVariants.{Fault}
 use Rattle.review_policy.specs.declared.answer.Fault.TheVariants.{Memory}
 use Rattle.office_desk.specs.History.{History}
-use Rattle.office_desk.specs.Verdict.{Meaning}
+use Rattle.office_desk.specs.Verdict.{Measures}
 use Rattle.office_desk.specs.Handled.{IsAnswer, history_after}
 use Rattle.desk_lines.specs.Answers.{line_of}
 use Rattle.desk_lines.specs.Bad.{bad_line}
@@ -12,13 +12,13 @@ use Rattle.line_desk.specs.declared.outcome.Outcome.{Outcome}
 use Rattle.line_desk.specs.declared.outcome.Outcome.TheVariants.{Bad, NoMemory, Answered}
 
 -- this may come of the line: it is no request, there was no memory to read it, or the request that it asks has this answer
-abbrev pub IsOutcome : Meaning → History → List ℕ → Outcome → Type 0
+abbrev pub IsOutcome : Measures → History → List ℕ → Outcome → Type 0
 IsOutcome m h line (Bad fault) = asked line ≡ Err fault
 IsOutcome m h line NoMemory = Unit {0}
 IsOutcome m h line (Answered request answer) = Asks line request × IsAnswer m h request answer
 
 -- the history after it: only a request that is carried out adds an event
-abbrev pub history_after_line : Meaning → History → Outcome → History
+abbrev pub history_after_line : Measures → History → Outcome → History
 history_after_line m h (Bad fault) = h
 history_after_line m h NoMemory = h
 history_after_line m h (Answered request answer) = history_after m h request answer
@@ -30,14 +30,14 @@ told NoMemory = line_of (Fault Memory)
 told (Answered request answer) = line_of answer
 
 -- there is one outcome to each line, on the history that the lines before it left
-abbrev pub AreOutcomes : Meaning → History → List (List ℕ) → List Outcome → Type 0
+abbrev pub AreOutcomes : Measures → History → List (List ℕ) → List Outcome → Type 0
 AreOutcomes m h [] [] = Unit {0}
 AreOutcomes m h (line ∷ lines) (outcome ∷ outcomes) = IsOutcome m h line outcome × AreOutcomes m (history_after_line m h outcome) lines outcomes
 AreOutcomes m h [] (outcome ∷ outcomes) = ⊥
 AreOutcomes m h (line ∷ lines) [] = ⊥
 
 -- the history after all of them
-abbrev pub history_after_lines : Meaning → History → List Outcome → History
+abbrev pub history_after_lines : Measures → History → List Outcome → History
 history_after_lines m h [] = h
 history_after_lines m h (outcome ∷ outcomes) = history_after_lines m (history_after_line m h outcome) outcomes
 

@@ -3,7 +3,7 @@ use Rattle.std.specs.Prelude.{◌≡◌, ℕ, zero, suc, ◌<◌, ◌≤◌, Lis
 use Rattle.std.specs.Io.KnownBytes.{Keeps, Appends, Consumes}
 use Rattle.office_desk.specs.declared.office.Office.{Office}
 use Rattle.office_desk.specs.History.{History}
-use Rattle.office_desk.specs.Verdict.{Meaning}
+use Rattle.office_desk.specs.Verdict.{Measures}
 use Rattle.office_desk.specs.Handled.{IsOffice}
 use Rattle.desk_lines.specs.Lines.{lines_of}
 use Rattle.line_desk.specs.declared.outcome.Outcome.{Outcome}
@@ -14,13 +14,13 @@ use Rattle.line_desk.specs.declared.fault.DeskFault.TheVariants.{Read, Write, To
 
 -- the line was handled, and this is what came of it
 pub record IsHandled (old new : Office) (line : List ℕ) (outcome : Outcome) : Type 0 where
-  pub policy : (m : Meaning) (h : History) → IsOffice m h old → IsOutcome m h line outcome
-  pub office : (m : Meaning) (h : History) → IsOffice m h old → IsOffice m (history_after_line m h outcome) new
+  pub policy : (m : Measures) (h : History) → IsOffice m h old → IsOutcome m h line outcome
+  pub office : (m : Measures) (h : History) → IsOffice m h old → IsOffice m (history_after_line m h outcome) new
 
 -- the lines were handled one after the other, and these are what came of them
 pub record AreHandled (old new : Office) (lines : List (List ℕ)) (outcomes : List Outcome) : Type 0 where
-  pub policy : (m : Meaning) (h : History) → IsOffice m h old → AreOutcomes m h lines outcomes
-  pub office : (m : Meaning) (h : History) → IsOffice m h old → IsOffice m (history_after_lines m h outcomes) new
+  pub policy : (m : Measures) (h : History) → IsOffice m h old → AreOutcomes m h lines outcomes
+  pub office : (m : Measures) (h : History) → IsOffice m h old → IsOffice m (history_after_lines m h outcomes) new
 
 -- the lines were handled, and just their transcript was written
 pub record AreAnswered (old new : Office) (before after : Option (List ℕ)) (lines : List (List ℕ)) : Type 0 where

@@ -2,7 +2,7 @@
 
 ghost use Rattle.std.specs.Prelude.{◌≡◌};
 ghost use Rattle.office_desk.specs.History.{History};
-ghost use Rattle.office_desk.specs.Verdict.{Meaning};
+ghost use Rattle.office_desk.specs.Verdict.{Measures};
 ghost use Rattle.office_desk.specs.Handled.{IsOffice};
 ghost use Rattle.desk_lines.specs.Answers.{line_of};
 
@@ -30,8 +30,8 @@ impl Outcome {
 
     /// Handles a line, given without its line feed.
     pub fn of_line(office: &mut Office, alloc: Global, line: &[u8]) -> Outcome
-        ensures policy { (m : Meaning) (h : History) → IsOffice m h office.old → IsOutcome m h line.now result }
-        ensures office { (m : Meaning) (h : History) → IsOffice m h office.old →
+        ensures policy { (m : Measures) (h : History) → IsOffice m h office.old → IsOutcome m h line.now result }
+        ensures office { (m : Measures) (h : History) → IsOffice m h office.old →
             IsOffice m (history_after_line m h result) office.new }
     {
         if line.len() > MAX_LINE {

@@ -3,7 +3,7 @@
 ghost use Rattle.std.specs.Prelude.{◌≡◌, true, IfOk, OnErr};
 ghost use Rattle.std.specs.List.{list_all};
 ghost use Rattle.office_desk.specs.History.{History};
-ghost use Rattle.office_desk.specs.Verdict.{Meaning};
+ghost use Rattle.office_desk.specs.Verdict.{Measures};
 ghost use Rattle.office_desk.specs.Handled.{is_served, IsOffice};
 ghost use Rattle.line_desk.specs.Runs.{Took, history_after_all};
 
@@ -22,9 +22,9 @@ pub fn run(
     requests: &[Request],
 ) -> Result<Vec<Answer>, AllocError>
     requires { list_all (λ request. is_served request.ask) requests.now ≡ true }
-    ensures answers { IfOk result (λ answers. (m : Meaning) (h : History) → IsOffice m h office.old →
+    ensures answers { IfOk result (λ answers. (m : Measures) (h : History) → IsOffice m h office.old →
         Took m h requests.now answers.items) }
-    ensures office { IfOk result (λ answers. (m : Meaning) (h : History) → IsOffice m h office.old →
+    ensures office { IfOk result (λ answers. (m : Measures) (h : History) → IsOffice m h office.old →
         IsOffice m (history_after_all m h requests.now answers.items) office.new) }
     ensures none { OnErr result (office.new ≡ office.old) }
 {

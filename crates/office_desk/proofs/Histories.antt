@@ -5,16 +5,16 @@ use Rattle.std.specs.List.{list_any}
 use Rattle.std.proofs.lemmas.Bool.{ne_eqb, lt-ltb}
 use Rattle.review_policy.specs.declared.ask.ProfileName.{ProfileName}
 use Rattle.review_policy.specs.declared.revision.State.TheVariants.{Open}
-use Rattle.profile_text.specs.Digest.{digest_of}
+use Rattle.review_policy.specs.Rules.{is_issued}
 use Rattle.office_tables.specs.declared.row.UserRow.{UserRow}
 use Rattle.office_tables.specs.Tables.{Tables, is_profile}
 use Rattle.memory_store.specs.declared.store.MemoryStore.{MemoryStore}
 use Rattle.memory_store.specs.Shows.{Shows}
 use Rattle.office_desk.specs.History.{Event, founded, enrolled, submitted, issued, History}
 use Rattle.office_desk.specs.Users.{user_of}
-use Rattle.office_desk.specs.Revisions.{Submission, issues, issues_profile, withdraws, since, last_number, submission_of, revision_of, is_issued, last_issue}
+use Rattle.office_desk.specs.Revisions.{Submission, issues, issues_profile, withdraws, since, revision_count, submission_of, revision_of, state_in, last_issue}
 use Rattle.office_desk.specs.Facts.{is_elsewhere}
-use Rattle.office_desk.specs.Verdict.{Meaning}
+use Rattle.office_desk.specs.Verdict.{Measures}
 use Rattle.office_desk.specs.Lawful.{IsLawful}
 use Rattle.office_desk.specs.TablesOf.{tables_of}
 use Rattle.office_desk.specs.Laws.{AreAlike, KeepsTeams, KeepsSubmissions, NumbersRun, OpenIsLast, OneIssued}
@@ -53,7 +53,7 @@ teams_more h (enrolled c n t r d) is name u v before after =
     ] refl after
 teams_more h _ is name u v before after = let row : v ≡ u = cc in ap (λ x. x.team) row
 
-pub teams_kept : (m : Meaning) (h : History) (e : Event) → IsLawful m (e ∷ h) → KeepsTeams h e
+pub teams_kept : (m : Measures) (h : History) (e : Event) → IsLawful m (e ∷ h) → KeepsTeams h e
 teams_kept m [] e lawful name u v before after = absurd (cc)
 teams_kept m (f ∷ h) e lawful name u v before after = teams_more (f ∷ h) e (allowed_follows m (f ∷ h) e lawful.0) name u v before after
 
@@ -63,8 +63,8 @@ there o s e none = cc
 pub submissions_kept : (h : History) (e : Event) → KeepsSubmissions h e
 submissions_kept h (submitted c q t) p n s is =
     let within = within_last h p n (there (submission_of h p n) s is) in
-    elim (is_profile p q) as (λ b. cond (b && (n == suc (last_number h p))) (Some (record { author = c; text = t })) (submission_of h p n) ≡ Some s) [
-      | true ↦ rw (ne_eqb n (suc (last_number h p)) (λ e. absurd (omega arith))) is
+    elim (is_profile p q) as (λ b. cond (b && (n == suc (revision_count h p))) (Some (record { author = c; text = t })) (submission_of h p n) ≡ Some s) [
+      | true ↦ rw (ne_eqb n (suc (revision_count h p)) (λ e. absurd (omega arith))) is
       | false ↦ is
     ]
 submissions_kept h _ p n s is = is
@@ -72,8 +72,8 @@ submissions_kept h _ p n s is = is
 none_at_zero : (h : History) (p : ProfileName) → submission_of h p 0 ≡ None
 none_at_zero [] p = refl
 none_at_zero (submitted c q t ∷ h) p =
-    elim (is_profile p q) as (λ b. cond (b && (0 == suc (last_number h p))) (Some (record { author = c; text = t })) (submission_of h p 0) ≡ None) [
-      | true ↦ rw (ne_eqb 0 (suc (last_number h p)) (λ e. absurd (omega arith))) (none_at_zero h p)
+    elim (is_profile p q) as (λ b. cond (b && (0 == suc (revision_count h p))) (Some (record { author = c; text = t })) (submission_of h p 0) ≡ None) [
+      | true ↦ rw (ne_eqb 0 (suc (revision_count h p)) (λ e. absurd (omega arith))) (none_at_zero h p)
       | false ↦ none_at_zero h p
     ]
 none_at_zero (_ ∷ h) p = none_at_zero h p
@@ -98,17 +98,17 @@ not_open false false r e = cc
 pub open_last : (h : History) (p : ProfileName) → OpenIsLast h p
 open_last h p n r is is_open = by_submission (submission_of h p n) refl is
   where
-    by_submission : (s : Option Submission) → submission_of h p n ≡ s → option_map (row_at h p n (last_number h p)) s ≡ Some r → n ≡ last_number h p
+    by_submission : (s : Option Submission) → submission_of h p n ≡ s → option_map (row_at h p n (revision_count h p)) s ≡ Some r → n ≡ revision_count h p
     by_submission None found row = absurd (cc)
     by_submission (Some s) found row =
         let within = within_last h p n (there (submission_of h p n) s found) in
-        let same : row_at h p n (last_number h p) s ≡ r = cc in
-        omega (arith, λ (earlier : n < last_number h p). earlier_open (ap (λ x. x.state) same ∙ is_open) earlier)
+        let same : row_at h p n (revision_count h p) s ≡ r = cc in
+        omega (arith, λ (earlier : n < revision_count h p). earlier_open (ap (λ x. x.state) same ∙ is_open) earlier)
       where
-        earlier_open : (row_at h p n (last_number h p) s).state ≡ Open → n < last_number h p → ⊥
+        earlier_open : (row_at h p n (revision_count h p) s).state ≡ Open → n < revision_count h p → ⊥
         earlier_open e earlier =
             not_open (list_any (withdraws p n) h) (list_any (issues p n) h) (list_any (issues_profile p) (since (issues p n) h))
-            (rw (lt-ltb n (last_number h p) earlier) at e)
+            (rw (lt-ltb n (revision_count h p) earlier) at e)
 
 -- the newest issue names a revision that was issued and not since replaced
 newest_issue : (h : History) (p : ProfileName) (n : ℕ) → list_any (issues p n) h ≡ true → list_any (issues_profile p) (since (issues p n) h) ≡ false → last_issue h p ≡ Some n
@@ -125,21 +125,20 @@ newest_issue (issued c q m ∷ h) p n was last = by_issue (newest_issue h p n) (
     by_issue before false same was last = before was (rw same at last)
 newest_issue (_ ∷ h) p n was last = newest_issue h p n was last
 
-issued_by : (w i r c : Bool) (n : ℕ) (author text digest : List ℕ)
-    → is_issued (Some (record { number = n; author = author; state = state_by w i r c; body = text; digest = digest })) ≡ true → (i ≡ true) × (r ≡ false)
-issued_by true i r c n author text digest e = absurd (cc)
-issued_by false true true c n author text digest e = absurd (cc)
-issued_by false true false c n author text digest e = (refl, refl)
-issued_by false false r true n author text digest e = absurd (cc)
-issued_by false false r false n author text digest e = absurd (cc)
+issued_by : (w i r c : Bool) → is_issued (Some (state_by w i r c)) ≡ true → (i ≡ true) × (r ≡ false)
+issued_by true i r c e = absurd (cc)
+issued_by false true true c e = absurd (cc)
+issued_by false true false c e = (refl, refl)
+issued_by false false r true e = absurd (cc)
+issued_by false false r false e = absurd (cc)
 
-newest : (h : History) (p : ProfileName) (n : ℕ) → is_issued (revision_of h p n) ≡ true → last_issue h p ≡ Some n
+newest : (h : History) (p : ProfileName) (n : ℕ) → is_issued (state_in (revision_of h p n)) ≡ true → last_issue h p ≡ Some n
 newest h p n is = by_submission (submission_of h p n) is
   where
-    by_submission : (s : Option Submission) → is_issued (option_map (row_at h p n (last_number h p)) s) ≡ true → last_issue h p ≡ Some n
+    by_submission : (s : Option Submission) → is_issued (state_in (option_map (row_at h p n (revision_count h p)) s)) ≡ true → last_issue h p ≡ Some n
     by_submission None e = absurd (cc)
     by_submission (Some s) e =
-        let parts = issued_by (list_any (withdraws p n) h) (list_any (issues p n) h) (list_any (issues_profile p) (since (issues p n) h)) (nat_lt n (last_number h p)) n s.author s.text (digest_of s.text) e in
+        let parts = issued_by (list_any (withdraws p n) h) (list_any (issues p n) h) (list_any (issues_profile p) (since (issues p n) h)) (nat_lt n (revision_count h p)) e in
         newest_issue h p n parts.0 parts.1
 
 pub one_issued : (h : History) (p : ProfileName) → OneIssued h p

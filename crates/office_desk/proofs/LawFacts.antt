@@ -14,9 +14,9 @@ use Rattle.office_tables.specs.declared.row.UserRow.{UserRow}
 use Rattle.office_tables.specs.declared.row.RevisionRow.{RevisionRow}
 use Rattle.office_desk.specs.History.{Event, founded, enrolled, submitted, voted, issued, withdrawn, adopted, held, released, History}
 use Rattle.office_desk.specs.Users.{user_of, user_showing, registrar_alone, name_of}
-use Rattle.office_desk.specs.Revisions.{revision_of, last_number, issued_revision}
+use Rattle.office_desk.specs.Revisions.{revision_of, revision_count, issued_revision}
 use Rattle.office_desk.specs.Facts.{is_elsewhere, is_another, enrol_facts, issue_facts, withdraw_facts}
-use Rattle.office_desk.specs.Verdict.{Meaning, Verdict, need_at, accepted, denied, unreached, of_revision, new_revision, verdict_of, judged, rules_of, done_of}
+use Rattle.office_desk.specs.Verdict.{Measures, Verdict, need_at, accepted, denied, unreached, of_revision, new_revision, verdict_of, judged, rules_of, done_of}
 use Rattle.office_desk.specs.Lawful.{IsLawful, IsAllowed}
 use Rattle.office_desk.proofs.RuleFacts.{none_refuses}
 use Rattle.office_desk.proofs.RevisionFacts.{standing_within}
@@ -34,8 +34,8 @@ Follows h (founded n t d l) = ⊥
 Follows h (enrolled c n t r d) = EnrolAllowed h n t d
 Follows h (submitted c p t) = Unit {0}
 Follows h (voted c p n d a) = Unit {0}
-Follows h (issued c p n) = n ≤ last_number h p
-Follows h (withdrawn c p n) = n ≤ last_number h p
+Follows h (issued c p n) = n ≤ revision_count h p
+Follows h (withdrawn c p n) = n ≤ revision_count h p
 Follows h (adopted c p n) = Unit {0}
 Follows h (held c p) = Unit {0}
 Follows h (released c p) = Unit {0}
@@ -55,7 +55,7 @@ new_revision_follows h caller p (Ok profile) = tt
 new_revision_follows h caller p (Err f) = tt
 
 -- what is done where no rule refuses follows
-done_follows : (m : Meaning) (h : History) (caller : Option UserRow) (a : Ask) → first_denial (rules_of m h caller a) ≡ Ok tt → FollowsIn h (done_of m h caller a)
+done_follows : (m : Measures) (h : History) (caller : Option UserRow) (a : Ask) → first_denial (rules_of m h caller a) ≡ Ok tt → FollowsIn h (done_of m h caller a)
 done_follows m h caller (ask.Enrol user team roles digest) e =
     let none = none_refuses 1 (enrol_rules (enrol_facts h caller user team digest)) e in
     record { same_team = none.1.1.1.0; free_token = none.1.1.1.1.0 }
@@ -72,7 +72,7 @@ done_follows m h caller (ask.Hold p) e = tt
 done_follows m h caller (ask.Release p) e = tt
 
 -- the event of every verdict is one that the policy's leave speaks of
-verdict_of_follows : (m : Meaning) (h : History) (caller : Option UserRow) (a : Ask) → FollowsIn h (verdict_of m h caller a)
+verdict_of_follows : (m : Measures) (h : History) (caller : Option UserRow) (a : Ask) → FollowsIn h (verdict_of m h caller a)
 verdict_of_follows m h caller a =
     elim (first_denial (rules_of m h caller a)) as (λ r. first_denial (rules_of m h caller a) ≡ r → FollowsIn h (judged m h caller a r)) [
       | Ok u ↦ λ e. done_follows m h caller a e
@@ -80,11 +80,11 @@ verdict_of_follows m h caller a =
     ] refl
 
 -- what an allowed event follows
-pub allowed_follows : (m : Meaning) (h : History) (e : Event) → IsAllowed m h e → Follows h e
+pub allowed_follows : (m : Measures) (h : History) (e : Event) → IsAllowed m h e → Follows h e
 allowed_follows m h e is = subst (FollowsIn h) is.allowed (verdict_of_follows m h (user_showing h (digest_of is.request.token)) is.request.ask)
 
 -- a lawful history goes on lawfully by an allowed event
-pub lawful_more : (m : Meaning) (h : History) (e : Event) → IsLawful m h → IsAllowed m h e → IsLawful m (e ∷ h)
+pub lawful_more : (m : Measures) (h : History) (e : Event) → IsLawful m h → IsAllowed m h e → IsLawful m (e ∷ h)
 lawful_more m [] e lawful is = absurd lawful
 lawful_more m (f ∷ h) e lawful is = (is, lawful)
 
@@ -134,7 +134,7 @@ apart_more h (enrolled c n t r d) is apart = apart_enrolled h apart c n t r d is
 apart_more h _ is apart = apart
 
 -- no two users of a lawful history show one digest
-pub lawful_apart : (m : Meaning) (h : History) → IsLawful m h → AreApart h
+pub lawful_apart : (m : Measures) (h : History) → IsLawful m h → AreApart h
 lawful_apart m [] lawful = absurd lawful
 lawful_apart m (founded n t d l ∷ []) lawful = apart_founded n t d l
 lawful_apart m (_ ∷ []) lawful = absurd lawful

@@ -6,3 +6,5 @@ pub mod StateFacts
 pub mod CarryFacts
 pub mod SubmitFacts
 pub mod Histories
+pub mod Judged
+pub mod ListingFacts

@@ -11,8 +11,8 @@ use Rattle.office_tables.specs.declared.row.RevisionRow.{RevisionRow}
 use Rattle.office_tables.specs.Tables.{is_profile}
 use Rattle.office_tables.specs.Changes.{after_submission}
 use Rattle.office_desk.specs.History.{Event, founded, enrolled, submitted, voted, issued, withdrawn, adopted, held, released, History}
-use Rattle.office_desk.specs.Revisions.{Submission, submits, issues, issues_profile, withdraws, since, last_number, submission_of, revision_of}
-use Rattle.office_desk.specs.Verdict.{Meaning}
+use Rattle.office_desk.specs.Revisions.{Submission, submits, issues, issues_profile, withdraws, since, revision_count, submission_of, revision_of}
+use Rattle.office_desk.specs.Verdict.{Measures}
 use Rattle.office_desk.specs.Lawful.{IsLawful}
 use Rattle.office_desk.proofs.UserFacts.{same_bytes, bytes_same}
 use Rattle.office_desk.proofs.RevisionFacts.{count_more, within_last}
@@ -40,18 +40,18 @@ pub record IsUnnamed (h : History) (p : ProfileName) (n : ℕ) : Type 0 where
   pub withdrawals : list_any (withdraws p n) h ≡ false
 
 -- an event that names a revision up to the last doesn't name one above
-unlike : (h : History) (p q : ProfileName) (n k : ℕ) → last_number h p < n → k ≤ last_number h q → (is_profile p q && (n == k)) ≡ false
+unlike : (h : History) (p q : ProfileName) (n k : ℕ) → revision_count h p < n → k ≤ revision_count h q → (is_profile p q && (n == k)) ≡ false
 unlike h p q n k above within =
     elim (is_profile p q) as (λ b. is_profile p q ≡ b → (b && (n == k)) ≡ false) [
-      | true ↦ λ same. let here : k ≤ last_number h p = subst (λ x. k ≤ last_number h x) (sym (same_profile p q same)) within in ne_eqb n k (λ e. absurd (omega arith))
+      | true ↦ λ same. let here : k ≤ revision_count h p = subst (λ x. k ≤ revision_count h x) (sym (same_profile p q same)) within in ne_eqb n k (λ e. absurd (omega arith))
       | false ↦ λ same. refl
     ] refl
 
-unnamed_more : (h : History) (e : Event) → Follows h e → (p : ProfileName) (n : ℕ) → last_number (e ∷ h) p < n → (last_number h p < n → IsUnnamed h p n) → IsUnnamed (e ∷ h) p n
+unnamed_more : (h : History) (e : Event) → Follows h e → (p : ProfileName) (n : ℕ) → revision_count (e ∷ h) p < n → (revision_count h p < n → IsUnnamed h p n) → IsUnnamed (e ∷ h) p n
 unnamed_more h (founded x t d l) is p n above before = absurd is
 unnamed_more h (enrolled c x t r d) is p n above before = let u = before above in record { issues = u.issues; withdrawals = u.withdrawals }
 unnamed_more h (submitted c q t) is p n above before =
-    let u = before (fewer (is_profile p q) (last_number h p) n (subst (λ k. k < n) (count_more p (submitted c q t) h) above)) in
+    let u = before (fewer (is_profile p q) (revision_count h p) n (subst (λ k. k < n) (count_more p (submitted c q t) h) above)) in
     record { issues = u.issues; withdrawals = u.withdrawals }
   where
     fewer : (b : Bool) (k n : ℕ) → cond b (suc k) k < n → k < n
@@ -67,7 +67,7 @@ unnamed_more h (held c q) is p n above before = let u = before above in record {
 unnamed_more h (released c q) is p n above before = let u = before above in record { issues = u.issues; withdrawals = u.withdrawals }
 
 -- no issue and no withdrawal names a revision above the last
-pub unnamed_above : (m : Meaning) (h : History) → IsLawful m h → (p : ProfileName) (n : ℕ) → last_number h p < n → IsUnnamed h p n
+pub unnamed_above : (m : Measures) (h : History) → IsLawful m h → (p : ProfileName) (n : ℕ) → revision_count h p < n → IsUnnamed h p n
 unnamed_above m [] lawful p n above = absurd lawful
 unnamed_above m (founded x t d l ∷ []) lawful p n above = record { issues = refl; withdrawals = refl }
 unnamed_above m (_ ∷ []) lawful p n above = absurd lawful
@@ -90,7 +90,7 @@ closes false false r false n author text = refl
 
 -- the row of a new revision
 abbrev pub new_row : History → ProfileName → (caller text : List ℕ) → RevisionRow
-new_row h p c t = record { number = suc (last_number h p); author = c; state = Open; body = t; digest = digest_of t }
+new_row h p c t = record { number = suc (revision_count h p); author = c; state = Open; body = t; digest = digest_of t }
 
 -- the row of a submission in a history whose last number is this one
 abbrev pub row_at : History → ProfileName → ℕ → ℕ → Submission → RevisionRow
@@ -112,46 +112,46 @@ open_last h p n u c t = rw (u.withdrawals, u.issues, not_below n) refl
 
 -- the revisions up to the last are closed by a submission
 closed_earlier : (h : History) (p : ProfileName) (n : ℕ) (s : Option Submission) → submission_of h p n ≡ s
-    → option_map (row_at h p n (suc (last_number h p))) s ≡ option_map after_submission (option_map (row_at h p n (last_number h p)) s)
+    → option_map (row_at h p n (suc (revision_count h p))) s ≡ option_map after_submission (option_map (row_at h p n (revision_count h p)) s)
 closed_earlier h p n None is = refl
 closed_earlier h p n (Some s) is =
-    let within : n ≤ last_number h p = within_last h p n (λ none. there none) in
-    rw (lt-ltb n (suc (last_number h p)) (omega arith)) (ap Some (closes (list_any (withdraws p n) h) (list_any (issues p n) h) (list_any (issues_profile p) (since (issues p n) h)) (nat_lt n (last_number h p)) n s.author s.text))
+    let within : n ≤ revision_count h p = within_last h p n (λ none. there none) in
+    rw (lt-ltb n (suc (revision_count h p)) (omega arith)) (ap Some (closes (list_any (withdraws p n) h) (list_any (issues p n) h) (list_any (issues_profile p) (since (issues p n) h)) (nat_lt n (revision_count h p)) n s.author s.text))
   where
     there : submission_of h p n ≡ None → ⊥
     there none = cc
 
 -- the submission's own profile has the new row, and its others are closed
-same_submitted : (m : Meaning) (h : History) → IsLawful m h → (c : List ℕ) (p : ProfileName) (t : List ℕ) (n : ℕ)
-    → option_map (row_at h p n (suc (last_number h p))) (cond (n == suc (last_number h p)) (Some (record { author = c; text = t })) (submission_of h p n))
-    ≡ cond (n == suc (last_number h p)) (Some (new_row h p c t)) (option_map after_submission (revision_of h p n))
+same_submitted : (m : Measures) (h : History) → IsLawful m h → (c : List ℕ) (p : ProfileName) (t : List ℕ) (n : ℕ)
+    → option_map (row_at h p n (suc (revision_count h p))) (cond (n == suc (revision_count h p)) (Some (record { author = c; text = t })) (submission_of h p n))
+    ≡ cond (n == suc (revision_count h p)) (Some (new_row h p c t)) (option_map after_submission (revision_of h p n))
 same_submitted m h lawful c p t n =
-    elim (n == suc (last_number h p)) as (λ b. (n == suc (last_number h p)) ≡ b →
-    option_map (row_at h p n (suc (last_number h p))) (cond b (Some (record { author = c; text = t })) (submission_of h p n))
+    elim (n == suc (revision_count h p)) as (λ b. (n == suc (revision_count h p)) ≡ b →
+    option_map (row_at h p n (suc (revision_count h p))) (cond b (Some (record { author = c; text = t })) (submission_of h p n))
     ≡ cond b (Some (new_row h p c t)) (option_map after_submission (revision_of h p n))) [
-      | true ↦ λ last. new_last (eqb-true n (suc (last_number h p)) last)
+      | true ↦ λ last. new_last (eqb-true n (suc (revision_count h p)) last)
       | false ↦ λ earlier. closed_earlier h p n (submission_of h p n) refl
     ] refl
   where
-    new_last : n ≡ suc (last_number h p) → Some (row_at h p n (suc (last_number h p)) (record { author = c; text = t })) ≡ Some (new_row h p c t)
+    new_last : n ≡ suc (revision_count h p) → Some (row_at h p n (suc (revision_count h p)) (record { author = c; text = t })) ≡ Some (new_row h p c t)
     new_last is =
-        ap (λ k. Some (row_at h p k (suc (last_number h p)) (record { author = c; text = t }))) is
-        ∙ ap Some (open_last h p (suc (last_number h p)) (unnamed_above m h lawful p (suc (last_number h p)) (omega arith)) c t)
+        ap (λ k. Some (row_at h p k (suc (revision_count h p)) (record { author = c; text = t }))) is
+        ∙ ap Some (open_last h p (suc (revision_count h p)) (unnamed_above m h lawful p (suc (revision_count h p)) (omega arith)) c t)
 
 -- the revisions after a submission
-pub revision_submitted : (m : Meaning) (h : History) → IsLawful m h → (c : List ℕ) (p : ProfileName) (t : List ℕ) (q : ProfileName) (n : ℕ)
-    → revision_of (submitted c p t ∷ h) q n ≡ cond (is_profile q p) (cond (n == suc (last_number h p)) (Some (new_row h p c t)) (option_map after_submission (revision_of h q n))) (revision_of h q n)
+pub revision_submitted : (m : Measures) (h : History) → IsLawful m h → (c : List ℕ) (p : ProfileName) (t : List ℕ) (q : ProfileName) (n : ℕ)
+    → revision_of (submitted c p t ∷ h) q n ≡ cond (is_profile q p) (cond (n == suc (revision_count h p)) (Some (new_row h p c t)) (option_map after_submission (revision_of h q n))) (revision_of h q n)
 revision_submitted m h lawful c p t q n =
     elim (is_profile q p) as (λ b. is_profile q p ≡ b →
-    option_map (row_at h q n (length (cond b (submitted c p t ∷ filter (submits q) h) (filter (submits q) h)))) (cond (b && (n == suc (last_number h q))) (Some (record { author = c; text = t })) (submission_of h q n))
-    ≡ cond b (cond (n == suc (last_number h p)) (Some (new_row h p c t)) (option_map after_submission (revision_of h q n))) (revision_of h q n)) [
+    option_map (row_at h q n (length (cond b (submitted c p t ∷ filter (submits q) h) (filter (submits q) h)))) (cond (b && (n == suc (revision_count h q))) (Some (record { author = c; text = t })) (submission_of h q n))
+    ≡ cond b (cond (n == suc (revision_count h p)) (Some (new_row h p c t)) (option_map after_submission (revision_of h q n))) (revision_of h q n)) [
       | true ↦ λ same. own q (same_profile q p same)
       | false ↦ λ same. refl
     ] refl
   where
     own : (x : ProfileName) → x ≡ p
-        → option_map (row_at h x n (suc (last_number h x))) (cond (n == suc (last_number h x)) (Some (record { author = c; text = t })) (submission_of h x n))
-        ≡ cond (n == suc (last_number h p)) (Some (new_row h p c t)) (option_map after_submission (revision_of h x n))
+        → option_map (row_at h x n (suc (revision_count h x))) (cond (n == suc (revision_count h x)) (Some (record { author = c; text = t })) (submission_of h x n))
+        ≡ cond (n == suc (revision_count h p)) (Some (new_row h p c t)) (option_map after_submission (revision_of h x n))
     own x is =
-        subst (λ y. option_map (row_at h y n (suc (last_number h y))) (cond (n == suc (last_number h y)) (Some (record { author = c; text = t })) (submission_of h y n))
-        ≡ cond (n == suc (last_number h p)) (Some (new_row h p c t)) (option_map after_submission (revision_of h y n))) (sym is) (same_submitted m h lawful c p t n)
+        subst (λ y. option_map (row_at h y n (suc (revision_count h y))) (cond (n == suc (revision_count h y)) (Some (record { author = c; text = t })) (submission_of h y n))
+        ≡ cond (n == suc (revision_count h p)) (Some (new_row h p c t)) (option_map after_submission (revision_of h y n))) (sym is) (same_submitted m h lawful c p t n)

@@ -20,9 +20,9 @@ use Rattle.office_tables.specs.Reads.{IsLast, next_number}
 use Rattle.memory_store.specs.declared.store.MemoryStore.{MemoryStore}
 use Rattle.memory_store.specs.Shows.{Shows}
 use Rattle.office_desk.specs.History.{submitted, History}
-use Rattle.office_desk.specs.Revisions.{last_number, number_of}
+use Rattle.office_desk.specs.Revisions.{revision_count, number_of}
 use Rattle.office_desk.specs.Facts.{canonical, submit_facts, submit_facts_by}
-use Rattle.office_desk.specs.Verdict.{Meaning, new_revision, fault_told, verdict_of}
+use Rattle.office_desk.specs.Verdict.{Measures, new_revision, fault_told, verdict_of}
 use Rattle.office_desk.specs.Lawful.{IsLawful}
 use Rattle.office_desk.specs.TablesOf.{tables_of}
 use Rattle.office_desk.specs.Handled.{CarriesOut}
@@ -31,13 +31,13 @@ use Rattle.office_desk.proofs.RevisionFacts.{none_last, number_is, last_is}
 use Rattle.office_desk.proofs.StateFacts.{new_row, revision_submitted}
 
 -- the number of the last revision that a store answers
-pub last_number_is : (h : History) (p : ProfileName) (found : Option RevisionRow) → IsLast (tables_of h) p found → last_number h p ≡ number_of found
-last_number_is h p None is = none_last h p (is (last_number h p))
+pub last_number_is : (h : History) (p : ProfileName) (found : Option RevisionRow) → IsLast (tables_of h) p found → revision_count h p ≡ number_of found
+last_number_is h p None is = none_last h p (is (revision_count h p))
 last_number_is h p (Some r) is = number_is h p r is
 
 -- and the number after it
-pub next_is : (h : History) (p : ProfileName) (found : Option RevisionRow) → IsLast (tables_of h) p found → next_number found ≡ suc (last_number h p)
-next_is h p None is = let zero = none_last h p (is (last_number h p)) in omega arith
+pub next_is : (h : History) (p : ProfileName) (found : Option RevisionRow) → IsLast (tables_of h) p found → next_number found ≡ suc (revision_count h p)
+next_is h p None is = let zero = none_last h p (is (revision_count h p)) in omega arith
 next_is h p (Some r) is = let same = number_is h p r is in omega arith
 
 -- what was decided of a submission is what its rules say
@@ -45,7 +45,7 @@ pub submit_decided : (h : History) (caller : Option UserRow) (p : ProfileName) (
     → IsLast (tables_of h) p found → decided ≡ first_denial (submit_rules (submit_facts_by caller p.team reading found (number_of found)))
     → first_denial (submit_rules (submit_facts h caller p reading)) ≡ decided
 submit_decided h caller p reading found decided is decides =
-    ap (λ r. first_denial (submit_rules (submit_facts_by caller p.team reading r (last_number h p)))) (last_is h p found is)
+    ap (λ r. first_denial (submit_rules (submit_facts_by caller p.team reading r (revision_count h p)))) (last_is h p found is)
     ∙ ap (λ n. first_denial (submit_rules (submit_facts_by caller p.team reading found n))) (last_number_is h p found is) ∙ sym decides
 
 -- a document with a canonical text reads
@@ -54,7 +54,7 @@ reads (Ok profile) text e = (profile, refl, cc)
 reads (Err f) text e = absurd (cc)
 
 -- the tables with a new revision are those of the submission
-submit_shows : (m : Meaning) (h : History) → IsLawful m h → (c : List ℕ) (p : ProfileName) (t : List ℕ) (store : MemoryStore)
+submit_shows : (m : Measures) (h : History) → IsLawful m h → (c : List ℕ) (p : ProfileName) (t : List ℕ) (store : MemoryStore)
     → Shows store (with_revision p (new_row h p c t) (tables_of h)) → Shows store (tables_of (submitted c p t ∷ h))
 submit_shows m h lawful c p t store shows = record {
   listed = shows.listed;
@@ -66,13 +66,13 @@ submit_shows m h lawful c p t store shows = record {
 }
 
 -- a document that reads is the next revision
-submit_done : (m : Meaning) (h : History) → IsLawful m h → (author : UserRow) (p name : ProfileName) (reading : Result Profile DocFault) (text digest writer : List ℕ)
+submit_done : (m : Measures) (h : History) → IsLawful m h → (author : UserRow) (p name : ProfileName) (reading : Result Profile DocFault) (text digest writer : List ℕ)
     (found : Option RevisionRow) (n : ℕ) (store : MemoryStore) → canonical reading ≡ Some text → digest ≡ digest_of text → writer ≡ author.name → name ≡ p → IsLast (tables_of h) p found
     → n ≡ next_number found → Shows store (with_revision name (record { number = n; author = writer; state = Open; body = text; digest = digest }) (tables_of h))
     → CarriesOut h (new_revision h (Some author) p reading) (Ok (Done (Submitted digest n))) store
 submit_done m h lawful author p name reading text digest writer found n store is_text is_digest is_writer is_name is_last is_next shows =
     let profile = reads reading text is_text in
-    let number : n ≡ suc (last_number h p) = is_next ∙ next_is h p found is_last in
+    let number : n ≡ suc (revision_count h p) = is_next ∙ next_is h p found is_last in
     let row : ◌≡◌ {A = RevisionRow} (record { number = n; author = writer; state = Open; body = text; digest = digest }) (new_row h p author.name text) =
     λ i. record { number = number i; author = is_writer i; state = Open; body = text; digest = is_digest i } in
     let here : Shows store (with_revision p (new_row h p author.name text) (tables_of h)) =
@@ -85,7 +85,7 @@ submit_done m h lawful author p name reading text digest writer found n store is
     subst (λ r. CarriesOut h (new_revision h (Some author) p r) (Ok (Done (Submitted digest n))) store) (sym profile.1) done
 
 -- a submission that a rule refuses
-pub submit_refused : (m : Meaning) (h : History) (caller : Option UserRow) (p : ProfileName) (document : Vec ℕ Global) (reading : Result Profile DocFault) (found : Option RevisionRow)
+pub submit_refused : (m : Measures) (h : History) (caller : Option UserRow) (p : ProfileName) (document : Vec ℕ Global) (reading : Result Profile DocFault) (found : Option RevisionRow)
     (decided : Result ⊤ Denial) (denial : Denial) (fault : Option (List ℕ)) (store : MemoryStore) → reading ≡ reading_of document.items → IsLast (tables_of h) p found
     → decided ≡ first_denial (submit_rules (submit_facts_by caller p.team reading found (number_of found))) → decided ≡ Err denial → fault ≡ fault_told denial.rule reading
     → Shows store (tables_of h) → CarriesOut h (verdict_of m h caller (ask.Submit p document)) (Ok (Denied denial fault)) store
@@ -96,7 +96,7 @@ submit_refused m h caller p document reading found decided denial fault store is
     (refused m h caller (ask.Submit p document) denial store refusal shows)
 
 -- a submission that no rule refuses
-pub submit_allowed : (m : Meaning) (h : History) → IsLawful m h → (caller : Option UserRow) (author : UserRow) (p name : ProfileName) (document : Vec ℕ Global) (reading : Result Profile DocFault)
+pub submit_allowed : (m : Measures) (h : History) → IsLawful m h → (caller : Option UserRow) (author : UserRow) (p name : ProfileName) (document : Vec ℕ Global) (reading : Result Profile DocFault)
     (text digest writer : List ℕ) (found : Option RevisionRow) (n : ℕ) (decided : Result ⊤ Denial) (store : MemoryStore) → caller ≡ Some author → reading ≡ reading_of document.items
     → canonical reading ≡ Some text → digest ≡ digest_of text → writer ≡ author.name → name ≡ p → IsLast (tables_of h) p found
     → decided ≡ first_denial (submit_rules (submit_facts_by caller p.team reading found (number_of found))) → decided ≡ Ok tt

@@ -20,7 +20,7 @@ use Rattle.office_tables.specs.declared.row.UserRow.{UserRow}
 use Rattle.office_tables.specs.declared.row.RevisionRow.{RevisionRow}
 use Rattle.office_desk.specs.History.{History}
 use Rattle.office_desk.specs.Users.{user_of, user_showing, holds_role, is_named, is_of_team, name_of}
-use Rattle.office_desk.specs.Revisions.{revision_of, last_number, if_open, issued_revision, is_author, state_in}
+use Rattle.office_desk.specs.Revisions.{revision_of, revision_count, if_open, issued_revision, is_author, state_in}
 use Rattle.office_desk.specs.Votes.{approvals, rejections, secure_approvals}
 use Rattle.office_desk.specs.Holds.{is_held}
 
@@ -86,7 +86,7 @@ module _ (h : History) (caller : Option UserRow) where
   enrol_facts user team digest = enrol_facts_by caller (user_of h user) (user_showing h digest) user team
 
   abbrev pub submit_facts : ProfileName → Result Profile DocFault → SubmitFacts
-  submit_facts p reading = submit_facts_by caller p.team reading (revision_of h p (last_number h p)) (last_number h p)
+  submit_facts p reading = submit_facts_by caller p.team reading (revision_of h p (revision_count h p)) (revision_count h p)
 
   abbrev pub vote_facts : ProfileName → (number : ℕ) → (digest : List ℕ) → VoteFacts
   vote_facts p n digest = record {
@@ -139,7 +139,7 @@ module _ (h : History) (caller : Option UserRow) where
   hold_facts p = record {
     caller_unknown = is_none caller;
     role_missing = not (holds_role caller Security);
-    no_profile = last_number h p == 0;
+    no_profile = revision_count h p == 0;
     already_held = is_held h p;
   }
 
@@ -147,6 +147,6 @@ module _ (h : History) (caller : Option UserRow) where
   release_facts p = record {
     caller_unknown = is_none caller;
     role_missing = not (holds_role caller Security);
-    no_profile = last_number h p == 0;
+    no_profile = revision_count h p == 0;
     not_held = not (is_held h p);
   }

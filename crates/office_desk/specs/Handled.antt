@@ -11,7 +11,7 @@ use Rattle.memory_store.specs.declared.store.MemoryStore.{MemoryStore}
 use Rattle.memory_store.specs.Shows.{Shows}
 use Rattle.office_desk.specs.declared.office.Office.{Office}
 use Rattle.office_desk.specs.History.{Event, History}
-use Rattle.office_desk.specs.Verdict.{Meaning, Verdict, accepted, denied, verdict}
+use Rattle.office_desk.specs.Verdict.{Measures, Verdict, accepted, denied, verdict}
 use Rattle.office_desk.specs.Lawful.{IsLawful}
 use Rattle.office_desk.specs.TablesOf.{tables_of}
 use Rattle.office_desk.specs.Told.{IsPassing}
@@ -25,7 +25,7 @@ is_served _ = false
 
 -- The office has the tables of a lawful history. While only three kinds of request are served, that is one without votes,
 -- adoptions and holds.
-pub record IsOffice (m : Meaning) (h : History) (o : Office) : Type 0 where
+pub record IsOffice (m : Measures) (h : History) (o : Office) : Type 0 where
   pub lawful : IsLawful m h
   pub tables : Shows o.store (tables_of h)
 
@@ -50,12 +50,12 @@ CarriesOut h v (Ok a) store = (a ≡ answer_of v) × Shows store (tables_of (wit
 CarriesOut h v (Err f) store = IsPassing f × Shows store (tables_of h)
 
 -- the history after a request: a fault adds no event
-abbrev pub history_after : Meaning → History → Request → Answer → History
+abbrev pub history_after : Measures → History → Request → Answer → History
 history_after m h r (Fault f) = h
 history_after m h r answer = with_event (event_of (verdict m h r)) h
 
 -- the answer is the verdict's, or the fault of memory, of the disk or of room on it
-abbrev pub IsAnswer : Meaning → History → Request → Answer → Type 0
+abbrev pub IsAnswer : Measures → History → Request → Answer → Type 0
 IsAnswer m h r (Fault faults.Memory) = Unit {0}
 IsAnswer m h r (Fault faults.Disk) = Unit {0}
 IsAnswer m h r (Fault faults.Full) = Unit {0}

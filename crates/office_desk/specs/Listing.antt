@@ -7,7 +7,7 @@ use Rattle.std.specs.Cmp.Lexicographic.{slice_cmp}
 use Rattle.review_policy.specs.declared.ask.ProfileName.{ProfileName}
 use Rattle.review_policy.specs.declared.answer.ListedProfile.{ListedProfile}
 use Rattle.office_desk.specs.History.{submitted, History}
-use Rattle.office_desk.specs.Revisions.{last_number, number_of, state_of, issued_revision}
+use Rattle.office_desk.specs.Revisions.{revision_count, number_of, state_of, issued_revision}
 
 -- the names with one more, in byte order, each once
 abbrev pub with_name : List ℕ → List (List ℕ) → List (List ℕ)
@@ -26,15 +26,15 @@ profiles_of (submitted c q t ∷ before) team =
     if bytes_eq team q.team then with_name q.profile (profiles_of before team) else profiles_of before team
 profiles_of (_ ∷ before) team = profiles_of before team
 
+-- what is listed of a profile
+abbrev pub listed_profile : History → ProfileName → ListedProfile
+listed_profile h p = record {
+  profile = p.profile;
+  issued = number_of (issued_revision h p);
+  revisions = revision_count h p;
+  state = state_of h p (revision_count h p);
+}
+
+-- the profiles of a team that have a revision
 abbrev pub listing_of : History → List ℕ → List ListedProfile
-listing_of h team = map listed (profiles_of h team)
-  where
-    listed : List ℕ → ListedProfile
-    listed name =
-        let p : ProfileName = record { team = team; profile = name } in
-        record {
-          profile = name;
-          issued = number_of (issued_revision h p);
-          revisions = last_number h p;
-          state = state_of h p (last_number h p);
-        }
+listing_of h team = map (λ name. listed_profile h (record { team = team; profile = name })) (profiles_of h team)

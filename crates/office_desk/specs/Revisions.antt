@@ -1,10 +1,11 @@
 -- Revisions of a profile: its submissions, numbered from 1.
-use Rattle.std.specs.Prelude.{ℕ, suc, List, [], ◌∷◌, Bool, true, false, ◌&&◌, ◌==◌, nat_lt, if◌then◌else◌, Option, Some, None, option_map, option_and_then, filter, length, bytes_eq}
+use Rattle.std.specs.Prelude.{ℕ, suc, List, [], ◌∷◌, Bool, false, ◌&&◌, ◌==◌, nat_lt, if◌then◌else◌, Option, Some, None, option_map, option_and_then, filter, length, bytes_eq}
 use Rattle.std.specs.List.{list_any}
 use Rattle.profile_text.specs.Digest.{digest_of}
 use Rattle.review_policy.specs.declared.ask.ProfileName.{ProfileName}
 use Rattle.review_policy.specs.declared.revision.State.{State}
 use Rattle.review_policy.specs.declared.revision.State.TheVariants.{Open, Closed, Issued, Replaced, Withdrawn}
+use Rattle.review_policy.specs.Rules.{is_open, is_issued}
 use Rattle.office_tables.specs.declared.row.RevisionRow.{RevisionRow}
 use Rattle.office_tables.specs.Tables.{is_profile}
 use Rattle.office_desk.specs.History.{Event, submitted, issued, withdrawn, History}
@@ -30,8 +31,8 @@ withdraws p n (withdrawn c q m) = is_profile p q && (n == m)
 withdraws p n _ = false
 
 -- how many revisions a profile has
-abbrev pub last_number : History → ProfileName → ℕ
-last_number h p = length (filter (submits p) h)
+abbrev pub revision_count : History → ProfileName → ℕ
+revision_count h p = length (filter (submits p) h)
 
 -- who handed a revision in, and its text
 pub record Submission : Type 0 where
@@ -42,7 +43,7 @@ pub record Submission : Type 0 where
 abbrev pub submission_of : History → ProfileName → ℕ → Option Submission
 submission_of [] p n = None
 submission_of (submitted c q t ∷ before) p n =
-    if is_profile p q && (n == suc (last_number before p)) then Some (record { author = c; text = t }) else submission_of before p n
+    if is_profile p q && (n == suc (revision_count before p)) then Some (record { author = c; text = t }) else submission_of before p n
 submission_of (_ ∷ before) p n = submission_of before p n
 
 -- the events that are newer than the newest that passes the test, or all where none passes
@@ -56,7 +57,7 @@ abbrev pub state_of : History → ProfileName → ℕ → State
 state_of h p n =
     if list_any (withdraws p n) h then Withdrawn
     else if list_any (issues p n) h then (if list_any (issues_profile p) (since (issues p n) h) then Replaced else Issued)
-    else if nat_lt n (last_number h p) then Closed
+    else if nat_lt n (revision_count h p) then Closed
     else Open
 
 -- a revision with its state
@@ -79,18 +80,9 @@ is_author h p name = list_any (is_submission_by name p) h
 abbrev pub state_in : Option RevisionRow → Option State
 state_in r = option_map (λ row. row.state) r
 
--- whether a revision is there and open
-abbrev pub is_open : Option RevisionRow → Bool
-is_open None = false
-is_open (Some r) = open_state r.state
-  where
-    open_state : State → Bool
-    open_state Open = true
-    open_state _ = false
-
 -- a revision where it is open; the open revision of a profile is its last one, where that is open
 abbrev pub if_open : Option RevisionRow → Option RevisionRow
-if_open r = if is_open r then r else None
+if_open r = if is_open (state_in r) then r else None
 
 -- the number of a revision, or 0
 abbrev pub number_of : Option RevisionRow → ℕ
@@ -103,18 +95,10 @@ last_issue [] p = None
 last_issue (issued c q n ∷ before) p = if is_profile p q then Some n else last_issue before p
 last_issue (_ ∷ before) p = last_issue before p
 
--- whether a revision is there and issued
-abbrev pub is_issued : Option RevisionRow → Bool
-is_issued None = false
-is_issued (Some r) = issued_state r.state
-  where
-    issued_state : State → Bool
-    issued_state Issued = true
-    issued_state _ = false
+-- a revision where it is issued
+abbrev pub if_issued : Option RevisionRow → Option RevisionRow
+if_issued r = if is_issued (state_in r) then r else None
 
 -- the issued revision of a profile: that of its newest issue, where it is Issued now
 abbrev pub issued_revision : History → ProfileName → Option RevisionRow
-issued_revision h p = issued_one (option_and_then (revision_of h p) (last_issue h p))
-  where
-    issued_one : Option RevisionRow → Option RevisionRow
-    issued_one r = if is_issued r then r else None
+issued_revision h p = if_issued (option_and_then (revision_of h p) (last_issue h p))

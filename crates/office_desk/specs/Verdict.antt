@@ -22,7 +22,7 @@ use Rattle.office_tables.specs.declared.row.UserRow.{UserRow}
 use Rattle.office_tables.specs.declared.row.RevisionRow.{RevisionRow}
 use Rattle.office_desk.specs.History.{Event, enrolled, submitted, voted, issued, withdrawn, adopted, held, released, History}
 use Rattle.office_desk.specs.Users.{user_showing, name_of}
-use Rattle.office_desk.specs.Revisions.{revision_of, last_number, issued_revision}
+use Rattle.office_desk.specs.Revisions.{revision_of, revision_count, issued_revision}
 use Rattle.office_desk.specs.Documents.{document_of, holds_listed}
 use Rattle.office_desk.specs.Baseline.{baseline_of, listed_of}
 use Rattle.office_desk.specs.Listing.{listing_of}
@@ -30,7 +30,7 @@ use Rattle.office_desk.specs.Facts.{enrol_facts, submit_facts, vote_facts, issue
 
 -- What the policy takes from the comparison and the showing of documents: whether the second profile is wider than the
 -- first, and the review sheet of a revision.
-pub record Meaning : Type 0 where
+pub record Measures : Type 0 where
   pub is_wider : Profile → Profile → Bool
   pub sheet : History → ProfileName → ℕ → List ℕ
 
@@ -57,9 +57,9 @@ fault_told _ reading = None
 abbrev pub new_revision : History → Option UserRow → ProfileName → Result Profile DocFault → Verdict
 new_revision h caller p (Err f) = unreached
 new_revision h caller p (Ok profile) =
-    accepted (reply.Submitted (digest_of (text_of profile)) (suc (last_number h p))) (Some (submitted (name_of caller) p (text_of profile)))
+    accepted (reply.Submitted (digest_of (text_of profile)) (suc (revision_count h p))) (Some (submitted (name_of caller) p (text_of profile)))
 
-module _ (m : Meaning) (h : History) where
+module _ (m : Measures) (h : History) where
   -- how many approvals a revision needs, against the baseline of this moment
   abbrev pub need_of_text : ProfileName → List ℕ → Need
   need_of_text p text = need_of (m.is_wider (baseline_of h p.team) (document_of text)) (holds_listed (listed_of h) (document_of text))

@@ -3,7 +3,7 @@
 ghost use Rattle.std.specs.Prelude.{◌≡◌, true};
 ghost use Rattle.memory_store.specs.Shows.{Shows};
 ghost use Rattle.office_desk.specs.History.{History};
-ghost use Rattle.office_desk.specs.Verdict.{Meaning, verdict};
+ghost use Rattle.office_desk.specs.Verdict.{Measures, verdict};
 ghost use Rattle.office_desk.specs.Lawful.{IsLawful};
 ghost use Rattle.office_desk.specs.TablesOf.{tables_of};
 ghost use Rattle.office_desk.specs.Handled.{is_served, CarriesOut};
@@ -24,7 +24,7 @@ pub(crate) fn carry_out(
     request: &Request,
 ) -> Result<Answer, StoreFault>
     requires { is_served request.now.ask ≡ true }
-    ensures { (m : Meaning) (h : History) → IsLawful m h → Shows store.old (tables_of h) →
+    ensures { (m : Measures) (h : History) → IsLawful m h → Shows store.old (tables_of h) →
         CarriesOut h (verdict m h request.now) result store.new }
 {
     let token = digest(request.token.as_str().as_bytes());

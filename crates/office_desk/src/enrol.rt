@@ -5,7 +5,7 @@ ghost use Rattle.review_policy.specs.declared.ask.Ask.TheVariants as ask;
 ghost use Rattle.memory_store.specs.Shows.{Shows};
 ghost use Rattle.office_desk.specs.History.{History};
 ghost use Rattle.office_desk.specs.Facts.{enrol_facts_by};
-ghost use Rattle.office_desk.specs.Verdict.{Meaning, verdict_of};
+ghost use Rattle.office_desk.specs.Verdict.{Measures, verdict_of};
 ghost use Rattle.office_desk.specs.Lawful.{IsLawful};
 ghost use Rattle.office_desk.specs.TablesOf.{tables_of};
 ghost use Rattle.office_desk.specs.Handled.{CarriesOut};
@@ -45,7 +45,7 @@ pub(crate) fn enrol(
     roles: Roles,
     digest: &[u8; 32],
 ) -> Result<Answer, StoreFault>
-    ensures { (m : Meaning) (h : History) → IsLawful m h → Shows store.old (tables_of h) →
+    ensures { (m : Measures) (h : History) → IsLawful m h → Shows store.old (tables_of h) →
         CarriesOut h (verdict_of m h caller.now (ask.Enrol user.now team.now roles digest.now)) result store.new }
 {
     let known = store.user_by_name(alloc, user)?;

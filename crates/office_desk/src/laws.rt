@@ -1,15 +1,16 @@
 //! Laws of histories. Each is a function without a parameter whose contract is the law; it does nothing.
 
-ghost use Rattle.std.specs.Prelude.{◌≡◌, ◌∷◌};
+ghost use Rattle.std.specs.Prelude.{◌≡◌, ◌∷◌, List, ℕ};
 ghost use Rattle.review_policy.specs.declared.ask.ProfileName.{ProfileName};
+ghost use Rattle.review_policy.specs.declared.ask.Request.{Request};
 ghost use Rattle.office_tables.specs.Tables.{Tables};
 ghost use Rattle.memory_store.specs.declared.store.MemoryStore.{MemoryStore};
 ghost use Rattle.memory_store.specs.Shows.{Shows};
 ghost use Rattle.office_desk.specs.History.{Event, History};
-ghost use Rattle.office_desk.specs.Verdict.{Meaning};
+ghost use Rattle.office_desk.specs.Verdict.{Measures};
 ghost use Rattle.office_desk.specs.Lawful.{IsLawful};
 ghost use Rattle.office_desk.specs.TablesOf.{tables_of};
-ghost use Rattle.office_desk.specs.Laws.{AreAlike, AreApart, KeepsTeams, KeepsSubmissions, NumbersRun, OpenIsLast, OneIssued};
+ghost use Rattle.office_desk.specs.Laws.{AreAlike, AreApart, KeepsTeams, KeepsSubmissions, NumbersRun, OpenIsLast, OneIssued, IsJudged, ListsInOrder, ListsAll};
 
 /// A history determines the tables: what a store shows as its tables has the same at every key.
 pub fn tables_are_determined()
@@ -18,12 +19,12 @@ pub fn tables_are_determined()
 
 /// No two users show one digest.
 pub fn digests_are_apart()
-    ensures { (m : Meaning) (h : History) → IsLawful m h → AreApart h }
+    ensures { (m : Measures) (h : History) → IsLawful m h → AreApart h }
 {}
 
 /// A user's team never changes.
 pub fn teams_are_kept()
-    ensures { (m : Meaning) (h : History) (e : Event) → IsLawful m (e ∷ h) → KeepsTeams h e }
+    ensures { (m : Measures) (h : History) (e : Event) → IsLawful m (e ∷ h) → KeepsTeams h e }
 {}
 
 /// A revision's author and text never change.
@@ -44,4 +45,19 @@ pub fn one_revision_is_open()
 /// At most one revision of a profile is issued.
 pub fn one_revision_is_issued()
     ensures { (h : History) (p : ProfileName) → OneIssued h p }
+{}
+
+/// Each request is refused by a rule, or carried out: no verdict is the one that stands where its rules leave nothing to do.
+pub fn every_request_is_judged()
+    ensures { (m : Measures) (h : History) (request : Request) → IsJudged m h request }
+{}
+
+/// The profiles of a team are listed in byte order of their names, each once.
+pub fn profiles_are_listed_in_order()
+    ensures { (h : History) (team : List ℕ) → ListsInOrder h team }
+{}
+
+/// Just those profiles of a team are listed that have a revision.
+pub fn each_profile_is_listed()
+    ensures { (h : History) (team : List ℕ) → ListsAll h team }
 {}

@@ -17,9 +17,9 @@ pub struct Office {
 }
 
 impl Office {
-    ghost use Rattle.std.specs.Prelude.{◌≡◌, [], ◌∷◌, true, IfOk};
+    ghost use Rattle.std.specs.Prelude.{◌≡◌, [], ◌∷◌, true, IfOk, IfErr};
     ghost use Rattle.office_desk.specs.History.{History, founded};
-    ghost use Rattle.office_desk.specs.Verdict.{Meaning};
+    ghost use Rattle.office_desk.specs.Verdict.{Measures};
     ghost use Rattle.office_desk.specs.Handled.{is_served, IsOffice, IsAnswer, history_after};
 
     /// A new office, with its first user, who is a registrar and shows the token of this digest, and with the listed
@@ -33,7 +33,8 @@ impl Office {
         digest: [u8; 32],
         listed: Caps,
     ) -> Result<Office, StoreFault>
-        ensures { IfOk result (λ office. (m : Meaning) → IsOffice m (founded name team digest listed ∷ []) office) }
+        ensures founded { IfOk result (λ office. (m : Measures) → IsOffice m (founded name team digest listed ∷ []) office) }
+        ensures fault { IfErr result (λ fault. fault ≡ StoreFault.NoMemory) }
     {
         let store = MemoryStore::found(alloc, name, team, digest, listed)?;
         Ok(Office { store })
@@ -44,8 +45,8 @@ impl Office {
     /// A [`Fault`] says that memory was wanted, and that nothing changed.
     pub fn handle(&mut self, alloc: Global, request: &Request) -> Answer
         requires { is_served request.now.ask ≡ true }
-        ensures answer { (m : Meaning) (h : History) → IsOffice m h self.old → IsAnswer m h request.now result }
-        ensures office { (m : Meaning) (h : History) → IsOffice m h self.old → IsOffice m (history_after m h request.now result) self.new }
+        ensures answer { (m : Measures) (h : History) → IsOffice m h self.old → IsAnswer m h request.now result }
+        ensures office { (m : Measures) (h : History) → IsOffice m h self.old → IsOffice m (history_after m h request.now result) self.new }
     {
         match carry_out(&mut self.store, alloc, request) {
             Ok(answer) => answer,

@@ -6,7 +6,7 @@ ghost use Rattle.memory_store.specs.Shows.{Shows};
 ghost use Rattle.office_desk.specs.History.{History};
 ghost use Rattle.office_desk.specs.Users.{holds_role, is_of_team};
 ghost use Rattle.office_desk.specs.Facts.{read_facts, sees_every_team};
-ghost use Rattle.office_desk.specs.Verdict.{Meaning, verdict_of};
+ghost use Rattle.office_desk.specs.Verdict.{Measures, verdict_of};
 ghost use Rattle.office_desk.specs.TablesOf.{tables_of};
 ghost use Rattle.office_desk.specs.Handled.{CarriesOut};
 
@@ -50,7 +50,7 @@ pub(crate) fn show(
     name: &ProfileName,
     revision: u32,
 ) -> Result<Answer, StoreFault>
-    ensures { (m : Meaning) (h : History) → Shows store.now (tables_of h) →
+    ensures { (m : Measures) (h : History) → Shows store.now (tables_of h) →
         CarriesOut h (verdict_of m h caller.now (ask.Show name.now revision)) result store.now }
 {
     let found = store.revision(alloc, name, revision)?;

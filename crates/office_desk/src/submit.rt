@@ -7,7 +7,7 @@ ghost use Rattle.memory_store.specs.Shows.{Shows};
 ghost use Rattle.office_desk.specs.History.{History};
 ghost use Rattle.office_desk.specs.Facts.{canonical, is_text_of, submit_facts_by};
 ghost use Rattle.office_desk.specs.Revisions.{if_open, number_of};
-ghost use Rattle.office_desk.specs.Verdict.{Meaning, fault_told, verdict_of};
+ghost use Rattle.office_desk.specs.Verdict.{Measures, fault_told, verdict_of};
 ghost use Rattle.office_desk.specs.Lawful.{IsLawful};
 ghost use Rattle.office_desk.specs.TablesOf.{tables_of};
 ghost use Rattle.office_desk.specs.Handled.{CarriesOut};
@@ -115,7 +115,7 @@ pub(crate) fn submit(
     name: &ProfileName,
     document: &Vec<u8>,
 ) -> Result<Answer, StoreFault>
-    ensures { (m : Meaning) (h : History) → IsLawful m h → Shows store.old (tables_of h) →
+    ensures { (m : Measures) (h : History) → IsLawful m h → Shows store.old (tables_of h) →
         CarriesOut h (verdict_of m h caller.now (ask.Submit name.now document.now)) result store.new }
 {
     let reading = reading(alloc, document.as_slice())?;

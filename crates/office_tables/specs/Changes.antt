@@ -1,11 +1,11 @@
 -- What each write of a store leaves of the tables.
-use Rattle.std.specs.Prelude.{ℕ, List, Bool, true, false, ◌&&◌, ◌==◌, Option, Some, None, option_map, if◌then◌else◌, bytes_eq}
+use Rattle.std.specs.Prelude.{ℕ, List, true, false, ◌&&◌, ◌==◌, Some, None, option_map, if◌then◌else◌, bytes_eq}
 use Rattle.review_policy.specs.declared.ask.ProfileName.{ProfileName}
 use Rattle.review_policy.specs.declared.revision.State.{State}
 use Rattle.review_policy.specs.declared.revision.State.TheVariants.{Open, Closed, Issued, Replaced, Withdrawn}
 use Rattle.office_tables.specs.declared.row.UserRow.{UserRow}
 use Rattle.office_tables.specs.declared.row.RevisionRow.{RevisionRow}
-use Rattle.office_tables.specs.Tables.{Tables, Vote, Baseline, is_profile}
+use Rattle.office_tables.specs.Tables.{Tables, Vote, is_profile}
 
 -- the tables of a new office: its first user and the listed capabilities
 abbrev pub founded_tables : UserRow → ℕ → Tables

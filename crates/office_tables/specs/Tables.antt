@@ -1,5 +1,5 @@
 -- The six tables of an office, each as what it has at a key.
-use Rattle.std.specs.Prelude.{ℕ, List, Bool, ◌&&◌, ◌==◌, Option, bytes_eq}
+use Rattle.std.specs.Prelude.{ℕ, List, Bool, ◌&&◌, Option, bytes_eq}
 use Rattle.review_policy.specs.declared.ask.ProfileName.{ProfileName}
 use Rattle.office_tables.specs.declared.row.UserRow.{UserRow}
 use Rattle.office_tables.specs.declared.row.RevisionRow.{RevisionRow}

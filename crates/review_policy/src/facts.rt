@@ -65,7 +65,7 @@ pub struct IssueFacts {
     pub rejections: u64,
     /// How many standing votes count and approve.
     pub approvals: u64,
-    /// How many of the approvals have the role security.
+    /// How many of the approvals have security: the voter held that role at the vote and holds it now.
     pub secure: u64,
     /// How many approvals are needed.
     pub need: Need,

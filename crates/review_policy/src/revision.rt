@@ -15,7 +15,7 @@ pub enum State {
     Open,
     /// A later submission took its place before it was issued.
     Closed,
-    /// What hosts fetch.
+    /// What machines of its team fetch, unless its profile is held.
     Issued,
     /// It was issued, and a later revision was issued after it.
     Replaced,

@@ -17,7 +17,8 @@ pub enum Role {
     Author,
     /// Votes on revisions.
     Reviewer,
-    /// Gives the approvals that a wider profile needs, adopts baselines, holds and withdraws.
+    /// Adopts baselines, holds and releases profiles, withdraws revisions. A reviewer who is also this gives the approval
+    /// with security that a wider profile needs.
     Security,
     /// Issues approved revisions.
     Issuer,
