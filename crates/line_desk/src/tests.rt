@@ -20,10 +20,23 @@ const SUBMIT: &str =
 const SHOW: &str =
     "{\"ask\":\"show\",\"token\":\"hello\",\"team\":\"blue\",\"profile\":\"web\",\"revision\":1}\n";
 
+const SHOW_BY_ROOT: &str =
+    "{\"ask\":\"show\",\"token\":\"abc\",\"team\":\"blue\",\"profile\":\"web\",\"revision\":1}\n";
+
+const SHOW_BY_NOBODY: &str =
+    "{\"ask\":\"show\",\"token\":\"nobody\",\"team\":\"blue\",\"profile\":\"web\",\"revision\":1}\n";
+
 const DONE: &str = "{\"answer\":\"done\"}\n";
 
 const SUBMITTED: &str =
     "{\"answer\":\"done\",\"digest\":\"67d59648e3164479ed30407333c338a60764f60cd31c54ca1cd477602ac5e5d6\",\"revision\":1}\n";
+
+const SHOWN: &str =
+    "{\"answer\":\"done\",\"digest\":\"67d59648e3164479ed30407333c338a60764f60cd31c54ca1cd477602ac5e5d6\",\"document\":\"{\\\"capabilities\\\":{\\\"ambient\\\":[],\\\"bounding\\\":[],\\\"effective\\\":[],\\\"inheritable\\\":[],\\\"permitted\\\":[]}}\",\"state\":\"open\"}\n";
+
+const ROLE_MISSING: &str = "{\"answer\":\"denied\",\"rule\":2,\"word\":\"role-missing\"}\n";
+
+const NO_REVISION: &str = "{\"answer\":\"denied\",\"rule\":4,\"word\":\"no-revision\"}\n";
 
 const SAME_AS_OPEN: &str = "{\"answer\":\"denied\",\"rule\":5,\"word\":\"same-as-open\"}\n";
 
@@ -34,6 +47,13 @@ const TOO_LONG: &str = "{\"answer\":\"bad\",\"word\":\"too-long\"}\n";
 const NOT_JSON: &str = "{\"answer\":\"bad\",\"word\":\"not-json\"}\n";
 
 const NOT_A_REQUEST: &str = "{\"answer\":\"bad\",\"word\":\"not-a-request\"}\n";
+
+const MEMORY: &str = "{\"answer\":\"fault\",\"word\":\"memory\"}\n";
+
+// An author is enrolled, hands a profile in and sees it; two others don't see it.
+const FIRST_PATH: [&str; 5] = [ENROL_ANN, SUBMIT, SHOW, SHOW_BY_ROOT, SHOW_BY_NOBODY];
+
+const FIRST_ANSWERS: [&str; 5] = [DONE, SUBMITTED, SHOWN, ROLE_MISSING, CALLER_UNKNOWN];
 
 // An office in which root of the team office may enrol users, by the token abc.
 fn trial_office(alloc: Global) -> Result<Office, Fail> {
@@ -140,18 +160,8 @@ fn an_empty_input_has_an_empty_output(rt: HostRuntime) -> Result<(), Fail> {
 fn an_author_hands_a_profile_in_and_sees_it(rt: HostRuntime) -> Result<(), Fail> {
     let alloc = rt.alloc();
     let mut office = trial_office(alloc)?;
-    let by_root =
-        "{\"ask\":\"show\",\"token\":\"abc\",\"team\":\"blue\",\"profile\":\"web\",\"revision\":1}\n";
-    let by_nobody =
-        "{\"ask\":\"show\",\"token\":\"nobody\",\"team\":\"blue\",\"profile\":\"web\",\"revision\":1}\n";
-    let shown =
-        "{\"answer\":\"done\",\"digest\":\"67d59648e3164479ed30407333c338a60764f60cd31c54ca1cd477602ac5e5d6\",\"document\":\"{\\\"capabilities\\\":{\\\"ambient\\\":[],\\\"bounding\\\":[],\\\"effective\\\":[],\\\"inheritable\\\":[],\\\"permitted\\\":[]}}\",\"state\":\"open\"}\n";
-    let role_missing = "{\"answer\":\"denied\",\"rule\":2,\"word\":\"role-missing\"}\n";
-    let input = joined(alloc, &[ENROL_ANN, SUBMIT, SHOW, by_root, by_nobody])?;
-    let wanted = joined(
-        alloc,
-        &[DONE, SUBMITTED, shown, role_missing, CALLER_UNKNOWN],
-    )?;
+    let input = joined(alloc, &FIRST_PATH)?;
+    let wanted = joined(alloc, &FIRST_ANSWERS)?;
     let output = answers_to(alloc, &mut office, &input)?;
     assert_eq!(rt; output.as_slice(), wanted.as_slice());
     Ok(())
@@ -283,6 +293,74 @@ fn a_submission_whose_answer_is_cut_stands(rt: HostRuntime) -> Result<(), Fail> 
     );
     let output = answers_to(alloc, &mut office, SUBMIT.as_bytes())?;
     assert_eq!(rt; output.as_slice(), SAME_AS_OPEN.as_bytes());
+    Ok(())
+}
+
+// What is told of the first path where memory is refused once, while a line is read or handled.
+const ANSWERS_WITH_A_FAULT: [[&str; 5]; 5] = [
+    [
+        MEMORY,
+        CALLER_UNKNOWN,
+        CALLER_UNKNOWN,
+        ROLE_MISSING,
+        CALLER_UNKNOWN,
+    ],
+    [DONE, MEMORY, NO_REVISION, ROLE_MISSING, CALLER_UNKNOWN],
+    [DONE, SUBMITTED, MEMORY, ROLE_MISSING, CALLER_UNKNOWN],
+    [DONE, SUBMITTED, SHOWN, MEMORY, CALLER_UNKNOWN],
+    [DONE, SUBMITTED, SHOWN, ROLE_MISSING, MEMORY],
+];
+
+// Whether these texts were written, and nothing else.
+fn is_written(alloc: Global, written: &[u8], texts: &[&str]) -> Result<bool, Fail> {
+    Ok(joined(alloc, texts)?.as_slice() == written)
+}
+
+// Whether the desk ended well on the first path, with at most one line told as want of memory.
+fn is_answered(alloc: Global, written: &[u8]) -> Result<bool, Fail> {
+    for answers in &ANSWERS_WITH_A_FAULT {
+        if is_written(alloc, written, answers)? {
+            return Ok(true);
+        }
+    }
+    is_written(alloc, written, &FIRST_ANSWERS)
+}
+
+// With each allocation refused in turn, as by `rt try --test --fail-alloc 1..`: one line is told as want of memory, or
+// the desk stops with the lines before it told, and what was handled stands.
+#[test]
+fn want_of_memory_is_told_and_leaves_what_was_handled(rt: HostRuntime) -> Result<(), Fail> {
+    let alloc = rt.alloc();
+    let mut office = trial_office(alloc)?;
+    let input = joined(alloc, &FIRST_PATH)?;
+    let held = Vec::with_capacity(alloc, 1024)?;
+    let mut reader = Counted::new(input.as_slice());
+    let mut writer = Counted::new(Narrow { held, room: 1024 });
+    let ended = desk(&mut office, alloc, &mut reader, &mut writer);
+    let written = writer.into_inner().held;
+    let is_submitted = match ended {
+        Ok(()) => {
+            assert!(rt; is_answered(alloc, &written)?);
+            written.starts_with(&joined(alloc, &[DONE, SUBMITTED])?)
+        }
+        Err(DeskFault::NoMemory { line }) => {
+            let told = (line as usize).saturating_sub(1).min(5);
+            assert!(rt; is_written(alloc, &written, &FIRST_ANSWERS[..told])?);
+            line >= 2
+        }
+        Err(_) => return Err(Fail::from("another fault")),
+    };
+    let resubmitted = if is_submitted {
+        SAME_AS_OPEN
+    } else {
+        SUBMITTED
+    };
+    let wanted = joined(
+        alloc,
+        &[DONE, resubmitted, SHOWN, ROLE_MISSING, CALLER_UNKNOWN],
+    )?;
+    let output = answers_to(alloc, &mut office, &input)?;
+    assert_eq!(rt; output.as_slice(), wanted.as_slice());
     Ok(())
 }
 
