@@ -13,6 +13,8 @@ mod hash;
 pub mod law;
 mod profile;
 mod sets;
+#[cfg(test)]
+mod tests;
 
 pub use canonical::print;
 pub use document::read;
