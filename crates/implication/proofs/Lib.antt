@@ -1,0 +1,4 @@
+mod Masks
+mod Ranges
+mod Exact
+pub mod Implied

@@ -1,0 +1,2 @@
+pub mod Implication
+pub mod Sets

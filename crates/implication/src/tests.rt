@@ -1,0 +1,228 @@
+// Implications worked out by hand, and all implications between comparisons with the least and the greatest words.
+
+use crate::{entry_implies, implies};
+use seccomp_doc::{
+    ActionWord, ArgParts, Compare, EntryParts, Filter, FilterFault, FilterParts, Op,
+};
+use std::alloc::{AllocError, Global};
+use std::test::Fail;
+
+const MAX: u64 = 18446744073709551615;
+
+// The operators with one value.
+const SIMPLE: [Op; 6] = [
+    Op::NotEqual,
+    Op::LessThan,
+    Op::LessOrEqual,
+    Op::Equal,
+    Op::GreaterOrEqual,
+    Op::GreaterThan,
+];
+
+fn simple(op: Op, value: u64) -> Compare {
+    Compare {
+        index: 0,
+        op,
+        value,
+        value_two: 0,
+    }
+}
+
+fn masked(mask: u64, datum: u64) -> Compare {
+    Compare {
+        index: 0,
+        op: Op::MaskedEqual,
+        value: mask,
+        value_two: datum,
+    }
+}
+
+#[test]
+fn ranges_imply_what_holds_them(rt: HostRuntime) {
+    let rows = [
+        (
+            simple(Op::GreaterThan, 5),
+            simple(Op::GreaterOrEqual, 7),
+            false,
+        ),
+        (
+            simple(Op::GreaterThan, 6),
+            simple(Op::GreaterOrEqual, 7),
+            true,
+        ),
+        (simple(Op::Equal, 8), simple(Op::LessOrEqual, 8), true),
+        (
+            simple(Op::LessOrEqual, 9),
+            simple(Op::LessOrEqual, 8),
+            false,
+        ),
+        (simple(Op::LessOrEqual, 8), simple(Op::Equal, 8), false),
+        (simple(Op::LessOrEqual, 4), simple(Op::NotEqual, 5), true),
+        (simple(Op::LessOrEqual, 5), simple(Op::NotEqual, 5), false),
+        (simple(Op::NotEqual, 0), simple(Op::GreaterOrEqual, 1), true),
+        (
+            simple(Op::NotEqual, 1),
+            simple(Op::GreaterOrEqual, 1),
+            false,
+        ),
+        (simple(Op::NotEqual, MAX), simple(Op::LessThan, MAX), true),
+    ];
+    for (c, d, wanted) in rows {
+        assert_eq!(rt; implies(c, d), wanted, "{c:?} {d:?}");
+    }
+}
+
+#[test]
+fn what_admits_nothing_implies_all_and_is_implied_by_nothing_else(rt: HostRuntime) {
+    let none = [simple(Op::LessThan, 0), simple(Op::GreaterThan, MAX)];
+    let some = [simple(Op::Equal, 3), simple(Op::NotEqual, 3), masked(0, 9)];
+    for empty in none {
+        for other in none {
+            assert!(rt; implies(empty, other), "{empty:?} {other:?}");
+        }
+        for other in some {
+            assert!(rt; implies(empty, other), "{empty:?} {other:?}");
+            assert!(rt; !implies(other, empty), "{other:?} {empty:?}");
+        }
+    }
+}
+
+#[test]
+fn masks_imply_and_are_implied(rt: HostRuntime) {
+    // All bits but the lowest three, and the flags of clone(2) that make a namespace.
+    let high = 18446744073709551608;
+    let namespaces = 2114060288;
+    let rows = [
+        (simple(Op::Equal, 12), masked(3, 0), true),
+        (masked(7, 5), masked(3, 1), true),
+        (masked(3, 1), masked(7, 5), false),
+        (simple(Op::NotEqual, 3), masked(0, 9), true),
+        (simple(Op::LessOrEqual, 7), masked(high, 0), true),
+        (simple(Op::LessOrEqual, 8), masked(high, 0), false),
+        (masked(high, 8), simple(Op::GreaterOrEqual, 8), true),
+        (masked(high, 8), simple(Op::LessOrEqual, 15), true),
+        (masked(high, 8), simple(Op::LessOrEqual, 14), false),
+        (simple(Op::Equal, 0), masked(namespaces, 0), true),
+        (masked(namespaces, 0), simple(Op::Equal, 0), false),
+        (masked(namespaces, 0), simple(Op::NotEqual, 131072), true),
+    ];
+    for (c, d, wanted) in rows {
+        assert_eq!(rt; implies(c, d), wanted, "{c:?} {d:?}");
+    }
+}
+
+#[test]
+fn the_indexes_of_comparisons_are_not_looked_at(rt: HostRuntime) {
+    let c = simple(Op::Equal, 8);
+    let d = Compare {
+        index: 5,
+        ..simple(Op::LessOrEqual, 8)
+    };
+    assert!(rt; implies(c, d));
+}
+
+// One of the eight least words, or of the eight greatest.
+fn outer_word(i: u64) -> u64 {
+    if i < 8 { i } else { i | !7 }
+}
+
+// All comparisons with these sixteen words.
+fn comparisons(alloc: Global) -> Result<Vec<Compare>, AllocError> {
+    let mut all = Vec::new(alloc);
+    for i in 0..16 {
+        for op in SIMPLE {
+            all.push(simple(op, outer_word(i)))?;
+        }
+        for j in 0..16 {
+            all.push(masked(outer_word(i), outer_word(j)))?;
+        }
+    }
+    Ok(all)
+}
+
+// Whether each word that `c` admits is admitted by `d`, both being of the sixteen words. They admit any other word
+// where they admit the one from 8 to 15 that has its three lowest bits.
+fn implies_by_words(c: Compare, d: Compare) -> bool {
+    (0..16).all(|i| !c.admits(outer_word(i)) || d.admits(outer_word(i)))
+        && (8..16).all(|word| !c.admits(word) || d.admits(word))
+}
+
+#[test]
+fn comparisons_with_outer_words_imply_as_the_words_tell(rt: HostRuntime) -> Result<(), Fail> {
+    let all = comparisons(rt.alloc())?;
+    assert_eq!(rt; all.len(), 352);
+    for c in &all {
+        for d in &all {
+            assert_eq!(rt; implies(*c, *d), implies_by_words(*c, *d), "{c:?} {d:?}");
+        }
+    }
+    Ok(())
+}
+
+fn arg(index: u64, op: Op, value: u64) -> ArgParts {
+    ArgParts {
+        index,
+        op,
+        value,
+        value_two: 0,
+    }
+}
+
+fn entry(alloc: Global, args: &[ArgParts]) -> Result<EntryParts, AllocError> {
+    let mut names = Vec::new(alloc);
+    names.push(String::from_str(alloc, "fcntl")?)?;
+    Ok(EntryParts {
+        names,
+        word: ActionWord::Allow,
+        errno: None,
+        args: Vec::from_slice(alloc, args)?,
+    })
+}
+
+fn entries(alloc: Global, e: &[ArgParts], f: &[ArgParts]) -> Result<Vec<EntryParts>, AllocError> {
+    let mut entries = Vec::new(alloc);
+    entries.push(entry(alloc, e)?)?;
+    entries.push(entry(alloc, f)?)?;
+    Ok(entries)
+}
+
+// A filter of two entries with these comparisons.
+fn two_entries(alloc: Global, e: &[ArgParts], f: &[ArgParts]) -> Result<Filter, FilterFault> {
+    let entries = entries(alloc, e, f)?;
+    Filter::new(
+        alloc,
+        FilterParts {
+            default: ActionWord::Errno,
+            default_errno: None,
+            architectures: Vec::new(alloc),
+            flags: Vec::new(alloc),
+            entries,
+        },
+    )
+}
+
+#[test]
+fn entries_imply_by_pairs_of_comparisons(rt: HostRuntime) -> Result<(), Fail> {
+    let alloc = rt.alloc();
+    let command = arg(1, Op::Equal, 8);
+    let commands = arg(1, Op::LessOrEqual, 8);
+    let other = arg(0, Op::NotEqual, 2);
+    let nothing = arg(2, Op::LessThan, 0);
+    let rows: [(&[ArgParts], &[ArgParts], bool); 8] = [
+        (&[command], &[commands], true),
+        (&[commands], &[command], false),
+        (&[other, command], &[commands], true),
+        (&[command], &[other, commands], false),
+        (&[command, other], &[other, commands], true),
+        (&[arg(0, Op::Equal, 8)], &[command], false),
+        (&[nothing], &[command], false),
+        (&[], &[], true),
+    ];
+    for (e, f, wanted) in rows {
+        let filter = two_entries(alloc, e, f)?;
+        let entries = filter.entries();
+        assert_eq!(rt; entries.len(), 2);
+        assert_eq!(rt; entry_implies(&entries[0], &entries[1]), wanted);
+    }
+    Ok(())
+}
