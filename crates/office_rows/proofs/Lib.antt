@@ -1,0 +1,11 @@
+pub mod Plain
+pub mod Permuted
+pub mod Rowids
+pub mod Errors
+pub mod Reading
+pub mod Writing
+pub mod Failing
+pub mod Transactions
+pub mod Stored
+pub mod Finding
+pub mod Steps

@@ -1,0 +1,6 @@
+pub mod Schema
+pub mod Entries
+pub mod Shown
+pub mod Reads
+pub mod Steps
+pub mod Adopted
