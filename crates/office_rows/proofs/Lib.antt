@@ -9,3 +9,6 @@ pub mod Transactions
 pub mod Stored
 pub mod Finding
 pub mod Steps
+pub mod Ordered
+pub mod Distinct
+pub mod Asked

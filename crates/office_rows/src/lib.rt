@@ -4,8 +4,10 @@
 
 pub mod fault;
 pub mod query;
+pub mod rows;
 pub mod transaction;
 
 pub use fault::fault_of;
 pub use query::first_row;
+pub use rows::all_rows;
 pub use transaction::{Statement, run_all};
