@@ -10,3 +10,5 @@ pub mod RevisionWrites
 pub mod OtherWrites
 pub mod RevisionReads
 pub mod OtherReads
+pub mod ListReads
+pub mod AuthorReads

@@ -47,7 +47,7 @@ issued_means = record { is = refl; plain = (refl, refl); unlisted = refl }
 abbrev shown : Revision → Row
 shown e = revision_columns e.1
 
-abbrev is_at : ProfileName × ℕ → Revision → Bool
+abbrev pub is_at : ProfileName × ℕ → Revision → Bool
 is_at k e = same_revision k (revision_key e)
 
 abbrev row_of_entry : Revision → RevisionRow
@@ -55,19 +55,19 @@ row_of_entry e = e.1
 
 module _ (old new : State) (t : Tables) (shows : Shows old t) where
   -- a revision of the tables stands in an entry of its own key
-  record StandsFor (p : ProfileName) (n : ℕ) (r : RevisionRow) : Type 0 where
-    entry : Revision
-    has : Has shows.office.revisions.entries entry
-    key : (p, n) ≡ revision_key entry
-    is : r ≡ entry.1
+  pub record StandsFor (p : ProfileName) (n : ℕ) (r : RevisionRow) : Type 0 where
+    pub entry : Revision
+    pub has : Has shows.office.revisions.entries entry
+    pub key : (p, n) ≡ revision_key entry
+    pub is : r ≡ entry.1
 
-  stands : (p : ProfileName) (n : ℕ) (r : RevisionRow) → t.revisions p n ≡ Some r → StandsFor p n r
+  pub stands : (p : ProfileName) (n : ℕ) (r : RevisionRow) → t.revisions p n ≡ Some r → StandsFor p n r
   stands p n r at =
       let it = some_shown row_of_entry (find (is_at (p, n)) shows.office.revisions.entries) r (sym at ∙ shows.office.revisions_are p n) in
       let has = has_found (is_at (p, n)) shows.office.revisions.entries it.0 it.1 in
       record { entry = it.0; has = has.0; key = (revisions_decide (p, n) (revision_key it.0)).0 has.1; is = it.2 }
 
-  found_at : (e : Revision) → Has shows.office.revisions.entries e → t.revisions e.0 e.1.number ≡ Some e.1
+  pub found_at : (e : Revision) → Has shows.office.revisions.entries e → t.revisions e.0 e.1.number ≡ Some e.1
   found_at e has =
       shows.office.revisions_are e.0 e.1.number
       ∙ ap (option_map row_of_entry) (find_own is_at shows.office.revisions.entries shows.office.revisions.own_keys (revision_key e) e has ((revisions_decide (revision_key e) (revision_key e)).1 refl))

@@ -4,3 +4,4 @@ pub mod Shown
 pub mod Reads
 pub mod Steps
 pub mod Adopted
+pub mod Lists

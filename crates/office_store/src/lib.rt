@@ -2,6 +2,7 @@
 //! in one transaction. The connection of a call has no transaction open and no limit on steps.
 #![tactic(auto)]
 
+pub mod author;
 pub mod baselines;
 mod column;
 pub mod holds;
@@ -12,6 +13,7 @@ pub mod users;
 pub mod votes;
 mod write;
 
+pub use author::{authors, is_author};
 pub use baselines::{Adopted, baseline, put_baseline};
 pub use holds::{delete_hold, held, put_hold};
 pub use office::listed;
