@@ -12,3 +12,4 @@ pub mod RevisionReads
 pub mod OtherReads
 pub mod ListReads
 pub mod AuthorReads
+pub mod ListingReads
