@@ -13,3 +13,4 @@ pub mod OtherReads
 pub mod ListReads
 pub mod AuthorReads
 pub mod ListingReads
+pub mod VoteReads
