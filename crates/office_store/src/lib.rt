@@ -24,3 +24,6 @@ pub use revisions::{add_revision, issued, revision, set_issued, set_withdrawn};
 pub use standing_votes::{standing, tally};
 pub use users::{put_user, user_by_name, user_by_token};
 pub use votes::{Ballot, put_vote};
+
+#[cfg(test)]
+mod list_tests;
