@@ -1,7 +1,7 @@
 -- A query of all its rows: its answer, what it leaves of the connection, and why it has no answer.
 use Rattle.std.proofs.Common.{◌≡◌, ◌≢◌, ℕ, ℤ, List, [], ◌∷◌, ◌++◌, map, flat_map, Bool, true, false, cond, Option, None, Some, Ok, Equal, inl, inr, refl, sym, ap, subst, ◌∙◌}
 use Rattle.std.specs.Prelude.{filter}
-use Rattle.std.specs.List.{list_all, AllByRecursion}
+use Rattle.std.specs.List.{list_all}
 use Rattle.std.specs.List.Sorted.{IsPermutation}
 use Rattle.std.specs.Ordering.{is_lt}
 use Rattle.std.proofs.lemmas.List.Sorted.{IsPermutation-trans, IsPermutation-sym, IsPermutation-map}
@@ -30,7 +30,7 @@ use Rattle.office_rows.specs.Entries.{Keeps, row_of}
 use Rattle.office_rows.proofs.Errors.{IsKept, query_failed}
 use Rattle.office_rows.proofs.Plain.{Means}
 use Rattle.office_rows.proofs.Rowids.{has_mapped, mapped_has, has_permuted}
-use Rattle.office_rows.proofs.Ordered.{ordered_query, order_cmp, order_cmp_total, ShowsInOrder, answered_in_order}
+use Rattle.office_rows.proofs.Ordered.{ordered_query, order_cmp, ShowsInOrder, answered_in_order}
 use Rattle.office_rows.proofs.Distinct.{distinct_query, ShowsEachOnce, answered_each_once}
 
 module _ (q : Query) (schema : Schema) (sql : List ℕ) (params : Row) (names : List (List ℕ)) (means : Means schema sql (Select (record { lets = []; body = q }) names))

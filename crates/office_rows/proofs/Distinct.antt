@@ -1,5 +1,5 @@
 -- What a query answers that shows each row once, in an order.
-use Rattle.std.proofs.Common.{◌⊎◌, inl, inr, ◌≡◌, ◌≢◌, List, [], ◌∷◌, ◌++◌, map, flat_map, true, false, Equal, refl, sym, ap, subst, ◌∙◌}
+use Rattle.std.proofs.Common.{◌⊎◌, inl, inr, ◌≡◌, ◌≢◌, List, [], ◌∷◌, map, flat_map, true, false, Equal, refl, sym, ap, subst, ◌∙◌}
 use Rattle.std.specs.List.{AllByRecursion}
 use Rattle.std.specs.List.Sorted.{IsPermutation}
 use Rattle.std.specs.Ordering.{on, is_lt}

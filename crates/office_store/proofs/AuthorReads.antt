@@ -1,7 +1,7 @@
 -- What the reads of authors find.
-use Rattle.std.proofs.Common.{inl, inr, ◌≡◌, ◌≢◌, ℕ, ℤ, pos, List, [], ◌∷◌, codes, map, None, Some, Ok, Err, Result, Option, IfOk, IfErr, Bool, true, false, Less, Equal, refl, sym, ap, subst, ◌∙◌}
+use Rattle.std.proofs.Common.{◌≡◌, ◌≢◌, ℕ, ℤ, pos, List, [], ◌∷◌, codes, map, None, Some, Ok, Err, Result, Option, IfOk, IfErr, Bool, true, false, Less, Equal, refl, sym, ap, subst, ◌∙◌}
 use Rattle.std.specs.Prelude.{◌&&◌, ◌↔◌, bytes_eq, is_some, filter}
-use Rattle.std.specs.List.{list_all, AllByRecursion, Contains}
+use Rattle.std.specs.List.{list_all}
 use Rattle.std.proofs.lemmas.Slice.Eq.{bytes_eq-Decides}
 use Rattle.sqlite.specs.declared.types.Value.TheVariants.{Text, Int}
 use Rattle.sqlite.specs.Order.{Row}
@@ -15,7 +15,6 @@ use Rattle.sqlite.specs.Listing.{understood}
 use Rattle.sqlite_tied.specs.Compute.{everything}
 use Rattle.sqlite_value.specs.declared.keys.Key.{Key}
 use Rattle.sqlite_value.specs.Keys.{ascending, collated_cmp}
-use Rattle.sqlite_trees.specs.Tree.{IsAscending}
 use Rattle.sqlite_trees.proofs.ListLemmas.{map-map, ascending_weaker, ascending-map, all-map, all_weaker}
 use Rattle.sqlite_rules.specs.Lists.{Has}
 use Rattle.sqlite_rules.proofs.ListLemmas.{all_has, has_filtered, has_kept, has_contained, contains_had}
@@ -23,9 +22,8 @@ use Rattle.review_policy.specs.Words.{is_word}
 use Rattle.review_policy.specs.declared.ask.ProfileName.{ProfileName}
 use Rattle.office_tables.specs.declared.row.RevisionRow.{RevisionRow}
 use Rattle.office_tables.specs.declared.fault.StoreFault.{StoreFault}
-use Rattle.office_tables.specs.declared.fault.StoreFault.TheVariants.{NotAnOffice}
 use Rattle.office_tables.specs.Tables.{Tables, is_profile}
-use Rattle.office_tables.specs.Lists.{name_cmp, IsAuthor, AreAuthors}
+use Rattle.office_tables.specs.Lists.{name_cmp, IsAuthor}
 use Rattle.office_rows.specs.Entries.{row_of}
 use Rattle.office_rows.specs.Faults.{FindsRow}
 use Rattle.office_rows.specs.Rows.{IsFaultOf}
@@ -37,7 +35,7 @@ use Rattle.office_rows.proofs.Distinct.{distinct_query, ShowsEachOnce}
 use Rattle.office_rows.proofs.Asked.{table_each_once}
 use Rattle.office_store.specs.declared.author.TheConstants.{REVISION_BY, AUTHORS_OF}
 use Rattle.office_store.specs.Schema.{office_schema}
-use Rattle.office_store.specs.Entries.{Revision, revision_row, revision_key, IsRevision}
+use Rattle.office_store.specs.Entries.{Revision, revision_row, IsRevision}
 use Rattle.office_store.specs.Lists.{name_row, AreAuthorRows}
 use Rattle.office_store.specs.Shown.{Shows}
 use Rattle.office_store.proofs.Columns.{column_is, text_is, two_are, three_are}

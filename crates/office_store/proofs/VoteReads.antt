@@ -1,19 +1,17 @@
 -- What the read of the votes on a revision finds: each vote with the row of its voter.
-use Rattle.std.proofs.Common.{inl, inr, ◌≡◌, ◌≢◌, ◌<◌, ◌^◌, ℕ, ℤ, pos, List, [], ◌∷◌, codes, map, flat_map, None, Some, Ok, Err, Result, Option, IfOk, IfErr, Bool, true, false, cond, Ordering, Less, Equal, Greater, refl, sym, ap, subst, ◌∙◌, arith, true≢false}
+use Rattle.std.proofs.Common.{◌≡◌, ◌≢◌, ◌<◌, ℕ, ℤ, pos, List, [], ◌∷◌, codes, map, flat_map, None, Some, Result, Option, IfOk, IfErr, Bool, true, false, cond, Ordering, Less, Equal, refl, sym, ap, subst, ◌∙◌, arith, true≢false}
 use Rattle.std.specs.Prelude.{◌&&◌, ◌==◌, bytes_eq, filter, find, option_map}
 use Rattle.std.specs.List.{list_all, AllByRecursion}
 use Rattle.std.specs.List.Sorted.{IsPermutation}
-use Rattle.std.proofs.lemmas.Bool.Decides.{nat_tests}
 use Rattle.std.proofs.lemmas.Slice.Eq.{bytes_eq-Decides}
 use Rattle.std.proofs.lemmas.List.Sorted.{IsPermutation-sym}
-use Rattle.sqlite.specs.declared.types.Value.TheVariants.{Null, Text, Int}
+use Rattle.sqlite.specs.declared.types.Value.TheVariants.{Text, Int}
 use Rattle.sqlite.specs.Order.{Row}
 use Rattle.sqlite.specs.Ops.{binary}
-use Rattle.sqlite.specs.Term.{Term, Env, lit, col, op1, op2, case, eval, eval_all, holds}
-use Rattle.sqlite.specs.Query.{Join, inner, left, end, IsAnswer, matches}
+use Rattle.sqlite.specs.Term.{Term, Env, lit, col, op2, eval, eval_all, holds}
+use Rattle.sqlite.specs.Query.{Join, inner, left, end, matches}
 use Rattle.sqlite.specs.Command.TheVariants.{Select}
 use Rattle.sqlite.specs.Collation.TheVariants.{Binary}
-use Rattle.sqlite.specs.Program.{overlay}
 use Rattle.sqlite.specs.State.{State, Survives, CommitsShowing, Shown}
 use Rattle.sqlite.specs.Listing.{understood}
 use Rattle.sqlite_tied.specs.Compute.{everything}
@@ -22,18 +20,17 @@ use Rattle.sqlite_sql.specs.declared.ops.CompareOp.TheVariants.{Eq}
 use Rattle.sqlite_sql.proofs.GroupLemmas.{or_none, row_or_empty, left_last}
 use Rattle.sqlite_value.specs.declared.keys.Key.{Key}
 use Rattle.sqlite_value.specs.Keys.{ascending}
-use Rattle.sqlite_trees.specs.Tree.{Trees, IsAscending}
+use Rattle.sqlite_trees.specs.Tree.{Trees}
 use Rattle.sqlite_trees.proofs.ListLemmas.{map-map, flat_map-map, flat_map_same_on, ascending_weaker, ascending-map, ascending_from_map, all-map}
 use Rattle.sqlite_rules.specs.Lists.{Has}
 use Rattle.sqlite_rules.proofs.ListLemmas.{all_has, all_from, has_filtered, has_kept, has_found, has_contained, contains_had}
-use Rattle.review_policy.specs.Words.{is_word}
 use Rattle.review_policy.specs.declared.ask.ProfileName.{ProfileName}
 use Rattle.review_policy.specs.declared.revision.VoteRow.{VoteRow}
 use Rattle.office_tables.specs.declared.row.UserRow.{UserRow}
 use Rattle.office_tables.specs.declared.fault.StoreFault.{StoreFault}
-use Rattle.office_tables.specs.Tables.{Tables, Vote, is_profile}
+use Rattle.office_tables.specs.Tables.{Tables, is_profile}
 use Rattle.office_tables.specs.Lists.{name_cmp, standing_vote, IsStanding, AreStanding}
-use Rattle.office_rows.specs.Entries.{Keeps, HaveOwnKeys, row_of}
+use Rattle.office_rows.specs.Entries.{HaveOwnKeys, row_of}
 use Rattle.office_rows.specs.Rows.{IsFaultOf}
 use Rattle.office_rows.proofs.Rowids.{has_mapped, mapped_has, has_permuted}
 use Rattle.office_rows.proofs.Plain.{Means}
@@ -45,9 +42,9 @@ use Rattle.office_store.specs.Schema.{office_schema}
 use Rattle.office_store.specs.Entries.{is_named, user_row, IsUser, VoteKey, VoteEntry, same_vote, vote_row, IsVote, bit}
 use Rattle.office_store.specs.Lists.{Cast, roles_of, cast_row, standing_of, IsCastForm, AreVoteRows}
 use Rattle.office_store.specs.Shown.{Shows}
-use Rattle.office_store.proofs.Columns.{column_is, text_is, number_is, one_is, three_are}
+use Rattle.office_store.proofs.Columns.{text_is, number_is, one_is, three_are}
 use Rattle.office_store.proofs.Kept.{some_shown}
-use Rattle.office_store.proofs.Profiles.{revision_params, at_revision, both_true, same_profile, profiles_decide, votes_decide}
+use Rattle.office_store.proofs.Profiles.{revision_params, at_revision, both_true}
 use Rattle.office_store.proofs.UserReads.{found_formed}
 use Rattle.office_store.proofs.ListReads.{IsReadOf, list_read, list_crash, text_order, same_name, all_pairs, ascending_where}
 
