@@ -2,7 +2,9 @@
 #![tactic(auto)]
 
 pub mod fault;
+pub mod listed;
 pub mod row;
 
 pub use fault::StoreFault;
+pub use listed::{ListedRevision, Tally};
 pub use row::{RevisionRow, UserRow};

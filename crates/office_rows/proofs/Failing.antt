@@ -1,0 +1,191 @@
+-- Why a DELETE, an INSERT or an UPDATE of a known meaning fails: never for the form of the tables.
+use Rattle.std.proofs.Common.{◌⊎◌, inl, inr, ◌≡◌, ◌≢◌, ℕ, ℤ, List, [], Bool, true, false, Option, None, Some, Ok, Err, Result, refl, sym, ap, subst, ◌∙◌}
+use Rattle.std.specs.Prelude.{MatchBool, option_map, slice_get, length}
+use Rattle.std.specs.List.{fold}
+use Rattle.sqlite.specs.Clock.{timed}
+use Rattle.sqlite.specs.Edit.{edit_of}
+use Rattle.sqlite_rules.specs.Edit.{taken_by}
+use Rattle.sqlite_rules.specs.Calls.{ids_of}
+use Rattle.sqlite.specs.Rowids.TheVariants.{Given}
+use Rattle.sqlite_schema.specs.Rules.{Refers}
+use Rattle.sqlite_resolve.specs.declared.compiled.Compiled.{Compiled}
+use Rattle.sqlite.specs.Order.{Row}
+use Rattle.sqlite.specs.declared.error.Error.{Error}
+use Rattle.sqlite.specs.declared.error.Error.TheVariants as error
+use Rattle.sqlite.specs.Effect.{Database, RefusesQuery, RefusesSource, edit_error}
+use Rattle.sqlite.specs.Command.{Command}
+use Rattle.sqlite.specs.Command.TheVariants.{Insert, Update, Delete}
+use Rattle.sqlite.specs.Source.{Source}
+use Rattle.sqlite.specs.Source.TheVariants as source
+use Rattle.sqlite_schema.specs.declared.program.Program.{Program}
+use Rattle.sqlite_schema.specs.declared.schema.Keys.{Keys}
+use Rattle.sqlite_schema.specs.declared.schema.Among.{Among}
+use Rattle.sqlite_schema.specs.declared.command.Returning.{Returning}
+use Rattle.sqlite.specs.Schema.{Schema}
+use Rattle.sqlite.specs.Table.{Table}
+use Rattle.sqlite.specs.Tree.{Trees}
+use Rattle.sqlite.specs.Edit.{Edit}
+use Rattle.sqlite_rules.specs.declared.error.Refusal.{Refusal}
+use Rattle.sqlite_rules.specs.declared.error.Refusal.TheVariants.{Violates, Mismatch, NoRowid, BadReference, TooDeep}
+use Rattle.sqlite.specs.declared.run.Mode.{Mode}
+use Rattle.sqlite.specs.Rows.{Part, Gives, Refuses, Then, Queried, Sourced, Edited, Task, Written, Counter, CounterIn, Counts, CountsIn, Deletes, Inserts, Updates, sequence, counter_in, counting, rowids_for, count_of, higher, last_id, stamped}
+use Rattle.sqlite.specs.Does.{Tested, Does, AtPlace, Concludes, OnRows, Tally}
+use Rattle.sqlite.specs.Listing.{understood}
+use Rattle.sqlite.specs.State.{State, IsNotRun, IsMisplaced, RunsAlone, RunsCommand, ExecutesIn, ExecutesInside, shows_rows, mode_of, text_of, Fails, IsUnchanged}
+use Rattle.sqlite.proofs.Callers.{IsPlain, command_of}
+use Rattle.office_rows.proofs.Plain.{Means}
+use Rattle.office_rows.specs.Faults.{IsOfMachine}
+use Rattle.office_rows.proofs.Errors.{of_store, no_statement, refused_query}
+
+abbrev AreOfMachine : {A : Type 0} → Part A → Type 0
+AreOfMachine P = (e : Error) → P (Err (Some e)) → IsOfMachine e
+
+then_of_machine : {A B : Type 0} (First : Part A) (Next : A → Part B) → AreOfMachine First → ((a : A) → AreOfMachine (Next a)) → AreOfMachine (Then First Next)
+then_of_machine First Next first next e (inl stopped) = first e (subst (λ s. First (Err s)) (let k : stopped.0 ≡ Some e = cc in k) stopped.1)
+then_of_machine First Next first next e (inr went) = next went.0 e went.2
+
+gives_of_machine : {A : Type 0} (a : A) → AreOfMachine (Gives a)
+gives_of_machine a e h = absurd cc
+
+refuses_of_machine : {A : Type 0} (why : Error) → IsOfMachine why → AreOfMachine {A = A} (Refuses why)
+refuses_of_machine why other e h = let k : e ≡ why = cc in rw k other
+
+queried_of_machine : (limit : Option ℕ) (db : Database) (q : Program) (params : Row) → AreOfMachine (Queried limit db q params)
+queried_of_machine limit db q params e h = refused_query limit db q params e h
+
+sourced_of_machine : (limit : Option ℕ) (db : Database) (params : Row) (from : Source) → AreOfMachine (Sourced limit db params from)
+sourced_of_machine limit db params (source.Values terms width) e (inl h) = rw h.0 (λ h. cc, λ h. cc)
+sourced_of_machine limit db params (source.Values terms width) e (inr h) = rw h.0 (λ h. cc, λ h. cc)
+sourced_of_machine limit db params (source.Query q) e h = refused_query limit db q params e h
+
+edit_of_machine : (why : Refusal) → IsOfMachine (edit_error why)
+edit_of_machine (Violates rule) = (λ h. cc, λ h. cc)
+edit_of_machine Mismatch = (λ h. cc, λ h. cc)
+edit_of_machine NoRowid = (λ h. cc, λ h. cc)
+edit_of_machine BadReference = (λ h. cc, λ h. cc)
+edit_of_machine TooDeep = (λ h. cc, λ h. cc)
+
+edited_of_machine : (schema : Schema) (keys : Keys) (db : Trees) (edit : Edit) → AreOfMachine (Edited schema keys db edit)
+edited_of_machine schema keys db edit e (None, h, is) = absurd cc
+edited_of_machine schema keys db edit e (Some why, h, is) = let k : e ≡ edit_error why = cc in rw k (edit_of_machine why)
+
+tested_of_machine : (mode : Mode) (Holds : Among → Type 0) → AreOfMachine (Tested mode Holds)
+tested_of_machine mode Holds e h = let k : e ≡ error.SqliteFailure (Rattle.sqlite.specs.declared.error.ErrorCode.TheVariants.ConstraintViolation Rattle.sqlite_schema.specs.declared.schema.Constraint.TheVariants.ForeignKey) = (let z = h.1 in cc) in rw k (λ h. cc, λ h. cc)
+
+misuse : IsOfMachine error.InvalidQuery
+misuse = (λ h. cc, λ h. cc)
+
+counter_by : (task : Task) (db : Trees) (e : Error) (b : Bool) (o : Option Table) → MatchBool b (CounterIn task db o (Err (Some e))) (Gives {A = Option Row} None (Err (Some e))) → IsOfMachine e
+counter_by task db e true None h = refuses_of_machine {A = Option Row} _ misuse e h
+counter_by task db e true (Some t) h = gives_of_machine (counter_in db task.table t) e h
+counter_by task db e false o h = gives_of_machine {A = Option Row} None e h
+
+counts_by : (task : Task) (db : Trees) (counter : Option Row) (top : ℤ) (e : Error) (b : Bool) (o : Option Table) → MatchBool b (CountsIn task db counter top o (Err (Some e))) (Gives {A = Trees} db (Err (Some e))) → IsOfMachine e
+counts_by task db counter top e true None h = refuses_of_machine {A = Trees} _ misuse e h
+counts_by task db counter top e true (Some t) h = edited_of_machine task.schema task.keys db (counting db task.table t top counter) e h
+counts_by task db counter top e false o h = gives_of_machine {A = Trees} db e h
+
+deletes_of_machine : (task : Task) (q : Program) (db : Trees) → AreOfMachine (Deletes task q db)
+deletes_of_machine task q db =
+    then_of_machine (Queried task.limit (record { schema = task.schema; trees = db }) q task.params)
+    (λ rows. Then (Edited task.schema task.keys db (edit_of db task.table (ids_of rows) Given 0 [])) (λ next. Gives (record { trees = next; rows = taken_by db (edit_of db task.table (ids_of rows) Given 0 []); last = None })))
+    (queried_of_machine task.limit (record { schema = task.schema; trees = db }) q task.params)
+    (λ rows. then_of_machine (Edited task.schema task.keys db (edit_of db task.table (ids_of rows) Given 0 []))
+    (λ next. Gives {A = Written} (record { trees = next; rows = taken_by db (edit_of db task.table (ids_of rows) Given 0 []); last = None }))
+    (edited_of_machine task.schema task.keys db (edit_of db task.table (ids_of rows) Given 0 [])) (λ next. gives_of_machine {A = Written} (record { trees = next; rows = taken_by db (edit_of db task.table (ids_of rows) Given 0 []); last = None })))
+
+updates_of_machine : (task : Task) (q : Program) (given : Row) (db : Trees) → AreOfMachine (Updates task q given db)
+updates_of_machine task q given db =
+    then_of_machine (Queried task.limit (record { schema = task.schema; trees = db }) q given)
+    (λ rows. Then (Edited task.schema task.keys db (edit_of db task.table (ids_of rows) Given 1 rows)) (λ next. Gives (record { trees = next; rows = (edit_of db task.table (ids_of rows) Given 1 rows).news; last = None })))
+    (queried_of_machine task.limit (record { schema = task.schema; trees = db }) q given)
+    (λ rows. then_of_machine (Edited task.schema task.keys db (edit_of db task.table (ids_of rows) Given 1 rows))
+    (λ next. Gives {A = Written} (record { trees = next; rows = (edit_of db task.table (ids_of rows) Given 1 rows).news; last = None }))
+    (edited_of_machine task.schema task.keys db (edit_of db task.table (ids_of rows) Given 1 rows)) (λ next. gives_of_machine {A = Written} (record { trees = next; rows = (edit_of db task.table (ids_of rows) Given 1 rows).news; last = None })))
+
+abbrev edit_in : Task → Trees → List Row → Option Row → Edit
+edit_in task db rows counter = edit_of db task.table [] (rowids_for task.table (count_of counter)) 0 rows
+
+abbrev Puts : Task → Trees → List Row → Option Row → Trees → Part Written
+Puts task db rows counter mid =
+    Then (Counts task mid counter (fold higher (count_of counter) (edit_in task db rows counter).news)) (λ next. Gives (record { trees = next; rows = (edit_in task db rows counter).news; last = last_id (edit_in task db rows counter).news }))
+
+inserts_of_machine : (task : Task) (from : Source) (db : Trees) → AreOfMachine (Inserts task from db)
+inserts_of_machine task from db =
+    then_of_machine (Sourced task.limit (record { schema = task.schema; trees = db }) (stamped task.table task.params) from)
+    (λ rows. Then (Counter task db) (λ counter. Then (Edited task.schema task.keys db (edit_in task db rows counter)) (Puts task db rows counter)))
+    (sourced_of_machine task.limit (record { schema = task.schema; trees = db }) (stamped task.table task.params) from)
+    (λ rows. then_of_machine (Counter task db) (λ counter. Then (Edited task.schema task.keys db (edit_in task db rows counter)) (Puts task db rows counter))
+    (λ e h. counter_by task db e _ _ h)
+    (λ counter. then_of_machine (Edited task.schema task.keys db (edit_in task db rows counter)) (Puts task db rows counter) (edited_of_machine task.schema task.keys db (edit_in task db rows counter))
+    (λ mid. then_of_machine (Counts task mid counter (fold higher (count_of counter) (edit_in task db rows counter).news)) (λ next. Gives {A = Written} (record { trees = next; rows = (edit_in task db rows counter).news; last = last_id (edit_in task db rows counter).news }))
+    (λ e h. counts_by task mid counter _ e _ _ h)
+    (λ next. gives_of_machine {A = Written} (record { trees = next; rows = (edit_in task db rows counter).news; last = last_id (edit_in task db rows counter).news })))))
+
+concludes_of_machine : (task : Task) (mode : Mode) (w : Written) → AreOfMachine (Concludes task mode None w)
+concludes_of_machine task mode w =
+    then_of_machine (Tested mode (λ among. Refers among task.schema w.trees)) (λ in_doubt. Then (Gives {A = List Row} []) (λ rows. Gives (concluded task w rows in_doubt)))
+    (tested_of_machine mode (λ among. Refers among task.schema w.trees))
+    (λ in_doubt. then_of_machine (Gives {A = List Row} []) (λ rows. Gives {A = Tally × Database} (concluded task w rows in_doubt)) (gives_of_machine []) (λ rows. gives_of_machine (concluded task w rows in_doubt)))
+  where
+    concluded : Task → Written → List Row → Bool → Tally × Database
+    concluded task w rows in_doubt = (record { rows = Some (length w.rows); last = w.last; shown = rows; in_doubt = in_doubt }, record { schema = task.schema; trees = w.trees })
+
+placed_of_machine : {X A : Type 0} (P : X → Part A) (o : Option X) → ((x : X) → AreOfMachine (P x)) → AreOfMachine (AtPlace P o)
+placed_of_machine P None each e h = refuses_of_machine _ misuse e h
+placed_of_machine P (Some x) each e h = each x e h
+
+abbrev task_of : Option ℕ → Mode → Row → Database → Table → Task
+task_of limit mode params db t = record { limit = limit; keys = mode.keys; schema = db.schema; table = t; params = params }
+
+pub does_delete : (limit : Option ℕ) (mode : Mode) (params : Row) (db : Database) (text : List ℕ) (at : ℕ) (q : Program) → AreOfMachine (Does limit mode params db text None (Delete at q))
+does_delete limit mode params db text at q =
+    placed_of_machine (λ t. OnRows (task_of limit mode params db t) mode None (Delete at q) db.trees) (slice_get db.schema.tables at)
+    (λ t. then_of_machine (Deletes (task_of limit mode params db t) q db.trees) (Concludes (task_of limit mode params db t) mode None) (deletes_of_machine (task_of limit mode params db t) q db.trees) (concludes_of_machine (task_of limit mode params db t) mode))
+
+pub does_update : (limit : Option ℕ) (mode : Mode) (params : Row) (db : Database) (text : List ℕ) (at : ℕ) (q : Program) → AreOfMachine (Does limit mode params db text None (Update at q))
+does_update limit mode params db text at q =
+    placed_of_machine (λ t. OnRows (task_of limit mode params db t) mode None (Update at q) db.trees) (slice_get db.schema.tables at)
+    (λ t. then_of_machine (Updates (task_of limit mode params db t) q params db.trees) (Concludes (task_of limit mode params db t) mode None) (updates_of_machine (task_of limit mode params db t) q params db.trees) (concludes_of_machine (task_of limit mode params db t) mode))
+
+pub does_insert : (limit : Option ℕ) (mode : Mode) (params : Row) (db : Database) (text : List ℕ) (at : ℕ) (from : Source) → AreOfMachine (Does limit mode params db text None (Insert at from))
+does_insert limit mode params db text at from =
+    placed_of_machine (λ t. OnRows (task_of limit mode params db t) mode None (Insert at from) db.trees) (slice_get db.schema.tables at)
+    (λ t. then_of_machine (Inserts (task_of limit mode params db t) from db.trees) (Concludes (task_of limit mode params db t) mode None) (inserts_of_machine (task_of limit mode params db t) from db.trees) (concludes_of_machine (task_of limit mode params db t) mode))
+
+misplaced_of_machine : (s : State) (command : Command) (e : Error) → IsMisplaced s command e → IsOfMachine e
+misplaced_of_machine s command e (inl h) = rw h.0 (λ h. cc, λ h. cc)
+misplaced_of_machine s command e (inr h) = rw h.0 (λ h. cc, λ h. cc)
+
+fails_of_machine : (old new : State) (big : Type 0) (e : Error) → Fails old new big e → IsOfMachine e
+fails_of_machine old new big e h = rw h.1 (of_store h.0)
+
+module _ (sql : List ℕ) (params : Row) (command : Command) (sure : (limit : Option ℕ) (mode : Mode) (params : Row) (db : Database) (text : List ℕ) → AreOfMachine (Does limit mode params db text None command)) where
+  command_of_machine : (old new : State) (c : Compiled) (params : Row) (e : Error) → c.returning ≡ None → c.command ≡ command → RunsCommand old new sql c params (Err e) → IsOfMachine e
+  command_of_machine old new c params e none is (inl (inl h, same)) = misplaced_of_machine old _ e h
+  command_of_machine old new c params e none is (inl (inr h, same)) = sure old.step_limit (mode_of old) params old.now (text_of sql c) e (rw (none, is) at h.1)
+  command_of_machine old new c params e none is (inr h) = fails_of_machine old new _ e h
+
+  pub executes_failed : (old new : State) (e : Error) → IsPlain (understood old.now.schema sql) → command_of (understood old.now.schema sql) ≡ command → ExecutesInside 0 sql params old new (Err e) → IsOfMachine e
+  unfolding ExecutesIn IsNotRun
+  executes_failed old new e plain is (inr h) = rw h.1 (λ h. cc, λ h. cc)
+  executes_failed old new e plain is (inl (inl (inl h), kept)) = no_statement old sql params e plain h.0
+  executes_failed old new e plain is (inl (inl (inr h), kept)) = fails_of_machine old new _ e h
+  executes_failed old new e plain is (inl (inr (c, it, h), kept)) =
+      by (shows_rows false c) (timed params c.formats it.now) h
+    where
+      by : (b : Bool) (full : Row) → MatchBool b ((◌≡◌ {A = Result ℕ Error} (Err e) (Err error.ExecuteReturnedResults)) × IsUnchanged old new) (RunsCommand old new sql c full (Err e)) → IsOfMachine e
+      by true full h = let k : e ≡ error.ExecuteReturnedResults = (let z = h.0 in cc) in rw k (λ h. cc, λ h. cc)
+      by false full h = command_of_machine old new c full e (subst IsPlain it.is plain).0 (ap command_of (sym it.is) ∙ is) h
+
+  pub write_failed : (schema : Schema) (old new : State) (e : Error) → old.now.schema ≡ schema → Means schema sql command → ExecutesInside 0 sql params old new (Err e) → IsOfMachine e
+  write_failed schema old new e has means h = executes_failed old new e (rw has means.plain) (rw has means.is) h
+
+pub delete_failed : (sql : List ℕ) (params : Row) (at : ℕ) (q : Program) (schema : Schema) (old new : State) (e : Error) → old.now.schema ≡ schema → Means schema sql (Delete at q) → ExecutesInside 0 sql params old new (Err e) → IsOfMachine e
+delete_failed sql params at q = write_failed sql params (Delete at q) (λ limit mode params db text. does_delete limit mode params db text at q)
+
+pub update_failed : (sql : List ℕ) (params : Row) (at : ℕ) (q : Program) (schema : Schema) (old new : State) (e : Error) → old.now.schema ≡ schema → Means schema sql (Update at q) → ExecutesInside 0 sql params old new (Err e) → IsOfMachine e
+update_failed sql params at q = write_failed sql params (Update at q) (λ limit mode params db text. does_update limit mode params db text at q)
+
+pub insert_failed : (sql : List ℕ) (params : Row) (at : ℕ) (from : Source) (schema : Schema) (old new : State) (e : Error) → old.now.schema ≡ schema → Means schema sql (Insert at from) → ExecutesInside 0 sql params old new (Err e) → IsOfMachine e
+insert_failed sql params at from = write_failed sql params (Insert at from) (λ limit mode params db text. does_insert limit mode params db text at from)

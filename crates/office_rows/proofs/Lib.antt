@@ -1,0 +1,14 @@
+pub mod Plain
+pub mod Permuted
+pub mod Rowids
+pub mod Errors
+pub mod Reading
+pub mod Writing
+pub mod Failing
+pub mod Transactions
+pub mod Stored
+pub mod Finding
+pub mod Steps
+pub mod Ordered
+pub mod Distinct
+pub mod Asked

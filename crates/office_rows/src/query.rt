@@ -1,0 +1,29 @@
+//! The rows that a query answers.
+
+ghost use Rattle.std.specs.Prelude.{◌≡◌, false};
+ghost use Rattle.sqlite.specs.Held.{state};
+ghost use Rattle.sqlite.specs.State.{HasCleanDisk, Survives, CommitsShowing};
+ghost use Rattle.sqlite.specs.Values.{bound};
+ghost use Rattle.office_rows.specs.Faults.{FindsRow};
+
+use crate::fault::fault_of;
+use office_tables::StoreFault;
+use sqlite::types::ValueRef;
+use sqlite::{Alter, Connection, Error, Row};
+
+/// The first row of a query's answer, or that there is none.
+pub fn first_row<S: Alter>(
+    conn: &mut Connection<S>,
+    sql: &str,
+    params: &[ValueRef<'_>],
+) -> Result<Option<Row>, StoreFault>
+    ensures row { HasCleanDisk (state S.Store conn.new) → FindsRow sql.now (bound params.now) (state S.Store conn.old) (state S.Store conn.new) result }
+    ensures mode { conn.old.in_transaction ≡ false → conn.new.in_transaction ≡ false }
+    ensures survives { Survives (state S.Store conn.old) (state S.Store conn.new) (CommitsShowing sql.now (bound params.now) (state S.Store conn.old)) }
+{
+    match conn.query_row(sql, params) {
+        Ok(row) => Ok(Some(row)),
+        Err(Error::QueryReturnedNoRows) => Ok(None),
+        Err(error) => Err(fault_of(error)),
+    }
+}

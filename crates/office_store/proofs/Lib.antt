@@ -1,0 +1,16 @@
+pub mod Texts
+pub mod Columns
+pub mod Kept
+pub mod UserReads
+pub mod Committed
+pub mod Lenses
+pub mod UserWrites
+pub mod Profiles
+pub mod RevisionWrites
+pub mod OtherWrites
+pub mod RevisionReads
+pub mod OtherReads
+pub mod ListReads
+pub mod AuthorReads
+pub mod ListingReads
+pub mod VoteReads

@@ -1,0 +1,131 @@
+-- What the reads of revisions find.
+use Rattle.std.proofs.Common.{◌≡◌, ◌≢◌, ℕ, ℤ, List, [], ◌∷◌, codes, None, Some, Ok, Err, Result, Option, IfOk, Bool, true, false, refl, sym, ap, subst, ◌∙◌, arith}
+use Rattle.std.specs.Prelude.{◌&&◌, ◌==◌, option_map, find}
+use Rattle.std.specs.List.{list_all}
+use Rattle.std.proofs.lemmas.Bool.Decides.{nat_tests}
+use Rattle.sqlite.specs.declared.types.Value.TheVariants.{Text, Blob}
+use Rattle.sqlite.specs.Order.{Row}
+use Rattle.sqlite.specs.Term.{Term, col, holds}
+use Rattle.sqlite.specs.Command.TheVariants.{Select}
+use Rattle.sqlite.specs.State.{State, Survives, CommitsShowing}
+use Rattle.sqlite_tied.specs.Compute.{everything}
+use Rattle.sqlite.specs.Listing.{understood}
+use Rattle.sqlite_rules.specs.Lists.{Has}
+use Rattle.sqlite_rules.proofs.ListLemmas.{all_has, has_found}
+use Rattle.review_policy.specs.declared.ask.ProfileName.{ProfileName}
+use Rattle.review_policy.specs.declared.revision.State.TheVariants.{Issued}
+use Rattle.office_tables.specs.declared.row.RevisionRow.{RevisionRow}
+use Rattle.office_tables.specs.declared.fault.StoreFault.{StoreFault}
+use Rattle.office_tables.specs.declared.fault.StoreFault.TheVariants.{NotAnOffice}
+use Rattle.office_tables.specs.Tables.{Tables, is_profile}
+use Rattle.office_rows.specs.Faults.{FindsRow}
+use Rattle.office_rows.proofs.Plain.{plain_query, Means}
+use Rattle.office_rows.proofs.Stored.{find_own}
+use Rattle.office_rows.proofs.Finding.{IsFound, finds_some, found_own, no_commit}
+use Rattle.office_store.specs.declared.revisions.TheConstants.{REVISION_AT, ISSUED_OF}
+use Rattle.office_store.specs.Schema.{office_schema}
+use Rattle.office_store.specs.Entries.{Revision, same_revision, revision_key, revision_row, revision_columns, IsRevision, state_number}
+use Rattle.office_store.specs.Reads.{IsIssuedRow}
+use Rattle.office_store.specs.Shown.{Shows, ShowsIfOpen}
+use Rattle.office_store.proofs.Kept.{still_shows, map_of_map, some_shown}
+use Rattle.office_store.proofs.Profiles.{profile_params, revision_params, at_revision, revision_tested, in_state_of, is_in_state, state_tested, revisions_decide, profiles_decide, both_true, same_profile, same_state}
+
+abbrev shown_columns : List Term
+shown_columns = col 1 3 ∷ col 1 4 ∷ col 1 5 ∷ col 1 6 ∷ col 1 7 ∷ []
+
+abbrev names : List (List ℕ)
+names = codes "number" ∷ codes "author" ∷ codes "state" ∷ codes "body" ∷ codes "digest" ∷ []
+
+revision_means : Means office_schema REVISION_AT.now (Select (record { lets = []; body = plain_query shown_columns at_revision 4 }) names)
+unfolding understood everything
+revision_means = record { is = refl; plain = (refl, refl); unlisted = refl }
+
+issued_means : Means office_schema ISSUED_OF.now (Select (record { lets = []; body = plain_query shown_columns (in_state_of Issued) 4 }) names)
+unfolding understood everything
+issued_means = record { is = refl; plain = (refl, refl); unlisted = refl }
+
+abbrev shown : Revision → Row
+shown e = revision_columns e.1
+
+abbrev pub is_at : ProfileName × ℕ → Revision → Bool
+is_at k e = same_revision k (revision_key e)
+
+abbrev row_of_entry : Revision → RevisionRow
+row_of_entry e = e.1
+
+module _ (old new : State) (t : Tables) (shows : Shows old t) where
+  -- a revision of the tables stands in an entry of its own key
+  pub record StandsFor (p : ProfileName) (n : ℕ) (r : RevisionRow) : Type 0 where
+    pub entry : Revision
+    pub has : Has shows.office.revisions.entries entry
+    pub key : (p, n) ≡ revision_key entry
+    pub is : r ≡ entry.1
+
+  pub stands : (p : ProfileName) (n : ℕ) (r : RevisionRow) → t.revisions p n ≡ Some r → StandsFor p n r
+  stands p n r at =
+      let it = some_shown row_of_entry (find (is_at (p, n)) shows.office.revisions.entries) r (sym at ∙ shows.office.revisions_are p n) in
+      let has = has_found (is_at (p, n)) shows.office.revisions.entries it.0 it.1 in
+      record { entry = it.0; has = has.0; key = (revisions_decide (p, n) (revision_key it.0)).0 has.1; is = it.2 }
+
+  pub found_at : (e : Revision) → Has shows.office.revisions.entries e → t.revisions e.0 e.1.number ≡ Some e.1
+  found_at e has =
+      shows.office.revisions_are e.0 e.1.number
+      ∙ ap (option_map row_of_entry) (find_own is_at shows.office.revisions.entries shows.office.revisions.own_keys (revision_key e) e has ((revisions_decide (revision_key e) (revision_key e)).1 refl))
+
+  pub revision_formed : (p : ProfileName) (n : ℕ) (r : RevisionRow) → t.revisions p n ≡ Some r → IsRevision (p, r)
+  revision_formed p n r at =
+      let it = stands p n r at in
+      let formed = all_has IsRevision _ it.entry shows.office.revisions.formed it.has in
+      let same : ◌≡◌ {A = Revision} (p, r) it.entry = λ i. ((it.key i).0, it.is i) in
+      subst IsRevision (sym same) formed
+
+  module _ (idle : old.in_transaction ≡ false) where
+    pub reads_revision : (p : ProfileName) (n : ℕ) (r : Result (Option Row) StoreFault) → FindsRow REVISION_AT.now (revision_params p n) old new r
+        → IfOk r (λ row. row ≡ option_map revision_columns (t.revisions p n)) × (r ≢ Err NotAnOffice) × ShowsIfOpen new t
+    reads_revision p n r h =
+        let o = shows.office in
+        let it = finds_some revision_row shown (is_at (p, n)) shown_columns at_revision office_schema REVISION_AT.now (revision_params p n) 4 names revision_means (revision_tested p n) (λ k. refl)
+        old new o.schema shows.settled idle o.revisions.entries o.revisions.kept r h in
+        let found = found_own revision_row shown is_at IsRevision (old.now.trees 4) o.revisions (p, n) r it.0 in
+        let same : option_map shown (find (is_at (p, n)) o.revisions.entries) ≡ option_map revision_columns (t.revisions p n) =
+        sym (map_of_map revision_columns row_of_entry _) ∙ ap (option_map revision_columns) (sym (o.revisions_are p n)) in
+        (subst (λ x. IfOk r (λ row. row ≡ x)) same found, it.1, still_shows old new t shows it.2)
+
+    pub revision_crash : (p : ProfileName) (n : ℕ) → Survives old new (CommitsShowing REVISION_AT.now (revision_params p n) old) → Survives old new (λ _. ⊥)
+    revision_crash p n =
+        no_commit revision_row shown (is_at (p, n)) shown_columns at_revision office_schema REVISION_AT.now (revision_params p n) 4 names revision_means (revision_tested p n) (λ k. refl)
+        old new shows.office.schema shows.settled idle
+
+    issued_row : (p : ProfileName) (r : Result (Option Row) StoreFault) → IfOk r (IsFound (is_in_state p Issued) shown shows.office.revisions.entries) → IfOk r (IsIssuedRow t p)
+    issued_row p (Ok (Some row)) it =
+        let both = both_true (is_profile p it.0.0) (state_number Issued == state_number it.0.1.state) it.2 in
+        (it.0.1, (subst (λ q. t.revisions q it.0.1.number ≡ Some it.0.1) (sym (same_profile p it.0.0 both.0)) (found_at it.0 it.1), sym (same_state Issued it.0.1.state both.1)), it.3)
+    issued_row p (Ok None) none = λ n r at issued.
+        let it = stands p n r at in
+        let profile : is_profile p it.entry.0 ≡ true = (profiles_decide p it.entry.0).1 (ap (λ (k : ProfileName × ℕ). k.0) it.key) in
+        let state : (state_number Issued == state_number it.entry.1.state) ≡ true = subst (λ s. (state_number Issued == state_number s) ≡ true) (sym issued ∙ ap (λ (x : RevisionRow). x.state) it.is) refl in
+        none it.entry it.has (λ i. profile i && state i)
+    issued_row p (Err f) it = it
+
+    pub reads_issued : (p : ProfileName) (r : Result (Option Row) StoreFault) → FindsRow ISSUED_OF.now (profile_params p) old new r
+        → IfOk r (IsIssuedRow t p) × (r ≢ Err NotAnOffice) × ShowsIfOpen new t
+    reads_issued p r h =
+        let o = shows.office in
+        let it = finds_some revision_row shown (is_in_state p Issued) shown_columns (in_state_of Issued) office_schema ISSUED_OF.now (profile_params p) 4 names issued_means (state_tested p Issued) (λ k. refl)
+        old new o.schema shows.settled idle o.revisions.entries o.revisions.kept r h in
+        (issued_row p r it.0, it.1, still_shows old new t shows it.2)
+
+    pub issued_crash : (p : ProfileName) → Survives old new (CommitsShowing ISSUED_OF.now (profile_params p) old) → Survives old new (λ _. ⊥)
+    issued_crash p =
+        no_commit revision_row shown (is_in_state p Issued) shown_columns (in_state_of Issued) office_schema ISSUED_OF.now (profile_params p) 4 names issued_means (state_tested p Issued) (λ k. refl)
+        old new shows.office.schema shows.settled idle
+
+pub same_columns : (r s : RevisionRow) → revision_columns r ≡ revision_columns s → r ≡ s
+same_columns r s same =
+    let number : r.number ≡ s.number = cc in
+    let author : r.author ≡ s.author = cc in
+    let numbered : state_number r.state ≡ state_number s.state = cc in
+    let state : r.state ≡ s.state = same_state r.state s.state (subst (λ n. (state_number r.state == n) ≡ true) numbered (let k : (state_number r.state == state_number r.state) ≡ true = grind (arith, nat_tests) in k)) in
+    let body : r.body ≡ s.body = cc in
+    let digest : r.digest ≡ s.digest = cc in
+    λ i. record { number = number i; author = author i; state = state i; body = body i; digest = digest i }

@@ -1,0 +1,19 @@
+use Rattle.sqlite.specs.Held.{state}
+use Rattle.office_store.proofs.OtherReads.{reads_listed, listed_crash}
+use Rattle.office_store.proofs.office.office_row.Goals as goal
+
+pub returns-clause-found : goal.returns-clause-found
+returns-clause-found g c t shows clean =
+    (reads_listed (state g.S.Store c.args.conn.now) (state g.S.Store c.first_row.new.conn) t shows c.requires.autocommit c.first_row.result (c.first_row.ensures.row clean)).0
+
+pub returns-clause-fault : goal.returns-clause-fault
+returns-clause-fault g c t shows clean =
+    (reads_listed (state g.S.Store c.args.conn.now) (state g.S.Store c.first_row.new.conn) t shows c.requires.autocommit c.first_row.result (c.first_row.ensures.row clean)).1
+
+pub returns-clause-same : goal.returns-clause-same
+returns-clause-same g c t shows clean =
+    (reads_listed (state g.S.Store c.args.conn.now) (state g.S.Store c.first_row.new.conn) t shows c.requires.autocommit c.first_row.result (c.first_row.ensures.row clean)).2
+
+pub returns-clause-crash : goal.returns-clause-crash
+returns-clause-crash g c t shows =
+    listed_crash (state g.S.Store c.args.conn.now) (state g.S.Store c.first_row.new.conn) t shows c.requires.autocommit (c.first_row.ensures.survives)

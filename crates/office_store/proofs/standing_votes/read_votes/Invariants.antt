@@ -1,0 +1,6 @@
+use Rattle.std.proofs.Common.{◌≡◌, List, map, take}
+use Rattle.office_store.specs.Lists.{Cast, cast_row, standing_of}
+use Rattle.office_store.proofs.standing_votes.read_votes.Given as goal
+
+abbrev pub invariant-loop-row : goal.invariant-loop-row
+invariant-loop-row l = (cast : List Cast) → l.rows ≡ map cast_row cast → l.votes.items ≡ map standing_of (take l.row-index cast)

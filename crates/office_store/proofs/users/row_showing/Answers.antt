@@ -1,0 +1,19 @@
+use Rattle.sqlite.specs.Held.{state}
+use Rattle.office_store.proofs.UserReads.{reads_showing, showing_crash}
+use Rattle.office_store.proofs.users.row_showing.Goals as goal
+
+pub returns-clause-found : goal.returns-clause-found
+returns-clause-found g c t shows clean =
+    (reads_showing (state g.S.Store c.args.conn.now) (state g.S.Store c.first_row.new.conn) t shows c.requires.autocommit c.args.digest.now c.first_row.result (rw c.params-to_sql.ensures at (c.first_row.ensures.row clean))).0
+
+pub returns-clause-fault : goal.returns-clause-fault
+returns-clause-fault g c t shows clean =
+    (reads_showing (state g.S.Store c.args.conn.now) (state g.S.Store c.first_row.new.conn) t shows c.requires.autocommit c.args.digest.now c.first_row.result (rw c.params-to_sql.ensures at (c.first_row.ensures.row clean))).1
+
+pub returns-clause-same : goal.returns-clause-same
+returns-clause-same g c t shows clean =
+    (reads_showing (state g.S.Store c.args.conn.now) (state g.S.Store c.first_row.new.conn) t shows c.requires.autocommit c.args.digest.now c.first_row.result (rw c.params-to_sql.ensures at (c.first_row.ensures.row clean))).2
+
+pub returns-clause-crash : goal.returns-clause-crash
+returns-clause-crash g c t shows =
+    showing_crash (state g.S.Store c.args.conn.now) (state g.S.Store c.first_row.new.conn) t shows c.requires.autocommit c.args.digest.now (rw c.params-to_sql.ensures at c.first_row.ensures.survives)

@@ -1,0 +1,71 @@
+-- What the reads of several rows show.
+use Rattle.std.specs.Prelude.{◌≡◌, ◌<◌, ◌^◌, ℕ, pos, true, List, [], ◌∷◌, map, Option, Some, None}
+use Rattle.std.specs.List.{AllByRecursion}
+use Rattle.sqlite.specs.declared.types.Value.TheVariants.{Int, Text}
+use Rattle.sqlite.specs.Order.{Row}
+use Rattle.review_policy.specs.Words.{is_word}
+use Rattle.review_policy.specs.declared.ask.ProfileName.{ProfileName}
+use Rattle.review_policy.specs.declared.revision.VoteRow.{VoteRow}
+use Rattle.office_tables.specs.declared.row.UserRow.{UserRow}
+use Rattle.office_tables.specs.declared.listed.ListedRevision.{ListedRevision}
+use Rattle.office_tables.specs.Tables.{Tables, Vote}
+use Rattle.office_tables.specs.Lists.{AreAuthors, AreRevisionsOf, AreStanding, standing_vote}
+use Rattle.office_store.specs.Entries.{state_number, bit}
+
+-- ---- authors
+
+abbrev pub name_row : List ℕ → Row
+name_row name = Text name ∷ []
+
+-- the rows of the authors of a profile
+pub record AreAuthorRows (t : Tables) (p : ProfileName) (rows : List Row) : Type 0 where
+  pub names : List (List ℕ)
+  pub rows_are : rows ≡ map name_row names
+  pub authors : AreAuthors t p names
+  pub formed : AllByRecursion (λ name. is_word name ≡ true) names
+
+-- ---- the revisions of a team
+
+abbrev pub listed_row : ListedRevision → Row
+listed_row l = Text l.profile ∷ Int (pos l.number) ∷ Int (pos (state_number l.state)) ∷ []
+
+pub record IsListedForm (l : ListedRevision) : Type 0 where
+  pub profile : is_word l.profile ≡ true
+  pub number : l.number < 2 ^ 32
+
+-- the rows of the revisions of a team
+pub record AreListedRows (t : Tables) (team : List ℕ) (rows : List Row) : Type 0 where
+  pub listed : List ListedRevision
+  pub rows_are : rows ≡ map listed_row listed
+  pub revisions : AreRevisionsOf t team listed
+  pub formed : AllByRecursion IsListedForm listed
+
+-- ---- votes
+
+-- a vote on a revision, with the present row of its voter
+pub record Cast : Type 0 where
+  pub voter : List ℕ
+  pub vote : Vote
+  pub user : Option UserRow
+
+-- the roles of a user; where there is no such user, none
+abbrev pub roles_of : Option UserRow → ℕ
+roles_of None = 0
+roles_of (Some u) = u.roles
+
+abbrev pub cast_row : Cast → Row
+cast_row c = Text c.voter ∷ Int (bit c.vote.approves) ∷ Int (bit c.vote.security) ∷ Int (pos (roles_of c.user)) ∷ []
+
+abbrev pub standing_of : Cast → VoteRow
+standing_of c = standing_vote c.voter c.vote c.user
+
+pub record IsCastForm (c : Cast) : Type 0 where
+  pub voter : is_word c.voter ≡ true
+  pub roles : roles_of c.user < 64
+
+-- the rows of the standing votes on a revision
+pub record AreVoteRows (t : Tables) (p : ProfileName) (number : ℕ) (rows : List Row) : Type 0 where
+  pub cast : List Cast
+  pub rows_are : rows ≡ map cast_row cast
+  pub standing : AreStanding t p number (map standing_of cast)
+  pub formed : AllByRecursion IsCastForm cast

@@ -1,0 +1,31 @@
+-- What the rows that a read found stand for.
+use Rattle.std.specs.Prelude.{◌≡◌, ◌≢◌, ℕ, pos, List, [], ◌∷◌, Option, None, Some}
+use Rattle.sqlite.specs.declared.types.Value.TheVariants.{Int}
+use Rattle.sqlite.specs.Order.{Row}
+use Rattle.review_policy.specs.declared.ask.ProfileName.{ProfileName}
+use Rattle.review_policy.specs.declared.revision.State.TheVariants.{Issued}
+use Rattle.office_tables.specs.declared.row.UserRow.{UserRow}
+use Rattle.office_tables.specs.declared.row.RevisionRow.{RevisionRow}
+use Rattle.office_tables.specs.Tables.{Tables}
+use Rattle.office_tables.specs.Reads.{IsUserShowing}
+use Rattle.office_store.specs.Entries.{user_row, revision_columns}
+
+-- the row of a user who shows this digest, or that there is none
+abbrev pub IsRowShowing : Tables → List ℕ → Option Row → Type 0
+IsRowShowing t digest None = IsUserShowing t digest None
+IsRowShowing t digest (Some row) = (u : UserRow) × IsUserShowing t digest (Some u) × (row ≡ user_row u)
+
+-- a revision of the profile that is issued, or that there is none
+abbrev pub IsIssued : Tables → ProfileName → Option RevisionRow → Type 0
+IsIssued t p None = (n : ℕ) (r : RevisionRow) → t.revisions p n ≡ Some r → r.state ≢ Issued
+IsIssued t p (Some r) = (t.revisions p r.number ≡ Some r) × (r.state ≡ Issued)
+
+-- the row of such a revision, or that there is none
+abbrev pub IsIssuedRow : Tables → ProfileName → Option Row → Type 0
+IsIssuedRow t p None = IsIssued t p None
+IsIssuedRow t p (Some row) = (r : RevisionRow) × IsIssued t p (Some r) × (row ≡ revision_columns r)
+
+-- the row of the listed capabilities
+abbrev pub IsRowListed : Tables → Option Row → Type 0
+IsRowListed t None = ⊥
+IsRowListed t (Some row) = row ≡ Int (pos t.listed) ∷ []

@@ -1,0 +1,68 @@
+-- The six tables of an office, as SQL reads them.
+use Rattle.std.specs.Prelude.{ℕ, Bool, true, false, List, [], ◌∷◌, map, Option, None, Some, codes}
+use Rattle.sqlite.specs.Collation.TheVariants.{Binary}
+use Rattle.sqlite.specs.declared.types.Value.TheVariants.{Null}
+use Rattle.sqlite.specs.Table.{Table}
+use Rattle.sqlite.specs.Schema.{Schema}
+use Rattle.sqlite.specs.Kind.{Kind}
+use Rattle.sqlite.specs.Kind.TheVariants.{Integer, Text, Blob}
+use Rattle.sqlite.specs.Change.{created}
+use Rattle.sqlite_value.specs.Keys.{plain}
+use Rattle.sqlite_schema.specs.declared.schema.Column.{Column}
+
+-- a column of a STRICT table that is NOT NULL
+abbrev pub column : List ℕ → Kind → Column
+column name kind = record { name = name; kind = kind; is_strict = true; not_null = true; default = Null; collation = Binary }
+
+-- a table with its tree, its columns, the column that is its rowid, its primary key and its keys
+abbrev pub table : List ℕ → ℕ → List Column → Option ℕ → List ℕ → List (List ℕ) → Table
+table name tree columns key primary uniques = record {
+  name = name;
+  tree = tree;
+  columns = columns;
+  key = key;
+  primary = primary;
+  uniques = uniques;
+  orders = map (λ _. plain) uniques;
+  checks = [];
+  references = [];
+  computed = [];
+  stamps = record { places = []; terms = []; formats = [] };
+  is_counted = false;
+}
+
+-- Each key that is no rowid has a tree of its own after that of its table.
+abbrev pub office_table : ℕ → Table
+office_table tree = table (codes "office") tree (column (codes "key") Integer ∷ column (codes "schema") Integer ∷ column (codes "listed") Integer ∷ []) (Some 0) (0 ∷ []) []
+
+abbrev pub users_table : ℕ → Table
+users_table tree =
+    table (codes "users") tree (column (codes "name") Text ∷ column (codes "team") Text ∷ column (codes "roles") Integer ∷ column (codes "token") Blob ∷ []) None (1 ∷ [])
+    ((1 ∷ []) ∷ (4 ∷ []) ∷ [])
+
+abbrev pub revisions_table : ℕ → Table
+revisions_table tree =
+    table (codes "revisions") tree
+    (column (codes "team") Text ∷ column (codes "profile") Text ∷ column (codes "number") Integer ∷ column (codes "author") Text ∷ column (codes "state") Integer ∷ column (codes "body") Text ∷ column (codes "digest") Blob ∷ [])
+    None (1 ∷ 2 ∷ 3 ∷ []) ((1 ∷ 2 ∷ 3 ∷ []) ∷ [])
+
+abbrev pub votes_table : ℕ → Table
+votes_table tree =
+    table (codes "votes") tree
+    (column (codes "team") Text ∷ column (codes "profile") Text ∷ column (codes "number") Integer ∷ column (codes "voter") Text ∷ column (codes "approve") Integer ∷ column (codes "security") Integer ∷ [])
+    None (1 ∷ 2 ∷ 3 ∷ 4 ∷ []) ((1 ∷ 2 ∷ 3 ∷ 4 ∷ []) ∷ [])
+
+abbrev pub baselines_table : ℕ → Table
+baselines_table tree =
+    table (codes "baselines") tree (column (codes "team") Text ∷ column (codes "profile") Text ∷ column (codes "number") Integer ∷ []) None (1 ∷ []) ((1 ∷ []) ∷ [])
+
+abbrev pub holds_table : ℕ → Table
+holds_table tree = table (codes "holds") tree (column (codes "team") Text ∷ column (codes "profile") Text ∷ []) None (1 ∷ 2 ∷ []) ((1 ∷ 2 ∷ []) ∷ [])
+
+abbrev pub no_schema : Schema
+no_schema = record { tables = []; indexes = []; views = [] }
+
+-- as the six texts make it, one after the other
+abbrev pub office_schema : Schema
+office_schema =
+    created (created (created (created (created (created no_schema (office_table 0)) (users_table 0)) (revisions_table 0)) (votes_table 0)) (baselines_table 0)) (holds_table 0)

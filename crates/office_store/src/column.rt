@@ -1,0 +1,102 @@
+//! The columns of a row, read as what they stand for. A column that stands for nothing is `NotAnOffice`.
+
+ghost use Rattle.std.specs.Prelude.{◌≡◌, ◌≢◌, ◌<◌, ◌^◌, ℕ, List, true, pos, length, string_bytes, Err, IfOk, IsUtf8};
+ghost use Rattle.sqlite.specs.declared.types.Value.TheVariants.{Int, Text as SqlText, Blob};
+ghost use Rattle.sqlite_value.specs.Order.{column};
+ghost use Rattle.review_policy.specs.Words.{is_word};
+ghost use Rattle.review_policy.specs.declared.revision.State.{State as StateValue};
+ghost use Rattle.office_store.specs.Entries.{state_number};
+
+use office_rows::fault_of;
+use office_tables::StoreFault;
+use review_policy::{Roles, State, Text, Word, WordFault};
+use sqlite::Row;
+use std::alloc::Global;
+
+/// The text of a column.
+pub(crate) fn text_at(row: &Row, at: usize) -> Result<String, StoreFault>
+    ensures text { IfOk result (λ text. (at < length row.now) × (column row.now at ≡ SqlText (string_bytes text))) }
+    ensures formed { (text : List ℕ) → at < length row.now → column row.now at ≡ SqlText text → IsUtf8 text → result ≢ Err StoreFault.NotAnOffice }
+{
+    row.get(at).map_err(fault_of)
+}
+
+/// The word of a column.
+#[tactic(auto, using(crate::proofs::Columns::word_is_utf8))]
+pub(crate) fn word_at(alloc: Global, row: &Row, at: usize) -> Result<Word, StoreFault>
+    ensures word { IfOk result (λ word. (at < length row.now) × (column row.now at ≡ SqlText word)) }
+    ensures formed { (word : List ℕ) → at < length row.now → column row.now at ≡ SqlText word → is_word word ≡ true → result ≢ Err StoreFault.NotAnOffice }
+{
+    let text = text_at(row, at)?;
+    match Word::new(alloc, text.as_str()) {
+        Ok(word) => Ok(word),
+        Err(WordFault::NotAWord) => Err(StoreFault::NotAnOffice),
+        Err(WordFault::NoMemory) => Err(StoreFault::NoMemory),
+    }
+}
+
+/// The number of a column.
+pub(crate) fn number_at(row: &Row, at: usize) -> Result<u32, StoreFault>
+    ensures number { IfOk result (λ number. (at < length row.now) × (column row.now at ≡ Int (pos number))) }
+    ensures formed { (number : ℕ) → at < length row.now → column row.now at ≡ Int (pos number) → number < 2 ^ 32 → result ≢ Err StoreFault.NotAnOffice }
+{
+    row.get(at).map_err(fault_of)
+}
+
+/// The bits of a column.
+pub(crate) fn bits_at(row: &Row, at: usize) -> Result<u64, StoreFault>
+    ensures bits { IfOk result (λ bits. (at < length row.now) × (column row.now at ≡ Int (pos bits))) }
+    ensures formed { (bits : ℕ) → at < length row.now → column row.now at ≡ Int (pos bits) → result ≢ Err StoreFault.NotAnOffice }
+{
+    row.get(at).map_err(fault_of)
+}
+
+/// The digest of a column.
+pub(crate) fn digest_at(row: &Row, at: usize) -> Result<[u8; 32], StoreFault>
+    ensures digest { IfOk result (λ digest. (at < length row.now) × (column row.now at ≡ Blob digest)) }
+    ensures formed { (digest : List ℕ) → at < length row.now → column row.now at ≡ Blob digest → length digest ≡ 32 → result ≢ Err StoreFault.NotAnOffice }
+{
+    let bytes: Vec<u8> = row.get(at).map_err(fault_of)?;
+    match <[u8; 32]>::try_from(bytes.as_slice()) {
+        Ok(digest) => Ok(digest),
+        Err(_) => Err(StoreFault::NotAnOffice),
+    }
+}
+
+/// The bytes of a digest.
+pub(crate) fn bytes_of(digest: &[u8; 32]) -> &[u8]
+    ensures same { result.now ≡ digest.now }
+    ensures long { length digest.now ≡ 32 }
+{
+    digest.as_slice()
+}
+
+/// The roles of a column.
+pub(crate) fn roles_at(row: &Row, at: usize) -> Result<Roles, StoreFault>
+    ensures roles { IfOk result (λ roles. (at < length row.now) × (column row.now at ≡ Int (pos roles))) }
+    ensures formed { (roles : ℕ) → at < length row.now → column row.now at ≡ Int (pos roles) → roles < 64 → result ≢ Err StoreFault.NotAnOffice }
+{
+    let bits = number_at(row, at)?;
+    if bits >= 64 {
+        return Err(StoreFault::NotAnOffice);
+    }
+    match Roles::from_bits(bits as u8) {
+        Some(roles) => Ok(roles),
+        None => Err(StoreFault::NotAnOffice),
+    }
+}
+
+/// The state of a column.
+pub(crate) fn state_at(row: &Row, at: usize) -> Result<State, StoreFault>
+    ensures state { IfOk result (λ state. (at < length row.now) × (column row.now at ≡ Int (pos (state_number state)))) }
+    ensures formed { (state : StateValue) → at < length row.now → column row.now at ≡ Int (pos (state_number state)) → result ≢ Err StoreFault.NotAnOffice }
+{
+    match number_at(row, at)? {
+        0 => Ok(State::Open),
+        1 => Ok(State::Closed),
+        2 => Ok(State::Issued),
+        3 => Ok(State::Replaced),
+        4 => Ok(State::Withdrawn),
+        _ => Err(StoreFault::NotAnOffice),
+    }
+}

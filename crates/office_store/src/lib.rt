@@ -1,0 +1,29 @@
+//! The six tables of an office over `sqlite`, generic in the store: each call answers what the tables have, or changes them
+//! in one transaction. The connection of a call has no transaction open and no limit on steps.
+#![tactic(auto)]
+
+pub mod author;
+pub mod baselines;
+mod column;
+pub mod holds;
+pub mod listing;
+pub mod office;
+pub mod revisions;
+pub mod schema;
+pub mod standing_votes;
+pub mod users;
+pub mod votes;
+mod write;
+
+pub use author::{authors, is_author};
+pub use baselines::{Adopted, baseline, put_baseline};
+pub use holds::{delete_hold, held, put_hold};
+pub use listing::revisions_of;
+pub use office::listed;
+pub use revisions::{add_revision, issued, revision, set_issued, set_withdrawn};
+pub use standing_votes::{standing, tally};
+pub use users::{put_user, user_by_name, user_by_token};
+pub use votes::{Ballot, put_vote};
+
+#[cfg(test)]
+mod list_tests;

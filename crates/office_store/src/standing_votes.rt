@@ -1,0 +1,175 @@
+//! The standing votes on a revision, and how many of them approve and reject.
+
+ghost use Rattle.std.specs.Prelude.{◌≡◌, ◌≢◌, ◌<◌, ◌&&◌, not, Bool, List, Err, IfOk, OnOk, length, map};
+ghost use Rattle.std.specs.List.{AllByRecursion};
+ghost use Rattle.sqlite.specs.Held.{state};
+ghost use Rattle.sqlite.specs.State.{HasCleanDisk, Survives};
+ghost use Rattle.sqlite.specs.declared.types.Value.TheVariants.{Int};
+ghost use Rattle.sqlite_value.specs.Order.{column};
+ghost use Rattle.office_tables.specs.Tables.{Tables};
+ghost use Rattle.office_tables.specs.Lists.{AreStanding, IsTally, tally_of};
+ghost use Rattle.office_store.specs.Entries.{bit};
+ghost use Rattle.office_store.specs.Lists.{Cast, cast_row, standing_of, IsCastForm, AreVoteRows};
+ghost use Rattle.office_store.specs.Shown.{IsIdle, Shows, ShowsIfOpen};
+
+use crate::column::{roles_at, word_at};
+use office_rows::{all_rows, fault_of};
+use office_tables::{StoreFault, Tally};
+use review_policy::{ProfileName, Role, VoteRow};
+use sqlite::types::ValueRef;
+use sqlite::{Alter, Connection, Row, params};
+use std::alloc::Global;
+
+// A vote whose voter has no row any more has no roles.
+pub(crate) const VOTES_ON: &str =
+    "SELECT votes.voter, votes.approve, votes.security, coalesce(users.roles, 0) AS roles FROM votes LEFT JOIN users ON users.name = votes.voter WHERE votes.team = ?1 AND votes.profile = ?2 AND votes.number = ?3 ORDER BY votes.voter";
+
+// The rows of the votes on a revision, each with its voter's roles.
+fn vote_rows<S: Alter>(
+    conn: &mut Connection<S>,
+    profile: &ProfileName,
+    number: u32,
+) -> Result<Vec<Row>, StoreFault>
+    requires { IsIdle (state S.Store conn.old) }
+    ensures found { (t : Tables) → Shows (state S.Store conn.old) t → HasCleanDisk (state S.Store conn.new) → IfOk result (λ rows. AreVoteRows t profile.now number rows.items) }
+    ensures fault { (t : Tables) → Shows (state S.Store conn.old) t → HasCleanDisk (state S.Store conn.new) → result ≢ Err StoreFault.NotAnOffice }
+    ensures shows { (t : Tables) → Shows (state S.Store conn.old) t → HasCleanDisk (state S.Store conn.new) → OnOk result (Shows (state S.Store conn.new) t) }
+    ensures same { (t : Tables) → Shows (state S.Store conn.old) t → HasCleanDisk (state S.Store conn.new) → ShowsIfOpen (state S.Store conn.new) t }
+    ensures idle { IsIdle (state S.Store conn.new) }
+    ensures crash { (t : Tables) → Shows (state S.Store conn.old) t → Survives (state S.Store conn.old) (state S.Store conn.new) (λ _. ⊥) }
+{
+    let team = profile.team.as_str();
+    let profile = profile.profile.as_str();
+    all_rows(conn, VOTES_ON, params![team, profile, number])
+}
+
+// The truth value of a column.
+fn flag_at(row: &Row, at: usize) -> Result<bool, StoreFault>
+    ensures flag { (flag : Bool) → column row.now at ≡ Int (bit flag) → IfOk result (λ read. read ≡ flag) }
+    ensures formed { (flag : Bool) → at < length row.now → column row.now at ≡ Int (bit flag) → result ≢ Err StoreFault.NotAnOffice }
+{
+    row.get(at).map_err(fault_of)
+}
+
+// The vote of a row, as it stands by its voter's present roles.
+fn read_vote(alloc: Global, row: &Row) -> Result<VoteRow, StoreFault>
+    ensures vote { (cast : Cast) → row.now ≡ cast_row cast → IfOk result (λ vote. vote ≡ standing_of cast) }
+    ensures formed { (cast : Cast) → row.now ≡ cast_row cast → IsCastForm cast → result ≢ Err StoreFault.NotAnOffice }
+{
+    let voter = word_at(alloc, row, 0)?;
+    let approve = flag_at(row, 1)?;
+    let had_security = flag_at(row, 2)?;
+    let roles = roles_at(row, 3)?;
+    let counts = roles.has(Role::Reviewer);
+    Ok(VoteRow {
+        voter,
+        approve,
+        security: counts && had_security && roles.has(Role::Security),
+        counts,
+    })
+}
+
+// The votes of rows.
+fn read_votes(alloc: Global, rows: &[Row]) -> Result<Vec<VoteRow>, StoreFault>
+    ensures votes { (cast : List Cast) → rows.now ≡ map cast_row cast → IfOk result (λ votes. votes.items ≡ map standing_of cast) }
+    ensures formed { (cast : List Cast) → rows.now ≡ map cast_row cast → AllByRecursion IsCastForm cast → result ≢ Err StoreFault.NotAnOffice }
+{
+    let mut votes = Vec::new(alloc);
+    for row in rows {
+        let vote = read_vote(alloc, row)?;
+        votes.push(vote).map_err(|_| StoreFault::NoMemory)?;
+    }
+    Ok(votes)
+}
+
+/// The last vote of each user on a revision, by the name of the voter, in the order of its bytes: whether it counts, and
+/// whether it has security, are told by the voter's present roles.
+pub fn standing<S: Alter>(
+    alloc: Global,
+    conn: &mut Connection<S>,
+    profile: &ProfileName,
+    number: u32,
+) -> Result<Vec<VoteRow>, StoreFault>
+    requires { IsIdle (state S.Store conn.old) }
+    ensures found { (t : Tables) → Shows (state S.Store conn.old) t → HasCleanDisk (state S.Store conn.new) → IfOk result (λ votes. AreStanding t profile.now number votes.items) }
+    ensures formed { (t : Tables) → Shows (state S.Store conn.old) t → HasCleanDisk (state S.Store conn.new) → result ≢ Err StoreFault.NotAnOffice }
+    ensures shows { (t : Tables) → Shows (state S.Store conn.old) t → HasCleanDisk (state S.Store conn.new) → OnOk result (Shows (state S.Store conn.new) t) }
+    ensures same { (t : Tables) → Shows (state S.Store conn.old) t → HasCleanDisk (state S.Store conn.new) → ShowsIfOpen (state S.Store conn.new) t }
+    ensures idle { IsIdle (state S.Store conn.new) }
+    ensures crash { (t : Tables) → Shows (state S.Store conn.old) t → Survives (state S.Store conn.old) (state S.Store conn.new) (λ _. ⊥) }
+{
+    let rows = vote_rows(conn, profile, number)?;
+    read_votes(alloc, rows.as_slice())
+}
+
+// Whether a vote counts and approves.
+fn approves(vote: &VoteRow) -> bool
+    ensures { result ≡ (vote.now.counts && vote.now.approve) }
+{
+    vote.counts && vote.approve
+}
+
+// Whether a vote approves with security.
+fn approves_securely(vote: &VoteRow) -> bool
+    ensures { result ≡ (vote.now.approve && vote.now.security) }
+{
+    vote.approve && vote.security
+}
+
+// Whether a vote counts and rejects.
+fn rejects(vote: &VoteRow) -> bool
+    ensures { result ≡ (vote.now.counts && not vote.now.approve) }
+{
+    vote.counts && !vote.approve
+}
+
+// How many votes count and approve.
+fn approvals(votes: &[VoteRow]) -> usize
+    ensures { result ≡ (tally_of votes.now).approvals }
+{
+    votes.iter().filter(|vote| approves(vote)).count()
+}
+
+// How many votes approve with security.
+fn secure_approvals(votes: &[VoteRow]) -> usize
+    ensures { result ≡ (tally_of votes.now).secure }
+{
+    votes.iter().filter(|vote| approves_securely(vote)).count()
+}
+
+// How many votes count and reject.
+fn rejections(votes: &[VoteRow]) -> usize
+    ensures { result ≡ (tally_of votes.now).rejections }
+{
+    votes.iter().filter(|vote| rejects(vote)).count()
+}
+
+// How the votes stand.
+fn count(votes: &[VoteRow]) -> Tally
+    ensures { result ≡ tally_of votes.now }
+{
+    Tally {
+        approvals: approvals(votes) as u64,
+        secure: secure_approvals(votes) as u64,
+        rejections: rejections(votes) as u64,
+    }
+}
+
+/// How many of the standing votes on a revision count and approve, approve with security, and count and reject.
+pub fn tally<S: Alter>(
+    alloc: Global,
+    conn: &mut Connection<S>,
+    profile: &ProfileName,
+    number: u32,
+) -> Result<Tally, StoreFault>
+    requires { IsIdle (state S.Store conn.old) }
+    ensures found { (t : Tables) → Shows (state S.Store conn.old) t → HasCleanDisk (state S.Store conn.new) → IfOk result (IsTally t profile.now number) }
+    ensures formed { (t : Tables) → Shows (state S.Store conn.old) t → HasCleanDisk (state S.Store conn.new) → result ≢ Err StoreFault.NotAnOffice }
+    ensures shows { (t : Tables) → Shows (state S.Store conn.old) t → HasCleanDisk (state S.Store conn.new) → OnOk result (Shows (state S.Store conn.new) t) }
+    ensures same { (t : Tables) → Shows (state S.Store conn.old) t → HasCleanDisk (state S.Store conn.new) → ShowsIfOpen (state S.Store conn.new) t }
+    ensures idle { IsIdle (state S.Store conn.new) }
+    ensures crash { (t : Tables) → Shows (state S.Store conn.old) t → Survives (state S.Store conn.old) (state S.Store conn.new) (λ _. ⊥) }
+{
+    let votes = standing(alloc, conn, profile, number)?;
+    Ok(count(votes.as_slice()))
+}
