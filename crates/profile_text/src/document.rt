@@ -1,9 +1,9 @@
 // The reader of documents.
 
-ghost use Rattle.std.specs.Prelude.{[], codes, unwrap_or};
+ghost use Rattle.std.specs.Prelude.{◌≡◌, ◌<◌, [], codes, length, unwrap_or, Err};
 ghost use Rattle.serde_json.specs.View.{members_view, view};
 ghost use Rattle.profile_text.specs.Document.{document_faults, document_rows, seccomp_faults};
-ghost use Rattle.profile_text.specs.Reading.{Gives, if_short, profile_of, reading_of, unless_faulty};
+ghost use Rattle.profile_text.specs.Reading.{Gives, if_short, most_bytes, profile_of, reading_of, unless_faulty};
 ghost use Rattle.profile_text.specs.Sets.{document_sets, found_in, found_with, no_sets};
 ghost use Rattle.profile_text.specs.Shape.{below, members_faults, object_faults, row_faults, row_named};
 
@@ -118,9 +118,10 @@ fn profile_of(alloc: Global, value: &Value) -> Result<Profile, DocFault>
 ///
 /// # Errors
 ///
-/// Each fault of `DocFault`; `NoMemory` only where memory was refused.
+/// Each fault of `DocFault`; `NoMemory` only where memory was refused, and never for `TooLong`.
 pub fn read(alloc: Global, bytes: &[u8]) -> Result<Profile, DocFault>
-    ensures { Gives result (reading_of bytes.now) }
+    ensures reading { Gives result (reading_of bytes.now) }
+    ensures too_long { most_bytes < length bytes.now → result ≡ Err DocFault.TooLong }
 {
     if bytes.len() > MOST_BYTES {
         return Err(DocFault::TooLong);
