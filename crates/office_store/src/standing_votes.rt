@@ -20,7 +20,7 @@ use sqlite::types::ValueRef;
 use sqlite::{Alter, Connection, Row, params};
 use std::alloc::Global;
 
-// A vote whose voter has no row any more has no roles.
+// A voter who has no row has no roles.
 pub(crate) const VOTES_ON: &str =
     "SELECT votes.voter, votes.approve, votes.security, coalesce(users.roles, 0) AS roles FROM votes LEFT JOIN users ON users.name = votes.voter WHERE votes.team = ?1 AND votes.profile = ?2 AND votes.number = ?3 ORDER BY votes.voter";
 
