@@ -4,15 +4,20 @@
 //! as `capabilities`, and Seccomp of `config-linux.md` as `seccomp`.
 #![tactic(auto)]
 
+mod argument;
 mod canonical;
 mod capabilities;
 mod document;
+mod entry;
 mod fault;
+mod filter;
 mod filter_json;
+mod filter_words;
 mod hash;
 pub mod law;
 mod profile;
 mod sets;
+mod value;
 
 pub use canonical::print;
 pub use document::read;
