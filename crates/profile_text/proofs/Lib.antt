@@ -25,3 +25,4 @@ pub mod ListedNames
 pub mod KnownCaps
 pub mod PrintedBack
 pub mod ReadBack
+pub mod ToldFaults
