@@ -12,6 +12,8 @@ mod entry;
 mod fault;
 mod filter;
 mod filter_json;
+#[cfg(test)]
+mod filter_tests;
 mod filter_words;
 mod hash;
 pub mod law;
