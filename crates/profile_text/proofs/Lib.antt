@@ -4,6 +4,18 @@ pub mod GivesFacts
 pub mod Bits
 pub mod Picks
 pub mod WalkFacts
+pub mod Steps
+pub mod FilterPicks
+pub mod ObjectFacts
+pub mod Agreeing
+pub mod ValuesAgree
+pub mod FilterAgrees
+pub mod OwnParts
+pub mod LawfulRead
+pub mod WordBytes
+pub mod Printing
+pub mod Listed
+pub mod OwnStands
 pub mod StateFacts
 pub mod ReadFacts
 pub mod NameFacts
@@ -13,3 +25,4 @@ pub mod ListedNames
 pub mod KnownCaps
 pub mod PrintedBack
 pub mod ReadBack
+pub mod ToldFaults

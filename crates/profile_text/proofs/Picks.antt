@@ -5,11 +5,15 @@ use Rattle.std.proofs.lemmas.Slice.Eq.{bytes_eq-Decides}
 use Rattle.std.specs.Option.{option_map_or}
 use Rattle.std.specs.Prelude.{codes}
 use Rattle.serde_json.specs.Data.{Data, Members, no_members, member}
+use Rattle.seccomp_doc.specs.Parts.{FilterPartsValue}
+use Rattle.profile_text.specs.declared.document.Found.{Found}
 use Rattle.profile_text.specs.declared.sets.CapSet.{CapSet}
 use Rattle.profile_text.specs.declared.sets.CapSet.TheVariants.{Ambient, Bounding, Effective, Inheritable, Permitted}
 use Rattle.profile_text.specs.declared.sets.Sets.{Sets}
 use Rattle.profile_text.specs.Document.{caps_row, caps_rows}
-use Rattle.profile_text.specs.Sets.{set_name, set_named, set_of, sets_of, sets_in, sets_with, no_sets, found_in, found_with, member_set}
+use Rattle.profile_text.specs.FilterParts.{seccomp_in}
+use Rattle.profile_text.specs.Parts.{found_in, found_with}
+use Rattle.profile_text.specs.Sets.{set_name, set_named, set_of, sets_of, sets_in, sets_with, no_sets, member_set}
 use Rattle.profile_text.specs.Shape.{member_from, member_of, row_named}
 
 -- what the members say of a name, where so far it is a
@@ -140,12 +144,25 @@ row_is n =
       | inr none ↦ row_none n none
     ]
 
--- the sets of the document so far, with those that the members name
-abbrev pub found_over : Option Sets → Members → Option Sets
-found_over found ms = picked (option_map sets_of) (codes "capabilities") found ms
+abbrev seccomp_or_none : Option Data → Option FilterPartsValue
+seccomp_or_none o = option_map_or seccomp_in o None
 
-pub found_filled : (ms : Members) → found_in ms ≡ found_over None ms
-found_filled ms = member_picked (option_map sets_of) (codes "capabilities") None ms
+-- what was found of the document so far, with what the members give
+abbrev pub found_over : Found → Members → Found
+found_over found ms = record {
+  sets = picked (option_map sets_of) (codes "capabilities") found.sets ms;
+  filter = picked seccomp_or_none (codes "seccomp") found.filter ms;
+}
 
-pub found_more : (n : List ℕ) (d : Data) (found : Option Sets) (ms : Members) → found_over found (member n d ms) ≡ found_over (found_with n d found) ms
+abbrev pub nothing_found : Found
+nothing_found = record { sets = None; filter = None }
+
+pub found_filled : (ms : Members) → found_in ms ≡ found_over nothing_found ms
+found_filled ms =
+    let with_sets : Option Sets → Found = λ x. record { sets = x; filter = (found_in ms).filter } in
+    let with_filter : Option FilterPartsValue → Found = λ x. record { sets = (found_over nothing_found ms).sets; filter = x } in
+    ap with_sets (member_picked (option_map sets_of) (codes "capabilities") None ms)
+    ∙ ap with_filter (member_picked seccomp_or_none (codes "seccomp") None ms)
+
+pub found_more : (n : List ℕ) (d : Data) (found : Found) (ms : Members) → found_over found (member n d ms) ≡ found_over (found_with n d found) ms
 found_more n d found ms = refl

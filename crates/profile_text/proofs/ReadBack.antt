@@ -1,25 +1,26 @@
 -- A canonical text reads as its profile.
-use Rattle.std.proofs.Common.{◌≡◌, ◌∙◌, ℕ, ◌≤◌, inl, List, length, Option, Some, None, Ok, refl, sym, subst}
-use Rattle.std.specs.Prelude.{codes}
+use Rattle.std.proofs.Common.{◌≡◌, ◌∙◌, ℕ, ◌≤◌, inl, inr, List, [], ◌∷◌, length, Option, Some, None, Ok, refl, sym, ap, subst}
+use Rattle.std.specs.Prelude.{IfSome, codes}
 use Rattle.serde_json.specs.Data.{Data, null, boolean, number, string, array, object, Members}
 use Rattle.cap_sets.specs.declared.state.CapState.{CapState}
 use Rattle.seccomp_doc.specs.Filter.{FilterValue}
 use Rattle.profile_text.specs.declared.profile.Profile.{Profile}
 use Rattle.profile_text.specs.declared.sets.CapSet.{CapSet}
 use Rattle.profile_text.specs.declared.sets.CapSet.TheVariants.{Ambient, Bounding, Effective, Inheritable, Permitted}
-use Rattle.profile_text.specs.Reading.{json_of, reading_of, most_bytes}
-use Rattle.profile_text.specs.Reads.{AllMembers, IsSetMember, IsCapsValue, StandsForSet, StandsForCaps, StandsFor, Reads, HasKnownCaps, state_set}
+use Rattle.profile_text.specs.FilterReads.{StandsForFilter}
+use Rattle.profile_text.specs.Reading.{reading_of, most_bytes}
+use Rattle.profile_text.specs.Reads.{IsSetMember, IsCapsValue, StandsForSet, StandsForCaps, StandsFor, IsDocumentMember, IsWhole, HasKnownCaps, HasWholeFilter, state_set}
 use Rattle.profile_text.specs.Sets.{set_name}
 use Rattle.profile_text.specs.Shape.{member_of}
-use Rattle.profile_text.specs.Text.{caps_data, text_of}
+use Rattle.profile_text.specs.Text.{caps_data, profile_data, seccomp_data, text_of}
 use Rattle.profile_text.proofs.KnownCaps.{known_set}
 use Rattle.profile_text.proofs.ListedNames.{names_listed}
-use Rattle.profile_text.proofs.PrintedBack.{caps_alone, alone_json}
+use Rattle.profile_text.proofs.Listed.{Rows, HoldsIf, found_at, all_listed}
+use Rattle.profile_text.proofs.LawfulRead.{stands_for_whole}
+use Rattle.profile_text.proofs.OwnParts.{own_parts, own_make, own_faultless}
+use Rattle.profile_text.proofs.OwnStands.{own_parts_are}
+use Rattle.profile_text.proofs.PrintedBack.{text_json}
 use Rattle.profile_text.proofs.ReadsFacts.{reads_from, reading_from}
-use Rattle.profile_text.proofs.States.{same_profile}
-
-abbrev caps_profile : CapState → Profile
-caps_profile caps = record { caps = caps; filter = None }
 
 written_caps : (s : CapState) → HasKnownCaps s → IsCapsValue (caps_data s)
 written_caps s h = (
@@ -43,25 +44,26 @@ stands_for_own_caps s h Effective = names_listed s.effective h.effective
 stands_for_own_caps s h Inheritable = names_listed s.inheritable h.inheritable
 stands_for_own_caps s h Permitted = names_listed s.permitted h.permitted
 
-stands_for_own : (s : CapState) → HasKnownCaps s → StandsFor (caps_alone s) (caps_profile s)
-stands_for_own s h = record {
-  members = (inl (refl, written_caps s h), tt);
-  caps = (caps_data s, refl, stands_for_own_caps s h);
-  filter = refl;
-}
+own_filter : (filter : Option FilterValue) → IfSome filter IsWhole → StandsForFilter (seccomp_data filter) filter
+own_filter None h = (None, refl, refl)
+own_filter (Some f) h = (Some (own_parts f), own_parts_are f h, (own_faultless f h.lawful, ap Some (sym (own_make f h.lawful))))
 
-text_json : (s : CapState) → json_of (text_of (caps_profile s)) ≡ Some (caps_alone s)
-unfolding text_of
-text_json s = alone_json s
+seccomp_member : (filter : Option FilterValue) → IfSome filter IsWhole → HoldsIf IsDocumentMember (codes "seccomp") (seccomp_data filter)
+seccomp_member None h = tt
+seccomp_member (Some f) h = inr (refl, (Some (own_parts f), own_parts_are f h))
 
-back_alone : (s : CapState) → HasKnownCaps s → length (text_of (caps_profile s)) ≤ most_bytes → reading_of (text_of (caps_profile s)) ≡ Ok (caps_profile s)
-back_alone s h short =
-    reading_from (text_of (caps_profile s)) (caps_profile s) (record { short = short; stands = (caps_alone s, text_json s, stands_for_own s h); text = short })
+stands_for_own : (p : Profile) → HasKnownCaps p.caps → HasWholeFilter p → StandsFor (profile_data p) p
+stands_for_own p known whole =
+    let rows : Rows = (codes "capabilities", Some (caps_data p.caps)) ∷ (codes "seccomp", seccomp_data p.filter) ∷ [] in
+    record {
+      members = all_listed IsDocumentMember rows (inl (refl, written_caps p.caps known), (seccomp_member p.filter whole, tt));
+      caps = (caps_data p.caps, found_at (codes "capabilities") rows (Some (caps_data p.caps)) refl, stands_for_own_caps p.caps known);
+      filter = subst (λ o. StandsForFilter o p.filter) (sym (found_at (codes "seccomp") rows (seccomp_data p.filter) refl)) (own_filter p.filter whole);
+    }
 
-pub text_back : (p : Profile) → ◌≡◌ {A = Option FilterValue} p.filter None → HasKnownCaps p.caps → length (text_of p) ≤ most_bytes → reading_of (text_of p) ≡ Ok p
-text_back p none h short =
-    let same : caps_profile p.caps ≡ p = same_profile (caps_profile p.caps) p refl (sym none) in
-    subst (λ q. reading_of (text_of q) ≡ Ok q) same (back_alone p.caps h (subst (λ (q : Profile). length (text_of q) ≤ most_bytes) (sym same) short))
+pub text_back : (p : Profile) → HasKnownCaps p.caps → HasWholeFilter p → length (text_of p) ≤ most_bytes → reading_of (text_of p) ≡ Ok p
+text_back p known whole short =
+    reading_from (text_of p) p (record { short = short; stands = (profile_data p, text_json p whole, stands_for_own p known whole); text = short })
 
 known_by : (d : Data) (s : CapState) → StandsForCaps d s → HasKnownCaps s
 known_by (object ms) s h = record {
@@ -78,7 +80,7 @@ known_by (string t) s h = absurd h
 known_by (array ds) s h = absurd h
 
 again_by : (d : Data) (p : Profile) → StandsFor d p → length (text_of p) ≤ most_bytes → reading_of (text_of p) ≡ Ok p
-again_by (object ms) p h short = text_back p h.filter (known_by h.caps.0 p.caps h.caps.2) short
+again_by (object ms) p h short = text_back p (known_by h.caps.0 p.caps h.caps.2) (stands_for_whole (member_of (codes "seccomp") ms) p.filter h.filter) short
 again_by null p h short = absurd h
 again_by (boolean b) p h short = absurd h
 again_by (number n) p h short = absurd h

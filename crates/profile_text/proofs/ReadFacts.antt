@@ -1,67 +1,49 @@
 -- Steps of the reader of documents.
-use Rattle.std.proofs.Common.{◌≡◌, ℕ, ◌<◌, ◌≤◌, List, [], length, Bool, true, cond, Option, Some, None, option_map, bytes_eq, Result, Ok, Err, inl, inr, refl, sym, subst, le-ltb, lt-ltb}
-use Rattle.std.specs.Prelude.{IsUtf8, codes, unwrap_or}
+use Rattle.std.proofs.Common.{◌≡◌, ◌∙◌, ℕ, ◌<◌, ◌≤◌, List, [], length, Bool, true, false, cond, Option, Some, None, option_map, bytes_eq, Result, Ok, Err, inl, inr, refl, sym, ap, subst, le-ltb, lt-ltb}
+use Rattle.std.specs.Prelude.{IsUtf8, codes, is_some}
 use Rattle.std.specs.Str.{is_utf8}
 use Rattle.std.proofs.lemmas.Str.{IsUtf8-from_is_utf8, is_utf8-from_IsUtf8}
 use Rattle.std.proofs.lemmas.Bool.{cases_Bool}
 use Rattle.serde_json.specs.Data.{Data, Members}
 use Rattle.serde_json.specs.Read.{read}
+use Rattle.seccomp_doc.specs.Parts.{FilterPartsValue}
 use Rattle.profile_text.specs.declared.fault.DocFault.{DocFault}
 use Rattle.profile_text.specs.declared.fault.DocFault.TheVariants.{WrongShape, NotJson, TooLong}
+use Rattle.profile_text.specs.declared.document.Found.{Found}
+use Rattle.profile_text.specs.declared.document.Parts.{Parts}
 use Rattle.profile_text.specs.declared.sets.Sets.{Sets}
-use Rattle.profile_text.specs.Document.{caps_faults, seccomp_faults, document_rows}
+use Rattle.profile_text.specs.Document.{caps_faults, document_rows}
+use Rattle.profile_text.specs.FilterParts.{seccomp_in}
+use Rattle.profile_text.specs.FilterShape.{seccomp_faults}
+use Rattle.profile_text.specs.Parts.{found_in, found_with, parts_of}
 use Rattle.profile_text.specs.Reading.{Gives, unless_faulty, profile_of, profile_of_json, reading_of, most_bytes}
-use Rattle.profile_text.specs.Sets.{sets_of, found_in, found_with, no_sets}
+use Rattle.profile_text.specs.Sets.{sets_of}
 use Rattle.profile_text.specs.Shape.{below, member_of, members_faults, missing_faults, object_faults, row_faults, row_named}
 use Rattle.profile_text.proofs.GivesFacts.{gives_first, ok_parts}
+use Rattle.profile_text.proofs.ObjectFacts.{is_there, is_absent}
 use Rattle.profile_text.proofs.Picks.{same_name}
 
 -- the fault of a member is the fault of the document
-pub document_err : (ms : Members) (fault : DocFault) → Gives {X = Option Sets} (Err fault) (unless_faulty (members_faults document_rows [] ms) (found_in ms))
-    → Gives {X = Sets} (Err fault) (unless_faulty (object_faults document_rows [] ms) (unwrap_or (found_in ms) no_sets))
+pub document_err : (ms : Members) (fault : DocFault) → Gives {X = Found} (Err fault) (unless_faulty (members_faults document_rows [] ms) (found_in ms))
+    → Gives {X = Parts} (Err fault) (unless_faulty (object_faults document_rows [] ms) (parts_of (found_in ms)))
 unfolding object_faults
-document_err ms fault told = gives_first fault (members_faults document_rows [] ms) (missing_faults document_rows [] ms) (found_in ms) (unwrap_or (found_in ms) no_sets) told
+document_err ms fault told = gives_first fault (members_faults document_rows [] ms) (missing_faults document_rows [] ms) (found_in ms) (parts_of (found_in ms)) told
 
-found_by : (ms : Members) (o : Option Data) (sets : Sets) → member_of (codes "capabilities") ms ≡ o → option_map sets_of o ≡ Some sets
-    → members_faults document_rows [] ms ≡ [] → unless_faulty (object_faults document_rows [] ms) (unwrap_or (found_in ms) no_sets) ≡ Ok sets
+pub document_found : (ms : Members) (found : Found) (sets : Sets) → unless_faulty (members_faults document_rows [] ms) (found_in ms) ≡ Ok found → found.sets ≡ Some sets
+    → unless_faulty (object_faults document_rows [] ms) (parts_of (found_in ms)) ≡ Ok (record { sets = sets; filter = found.filter })
 unfolding object_faults
-found_by ms None sets is e none = absurd (cc)
-found_by ms (Some d) sets is e none = let same : sets_of d ≡ sets = cc in rw (none, is, same) refl
+document_found ms found sets told some =
+    let parts = ok_parts (members_faults document_rows [] ms) (found_in ms) found told in
+    let there = is_there sets_of (member_of (codes "capabilities") ms) sets (ap (λ (f : Found). f.sets) parts.1 ∙ some) in
+    rw (parts.0, there) (ap (λ (p : Parts). Ok p) (ap parts_of parts.1 ∙ ap (λ (o : Option Sets). parts_of (record { sets = o; filter = found.filter })) some))
 
-pub document_found : (ms : Members) (sets : Sets) → unless_faulty (members_faults document_rows [] ms) (found_in ms) ≡ Ok (Some sets)
-    → unless_faulty (object_faults document_rows [] ms) (unwrap_or (found_in ms) no_sets) ≡ Ok sets
-document_found ms sets told =
-    let parts = ok_parts (members_faults document_rows [] ms) (found_in ms) (Some sets) told in
-    found_by ms (member_of (codes "capabilities") ms) sets refl parts.1 parts.0
-
-missing_by : (ms : Members) (o : Option Data) → member_of (codes "capabilities") ms ≡ o → option_map sets_of o ≡ None
-    → members_faults document_rows [] ms ≡ [] → unless_faulty (object_faults document_rows [] ms) (unwrap_or (found_in ms) no_sets) ≡ Err (WrongShape (codes "/capabilities"))
+pub document_missing : (ms : Members) (found : Found) → unless_faulty (members_faults document_rows [] ms) (found_in ms) ≡ Ok found → found.sets ≡ None
+    → unless_faulty (object_faults document_rows [] ms) (parts_of (found_in ms)) ≡ Err (WrongShape (codes "/capabilities"))
 unfolding object_faults
-missing_by ms None is e none = rw (none, is) refl
-missing_by ms (Some d) is e none = absurd (cc)
-
-pub document_missing : (ms : Members) → unless_faulty (members_faults document_rows [] ms) (found_in ms) ≡ Ok None
-    → unless_faulty (object_faults document_rows [] ms) (unwrap_or (found_in ms) no_sets) ≡ Err (WrongShape (codes "/capabilities"))
-document_missing ms told =
-    let parts = ok_parts (members_faults document_rows [] ms) (found_in ms) None told in
-    missing_by ms (member_of (codes "capabilities") ms) refl parts.1 parts.0
-
--- the member `capabilities`
-pub found_caps : (name : List ℕ) (d : Data) (found : Option Sets) (sets : Sets) → bytes_eq name (codes "capabilities") ≡ true
-    → unless_faulty (caps_faults (codes "/capabilities") d) (sets_of d) ≡ Ok sets
-    → unless_faulty (row_faults (row_named document_rows name) (below [] name) d) (found_with name d found) ≡ Ok (Some sets)
-found_caps name d found sets is told =
-    let parts = ok_parts (caps_faults (codes "/capabilities") d) (sets_of d) sets told in
-    let P : List ℕ → Type 0 = λ n. unless_faulty (row_faults (row_named document_rows n) (below [] n) d) (found_with n d found) ≡ Ok (Some sets) in
-    subst P (sym (same_name name _ is)) (rw (parts.0, parts.1) refl)
-
--- the member `seccomp`
-pub found_seccomp : (name : List ℕ) (d : Data) (found : Option Sets) (r : Result (Option Sets) DocFault) → bytes_eq name (codes "seccomp") ≡ true
-    → Gives r (unless_faulty (seccomp_faults (codes "/seccomp") d) found)
-    → Gives r (unless_faulty (row_faults (row_named document_rows name) (below [] name) d) (found_with name d found))
-found_seccomp name d found r is told =
-    let P : List ℕ → Type 0 = λ n. Gives r (unless_faulty (row_faults (row_named document_rows n) (below [] n) d) (found_with n d found)) in
-    subst P (sym (same_name name _ is)) told
+document_missing ms found told none =
+    let parts = ok_parts (members_faults document_rows [] ms) (found_in ms) found told in
+    let absent = is_absent sets_of (member_of (codes "capabilities") ms) (ap (λ (f : Found). f.sets) parts.1 ∙ none) in
+    rw (parts.0, absent) refl
 
 -- more bytes than a document may have
 pub too_long : (bytes : List ℕ) → most_bytes < length bytes → reading_of bytes ≡ Err TooLong

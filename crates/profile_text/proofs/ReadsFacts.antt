@@ -6,7 +6,11 @@ use Rattle.serde_json.specs.Data.{Data, null, boolean, number, string, array, ob
 use Rattle.cap_sets.specs.Lawful.{IsLawful, IsFirstFault}
 use Rattle.cap_sets.specs.declared.state.CapState.{CapState}
 use Rattle.cap_sets.specs.declared.state.CapFault.{CapFault}
+use Rattle.seccomp_doc.specs.declared.fault.FilterFault.{FilterFault}
+use Rattle.seccomp_doc.specs.Checks.{fault_of}
 use Rattle.seccomp_doc.specs.Filter.{FilterValue}
+use Rattle.seccomp_doc.specs.Parts.{FilterPartsValue, filter_of}
+use Rattle.profile_text.specs.declared.document.Parts.{Parts}
 use Rattle.profile_text.specs.declared.fault.DocFault.{DocFault}
 use Rattle.profile_text.specs.declared.fault.DocFault.TheVariants.{TooLong, TextTooLong}
 use Rattle.profile_text.specs.declared.profile.Profile.{Profile}
@@ -14,14 +18,20 @@ use Rattle.profile_text.specs.declared.sets.CapSet.{CapSet}
 use Rattle.profile_text.specs.declared.sets.CapSet.TheVariants.{Ambient, Bounding, Effective, Inheritable, Permitted}
 use Rattle.profile_text.specs.declared.sets.Sets.{Sets}
 use Rattle.profile_text.specs.Document.{document_rows, document_faults}
-use Rattle.profile_text.specs.Reading.{◌>>=◌, unless_faulty, caps_or_fault, if_short, profile_of, profile_of_json, json_of, reading_of, most_bytes}
-use Rattle.profile_text.specs.Reads.{IsSetMember, IsCapsValue, IsDocumentMember, AllMembers, StandsForSet, StandsForCaps, MembersStandFor, StandsFor, Reads, state_set}
-use Rattle.profile_text.specs.Sets.{set_name, set_in, set_of, sets_in, sets_of, found_in, document_sets, no_sets, member_set}
+use Rattle.profile_text.specs.FilterParts.{seccomp_in}
+use Rattle.profile_text.specs.FilterReads.{AllMembers, IsA, IsSeccomp, Makes, StandsForFilter}
+use Rattle.profile_text.specs.FilterShape.{seccomp_faults}
+use Rattle.profile_text.specs.Reading.{◌>>=◌, unless_faulty, unless_unlawful, filter_or_fault, caps_or_fault, if_short, profile_of, profile_of_json, json_of, reading_of, most_bytes}
+use Rattle.profile_text.specs.Reads.{IsSetMember, IsCapsValue, IsDocumentMember, StandsForSet, StandsForCaps, MembersStandFor, StandsFor, Reads, state_set}
+use Rattle.profile_text.specs.Parts.{found_in, document_parts, parts_of}
+use Rattle.profile_text.specs.Sets.{set_name, set_in, set_of, sets_in, sets_of, no_sets, member_set}
 use Rattle.profile_text.specs.Shape.{member_of, members_faults, missing_faults, object_faults}
 use Rattle.profile_text.specs.State.{state_of, state_by, lawful_or_fault}
 use Rattle.profile_text.specs.Text.{text_of}
+use Rattle.profile_text.proofs.Agreeing.{both_empty, member_holds, optional_is, optional_same}
+use Rattle.profile_text.proofs.FilterAgrees.{seccomp_agrees}
 use Rattle.profile_text.proofs.GivesFacts.{ok_parts}
-use Rattle.profile_text.proofs.ShapeFacts.{both_empty, stands_for_own, stood_for, member_holds, document_members_from, no_document_members_fault}
+use Rattle.profile_text.proofs.ShapeFacts.{stands_for_own, stood_for, document_members_from, no_document_members_fault}
 use Rattle.profile_text.proofs.StateFacts.{state_told}
 use Rattle.profile_text.proofs.States.{same_profile}
 
@@ -105,32 +115,58 @@ caps_member : (d : Data) → IsDocumentMember (codes "capabilities") d → IsCap
 caps_member d (inl h) = h.1
 caps_member d (inr h) = absurd (let bad : codes "capabilities" ≡ codes "seccomp" = h.0 in cc)
 
-members_stand : (ms : Members) (p : Profile) (sets : Sets) → object_faults document_rows [] ms ≡ [] → unwrap_or (found_in ms) no_sets ≡ sets → HasSets p.caps sets → ◌≡◌ {A = Option FilterValue} p.filter None → MembersStandFor ms p
+-- what `seccomp` stands for makes the filter
+filter_stands : (ms : Members) (found : Option FilterPartsValue) (filter : Option FilterValue) → AllMembers IsDocumentMember ms → (found_in ms).filter ≡ found → filter_or_fault found ≡ Ok filter
+    → StandsForFilter (member_of (codes "seccomp") ms) filter
+filter_stands ms found filter all is made = (
+  (found_in ms).filter,
+  optional_is seccomp_faults seccomp_in IsSeccomp None seccomp_agrees (member_of (codes "seccomp") ms) (λ d at. seccomp_member d (member_holds IsDocumentMember (codes "seccomp") ms d all at)),
+  subst (λ p. Makes p filter) (sym is) (makes_from found filter made),
+)
+  where
+    seccomp_member : (d : Data) → IsDocumentMember (codes "seccomp") d → IsA IsSeccomp d
+    seccomp_member d (inl h) = absurd (let bad : codes "seccomp" ≡ codes "capabilities" = h.0 in cc)
+    seccomp_member d (inr h) = h.1
+
+    lawful_by : (p : FilterPartsValue) (fault : Option FilterFault) (filter : Option FilterValue) → fault_of p ≡ fault → unless_unlawful fault (filter_of p) ≡ Ok filter → (fault_of p ≡ None) × (filter ≡ Some (filter_of p))
+    lawful_by p None filter is e = let same : ◌≡◌ {A = Option FilterValue} (Some (filter_of p)) filter = cc in (is, sym same)
+    lawful_by p (Some fault) filter is e = absurd (cc)
+
+    makes_from : (p : Option FilterPartsValue) (filter : Option FilterValue) → filter_or_fault p ≡ Ok filter → Makes p filter
+    makes_from None filter e = let same : ◌≡◌ {A = Option FilterValue} None filter = cc in sym same
+    makes_from (Some p) filter e = lawful_by p (fault_of p) filter refl e
+
+-- and the filter that it makes is the filter
+filter_made : (p : Option FilterPartsValue) (filter : Option FilterValue) → Makes p filter → filter_or_fault p ≡ Ok filter
+filter_made None filter h = rw h refl
+filter_made (Some p) filter h = rw (h.0, h.1) refl
+
+members_stand : (ms : Members) (p : Profile) (parts : Parts) → object_faults document_rows [] ms ≡ [] → parts_of (found_in ms) ≡ parts → HasSets p.caps parts.sets → filter_or_fault parts.filter ≡ Ok p.filter → MembersStandFor ms p
 unfolding object_faults
-members_stand ms p sets none is caps filter =
-    let parts = both_empty (members_faults document_rows [] ms) (missing_faults document_rows [] ms) none in
-    let all = document_members_from [] ms parts.0 in
-    let found = missing_by ms (member_of (codes "capabilities") ms) refl parts.1 in
-    let own : sets_of found.0 ≡ sets = sym (ap (λ o. unwrap_or (option_map sets_of o) no_sets) found.1) ∙ is in
+members_stand ms p parts none is caps filter =
+    let faultless = both_empty (members_faults document_rows [] ms) (missing_faults document_rows [] ms) none in
+    let all = document_members_from [] ms faultless.0 in
+    let found = missing_by ms (member_of (codes "capabilities") ms) refl faultless.1 in
+    let own : sets_of found.0 ≡ parts.sets = sym (ap (λ o. unwrap_or (option_map sets_of o) no_sets) found.1) ∙ ap (λ (x : Parts). x.sets) is in
     record {
       members = all;
       caps = (found.0, found.1, caps_stand found.0 p.caps (caps_member found.0 (member_holds IsDocumentMember (codes "capabilities") ms found.0 all found.1)) (λ set. caps set ∙ ap (set_in set) (sym own)));
-      filter = filter;
+      filter = filter_stands ms parts.filter p.filter all (ap (λ (x : Parts). x.filter) is) filter;
     }
 
 -- ---- the document
 
-stands : (d : Data) (p : Profile) (sets : Sets) → unless_faulty (document_faults d) (document_sets d) ≡ Ok sets → HasSets p.caps sets → ◌≡◌ {A = Option FilterValue} p.filter None → StandsFor d p
-unfolding document_faults document_sets
-stands (object ms) p sets e caps filter = let parts = ok_parts (object_faults document_rows [] ms) (unwrap_or (found_in ms) no_sets) sets e in members_stand ms p sets parts.0 parts.1 caps filter
-stands null p sets e caps filter = absurd (cc)
-stands (boolean b) p sets e caps filter = absurd (cc)
-stands (number n) p sets e caps filter = absurd (cc)
-stands (string s) p sets e caps filter = absurd (cc)
-stands (array ds) p sets e caps filter = absurd (cc)
+stands : (d : Data) (p : Profile) (parts : Parts) → unless_faulty (document_faults d) (document_parts d) ≡ Ok parts → HasSets p.caps parts.sets → filter_or_fault parts.filter ≡ Ok p.filter → StandsFor d p
+unfolding document_faults document_parts
+stands (object ms) p parts e caps filter = let is = ok_parts (object_faults document_rows [] ms) (parts_of (found_in ms)) parts e in members_stand ms p parts is.0 is.1 caps filter
+stands null p parts e caps filter = absurd (cc)
+stands (boolean b) p parts e caps filter = absurd (cc)
+stands (number n) p parts e caps filter = absurd (cc)
+stands (string s) p parts e caps filter = absurd (cc)
+stands (array ds) p parts e caps filter = absurd (cc)
 
-abbrev caps_profile : CapState → Profile
-caps_profile caps = record { caps = caps; filter = None }
+abbrev profile : CapState → Option FilterValue → Profile
+profile caps filter = record { caps = caps; filter = filter }
 
 short_by : (b : Bool) (q p : Profile) (n : ℕ) → nat_lt most_bytes n ≡ b → cond b (Err TextTooLong) (Ok q) ≡ Ok p → (n ≤ most_bytes) × (q ≡ p)
 short_by true q p n is e = absurd (cc)
@@ -142,22 +178,34 @@ short_ok q p e = short_by (nat_lt most_bytes (length (text_of q))) q p (length (
 profile_stands : (d : Data) (p : Profile) → profile_of d ≡ Ok p → StandsFor d p × (length (text_of p) ≤ most_bytes)
 unfolding profile_of
 profile_stands d p e =
-    let walk = bind_ok (unless_faulty (document_faults d) (document_sets d)) _ p e in
-    let told = bind_ok (caps_or_fault (state_of walk.0)) (λ caps. if_short (caps_profile caps)) p walk.2 in
-    let short = short_ok (caps_profile told.0) p told.2 in
-    let has = state_has walk.0 told.0 (caps_ok (state_of walk.0) told.0 told.1) in (
-      subst (StandsFor d) short.1 (stands d (caps_profile told.0) walk.0 walk.1 has refl),
+    let walk = bind_ok (unless_faulty (document_faults d) (document_parts d)) _ p e in
+    let told = bind_ok (caps_or_fault (state_of walk.0.sets)) (λ caps. filter_or_fault walk.0.filter >>= (λ filter. if_short (profile caps filter))) p walk.2 in
+    let made = bind_ok (filter_or_fault walk.0.filter) (λ filter. if_short (profile told.0 filter)) p told.2 in
+    let short = short_ok (profile told.0 made.0) p made.2 in
+    let has = state_has walk.0.sets told.0 (caps_ok (state_of walk.0.sets) told.0 told.1) in (
+      subst (StandsFor d) short.1 (stands d (profile told.0 made.0) walk.0 walk.1 has made.1),
       subst (λ (q : Profile). length (text_of q) ≤ most_bytes) short.1 short.0,
     )
 
-members_stood : (ms : Members) (p : Profile) → MembersStandFor ms p → (sets : Sets) × (unless_faulty (object_faults document_rows [] ms) (unwrap_or (found_in ms) no_sets) ≡ Ok sets) × HasSets p.caps sets
+filter_stood : (ms : Members) (filter : Option FilterValue) → StandsForFilter (member_of (codes "seccomp") ms) filter → filter_or_fault (found_in ms).filter ≡ Ok filter
+filter_stood ms filter h =
+    ap filter_or_fault (optional_same seccomp_faults seccomp_in IsSeccomp None seccomp_agrees (member_of (codes "seccomp") ms) h.0 h.1) ∙ filter_made h.0 filter h.2
+
+abbrev Stood : Profile → Result Parts DocFault → Type 0
+Stood p reading = (parts : Parts) × (reading ≡ Ok parts) × HasSets p.caps parts.sets × (filter_or_fault parts.filter ≡ Ok p.filter)
+
+members_stood : (ms : Members) (p : Profile) → MembersStandFor ms p → Stood p (unless_faulty (object_faults document_rows [] ms) (parts_of (found_in ms)))
 unfolding object_faults
 members_stood ms p h =
-    let found = h.caps.1 in
-    (sets_of h.caps.0, rw (no_document_members_fault [] ms h.members, none_missing ms h.caps.0 found, found) refl, caps_stood h.caps.0 p.caps h.caps.2)
+    let found = h.caps.1 in (
+      record { sets = sets_of h.caps.0; filter = (found_in ms).filter },
+      rw (no_document_members_fault [] ms h.members, none_missing ms h.caps.0 found, found) refl,
+      caps_stood h.caps.0 p.caps h.caps.2,
+      filter_stood ms p.filter h.filter,
+    )
 
-stood : (d : Data) (p : Profile) → StandsFor d p → (sets : Sets) × (unless_faulty (document_faults d) (document_sets d) ≡ Ok sets) × HasSets p.caps sets
-unfolding document_faults document_sets
+stood : (d : Data) (p : Profile) → StandsFor d p → Stood p (unless_faulty (document_faults d) (document_parts d))
+unfolding document_faults document_parts
 stood (object ms) p h = members_stood ms p h
 stood null p h = absurd h
 stood (boolean b) p h = absurd h
@@ -165,20 +213,11 @@ stood (number n) p h = absurd h
 stood (string s) p h = absurd h
 stood (array ds) p h = absurd h
 
-no_filter : (d : Data) (p : Profile) → StandsFor d p → ◌≡◌ {A = Option FilterValue} p.filter None
-no_filter (object ms) p h = h.filter
-no_filter null p h = absurd h
-no_filter (boolean b) p h = absurd h
-no_filter (number n) p h = absurd h
-no_filter (string s) p h = absurd h
-no_filter (array ds) p h = absurd h
-
 profile_stood : (d : Data) (p : Profile) → StandsFor d p → length (text_of p) ≤ most_bytes → profile_of d ≡ Ok p
 unfolding profile_of
 profile_stood d p h short =
     let walk = stood d p h in
-    let same : caps_profile p.caps ≡ p = same_profile (caps_profile p.caps) p refl (sym (no_filter d p h)) in
-    rw (walk.1, state_from walk.0 p.caps walk.2, same, le-ltb most_bytes (length (text_of p)) short) refl
+    rw (walk.1, state_from walk.0.sets p.caps walk.2, walk.3, le-ltb most_bytes (length (text_of p)) short) refl
 
 -- ---- the bytes
 

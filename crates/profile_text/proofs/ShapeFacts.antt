@@ -8,20 +8,17 @@ use Rattle.cap_sets.specs.Capability.{number_named}
 use Rattle.profile_text.specs.declared.fault.DocFault.{DocFault}
 use Rattle.profile_text.specs.declared.sets.CapSet.{CapSet}
 use Rattle.profile_text.specs.declared.sets.CapSet.TheVariants.{Ambient, Bounding, Effective, Inheritable, Permitted}
-use Rattle.profile_text.specs.Document.{is_cap_name, set_faults, caps_row, caps_rows, caps_faults, seccomp_faults, document_rows, document_faults}
-use Rattle.profile_text.specs.Reads.{Names, AllName, ListsSet, IsSetValue, StandsForSet, AllMembers, IsSetMember, IsCapsValue, IsDocumentMember}
+use Rattle.profile_text.specs.Document.{is_cap_name, set_faults, caps_row, caps_rows, caps_faults, document_rows}
+use Rattle.profile_text.specs.FilterParts.{seccomp_in}
+use Rattle.profile_text.specs.FilterReads.{AllMembers}
+use Rattle.profile_text.specs.Reads.{Names, AllName, ListsSet, IsSetValue, StandsForSet, IsSetMember, IsCapsValue, IsDocumentMember}
 use Rattle.profile_text.specs.Sets.{set_name, set_named, set_of}
 use Rattle.profile_text.specs.Shape.{below, word_faults, items_faults, list_faults, optional_faults, row_faults, row_named, members_faults, missing_faults, object_faults, member_from, member_of}
+use Rattle.profile_text.proofs.Agreeing.{both_empty, empty_both}
+use Rattle.profile_text.proofs.FilterAgrees.{seccomp_agrees}
 use Rattle.profile_text.proofs.NameFacts.{lists_own_set, listed_set}
 use Rattle.profile_text.proofs.Picks.{name_cases, same_name, row_is, IsNoSet}
 use Rattle.profile_text.proofs.WalkFacts.{caps_object}
-
-pub both_empty : (a b : List DocFault) → a ++ b ≡ [] → (a ≡ []) × (b ≡ [])
-both_empty [] b e = (refl, e)
-both_empty (f ∷ a) b e = absurd (cc)
-
-pub empty_both : (a b : List DocFault) → a ≡ [] → b ≡ [] → a ++ b ≡ []
-empty_both a b e f = rw (e, f) refl
 
 -- ---- lists of names
 
@@ -102,24 +99,6 @@ stood_for (Some (number n)) caps h = absurd h
 stood_for (Some (string s)) caps h = absurd h
 stood_for (Some (object ms)) caps h = absurd h
 
--- ---- members
-
-found_by : (P : List ℕ → Data → Type 0) (n name : List ℕ) (e d : Data) (found : Option Data) (b : Bool) → bytes_eq n name ≡ b → P n e → cond b (Some e) found ≡ Some d → (found ≡ Some d) ⊎ P name d
-found_by P n name e d found true is p same = let here : e ≡ d = cc in inr (subst (P name) here (subst (λ m. P m e) (same_name n name is) p))
-found_by P n name e d found false is p same = inl same
-
-found_holds : (P : List ℕ → Data → Type 0) (name : List ℕ) (found : Option Data) (ms : Members) (d : Data) → AllMembers P ms → member_from found name ms ≡ Some d → (found ≡ Some d) ⊎ P name d
-found_holds P name found no_members d all e = inl e
-found_holds P name found (member n x ms) d all e =
-    elim (found_holds P name (cond (bytes_eq n name) (Some x) found) ms d all.1 e) as (λ _. (found ≡ Some d) ⊎ P name d) [
-      | inr p ↦ inr p
-      | inl here ↦ found_by P n name x d found (bytes_eq n name) refl all.0 here
-    ]
-
--- what holds of each member holds of the one that is found
-pub member_holds : (P : List ℕ → Data → Type 0) (name : List ℕ) (ms : Members) (d : Data) → AllMembers P ms → member_of name ms ≡ Some d → P name d
-member_holds P name ms d all e = elim (found_holds P name None ms d all e) as (λ _. P name d) [ inl none ↦ absurd (let bad : ◌≡◌ {A = Option Data} None (Some d) = none in cc) | inr p ↦ p ]
-
 -- ---- `capabilities`
 
 set_row : (set : CapSet) → row_named caps_rows (set_name set) ≡ Some (caps_row set)
@@ -176,22 +155,9 @@ no_caps_fault path (array ds) h = absurd h
 
 -- ---- the document
 
-seccomp_from_none : (path : List ℕ) (d : Data) → seccomp_faults path d ≡ [] → d ≡ null
-unfolding optional_faults
-seccomp_from_none path null e = refl
-seccomp_from_none path (boolean b) e = absurd (cc)
-seccomp_from_none path (number n) e = absurd (cc)
-seccomp_from_none path (string s) e = absurd (cc)
-seccomp_from_none path (array ds) e = absurd (cc)
-seccomp_from_none path (object ms) e = absurd (cc)
-
-no_seccomp_fault : (path : List ℕ) (d : Data) → d ≡ null → seccomp_faults path d ≡ []
-unfolding optional_faults
-no_seccomp_fault path d e = rw e refl
-
 document_member_by : (path name : List ℕ) (d : Data) (a b : Bool) → bytes_eq name (codes "capabilities") ≡ a → bytes_eq name (codes "seccomp") ≡ b → row_faults (row_named document_rows name) path d ≡ [] → IsDocumentMember name d
 document_member_by path name d true b is other e = inl (same_name name _ is, caps_from_none path d (rw is at e))
-document_member_by path name d false true is other e = inr (same_name name _ other, seccomp_from_none path d (rw (is, other) at e))
+document_member_by path name d false true is other e = inr (same_name name _ other, (seccomp_in d, seccomp_agrees.stands path d (rw (is, other) at e)))
 document_member_by path name d false false is other e = let bad = rw (is, other) at e in absurd (cc)
 
 document_member_from : (path name : List ℕ) (d : Data) → row_faults (row_named document_rows name) path d ≡ [] → IsDocumentMember name d
@@ -199,7 +165,7 @@ document_member_from path name d e = document_member_by path name d _ _ refl ref
 
 no_document_member_fault : (path name : List ℕ) (d : Data) → IsDocumentMember name d → row_faults (row_named document_rows name) path d ≡ []
 no_document_member_fault path name d (inl h) = rw h.0 (no_caps_fault path d h.1)
-no_document_member_fault path name d (inr h) = rw h.0 (no_seccomp_fault path d h.1)
+no_document_member_fault path name d (inr h) = rw h.0 (seccomp_agrees.faultless path d h.1.0 h.1.1)
 
 pub document_members_from : (path : List ℕ) (ms : Members) → members_faults document_rows path ms ≡ [] → AllMembers IsDocumentMember ms
 unfolding members_faults

@@ -6,7 +6,8 @@ use Rattle.profile_text.specs.declared.fault.DocFault.{DocFault}
 use Rattle.profile_text.specs.declared.fault.DocFault.TheVariants.{WrongShape}
 use Rattle.profile_text.specs.declared.sets.CapSet.{CapSet}
 use Rattle.profile_text.specs.Sets.{set_name, cap_sets}
-use Rattle.profile_text.specs.Shape.{Shape, Row, word_faults, list_faults, optional_faults, refused_faults, object_faults}
+use Rattle.profile_text.specs.Shape.{Shape, Row, word_faults, list_faults, optional_faults, object_faults}
+use Rattle.profile_text.specs.FilterShape.{seccomp_faults}
 
 -- the name of a capability
 abbrev pub is_cap_name : List ℕ → Bool
@@ -30,10 +31,6 @@ caps_faults path (boolean b) = WrongShape path ∷ []
 caps_faults path (number n) = WrongShape path ∷ []
 caps_faults path (string s) = WrongShape path ∷ []
 caps_faults path (array ds) = WrongShape path ∷ []
-
--- `seccomp`: absent, until filters are read
-abbrev pub seccomp_faults : Shape
-seccomp_faults path d = optional_faults refused_faults path d
 
 -- the document
 abbrev pub document_rows : List Row

@@ -3,8 +3,13 @@ pub mod Digest
 pub mod FaultText
 pub mod Text
 pub mod Shape
+pub mod FilterParts
+pub mod FilterShape
+pub mod FilterFound
 pub mod Document
 pub mod Sets
+pub mod Parts
 pub mod State
 pub mod Reading
+pub mod FilterReads
 pub mod Reads

@@ -5,11 +5,15 @@ use Rattle.serde_json.specs.Data.{Data}
 use Rattle.serde_json.specs.Read.{read}
 use Rattle.cap_sets.specs.declared.state.CapState.{CapState}
 use Rattle.cap_sets.specs.declared.state.CapFault.{CapFault}
+use Rattle.seccomp_doc.specs.declared.fault.FilterFault.{FilterFault}
+use Rattle.seccomp_doc.specs.Filter.{FilterValue}
+use Rattle.seccomp_doc.specs.Parts.{FilterPartsValue, filter_of}
+use Rattle.seccomp_doc.specs.Checks.{fault_of}
 use Rattle.profile_text.specs.declared.fault.DocFault.{DocFault}
-use Rattle.profile_text.specs.declared.fault.DocFault.TheVariants.{TooLong, NotJson, Caps, NoMemory, TextTooLong}
+use Rattle.profile_text.specs.declared.fault.DocFault.TheVariants.{TooLong, NotJson, Caps, Filter, NoMemory, TextTooLong}
 use Rattle.profile_text.specs.declared.profile.Profile.{Profile}
 use Rattle.profile_text.specs.Document.{document_faults}
-use Rattle.profile_text.specs.Sets.{document_sets}
+use Rattle.profile_text.specs.Parts.{document_parts}
 use Rattle.profile_text.specs.State.{state_of}
 use Rattle.profile_text.specs.Text.{text_of}
 
@@ -37,16 +41,27 @@ abbrev pub caps_or_fault : Result CapState CapFault → Result CapState DocFault
 caps_or_fault (Ok caps) = Ok caps
 caps_or_fault (Err fault) = Err (Caps fault)
 
+-- the filter, unless its parts have a fault, which is then a fault of the document
+abbrev pub unless_unlawful : Option FilterFault → FilterValue → Result (Option FilterValue) DocFault
+unless_unlawful None filter = Ok (Some filter)
+unless_unlawful (Some fault) filter = Err (Filter fault)
+
+-- the filter of its parts, where there are any
+abbrev pub filter_or_fault : Option FilterPartsValue → Result (Option FilterValue) DocFault
+filter_or_fault None = Ok None
+filter_or_fault (Some parts) = unless_unlawful (fault_of parts) (filter_of parts)
+
 -- a profile has a text that is not too long
 abbrev pub if_short : Profile → Result Profile DocFault
 if_short p = if nat_lt most_bytes (length (text_of p)) then Err TextTooLong else Ok p
 
--- the profile of a JSON value: the walk, the state of the sets, the length of the text
+-- the profile of a JSON value: the walk, the state of the sets, the filter, the length of the text
 unfoldable pub profile_of : Data → Result Profile DocFault
 profile_of d = do
-  sets ← unless_faulty (document_faults d) (document_sets d)
-  caps ← caps_or_fault (state_of sets)
-  if_short (record { caps = caps; filter = None })
+  parts ← unless_faulty (document_faults d) (document_parts d)
+  caps ← caps_or_fault (state_of parts.sets)
+  filter ← filter_or_fault parts.filter
+  if_short (record { caps = caps; filter = filter })
 
 abbrev pub profile_of_json : Option Data → Result Profile DocFault
 profile_of_json None = Err NotJson
@@ -60,3 +75,8 @@ reading_of bytes = if nat_lt most_bytes (length bytes) then Err TooLong else pro
 abbrev pub Gives : {X : Type 0} → Result X DocFault → Result X DocFault → Type 0
 Gives (Ok x) reading = reading ≡ Ok x
 Gives (Err fault) reading = (fault ≡ NoMemory) ⊎ (reading ≡ Err fault)
+
+-- the same of a value that is seen by a rule
+abbrev pub GivesAs : {X Y : Type 0} → (X → Y) → Result X DocFault → Result Y DocFault → Type 0
+GivesAs seen (Ok x) reading = reading ≡ Ok (seen x)
+GivesAs seen (Err fault) reading = (fault ≡ NoMemory) ⊎ (reading ≡ Err fault)

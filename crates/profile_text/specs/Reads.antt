@@ -1,13 +1,16 @@
 -- What a document reads as: a relation between bytes and a profile, by the JSON value that serde_json's own definition
 -- gives for the bytes. Nothing is walked here, and no fault is named.
-use Rattle.std.specs.Prelude.{◌≡◌, ◌↔◌, ◌⊎◌, ◌≤◌, ◌<◌, ◌^◌, ℕ, List, [], ◌∷◌, length, codes, Option, Some, None, ⊤}
+use Rattle.std.specs.Prelude.{◌≡◌, ◌↔◌, ◌⊎◌, ◌≤◌, ◌<◌, ◌^◌, ℕ, List, [], ◌∷◌, length, codes, Option, Some, None, ⊤, true, All, IfSome}
 use Rattle.serde_json.specs.Data.{Data, null, boolean, number, string, array, object, Items, no_items, item, Members, no_members, member}
 use Rattle.cap_sets.specs.Capability.{Has, number_named}
 use Rattle.cap_sets.specs.declared.state.CapState.{CapState}
 use Rattle.seccomp_doc.specs.Filter.{FilterValue}
+use Rattle.seccomp_doc.specs.Lawful.{IsLawful}
+use Rattle.seccomp_doc.specs.Word.{is_arch, is_flag}
 use Rattle.profile_text.specs.declared.profile.Profile.{Profile}
 use Rattle.profile_text.specs.declared.sets.CapSet.{CapSet}
 use Rattle.profile_text.specs.declared.sets.CapSet.TheVariants.{Ambient, Bounding, Effective, Inheritable, Permitted}
+use Rattle.profile_text.specs.FilterReads.{AllMembers, IsA, IsSeccomp, StandsForFilter}
 use Rattle.profile_text.specs.Reading.{json_of, most_bytes}
 use Rattle.profile_text.specs.Sets.{set_name}
 use Rattle.profile_text.specs.Shape.{member_of}
@@ -55,11 +58,6 @@ StandsForSet (Some (number n)) caps = ⊥
 StandsForSet (Some (string s)) caps = ⊥
 StandsForSet (Some (object ms)) caps = ⊥
 
--- each member, by its name and its value
-abbrev pub AllMembers : (List ℕ → Data → Type 0) → Members → Type 0
-AllMembers P no_members = ⊤
-AllMembers P (member name d ms) = P name d × AllMembers P ms
-
 -- one of the five sets of a state
 abbrev pub state_set : CapSet → CapState → ℕ
 state_set Ambient s = s.ambient
@@ -90,15 +88,15 @@ StandsForCaps (number n) s = ⊥
 StandsForCaps (string t) s = ⊥
 StandsForCaps (array ds) s = ⊥
 
--- a member of a document: `capabilities`, or `seccomp` with null, until filters are read
+-- a member of a document: `capabilities`, or `seccomp`
 abbrev pub IsDocumentMember : List ℕ → Data → Type 0
-IsDocumentMember name d = ((name ≡ codes "capabilities") × IsCapsValue d) ⊎ ((name ≡ codes "seccomp") × (d ≡ null))
+IsDocumentMember name d = ((name ≡ codes "capabilities") × IsCapsValue d) ⊎ ((name ≡ codes "seccomp") × IsA IsSeccomp d)
 
 -- the members of a document stand for a profile
 pub record MembersStandFor (ms : Members) (p : Profile) : Type 0 where
   pub members : AllMembers IsDocumentMember ms
   pub caps : (d : Data) × (member_of (codes "capabilities") ms ≡ Some d) × StandsForCaps d p.caps
-  pub filter : ◌≡◌ {A = Option FilterValue} p.filter None
+  pub filter : StandsForFilter (member_of (codes "seccomp") ms) p.filter
 
 abbrev pub StandsFor : Data → Profile → Type 0
 StandsFor (object ms) p = MembersStandFor ms p
@@ -121,3 +119,12 @@ pub record HasKnownCaps (s : CapState) : Type 0 where
   pub inheritable : s.inheritable < 2 ^ 41
   pub bounding : s.bounding < 2 ^ 41
   pub ambient : s.ambient < 2 ^ 41
+
+-- a filter that `seccomp_doc` can make: a lawful one, of architectures and flags that are of the form
+pub record IsWhole (f : FilterValue) : Type 0 where
+  pub lawful : IsLawful f
+  pub architectures : All (λ a. is_arch a ≡ true) f.architectures
+  pub flags : All (λ a. is_flag a ≡ true) f.flags
+
+abbrev pub HasWholeFilter : Profile → Type 0
+HasWholeFilter p = IfSome p.filter IsWhole

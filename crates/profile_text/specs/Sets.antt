@@ -1,5 +1,5 @@
 -- The five sets that a document names. A set is the number whose bit n is set where capability n is a member.
-use Rattle.std.specs.Prelude.{ℕ, List, [], ◌∷◌, Option, Some, None, find, bytes_eq, codes, option_map, unwrap_or, if◌then◌else◌}
+use Rattle.std.specs.Prelude.{ℕ, List, [], ◌∷◌, Option, Some, None, find, bytes_eq, codes}
 use Rattle.std.specs.Option.{option_map_or}
 use Rattle.std.specs.Int.RustNames.{bit_or}
 use Rattle.serde_json.specs.Data.{Data, null, boolean, number, string, array, object, Items, no_items, item, Members}
@@ -95,20 +95,3 @@ sets_of (boolean b) = no_sets
 sets_of (number n) = no_sets
 sets_of (string s) = no_sets
 sets_of (array ds) = no_sets
-
--- the sets of the member `capabilities`, where it is there
-abbrev pub found_in : Members → Option Sets
-found_in ms = option_map sets_of (member_of (codes "capabilities") ms)
-
--- the sets found so far, with those of one more member
-abbrev pub found_with : List ℕ → Data → Option Sets → Option Sets
-found_with name d found = if bytes_eq name (codes "capabilities") then Some (sets_of d) else found
-
--- the sets of a document
-unfoldable pub document_sets : Data → Sets
-document_sets (object ms) = unwrap_or (found_in ms) no_sets
-document_sets null = no_sets
-document_sets (boolean b) = no_sets
-document_sets (number n) = no_sets
-document_sets (string s) = no_sets
-document_sets (array ds) = no_sets

@@ -1,66 +1,66 @@
 // The reader of documents.
 
-ghost use Rattle.std.specs.Prelude.{◌≡◌, ◌<◌, [], codes, length, unwrap_or, Err};
+ghost use Rattle.std.specs.Prelude.{◌≡◌, ◌<◌, [], length, Err};
 ghost use Rattle.serde_json.specs.View.{members_view, view};
-ghost use Rattle.profile_text.specs.Document.{document_faults, document_rows, seccomp_faults};
+ghost use Rattle.profile_text.specs.Document.{document_faults, document_rows};
 ghost use Rattle.profile_text.specs.Reading.{Gives, if_short, most_bytes, profile_of, reading_of, unless_faulty};
-ghost use Rattle.profile_text.specs.Sets.{document_sets, found_in, found_with, no_sets};
+ghost use Rattle.profile_text.specs.Parts.{document_parts, found_in, found_with, parts_of};
 ghost use Rattle.profile_text.specs.Shape.{below, members_faults, object_faults, row_faults, row_named};
 
 use crate::canonical::print;
 use crate::capabilities::capabilities_of;
 use crate::fault::{DocFault, Path};
+use crate::filter::{filter_of, seccomp_of};
 use crate::profile::Profile;
 use crate::sets::Sets;
+use seccomp_doc::FilterParts;
 use serde_json::{Map, Value};
 use std::alloc::Global;
 
 // How many bytes a document may have, and its canonical text.
 const MOST_BYTES: usize = 262_144;
 
-// The sets found so far, with those of one more member of the document.
-fn found_with(
-    alloc: Global,
-    found: Option<Sets>,
-    name: &str,
-    value: &Value,
-) -> Result<Option<Sets>, DocFault>
+// What the members of a document give, where they are there.
+#[derive(Debug, Drop)]
+pub(crate) struct Found {
+    sets: Option<Sets>,
+    filter: Option<FilterParts>,
+}
+
+// What a document names: five sets, and the parts of a filter, where it has one.
+#[derive(Debug, Drop)]
+pub(crate) struct Parts {
+    sets: Sets,
+    filter: Option<FilterParts>,
+}
+
+// What was found so far, with one member more.
+fn found_with(alloc: Global, found: Found, name: &str, value: &Value) -> Result<Found, DocFault>
     ensures { Gives result (unless_faulty
         (row_faults (row_named document_rows name.now) (below [] name.now) (view value.now))
         (found_with name.now (view value.now) found)) }
 {
     if name == "capabilities" {
-        let sets = capabilities_of(alloc, value)?;
-        Ok(Some(sets))
+        let sets = Some(capabilities_of(alloc, value)?);
+        Ok(Found { sets, ..found })
     } else if name == "seccomp" {
-        without_seccomp(alloc, found, value)
+        let filter = seccomp_of(alloc, value)?;
+        Ok(Found { filter, ..found })
     } else {
         Err(DocFault::UnknownMember(Path::of_member(alloc, "", name)?))
     }
 }
 
-// The sets found so far, where there is no filter.
-#[tactic(auto, unfolding(crate::specs::Shape::optional_faults))]
-fn without_seccomp(
-    alloc: Global,
-    found: Option<Sets>,
-    value: &Value,
-) -> Result<Option<Sets>, DocFault>
-    ensures { Gives result (unless_faulty (seccomp_faults (codes "/seccomp") (view value.now)) found) }
-{
-    match value {
-        Value::Null => Ok(found),
-        _ => Err(DocFault::NotInProfile(Path::new(alloc, "/seccomp")?)),
-    }
-}
-
-// The sets that the members of a document have, if they have any.
-fn found_in(alloc: Global, members: &Map<String, Value>) -> Result<Option<Sets>, DocFault>
+// What the members give.
+fn found_in(alloc: Global, members: &Map<String, Value>) -> Result<Found, DocFault>
     ensures { Gives result (unless_faulty
         (members_faults document_rows [] (members_view members.now.entries))
         (found_in (members_view members.now.entries))) }
 {
-    let mut found = None;
+    let mut found = Found {
+        sets: None,
+        filter: None,
+    };
     for (name, value) in members {
         let name = name.as_str();
         found = found_with(alloc, found, name, value)?;
@@ -68,25 +68,26 @@ fn found_in(alloc: Global, members: &Map<String, Value>) -> Result<Option<Sets>,
     Ok(found)
 }
 
-// The sets of a document's members, of which `capabilities` is required.
-fn sets_in(alloc: Global, members: &Map<String, Value>) -> Result<Sets, DocFault>
+// The parts of the members, of which `capabilities` is required.
+fn parts_in(alloc: Global, members: &Map<String, Value>) -> Result<Parts, DocFault>
     ensures { Gives result (unless_faulty
         (object_faults document_rows [] (members_view members.now.entries))
-        (unwrap_or (found_in (members_view members.now.entries)) no_sets)) }
+        (parts_of (found_in (members_view members.now.entries)))) }
 {
-    match found_in(alloc, members)? {
-        Some(sets) => Ok(sets),
+    let Found { sets, filter } = found_in(alloc, members)?;
+    match sets {
+        Some(sets) => Ok(Parts { sets, filter }),
         None => Err(DocFault::WrongShape(Path::new(alloc, "/capabilities")?)),
     }
 }
 
-// The sets of a document.
-#[tactic(auto, unfolding(crate::specs::Document::document_faults, crate::specs::Sets::document_sets))]
-fn sets_of(alloc: Global, value: &Value) -> Result<Sets, DocFault>
-    ensures { Gives result (unless_faulty (document_faults (view value.now)) (document_sets (view value.now))) }
+// The parts of a document.
+#[tactic(auto, unfolding(crate::specs::Document::document_faults, crate::specs::Parts::document_parts))]
+fn parts_of(alloc: Global, value: &Value) -> Result<Parts, DocFault>
+    ensures { Gives result (unless_faulty (document_faults (view value.now)) (document_parts (view value.now))) }
 {
     match value {
-        Value::Object(members) => sets_in(alloc, members),
+        Value::Object(members) => parts_in(alloc, members),
         _ => Err(DocFault::WrongShape(Path::new(alloc, "/")?)),
     }
 }
@@ -107,9 +108,12 @@ fn if_short(alloc: Global, profile: Profile) -> Result<Profile, DocFault>
 fn profile_of(alloc: Global, value: &Value) -> Result<Profile, DocFault>
     ensures { Gives result (profile_of (view value.now)) }
 {
-    let sets = sets_of(alloc, value)?;
+    let Parts { sets, filter } = parts_of(alloc, value)?;
     match sets.state() {
-        Ok(caps) => if_short(alloc, Profile::new(caps, None)),
+        Ok(caps) => {
+            let filter = filter_of(alloc, filter)?;
+            if_short(alloc, Profile::new(caps, filter))
+        }
         Err(fault) => Err(DocFault::Caps(fault)),
     }
 }

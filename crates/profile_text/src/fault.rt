@@ -4,6 +4,7 @@ ghost use Rattle.std.specs.Prelude.{◌≡◌, IfOk, string_bytes};
 ghost use Rattle.profile_text.specs.FaultText.{fault_text_of};
 
 use cap_sets::CapFault;
+use seccomp_doc::FilterFault;
 use std::alloc::{AllocError, Global};
 use std::error::Error;
 use std::fmt;
@@ -61,7 +62,7 @@ impl Path {
 }
 
 /// Why bytes are no document. A document has the first fault in this order: it is too long, it isn't JSON, the first
-/// fault of a walk over its values, the fault of its capability sets, its canonical text is too long. Memory may be
+/// fault of a walk over its values, the fault of its capability sets, that of its filter, its canonical text is too long. Memory may be
 /// refused in place of any but the first.
 #[derive(Debug, Drop)]
 pub enum DocFault {
@@ -81,7 +82,9 @@ pub enum DocFault {
     BadNumber(Path),
     /// The five capability sets are no lawful state.
     Caps(CapFault),
-    /// Memory was refused.
+    /// The parts of `seccomp` are no filter.
+    Filter(FilterFault),
+    /// Memory was refused; it is never told inside `Filter`.
     NoMemory,
     /// The canonical text has more than 262,144 bytes.
     TextTooLong,
@@ -115,6 +118,17 @@ impl fmt::Display for DocFault {
             DocFault::NotInProfile(path) => write!(f, "not-in-profile {}", path.as_str()),
             DocFault::BadNumber(path) => write!(f, "bad-number {}", path.as_str()),
             DocFault::Caps(fault) => write!(f, "{fault}"),
+            DocFault::Filter(fault) => match fault {
+                FilterFault::NoNames => write!(f, "no-names"),
+                FilterFault::BadCallName => write!(f, "bad-call-name"),
+                FilterFault::BadIndex => write!(f, "bad-index"),
+                FilterFault::IndexTwice => write!(f, "index-twice"),
+                FilterFault::ErrnoNotTaken => write!(f, "errno-not-taken"),
+                FilterFault::ErrnoTooLarge => write!(f, "errno-too-large"),
+                FilterFault::TwoActions(name) => write!(f, "two-actions {}", name.as_str()),
+                FilterFault::TooMany => write!(f, "too-many"),
+                FilterFault::NoMemory => write!(f, "memory"),
+            },
             DocFault::NoMemory => write!(f, "memory"),
             DocFault::TextTooLong => write!(f, "text-too-long"),
         }

@@ -4,17 +4,24 @@
 //! as `capabilities`, and Seccomp of `config-linux.md` as `seccomp`.
 #![tactic(auto)]
 
+mod argument;
 mod canonical;
 mod capabilities;
 mod document;
+mod entry;
 mod fault;
+mod filter;
 mod filter_json;
+#[cfg(test)]
+mod filter_tests;
+mod filter_words;
 mod hash;
 pub mod law;
 mod profile;
 mod sets;
 #[cfg(test)]
 mod tests;
+mod value;
 
 pub use canonical::print;
 pub use document::read;

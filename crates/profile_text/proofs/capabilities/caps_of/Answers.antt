@@ -1,4 +1,4 @@
-use Rattle.std.proofs.Common.{◌≡◌, ◌∙◌, ◌+◌, refl, ap, sym, drop, decimal}
+use Rattle.std.proofs.Common.{◌∙◌, ◌+◌, refl, ap, sym, drop, decimal}
 use Rattle.std.proofs.lemmas.Result.{err_from_is_err_and}
 use Rattle.std.specs.Int.Bits.{or_zero_r}
 use Rattle.std.specs.Int.RustNames.{bit_or}

@@ -1,4 +1,3 @@
-use Rattle.std.proofs.Common.{◌≡◌}
 use Rattle.serde_json.specs.View.{view}
 use Rattle.profile_text.proofs.WalkFacts.{sets_with_ok}
 use Rattle.profile_text.proofs.capabilities.sets_with.Goals as goal

@@ -1,53 +1,40 @@
-use Rattle.std.proofs.Common.{◌≡◌, ◌∙◌, ◌++◌, List, [], None, refl, sym, ap, rules}
-use Rattle.std.specs.Prelude.{string_bytes}
+use Rattle.std.proofs.Common.{◌≡◌, ◌∙◌, List, [], Result, sym, ap, rules}
+use Rattle.std.specs.Prelude.{String, string_bytes}
+use Rattle.std.specs.declared.alloc.Global.{Global}
 use Rattle.std.proofs.lemmas.Result.{err_from_is_err_and}
 use Rattle.serde_json.specs.View.{view, members_view}
+use Rattle.serde_json.specs.declared.value.Value.{Value}
+use Rattle.profile_text.specs.declared.document.Found.{Found}
 use Rattle.profile_text.specs.declared.fault.DocFault.{DocFault}
 use Rattle.profile_text.specs.Document.{document_rows}
-use Rattle.profile_text.specs.Sets.{found_in, found_with}
-use Rattle.profile_text.specs.Shape.{below, members_faults, row_faults, row_named}
-use Rattle.profile_text.proofs.GivesFacts.{gives_first, ok_parts}
-use Rattle.profile_text.proofs.Picks.{found_over, found_more, found_filled}
-use Rattle.profile_text.proofs.WalkFacts.{members_more, members_end}
+use Rattle.profile_text.specs.Parts.{found_with}
+use Rattle.profile_text.specs.Reading.{unless_faulty}
+use Rattle.profile_text.specs.Shape.{members_faults}
+use Rattle.profile_text.proofs.Picks.{found_over, found_filled, nothing_found}
+use Rattle.profile_text.proofs.Steps.{member_refused, member_read, members_read}
 use Rattle.profile_text.proofs.document.found_in.Goals as goal
+
+-- what is still to be read
+abbrev left : Found → List (String Global × Value) → Result Found DocFault
+left found es = unless_faulty (members_faults document_rows [] (members_view es)) (found_over found (members_view es))
 
 pub loop-name-init : goal.loop-name-init
 loop-name-init c =
     let start : c.into_iter-name-iterator.result ≡ c.args.members.now.entries = search rules in
     let all = members_view c.args.members.now.entries in
-    record {
-      faults = ap (λ es. members_faults document_rows [] (members_view es)) (sym start);
-      found = found_filled all ∙ ap (λ es. found_over None (members_view es)) (sym start);
-    }
+    ap (unless_faulty (members_faults document_rows [] all)) (found_filled all) ∙ ap (left nothing_found) (sym start)
 
 pub returns-in_err-found : goal.returns-in_err-found
 returns-in_err-found c =
     let p = err_from_is_err_and c.from_residual.result c.from_residual.ensures.1 in
-    let name = string_bytes c.in-Some.name.now in
-    let d = view c.in-Some.value.now in
-    let first = row_faults (row_named document_rows name) (below [] name) d in
-    let rest = members_faults document_rows [] (members_view c.next.new.self) in
     let told = rw c.as_str-name.ensures.value at c.in_err-found.ensures in
-    let more = c.loop-name.invariant.faults ∙ ap (λ es. members_faults document_rows [] (members_view es)) c.in-Some.ensures.steps ∙ members_more document_rows [] c.in-Some.name.now c.in-Some.value.now c.next.new.self in
-    rw (p.1, p.2, more) (gives_first _ first rest (found_with name d c.loop-name.found) (found_in (members_view c.args.members.now.entries)) told)
+    rw (p.1, p.2) (member_refused document_rows [] c.in-Some.name.now c.in-Some.value.now c.next.new.self _ _ _ _ (c.loop-name.invariant ∙ ap (left c.loop-name.found) c.in-Some.ensures.steps) told)
 
 pub loop-name-preserved : goal.loop-name-preserved
 loop-name-preserved c =
-    let name = string_bytes c.in-Some.name.now in
-    let d = view c.in-Some.value.now in
-    let first = row_faults (row_named document_rows name) (below [] name) d in
-    let rest = members_faults document_rows [] (members_view c.next.new.self) in
     let told = rw c.as_str-name.ensures.value at c.in_ok-found.ensures in
-    let parts = ok_parts first (found_with name d c.loop-name.found) _ told in
-    let more = ap (λ es. members_faults document_rows [] (members_view es)) c.in-Some.ensures.steps ∙ members_more document_rows [] c.in-Some.name.now c.in-Some.value.now c.next.new.self in
-    record {
-      faults = c.loop-name.invariant.faults ∙ more ∙ ap (λ (fs : List DocFault). fs ++ rest) parts.0;
-      found = c.loop-name.invariant.found ∙ ap (λ es. found_over c.loop-name.found (members_view es)) c.in-Some.ensures.steps
-          ∙ found_more name d c.loop-name.found (members_view c.next.new.self) ∙ ap (λ f. found_over f (members_view c.next.new.self)) parts.1;
-    }
+    let more = member_read document_rows [] c.in-Some.name.now c.in-Some.value.now c.next.new.self (found_with (string_bytes c.in-Some.name.now) (view c.in-Some.value.now) c.loop-name.found) _ _ _ (c.loop-name.invariant ∙ ap (left c.loop-name.found) c.in-Some.ensures.steps) told in
+    more.0 ∙ ap (λ f. left f c.next.new.self) more.1
 
 pub returns : goal.returns
-returns c =
-    let faults = c.loop-name.invariant.faults ∙ ap (λ es. members_faults document_rows [] (members_view es)) c.in-None.ensures.steps.0 ∙ members_end document_rows [] in
-    let found = c.loop-name.invariant.found ∙ ap (λ es. found_over c.loop-name.found (members_view es)) c.in-None.ensures.steps.0 in
-    rw (faults, found) refl
+returns c = members_read document_rows [] c.loop-name.found _ (c.loop-name.invariant ∙ ap (left c.loop-name.found) c.in-None.ensures.steps.0)

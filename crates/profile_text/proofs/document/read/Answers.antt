@@ -1,4 +1,4 @@
-use Rattle.std.proofs.Common.{◌≡◌, inr, refl}
+use Rattle.std.proofs.Common.{inr}
 use Rattle.profile_text.proofs.ReadFacts.{too_long, value_is, value_none}
 use Rattle.profile_text.proofs.document.read.Goals as goal
 

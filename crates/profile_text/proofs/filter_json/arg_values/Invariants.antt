@@ -1,5 +1,4 @@
 use Rattle.std.proofs.Common.{◌≡◌, map, take}
-use Rattle.serde_json.specs.Data.{Data, string}
 use Rattle.serde_json.specs.View.{view}
 use Rattle.profile_text.specs.Text.{arg_data}
 use Rattle.profile_text.proofs.filter_json.arg_values.Given as goal

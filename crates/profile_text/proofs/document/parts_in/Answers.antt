@@ -1,8 +1,8 @@
-use Rattle.std.proofs.Common.{◌≡◌, ◌∙◌, Ok, inr, ap}
+use Rattle.std.proofs.Common.{inr}
 use Rattle.std.proofs.lemmas.Result.{err_from_is_err_and}
 use Rattle.serde_json.specs.View.{members_view}
 use Rattle.profile_text.proofs.ReadFacts.{document_err, document_found, document_missing}
-use Rattle.profile_text.proofs.document.sets_in.Goals as goal
+use Rattle.profile_text.proofs.document.parts_in.Goals as goal
 
 pub returns-in_err-sets : goal.returns-in_err-sets
 returns-in_err-sets c =
@@ -10,8 +10,8 @@ returns-in_err-sets c =
     rw (p.1, p.2) (document_err (members_view c.args.members.now.entries) _ c.in_err-sets.ensures)
 
 pub returns-in-Some : goal.returns-in-Some
-returns-in-Some c = document_found (members_view c.args.members.now.entries) _ (c.in_ok-sets.ensures ∙ ap (λ o. Ok o) c.in-Some.is)
+returns-in-Some c = document_found (members_view c.args.members.now.entries) _ _ c.in_ok-sets.ensures c.in-Some.is
 
 pub returns-in_ok-new-in-None : goal.returns-in_ok-new-in-None
 returns-in_ok-new-in-None c =
-    inr (rw c.in_ok-new-in-None.ensures (document_missing (members_view c.args.members.now.entries) (c.in_ok-sets.ensures ∙ ap (λ o. Ok o) c.in-None.is)))
+    inr (rw c.in_ok-new-in-None.ensures (document_missing (members_view c.args.members.now.entries) _ c.in_ok-sets.ensures c.in-None.is))

@@ -1,0 +1,44 @@
+use Rattle.std.proofs.Common.{◌≡◌, ◌∙◌, ℕ, List, Result, sym, ap, rules}
+use Rattle.std.specs.Prelude.{String, string_bytes, codes}
+use Rattle.std.specs.declared.alloc.Global.{Global}
+use Rattle.std.proofs.lemmas.Result.{err_from_is_err_and}
+use Rattle.serde_json.specs.View.{view, members_view}
+use Rattle.serde_json.specs.declared.value.Value.{Value}
+use Rattle.profile_text.specs.FilterFound.{FilterMembers}
+use Rattle.profile_text.specs.declared.fault.DocFault.{DocFault}
+use Rattle.profile_text.specs.FilterFound.{filter_found_with, filter_seen}
+use Rattle.profile_text.specs.FilterShape.{seccomp_rows}
+use Rattle.profile_text.specs.Reading.{unless_faulty}
+use Rattle.profile_text.specs.Shape.{members_faults}
+use Rattle.profile_text.proofs.FilterPicks.{filter_filled, filter_start, no_filter_found}
+use Rattle.profile_text.proofs.Steps.{member_refused, member_read, members_read}
+use Rattle.profile_text.proofs.filter.found_in.Goals as goal
+
+-- what is still to be read
+abbrev left : List ℕ → FilterMembers → List (String Global × Value) → Result FilterMembers DocFault
+left path found es = unless_faulty (members_faults seccomp_rows path (members_view es)) (filter_filled found (members_view es))
+
+pub loop-name-init : goal.loop-name-init
+loop-name-init c =
+    let start : c.into_iter-name-iterator.result ≡ c.args.members.now.entries = search rules in
+    let path = codes "/seccomp" in
+    let all = members_view c.args.members.now.entries in
+    rw (c.new.ensures.items, c.new-2.ensures.items, c.new-3.ensures.items) (ap (unless_faulty (members_faults seccomp_rows path all)) (filter_start all) ∙ ap (left path no_filter_found) (sym start))
+
+pub returns-in_err-found : goal.returns-in_err-found
+returns-in_err-found c =
+    let p = err_from_is_err_and c.from_residual-in_err-found.result c.from_residual-in_err-found.ensures.1 in
+    let path = codes "/seccomp" in
+    let told = rw (c.in_ok-member.ensures, c.as_str-name.ensures.value) at c.in_err-found.ensures in
+    rw (p.1, p.2) (member_refused seccomp_rows path c.in-Some.name.now c.in-Some.value.now c.next.new.self _ _ _ _ (c.loop-name.invariant ∙ ap (left path (filter_seen c.loop-name.found)) c.in-Some.ensures.steps) told)
+
+pub loop-name-preserved : goal.loop-name-preserved
+loop-name-preserved c =
+    let path = codes "/seccomp" in
+    let found = (filter_seen c.loop-name.found) in
+    let told = rw (c.in_ok-member.ensures, c.as_str-name.ensures.value) at c.in_ok-found.ensures in
+    let more = member_read seccomp_rows path c.in-Some.name.now c.in-Some.value.now c.next.new.self (filter_found_with (string_bytes c.in-Some.name.now) (view c.in-Some.value.now) found) _ _ _ (c.loop-name.invariant ∙ ap (left path found) c.in-Some.ensures.steps) told in
+    more.0 ∙ ap (λ f. left path f c.next.new.self) more.1
+
+pub returns : goal.returns
+returns c = members_read seccomp_rows (codes "/seccomp") (filter_seen c.loop-name.found) _ (c.loop-name.invariant ∙ ap (left (codes "/seccomp") (filter_seen c.loop-name.found)) c.in-None.ensures.steps.0)

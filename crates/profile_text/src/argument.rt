@@ -1,0 +1,130 @@
+// The reader of arguments: the comparisons of an entry.
+
+ghost use Rattle.serde_json.specs.View.{items_view, members_view, view};
+ghost use Rattle.profile_text.specs.FilterFound.{arg_found, arg_found_with};
+ghost use Rattle.profile_text.specs.FilterParts.{arg_at, arg_in, items_as, list_as};
+ghost use Rattle.profile_text.specs.FilterShape.{arg_faults, arg_rows};
+ghost use Rattle.profile_text.specs.Reading.{Gives, GivesAs, unless_faulty};
+ghost use Rattle.profile_text.specs.Shape.{items_faults, list_faults, members_faults, object_faults, optional_faults, row_faults, row_named};
+
+use crate::fault::{DocFault, Path};
+use crate::value::{number_of, op_of, optional_number_of};
+use seccomp_doc::{ArgParts, Op};
+use serde_json::{Map, Value};
+use std::alloc::Global;
+
+// What the members of an argument give.
+#[derive(Clone, Copy, Debug)]
+pub(crate) struct FoundArg {
+    index: Option<u64>,
+    op: Option<Op>,
+    value: Option<u64>,
+    value_two: u64,
+}
+
+// What was found so far, with one member more.
+fn found_with(path: Path, found: FoundArg, name: &str, value: &Value) -> Result<FoundArg, DocFault>
+    ensures { Gives result (unless_faulty
+        (row_faults (row_named arg_rows name.now) path (view value.now))
+        (arg_found_with name.now (view value.now) found)) }
+{
+    if name == "index" {
+        let index = Some(number_of(path, value)?);
+        Ok(FoundArg { index, ..found })
+    } else if name == "op" {
+        let op = Some(op_of(path, value)?);
+        Ok(FoundArg { op, ..found })
+    } else if name == "value" {
+        let value = Some(number_of(path, value)?);
+        Ok(FoundArg { value, ..found })
+    } else if name == "valueTwo" {
+        let value_two = optional_number_of(path, value)?.unwrap_or(0);
+        Ok(FoundArg { value_two, ..found })
+    } else {
+        Err(DocFault::UnknownMember(path))
+    }
+}
+
+// What the members give.
+fn found_in(alloc: Global, path: &str, members: &Map<String, Value>) -> Result<FoundArg, DocFault>
+    ensures { Gives result (unless_faulty
+        (members_faults arg_rows path.now (members_view members.now.entries))
+        (arg_found (members_view members.now.entries))) }
+{
+    let mut found = FoundArg {
+        index: None,
+        op: None,
+        value: None,
+        value_two: 0,
+    };
+    for (name, value) in members {
+        let name = name.as_str();
+        let member = Path::of_member(alloc, path, name)?;
+        found = found_with(member, found, name, value)?;
+    }
+    Ok(found)
+}
+
+// The argument of the members, of which the second value isn't required.
+fn arg_at(alloc: Global, path: &str, members: &Map<String, Value>) -> Result<ArgParts, DocFault>
+    ensures { Gives result (unless_faulty
+        (object_faults arg_rows path.now (members_view members.now.entries))
+        (arg_at (members_view members.now.entries))) }
+{
+    let found = found_in(alloc, path, members)?;
+    let Some(index) = found.index else {
+        return Err(DocFault::WrongShape(Path::of_member(alloc, path, "index")?));
+    };
+    let Some(op) = found.op else {
+        return Err(DocFault::WrongShape(Path::of_member(alloc, path, "op")?));
+    };
+    let Some(value) = found.value else {
+        return Err(DocFault::WrongShape(Path::of_member(alloc, path, "value")?));
+    };
+    Ok(ArgParts {
+        index,
+        op,
+        value,
+        value_two: found.value_two,
+    })
+}
+
+// An argument.
+#[tactic(auto, unfolding(crate::specs::FilterShape::table_faults, crate::specs::FilterParts::arg_in))]
+fn arg_of(alloc: Global, path: &str, value: &Value) -> Result<ArgParts, DocFault>
+    ensures { Gives result (unless_faulty (arg_faults path.now (view value.now)) (arg_in (view value.now))) }
+{
+    match value {
+        Value::Object(members) => arg_at(alloc, path, members),
+        _ => Err(DocFault::WrongShape(Path::new(alloc, path)?)),
+    }
+}
+
+// The arguments of a list.
+fn args_in(alloc: Global, path: &str, values: &[Value]) -> Result<Vec<ArgParts>, DocFault>
+    ensures { GivesAs (λ args. args.items) result (unless_faulty
+        (items_faults arg_faults path.now 0 (items_view values.now))
+        (items_as arg_in (items_view values.now))) }
+{
+    let mut args = Vec::new(alloc);
+    for (position, value) in values.iter().enumerate() {
+        let item = Path::of_item(alloc, path, position)?;
+        let arg = arg_of(alloc, item.as_str(), value)?;
+        args.push(arg).map_err(|_| DocFault::NoMemory)?;
+    }
+    Ok(args)
+}
+
+/// A list of arguments, or null.
+#[tactic(auto, unfolding(crate::specs::Shape::optional_faults, crate::specs::Shape::list_faults, crate::specs::FilterParts::list_as))]
+pub(crate) fn args_of(alloc: Global, path: &str, value: &Value) -> Result<Vec<ArgParts>, DocFault>
+    ensures { GivesAs (λ args. args.items) result (unless_faulty
+        (optional_faults (list_faults arg_faults) path.now (view value.now))
+        (list_as arg_in (view value.now))) }
+{
+    match value {
+        Value::Null => Ok(Vec::new(alloc)),
+        Value::Array(values) => args_in(alloc, path, values.as_slice()),
+        _ => Err(DocFault::WrongShape(Path::new(alloc, path)?)),
+    }
+}
