@@ -30,7 +30,7 @@ use Rattle.office_rows.specs.Entries.{Keeps, row_of}
 use Rattle.office_rows.proofs.Errors.{IsKept, query_failed}
 use Rattle.office_rows.proofs.Plain.{Means}
 use Rattle.office_rows.proofs.Rowids.{has_mapped, mapped_has, has_permuted}
-use Rattle.office_rows.proofs.Ordered.{ordered_query, order_cmp, ShowsInOrder, answered_in_order}
+use Rattle.office_rows.proofs.InOrder.{ordered_query, order_cmp, ShowsInOrder, answered_in_order}
 use Rattle.office_rows.proofs.Distinct.{distinct_query, ShowsEachOnce, answered_each_once}
 
 module _ (q : Query) (schema : Schema) (sql : List ℕ) (params : Row) (names : List (List ℕ)) (means : Means schema sql (Select (record { lets = []; body = q }) names))

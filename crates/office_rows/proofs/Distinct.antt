@@ -20,7 +20,7 @@ use Rattle.sqlite_trees.proofs.ListLemmas.{map-map, ascending-map, ascending_fro
 use Rattle.sqlite_rules.specs.Lists.{Has}
 use Rattle.sqlite_rules.proofs.ListLemmas.{all_has, has_left, has_right, has_either}
 use Rattle.office_rows.proofs.Rowids.{has_mapped, mapped_has, has_permuted}
-use Rattle.office_rows.proofs.Ordered.{AreSorted, sorted_from, apart_permuted, ordered_query, order_cmp, order_cmp_total}
+use Rattle.office_rows.proofs.InOrder.{AreSorted, sorted_from, apart_permuted, ordered_query, order_cmp, order_cmp_total}
 
 first_in : {X : Type 0} (groups : List (X × List X)) (g : X × List X) → Has groups g → Has (flat_map members groups) g.0
 first_in [] g none = absurd none

@@ -9,6 +9,6 @@ pub mod Transactions
 pub mod Stored
 pub mod Finding
 pub mod Steps
-pub mod Ordered
+pub mod InOrder
 pub mod Distinct
 pub mod Asked

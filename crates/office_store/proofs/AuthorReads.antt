@@ -30,7 +30,7 @@ use Rattle.office_rows.specs.Rows.{IsFaultOf}
 use Rattle.office_rows.proofs.Rowids.{has_mapped, mapped_has}
 use Rattle.office_rows.proofs.Plain.{plain_query, Means}
 use Rattle.office_rows.proofs.Finding.{IsFound, finds_some}
-use Rattle.office_rows.proofs.Ordered.{order_cmp, order_cmp_total, rises}
+use Rattle.office_rows.proofs.InOrder.{order_cmp, order_cmp_total, rises}
 use Rattle.office_rows.proofs.Distinct.{distinct_query, ShowsEachOnce}
 use Rattle.office_rows.proofs.Asked.{table_each_once}
 use Rattle.office_store.specs.declared.author.TheConstants.{REVISION_BY, AUTHORS_OF}
@@ -165,7 +165,7 @@ module _ (old new : State) (t : Tables) (shows : Shows old t) where
         record {
           found = row_by p name r it.0;
           formed = it.1;
-          shows = first_shows _ REVISION_BY.now (author_params p name) (codes "number" ∷ []) by_means old new t shows idle r h;
+          shown = first_shows _ REVISION_BY.now (author_params p name) (codes "number" ∷ []) by_means old new t shows idle r h;
           same = still_shows old new t shows it.2;
         }
 

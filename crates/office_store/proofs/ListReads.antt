@@ -43,7 +43,7 @@ shows_again old new t shows same = record {
 pub record IsReadOf {X : Type 0} (new : State) (t : Tables) (R : X → Type 0) (r : Result X StoreFault) : Type 0 where
   pub found : IfOk r R
   pub formed : r ≢ Err NotAnOffice
-  pub shows : OnOk r (Shows new t)
+  pub shown : OnOk r (Shows new t)
   pub same : ShowsIfOpen new t
 
 either_way : {X : Type 0} (new : State) (t : Tables) (r : Result X StoreFault) → OnOk r (Shows new t) → OnErr r (ShowsIfOpen new t) → ShowsIfOpen new t
@@ -66,7 +66,7 @@ module _ (q : Query) (sql : List ℕ) (params : Row) (names : List (List ℕ)) (
         record {
           found = IfOk-weaker r (λ x. Shown sql params old new (items x)) (λ x. R (items x)) (λ x h. right (items x) (shown_answer q office_schema sql params names means old new schema (items x) h)) rows;
           formed = λ same. (failed NotAnOffice (IfErr-at_err (IsFaultOf sql params old new) same fault)).0 refl;
-          shows = shown;
+          shown = shown;
           same = either_way new t r shown (IfErr-weaker r (IsFaultOf sql params old new) (λ _. ShowsIfOpen new t) (λ f h. still_shows old new t shows (failed f h).1) fault);
         }
 

@@ -35,7 +35,7 @@ use Rattle.office_rows.specs.Rows.{IsFaultOf}
 use Rattle.office_rows.proofs.Rowids.{has_mapped, mapped_has, has_permuted}
 use Rattle.office_rows.proofs.Plain.{Means}
 use Rattle.office_rows.proofs.Stored.{find_own, find_none, none_found, own-filter}
-use Rattle.office_rows.proofs.Ordered.{ordered_query, order_cmp, order_cmp_total, rises, ascending_permuted, ShowsInOrder}
+use Rattle.office_rows.proofs.InOrder.{ordered_query, order_cmp, order_cmp_total, rises, ascending_permuted, ShowsInOrder}
 use Rattle.office_rows.proofs.Asked.{entries_in_order}
 use Rattle.office_store.specs.declared.standing_votes.TheConstants.{VOTES_ON}
 use Rattle.office_store.specs.Schema.{office_schema}

@@ -33,9 +33,10 @@ fn revision_by<S: Alter>(
     requires { IsIdle (state S.Store conn.old) }
     ensures found { (t : Tables) → Shows (state S.Store conn.old) t → HasCleanDisk (state S.Store conn.new) → IfOk result (λ row. is_some row ≡ true ↔ IsAuthor t profile.now author.now) }
     ensures fault { (t : Tables) → Shows (state S.Store conn.old) t → HasCleanDisk (state S.Store conn.new) → result ≢ Err StoreFault.NotAnOffice }
-    ensures shows { (t : Tables) → Shows (state S.Store conn.old) t → HasCleanDisk (state S.Store conn.new) → OnOk result (Shows (state S.Store conn.new) t) }
+    ensures shown { (t : Tables) → Shows (state S.Store conn.old) t → HasCleanDisk (state S.Store conn.new) → OnOk result (Shows (state S.Store conn.new) t) }
     ensures same { (t : Tables) → Shows (state S.Store conn.old) t → HasCleanDisk (state S.Store conn.new) → ShowsIfOpen (state S.Store conn.new) t }
     ensures idle { IsIdle (state S.Store conn.new) }
+    ensures clean { HasCleanDisk (state S.Store conn.new) → HasCleanDisk (state S.Store conn.old) }
     ensures crash { (t : Tables) → Shows (state S.Store conn.old) t → Survives (state S.Store conn.old) (state S.Store conn.new) (λ _. ⊥) }
 {
     let team = profile.team.as_str();
@@ -53,9 +54,10 @@ pub fn is_author<S: Alter>(
     requires { IsIdle (state S.Store conn.old) }
     ensures found { (t : Tables) → Shows (state S.Store conn.old) t → HasCleanDisk (state S.Store conn.new) → IfOk result (λ found. found ≡ true ↔ IsAuthor t profile.now author.now) }
     ensures formed { (t : Tables) → Shows (state S.Store conn.old) t → HasCleanDisk (state S.Store conn.new) → result ≢ Err StoreFault.NotAnOffice }
-    ensures shows { (t : Tables) → Shows (state S.Store conn.old) t → HasCleanDisk (state S.Store conn.new) → OnOk result (Shows (state S.Store conn.new) t) }
+    ensures shown { (t : Tables) → Shows (state S.Store conn.old) t → HasCleanDisk (state S.Store conn.new) → OnOk result (Shows (state S.Store conn.new) t) }
     ensures same { (t : Tables) → Shows (state S.Store conn.old) t → HasCleanDisk (state S.Store conn.new) → ShowsIfOpen (state S.Store conn.new) t }
     ensures idle { IsIdle (state S.Store conn.new) }
+    ensures clean { HasCleanDisk (state S.Store conn.new) → HasCleanDisk (state S.Store conn.old) }
     ensures crash { (t : Tables) → Shows (state S.Store conn.old) t → Survives (state S.Store conn.old) (state S.Store conn.new) (λ _. ⊥) }
 {
     let row = revision_by(conn, profile, author)?;
@@ -70,9 +72,10 @@ fn author_rows<S: Alter>(
     requires { IsIdle (state S.Store conn.old) }
     ensures found { (t : Tables) → Shows (state S.Store conn.old) t → HasCleanDisk (state S.Store conn.new) → IfOk result (λ rows. AreAuthorRows t profile.now rows.items) }
     ensures fault { (t : Tables) → Shows (state S.Store conn.old) t → HasCleanDisk (state S.Store conn.new) → result ≢ Err StoreFault.NotAnOffice }
-    ensures shows { (t : Tables) → Shows (state S.Store conn.old) t → HasCleanDisk (state S.Store conn.new) → OnOk result (Shows (state S.Store conn.new) t) }
+    ensures shown { (t : Tables) → Shows (state S.Store conn.old) t → HasCleanDisk (state S.Store conn.new) → OnOk result (Shows (state S.Store conn.new) t) }
     ensures same { (t : Tables) → Shows (state S.Store conn.old) t → HasCleanDisk (state S.Store conn.new) → ShowsIfOpen (state S.Store conn.new) t }
     ensures idle { IsIdle (state S.Store conn.new) }
+    ensures clean { HasCleanDisk (state S.Store conn.new) → HasCleanDisk (state S.Store conn.old) }
     ensures crash { (t : Tables) → Shows (state S.Store conn.old) t → Survives (state S.Store conn.old) (state S.Store conn.new) (λ _. ⊥) }
 {
     let team = profile.team.as_str();
@@ -102,9 +105,10 @@ pub fn authors<S: Alter>(
     requires { IsIdle (state S.Store conn.old) }
     ensures found { (t : Tables) → Shows (state S.Store conn.old) t → HasCleanDisk (state S.Store conn.new) → IfOk result (λ names. AreAuthors t profile.now names.items) }
     ensures formed { (t : Tables) → Shows (state S.Store conn.old) t → HasCleanDisk (state S.Store conn.new) → result ≢ Err StoreFault.NotAnOffice }
-    ensures shows { (t : Tables) → Shows (state S.Store conn.old) t → HasCleanDisk (state S.Store conn.new) → OnOk result (Shows (state S.Store conn.new) t) }
+    ensures shown { (t : Tables) → Shows (state S.Store conn.old) t → HasCleanDisk (state S.Store conn.new) → OnOk result (Shows (state S.Store conn.new) t) }
     ensures same { (t : Tables) → Shows (state S.Store conn.old) t → HasCleanDisk (state S.Store conn.new) → ShowsIfOpen (state S.Store conn.new) t }
     ensures idle { IsIdle (state S.Store conn.new) }
+    ensures clean { HasCleanDisk (state S.Store conn.new) → HasCleanDisk (state S.Store conn.old) }
     ensures crash { (t : Tables) → Shows (state S.Store conn.old) t → Survives (state S.Store conn.old) (state S.Store conn.new) (λ _. ⊥) }
 {
     let rows = author_rows(conn, profile)?;

@@ -33,9 +33,10 @@ fn vote_rows<S: Alter>(
     requires { IsIdle (state S.Store conn.old) }
     ensures found { (t : Tables) → Shows (state S.Store conn.old) t → HasCleanDisk (state S.Store conn.new) → IfOk result (λ rows. AreVoteRows t profile.now number rows.items) }
     ensures fault { (t : Tables) → Shows (state S.Store conn.old) t → HasCleanDisk (state S.Store conn.new) → result ≢ Err StoreFault.NotAnOffice }
-    ensures shows { (t : Tables) → Shows (state S.Store conn.old) t → HasCleanDisk (state S.Store conn.new) → OnOk result (Shows (state S.Store conn.new) t) }
+    ensures shown { (t : Tables) → Shows (state S.Store conn.old) t → HasCleanDisk (state S.Store conn.new) → OnOk result (Shows (state S.Store conn.new) t) }
     ensures same { (t : Tables) → Shows (state S.Store conn.old) t → HasCleanDisk (state S.Store conn.new) → ShowsIfOpen (state S.Store conn.new) t }
     ensures idle { IsIdle (state S.Store conn.new) }
+    ensures clean { HasCleanDisk (state S.Store conn.new) → HasCleanDisk (state S.Store conn.old) }
     ensures crash { (t : Tables) → Shows (state S.Store conn.old) t → Survives (state S.Store conn.old) (state S.Store conn.new) (λ _. ⊥) }
 {
     let team = profile.team.as_str();
@@ -93,9 +94,10 @@ pub fn standing<S: Alter>(
     requires { IsIdle (state S.Store conn.old) }
     ensures found { (t : Tables) → Shows (state S.Store conn.old) t → HasCleanDisk (state S.Store conn.new) → IfOk result (λ votes. AreStanding t profile.now number votes.items) }
     ensures formed { (t : Tables) → Shows (state S.Store conn.old) t → HasCleanDisk (state S.Store conn.new) → result ≢ Err StoreFault.NotAnOffice }
-    ensures shows { (t : Tables) → Shows (state S.Store conn.old) t → HasCleanDisk (state S.Store conn.new) → OnOk result (Shows (state S.Store conn.new) t) }
+    ensures shown { (t : Tables) → Shows (state S.Store conn.old) t → HasCleanDisk (state S.Store conn.new) → OnOk result (Shows (state S.Store conn.new) t) }
     ensures same { (t : Tables) → Shows (state S.Store conn.old) t → HasCleanDisk (state S.Store conn.new) → ShowsIfOpen (state S.Store conn.new) t }
     ensures idle { IsIdle (state S.Store conn.new) }
+    ensures clean { HasCleanDisk (state S.Store conn.new) → HasCleanDisk (state S.Store conn.old) }
     ensures crash { (t : Tables) → Shows (state S.Store conn.old) t → Survives (state S.Store conn.old) (state S.Store conn.new) (λ _. ⊥) }
 {
     let rows = vote_rows(conn, profile, number)?;
@@ -165,9 +167,10 @@ pub fn tally<S: Alter>(
     requires { IsIdle (state S.Store conn.old) }
     ensures found { (t : Tables) → Shows (state S.Store conn.old) t → HasCleanDisk (state S.Store conn.new) → IfOk result (IsTally t profile.now number) }
     ensures formed { (t : Tables) → Shows (state S.Store conn.old) t → HasCleanDisk (state S.Store conn.new) → result ≢ Err StoreFault.NotAnOffice }
-    ensures shows { (t : Tables) → Shows (state S.Store conn.old) t → HasCleanDisk (state S.Store conn.new) → OnOk result (Shows (state S.Store conn.new) t) }
+    ensures shown { (t : Tables) → Shows (state S.Store conn.old) t → HasCleanDisk (state S.Store conn.new) → OnOk result (Shows (state S.Store conn.new) t) }
     ensures same { (t : Tables) → Shows (state S.Store conn.old) t → HasCleanDisk (state S.Store conn.new) → ShowsIfOpen (state S.Store conn.new) t }
     ensures idle { IsIdle (state S.Store conn.new) }
+    ensures clean { HasCleanDisk (state S.Store conn.new) → HasCleanDisk (state S.Store conn.old) }
     ensures crash { (t : Tables) → Shows (state S.Store conn.old) t → Survives (state S.Store conn.old) (state S.Store conn.new) (λ _. ⊥) }
 {
     let votes = standing(alloc, conn, profile, number)?;

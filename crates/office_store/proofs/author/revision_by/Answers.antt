@@ -10,9 +10,9 @@ pub returns-clause-fault : goal.returns-clause-fault
 returns-clause-fault g c t shows clean =
     (reads_by (state g.S.Store c.args.conn.now) (state g.S.Store c.first_row.new.conn) t shows c.requires.autocommit c.args.profile.now c.args.author.now c.first_row.result (rw (c.params-to_sql.ensures, c.params-to_sql-2.ensures, c.params-to_sql-3.ensures, c.as_str-team.ensures.text, c.as_str-profile.ensures.text, c.as_str-author.ensures.text) at (c.first_row.ensures.row clean))).formed
 
-pub returns-clause-shows : goal.returns-clause-shows
-returns-clause-shows g c t shows clean =
-    (reads_by (state g.S.Store c.args.conn.now) (state g.S.Store c.first_row.new.conn) t shows c.requires.autocommit c.args.profile.now c.args.author.now c.first_row.result (rw (c.params-to_sql.ensures, c.params-to_sql-2.ensures, c.params-to_sql-3.ensures, c.as_str-team.ensures.text, c.as_str-profile.ensures.text, c.as_str-author.ensures.text) at (c.first_row.ensures.row clean))).shows
+pub returns-clause-shown : goal.returns-clause-shown
+returns-clause-shown g c t shows clean =
+    (reads_by (state g.S.Store c.args.conn.now) (state g.S.Store c.first_row.new.conn) t shows c.requires.autocommit c.args.profile.now c.args.author.now c.first_row.result (rw (c.params-to_sql.ensures, c.params-to_sql-2.ensures, c.params-to_sql-3.ensures, c.as_str-team.ensures.text, c.as_str-profile.ensures.text, c.as_str-author.ensures.text) at (c.first_row.ensures.row clean))).shown
 
 pub returns-clause-same : goal.returns-clause-same
 returns-clause-same g c t shows clean =

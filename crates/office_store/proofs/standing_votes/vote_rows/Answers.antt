@@ -10,9 +10,9 @@ pub returns-clause-fault : goal.returns-clause-fault
 returns-clause-fault g c t shows clean =
     (reads_votes (state g.S.Store c.args.conn.now) (state g.S.Store c.all_rows.new.conn) t shows c.requires.autocommit (λ rows. rows.items) c.args.profile.now c.args.number c.all_rows.result (rw (c.params-to_sql.ensures, c.params-to_sql-2.ensures, c.params-to_sql-3.ensures, c.as_str-team.ensures.text, c.as_str-profile.ensures.text) at (c.all_rows.ensures.rows clean)) (rw (c.params-to_sql.ensures, c.params-to_sql-2.ensures, c.params-to_sql-3.ensures, c.as_str-team.ensures.text, c.as_str-profile.ensures.text) at (c.all_rows.ensures.fault clean))).formed
 
-pub returns-clause-shows : goal.returns-clause-shows
-returns-clause-shows g c t shows clean =
-    (reads_votes (state g.S.Store c.args.conn.now) (state g.S.Store c.all_rows.new.conn) t shows c.requires.autocommit (λ rows. rows.items) c.args.profile.now c.args.number c.all_rows.result (rw (c.params-to_sql.ensures, c.params-to_sql-2.ensures, c.params-to_sql-3.ensures, c.as_str-team.ensures.text, c.as_str-profile.ensures.text) at (c.all_rows.ensures.rows clean)) (rw (c.params-to_sql.ensures, c.params-to_sql-2.ensures, c.params-to_sql-3.ensures, c.as_str-team.ensures.text, c.as_str-profile.ensures.text) at (c.all_rows.ensures.fault clean))).shows
+pub returns-clause-shown : goal.returns-clause-shown
+returns-clause-shown g c t shows clean =
+    (reads_votes (state g.S.Store c.args.conn.now) (state g.S.Store c.all_rows.new.conn) t shows c.requires.autocommit (λ rows. rows.items) c.args.profile.now c.args.number c.all_rows.result (rw (c.params-to_sql.ensures, c.params-to_sql-2.ensures, c.params-to_sql-3.ensures, c.as_str-team.ensures.text, c.as_str-profile.ensures.text) at (c.all_rows.ensures.rows clean)) (rw (c.params-to_sql.ensures, c.params-to_sql-2.ensures, c.params-to_sql-3.ensures, c.as_str-team.ensures.text, c.as_str-profile.ensures.text) at (c.all_rows.ensures.fault clean))).shown
 
 pub returns-clause-same : goal.returns-clause-same
 returns-clause-same g c t shows clean =
