@@ -10,3 +10,6 @@ pub mod RevisionWrites
 pub mod OtherWrites
 pub mod RevisionReads
 pub mod OtherReads
+pub mod FoundingSteps
+pub mod FormReads
+pub mod Numbers

@@ -4,6 +4,8 @@
 
 pub mod baselines;
 mod column;
+pub mod form;
+pub mod founding;
 pub mod holds;
 pub mod office;
 pub mod revisions;
@@ -13,8 +15,10 @@ pub mod votes;
 mod write;
 
 pub use baselines::{Adopted, baseline, put_baseline};
+pub use form::check_office;
+pub use founding::found;
 pub use holds::{delete_hold, held, put_hold};
 pub use office::listed;
-pub use revisions::{add_revision, issued, revision, set_issued, set_withdrawn};
+pub use revisions::{add_revision, issued, last, revision, set_issued, set_withdrawn};
 pub use users::{put_user, user_by_name, user_by_token};
 pub use votes::{Ballot, put_vote};
