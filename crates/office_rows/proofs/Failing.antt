@@ -12,9 +12,15 @@ use Rattle.sqlite_resolve.specs.declared.compiled.Compiled.{Compiled}
 use Rattle.sqlite.specs.Order.{Row}
 use Rattle.sqlite.specs.declared.error.Error.{Error}
 use Rattle.sqlite.specs.declared.error.Error.TheVariants as error
-use Rattle.sqlite.specs.Effect.{Database, RefusesQuery, RefusesSource, edit_error}
+use Rattle.sqlite.specs.Effect.{Database, RefusesQuery, RefusesSource, edit_error, alter_error}
 use Rattle.sqlite.specs.Command.{Command}
-use Rattle.sqlite.specs.Command.TheVariants.{Insert, Update, Delete}
+use Rattle.sqlite.specs.Command.TheVariants.{Insert, Update, Delete, CreateTable}
+use Rattle.sqlite.specs.Compile.{table_defined_by}
+use Rattle.sqlite.specs.Change.{created}
+use Rattle.sqlite_catalog.specs.Calls.{RefusesTable}
+use Rattle.sqlite_catalog.specs.declared.error.Refusal as alter
+use Rattle.sqlite_catalog.specs.declared.error.Refusal.TheVariants as refusal
+use Rattle.sqlite_resolve.specs.declared.error.CompileError.{CompileError}
 use Rattle.sqlite.specs.Source.{Source}
 use Rattle.sqlite.specs.Source.TheVariants as source
 use Rattle.sqlite_schema.specs.declared.program.Program.{Program}
@@ -29,10 +35,10 @@ use Rattle.sqlite_rules.specs.declared.error.Refusal.{Refusal}
 use Rattle.sqlite_rules.specs.declared.error.Refusal.TheVariants.{Violates, Mismatch, NoRowid, BadReference, TooDeep}
 use Rattle.sqlite.specs.declared.run.Mode.{Mode}
 use Rattle.sqlite.specs.Rows.{Part, Gives, Refuses, Then, Queried, Sourced, Edited, Task, Written, Counter, CounterIn, Counts, CountsIn, Deletes, Inserts, Updates, sequence, counter_in, counting, rowids_for, count_of, higher, last_id, stamped}
-use Rattle.sqlite.specs.Does.{Tested, Does, AtPlace, Concludes, OnRows, Tally}
+use Rattle.sqlite.specs.Does.{Tested, Does, AtPlace, Concludes, OnRows, Tally, MakesTable, MakesSequence, lacks_sequence, no_rows}
 use Rattle.sqlite.specs.Listing.{understood}
 use Rattle.sqlite.specs.State.{State, IsNotRun, IsMisplaced, RunsAlone, RunsCommand, ExecutesIn, ExecutesInside, shows_rows, mode_of, text_of, Fails, IsUnchanged}
-use Rattle.sqlite.proofs.Callers.{IsPlain, command_of}
+use Rattle.sqlite.proofs.Callers.{IsPlain, command_of, statement_of}
 use Rattle.office_rows.proofs.Plain.{Means}
 use Rattle.office_rows.specs.Faults.{IsOfMachine}
 use Rattle.office_rows.proofs.Errors.{of_store, no_statement, refused_query}
@@ -160,32 +166,76 @@ misplaced_of_machine s command e (inr h) = rw h.0 (λ h. cc, λ h. cc)
 fails_of_machine : (old new : State) (big : Type 0) (e : Error) → Fails old new big e → IsOfMachine e
 fails_of_machine old new big e h = rw h.1 (of_store h.0)
 
-module _ (sql : List ℕ) (params : Row) (command : Command) (sure : (limit : Option ℕ) (mode : Mode) (params : Row) (db : Database) (text : List ℕ) → AreOfMachine (Does limit mode params db text None command)) where
-  command_of_machine : (old new : State) (c : Compiled) (params : Row) (e : Error) → c.returning ≡ None → c.command ≡ command → RunsCommand old new sql c params (Err e) → IsOfMachine e
-  command_of_machine old new c params e none is (inl (inl h, same)) = misplaced_of_machine old _ e h
-  command_of_machine old new c params e none is (inl (inr h, same)) = sure old.step_limit (mode_of old) params old.now (text_of sql c) e (rw (none, is) at h.1)
-  command_of_machine old new c params e none is (inr h) = fails_of_machine old new _ e h
+-- the command, whose text this is, is never refused for the form of the tables of the schema
+abbrev pub IsSure : Schema → List ℕ → Command → Type 0
+IsSure schema sql command =
+    (limit : Option ℕ) (mode : Mode) (params : Row) (db : Database) → db.schema ≡ schema → AreOfMachine (Does limit mode params db (statement_of sql (understood schema sql)) None command)
 
-  pub executes_failed : (old new : State) (e : Error) → IsPlain (understood old.now.schema sql) → command_of (understood old.now.schema sql) ≡ command → ExecutesInside 0 sql params old new (Err e) → IsOfMachine e
+module _ (schema : Schema) (sql : List ℕ) (params : Row) (command : Command) (sure : IsSure schema sql command) where
+  command_of_machine : (old new : State) (c : Compiled) (params : Row) (e : Error) → old.now.schema ≡ schema → text_of sql c ≡ statement_of sql (understood schema sql) → c.returning ≡ None → c.command ≡ command
+      → RunsCommand old new sql c params (Err e) → IsOfMachine e
+  command_of_machine old new c params e has text none is (inl (inl h, same)) = misplaced_of_machine old _ e h
+  command_of_machine old new c params e has text none is (inl (inr h, same)) = sure old.step_limit (mode_of old) params old.now has e (rw (none, is, text) at h.1)
+  command_of_machine old new c params e has text none is (inr h) = fails_of_machine old new _ e h
+
+  pub write_failed : (old new : State) (e : Error) → old.now.schema ≡ schema → Means schema sql command → ExecutesInside 0 sql params old new (Err e) → IsOfMachine e
   unfolding ExecutesIn IsNotRun
-  executes_failed old new e plain is (inr h) = rw h.1 (λ h. cc, λ h. cc)
-  executes_failed old new e plain is (inl (inl (inl h), kept)) = no_statement old sql params e plain h.0
-  executes_failed old new e plain is (inl (inl (inr h), kept)) = fails_of_machine old new _ e h
-  executes_failed old new e plain is (inl (inr (c, it, h), kept)) =
+  write_failed old new e has means (inr h) = rw h.1 (λ h. cc, λ h. cc)
+  write_failed old new e has means (inl (inl (inl h), kept)) = no_statement old sql params e (rw has means.plain) h.0
+  write_failed old new e has means (inl (inl (inr h), kept)) = fails_of_machine old new _ e h
+  write_failed old new e has means (inl (inr (c, it, h), kept)) =
       by (shows_rows false c) (timed params c.formats it.now) h
     where
+      known : understood schema sql ≡ Ok c
+      known = ap (λ s. understood s sql) (sym has) ∙ it.is
+
       by : (b : Bool) (full : Row) → MatchBool b ((◌≡◌ {A = Result ℕ Error} (Err e) (Err error.ExecuteReturnedResults)) × IsUnchanged old new) (RunsCommand old new sql c full (Err e)) → IsOfMachine e
       by true full h = let k : e ≡ error.ExecuteReturnedResults = (let z = h.0 in cc) in rw k (λ h. cc, λ h. cc)
-      by false full h = command_of_machine old new c full e (subst IsPlain it.is plain).0 (ap command_of (sym it.is) ∙ is) h
-
-  pub write_failed : (schema : Schema) (old new : State) (e : Error) → old.now.schema ≡ schema → Means schema sql command → ExecutesInside 0 sql params old new (Err e) → IsOfMachine e
-  write_failed schema old new e has means h = executes_failed old new e (rw has means.plain) (rw has means.is) h
+      by false full h = command_of_machine old new c full e has (ap (statement_of sql) (sym known)) (subst IsPlain known means.plain).0 (ap command_of (sym known) ∙ means.is) h
 
 pub delete_failed : (sql : List ℕ) (params : Row) (at : ℕ) (q : Program) (schema : Schema) (old new : State) (e : Error) → old.now.schema ≡ schema → Means schema sql (Delete at q) → ExecutesInside 0 sql params old new (Err e) → IsOfMachine e
-delete_failed sql params at q = write_failed sql params (Delete at q) (λ limit mode params db text. does_delete limit mode params db text at q)
+delete_failed sql params at q schema = write_failed schema sql params (Delete at q) (λ limit mode params db has. does_delete limit mode params db (statement_of sql (understood schema sql)) at q)
 
 pub update_failed : (sql : List ℕ) (params : Row) (at : ℕ) (q : Program) (schema : Schema) (old new : State) (e : Error) → old.now.schema ≡ schema → Means schema sql (Update at q) → ExecutesInside 0 sql params old new (Err e) → IsOfMachine e
-update_failed sql params at q = write_failed sql params (Update at q) (λ limit mode params db text. does_update limit mode params db text at q)
+update_failed sql params at q schema = write_failed schema sql params (Update at q) (λ limit mode params db has. does_update limit mode params db (statement_of sql (understood schema sql)) at q)
 
 pub insert_failed : (sql : List ℕ) (params : Row) (at : ℕ) (from : Source) (schema : Schema) (old new : State) (e : Error) → old.now.schema ≡ schema → Means schema sql (Insert at from) → ExecutesInside 0 sql params old new (Err e) → IsOfMachine e
-insert_failed sql params at from = write_failed sql params (Insert at from) (λ limit mode params db text. does_insert limit mode params db text at from)
+insert_failed sql params at from schema = write_failed schema sql params (Insert at from) (λ limit mode params db has. does_insert limit mode params db (statement_of sql (understood schema sql)) at from)
+
+-- ---- CREATE TABLE
+
+made_of_machine : (text : List ℕ) (db : Database) (table : Table) → table_defined_by text ≡ Ok table → AreOfMachine (MakesTable text db)
+made_of_machine text db table defined e (inl no_text) = rw no_text.1 (λ h. cc, λ h. cc)
+made_of_machine text db table defined e (inr (why, refused, is)) = rw is (refused_of_machine why refused)
+  where
+    refused_of_machine : (why : alter.Refusal) → RefusesTable db.schema text why → IsOfMachine (alter_error why)
+    refused_of_machine (refusal.Invalid fault) invalid = absurd (let z = sym defined ∙ invalid in cc)
+    refused_of_machine refusal.NameTaken h = (λ h. cc, λ h. cc)
+    refused_of_machine refusal.BadName h = (λ h. cc, λ h. cc)
+    refused_of_machine refusal.BadKey h = (λ h. cc, λ h. cc)
+    refused_of_machine refusal.BadText h = (λ h. cc, λ h. cc)
+    refused_of_machine refusal.TooBig h = (λ h. cc, λ h. cc)
+    refused_of_machine (refusal.Violates rule) h = absurd h
+
+-- the text defines a table that counts no rowids
+pub does_create : (limit : Option ℕ) (mode : Mode) (params : Row) (db : Database) (text : List ℕ) (table : Table) → table_defined_by text ≡ Ok table → lacks_sequence (created db.schema table) ≡ false
+    → AreOfMachine (Does limit mode params db text None CreateTable)
+does_create limit mode params db text table defined lacks =
+    then_of_machine (Then (MakesTable text db) MakesSequence) (λ after. Gives (no_rows mode.in_doubt, after))
+    (then_first (MakesTable text db) MakesSequence (made_of_machine text db table defined) sequence)
+    (λ after. gives_of_machine (no_rows mode.in_doubt, after))
+  where
+    then_first : {A B : Type 0} (First : Part A) (Next : A → Part B) → AreOfMachine First → ((a : A) → First (Ok a) → AreOfMachine (Next a)) → AreOfMachine (Then First Next)
+    then_first First Next first next e (inl stopped) = first e (subst (λ s. First (Err s)) (let k : stopped.0 ≡ Some e = cc in k) stopped.1)
+    then_first First Next first next e (inr went) = next went.0 went.1 e went.2
+
+    sequence : (after : Database) → MakesTable text db (Ok after) → AreOfMachine (MakesSequence after)
+    sequence after made e h =
+        let both : ◌≡◌ {A = Result Table CompileError} (Ok made.table) (Ok table) = sym made.defined ∙ defined in
+        let none : lacks_sequence after.schema ≡ false = ap lacks_sequence (made.is ∙ ap (created db.schema) (let k : made.table ≡ table = cc in k)) ∙ lacks in
+        gives_of_machine after e (rw none at h)
+
+pub create_failed : (sql : List ℕ) (params : Row) (table : Table) (schema : Schema) (old new : State) (e : Error) → old.now.schema ≡ schema → Means schema sql CreateTable
+    → table_defined_by (statement_of sql (understood schema sql)) ≡ Ok table → lacks_sequence (created schema table) ≡ false → ExecutesInside 0 sql params old new (Err e) → IsOfMachine e
+create_failed sql params table schema old new e has means defined lacks =
+    write_failed schema sql params CreateTable (λ limit mode params db has. does_create limit mode params db (statement_of sql (understood schema sql)) table defined (ap (λ s. lacks_sequence (created s table)) has ∙ lacks)) old new e has means

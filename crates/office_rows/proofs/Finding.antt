@@ -1,14 +1,15 @@
 -- What the first row of a query tells of the entries that a table keeps, and what the query leaves of the connection.
-use Rattle.std.proofs.Common.{inl, inr, ◌≡◌, ◌≢◌, ℕ, ℤ, List, [], ◌∷◌, Bool, true, false, Option, None, Some, Ok, Err, Result, IfOk, refl, sym, ap, subst, ◌∙◌}
+use Rattle.std.proofs.Common.{inl, inr, ◌≡◌, ◌≢◌, ℕ, ℤ, List, [], ◌∷◌, Bool, true, false, Option, None, Some, Ok, Err, Result, IfOk, OnOk, IsTrue, refl, sym, ap, subst, ◌∙◌}
 use Rattle.std.specs.Prelude.{find, option_map}
 use Rattle.std.specs.List.{list_all}
 use Rattle.sqlite.specs.Order.{Row}
 use Rattle.sqlite.specs.Schema.{Schema}
 use Rattle.sqlite.specs.Term.{Term, eval_all, holds}
+use Rattle.sqlite.specs.Command.{Command}
 use Rattle.sqlite.specs.Command.TheVariants.{Select}
 use Rattle.sqlite.specs.Program.{overlay}
 use Rattle.sqlite.specs.declared.error.Error.{Error}
-use Rattle.sqlite.specs.State.{State, QueriesRow, Shown, Survives, CommitsShowing}
+use Rattle.sqlite.specs.State.{State, QueriesRow, Shown, IsUnchanged, Survives, CommitsShowing}
 use Rattle.sqlite.specs.Listing.{understood}
 use Rattle.sqlite.proofs.Callers.{IsPlain, never_commits}
 use Rattle.sqlite.proofs.StateLemmas.{survives_weaker}
@@ -27,40 +28,57 @@ abbrev pub IsFound : {X : Type 0} → (X → Bool) → (X → Row) → List X �
 IsFound {X} passes shown xs None = (x : X) → Has xs x → passes x ≡ true → ⊥
 IsFound {X} passes shown xs (Some row) = (x : X) × Has xs x × (passes x ≡ true) × (row ≡ shown x)
 
+-- ---- a query of a known meaning, whatever it is
+
+module _ (command : Command) (schema : Schema) (sql : List ℕ) (params : Row) (means : Means schema sql command)
+    (old new : State) (has : old.now.schema ≡ schema) (settled : old.now ≡ old.committed) (idle : old.in_transaction ≡ false) where
+
+  plain_old : IsPlain (understood old.now.schema sql)
+  plain_old = rw has means.plain
+
+  shown_same : (rows : List Row) → Shown sql params old new rows → IsUnchanged old new
+  unfolding Shown
+  shown_same rows h =
+      let none : h.0.returning ≡ None = (subst IsPlain h.1.is plain_old).0 in
+      (rw none at h.2).3
+
+  row_same : (row : Row) → QueriesRow sql params old new (Ok row) → IsUnchanged old new
+  unfolding QueriesRow
+  row_same row (inl h) = h.1
+  row_same row (inr h) = shown_same h.0 h.1
+
+  -- what the first row of the answer tells, and what its lack tells; where there is an answer the connection is open
+  pub finds : (Tells : Option Row → Type 0) → ((row : Row) → QueriesRow sql params old new (Ok row) → Tells (Some row)) → (Shown sql params old new [] → Tells None)
+      → (r : Result (Option Row) StoreFault) → FindsRow sql params old new r → IfOk r Tells × (r ≢ Err NotAnOffice) × IsKept old new × OnOk r (IsTrue new.is_open)
+  unfolding QueriesRow
+  finds Tells some none (Ok (Some row)) h = let same = row_same row h in (some row h, (λ e. cc), unchanged_kept old new same, same.0.is_open)
+  finds Tells some none (Ok None) (inl h) = absurd ((query_failed _ _ old new _ plain_old settled idle h).0.1 refl)
+  finds Tells some none (Ok None) (inr h) = let same = shown_same [] h.1 in (none h.1, (λ e. cc), unchanged_kept old new same, same.0.is_open)
+  finds Tells some none (Err f) (e, inl h, is) =
+      let failed = query_failed _ _ old new e plain_old settled idle h in
+      (tt, (λ same. failed.0.0 (sym is ∙ (let k : f ≡ NotAnOffice = cc in k))), failed.1, tt)
+  finds Tells some none (Err f) (e, inr h, is) = (tt, (λ same. let k : f ≡ NotAnOffice = cc in absurd (let z = sym k ∙ is ∙ ap fault_of h.0 in cc)), unchanged_kept old new (shown_same [] h.1), tt)
+
+  pub commits_none : Survives old new (CommitsShowing sql params old) → Survives old new (λ _. ⊥)
+  commits_none = survives_weaker old new _ _ (λ _ db. never_commits _ _ old db plain_old)
+
+-- ---- a query of one table
+
 module _ {X : Type 0} (encode shown : X → Row) (passes : X → Bool) (project tests : List Term) (schema : Schema) (sql : List ℕ) (params : Row) (tree : ℕ) (names : List (List ℕ))
     (means : Means schema sql (Select (record { lets = []; body = plain_query project tests tree }) names))
     (tested : (k : ℤ × X) → list_all (holds (params ∷ row_of encode k ∷ [])) tests ≡ passes k.1)
     (showed : (k : ℤ × X) → eval_all project (params ∷ row_of encode k ∷ []) ≡ shown k.1)
     (old new : State) (has : old.now.schema ≡ schema) (settled : old.now ≡ old.committed) (idle : old.in_transaction ≡ false) where
-  plain_old : IsPlain (understood old.now.schema sql)
-  plain_old = rw has means.plain
-
-  shown_kept : (rows : List Row) → Shown sql params old new rows → IsKept old new
-  unfolding Shown
-  shown_kept rows h =
-      let none : h.0.returning ≡ None = (subst IsPlain h.1.is plain_old).0 in
-      unchanged_kept old new (rw none at h.2).3
-
-  row_kept : (row : Row) → QueriesRow sql params old new (Ok row) → IsKept old new
-  unfolding QueriesRow
-  row_kept row (inl h) = unchanged_kept old new h.1
-  row_kept row (inr h) = shown_kept h.0 h.1
 
   pub finds_some : (xs : List X) → Keeps encode (overlay old.now.trees [] tree) xs → (r : Result (Option Row) StoreFault) → FindsRow sql params old new r
-      → IfOk r (IsFound passes shown xs) × (r ≢ Err NotAnOffice) × IsKept old new
-  unfolding QueriesRow
-  finds_some xs keeps (Ok (Some row)) h =
-      (found_row encode shown passes project tests schema sql params tree names means tested showed old new has xs keeps row h, (λ e. cc), row_kept row h)
-  finds_some xs keeps (Ok None) (inl h) = absurd ((query_failed _ _ old new _ plain_old settled idle h).0.1 refl)
-  finds_some xs keeps (Ok None) (inr h) =
-      ((λ x has_x passed. found_none encode shown passes project tests schema sql params tree names means tested showed old new has xs keeps h.1 x has_x passed), (λ e. cc), shown_kept [] h.1)
-  finds_some xs keeps (Err f) (e, inl h, is) =
-      let failed = query_failed _ _ old new e plain_old settled idle h in
-      (tt, (λ same. failed.0.0 (sym is ∙ (let k : f ≡ NotAnOffice = cc in k))), failed.1)
-  finds_some xs keeps (Err f) (e, inr h, is) = (tt, (λ same. let k : f ≡ NotAnOffice = cc in absurd (let z = sym k ∙ is ∙ ap fault_of h.0 in cc)), shown_kept [] h.1)
+      → IfOk r (IsFound passes shown xs) × (r ≢ Err NotAnOffice) × IsKept old new × OnOk r (IsTrue new.is_open)
+  finds_some xs keeps =
+      finds (Select (record { lets = []; body = plain_query project tests tree }) names) schema sql params means old new has settled idle (IsFound passes shown xs)
+      (λ row h. found_row encode shown passes project tests schema sql params tree names means tested showed old new has xs keeps row h)
+      (λ h x has_x passed. found_none encode shown passes project tests schema sql params tree names means tested showed old new has xs keeps h x has_x passed)
 
   pub no_commit : Survives old new (CommitsShowing sql params old) → Survives old new (λ _. ⊥)
-  no_commit = survives_weaker old new _ _ (λ _ db. never_commits _ _ old db plain_old)
+  no_commit = commits_none (Select (record { lets = []; body = plain_query project tests tree }) names) schema sql params means old new has settled idle
 
 -- at a key stands what the table has there
 pub found_own : {K X : Type 0} (encode shown : X → Row) (is_at : K → X → Bool) (IsFormed : X → Type 0) (rows : List Row) (stores : Stores encode is_at IsFormed rows) (k : K) (r : Result (Option Row) StoreFault)

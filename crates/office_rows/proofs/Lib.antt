@@ -6,9 +6,12 @@ pub mod Reading
 pub mod Writing
 pub mod Failing
 pub mod Transactions
+pub mod Leading
 pub mod Stored
 pub mod Finding
+pub mod Ordered
 pub mod Steps
 pub mod InOrder
 pub mod Distinct
 pub mod Asked
+pub mod Creating

@@ -23,6 +23,7 @@ use Rattle.office_rows.proofs.Writing.{IsTableOf, WritesIn, deleted, inserted, u
 
 module _ {K X : Type 0} (same : K → K → Bool) (decides : (a b : K) → Decides (same a b) (a ≡ b)) (key : X → K) (encode : X → Row) (IsFormed : X → Type 0)
     (schema : Schema) (at : ℕ) (table : Table) (is_table : IsTableOf schema at table) where
+
   abbrev pub Entries : List Row → Type 0
   Entries = Stores encode (is_at same decides key) IsFormed
 
@@ -58,7 +59,7 @@ module _ {K X : Type 0} (same : K → K → Bool) (decides : (a b : K) → Decid
         → value_rows (stamped table params) width (length terms / width) terms ≡ source ∷ [] → cast_row table source ≡ Null ∷ encode x
         → After old.now new.now (λ j. cond (same j (key x)) (Some x) (before j))
     puts x formed none terms width source means source_is cast_is =
-        let it = inserted schema at table is_table sql params old new count has ran encode x terms width source means source_is cast_is stores.entries stores.kept in
+        let it = inserted schema at table is_table sql params old new count has ran terms width source means source_is encode x cast_is stores.entries stores.kept in
         record {
           writes = it.0;
           left = record {

@@ -4,7 +4,7 @@ use Rattle.std.specs.Prelude.{MatchBool, drop, filter, slice_get, length, ◌/�
 use Rattle.sqlite.specs.Effect.{value_rows}
 use Rattle.sqlite.specs.Rows.{stamped}
 use Rattle.sqlite.specs.Cast.{cast_row}
-use Rattle.sqlite_rules.specs.Edit.{id_in, next_rowid, is_taken, are_fresh, put_all, numbered, without_all, taken_by}
+use Rattle.sqlite_rules.specs.Edit.{id_in, next_rowid, with_rowid, is_taken, are_fresh, put_all, numbered, without_all, taken_by}
 use Rattle.sqlite.specs.Tree.{rowid}
 use Rattle.sqlite_trees.specs.Tree.{put_row}
 use Rattle.std.specs.List.{list_all, AllByRecursion}
@@ -163,11 +163,19 @@ module _ (schema : Schema) (at : ℕ) (table : Table) (is_table : IsTableOf sche
               (reordered encode _ _ _ back whole),
         )
 
-  module _ {X : Type 0} (encode : X → Row) (x : X) (terms : List Term) (width : ℕ) (source : Row)
-      (means : Means schema sql (Insert at (Values terms width)))
-      (source_is : value_rows (stamped table params) width (length terms / width) terms ≡ source ∷ []) (cast_is : cast_row table source ≡ Null ∷ encode x) where
-    pub inserted : (xs : List X) → Keeps encode (old.now.trees table.tree) xs → WritesIn schema table.tree old.now new.now × Keeps encode (new.now.trees table.tree) (x ∷ xs)
-    inserted xs keeps =
+  module _ (terms : List Term) (width : ℕ) (source : Row) (means : Means schema sql (Insert at (Values terms width)))
+      (source_is : value_rows (stamped table params) width (length terms / width) terms ≡ source ∷ []) where
+    -- the row that is put in, under the rowid that it gives or the next one
+    abbrev pub given_row : Row
+    given_row = with_rowid Chosen (old.now.trees table.tree) (cast_row table source)
+
+    pub record Inserts : Type 0 where
+      pub writes : WritesIn schema table.tree old.now new.now
+      pub free : is_taken (old.now.trees table.tree) given_row ≡ false
+      pub rows : new.now.trees table.tree ≡ put_row given_row (old.now.trees table.tree)
+
+    pub inserts : Inserts
+    inserts =
         let command = Insert at (Values terms width) in
         let text = statement_of sql (understood schema sql) in
         let w : Writes old new None command text params count = runs_as sql params old new schema has command means.is means.plain count ran in
@@ -185,14 +193,22 @@ module _ (schema : Schema) (at : ℕ) (table : Table) (is_table : IsTableOf sche
         let applied = one_step schema _ old.now.trees wrote.0 edit (is_table.free (taken_by old.now.trees edit) edit.news (mode_of old).keys)
         (subst (λ b. Edited schema (mode_of old).keys old.now.trees (edit_of old.now.trees table [] (cond b (Above (count_of counted.0)) Chosen) 0 asked.0) (Ok wrote.0)) is_table.uncounted wrote.1) in
         let rows : asked.0 ≡ source ∷ [] = asked.1.1 ∙ source_is in
-        let id = next_rowid (old.now.trees table.tree) in
-        let news : (edit_of old.now.trees table [] Chosen 0 asked.0).news ≡ row_of encode (id, x) ∷ [] =
-        ap (λ rs. numbered Chosen (old.now.trees table.tree) (map (λ s. cast_row table (drop 0 s)) rs)) rows ∙ ap (λ r. numbered Chosen (old.now.trees table.tree) (r ∷ [])) cast_is in
-        let free : is_taken (old.now.trees table.tree) (row_of encode (id, x)) ≡ false = not_taken _ (subst (λ ns. are_fresh (old.now.trees table.tree) ns ≡ true) news applied.fresh) in (
-          record {
+        let news : (edit_of old.now.trees table [] Chosen 0 asked.0).news ≡ given_row ∷ [] =
+        ap (λ rs. numbered Chosen (old.now.trees table.tree) (map (λ s. cast_row table (drop 0 s)) rs)) rows in
+        record {
+          writes = record {
             schema_is = ap (λ (d : Database). d.schema) now;
             tables = subst (λ (ts : Trees). AllByRecursion (λ t. t.tree ≢ table.tree → ts t.tree ≡ old.now.trees t.tree) schema.tables) (sym trees) applied.tables;
-          },
-          subst (λ rows. Keeps encode rows (x ∷ xs)) (sym (ap (λ (ts : Trees). ts table.tree) trees ∙ subst (λ ns. wrote.0 table.tree ≡ put_all (old.now.trees table.tree) ns) news applied.rows))
-              (put_in encode (id, x) (old.now.trees table.tree) xs keeps free),
-        )
+          };
+          free = not_taken _ (subst (λ ns. are_fresh (old.now.trees table.tree) ns ≡ true) news applied.fresh);
+          rows = ap (λ (ts : Trees). ts table.tree) trees ∙ subst (λ ns. wrote.0 table.tree ≡ put_all (old.now.trees table.tree) ns) news applied.rows;
+        }
+
+    -- a row that gives no rowid
+    module _ {X : Type 0} (encode : X → Row) (x : X) (cast_is : cast_row table source ≡ Null ∷ encode x) where
+      pub inserted : (xs : List X) → Keeps encode (old.now.trees table.tree) xs → WritesIn schema table.tree old.now new.now × Keeps encode (new.now.trees table.tree) (x ∷ xs)
+      inserted xs keeps =
+          let id = next_rowid (old.now.trees table.tree) in
+          let row : given_row ≡ row_of encode (id, x) = ap (with_rowid Chosen (old.now.trees table.tree)) cast_is in
+          let free : is_taken (old.now.trees table.tree) (row_of encode (id, x)) ≡ false = ap (is_taken (old.now.trees table.tree)) (sym row) ∙ inserts.free in
+          (inserts.writes, subst (λ rows. Keeps encode rows (x ∷ xs)) (sym (inserts.rows ∙ ap (λ r. put_row r (old.now.trees table.tree)) row)) (put_in encode (id, x) (old.now.trees table.tree) xs keeps free))

@@ -1,8 +1,9 @@
 -- What the statements of a write leave of an office.
-use Rattle.std.proofs.Common.{inl, inr, ◌≡◌, List, [], ◌∷◌, refl, sym, ap, subst, ◌∙◌}
+use Rattle.std.proofs.Common.{arith, Ok, Err, Result, OnOk, OnErr, inl, inr, ◌≡◌, List, [], ◌∷◌, refl, sym, ap, subst, ◌∙◌}
 use Rattle.sqlite.specs.declared.error.Error.{Error}
 use Rattle.sqlite.specs.Store.{Ghosts}
 use Rattle.sqlite.specs.Effect.{Database}
+use Rattle.sqlite.specs.State.{State, Survives}
 use Rattle.sqlite.specs.Tree.{Trees}
 use Rattle.sqlite.specs.Held.{Held, state}
 use Rattle.office_tables.specs.Tables.{Tables}
@@ -26,3 +27,15 @@ module _ {S : Type 0} (g : Ghosts S) where
 -- the trees of an office are those of its tables
 pub trees_of : (db : Database) (trees : Trees) (t : Tables) → IsOffice db t → trees ≡ db.trees → AreOffice trees t
 trees_of db trees t office is = subst (λ (d : Database). IsOffice d t) (λ i. record { schema = office.schema i; trees = sym is i }) office
+
+-- nothing was done to the store
+pub survives_same : (s : State) (P : Trees → Type 0) → Survives s s P
+survives_same s P = record { clean = omega arith; shield = λ h. h; counts = omega arith; limit = refl; closes = λ clean is_open. inl is_open; crash = λ clean db may. inl may }
+
+pub on_any : {A E P : Type 0} (r : Result A E) → P → OnOk r P
+on_any (Ok a) p = p
+on_any (Err e) p = tt
+
+pub on_err : {A E P : Type 0} (r : Result A E) → P → OnErr r P
+on_err (Ok a) p = tt
+on_err (Err e) p = p

@@ -14,3 +14,6 @@ pub mod ListReads
 pub mod AuthorReads
 pub mod ListingReads
 pub mod VoteReads
+pub mod FoundingSteps
+pub mod FormReads
+pub mod Numbers

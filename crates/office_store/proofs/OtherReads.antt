@@ -1,5 +1,5 @@
 -- What the reads of baselines, holds and the listed capabilities find.
-use Rattle.std.proofs.Common.{◌≡◌, ◌≢◌, ◌<◌, length, ℕ, ℤ, pos, List, [], ◌∷◌, codes, None, Some, Ok, Err, Result, Option, IfOk, Bool, true, false, refl, sym, ap, subst, ◌∙◌, inl, inr}
+use Rattle.std.proofs.Common.{◌≡◌, ◌≢◌, ◌<◌, ◌^◌, length, ℕ, ℤ, pos, List, [], ◌∷◌, codes, None, Some, Ok, Err, Result, Option, IfOk, OnOk, Bool, true, false, refl, sym, ap, subst, ◌∙◌, inl, inr}
 use Rattle.std.specs.Prelude.{bytes_eq, option_map, find, is_some}
 use Rattle.std.specs.List.{list_all}
 use Rattle.std.proofs.lemmas.List.Sorted.{IsPermutation-refl}
@@ -30,7 +30,7 @@ use Rattle.office_store.specs.Entries.{BaselineEntry, baseline_row, adopted_row,
 use Rattle.office_store.specs.Reads.{IsRowListed}
 use Rattle.office_store.specs.Shown.{Shows, ShowsIfOpen}
 use Rattle.office_store.proofs.Columns.{column_is}
-use Rattle.office_store.proofs.Kept.{still_shows, map_of_map, some_shown, some_mapped}
+use Rattle.office_store.proofs.Kept.{still_shows, answered_shows, map_of_map, some_shown, some_mapped}
 use Rattle.office_store.proofs.Profiles.{profile_params, at_profile, hold_tested}
 use Rattle.office_store.proofs.OtherWrites.{baseline_tested}
 
@@ -57,7 +57,7 @@ baseline_of e = e.1
 
 -- the row of the office, as one entry
 
-abbrev office_columns : ℕ → Row
+abbrev pub office_columns : ℕ → Row
 office_columns listed = Null ∷ Int (pos 2) ∷ Int (pos listed) ∷ []
 
 abbrev shown_listed : ℕ → Row
@@ -77,7 +77,7 @@ module _ (old new : State) (t : Tables) (shows : Shows old t) where
 
   module _ (idle : old.in_transaction ≡ false) where
     pub reads_baseline : (team : List ℕ) (r : Result (Option Row) StoreFault) → FindsRow BASELINE_OF.now (Text team ∷ []) old new r
-        → IfOk r (λ row. row ≡ option_map adopted_row (t.baselines team)) × (r ≢ Err NotAnOffice) × ShowsIfOpen new t
+        → IfOk r (λ row. row ≡ option_map adopted_row (t.baselines team)) × (r ≢ Err NotAnOffice) × ShowsIfOpen new t × OnOk r (Shows new t)
     reads_baseline team r h =
         let o = shows.office in
         let it = finds_some baseline_row shown_baseline (baseline_at team) (col 1 2 ∷ col 1 3 ∷ []) (column_is 1 0 ∷ []) office_schema BASELINE_OF.now (Text team ∷ []) 8 (codes "profile" ∷ codes "number" ∷ []) baseline_means (baseline_tested team) (λ k. refl)
@@ -85,7 +85,7 @@ module _ (old new : State) (t : Tables) (shows : Shows old t) where
         let found = found_own baseline_row shown_baseline baseline_at IsBaseline (old.now.trees 8) o.baselines team r it.0 in
         let same : option_map shown_baseline (find (baseline_at team) o.baselines.entries) ≡ option_map adopted_row (t.baselines team) =
         sym (map_of_map adopted_row baseline_of _) ∙ ap (option_map adopted_row) (sym (o.baselines_are team)) in
-        (subst (λ x. IfOk r (λ row. row ≡ x)) same found, it.1, still_shows old new t shows it.2)
+        (subst (λ x. IfOk r (λ row. row ≡ x)) same found, it.1, still_shows old new t shows it.2, answered_shows old new t shows it.2 r it.3)
 
     pub baseline_crash : (team : List ℕ) → Survives old new (CommitsShowing BASELINE_OF.now (Text team ∷ []) old) → Survives old new (λ _. ⊥)
     baseline_crash team =
@@ -93,13 +93,13 @@ module _ (old new : State) (t : Tables) (shows : Shows old t) where
         old new shows.office.schema shows.settled idle
 
     pub reads_hold : (p : ProfileName) (r : Result (Option Row) StoreFault) → FindsRow HOLD_OF.now (profile_params p) old new r
-        → IfOk r (λ row. is_some row ≡ t.holds p) × (r ≢ Err NotAnOffice) × ShowsIfOpen new t
+        → IfOk r (λ row. is_some row ≡ t.holds p) × (r ≢ Err NotAnOffice) × ShowsIfOpen new t × OnOk r (Shows new t)
     reads_hold p r h =
         let o = shows.office in
         let it = finds_some hold_row hold_row (is_profile p) (col 1 1 ∷ col 1 2 ∷ []) at_profile office_schema HOLD_OF.now (profile_params p) 10 (codes "team" ∷ codes "profile" ∷ []) hold_means (hold_tested p) (λ k. refl)
         old new o.schema shows.settled idle o.holds.entries o.holds.kept r h in
         let found = found_own hold_row hold_row is_profile IsProfileName (old.now.trees 10) o.holds p r it.0 in
-        (held r found, it.1, still_shows old new t shows it.2)
+        (held r found, it.1, still_shows old new t shows it.2, answered_shows old new t shows it.2 r it.3)
       where
         held : (r : Result (Option Row) StoreFault) → IfOk r (λ row. row ≡ option_map hold_row (find (is_profile p) shows.office.holds.entries)) → IfOk r (λ row. is_some row ≡ t.holds p)
         held (Ok row) is = ap is_some is ∙ some_mapped hold_row _ ∙ sym (shows.office.holds_are p)
@@ -110,7 +110,7 @@ module _ (old new : State) (t : Tables) (shows : Shows old t) where
         no_commit hold_row hold_row (is_profile p) (col 1 1 ∷ col 1 2 ∷ []) at_profile office_schema HOLD_OF.now (profile_params p) 10 (codes "team" ∷ codes "profile" ∷ []) hold_means (hold_tested p) (λ k. refl)
         old new shows.office.schema shows.settled idle
 
-    one_office : Keeps office_columns (old.now.trees 0) (t.listed ∷ [])
+    abbrev pub one_office : Keeps office_columns (old.now.trees 0) (t.listed ∷ [])
     one_office = record { kept = (pos 1, t.listed) ∷ []; rows_are = shows.office.office; apart = (tt, tt); same = IsPermutation-refl (t.listed ∷ []) }
 
     listed_row : (r : Result (Option Row) StoreFault) → IfOk r (IsFound any shown_listed (t.listed ∷ [])) → IfOk r (IsRowListed t)
@@ -122,11 +122,11 @@ module _ (old new : State) (t : Tables) (shows : Shows old t) where
     listed_row (Ok None) none = none t.listed (inl refl) refl
     listed_row (Err f) it = it
 
-    pub reads_listed : (r : Result (Option Row) StoreFault) → FindsRow LISTED.now [] old new r → IfOk r (IsRowListed t) × (r ≢ Err NotAnOffice) × ShowsIfOpen new t
+    pub reads_listed : (r : Result (Option Row) StoreFault) → FindsRow LISTED.now [] old new r → IfOk r (IsRowListed t) × (r ≢ Err NotAnOffice) × ShowsIfOpen new t × OnOk r (Shows new t)
     reads_listed r h =
         let o = shows.office in
         let it = finds_some office_columns shown_listed any (col 1 3 ∷ []) [] office_schema LISTED.now [] 0 (codes "listed" ∷ []) listed_means (λ k. refl) (λ k. refl) old new o.schema shows.settled idle (t.listed ∷ []) one_office r h in
-        (listed_row r it.0, it.1, still_shows old new t shows it.2)
+        (listed_row r it.0, it.1, still_shows old new t shows it.2, answered_shows old new t shows it.2 r it.3)
 
     pub listed_crash : Survives old new (CommitsShowing LISTED.now [] old) → Survives old new (λ _. ⊥)
     listed_crash =
@@ -138,8 +138,8 @@ same_adopted a b same =
     let number : a.number ≡ b.number = cc in
     λ i. record { profile = profile i; number = number i }
 
-pub listed_is : (r : Result ℕ StoreFault) (row : Row) (n : ℕ) → row ≡ Int (pos n) ∷ [] → IfOk r (λ bits. (0 < length row) × (column row 0 ≡ Int (pos bits))) → IfOk r (λ bits. bits ≡ n)
-listed_is (Ok bits) row n is h =
-    let same : Int (pos n) ≡ Int (pos bits) = ap (λ (r : Row). column r 0) (sym is) ∙ h.1 in
-    let k : bits ≡ n = cc in k
+pub listed_is : (r : Result ℕ StoreFault) (row : Row) (n : ℕ) → row ≡ Int (pos n) ∷ [] → IfOk r (λ caps. (0 < length row) × (column row 0 ≡ Int (pos caps)) × (caps < 2 ^ 41)) → IfOk r (λ caps. caps ≡ n)
+listed_is (Ok caps) row n is h =
+    let same : Int (pos n) ≡ Int (pos caps) = ap (λ (r : Row). column r 0) (sym is) ∙ h.1 in
+    let k : caps ≡ n = cc in k
 listed_is (Err f) row n is h = h

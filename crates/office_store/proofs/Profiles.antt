@@ -55,22 +55,22 @@ number_itself a = grind (arith, nat_tests)
 pub revisions_decide : (a b : ProfileName × ℕ) → Decides (same_revision a b) (a ≡ b)
 revisions_decide a b = (
   λ e.
-      let both = both_true (is_profile a.0 b.0) (a.1 == b.1) e in
-      let profile = same_profile a.0 b.0 both.0 in
-      let number = same_number a.1 b.1 both.1 in
-      λ i. (profile i, number i),
+  let both = both_true (is_profile a.0 b.0) (a.1 == b.1) e in
+  let profile = same_profile a.0 b.0 both.0 in
+  let number = same_number a.1 b.1 both.1 in
+  λ i. (profile i, number i),
   λ e. subst (λ r. same_revision a r ≡ true) e (λ i. profile_itself a.0 i && number_itself a.1 i),
 )
 
 pub votes_decide : (a b : VoteKey) → Decides (same_vote a b) (a ≡ b)
 votes_decide a b = (
   λ e.
-      let outer = both_true (is_profile a.profile b.profile && (a.number == b.number)) (bytes_eq a.voter b.voter) e in
-      let both = both_true (is_profile a.profile b.profile) (a.number == b.number) outer.0 in
-      let profile = same_profile a.profile b.profile both.0 in
-      let number = same_number a.number b.number both.1 in
-      let voter = (bytes_eq-Decides a.voter b.voter).0 outer.1 in
-      λ i. record { profile = profile i; number = number i; voter = voter i },
+  let outer = both_true (is_profile a.profile b.profile && (a.number == b.number)) (bytes_eq a.voter b.voter) e in
+  let both = both_true (is_profile a.profile b.profile) (a.number == b.number) outer.0 in
+  let profile = same_profile a.profile b.profile both.0 in
+  let number = same_number a.number b.number both.1 in
+  let voter = (bytes_eq-Decides a.voter b.voter).0 outer.1 in
+  λ i. record { profile = profile i; number = number i; voter = voter i },
   λ e. subst (λ r. same_vote a r ≡ true) e (λ i. (profile_itself a.profile i && number_itself a.number i) && (bytes_eq-Decides a.voter a.voter).1 refl i),
 )
 
@@ -93,6 +93,9 @@ at_voter = column_is 1 0 ∷ column_is 2 1 ∷ column_is 3 2 ∷ column_is 4 3 �
 
 pub hold_tested : (p : ProfileName) (k : ℤ × ProfileName) → list_all (holds (profile_params p ∷ row_of hold_row k ∷ [])) at_profile ≡ is_profile p k.1
 hold_tested p k = two_are _ _ _ _ (text_is k.1.team p.team) (text_is k.1.profile p.profile)
+
+pub profile_tested : (p : ProfileName) (k : ℤ × Revision) → list_all (holds (profile_params p ∷ row_of revision_row k ∷ [])) at_profile ≡ is_profile p k.1.0
+profile_tested p k = two_are _ _ _ _ (text_is k.1.0.team p.team) (text_is k.1.0.profile p.profile)
 
 pub revision_tested : (p : ProfileName) (n : ℕ) (k : ℤ × Revision) → list_all (holds (revision_params p n ∷ row_of revision_row k ∷ [])) at_revision ≡ same_revision (p, n) (revision_key k.1)
 revision_tested p n k = three_are _ _ _ _ _ _ (text_is k.1.0.team p.team) (text_is k.1.0.profile p.profile) (number_is k.1.1.number n)

@@ -1,9 +1,17 @@
 -- What the reads of revisions find.
-use Rattle.std.proofs.Common.{◌≡◌, ◌≢◌, ℕ, ℤ, List, [], ◌∷◌, codes, None, Some, Ok, Err, Result, Option, IfOk, Bool, true, false, refl, sym, ap, subst, ◌∙◌, arith}
+use Rattle.std.proofs.Common.{◌≡◌, ◌≢◌, ◌<◌, ℕ, ℤ, pos, map, List, [], ◌∷◌, codes, None, Some, Ok, Err, Result, Option, IfOk, OnOk, Bool, true, false, refl, sym, ap, subst, ◌∙◌, arith}
 use Rattle.std.specs.Prelude.{◌&&◌, ◌==◌, option_map, find}
 use Rattle.std.specs.List.{list_all}
 use Rattle.std.proofs.lemmas.Bool.Decides.{nat_tests}
-use Rattle.sqlite.specs.declared.types.Value.TheVariants.{Text, Blob}
+use Rattle.std.specs.declared.cmp.Ordering.{Ordering}
+use Rattle.std.specs.declared.cmp.Ordering.TheVariants.{Less, Equal, Greater}
+use Rattle.std.specs.Ordering.{is_lt, int_cmp, ordering_then}
+use Rattle.sqlite_value.specs.declared.keys.Key.{Key}
+use Rattle.sqlite_value.specs.Order.{value_cmp}
+use Rattle.sqlite_value.proofs.OrderLemmas.{value_cmp-Int}
+use Rattle.sqlite_sql.specs.Query.{key_cmp}
+use Rattle.sqlite.specs.Collation.TheVariants.{Binary}
+use Rattle.sqlite.specs.declared.types.Value.TheVariants.{Int, Text, Blob}
 use Rattle.sqlite.specs.Order.{Row}
 use Rattle.sqlite.specs.Term.{Term, col, holds}
 use Rattle.sqlite.specs.Command.TheVariants.{Select}
@@ -21,14 +29,15 @@ use Rattle.office_tables.specs.Tables.{Tables, is_profile}
 use Rattle.office_rows.specs.Faults.{FindsRow}
 use Rattle.office_rows.proofs.Plain.{plain_query, Means}
 use Rattle.office_rows.proofs.Stored.{find_own}
-use Rattle.office_rows.proofs.Finding.{IsFound, finds_some, found_own, no_commit}
-use Rattle.office_store.specs.declared.revisions.TheConstants.{REVISION_AT, ISSUED_OF}
+use Rattle.office_rows.proofs.Finding.{IsFound, finds_some, found_own, no_commit, commits_none}
+use Rattle.office_rows.proofs.Ordered.{first_query, IsFirstRow, finds_first}
+use Rattle.office_store.specs.declared.revisions.TheConstants.{REVISION_AT, ISSUED_OF, LAST_OF}
 use Rattle.office_store.specs.Schema.{office_schema}
 use Rattle.office_store.specs.Entries.{Revision, same_revision, revision_key, revision_row, revision_columns, IsRevision, state_number}
-use Rattle.office_store.specs.Reads.{IsIssuedRow}
+use Rattle.office_store.specs.Reads.{IsIssuedRow, IsLastRow}
 use Rattle.office_store.specs.Shown.{Shows, ShowsIfOpen}
-use Rattle.office_store.proofs.Kept.{still_shows, map_of_map, some_shown}
-use Rattle.office_store.proofs.Profiles.{profile_params, revision_params, at_revision, revision_tested, in_state_of, is_in_state, state_tested, revisions_decide, profiles_decide, both_true, same_profile, same_state}
+use Rattle.office_store.proofs.Kept.{still_shows, answered_shows, map_of_map, some_shown}
+use Rattle.office_store.proofs.Profiles.{profile_params, revision_params, at_profile, profile_tested, at_revision, revision_tested, in_state_of, is_in_state, state_tested, revisions_decide, profiles_decide, both_true, same_profile, same_state}
 
 abbrev shown_columns : List Term
 shown_columns = col 1 3 ∷ col 1 4 ∷ col 1 5 ∷ col 1 6 ∷ col 1 7 ∷ []
@@ -43,6 +52,35 @@ revision_means = record { is = refl; plain = (refl, refl); unlisted = refl }
 issued_means : Means office_schema ISSUED_OF.now (Select (record { lets = []; body = plain_query shown_columns (in_state_of Issued) 4 }) names)
 unfolding understood everything
 issued_means = record { is = refl; plain = (refl, refl); unlisted = refl }
+
+abbrev greatest : List (Term × Key)
+greatest = (col 1 3, record { collation = Binary; descending = true }) ∷ []
+
+last_means : Means office_schema LAST_OF.now (Select (record { lets = []; body = first_query shown_columns at_profile 4 greatest }) names)
+unfolding understood everything
+last_means = record { is = refl; plain = (refl, refl); unlisted = refl }
+
+abbrev number_of : Revision → Row
+number_of e = Int (pos e.1.number) ∷ []
+
+abbrev is_of : ProfileName → Revision → Bool
+is_of p e = is_profile p e.0
+
+then_equal : (o : Ordering) → is_lt (ordering_then o Equal) ≡ is_lt o
+then_equal Less = refl
+then_equal Equal = refl
+then_equal Greater = refl
+
+not_less : (a b : ℕ) → is_lt (int_cmp (pos a) (pos b)) ≡ false → a < b → ⊥
+not_less a b e below = grind (arith, nat_tests)
+
+-- no number is above that of the first by falling numbers
+not_above : (a b : ℕ) → is_lt (key_cmp 0 (map (λ k. k.1) greatest) (Int (pos b) ∷ []) (Int (pos a) ∷ [])) ≡ false → a < b → ⊥
+not_above a b e below = not_less a b (sym (ap is_lt (value_cmp-Int (pos a) (pos b))) ∙ sym (then_equal (value_cmp (Int (pos a)) (Int (pos b)))) ∙ e) below
+
+none_if : {X : Type 0} (o : Option X) → ((x : X) → o ≡ Some x → ⊥) → o ≡ None
+none_if None h = refl
+none_if (Some x) h = absurd (h x refl)
 
 abbrev shown : Revision → Row
 shown e = revision_columns e.1
@@ -81,7 +119,7 @@ module _ (old new : State) (t : Tables) (shows : Shows old t) where
 
   module _ (idle : old.in_transaction ≡ false) where
     pub reads_revision : (p : ProfileName) (n : ℕ) (r : Result (Option Row) StoreFault) → FindsRow REVISION_AT.now (revision_params p n) old new r
-        → IfOk r (λ row. row ≡ option_map revision_columns (t.revisions p n)) × (r ≢ Err NotAnOffice) × ShowsIfOpen new t
+        → IfOk r (λ row. row ≡ option_map revision_columns (t.revisions p n)) × (r ≢ Err NotAnOffice) × ShowsIfOpen new t × OnOk r (Shows new t)
     reads_revision p n r h =
         let o = shows.office in
         let it = finds_some revision_row shown (is_at (p, n)) shown_columns at_revision office_schema REVISION_AT.now (revision_params p n) 4 names revision_means (revision_tested p n) (λ k. refl)
@@ -89,7 +127,7 @@ module _ (old new : State) (t : Tables) (shows : Shows old t) where
         let found = found_own revision_row shown is_at IsRevision (old.now.trees 4) o.revisions (p, n) r it.0 in
         let same : option_map shown (find (is_at (p, n)) o.revisions.entries) ≡ option_map revision_columns (t.revisions p n) =
         sym (map_of_map revision_columns row_of_entry _) ∙ ap (option_map revision_columns) (sym (o.revisions_are p n)) in
-        (subst (λ x. IfOk r (λ row. row ≡ x)) same found, it.1, still_shows old new t shows it.2)
+        (subst (λ x. IfOk r (λ row. row ≡ x)) same found, it.1, still_shows old new t shows it.2, answered_shows old new t shows it.2 r it.3)
 
     pub revision_crash : (p : ProfileName) (n : ℕ) → Survives old new (CommitsShowing REVISION_AT.now (revision_params p n) old) → Survives old new (λ _. ⊥)
     revision_crash p n =
@@ -108,17 +146,45 @@ module _ (old new : State) (t : Tables) (shows : Shows old t) where
     issued_row p (Err f) it = it
 
     pub reads_issued : (p : ProfileName) (r : Result (Option Row) StoreFault) → FindsRow ISSUED_OF.now (profile_params p) old new r
-        → IfOk r (IsIssuedRow t p) × (r ≢ Err NotAnOffice) × ShowsIfOpen new t
+        → IfOk r (IsIssuedRow t p) × (r ≢ Err NotAnOffice) × ShowsIfOpen new t × OnOk r (Shows new t)
     reads_issued p r h =
         let o = shows.office in
         let it = finds_some revision_row shown (is_in_state p Issued) shown_columns (in_state_of Issued) office_schema ISSUED_OF.now (profile_params p) 4 names issued_means (state_tested p Issued) (λ k. refl)
         old new o.schema shows.settled idle o.revisions.entries o.revisions.kept r h in
-        (issued_row p r it.0, it.1, still_shows old new t shows it.2)
+        (issued_row p r it.0, it.1, still_shows old new t shows it.2, answered_shows old new t shows it.2 r it.3)
 
     pub issued_crash : (p : ProfileName) → Survives old new (CommitsShowing ISSUED_OF.now (profile_params p) old) → Survives old new (λ _. ⊥)
     issued_crash p =
         no_commit revision_row shown (is_in_state p Issued) shown_columns (in_state_of Issued) office_schema ISSUED_OF.now (profile_params p) 4 names issued_means (state_tested p Issued) (λ k. refl)
         old new shows.office.schema shows.settled idle
+
+    abbrev IsFirstOf : ProfileName → Option Row → Type 0
+    IsFirstOf p = IsFirstRow revision_row shown number_of (is_of p) shown_columns at_profile greatest (profile_params p) shows.office.revisions.entries
+
+    last_shown : (p : ProfileName) (r : Result (Option Row) StoreFault) → IfOk r (IsFirstOf p) → IfOk r (IsLastRow t p)
+    last_shown p (Ok (Some row)) it =
+        let first = it.1 in
+        let at = subst (λ q. t.revisions q it.0.1.number ≡ Some it.0.1) (sym (same_profile p it.0.0 first.passed)) (found_at it.0 first.has) in
+        let later = λ (n : ℕ) (above : it.0.1.number < n). none_if (t.revisions p n) (λ s is.
+        let e = stands p n s is in
+        let of : is_of p e.entry ≡ true = (profiles_decide p e.entry.0).1 (ap (λ (k : ProfileName × ℕ). k.0) e.key) in
+        not_above it.0.1.number e.entry.1.number (first.least e.entry e.has of) (subst (λ m. it.0.1.number < m) (ap (λ (k : ProfileName × ℕ). k.1) e.key) above)) in
+        (it.0.1, (at, later), it.2)
+    last_shown p (Ok None) none = λ n. none_if (t.revisions p n) (λ s is.
+        let e = stands p n s is in
+        none e.entry e.has ((profiles_decide p e.entry.0).1 (ap (λ (k : ProfileName × ℕ). k.0) e.key)))
+    last_shown p (Err f) it = it
+
+    pub reads_last : (p : ProfileName) (r : Result (Option Row) StoreFault) → FindsRow LAST_OF.now (profile_params p) old new r
+        → IfOk r (IsLastRow t p) × (r ≢ Err NotAnOffice) × ShowsIfOpen new t × OnOk r (Shows new t)
+    reads_last p r h =
+        let o = shows.office in
+        let it = finds_first revision_row shown number_of (is_of p) shown_columns at_profile greatest (profile_params p) (profile_tested p) (λ k. refl) (λ k. refl)
+        office_schema LAST_OF.now 4 names last_means old new o.schema shows.settled idle o.revisions.entries o.revisions.kept r h in
+        (last_shown p r it.0, it.1, still_shows old new t shows it.2, answered_shows old new t shows it.2 r it.3)
+
+    pub last_crash : (p : ProfileName) → Survives old new (CommitsShowing LAST_OF.now (profile_params p) old) → Survives old new (λ _. ⊥)
+    last_crash p = commits_none _ office_schema LAST_OF.now (profile_params p) last_means old new shows.office.schema shows.settled idle
 
 pub same_columns : (r s : RevisionRow) → revision_columns r ≡ revision_columns s → r ≡ s
 same_columns r s same =

@@ -3,12 +3,13 @@ use Rattle.std.specs.Prelude.{◌≡◌, ◌≢◌, ℕ, pos, List, [], ◌∷�
 use Rattle.sqlite.specs.declared.types.Value.TheVariants.{Int}
 use Rattle.sqlite.specs.Order.{Row}
 use Rattle.review_policy.specs.declared.ask.ProfileName.{ProfileName}
-use Rattle.review_policy.specs.declared.revision.State.TheVariants.{Issued}
+use Rattle.review_policy.specs.declared.revision.State.TheVariants.{Open, Issued}
 use Rattle.office_tables.specs.declared.row.UserRow.{UserRow}
 use Rattle.office_tables.specs.declared.row.RevisionRow.{RevisionRow}
 use Rattle.office_tables.specs.Tables.{Tables}
-use Rattle.office_tables.specs.Reads.{IsUserShowing}
+use Rattle.office_tables.specs.Reads.{IsUserShowing, IsLast, next_number}
 use Rattle.office_store.specs.Entries.{user_row, revision_columns}
+use Rattle.office_store.specs.Form.{form_row}
 
 -- the row of a user who shows this digest, or that there is none
 abbrev pub IsRowShowing : Tables → List ℕ → Option Row → Type 0
@@ -25,7 +26,25 @@ abbrev pub IsIssuedRow : Tables → ProfileName → Option Row → Type 0
 IsIssuedRow t p None = IsIssued t p None
 IsIssuedRow t p (Some row) = (r : RevisionRow) × IsIssued t p (Some r) × (row ≡ revision_columns r)
 
+-- the row of the last revision of the profile, or that there is none
+abbrev pub IsLastRow : Tables → ProfileName → Option Row → Type 0
+IsLastRow t p None = IsLast t p None
+IsLastRow t p (Some row) = (r : RevisionRow) × IsLast t p (Some r) × (row ≡ revision_columns r)
+
+-- the number after that of the last revision, under which there is none yet
+abbrev pub IsNextNumber : Tables → ProfileName → ℕ → Type 0
+IsNextNumber t p n = ((last : Option RevisionRow) → IsLast t p last → n ≡ next_number last) × (t.revisions p n ≡ None)
+
+-- a revision that is submitted
+abbrev pub submitted : ℕ → List ℕ → List ℕ → List ℕ → RevisionRow
+submitted number author body digest = record { number = number; author = author; state = Open; body = body; digest = digest }
+
 -- the row of the listed capabilities
 abbrev pub IsRowListed : Tables → Option Row → Type 0
 IsRowListed t None = ⊥
 IsRowListed t (Some row) = row ≡ Int (pos t.listed) ∷ []
+
+-- the row of the office
+abbrev pub IsFormRow : Tables → Option Row → Type 0
+IsFormRow t None = ⊥
+IsFormRow t (Some row) = row ≡ form_row t.listed

@@ -1,9 +1,9 @@
 -- When a connection shows the tables of an office.
-use Rattle.std.specs.Prelude.{◌≡◌, ◌<◌, ◌^◌, ℕ, pos, false, List, [], ◌∷◌, find, option_map, is_some, None, bytes_eq, IsTrue}
+use Rattle.std.specs.Prelude.{◌≡◌, ◌⊎◌, ◌<◌, ◌^◌, ℕ, pos, false, List, [], ◌∷◌, find, option_map, is_some, None, bytes_eq, IsTrue}
 use Rattle.sqlite.specs.declared.types.Value.TheVariants.{Null, Int}
 use Rattle.sqlite.specs.Order.{Row}
 use Rattle.sqlite.specs.Effect.{Database}
-use Rattle.sqlite.specs.State.{State}
+use Rattle.sqlite.specs.State.{State, HasCleanDisk}
 use Rattle.sqlite_trees.specs.Tree.{Trees}
 use Rattle.review_policy.specs.declared.ask.ProfileName.{ProfileName}
 use Rattle.office_tables.specs.Tables.{Tables, is_profile}
@@ -69,3 +69,7 @@ AreOffice trees t = IsOffice (record { schema = office_schema; trees = trees }) 
 -- a crash leaves these tables and no others
 abbrev pub LeavesOnly : State → Tables → Type 0
 LeavesOnly s t = (trees : Trees) → s.may_leave trees → AreOffice trees t
+
+-- a crash may leave what it could leave before, or what is said here
+abbrev pub MayLeave : State → State → (Trees → Type 0) → Type 0
+MayLeave old new Said = HasCleanDisk new → (trees : Trees) → new.may_leave trees → old.may_leave trees ⊎ Said trees

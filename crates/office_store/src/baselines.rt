@@ -53,7 +53,9 @@ fn row_of<S: Alter>(conn: &mut Connection<S>, team: &str) -> Result<Option<Row>,
     ensures found { (t : Tables) → Shows (state S.Store conn.old) t → HasCleanDisk (state S.Store conn.new) → IfOk result (λ row. row ≡ option_map adopted_row (t.baselines team.now)) }
     ensures fault { (t : Tables) → Shows (state S.Store conn.old) t → HasCleanDisk (state S.Store conn.new) → result ≢ Err StoreFault.NotAnOffice }
     ensures same { (t : Tables) → Shows (state S.Store conn.old) t → HasCleanDisk (state S.Store conn.new) → ShowsIfOpen (state S.Store conn.new) t }
+    ensures shown { (t : Tables) → Shows (state S.Store conn.old) t → HasCleanDisk (state S.Store conn.new) → OnOk result (Shows (state S.Store conn.new) t) }
     ensures idle { IsIdle (state S.Store conn.new) }
+    ensures clean { HasCleanDisk (state S.Store conn.new) → HasCleanDisk (state S.Store conn.old) }
     ensures crash { (t : Tables) → Shows (state S.Store conn.old) t → Survives (state S.Store conn.old) (state S.Store conn.new) (λ _. ⊥) }
 {
     first_row(conn, BASELINE_OF, params![team])
@@ -69,7 +71,9 @@ pub fn baseline<S: Alter>(
     ensures found { (t : Tables) → Shows (state S.Store conn.old) t → HasCleanDisk (state S.Store conn.new) → IfOk result (λ found. option_map baseline_of found ≡ t.baselines team.now) }
     ensures formed { (t : Tables) → Shows (state S.Store conn.old) t → HasCleanDisk (state S.Store conn.new) → result ≢ Err StoreFault.NotAnOffice }
     ensures same { (t : Tables) → Shows (state S.Store conn.old) t → HasCleanDisk (state S.Store conn.new) → ShowsIfOpen (state S.Store conn.new) t }
+    ensures shown { (t : Tables) → Shows (state S.Store conn.old) t → HasCleanDisk (state S.Store conn.new) → OnOk result (Shows (state S.Store conn.new) t) }
     ensures idle { IsIdle (state S.Store conn.new) }
+    ensures clean { HasCleanDisk (state S.Store conn.new) → HasCleanDisk (state S.Store conn.old) }
     ensures crash { (t : Tables) → Shows (state S.Store conn.old) t → Survives (state S.Store conn.old) (state S.Store conn.new) (λ _. ⊥) }
 {
     match row_of(conn, team.as_str())? {
@@ -89,6 +93,7 @@ pub fn put_baseline<S: Alter>(
     ensures same { (t : Tables) → Shows (state S.Store conn.old) t → HasCleanDisk (state S.Store conn.new) → OnErr result (ShowsIfOpen (state S.Store conn.new) t) }
     ensures formed { (t : Tables) → Shows (state S.Store conn.old) t → HasCleanDisk (state S.Store conn.new) → result ≢ Err StoreFault.NotAnOffice }
     ensures idle { IsIdle (state S.Store conn.new) }
+    ensures clean { HasCleanDisk (state S.Store conn.new) → HasCleanDisk (state S.Store conn.old) }
     ensures kept { (t : Tables) → Shows (state S.Store conn.old) t → HasCleanDisk (state S.Store conn.new) → OnOk result (LeavesOnly (state S.Store conn.new) (with_baseline profile.now number t)) }
     ensures crash { (t : Tables) → Shows (state S.Store conn.old) t → Survives (state S.Store conn.old) (state S.Store conn.new) (λ trees. AreOffice trees (with_baseline profile.now number t)) }
 {

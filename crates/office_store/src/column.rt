@@ -7,6 +7,7 @@ ghost use Rattle.review_policy.specs.Words.{is_word};
 ghost use Rattle.review_policy.specs.declared.revision.State.{State as StateValue};
 ghost use Rattle.office_store.specs.Entries.{state_number};
 
+use cap_sets::Caps;
 use office_rows::fault_of;
 use office_tables::StoreFault;
 use review_policy::{Roles, State, Text, Word, WordFault};
@@ -43,12 +44,23 @@ pub(crate) fn number_at(row: &Row, at: usize) -> Result<u32, StoreFault>
     row.get(at).map_err(fault_of)
 }
 
-/// The bits of a column.
-pub(crate) fn bits_at(row: &Row, at: usize) -> Result<u64, StoreFault>
+// The bits of a column.
+fn bits_at(row: &Row, at: usize) -> Result<u64, StoreFault>
     ensures bits { IfOk result (λ bits. (at < length row.now) × (column row.now at ≡ Int (pos bits))) }
     ensures formed { (bits : ℕ) → at < length row.now → column row.now at ≡ Int (pos bits) → result ≢ Err StoreFault.NotAnOffice }
 {
     row.get(at).map_err(fault_of)
+}
+
+/// The capabilities of a column.
+pub(crate) fn caps_at(row: &Row, at: usize) -> Result<Caps, StoreFault>
+    ensures caps { IfOk result (λ caps. (at < length row.now) × (column row.now at ≡ Int (pos caps)) × (caps < 2 ^ 41)) }
+    ensures formed { (caps : ℕ) → at < length row.now → column row.now at ≡ Int (pos caps) → caps < 2 ^ 41 → result ≢ Err StoreFault.NotAnOffice }
+{
+    match Caps::from_bits(bits_at(row, at)?) {
+        Some(caps) => Ok(caps),
+        None => Err(StoreFault::NotAnOffice),
+    }
 }
 
 /// The digest of a column.

@@ -5,6 +5,8 @@
 pub mod author;
 pub mod baselines;
 mod column;
+pub mod form;
+pub mod founding;
 pub mod holds;
 pub mod listing;
 pub mod office;
@@ -17,10 +19,12 @@ mod write;
 
 pub use author::{authors, is_author};
 pub use baselines::{Adopted, baseline, put_baseline};
+pub use form::check_office;
+pub use founding::found;
 pub use holds::{delete_hold, held, put_hold};
 pub use listing::revisions_of;
 pub use office::listed;
-pub use revisions::{add_revision, issued, revision, set_issued, set_withdrawn};
+pub use revisions::{add_revision, issued, last, revision, set_issued, set_withdrawn};
 pub use standing_votes::{standing, tally};
 pub use users::{put_user, user_by_name, user_by_token};
 pub use votes::{Ballot, put_vote};

@@ -22,13 +22,11 @@ use std::alloc::Global;
 
 pub(crate) const USER_BY_NAME: &str = "SELECT name, team, roles, token FROM users WHERE name = ?1";
 
-pub(crate) const USER_BY_TOKEN: &str =
-    "SELECT name, team, roles, token FROM users WHERE token = ?1";
+pub(crate) const USER_BY_TOKEN: &str = "SELECT name, team, roles, token FROM users WHERE token = ?1";
 
 pub(crate) const DELETE_USER: &str = "DELETE FROM users WHERE name = ?1";
 
-pub(crate) const INSERT_USER: &str =
-    "INSERT INTO users (name, team, roles, token) VALUES (?1, ?2, ?3, ?4)";
+pub(crate) const INSERT_USER: &str = "INSERT INTO users (name, team, roles, token) VALUES (?1, ?2, ?3, ?4)";
 
 // The user that a row stands for.
 fn read_user(alloc: Global, row: &Row) -> Result<UserRow, StoreFault>
@@ -47,24 +45,34 @@ fn read_user(alloc: Global, row: &Row) -> Result<UserRow, StoreFault>
 }
 
 // The row of the user of that name.
-fn row_named<S: Alter>(conn: &mut Connection<S>, name: &str) -> Result<Option<Row>, StoreFault>
+fn row_named<S: Alter>(
+    conn: &mut Connection<S>,
+    name: &str,
+) -> Result<Option<Row>, StoreFault>
     requires { IsIdle (state S.Store conn.old) }
     ensures found { (t : Tables) → Shows (state S.Store conn.old) t → HasCleanDisk (state S.Store conn.new) → IfOk result (λ row. row ≡ option_map user_row (t.users name.now)) }
     ensures fault { (t : Tables) → Shows (state S.Store conn.old) t → HasCleanDisk (state S.Store conn.new) → result ≢ Err StoreFault.NotAnOffice }
     ensures same { (t : Tables) → Shows (state S.Store conn.old) t → HasCleanDisk (state S.Store conn.new) → ShowsIfOpen (state S.Store conn.new) t }
+    ensures shown { (t : Tables) → Shows (state S.Store conn.old) t → HasCleanDisk (state S.Store conn.new) → OnOk result (Shows (state S.Store conn.new) t) }
     ensures idle { IsIdle (state S.Store conn.new) }
+    ensures clean { HasCleanDisk (state S.Store conn.new) → HasCleanDisk (state S.Store conn.old) }
     ensures crash { (t : Tables) → Shows (state S.Store conn.old) t → Survives (state S.Store conn.old) (state S.Store conn.new) (λ _. ⊥) }
 {
     first_row(conn, USER_BY_NAME, params![name])
 }
 
 // The row of the user whose token has that digest.
-fn row_showing<S: Alter>(conn: &mut Connection<S>, digest: &[u8]) -> Result<Option<Row>, StoreFault>
+fn row_showing<S: Alter>(
+    conn: &mut Connection<S>,
+    digest: &[u8],
+) -> Result<Option<Row>, StoreFault>
     requires { IsIdle (state S.Store conn.old) }
     ensures found { (t : Tables) → Shows (state S.Store conn.old) t → HasCleanDisk (state S.Store conn.new) → IfOk result (IsRowShowing t digest.now) }
     ensures fault { (t : Tables) → Shows (state S.Store conn.old) t → HasCleanDisk (state S.Store conn.new) → result ≢ Err StoreFault.NotAnOffice }
     ensures same { (t : Tables) → Shows (state S.Store conn.old) t → HasCleanDisk (state S.Store conn.new) → ShowsIfOpen (state S.Store conn.new) t }
+    ensures shown { (t : Tables) → Shows (state S.Store conn.old) t → HasCleanDisk (state S.Store conn.new) → OnOk result (Shows (state S.Store conn.new) t) }
     ensures idle { IsIdle (state S.Store conn.new) }
+    ensures clean { HasCleanDisk (state S.Store conn.new) → HasCleanDisk (state S.Store conn.old) }
     ensures crash { (t : Tables) → Shows (state S.Store conn.old) t → Survives (state S.Store conn.old) (state S.Store conn.new) (λ _. ⊥) }
 {
     first_row(conn, USER_BY_TOKEN, params![digest])
@@ -80,7 +88,9 @@ pub fn user_by_name<S: Alter>(
     ensures found { (t : Tables) → Shows (state S.Store conn.old) t → HasCleanDisk (state S.Store conn.new) → IfOk result (λ found. found ≡ t.users name.now) }
     ensures formed { (t : Tables) → Shows (state S.Store conn.old) t → HasCleanDisk (state S.Store conn.new) → result ≢ Err StoreFault.NotAnOffice }
     ensures same { (t : Tables) → Shows (state S.Store conn.old) t → HasCleanDisk (state S.Store conn.new) → ShowsIfOpen (state S.Store conn.new) t }
+    ensures shown { (t : Tables) → Shows (state S.Store conn.old) t → HasCleanDisk (state S.Store conn.new) → OnOk result (Shows (state S.Store conn.new) t) }
     ensures idle { IsIdle (state S.Store conn.new) }
+    ensures clean { HasCleanDisk (state S.Store conn.new) → HasCleanDisk (state S.Store conn.old) }
     ensures crash { (t : Tables) → Shows (state S.Store conn.old) t → Survives (state S.Store conn.old) (state S.Store conn.new) (λ _. ⊥) }
 {
     match row_named(conn, name.as_str())? {
@@ -99,7 +109,9 @@ pub fn user_by_token<S: Alter>(
     ensures found { (t : Tables) → Shows (state S.Store conn.old) t → HasCleanDisk (state S.Store conn.new) → IfOk result (IsUserShowing t digest.now) }
     ensures formed { (t : Tables) → Shows (state S.Store conn.old) t → HasCleanDisk (state S.Store conn.new) → result ≢ Err StoreFault.NotAnOffice }
     ensures same { (t : Tables) → Shows (state S.Store conn.old) t → HasCleanDisk (state S.Store conn.new) → ShowsIfOpen (state S.Store conn.new) t }
+    ensures shown { (t : Tables) → Shows (state S.Store conn.old) t → HasCleanDisk (state S.Store conn.new) → OnOk result (Shows (state S.Store conn.new) t) }
     ensures idle { IsIdle (state S.Store conn.new) }
+    ensures clean { HasCleanDisk (state S.Store conn.new) → HasCleanDisk (state S.Store conn.old) }
     ensures crash { (t : Tables) → Shows (state S.Store conn.old) t → Survives (state S.Store conn.old) (state S.Store conn.new) (λ _. ⊥) }
 {
     match row_showing(conn, digest.as_slice())? {
@@ -115,6 +127,7 @@ pub fn put_user<S: Alter>(conn: &mut Connection<S>, user: &UserRow) -> Result<()
     ensures same { (t : Tables) → Shows (state S.Store conn.old) t → HasCleanDisk (state S.Store conn.new) → OnErr result (ShowsIfOpen (state S.Store conn.new) t) }
     ensures formed { (t : Tables) → Shows (state S.Store conn.old) t → HasCleanDisk (state S.Store conn.new) → result ≢ Err StoreFault.NotAnOffice }
     ensures idle { IsIdle (state S.Store conn.new) }
+    ensures clean { HasCleanDisk (state S.Store conn.new) → HasCleanDisk (state S.Store conn.old) }
     ensures kept { (t : Tables) → Shows (state S.Store conn.old) t → HasCleanDisk (state S.Store conn.new) → OnOk result (LeavesOnly (state S.Store conn.new) (with_user user.now t)) }
     ensures crash { (t : Tables) → Shows (state S.Store conn.old) t → Survives (state S.Store conn.old) (state S.Store conn.new) (λ trees. AreOffice trees (with_user user.now t)) }
 {

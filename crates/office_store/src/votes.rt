@@ -16,8 +16,7 @@ use sqlite::{Alter, Connection, params};
 pub(crate) const DELETE_VOTE: &str =
     "DELETE FROM votes WHERE team = ?1 AND profile = ?2 AND number = ?3 AND voter = ?4";
 
-pub(crate) const INSERT_VOTE: &str =
-    "INSERT INTO votes (team, profile, number, voter, approve, security) VALUES (?1, ?2, ?3, ?4, ?5, ?6)";
+pub(crate) const INSERT_VOTE: &str = "INSERT INTO votes (team, profile, number, voter, approve, security) VALUES (?1, ?2, ?3, ?4, ?5, ?6)";
 
 /// A vote on a revision, and whether the voter holds the role security at it.
 #[derive(Clone, Copy, Debug, PartialEq, Eq)]
@@ -39,6 +38,7 @@ pub fn put_vote<S: Alter>(
     ensures same { (t : Tables) → Shows (state S.Store conn.old) t → HasCleanDisk (state S.Store conn.new) → OnErr result (ShowsIfOpen (state S.Store conn.new) t) }
     ensures formed { (t : Tables) → Shows (state S.Store conn.old) t → HasCleanDisk (state S.Store conn.new) → result ≢ Err StoreFault.NotAnOffice }
     ensures idle { IsIdle (state S.Store conn.new) }
+    ensures clean { HasCleanDisk (state S.Store conn.new) → HasCleanDisk (state S.Store conn.old) }
     ensures kept { (t : Tables) → Shows (state S.Store conn.old) t → HasCleanDisk (state S.Store conn.new) → OnOk result (LeavesOnly (state S.Store conn.new) (with_vote profile.now number voter.now (record { approves = ballot.approves; security = ballot.security }) t)) }
     ensures crash { (t : Tables) → Shows (state S.Store conn.old) t → Survives (state S.Store conn.old) (state S.Store conn.new) (λ trees. AreOffice trees (with_vote profile.now number voter.now (record { approves = ballot.approves; security = ballot.security }) t)) }
 {

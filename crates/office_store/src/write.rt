@@ -15,12 +15,16 @@ use sqlite::types::ValueRef;
 use sqlite::{Alter, Connection};
 
 /// Runs the statements in one transaction: the tables are what all of them make of those that were shown, or as they were.
-fn write<S: Alter>(conn: &mut Connection<S>, statements: &[Statement<'_>]) -> Result<(), StoreFault>
+fn write<S: Alter>(
+    conn: &mut Connection<S>,
+    statements: &[Statement<'_, '_>],
+) -> Result<(), StoreFault>
     requires { IsIdle (state S.Store conn.old) }
     ensures done { (t u : Tables) → Shows (state S.Store conn.old) t → AreSteps S.Store (map statement_of statements.now) t u → HasCleanDisk (state S.Store conn.new) → OnOk result (Shows (state S.Store conn.new) u) }
     ensures same { (t u : Tables) → Shows (state S.Store conn.old) t → AreSteps S.Store (map statement_of statements.now) t u → HasCleanDisk (state S.Store conn.new) → OnErr result (ShowsIfOpen (state S.Store conn.new) t) }
     ensures formed { (t u : Tables) → Shows (state S.Store conn.old) t → AreSteps S.Store (map statement_of statements.now) t u → HasCleanDisk (state S.Store conn.new) → result ≢ Err StoreFault.NotAnOffice }
     ensures idle { IsIdle (state S.Store conn.new) }
+    ensures clean { HasCleanDisk (state S.Store conn.new) → HasCleanDisk (state S.Store conn.old) }
     ensures kept { (t u : Tables) → Shows (state S.Store conn.old) t → AreSteps S.Store (map statement_of statements.now) t u → HasCleanDisk (state S.Store conn.new) → OnOk result (LeavesOnly (state S.Store conn.new) u) }
     ensures crash { (t u : Tables) → Shows (state S.Store conn.old) t → AreSteps S.Store (map statement_of statements.now) t u → Survives (state S.Store conn.old) (state S.Store conn.new) (λ trees. AreOffice trees u) }
 {
@@ -41,6 +45,7 @@ pub(crate) fn write_one<'a, S: Alter>(
     ensures same { (t u : Tables) → Shows (state S.Store conn.old) t → AreSteps S.Store (statement first.now (bound params.now) ∷ []) t u → HasCleanDisk (state S.Store conn.new) → OnErr result (ShowsIfOpen (state S.Store conn.new) t) }
     ensures formed { (t u : Tables) → Shows (state S.Store conn.old) t → AreSteps S.Store (statement first.now (bound params.now) ∷ []) t u → HasCleanDisk (state S.Store conn.new) → result ≢ Err StoreFault.NotAnOffice }
     ensures idle { IsIdle (state S.Store conn.new) }
+    ensures clean { HasCleanDisk (state S.Store conn.new) → HasCleanDisk (state S.Store conn.old) }
     ensures kept { (t u : Tables) → Shows (state S.Store conn.old) t → AreSteps S.Store (statement first.now (bound params.now) ∷ []) t u → HasCleanDisk (state S.Store conn.new) → OnOk result (LeavesOnly (state S.Store conn.new) u) }
     ensures crash { (t u : Tables) → Shows (state S.Store conn.old) t → AreSteps S.Store (statement first.now (bound params.now) ∷ []) t u → Survives (state S.Store conn.old) (state S.Store conn.new) (λ trees. AreOffice trees u) }
 {
@@ -60,6 +65,7 @@ pub(crate) fn write_two<'a, S: Alter>(
     ensures same { (t u : Tables) → Shows (state S.Store conn.old) t → AreSteps S.Store (statement first.now (bound first_params.now) ∷ statement second.now (bound second_params.now) ∷ []) t u → HasCleanDisk (state S.Store conn.new) → OnErr result (ShowsIfOpen (state S.Store conn.new) t) }
     ensures formed { (t u : Tables) → Shows (state S.Store conn.old) t → AreSteps S.Store (statement first.now (bound first_params.now) ∷ statement second.now (bound second_params.now) ∷ []) t u → HasCleanDisk (state S.Store conn.new) → result ≢ Err StoreFault.NotAnOffice }
     ensures idle { IsIdle (state S.Store conn.new) }
+    ensures clean { HasCleanDisk (state S.Store conn.new) → HasCleanDisk (state S.Store conn.old) }
     ensures kept { (t u : Tables) → Shows (state S.Store conn.old) t → AreSteps S.Store (statement first.now (bound first_params.now) ∷ statement second.now (bound second_params.now) ∷ []) t u → HasCleanDisk (state S.Store conn.new) → OnOk result (LeavesOnly (state S.Store conn.new) u) }
     ensures crash { (t u : Tables) → Shows (state S.Store conn.old) t → AreSteps S.Store (statement first.now (bound first_params.now) ∷ statement second.now (bound second_params.now) ∷ []) t u → Survives (state S.Store conn.old) (state S.Store conn.new) (λ trees. AreOffice trees u) }
 {

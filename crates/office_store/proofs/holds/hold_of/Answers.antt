@@ -14,6 +14,10 @@ pub returns-clause-same : goal.returns-clause-same
 returns-clause-same g c t shows clean =
     (reads_hold (state g.S.Store c.args.conn.now) (state g.S.Store c.first_row.new.conn) t shows c.requires.autocommit c.args.profile.now c.first_row.result (rw (c.params-to_sql.ensures, c.params-to_sql-2.ensures, c.as_str-team.ensures.text, c.as_str-name.ensures.text) at (c.first_row.ensures.row clean))).2
 
+pub returns-clause-shown : goal.returns-clause-shown
+returns-clause-shown g c t shows clean =
+    (reads_hold (state g.S.Store c.args.conn.now) (state g.S.Store c.first_row.new.conn) t shows c.requires.autocommit c.args.profile.now c.first_row.result (rw (c.params-to_sql.ensures, c.params-to_sql-2.ensures, c.as_str-team.ensures.text, c.as_str-name.ensures.text) at (c.first_row.ensures.row clean))).3
+
 pub returns-clause-crash : goal.returns-clause-crash
 returns-clause-crash g c t shows =
     hold_crash (state g.S.Store c.args.conn.now) (state g.S.Store c.first_row.new.conn) t shows c.requires.autocommit c.args.profile.now (rw (c.params-to_sql.ensures, c.params-to_sql-2.ensures, c.as_str-team.ensures.text, c.as_str-name.ensures.text) at (c.first_row.ensures.survives))

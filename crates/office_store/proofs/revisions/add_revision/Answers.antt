@@ -1,20 +1,63 @@
-use Rattle.std.proofs.Common.{◌≡◌, ◌<◌, ◌^◌, rules, arith, length}
+use Rattle.std.proofs.Common.{rules, ◌≡◌, Err, inl, inr, subst}
 use Rattle.sqlite.specs.Held.{state}
+use Rattle.office_tables.specs.declared.fault.StoreFault.TheVariants.{NotAnOffice}
 use Rattle.office_tables.specs.Changes.{with_revision}
-use Rattle.office_store.proofs.RevisionWrites.{add_given}
+use Rattle.office_store.specs.Reads.{submitted}
+use Rattle.office_store.specs.Shown.{AreOffice}
+use Rattle.office_store.proofs.Committed.{on_err}
 use Rattle.office_store.proofs.revisions.add_revision.Goals as goal
 
+pub returns-in_err-number-clause-formed : goal.returns-in_err-number-clause-formed
+returns-in_err-number-clause-formed g c t shows clean same = let k : c.next_number.result ≡ Err NotAnOffice = search rules in c.next_number.ensures.formed t shows clean k
+
+pub returns-in_err-number-clause-crash : goal.returns-in_err-number-clause-crash
+returns-in_err-number-clause-crash g c t shows last is clean trees may = elim ((c.next_number.ensures.crash t shows).crash clean trees may) [ inl first ↦ inl first | inr none ↦ absurd none ]
+
+pub returns-in_err-insert_revision-clause-same : goal.returns-in_err-insert_revision-clause-same
+returns-in_err-insert_revision-clause-same g c t shows clean =
+    let before = c.insert_revision.ensures.clean clean in
+    let next = c.in_ok-number.ensures.found t shows before in
+    let mid = c.in_ok-number.ensures.shown t shows before in
+    on_err c.from_residual-in_err-insert_revision.result (c.in_err-insert_revision.ensures.same t mid next.1 clean)
+
+pub returns-in_err-insert_revision-clause-formed : goal.returns-in_err-insert_revision-clause-formed
+returns-in_err-insert_revision-clause-formed g c t shows clean same =
+    let before = c.insert_revision.ensures.clean clean in
+    let next = c.in_ok-number.ensures.found t shows before in
+    let mid = c.in_ok-number.ensures.shown t shows before in
+    let k : c.insert_revision.result ≡ Err NotAnOffice = search rules in
+    c.insert_revision.ensures.formed t mid next.1 clean k
+
+pub returns-in_err-insert_revision-clause-crash : goal.returns-in_err-insert_revision-clause-crash
+returns-in_err-insert_revision-clause-crash g c t shows last is clean trees may =
+    let before = c.insert_revision.ensures.clean clean in
+    let next = c.in_ok-number.ensures.found t shows before in
+    let mid = c.in_ok-number.ensures.shown t shows before in
+    elim ((c.insert_revision.ensures.crash t mid next.1).crash clean trees may) [
+      | inl earlier ↦ elim ((c.next_number.ensures.crash t shows).crash before trees earlier) [ inl first ↦ inl first | inr none ↦ absurd none ]
+      | inr made ↦ inr (subst (λ n. AreOffice trees (with_revision c.args.profile.now (submitted n c.args.author c.args.body c.args.digest) t)) (next.0 last is) made)
+    ]
+
 pub returns-clause-added : goal.returns-clause-added
-returns-clause-added g c t shows free clean = c.write_two.ensures.done t (with_revision c.args.profile.now c.args.revision.now t) shows (add_given g.S.Store c.args.profile.now c.args.revision.now t (record { profile = record { team = c.as_str-team.ensures.formed; profile = c.as_str-name.ensures.formed }; number = search rules; author = c.as_str-author.ensures.formed; body = search rules; digest = c.bytes_of-digest.ensures.long }) free _ _ (rw (c.params-to_sql.ensures, c.params-to_sql-2.ensures, c.as_str-team.ensures.text, c.as_str-name.ensures.text)) (rw (c.params-to_sql-3.ensures, c.params-to_sql-4.ensures, c.params-to_sql-5.ensures, c.params-to_sql-6.ensures, c.params-to_sql-7.ensures, c.params-to_sql-8.ensures, c.params-to_sql-9.ensures, c.as_str-team.ensures.text, c.as_str-name.ensures.text, c.as_str-author.ensures.text, c.state_number-state.ensures, c.as_str-body.ensures, c.bytes_of-digest.ensures.same))) clean
-
-pub returns-clause-same : goal.returns-clause-same
-returns-clause-same g c t shows free clean = c.write_two.ensures.same t (with_revision c.args.profile.now c.args.revision.now t) shows (add_given g.S.Store c.args.profile.now c.args.revision.now t (record { profile = record { team = c.as_str-team.ensures.formed; profile = c.as_str-name.ensures.formed }; number = search rules; author = c.as_str-author.ensures.formed; body = search rules; digest = c.bytes_of-digest.ensures.long }) free _ _ (rw (c.params-to_sql.ensures, c.params-to_sql-2.ensures, c.as_str-team.ensures.text, c.as_str-name.ensures.text)) (rw (c.params-to_sql-3.ensures, c.params-to_sql-4.ensures, c.params-to_sql-5.ensures, c.params-to_sql-6.ensures, c.params-to_sql-7.ensures, c.params-to_sql-8.ensures, c.params-to_sql-9.ensures, c.as_str-team.ensures.text, c.as_str-name.ensures.text, c.as_str-author.ensures.text, c.state_number-state.ensures, c.as_str-body.ensures, c.bytes_of-digest.ensures.same))) clean
-
-pub returns-clause-formed : goal.returns-clause-formed
-returns-clause-formed g c t shows free clean = c.write_two.ensures.formed t (with_revision c.args.profile.now c.args.revision.now t) shows (add_given g.S.Store c.args.profile.now c.args.revision.now t (record { profile = record { team = c.as_str-team.ensures.formed; profile = c.as_str-name.ensures.formed }; number = search rules; author = c.as_str-author.ensures.formed; body = search rules; digest = c.bytes_of-digest.ensures.long }) free _ _ (rw (c.params-to_sql.ensures, c.params-to_sql-2.ensures, c.as_str-team.ensures.text, c.as_str-name.ensures.text)) (rw (c.params-to_sql-3.ensures, c.params-to_sql-4.ensures, c.params-to_sql-5.ensures, c.params-to_sql-6.ensures, c.params-to_sql-7.ensures, c.params-to_sql-8.ensures, c.params-to_sql-9.ensures, c.as_str-team.ensures.text, c.as_str-name.ensures.text, c.as_str-author.ensures.text, c.state_number-state.ensures, c.as_str-body.ensures, c.bytes_of-digest.ensures.same))) clean
+returns-clause-added g c t shows clean last is =
+    let before = c.insert_revision.ensures.clean clean in
+    let next = c.in_ok-number.ensures.found t shows before in
+    let mid = c.in_ok-number.ensures.shown t shows before in
+    (next.0 last is, c.in_ok-insert_revision.ensures.added t mid next.1 clean)
 
 pub returns-clause-kept : goal.returns-clause-kept
-returns-clause-kept g c t shows free clean = c.write_two.ensures.kept t (with_revision c.args.profile.now c.args.revision.now t) shows (add_given g.S.Store c.args.profile.now c.args.revision.now t (record { profile = record { team = c.as_str-team.ensures.formed; profile = c.as_str-name.ensures.formed }; number = search rules; author = c.as_str-author.ensures.formed; body = search rules; digest = c.bytes_of-digest.ensures.long }) free _ _ (rw (c.params-to_sql.ensures, c.params-to_sql-2.ensures, c.as_str-team.ensures.text, c.as_str-name.ensures.text)) (rw (c.params-to_sql-3.ensures, c.params-to_sql-4.ensures, c.params-to_sql-5.ensures, c.params-to_sql-6.ensures, c.params-to_sql-7.ensures, c.params-to_sql-8.ensures, c.params-to_sql-9.ensures, c.as_str-team.ensures.text, c.as_str-name.ensures.text, c.as_str-author.ensures.text, c.state_number-state.ensures, c.as_str-body.ensures, c.bytes_of-digest.ensures.same))) clean
+returns-clause-kept g c t shows clean =
+    let before = c.insert_revision.ensures.clean clean in
+    let next = c.in_ok-number.ensures.found t shows before in
+    let mid = c.in_ok-number.ensures.shown t shows before in
+    c.in_ok-insert_revision.ensures.kept t mid next.1 clean
 
 pub returns-clause-crash : goal.returns-clause-crash
-returns-clause-crash g c t shows free = c.write_two.ensures.crash t (with_revision c.args.profile.now c.args.revision.now t) shows (add_given g.S.Store c.args.profile.now c.args.revision.now t (record { profile = record { team = c.as_str-team.ensures.formed; profile = c.as_str-name.ensures.formed }; number = search rules; author = c.as_str-author.ensures.formed; body = search rules; digest = c.bytes_of-digest.ensures.long }) free _ _ (rw (c.params-to_sql.ensures, c.params-to_sql-2.ensures, c.as_str-team.ensures.text, c.as_str-name.ensures.text)) (rw (c.params-to_sql-3.ensures, c.params-to_sql-4.ensures, c.params-to_sql-5.ensures, c.params-to_sql-6.ensures, c.params-to_sql-7.ensures, c.params-to_sql-8.ensures, c.params-to_sql-9.ensures, c.as_str-team.ensures.text, c.as_str-name.ensures.text, c.as_str-author.ensures.text, c.state_number-state.ensures, c.as_str-body.ensures, c.bytes_of-digest.ensures.same)))
+returns-clause-crash g c t shows last is clean trees may =
+    let before = c.insert_revision.ensures.clean clean in
+    let next = c.in_ok-number.ensures.found t shows before in
+    let mid = c.in_ok-number.ensures.shown t shows before in
+    elim ((c.insert_revision.ensures.crash t mid next.1).crash clean trees may) [
+      | inl earlier ↦ elim ((c.next_number.ensures.crash t shows).crash before trees earlier) [ inl first ↦ inl first | inr none ↦ absurd none ]
+      | inr made ↦ inr (subst (λ n. AreOffice trees (with_revision c.args.profile.now (submitted n c.args.author c.args.body c.args.digest) t)) (next.0 last is) made)
+    ]

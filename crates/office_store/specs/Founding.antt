@@ -1,0 +1,34 @@
+-- A store before an office is founded in it, and the statements that found one.
+use Rattle.std.specs.Prelude.{◌≡◌, Bool, List, [], ◌∷◌, codes, is_some, IsTrue}
+use Rattle.std.specs.List.{list_any}
+use Rattle.sqlite.specs.Order.{Row}
+use Rattle.sqlite.specs.Schema.{Schema}
+use Rattle.sqlite.specs.State.{State}
+use Rattle.sqlite_schema.specs.Names.{table_named}
+use Rattle.office_rows.specs.Statements.{Statement}
+use Rattle.office_store.specs.declared.schema.TheConstants.{CREATE_OFFICE, CREATE_USERS, CREATE_REVISIONS, CREATE_VOTES, CREATE_BASELINES, CREATE_HOLDS}
+use Rattle.office_store.specs.declared.founding.TheConstants.{INSERT_OFFICE}
+use Rattle.office_store.specs.declared.users.TheConstants.{INSERT_USER}
+use Rattle.office_store.specs.Steps.{statement}
+
+-- whether one of the six tables is there
+abbrev pub has_table : Schema → Bool
+has_table schema =
+    list_any (λ name. is_some (table_named schema name)) (codes "office" ∷ codes "users" ∷ codes "revisions" ∷ codes "votes" ∷ codes "baselines" ∷ codes "holds" ∷ [])
+
+-- the connection shows what it showed, unless a fault of the disk has shut it
+abbrev pub IsAsItWas : State → State → Type 0
+IsAsItWas old new = IsTrue new.is_open → (new.now ≡ old.now) × (new.committed ≡ old.committed)
+
+-- the tables, the row of the office and that of its first user, of these values
+abbrev pub founding : Row → Row → Row → List Statement
+founding none office user =
+    statement CREATE_OFFICE.now none
+    ∷ statement CREATE_USERS.now none
+    ∷ statement CREATE_REVISIONS.now none
+    ∷ statement CREATE_VOTES.now none
+    ∷ statement CREATE_BASELINES.now none
+    ∷ statement CREATE_HOLDS.now none
+    ∷ statement INSERT_OFFICE.now office
+    ∷ statement INSERT_USER.now user
+    ∷ []

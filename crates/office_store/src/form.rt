@@ -1,0 +1,113 @@
+//! The test that a store is an office.
+
+ghost use Rattle.std.specs.Prelude.{◌≡◌, ◌≢◌, ◌<◌, ◌^◌, ℕ, List, [], true, Err, IfOk, OnOk, IfSome};
+ghost use Rattle.std.specs.List.{list_all};
+ghost use Rattle.sqlite.specs.Held.{state};
+ghost use Rattle.sqlite.specs.State.{HasCleanDisk, Survives};
+ghost use Rattle.office_tables.specs.Tables.{Tables};
+ghost use Rattle.office_store.specs.Form.{has_column, has_tables, form_row, HasForm};
+ghost use Rattle.office_rows.specs.Faults.{FindsRow};
+ghost use Rattle.office_store.specs.Reads.{IsFormRow};
+ghost use Rattle.office_store.specs.Shown.{IsIdle, Shows, ShowsIfOpen};
+
+use crate::column::{caps_at, number_at};
+use cap_sets::Caps;
+use office_rows::first_row;
+use office_tables::StoreFault;
+use sqlite::types::ValueRef;
+use sqlite::{Alter, Connection, Row, params};
+use sqlite_schema::schema::Schema;
+
+pub(crate) const OFFICE_ROW: &str = "SELECT key, schema, listed FROM office";
+
+// Whether the schema has a table of this name with a column of that one.
+fn has_column(schema: &Schema, table: &str, column: &str) -> bool
+    ensures { result ≡ has_column schema.now table.now column.now }
+{
+    let Some(at) = schema.table_named(table.as_bytes()) else {
+        return false;
+    };
+    match schema.tables.as_slice().get(at) {
+        Some(found) => found.column_named(column.as_bytes()).is_some(),
+        None => false,
+    }
+}
+
+// Whether the schema has a table of this name with each of the columns.
+fn has_columns(schema: &Schema, table: &str, columns: &[&str]) -> bool
+    ensures { result ≡ list_all (λ column. has_column schema.now table.now column.now) columns.now }
+{
+    columns
+        .iter()
+        .all(|column| has_column(schema, table, column))
+}
+
+// Whether the schema has the six tables with their columns.
+fn has_tables(schema: &Schema) -> bool
+    ensures { result ≡ has_tables schema.now }
+{
+    has_columns(schema, "office", &["key", "schema", "listed"])
+        && has_columns(schema, "users", &["name", "team", "roles", "token"])
+        && has_columns(
+            schema,
+            "revisions",
+            &[
+                "team", "profile", "number", "author", "state", "body", "digest",
+            ],
+        )
+        && has_columns(
+            schema,
+            "votes",
+            &["team", "profile", "number", "voter", "approve", "security"],
+        )
+        && has_columns(schema, "baselines", &["team", "profile", "number"])
+        && has_columns(schema, "holds", &["team", "profile"])
+}
+
+// The listed capabilities of a row that is of the form of the office's.
+fn read_form(row: &Row) -> Result<Caps, StoreFault>
+    ensures form { IfOk result (λ listed. (listed < 2 ^ 41) × (row.now ≡ form_row listed)) }
+    ensures formed { (listed : ℕ) → listed < 2 ^ 41 → row.now ≡ form_row listed → result ≢ Err StoreFault.NotAnOffice }
+{
+    if row.column_count() != 3 || number_at(row, 0)? != 1 || number_at(row, 1)? != 2 {
+        return Err(StoreFault::NotAnOffice);
+    }
+    caps_at(row, 2)
+}
+
+// The row of the office.
+fn form_row<S: Alter>(conn: &mut Connection<S>) -> Result<Option<Row>, StoreFault>
+    requires { IsIdle (state S.Store conn.old) }
+    ensures row { HasCleanDisk (state S.Store conn.new) → FindsRow OFFICE_ROW.now [] (state S.Store conn.old) (state S.Store conn.new) result }
+    ensures found { (t : Tables) → Shows (state S.Store conn.old) t → HasCleanDisk (state S.Store conn.new) → IfOk result (IsFormRow t) }
+    ensures fault { (t : Tables) → Shows (state S.Store conn.old) t → HasCleanDisk (state S.Store conn.new) → result ≢ Err StoreFault.NotAnOffice }
+    ensures same { (t : Tables) → Shows (state S.Store conn.old) t → HasCleanDisk (state S.Store conn.new) → ShowsIfOpen (state S.Store conn.new) t }
+    ensures shown { (t : Tables) → Shows (state S.Store conn.old) t → HasCleanDisk (state S.Store conn.new) → OnOk result (Shows (state S.Store conn.new) t) }
+    ensures idle { IsIdle (state S.Store conn.new) }
+    ensures clean { HasCleanDisk (state S.Store conn.new) → HasCleanDisk (state S.Store conn.old) }
+    ensures crash { (t : Tables) → Shows (state S.Store conn.old) t → Survives (state S.Store conn.old) (state S.Store conn.new) (λ _. ⊥) }
+{
+    first_row(conn, OFFICE_ROW, params![])
+}
+
+/// The listed capabilities of the office that a store is: it has the six tables, each with its columns, and its office's
+/// row has key 1, schema 2 and no bit but those of capabilities. Any other store is [`StoreFault::NotAnOffice`].
+pub fn check_office<S: Alter>(conn: &mut Connection<S>) -> Result<Caps, StoreFault>
+    requires { IsIdle (state S.Store conn.old) }
+    ensures form { HasCleanDisk (state S.Store conn.new) → IfOk result (HasForm (state S.Store conn.old) (state S.Store conn.new)) }
+    ensures found { (t : Tables) → Shows (state S.Store conn.old) t → HasCleanDisk (state S.Store conn.new) → IfOk result (λ listed. listed ≡ t.listed) }
+    ensures formed { (t : Tables) → Shows (state S.Store conn.old) t → HasCleanDisk (state S.Store conn.new) → result ≢ Err StoreFault.NotAnOffice }
+    ensures same { (t : Tables) → Shows (state S.Store conn.old) t → HasCleanDisk (state S.Store conn.new) → ShowsIfOpen (state S.Store conn.new) t }
+    ensures shown { (t : Tables) → Shows (state S.Store conn.old) t → HasCleanDisk (state S.Store conn.new) → OnOk result (Shows (state S.Store conn.new) t) }
+    ensures idle { IsIdle (state S.Store conn.new) }
+    ensures clean { HasCleanDisk (state S.Store conn.new) → HasCleanDisk (state S.Store conn.old) }
+    ensures crash { (t : Tables) → Shows (state S.Store conn.old) t → Survives (state S.Store conn.old) (state S.Store conn.new) (λ _. ⊥) }
+{
+    if !has_tables(conn.schema()) {
+        return Err(StoreFault::NotAnOffice);
+    }
+    match form_row(conn)? {
+        Some(row) => read_form(&row),
+        None => Err(StoreFault::NotAnOffice),
+    }
+}

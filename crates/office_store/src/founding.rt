@@ -1,0 +1,158 @@
+//! The founding of an office.
+
+ghost use Rattle.std.specs.Prelude.{◌≡◌, ◌≢◌, ◌↔◌, ◌<◌, ◌^◌, false, true, pos, is_some, IsTrue, Err, IfErr, OnOk, OnErr};
+ghost use Rattle.sqlite.specs.Effect.{Database};
+ghost use Rattle.sqlite.specs.Held.{state};
+ghost use Rattle.sqlite.specs.State.{HasCleanDisk, Survives, Shows as Leads};
+ghost use Rattle.sqlite.specs.Values.{bound};
+ghost use Rattle.sqlite_schema.specs.Names.{table_named};
+ghost use Rattle.office_tables.specs.declared.row.UserRow.{UserRow};
+ghost use Rattle.office_tables.specs.Tables.{Tables};
+ghost use Rattle.office_tables.specs.Changes.{founded_tables};
+ghost use Rattle.office_rows.specs.Statements.{begun, RanAll, FailedIn};
+ghost use Rattle.office_store.specs.Founding.{has_table, IsAsItWas, founding};
+ghost use Rattle.office_store.specs.Schema.{no_schema};
+ghost use Rattle.office_store.specs.Shown.{IsIdle, Shows, AreOffice, LeavesOnly};
+
+use crate::column::bytes_of;
+use crate::schema::{
+    CREATE_BASELINES, CREATE_HOLDS, CREATE_OFFICE, CREATE_REVISIONS, CREATE_USERS, CREATE_VOTES,
+};
+use crate::users::INSERT_USER;
+use cap_sets::Caps;
+use office_rows::{Statement, fault_of, run_all};
+use office_tables::StoreFault;
+use review_policy::Word;
+use sqlite::types::ValueRef;
+use sqlite::{Alter, Connection, Error, params};
+use sqlite_schema::schema::Schema;
+
+pub(crate) const INSERT_OFFICE: &str = "INSERT INTO office (key, schema, listed) VALUES (1, 2, ?1)";
+
+// Whether the schema has a table of that name.
+fn is_table(schema: &Schema, name: &str) -> bool
+    ensures { result ≡ is_some (table_named schema.now name.now) }
+{
+    schema.table_named(name.as_bytes()).is_some()
+}
+
+// Whether one of the tables of an office is there.
+fn has_table(schema: &Schema) -> bool
+    ensures { result ≡ has_table schema.now }
+{
+    is_table(schema, "office")
+        || is_table(schema, "users")
+        || is_table(schema, "revisions")
+        || is_table(schema, "votes")
+        || is_table(schema, "baselines")
+        || is_table(schema, "holds")
+}
+
+// Whether there is no table, index or view.
+fn is_empty(schema: &Schema) -> bool
+    ensures { result ≡ true ↔ schema.now ≡ no_schema }
+{
+    schema.tables.as_slice().is_empty()
+        && schema.indexes.as_slice().is_empty()
+        && schema.views.as_slice().is_empty()
+}
+
+// The bits of the listed capabilities, as SQL has them.
+fn bits_of(listed: Caps) -> i64
+    ensures value { result ≡ pos listed }
+    ensures small { listed < 2 ^ 41 }
+{
+    listed.bits() as i64
+}
+
+// Makes the tables, the row of the office and that of its first user in one transaction.
+fn run_founding<'a, S: Alter>(
+    conn: &mut Connection<S>,
+    none: &'a [ValueRef<'a>],
+    office: &'a [ValueRef<'a>],
+    user: &'a [ValueRef<'a>],
+) -> Result<(), Error>
+    requires { conn.old.in_transaction ≡ false }
+    ensures all { HasCleanDisk (state S.Store conn.new) → OnOk result (RanAll S.Store (founding (bound none.now) (bound office.now) (bound user.now)) (begun conn.old) (state S.Store conn.new).now
+        × Leads (state S.Store conn.old) (state S.Store conn.new) (state S.Store conn.new).now (state S.Store conn.new).now false) }
+    ensures none { HasCleanDisk (state S.Store conn.new) → IsTrue (state S.Store conn.new).is_open → OnErr result ((state S.Store conn.new).now ≡ (state S.Store conn.old).committed × (state S.Store conn.new).committed ≡ (state S.Store conn.old).committed) }
+    ensures cause { HasCleanDisk (state S.Store conn.new) → IfErr result (FailedIn S.Store (founding (bound none.now) (bound office.now) (bound user.now)) (begun conn.old)) }
+    ensures mode { conn.new.in_transaction ≡ false }
+    ensures clean { HasCleanDisk (state S.Store conn.new) → HasCleanDisk (state S.Store conn.old) }
+    ensures crash { Survives (state S.Store conn.old) (state S.Store conn.new) (λ trees. (db : Database) × RanAll S.Store (founding (bound none.now) (bound office.now) (bound user.now)) (begun conn.old) db × (trees ≡ db.trees)) }
+{
+    run_all(
+        conn,
+        &[
+            Statement { sql: CREATE_OFFICE, params: none },
+            Statement { sql: CREATE_USERS, params: none },
+            Statement { sql: CREATE_REVISIONS, params: none },
+            Statement { sql: CREATE_VOTES, params: none },
+            Statement { sql: CREATE_BASELINES, params: none },
+            Statement { sql: CREATE_HOLDS, params: none },
+            Statement { sql: INSERT_OFFICE, params: office },
+            Statement { sql: INSERT_USER, params: user },
+        ],
+    )
+}
+
+// Founds an office in an empty store.
+fn make_office<S: Alter>(
+    conn: &mut Connection<S>,
+    name: &Word,
+    team: &Word,
+    digest: &[u8; 32],
+    listed: Caps,
+) -> Result<(), StoreFault>
+    requires idle { IsIdle (state S.Store conn.old) }
+    requires empty { (state S.Store conn.old).now.schema ≡ no_schema }
+    ensures founded { HasCleanDisk (state S.Store conn.new) → OnOk result (Shows (state S.Store conn.new) (founded_tables (record { name = name.now; team = team.now; roles = 1; digest = digest.now }) listed)) }
+    ensures kept { HasCleanDisk (state S.Store conn.new) → OnOk result (LeavesOnly (state S.Store conn.new) (founded_tables (record { name = name.now; team = team.now; roles = 1; digest = digest.now }) listed)) }
+    ensures formed { HasCleanDisk (state S.Store conn.new) → result ≢ Err StoreFault.NotAnOffice }
+    ensures unfounded { result ≢ Err StoreFault.AlreadyFounded }
+    ensures same { (state S.Store conn.old).now ≡ (state S.Store conn.old).committed → HasCleanDisk (state S.Store conn.new) → OnErr result (IsAsItWas (state S.Store conn.old) (state S.Store conn.new)) }
+    ensures idle { IsIdle (state S.Store conn.new) }
+    ensures clean { HasCleanDisk (state S.Store conn.new) → HasCleanDisk (state S.Store conn.old) }
+    ensures crash { Survives (state S.Store conn.old) (state S.Store conn.new) (λ trees. AreOffice trees (founded_tables (record { name = name.now; team = team.now; roles = 1; digest = digest.now }) listed)) }
+{
+    let name = name.as_str();
+    let team = team.as_str();
+    let digest = bytes_of(digest);
+    let bits = bits_of(listed);
+    match run_founding(conn, params![], params![bits], params![name, team, 1u32, digest]) {
+        Ok(()) => Ok(()),
+        Err(error) => Err(fault_of(error)),
+    }
+}
+
+/// Founds an office in an empty store: its six tables, the listed capabilities, and its first user, who is a registrar.
+///
+/// Where one of the tables is there it answers [`StoreFault::AlreadyFounded`], and where anything else is there
+/// [`StoreFault::NotAnOffice`]. After a fault the store is as it was. A crash leaves the store as it was or the founded
+/// office, and after `Ok` the founded office.
+pub fn found<S: Alter>(
+    conn: &mut Connection<S>,
+    name: &Word,
+    team: &Word,
+    digest: &[u8; 32],
+    listed: Caps,
+) -> Result<(), StoreFault>
+    requires { IsIdle (state S.Store conn.old) }
+    ensures founded { HasCleanDisk (state S.Store conn.new) → OnOk result (Shows (state S.Store conn.new) (founded_tables (record { name = name.now; team = team.now; roles = 1; digest = digest.now }) listed)) }
+    ensures kept { HasCleanDisk (state S.Store conn.new) → OnOk result (LeavesOnly (state S.Store conn.new) (founded_tables (record { name = name.now; team = team.now; roles = 1; digest = digest.now }) listed)) }
+    ensures already { result ≡ Err StoreFault.AlreadyFounded ↔ IsTrue (has_table (state S.Store conn.old).now.schema) }
+    ensures empty { OnOk result ((state S.Store conn.old).now.schema ≡ no_schema) }
+    ensures formed { (state S.Store conn.old).now.schema ≡ no_schema → HasCleanDisk (state S.Store conn.new) → result ≢ Err StoreFault.NotAnOffice }
+    ensures same { (state S.Store conn.old).now ≡ (state S.Store conn.old).committed → HasCleanDisk (state S.Store conn.new) → OnErr result (IsAsItWas (state S.Store conn.old) (state S.Store conn.new)) }
+    ensures idle { IsIdle (state S.Store conn.new) }
+    ensures clean { HasCleanDisk (state S.Store conn.new) → HasCleanDisk (state S.Store conn.old) }
+    ensures crash { Survives (state S.Store conn.old) (state S.Store conn.new) (λ trees. AreOffice trees (founded_tables (record { name = name.now; team = team.now; roles = 1; digest = digest.now }) listed)) }
+{
+    if has_table(conn.schema()) {
+        return Err(StoreFault::AlreadyFounded);
+    }
+    if !is_empty(conn.schema()) {
+        return Err(StoreFault::NotAnOffice);
+    }
+    make_office(conn, name, team, digest, listed)
+}
