@@ -114,6 +114,35 @@ fn a_write_that_is_cut_is_a_fault_and_its_front_part_stands(rt: HostRuntime) {
     }
 }
 
+// A writer whose first flush fails.
+#[derive(Drop)]
+struct Flushed {
+    flushes: u8,
+}
+
+impl Write for Flushed {
+    fn write(&mut self, buf: &[u8]) -> io::Result<usize> {
+        Ok(buf.len())
+    }
+
+    fn flush(&mut self) -> io::Result<()> {
+        self.flushes = self.flushes.saturating_add(1);
+        if self.flushes == 1 {
+            return Err(io::Error::from(ErrorKind::BrokenPipe));
+        }
+        Ok(())
+    }
+}
+
+#[test]
+fn a_flush_reaches_the_writer_and_its_answer_is_given(rt: HostRuntime) {
+    let mut writer = Counted::new(Flushed { flushes: 0 });
+    assert!(rt; writer.flush().is_err());
+    assert!(rt; writer.flush().is_ok());
+    assert_eq!(rt; writer.faults(), 0);
+    assert_eq!(rt; writer.into_inner().flushes, 2);
+}
+
 #[test]
 fn only_an_interruption_is_one(rt: HostRuntime) {
     assert!(rt; is_interrupted(&io::Error::from(ErrorKind::Interrupted)));
