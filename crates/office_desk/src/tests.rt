@@ -242,3 +242,42 @@ fn the_canonical_text_is_shown_to_those_who_read_of_the_team(rt: HostRuntime) ->
     assert_eq!(rt; denied(&answer), denial(4, Rule::NoRevision));
     Ok(())
 }
+
+#[test]
+fn profiles_with_filters_are_shown_and_refused(rt: HostRuntime) -> Result<(), Fail> {
+    let alloc = rt.alloc();
+    let mut office = office(alloc)?;
+    let two_actions = submit(
+        alloc,
+        "web",
+        "{\"capabilities\":{},\"seccomp\":{\"defaultAction\":\"SCMP_ACT_ALLOW\",\"syscalls\":[{\"names\":[\"clone3\"],\"action\":\"SCMP_ACT_ALLOW\"},{\"names\":[\"clone3\"],\"action\":\"SCMP_ACT_ERRNO\"}]}}",
+    )?;
+    let answer = handle(&mut office, alloc, "t-ann", two_actions)?;
+    assert_eq!(rt; denied(&answer), denial(4, Rule::Document));
+    assert_eq!(rt;
+        fault_told(&answer).ok_or("no fault")?,
+        "two-actions clone3"
+    );
+    let one_action = submit(
+        alloc,
+        "web",
+        "{\"capabilities\":{},\"seccomp\":{\"defaultAction\":\"SCMP_ACT_ALLOW\",\"syscalls\":[{\"names\":[\"clone3\"],\"action\":\"SCMP_ACT_ERRNO\"}]}}",
+    )?;
+    assert!(rt;
+        matches!(
+            handle(&mut office, alloc, "t-ann", one_action)?,
+            Answer::Done(_)
+        )
+    );
+    let ask = show(alloc, "web", 1)?;
+    match handle(&mut office, alloc, "t-rev", ask)? {
+        Answer::Done(Reply::Shown { document, .. }) => {
+            assert_eq!(rt;
+                document.as_str(),
+                "{\"capabilities\":{\"ambient\":[],\"bounding\":[],\"effective\":[],\"inheritable\":[],\"permitted\":[]},\"seccomp\":{\"defaultAction\":\"SCMP_ACT_ALLOW\",\"syscalls\":[{\"action\":\"SCMP_ACT_ERRNO\",\"errnoRet\":1,\"names\":[\"clone3\"]}]}}"
+            );
+        }
+        _ => return Err(Fail::from("not shown")),
+    }
+    Ok(())
+}
