@@ -1,0 +1,125 @@
+-- Lists of texts without repeats have the same texts.
+use Rattle.std.proofs.Common.{◌≡◌, ◌∙◌, ap, refl, sym, ℕ, ◌+◌, ◌<◌, List, [], ◌∷◌, ◌++◌, Bool, true, false, not, cond, ◌||◌, bytes_eq, map, length, take, get_or, inl, inr}
+use Rattle.std.specs.Prelude.{filter}
+use Rattle.std.specs.List.{list_any}
+use Rattle.std.specs.Ordering.{nat_cmp, match_ordering}
+use Rattle.std.specs.declared.cmp.Ordering.{Ordering}
+use Rattle.std.specs.declared.cmp.Ordering.TheVariants.{Less, Equal, Greater}
+use Rattle.std.specs.Cmp.Lexicographic.{slice_cmp}
+use Rattle.std.specs.Borrow.{Bor}
+use Rattle.std.specs.BTreeSet.{insert_key}
+use Rattle.std.proofs.lemmas.Bool.{cases_Bool, or_left, or_right}
+use Rattle.std.proofs.lemmas.Map.Lookups.{exact_bytes}
+use Rattle.std.proofs.lemmas.List.{take_more}
+use Rattle.std.proofs.lemmas.List.Sums.{fold-append}
+use Rattle.std.proofs.lemmas.Slice.Eq.{bytes_eq-Decides}
+use Rattle.widening.specs.Texts.{each_once, in_byte_order, lists, put_in_order}
+
+or_swap : (a b c : Bool) → (a || (b || c)) ≡ (b || (a || c))
+or_swap true true c = refl
+or_swap true false c = refl
+or_swap false b c = refl
+
+or_twice : (a b : Bool) → (a || b) ≡ (a || (a || b))
+or_twice true b = refl
+or_twice false b = refl
+
+or-false : (a : Bool) → (a || false) ≡ a
+or-false true = refl
+or-false false = refl
+
+or_comm : (a b : Bool) → (a || b) ≡ (b || a)
+or_comm true true = refl
+or_comm true false = refl
+or_comm false true = refl
+or_comm false false = refl
+
+or_assoc : (a b c : Bool) → ((a || b) || c) ≡ (a || (b || c))
+or_assoc true b c = refl
+or_assoc false b c = refl
+
+module _ (p : List ℕ → Bool) where
+  list_any-placed : (o : Ordering) (k x : List ℕ) (xs more : List (List ℕ)) → (o ≡ Equal → k ≡ x) → list_any p more ≡ (p k || list_any p xs) →
+      list_any p (match_ordering o (k ∷ x ∷ xs) (x ∷ xs) (x ∷ more)) ≡ (p k || (p x || list_any p xs))
+  list_any-placed Less k x xs more same later = refl
+  list_any-placed Equal k x xs more same later = or_twice (p x) (list_any p xs) ∙ ap (λ y. p y || (p x || list_any p xs)) (sym (same refl))
+  list_any-placed Greater k x xs more same later = ap (λ b. p x || b) later ∙ or_swap (p x) (p k) (list_any p xs)
+
+  -- one text more, at its place
+  list_any-insert_key : (xs : List (List ℕ)) (k : List ℕ) → list_any p (insert_key (slice_cmp nat_cmp) xs k) ≡ (p k || list_any p xs)
+  list_any-insert_key [] k = refl
+  list_any-insert_key (x ∷ xs) k =
+      list_any-placed (slice_cmp nat_cmp k x) k x xs (insert_key (slice_cmp nat_cmp) xs k) (exact_bytes k x) (list_any-insert_key xs k)
+
+  pub list_any-put_in_order : (ordered texts : List (List ℕ)) → list_any p (put_in_order ordered texts) ≡ (list_any p ordered || list_any p texts)
+  list_any-put_in_order ordered [] = sym (or-false (list_any p ordered))
+  list_any-put_in_order ordered (text ∷ texts) =
+      list_any-put_in_order (insert_key (slice_cmp nat_cmp) ordered text) texts
+      ∙ ap (λ b. b || list_any p texts) (list_any-insert_key ordered text ∙ or_comm (p text) (list_any p ordered))
+      ∙ or_assoc (list_any p ordered) (p text) (list_any p texts)
+
+  -- a list in byte order has the same texts
+  pub list_any-in_byte_order : (texts : List (List ℕ)) → list_any p (in_byte_order texts) ≡ list_any p texts
+  list_any-in_byte_order texts = list_any-put_in_order [] texts
+
+  -- without what equals a text that fails, the same pass
+  others_same : (text : List ℕ) (b : Bool) (xs : List (List ℕ)) → p text ≡ b → (b || list_any p (filter (λ other. not (bytes_eq text other)) xs)) ≡ (b || list_any p xs)
+  others_same text true xs here = refl
+  others_same text false [] gone = refl
+  others_same text false (x ∷ xs) gone =
+      elim (cases_Bool (bytes_eq text x)) as (λ _. list_any p (filter (λ other. not (bytes_eq text other)) (x ∷ xs)) ≡ list_any p (x ∷ xs)) [
+        | inl same ↦
+            ap (λ b. list_any p (cond (not b) (x ∷ filter (λ other. not (bytes_eq text other)) xs) (filter (λ other. not (bytes_eq text other)) xs))) same
+            ∙ others_same text false xs gone
+            ∙ ap (λ b. b || list_any p xs) (sym gone ∙ ap p ((bytes_eq-Decides text x).0 same))
+        | inr other ↦
+            ap (λ b. list_any p (cond (not b) (x ∷ filter (λ other. not (bytes_eq text other)) xs) (filter (λ other. not (bytes_eq text other)) xs))) other
+            ∙ ap (λ b. p x || b) (others_same text false xs gone)
+      ]
+
+  -- a list of each text once has the same texts
+  pub list_any-each_once : (texts : List (List ℕ)) → list_any p (each_once texts) ≡ list_any p texts
+  list_any-each_once [] = refl
+  list_any-each_once (text ∷ texts) = others_same text (p text) (each_once texts) refl ∙ ap (λ b. p text || b) (list_any-each_once texts)
+
+-- a text that passes is in the list
+pub passes_where_listed : (p : List ℕ → Bool) (texts : List (List ℕ)) (text : List ℕ) → p text ≡ true → lists texts text ≡ true → list_any p texts ≡ true
+passes_where_listed p [] text passes listed = listed
+passes_where_listed p (t ∷ ts) text passes listed =
+    elim (cases_Bool (bytes_eq text t)) as (λ _. list_any p (t ∷ ts) ≡ true) [
+      | inl same ↦ or_left (p t) (list_any p ts) (ap p (sym ((bytes_eq-Decides text t).0 same)) ∙ passes)
+      | inr other ↦ or_right (p t) (list_any p ts) (passes_where_listed p ts text passes (sym (ap (λ b. b || lists ts text) other) ∙ listed))
+    ]
+
+-- ---- one text more in order
+
+placed_shown : (o : Ordering) (k x : Bor (List ℕ)) (xs more : List (Bor (List ℕ))) (shown : List (List ℕ)) → map (λ t. t.now) more ≡ shown →
+    map (λ t. t.now) (match_ordering o (k ∷ x ∷ xs) (x ∷ xs) (x ∷ more)) ≡ match_ordering o (k.now ∷ x.now ∷ map (λ t. t.now) xs) (x.now ∷ map (λ t. t.now) xs) (x.now ∷ shown)
+placed_shown Less k x xs more shown e = refl
+placed_shown Equal k x xs more shown e = refl
+placed_shown Greater k x xs more shown e = ap (λ ts. x.now ∷ ts) e
+
+-- a text that is put in a set of texts
+pub insert_key-shown : (keys : List (Bor (List ℕ))) (k : Bor (List ℕ)) →
+    map (λ t. t.now) (insert_key (λ x y. slice_cmp nat_cmp x.now y.now) keys k) ≡ insert_key (slice_cmp nat_cmp) (map (λ t. t.now) keys) k.now
+insert_key-shown [] k = refl
+insert_key-shown (x ∷ keys) k =
+    placed_shown (slice_cmp nat_cmp k.now x.now) k x keys (insert_key (λ x y. slice_cmp nat_cmp x.now y.now) keys k)
+    (insert_key (slice_cmp nat_cmp) (map (λ t. t.now) keys) k.now) (insert_key-shown keys k)
+
+pub put_in_order-push : (ordered texts : List (List ℕ)) (text : List ℕ) → put_in_order ordered (texts ++ text ∷ []) ≡ insert_key (slice_cmp nat_cmp) (put_in_order ordered texts) text
+put_in_order-push ordered texts text = fold-append (insert_key (slice_cmp nat_cmp)) ordered texts (text ∷ [])
+
+pub put_in_order-append : (ordered texts more : List (List ℕ)) → put_in_order ordered (texts ++ more) ≡ put_in_order (put_in_order ordered texts) more
+put_in_order-append ordered texts more = fold-append (insert_key (slice_cmp nat_cmp)) ordered texts more
+
+pub names_more : (keys new : List (Bor (List ℕ))) (k : Bor (List ℕ)) (ordered added : List (List ℕ)) (i : ℕ) (name : List ℕ) →
+    new ≡ insert_key (λ x y. slice_cmp nat_cmp x.now y.now) keys k → map (λ t. t.now) keys ≡ put_in_order ordered (take i added) →
+    k.now ≡ name → i < length added → name ≡ get_or added i name →
+    map (λ t. t.now) new ≡ put_in_order ordered (take (i + 1) added)
+names_more keys new k ordered added i name inserted before same within is =
+    ap (map (λ t. t.now)) inserted ∙ insert_key-shown keys k
+    ∙ ap (λ ts. insert_key (slice_cmp nat_cmp) ts k.now) before
+    ∙ ap (insert_key (slice_cmp nat_cmp) (put_in_order ordered (take i added))) same
+    ∙ sym (put_in_order-push ordered (take i added) name)
+    ∙ ap (put_in_order ordered) (ap (λ t. take i added ++ t ∷ []) is ∙ sym (take_more added i name within))

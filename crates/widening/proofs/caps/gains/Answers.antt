@@ -1,0 +1,7 @@
+use Rattle.std.proofs.Common.{arith}
+use Rattle.widening.proofs.CapFacts.{gains_from_bits}
+use Rattle.widening.proofs.caps.gains.Goals as goal
+
+pub returns-clause-told : goal.returns-clause-told
+returns-clause-told c =
+    gains_from_bits c.args.base c.args.new c.bits-2.result c.bits.result c.bits.ensures.value c.bits-2.ensures.value (omega arith) (omega arith)

@@ -1,0 +1,20 @@
+// What holds of findings, apart from any call.
+
+ghost use Rattle.std.specs.Prelude.{◌≡◌, [], false, IfSome};
+ghost use Rattle.profile_text.specs.Reads.{HasKnownCaps};
+ghost use Rattle.profile_text.specs.declared.profile.Profile.{Profile};
+ghost use Rattle.seccomp_doc.specs.Lawful.{IsLawful};
+ghost use Rattle.widening.specs.Findings.{findings_of, is_wider};
+ghost use Rattle.widening.specs.Permits.{IsNoWider};
+
+/// Where nothing is found, the new profile permits no more than its baseline: each of its five capability sets is within
+/// the baseline's, and for every call and all arguments its action is no more permissive.
+pub fn no_finding_permits_no_more()
+    ensures list { (base new : Profile) → HasKnownCaps new.caps → findings_of base new ≡ [] → IsNoWider base new }
+    ensures test { (base new : Profile) → HasKnownCaps new.caps → is_wider base new ≡ false → IsNoWider base new }
+{}
+
+/// Nothing is found between a profile and itself.
+pub fn nothing_is_found_against_itself()
+    ensures { (p : Profile) → IfSome p.filter IsLawful → findings_of p p ≡ [] }
+{}

@@ -1,0 +1,136 @@
+// The list of findings.
+
+ghost use Rattle.std.specs.Prelude.{◌≡◌, ◌∷◌, ◌++◌, [], if◌then◌else◌, IfOk, OnOk};
+ghost use Rattle.widening.specs.Calls.{entry_names, is_permitted_more};
+ghost use Rattle.widening.specs.Findings.{between_filters, call_findings, default_findings, filter_findings, findings_of};
+ghost use Rattle.widening.specs.Texts.{put_in_order, texts_in};
+
+use crate::calls::keeps_to;
+use crate::caps::find_caps;
+use crate::finding::Finding;
+use crate::listed::{find_architectures, find_flags};
+use profile_text::Profile;
+use seccomp_doc::{CallName, Entry, Filter};
+use std::alloc::{AllocError, Global};
+use std::collections::BTreeSet;
+
+/// What the new profile permits, or may permit, and the baseline doesn't.
+///
+/// First each capability that one of the new sets has and the baseline's hasn't: the sets in the order effective,
+/// permitted, inheritable, bounding, ambient, the capabilities by rising number. Without a filter in the baseline nothing
+/// follows, and where only the baseline has one, `NoSeccomp` alone. Else the architectures and then the flags that the
+/// baseline doesn't list, in the new filter's order; the names of calls in byte order; the default. Each finding is there
+/// once.
+///
+/// # Errors
+///
+/// Memory was refused.
+#[tactic(auto, unfolding(crate::specs::Findings::findings_of))]
+pub fn findings(alloc: Global, base: &Profile, new: &Profile) -> Result<Vec<Finding>, AllocError>
+    ensures { IfOk result (λ found. found.items ≡ findings_of base.now new.now) }
+{
+    let mut found = Vec::new(alloc);
+    find_caps(&mut found, &base.caps, &new.caps)?;
+    find_in_filters(alloc, &mut found, &base.filter, &new.filter)?;
+    Ok(found)
+}
+
+// Adds what the new filter may permit more, where there are filters.
+fn find_in_filters(
+    alloc: Global,
+    found: &mut Vec<Finding>,
+    base: &Option<Filter>,
+    new: &Option<Filter>,
+) -> Result<(), AllocError>
+    ensures { OnOk result (found.new.items ≡ found.old.items ++ filter_findings base.now new.now) }
+{
+    match (base, new) {
+        (None, _) => Ok(()),
+        (Some(_), None) => {
+            found.push(Finding::NoSeccomp)?;
+            Ok(())
+        }
+        (Some(base), Some(new)) => find_between(alloc, found, base, new),
+    }
+}
+
+// Adds what the new filter may permit more.
+fn find_between(
+    alloc: Global,
+    found: &mut Vec<Finding>,
+    base: &Filter,
+    new: &Filter,
+) -> Result<(), AllocError>
+    ensures { OnOk result (found.new.items ≡ found.old.items ++ between_filters base.now new.now) }
+{
+    find_architectures(alloc, found, base.architectures(), new.architectures())?;
+    find_flags(alloc, found, base.flags(), new.flags())?;
+    find_calls(alloc, found, base, new)?;
+    find_default(found, base, new)
+}
+
+// Adds the default, where the new one is more permissive.
+fn find_default(found: &mut Vec<Finding>, base: &Filter, new: &Filter) -> Result<(), AllocError>
+    ensures { OnOk result (found.new.items ≡ found.old.items ++ default_findings base.now new.now) }
+{
+    if base.default_action().rank() < new.default_action().rank() {
+        found.push(Finding::Default)?;
+    }
+    Ok(())
+}
+
+// Adds each name of a call that the new filter may permit more.
+fn find_calls(
+    alloc: Global,
+    found: &mut Vec<Finding>,
+    base: &Filter,
+    new: &Filter,
+) -> Result<(), AllocError>
+    ensures { OnOk result (found.new.items ≡ found.old.items ++ call_findings base.now new.now) }
+{
+    let mut names = BTreeSet::new(alloc);
+    add_entries(&mut names, base.entries())?;
+    add_entries(&mut names, new.entries())?;
+    for name in &names {
+        find_call(alloc, found, base, new, name)?;
+    }
+    Ok(())
+}
+
+// Adds the name, where the new filter may permit a call of it more.
+fn find_call(
+    alloc: Global,
+    found: &mut Vec<Finding>,
+    base: &Filter,
+    new: &Filter,
+    name: &str,
+) -> Result<(), AllocError>
+    ensures { OnOk result (found.new.items ≡ found.old.items
+        ++ (if is_permitted_more base.now new.now name.now then Finding.Call name.now ∷ [] else [])) }
+{
+    if !keeps_to(base, new, name) {
+        let name = CallName::read(alloc, name).map_err(|_| AllocError)?;
+        found.push(Finding::Call(name))?;
+    }
+    Ok(())
+}
+
+// Adds the names of these entries.
+fn add_entries<'a>(names: &mut BTreeSet<&'a str>, entries: &'a [Entry]) -> Result<(), AllocError>
+    ensures { OnOk result (texts_in names.new ≡ put_in_order (texts_in names.old) (entry_names entries.now)) }
+{
+    for entry in entries {
+        add_names(names, entry.names())?;
+    }
+    Ok(())
+}
+
+// Adds these names.
+fn add_names<'a>(names: &mut BTreeSet<&'a str>, added: &'a [CallName]) -> Result<(), AllocError>
+    ensures { OnOk result (texts_in names.new ≡ put_in_order (texts_in names.old) added.now) }
+{
+    for name in added {
+        names.insert(name.as_str())?;
+    }
+    Ok(())
+}

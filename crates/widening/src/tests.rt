@@ -1,0 +1,334 @@
+// Findings by examples.
+
+use crate::calls::keeps_to;
+use crate::{Finding, findings, is_wider};
+use cap_sets::{CapState, Caps};
+use profile_text::Profile;
+use seccomp_doc::{
+    ActionWord, Arch, ArgParts, EntryParts, Filter, FilterFault, FilterParts, Op, ScmpFlag,
+};
+use std::alloc::{AllocError, Global};
+use std::test::Fail;
+
+fn arg(op: Op, value: u64, value_two: u64) -> ArgParts {
+    ArgParts {
+        index: 0,
+        op,
+        value,
+        value_two,
+    }
+}
+
+fn entry(
+    alloc: Global,
+    name: &str,
+    word: ActionWord,
+    args: &[ArgParts],
+) -> Result<EntryParts, AllocError> {
+    Ok(EntryParts {
+        names: vec![in alloc; String::from_str(alloc, name)?]?,
+        word,
+        errno: None,
+        args: Vec::from_slice(alloc, args)?,
+    })
+}
+
+// A filter of these entries.
+fn filter(
+    alloc: Global,
+    default: ActionWord,
+    entries: Vec<EntryParts>,
+) -> Result<Filter, FilterFault> {
+    Filter::new(
+        alloc,
+        FilterParts {
+            default,
+            default_errno: None,
+            architectures: Vec::new(alloc),
+            flags: Vec::new(alloc),
+            entries,
+        },
+    )
+}
+
+// The state with no capability.
+fn no_caps() -> CapState {
+    let none = Caps::empty();
+    CapState {
+        effective: none,
+        permitted: none,
+        inheritable: none,
+        bounding: none,
+        ambient: none,
+    }
+}
+
+// The profile with no capability and this filter.
+fn filtered(filter: Filter) -> Profile {
+    Profile::new(no_caps(), Some(filter))
+}
+
+// The profile with no capability, the default of errno 1 and one entry of a call that is allowed where its first argument
+// compares as stated.
+fn allowing(alloc: Global, name: &str, args: &[ArgParts]) -> Result<Profile, Fail> {
+    let entry = entry(alloc, name, ActionWord::Allow, args)?;
+    let filter = filter(alloc, ActionWord::Errno, vec![in alloc; entry]?)?;
+    Ok(filtered(filter))
+}
+
+// The findings as one text, each ended by a semicolon.
+fn told(alloc: Global, base: &Profile, new: &Profile) -> Result<String, AllocError> {
+    let mut text = String::new(alloc);
+    for finding in &findings(alloc, base, new)? {
+        match finding {
+            Finding::Cap(set, number) => {
+                let set = set.name();
+                write!(text, "{set} {number};")?
+            }
+            Finding::NoSeccomp => text.push_str("no-seccomp;")?,
+            Finding::AnyArch => text.push_str("any;")?,
+            Finding::Arch(arch) => {
+                let name = arch.as_str();
+                write!(text, "{name};")?
+            }
+            Finding::Flag(flag) => {
+                let name = flag.as_str();
+                write!(text, "{name};")?
+            }
+            Finding::Call(name) => write!(text, "call {name};")?,
+            Finding::Default => text.push_str("default;")?,
+        }
+    }
+    Ok(text)
+}
+
+#[test]
+fn the_closed_profile_and_a_profile_without_a_filter(rt: HostRuntime) -> Result<(), Fail> {
+    let alloc = rt.alloc();
+    let closed = Profile::closed(alloc);
+    let open = Profile::new(no_caps(), None);
+    assert_eq!(rt; told(alloc, &closed, &open)?.as_str(), "no-seccomp;");
+    assert!(rt; is_wider(&closed, &open));
+    let killing = filtered(filter(alloc, ActionWord::KillProcess, Vec::new(alloc))?);
+    assert_eq!(rt; told(alloc, &closed, &killing)?.as_str(), "");
+    assert!(rt; !is_wider(&closed, &killing));
+    assert_eq!(rt; told(alloc, &open, &closed)?.as_str(), "");
+    Ok(())
+}
+
+#[test]
+fn a_range_of_arguments_within_another(rt: HostRuntime) -> Result<(), Fail> {
+    let alloc = rt.alloc();
+    let base = allowing(alloc, "personality", &[arg(Op::LessOrEqual, 8, 0)])?;
+    let narrower = allowing(alloc, "personality", &[arg(Op::Equal, 8, 0)])?;
+    let wider = allowing(alloc, "personality", &[arg(Op::LessOrEqual, 9, 0)])?;
+    assert_eq!(rt; told(alloc, &base, &narrower)?.as_str(), "");
+    assert_eq!(rt; told(alloc, &base, &wider)?.as_str(), "call personality;");
+    assert!(rt; !is_wider(&base, &narrower));
+    assert!(rt; is_wider(&base, &wider));
+    Ok(())
+}
+
+#[test]
+fn a_mask_of_arguments(rt: HostRuntime) -> Result<(), Fail> {
+    let alloc = rt.alloc();
+    let base = allowing(alloc, "clone", &[arg(Op::MaskedEqual, 2114060288, 0)])?;
+    let one = allowing(alloc, "clone", &[arg(Op::Equal, 17, 0)])?;
+    let all = allowing(alloc, "clone", &[])?;
+    let none = filtered(filter(alloc, ActionWord::Errno, Vec::new(alloc))?);
+    assert_eq!(rt; told(alloc, &base, &one)?.as_str(), "");
+    assert_eq!(rt; told(alloc, &base, &all)?.as_str(), "call clone;");
+    assert_eq!(rt; told(alloc, &base, &none)?.as_str(), "");
+    Ok(())
+}
+
+#[test]
+fn what_a_range_in_two_parts_permits_is_found(rt: HostRuntime) -> Result<(), Fail> {
+    let alloc = rt.alloc();
+    let low = entry(
+        alloc,
+        "ioctl",
+        ActionWord::Allow,
+        &[arg(Op::LessOrEqual, 4, 0)],
+    )?;
+    let high = entry(
+        alloc,
+        "ioctl",
+        ActionWord::Allow,
+        &[arg(Op::GreaterOrEqual, 5, 0)],
+    )?;
+    let base = filtered(filter(alloc, ActionWord::Errno, vec![in alloc; low, high]?)?);
+    let all = allowing(alloc, "ioctl", &[])?;
+    assert_eq!(rt; told(alloc, &base, &all)?.as_str(), "call ioctl;");
+    Ok(())
+}
+
+#[test]
+fn a_name_that_only_the_baseline_restricts(rt: HostRuntime) -> Result<(), Fail> {
+    let alloc = rt.alloc();
+    let refused = entry(alloc, "mount", ActionWord::Errno, &[])?;
+    let base = filtered(filter(alloc, ActionWord::Allow, vec![in alloc; refused]?)?);
+    let new = filtered(filter(alloc, ActionWord::Allow, Vec::new(alloc))?);
+    assert_eq!(rt; told(alloc, &base, &new)?.as_str(), "call mount;");
+    assert!(rt; is_wider(&base, &new));
+    assert_eq!(rt; told(alloc, &new, &base)?.as_str(), "");
+    Ok(())
+}
+
+#[test]
+fn another_errno_is_no_finding(rt: HostRuntime) -> Result<(), Fail> {
+    let alloc = rt.alloc();
+    let mut one = entry(alloc, "clone3", ActionWord::Errno, &[])?;
+    one.errno = Some(1);
+    let mut other = entry(alloc, "clone3", ActionWord::Errno, &[])?;
+    other.errno = Some(38);
+    let base = filtered(filter(alloc, ActionWord::Errno, vec![in alloc; one]?)?);
+    let new = filtered(filter(alloc, ActionWord::Errno, vec![in alloc; other]?)?);
+    assert_eq!(rt; told(alloc, &base, &new)?.as_str(), "");
+    Ok(())
+}
+
+// The filter with these architectures and one flag.
+fn listing(
+    alloc: Global,
+    default: ActionWord,
+    architectures: &[&str],
+    flag: &str,
+    entries: Vec<EntryParts>,
+) -> Result<Profile, Fail> {
+    let mut listed = Vec::new(alloc);
+    for text in architectures {
+        listed.push(Arch::read(alloc, text)?)?;
+    }
+    let flags = vec![in alloc; ScmpFlag::read(alloc, flag)?]?;
+    let filter = Filter::new(
+        alloc,
+        FilterParts {
+            default,
+            default_errno: None,
+            architectures: listed,
+            flags,
+            entries,
+        },
+    )?;
+    Ok(filtered(filter))
+}
+
+const LOG: &str = "SECCOMP_FILTER_FLAG_LOG";
+
+const TSYNC: &str = "SECCOMP_FILTER_FLAG_TSYNC";
+
+#[test]
+fn architectures_and_flags_by_their_names(rt: HostRuntime) -> Result<(), Fail> {
+    let alloc = rt.alloc();
+    let errno = ActionWord::Errno;
+    let one = listing(alloc, errno, &["SCMP_ARCH_X86_64"], LOG, Vec::new(alloc))?;
+    let names = [
+        "SCMP_ARCH_ARM",
+        "SCMP_ARCH_X86_64",
+        "SCMP_ARCH_ARM",
+        "SCMP_ARCH_X86",
+    ];
+    let more = listing(alloc, errno, &names, TSYNC, Vec::new(alloc))?;
+    let none = listing(alloc, errno, &[], LOG, Vec::new(alloc))?;
+    assert_eq!(rt;
+        told(alloc, &one, &more)?.as_str(),
+        "SCMP_ARCH_ARM;SCMP_ARCH_X86;SECCOMP_FILTER_FLAG_TSYNC;"
+    );
+    assert_eq!(rt; told(alloc, &one, &none)?.as_str(), "any;");
+    assert_eq!(rt; told(alloc, &none, &one)?.as_str(), "SCMP_ARCH_X86_64;");
+    Ok(())
+}
+
+#[test]
+fn all_kinds_in_their_order(rt: HostRuntime) -> Result<(), Fail> {
+    let alloc = rt.alloc();
+    let kept = entry(alloc, "read", ActionWord::Errno, &[])?;
+    let base = listing(
+        alloc,
+        ActionWord::Errno,
+        &["SCMP_ARCH_X86_64"],
+        LOG,
+        vec![in alloc; kept]?,
+    )?;
+    let write = entry(alloc, "write", ActionWord::Allow, &[])?;
+    let close = entry(alloc, "close", ActionWord::Allow, &[])?;
+    let open = listing(
+        alloc,
+        ActionWord::Log,
+        &["SCMP_ARCH_X86"],
+        TSYNC,
+        vec![in alloc; write, close]?,
+    )?;
+    let chown = Caps::from_bits(1).ok_or("bits")?;
+    let both = Caps::from_bits(5).ok_or("bits")?;
+    let none = Caps::empty();
+    let caps = CapState::new(chown, both, chown, both, none)?;
+    let Profile {
+        caps: _,
+        filter: open,
+    } = open;
+    let new = Profile::new(caps, open);
+    assert_eq!(rt;
+        told(alloc, &base, &new)?.as_str(),
+        "effective 0;permitted 0;permitted 2;inheritable 0;bounding 0;bounding 2;\
+        SCMP_ARCH_X86;SECCOMP_FILTER_FLAG_TSYNC;call close;call read;call write;default;"
+    );
+    Ok(())
+}
+
+// A filter of 2,048 entries with a name each, where the argument may be at most the number of the entry and this much.
+fn large(alloc: Global, more: u64) -> Result<Profile, Fail> {
+    let mut entries = Vec::new(alloc);
+    for number in 0..2048u64 {
+        let name = format!(in alloc; "call_{number}")?;
+        let most = if number % 2 == 0 {
+            number
+        } else {
+            number.saturating_add(more)
+        };
+        entries.push(entry(
+            alloc,
+            name.as_str(),
+            ActionWord::Allow,
+            &[arg(Op::LessOrEqual, most, 0)],
+        )?)?;
+    }
+    Ok(filtered(filter(alloc, ActionWord::Errno, entries)?))
+}
+
+#[test]
+fn two_filters_of_2048_entries(rt: HostRuntime) -> Result<(), Fail> {
+    let alloc = rt.alloc();
+    let base = large(alloc, 0)?;
+    let wider = large(alloc, 1)?;
+    assert_eq!(rt; findings(alloc, &base, &wider)?.len(), 1024);
+    assert!(rt; is_wider(&base, &wider));
+    assert!(rt; !is_wider(&wider, &base));
+    Ok(())
+}
+
+// The plain body looks at all entries for each name.
+#[test]
+fn the_plain_body_finds_the_same_calls(rt: HostRuntime) -> Result<(), Fail> {
+    let alloc = rt.alloc();
+    let base = large(alloc, 0)?;
+    let wider = large(alloc, 1)?;
+    let found = findings(alloc, &base, &wider)?;
+    let base = base.filter.as_ref().ok_or("filter")?;
+    let wider = wider.filter.as_ref().ok_or("filter")?;
+    for finding in &found {
+        assert!(rt;
+            matches!(finding, Finding::Call(name) if !keeps_to(base, wider, name.as_str()))
+        );
+    }
+    let mut failing = 0usize;
+    for number in 0..2048u64 {
+        let name = format!(in alloc; "call_{number}")?;
+        if !keeps_to(base, wider, name.as_str()) {
+            failing = failing.saturating_add(1);
+        }
+    }
+    assert_eq!(rt; found.len(), failing);
+    Ok(())
+}
