@@ -1,0 +1,4 @@
+pub mod Parts
+pub mod Commands
+pub mod Meaning
+pub mod Refusals

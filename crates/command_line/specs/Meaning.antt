@@ -1,0 +1,31 @@
+-- What the words of a command line ask for, by the command that clap finds in them and the values that it gives.
+use Rattle.std.specs.Prelude.{◌≡◌, Bool, false, Option, Some, None, List, codes, option_map}
+use Rattle.clap.specs.Words.{Row, Text, first_of, one_of}
+use Rattle.command_line.specs.declared.command.Command.{Command}
+use Rattle.command_line.specs.declared.command.Command.TheVariants.{Trial, Check, Execve}
+use Rattle.command_line.specs.declared.command.ExecveWords.{ExecveWords}
+use Rattle.std.specs.Prelude.{true}
+
+-- the flag of this text is set
+abbrev pub IsFlag : Option Text → Bool → Type 0
+IsFlag None set = set ≡ false
+IsFlag (Some text) set = (text ≡ codes "true" → set ≡ true) × (text ≡ codes "false" → set ≡ false)
+
+-- each value of execve is the one that the rows give for it
+pub record HasValues (rows : List Row) (words : ExecveWords) : Type 0 where
+  pub file : first_of (codes "file") rows ≡ Some words.file.now
+  pub root : IsFlag (one_of (codes "root") rows) words.root
+  pub file_permitted : first_of (codes "file-permitted") rows ≡ option_map (λ s. s.now) words.file_permitted
+  pub file_inheritable : first_of (codes "file-inheritable") rows ≡ option_map (λ s. s.now) words.file_inheritable
+  pub file_effective : IsFlag (one_of (codes "file-effective") rows) words.file_effective
+
+-- the subcommand of this name, with these rows of values, asks for the command
+abbrev pub AsksFor : Text → List Row → Command → Type 0
+AsksFor name rows Trial = ⊥
+AsksFor name rows (Check file) = (name ≡ codes "check") × (first_of (codes "file") rows ≡ Some file.now)
+AsksFor name rows (Execve words) = (name ≡ codes "execve") × HasValues rows words
+
+-- the command is what the subcommand that was found asks for; without one it is the trial desk
+abbrev pub IsCommand : Option (Text × List Row) → Command → Type 0
+IsCommand None command = command ≡ Trial
+IsCommand (Some found) command = AsksFor found.0 found.1 command

@@ -1,0 +1,16 @@
+-- What commands are made of, as clap reads it.
+use Rattle.std.specs.Prelude.{ℕ, List, Some, true}
+use Rattle.clap.specs.Words.{Rule, new_rule}
+use Rattle.clap.specs.declared.builder.action.ArgAction.TheVariants.{SetTrue}
+
+-- a value that has to be there, by its place
+abbrev pub needed_rule : List ℕ → Rule
+needed_rule id = record (new_rule id) { value_names = 1; required = true }
+
+-- `--id VALUE`
+abbrev pub option_rule : List ℕ → Rule
+option_rule id = record (new_rule id) { long = Some id; value_names = 1 }
+
+-- `--id`
+abbrev pub flag_rule : List ℕ → Rule
+flag_rule id = record (new_rule id) { long = Some id; action = Some SetTrue }

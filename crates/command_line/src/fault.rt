@@ -1,0 +1,59 @@
+//! Why words ask for no command.
+
+use clap::error::ErrorKind;
+use std::alloc::{AllocError, Global};
+use thiserror::Error;
+
+/// Why words ask for no command.
+#[derive(Debug, Drop, Error)]
+pub enum WordsFault {
+    /// They ask for help: its text, for standard output.
+    #[error("{0}")]
+    Help(String),
+    /// They are refused: what `clap` says of them, for standard error.
+    #[error("{0}")]
+    Refused(String),
+    /// Memory was refused.
+    #[error("memory")]
+    NoMemory,
+}
+
+impl WordsFault {
+    ghost use Rattle.std.specs.Prelude.{◌≡◌};
+    ghost use Rattle.clap.specs.Words.{kind_of};
+    ghost use Rattle.command_line.specs.Refusals.{IsTold, status_of};
+
+    /// The status that the program ends with: 0 after help, 2 after words that are refused, 1 for want of memory.
+    pub fn status(&self) -> u8
+        ensures { result ≡ status_of self.now }
+    {
+        match self {
+            WordsFault::Help(_) => 0,
+            WordsFault::Refused(_) => 2,
+            WordsFault::NoMemory => 1,
+        }
+    }
+
+    /// What `clap` answers in place of matches.
+    pub(crate) fn of_error(alloc: Global, error: &clap::Error) -> WordsFault
+        ensures { IsTold (kind_of error.now) result }
+    {
+        match (error.kind(), format!(in alloc; "{error}")) {
+            (ErrorKind::OutOfMemory, _) => WordsFault::NoMemory,
+            (_, Err(_)) => WordsFault::NoMemory,
+            (ErrorKind::DisplayHelp, Ok(text)) => WordsFault::Help(text),
+            (_, Ok(text)) => WordsFault::Refused(text),
+        }
+    }
+}
+
+impl From<AllocError> for WordsFault {
+    ghost use Rattle.std.specs.Prelude.{◌≡◌};
+    ghost use Rattle.command_line.specs.declared.fault.WordsFault.TheVariants.{NoMemory};
+
+    ghost from_gives = { λ _ fault. fault ≡ NoMemory };
+
+    fn from(_error: AllocError) -> WordsFault {
+        WordsFault::NoMemory
+    }
+}

@@ -1,0 +1,19 @@
+//! The words of the command line: which command they ask for, and with which values.
+//!
+//! They are read with `clap`. What its parse makes of words is defined there; here stand the commands, and what their
+//! values mean.
+#![tactic(auto)]
+
+mod check;
+mod command;
+mod execve;
+mod fault;
+mod parts;
+mod words;
+
+pub use command::{Command, ExecveWords};
+pub use fault::WordsFault;
+pub use words::read_words;
+
+#[cfg(test)]
+mod tests;

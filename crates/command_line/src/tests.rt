@@ -1,0 +1,66 @@
+use crate::{Command, WordsFault, read_words};
+use std::alloc::{AllocError, Global};
+use std::test::Fail;
+
+fn words_of(alloc: Global, texts: &[&str]) -> Result<Vec<String>, AllocError> {
+    let mut words = Vec::new(alloc);
+    for text in texts {
+        words.push(String::from_str(alloc, text)?)?;
+    }
+    Ok(words)
+}
+
+#[test]
+fn each_value_of_execve_is_found_wherever_it_stands(rt: HostRuntime) -> Result<(), Fail> {
+    let alloc = rt.alloc();
+    for texts in [
+        [
+            "office",
+            "execve",
+            "web.json",
+            "--root",
+            "--file-permitted",
+            "CAP_KILL",
+            "--file-inheritable",
+            "CAP_CHOWN",
+        ]
+        .as_slice(),
+        [
+            "office",
+            "execve",
+            "--file-inheritable=CAP_CHOWN",
+            "--root",
+            "--file-permitted=CAP_KILL",
+            "--",
+            "web.json",
+        ]
+        .as_slice(),
+    ] {
+        let words = words_of(alloc, texts)?;
+        let Ok(Command::Execve(values)) = read_words(alloc, &words) else {
+            return Err(Fail::from("another command"));
+        };
+        assert_eq!(rt; values.file, "web.json");
+        assert_eq!(rt; values.file_permitted.unwrap_or(""), "CAP_KILL");
+        assert_eq!(rt; values.file_inheritable.unwrap_or(""), "CAP_CHOWN");
+        assert!(rt; values.root);
+        assert!(rt; !values.file_effective);
+    }
+    Ok(())
+}
+
+#[test]
+fn commands_are_told_apart(rt: HostRuntime) -> Result<(), Fail> {
+    let alloc = rt.alloc();
+    let words = words_of(alloc, &["office", "check", "execve"])?;
+    assert!(rt; matches!(read_words(alloc, &words), Ok(Command::Check { .. })));
+    let words = words_of(alloc, &["office", "execve", "check"])?;
+    assert!(rt; matches!(read_words(alloc, &words), Ok(Command::Execve(_))));
+    let words = words_of(alloc, &["office"])?;
+    assert!(rt; matches!(read_words(alloc, &words), Ok(Command::Trial)));
+    let words = words_of(alloc, &["office", "check"])?;
+    assert!(rt; matches!(read_words(alloc, &words), Err(WordsFault::Refused(_))));
+    let words = words_of(alloc, &["office", "check", "--help"])?;
+    assert!(rt; matches!(read_words(alloc, &words), Err(WordsFault::Help(_))));
+    Ok(())
+}

@@ -1,0 +1,84 @@
+//! The reader of command lines.
+
+ghost use Rattle.std.specs.Prelude.{◌≡◌, [], IfOk, IfErr, IfSome, IfNone, map, string_bytes};
+ghost use Rattle.clap.specs.Words.{FailsBy, app_of, fault_of, found_of, rows_of, subcommand_of, subcommand_rows_of};
+ghost use Rattle.command_line.specs.Commands.{office_app};
+ghost use Rattle.command_line.specs.Meaning.{AsksFor, IsCommand};
+ghost use Rattle.command_line.specs.Refusals.{IsRefused, NamesNoCommand, NoneAskedFor};
+
+use crate::check::{check_command, check_of};
+use crate::command::Command;
+use crate::execve::{execve_command, execve_of};
+use crate::fault::WordsFault;
+use crate::parts::{described, with_command};
+use clap::ArgMatches;
+use std::alloc::{AllocError, Global};
+
+const ABOUT: &str = "A review office for container sandbox profiles";
+
+const EXAMPLES: &str =
+    "Without a command it is the trial desk: it answers the request lines of standard input, one answer
+to a line, with an office in memory.
+
+Examples:
+  office check examples/web.json
+  office execve examples/web.json --file-permitted CAP_NET_RAW --file-effective
+  office < examples/first-path.jsonl";
+
+// The program and its commands.
+#[tactic(auto, unfolding(crate::specs::Commands::office_app))]
+fn office_command<'a>(alloc: Global) -> Result<clap::Command<'a>, AllocError>
+    ensures { IfOk result (λ c. app_of c ≡ office_app) }
+{
+    let office = described(clap::Command::new(alloc, "office"), ABOUT, EXAMPLES);
+    let office = with_command(office, check_command(alloc)?)?;
+    with_command(office, execve_command(alloc)?)
+}
+
+// What `clap` makes of the words.
+fn matches_of<'w>(alloc: Global, words: &'w [String]) -> Result<ArgMatches<'w>, clap::Error>
+    ensures rows { IfOk result (λ m. subcommand_rows_of m ≡ subcommand_of office_app (map string_bytes words.entry.now)) }
+    ensures kinds { FailsBy (fault_of office_app (map string_bytes words.entry.now)) result }
+{
+    let command = office_command(alloc)?;
+    command.try_get_matches_from(words)
+}
+
+// What the command of this name asks for with these values; none without what it needs.
+fn command_of<'w>(name: &str, given: &ArgMatches<'w>) -> Option<Command<'w>>
+    ensures command { IfSome result (AsksFor name.now (rows_of (found_of given.now))) }
+    ensures none { IfNone result (NoneAskedFor name.now (rows_of (found_of given.now))) }
+{
+    match name {
+        "check" => check_of(given),
+        "execve" => execve_of(given),
+        _ => None,
+    }
+}
+
+/// What the words of a command line ask for, the first of them being the program's name.
+///
+/// # Errors
+///
+/// Help or a refusal, each where `clap` gives it; `NoMemory` only where memory was refused.
+pub fn read_words<'w>(alloc: Global, words: &'w [String]) -> Result<Command<'w>, WordsFault>
+    ensures command { IfOk result (IsCommand (subcommand_of office_app (map string_bytes words.entry.now))) }
+    ensures accepted { IfOk result (λ _. fault_of office_app (map string_bytes words.entry.now) ≡ []) }
+    ensures refused { IfErr result (IsRefused (fault_of office_app (map string_bytes words.entry.now))
+        (subcommand_of office_app (map string_bytes words.entry.now))) }
+{
+    let matches = match matches_of(alloc, words) {
+        Ok(matches) => matches,
+        Err(error) => return Err(WordsFault::of_error(alloc, &error)),
+    };
+    let Some((name, given)) = matches.subcommand() else {
+        return Ok(Command::Trial);
+    };
+    match command_of(name, given) {
+        Some(command) => Ok(command),
+        None => {
+            let text = String::from_str(alloc, "error: a value is missing\n")?;
+            Err(WordsFault::Refused(text))
+        }
+    }
+}

@@ -1,0 +1,63 @@
+-- What the bytes of a file read as.
+use Rattle.std.proofs.Common.{◌≡◌, ◌∙◌, ℕ, ◌+◌, ◌<◌, ◌≤◌, ◌⊎◌, List, [], ◌++◌, Option, None, Some, IfSome, Result, Ok, Err, length, length-append, append-nil, take, refl, sym, ap, arith, inl, inr, lt-ltb}
+use Rattle.std.proofs.lemmas.List.{take-append-le}
+use Rattle.std.specs.Io.KnownBytes.{Consumes, IsAtEnd}
+use Rattle.std.proofs.lemmas.Bool.{cases_lt}
+use Rattle.counted_io.specs.declared.step.ReadStep.{ReadStep}
+use Rattle.counted_io.specs.declared.step.ReadStep.TheVariants.{Bytes, End, Interrupted, Failed}
+use Rattle.counted_io.specs.Steps.{StepConsumes}
+use Rattle.profile_text.specs.declared.fault.DocFault.{DocFault}
+use Rattle.profile_text.specs.declared.fault.DocFault.TheVariants.{TooLong, NoMemory}
+use Rattle.profile_text.specs.declared.profile.Profile.{Profile}
+use Rattle.profile_text.specs.Reading.{Gives, reading_of, most_bytes}
+use Rattle.profile_commands.specs.declared.fault.CommandFault.{CommandFault}
+use Rattle.profile_commands.specs.Refusal.{IsReadAs, IsRefusalOf, RefusesAs}
+
+-- what was consumed stands at the front of a longer buffer too
+pub step_widened : (old new : Option (List ℕ)) (step : ReadStep) (part rest : List ℕ) → StepConsumes old new step part → StepConsumes old new step (part ++ rest)
+step_widened old new (Bytes n) part rest (some, fits, bytes) =
+    (some, omega (arith, length-append part rest), rw (take-append-le n part rest fits) bytes)
+step_widened old new End part rest step = step
+step_widened old new Interrupted part rest step = step
+step_widened old new Failed part rest step = step
+
+-- bytes that are too many are no document
+too_long : (bytes : List ℕ) → most_bytes < length bytes → reading_of bytes ≡ Err TooLong
+unfolding reading_of
+too_long bytes more = rw (lt-ltb most_bytes (length bytes) more) refl
+
+-- what was read of a file, all of it or its first 262,145 bytes, reads as the file does
+same_reading : (all bytes rest : List ℕ) → all ≡ bytes ++ rest → (length bytes < 262145 → rest ≡ []) → reading_of all ≡ reading_of bytes
+same_reading all bytes rest parts end = elim (cases_lt (length bytes) 262145) [
+  | inl short ↦ ap reading_of (parts ∙ ap (λ l. bytes ++ l) (end short) ∙ append-nil bytes)
+  | inr long ↦
+    let more : most_bytes < length bytes = omega arith in
+    let all_more : most_bytes < length all = omega (arith, ap length parts, length-append bytes rest) in
+    too_long all all_more ∙ sym (too_long bytes more)
+]
+
+-- the same of a reader whose bytes are known
+pub read_whole : (old new : Option (List ℕ)) (bytes : List ℕ) → Consumes old new bytes → (length bytes < 262145 → IsAtEnd new)
+    → IfSome old (λ all. reading_of all ≡ reading_of bytes)
+read_whole None new bytes consumed end = tt
+read_whole (Some all) None bytes consumed end = absurd consumed
+read_whole (Some all) (Some rest) bytes consumed end = same_reading all bytes rest consumed end
+
+-- the profile that was read of the bytes is that of the file
+pub read_as : (old : Option (List ℕ)) (bytes : List ℕ) (profile : Profile) → IfSome old (λ all. reading_of all ≡ reading_of bytes)
+    → reading_of bytes ≡ Ok profile → IfSome old (λ all. IsReadAs all (Ok profile))
+read_as None bytes profile same reads = tt
+read_as (Some all) bytes profile same reads = same ∙ reads
+
+-- the fault of the bytes is told as it must be, and is that of the file
+refuses_as : (all bytes : List ℕ) (fault : DocFault) (refusal : CommandFault) → reading_of all ≡ reading_of bytes
+    → Gives {X = Profile} (Err fault) (reading_of bytes) → IsRefusalOf fault refusal → RefusesAs all refusal
+refuses_as all bytes fault refusal same gives (inl (memory, told)) = rw told tt
+refuses_as all bytes fault refusal same (inl memory) (inr (other, told)) = absurd (other memory)
+refuses_as all bytes fault refusal same (inr reads) (inr (other, told)) = rw told (same ∙ reads)
+
+pub refused_as : (old : Option (List ℕ)) (bytes : List ℕ) (fault : DocFault) (refusal : CommandFault)
+    → IfSome old (λ all. reading_of all ≡ reading_of bytes) → Gives {X = Profile} (Err fault) (reading_of bytes) → IsRefusalOf fault refusal
+    → IfSome old (λ all. IsReadAs all (Err refusal))
+refused_as None bytes fault refusal same gives told = tt
+refused_as (Some all) bytes fault refusal same gives told = refuses_as all bytes fault refusal same gives told

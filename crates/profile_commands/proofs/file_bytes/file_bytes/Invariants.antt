@@ -1,0 +1,12 @@
+use Rattle.std.proofs.Common.{◌≡◌, ◌+◌, ◌<◌, length}
+use Rattle.std.specs.Io.KnownBytes.{Consumes}
+use Rattle.profile_commands.proofs.file_bytes.file_bytes.Given as goal
+
+abbrev pub invariant-loop-call : goal.invariant-loop-call
+invariant-loop-call g l =
+    record {
+      bytes : Consumes (g.R.Read.remaining l.fn.reader.inner) (g.R.Read.remaining l.reader.inner) l.bytes.items;
+      room : length l.bytes.items < 262145;
+      calls : l.reader.calls ≡ l.fn.reader.calls + l.call;
+      faults : l.reader.faults ≡ l.fn.reader.faults;
+    }

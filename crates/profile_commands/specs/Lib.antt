@@ -1,0 +1,4 @@
+pub mod Refusal
+pub mod Lists
+pub mod Texts
+pub mod Executions

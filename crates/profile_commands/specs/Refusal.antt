@@ -1,0 +1,45 @@
+-- What a command says of the bytes of a file.
+use Rattle.std.specs.Prelude.{◌≡◌, ◌≢◌, ◌⊎◌, ◌≤◌, ℕ, List, [], ◌∷◌, ◌++◌, Result, Ok, Err, String, string_bytes}
+use Rattle.std.specs.declared.alloc.Global.{Global}
+use Rattle.counted_io.specs.declared.step.ReadStep.{ReadStep}
+use Rattle.counted_io.specs.declared.step.ReadStep.TheVariants.{Bytes}
+use Rattle.profile_text.specs.declared.fault.DocFault.{DocFault}
+use Rattle.profile_text.specs.declared.fault.DocFault.TheVariants as faults
+use Rattle.profile_text.specs.declared.profile.Profile.{Profile}
+use Rattle.profile_text.specs.Reading.{reading_of}
+use Rattle.profile_text.specs.Text.{text_of}
+use Rattle.profile_commands.specs.declared.fault.CommandFault.{CommandFault}
+use Rattle.profile_commands.specs.declared.fault.CommandFault.TheVariants.{Read, TooManyReads, Document, NoMemory}
+use Rattle.profile_commands.specs.declared.file_bytes.Unread.{Unread}
+use Rattle.profile_commands.specs.declared.file_bytes.Unread.TheVariants as unread
+
+-- no more than this many bytes were read
+abbrev pub IsWithin : ℕ → ReadStep → Type 0
+IsWithin most (Bytes n) = n ≤ most
+IsWithin most _ = Unit {0}
+
+-- a fault of a document is told as it is, but want of memory is no fault of it
+abbrev pub IsRefusalOf : DocFault → CommandFault → Type 0
+IsRefusalOf fault refusal =
+    ((fault ≡ faults.NoMemory) × (refusal ≡ NoMemory)) ⊎ ((fault ≢ faults.NoMemory) × (refusal ≡ Document fault))
+
+-- what is told of bytes that weren't read
+abbrev pub refusal_of_unread : Unread → CommandFault
+refusal_of_unread unread.Failed = Read
+refusal_of_unread unread.TooManyReads = TooManyReads
+refusal_of_unread unread.NoMemory = NoMemory
+
+-- where a fault of the document is told, the bytes read as that fault
+abbrev pub RefusesAs : List ℕ → CommandFault → Type 0
+RefusesAs bytes (Document fault) = reading_of bytes ≡ Err fault
+RefusesAs bytes _ = Unit {0}
+
+-- the profile is what the bytes read as, or the fault is theirs; the reader or memory may have failed in place of both
+abbrev pub IsReadAs : List ℕ → Result Profile CommandFault → Type 0
+IsReadAs bytes (Ok profile) = reading_of bytes ≡ Ok profile
+IsReadAs bytes (Err fault) = RefusesAs bytes fault
+
+-- the text is the canonical one of what the bytes read as, with a line feed
+abbrev pub IsChecked : List ℕ → Result (String Global) CommandFault → Type 0
+IsChecked bytes (Ok text) = (profile : Profile) × (reading_of bytes ≡ Ok profile) × (string_bytes text ≡ text_of profile ++ 10 ∷ [])
+IsChecked bytes (Err fault) = RefusesAs bytes fault
