@@ -84,14 +84,38 @@ fn run_founding<'a, S: Alter>(
     run_all(
         conn,
         &[
-            Statement { sql: CREATE_OFFICE, params: none },
-            Statement { sql: CREATE_USERS, params: none },
-            Statement { sql: CREATE_REVISIONS, params: none },
-            Statement { sql: CREATE_VOTES, params: none },
-            Statement { sql: CREATE_BASELINES, params: none },
-            Statement { sql: CREATE_HOLDS, params: none },
-            Statement { sql: INSERT_OFFICE, params: office },
-            Statement { sql: INSERT_USER, params: user },
+            Statement {
+                sql: CREATE_OFFICE,
+                params: none,
+            },
+            Statement {
+                sql: CREATE_USERS,
+                params: none,
+            },
+            Statement {
+                sql: CREATE_REVISIONS,
+                params: none,
+            },
+            Statement {
+                sql: CREATE_VOTES,
+                params: none,
+            },
+            Statement {
+                sql: CREATE_BASELINES,
+                params: none,
+            },
+            Statement {
+                sql: CREATE_HOLDS,
+                params: none,
+            },
+            Statement {
+                sql: INSERT_OFFICE,
+                params: office,
+            },
+            Statement {
+                sql: INSERT_USER,
+                params: user,
+            },
         ],
     )
 }
@@ -119,7 +143,12 @@ fn make_office<S: Alter>(
     let team = team.as_str();
     let digest = bytes_of(digest);
     let bits = bits_of(listed);
-    match run_founding(conn, params![], params![bits], params![name, team, 1u32, digest]) {
+    match run_founding(
+        conn,
+        params![],
+        params![bits],
+        params![name, team, 1u32, digest],
+    ) {
         Ok(()) => Ok(()),
         Err(error) => Err(fault_of(error)),
     }

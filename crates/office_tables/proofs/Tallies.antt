@@ -73,12 +73,12 @@ module _ (t : Tables) (p : ProfileName) (number : ℕ) where
   once_voters [] rising = tt
   once_voters (row ∷ rows) rising = (
     (λ h.
-    let it = has_voter rows row.voter h in
-    let place = place_of rows it.0 it.1 in
-    let less = rising 0 (suc place.0) row (omega arith) (omega arith) in
-    let same : name_cmp row.voter row.voter ≡ Less = subst (λ v. name_cmp row.voter v ≡ Less) (ap (λ (x : VoteRow). x.voter) (place.2 row) ∙ sym it.2) less in
-    let apart : Less ≡ Equal = sym same ∙ tied_itself nat_list_cmp_total row.voter in
-    absurd cc),
+        let it = has_voter rows row.voter h in
+        let place = place_of rows it.0 it.1 in
+        let less = rising 0 (suc place.0) row (omega arith) (omega arith) in
+        let same : name_cmp row.voter row.voter ≡ Less = subst (λ v. name_cmp row.voter v ≡ Less) (ap (λ (x : VoteRow). x.voter) (place.2 row) ∙ sym it.2) less in
+        let apart : Less ≡ Equal = sym same ∙ tied_itself nat_list_cmp_total row.voter in
+        absurd cc),
     once_voters rows (λ i j d before below. rising (suc i) (suc j) d (omega arith) (omega arith)),
   )
 
@@ -86,12 +86,12 @@ module _ (t : Tables) (p : ProfileName) (number : ℕ) where
   voters_of rows standing = record {
     once = once_voters rows standing.rising;
     each = λ name h.
-    let it = has_voter rows name h in
-    let row = standing.each it.0 (contains_had rows it.0 it.1) in
-    (row.vote, subst (λ v. t.votes p number v ≡ Some row.vote) (sym it.2) row.there);
+        let it = has_voter rows name h in
+        let row = standing.each it.0 (contains_had rows it.0 it.1) in
+        (row.vote, subst (λ v. t.votes p number v ≡ Some row.vote) (sym it.2) row.there);
     all = λ name v there.
-    let row = standing_vote name v (t.users name) in
-    voter_has rows row (has_contained rows row (standing.all row (record { vote = v; there = there; stands = refl })));
+        let row = standing_vote name v (t.users name) in
+        voter_has rows row (has_contained rows row (standing.all row (record { vote = v; there = there; stands = refl })));
   }
 
   same_voters : (xs ys : List (List ℕ)) → AreVoters xs → AreVoters ys → IsPermutation xs ys
