@@ -68,7 +68,12 @@ impl CallName {
     }
 }
 
+/// Its name.
 impl fmt::Display for CallName {
+    ghost use Rattle.std.specs.Prelude.{Some};
+
+    ghost output = { λ name. Some name };
+
     fn fmt<W: fmt::Write>(&self, f: &mut fmt::Formatter<W>) -> fmt::Result {
         f.write_str(self.as_str())
     }
