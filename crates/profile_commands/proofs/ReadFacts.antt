@@ -31,9 +31,9 @@ same_reading : (all bytes rest : List ℕ) → all ≡ bytes ++ rest → (length
 same_reading all bytes rest parts end = elim (cases_lt (length bytes) 262145) [
   | inl short ↦ ap reading_of (parts ∙ ap (λ l. bytes ++ l) (end short) ∙ append-nil bytes)
   | inr long ↦
-    let more : most_bytes < length bytes = omega arith in
-    let all_more : most_bytes < length all = omega (arith, ap length parts, length-append bytes rest) in
-    too_long all all_more ∙ sym (too_long bytes more)
+      let more : most_bytes < length bytes = omega arith in
+      let all_more : most_bytes < length all = omega (arith, ap length parts, length-append bytes rest) in
+      too_long all all_more ∙ sym (too_long bytes more)
 ]
 
 -- the same of a reader whose bytes are known

@@ -39,7 +39,7 @@ execution_of words =
     if takes_file words
     then (if words.root then Err RootTakesNoFile
     else file_given (set_given (option_map (λ s. s.now) words.file_permitted))
-        (set_given (option_map (λ s. s.now) words.file_inheritable)) words.file_effective)
+    (set_given (option_map (λ s. s.now) words.file_inheritable)) words.file_effective)
     else (if words.root then Ok ByRoot else Ok (OfFile Plain))
 
 -- the outcome is the lines of this state
