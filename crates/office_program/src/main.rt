@@ -3,10 +3,9 @@
 #![tactic(auto)]
 
 mod run;
-mod trial;
-
 #[cfg(test)]
 mod tests;
+mod trial;
 
 use crate::run::run_words;
 use std::io::ErrorKind;

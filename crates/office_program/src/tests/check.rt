@@ -58,9 +58,21 @@ fn a_file_of_262145_bytes_is_too_long(rt: HostRuntime) -> Result<(), Fail> {
     bytes.extend_from_slice(b"{\"capabilities\":{}}")?;
     assert_said(&rt, &said_of(alloc, &bytes, &CHECK)?, 0, closed, "");
     bytes.push(b' ')?;
-    assert_said(&rt, &said_of(alloc, &bytes, &CHECK)?, 1, "", "office: too-long\n");
+    assert_said(
+        &rt,
+        &said_of(alloc, &bytes, &CHECK)?,
+        1,
+        "",
+        "office: too-long\n",
+    );
     bytes.push(b' ')?;
-    assert_said(&rt, &said_of(alloc, &bytes, &CHECK)?, 1, "", "office: too-long\n");
+    assert_said(
+        &rt,
+        &said_of(alloc, &bytes, &CHECK)?,
+        1,
+        "",
+        "office: too-long\n",
+    );
     Ok(())
 }
 

@@ -77,11 +77,21 @@ fn refusals_come_in_their_order(rt: HostRuntime) -> Result<(), Fail> {
             "office: root-takes-no-file\n",
         ),
         (
-            &["execve", none, "--file-effective", "--file-permitted=CAP_FLY"],
+            &[
+                "execve",
+                none,
+                "--file-effective",
+                "--file-permitted=CAP_FLY",
+            ],
             "office: unknown-capability\n",
         ),
         (
-            &["execve", none, "--file-permitted=CAP_KILL", "--file-inheritable=KILL"],
+            &[
+                "execve",
+                none,
+                "--file-permitted=CAP_KILL",
+                "--file-inheritable=KILL",
+            ],
             "office: unknown-capability\n",
         ),
         (
