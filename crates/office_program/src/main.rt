@@ -1,39 +1,44 @@
-//! The program `office`: without words, a trial desk over standard input and output.
+//! The program `office`: without words, a trial desk over standard input and output; with words, the command that they
+//! ask for.
 #![tactic(auto)]
 
+mod run;
+#[cfg(test)]
+mod tests;
 mod trial;
 
-use crate::trial::{Trouble, trial_office};
-use counted_io::Counted;
-use line_desk::desk;
+use crate::run::run_words;
+use std::io::ErrorKind;
 use std::process::ExitCode;
 use std::{env, io};
 
-// Serves the lines of standard input at the trial desk.
-fn serve(rt: &HostRuntime) -> Result<(), Trouble> {
-    let mut office = trial_office(rt.alloc())?;
-    let mut reader = Counted::new(rt.reader());
-    let mut writer = Counted::new(io::writer(rt));
-    desk(&mut office, rt.alloc(), &mut reader, &mut writer).map_err(Trouble::Desk)
+// The words that the program was given, the first of them being its name.
+fn words_given(rt: &HostRuntime) -> io::Result<Vec<String>> {
+    let words = env::args(rt)?.collect(rt.alloc())?;
+    Ok(words)
 }
 
-// Whether the program was given a word.
-fn has_words(rt: &HostRuntime) -> bool {
-    match env::args(rt) {
-        Ok(words) => words.skip(1).next().is_some(),
-        Err(_) => true,
+// Says why there are no words, and with which status that ends the program.
+fn without_words(rt: &HostRuntime, error: &io::Error) -> u8 {
+    if matches!(error.kind(), ErrorKind::OutOfMemory) {
+        let _ = eprintln!(rt; "office: memory");
+        return 1;
     }
+    let _ = eprintln!(rt; "error: a word of the command line is not UTF-8");
+    2
 }
 
 fn main(rt: HostRuntime) -> ExitCode {
-    if has_words(&rt) {
-        return ExitCode::from(2);
-    }
-    match serve(&rt) {
-        Ok(()) => ExitCode::SUCCESS,
-        Err(trouble) => {
-            let _ = eprintln!(rt; "office: {}", trouble.word());
-            ExitCode::from(1)
-        }
-    }
+    let status = match words_given(&rt) {
+        Ok(words) => run_words(
+            &rt,
+            rt.alloc(),
+            &words,
+            &mut rt.reader(),
+            &mut io::writer(&rt),
+            &mut rt.stderr(),
+        ),
+        Err(error) => without_words(&rt, &error),
+    };
+    ExitCode::from(status)
 }

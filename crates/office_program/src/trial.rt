@@ -1,51 +1,62 @@
-//! The office of the trial desk.
+//! The trial desk.
 
 use cap_sets::Caps;
-use line_desk::DeskFault;
+use counted_io::Counted;
+use line_desk::{DeskFault, desk};
 use office_desk::Office;
 use office_tables::StoreFault;
+use profile_commands::CommandFault;
 use profile_text::digest;
 use review_policy::{Word, WordFault};
 use std::alloc::Global;
+use std::io::{Read, Write};
 
-/// Why the trial desk ended before its input did.
+// The office was not founded, for want of memory.
 #[derive(Clone, Copy, Debug, PartialEq, Eq)]
-pub(crate) enum Trouble {
-    /// The office was not founded, for want of memory.
-    Found,
-    /// The desk stopped.
-    Desk(DeskFault),
-}
+struct NotFounded;
 
-impl Trouble {
-    /// The word for it on standard error.
-    pub(crate) fn word(self) -> &'static str {
-        match self {
-            Trouble::Found | Trouble::Desk(DeskFault::NoMemory { .. }) => "memory",
-            Trouble::Desk(DeskFault::Read { .. }) => "read",
-            Trouble::Desk(DeskFault::Write { .. }) => "write",
-            Trouble::Desk(DeskFault::TooManyReads { .. }) => "too-many-reads",
-        }
+impl From<StoreFault> for NotFounded {
+    fn from(_fault: StoreFault) -> NotFounded {
+        NotFounded
     }
 }
 
-impl From<StoreFault> for Trouble {
-    fn from(_fault: StoreFault) -> Trouble {
-        Trouble::Found
+impl From<WordFault> for NotFounded {
+    fn from(_fault: WordFault) -> NotFounded {
+        NotFounded
     }
 }
 
-impl From<WordFault> for Trouble {
-    fn from(_fault: WordFault) -> Trouble {
-        Trouble::Found
-    }
-}
-
-/// The office that the trial desk begins with: its first user is root of the team office, a registrar with the token
-/// abc, and its one listed capability is CAP_SYS_ADMIN.
-pub(crate) fn trial_office(alloc: Global) -> Result<Office, Trouble> {
+// The office that the trial desk begins with: its first user is root of the team office, a registrar with the token
+// abc, and its one listed capability is CAP_SYS_ADMIN.
+fn trial_office(alloc: Global) -> Result<Office, NotFounded> {
     let name = Word::new(alloc, "root")?;
     let team = Word::new(alloc, "office")?;
     let listed = Caps::from_name("CAP_SYS_ADMIN").unwrap_or(Caps::empty());
-    Ok(Office::found(alloc, name, team, digest(b"abc"), listed)?)
+    let office = Office::found(alloc, name, team, digest(b"abc"), listed)?;
+    Ok(office)
+}
+
+// What is said of a desk that stopped.
+fn said_of(fault: DeskFault) -> CommandFault {
+    match fault {
+        DeskFault::Read { .. } => CommandFault::Read,
+        DeskFault::Write { .. } => CommandFault::Write,
+        DeskFault::TooManyReads { .. } => CommandFault::TooManyReads,
+        DeskFault::NoMemory { .. } => CommandFault::NoMemory,
+    }
+}
+
+/// Answers the lines of a reader at the trial desk.
+pub(crate) fn serve_trial<R: Read, W: Write>(
+    alloc: Global,
+    input: &mut R,
+    output: &mut W,
+) -> Result<(), CommandFault> {
+    let Ok(mut office) = trial_office(alloc) else {
+        return Err(CommandFault::NoMemory);
+    };
+    let mut reader = Counted::new(input);
+    let mut writer = Counted::new(output);
+    desk(&mut office, alloc, &mut reader, &mut writer).map_err(said_of)
 }

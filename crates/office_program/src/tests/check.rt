@@ -1,0 +1,105 @@
+use crate::tests::said::{assert_said, said_of, said_over};
+use crate::tests::shelf::{PATH, Shelf, Then};
+use std::test::Fail;
+
+const CHECK: [&str; 2] = ["check", PATH];
+
+#[test]
+fn check_prints_the_canonical_text_and_that_of_it_is_the_same(rt: HostRuntime) -> Result<(), Fail> {
+    let alloc = rt.alloc();
+    let document =
+        "{\"seccomp\":null,\n \"capabilities\":{\"effective\":[\"CAP_KILL\",\"CAP_CHOWN\",\"CAP_KILL\"],\"permitted\":[\"CAP_CHOWN\",\"CAP_KILL\"]}}\n";
+    let canonical =
+        "{\"capabilities\":{\"ambient\":[],\"bounding\":[],\"effective\":[\"CAP_CHOWN\",\"CAP_KILL\"],\"inheritable\":[],\"permitted\":[\"CAP_CHOWN\",\"CAP_KILL\"]}}\n";
+    for text in [document, canonical] {
+        let said = said_of(alloc, text.as_bytes(), &CHECK)?;
+        assert_said(&rt, &said, 0, canonical, "");
+    }
+    Ok(())
+}
+
+#[test]
+fn what_is_no_document_is_refused_by_its_fault(rt: HostRuntime) -> Result<(), Fail> {
+    let alloc = rt.alloc();
+    for (document, errors) in [
+        ("", "office: not-json\n"),
+        ("{}", "office: wrong-shape /capabilities\n"),
+        ("[]", "office: wrong-shape /\n"),
+        (
+            "{\"seccomp\":{},\"capabilities\":{\"x\":1}}",
+            "office: unknown-member /capabilities/x\n",
+        ),
+        (
+            "{\"capabilities\":{\"effective\":[\"CAP_FLY\"]}}",
+            "office: unknown-word /capabilities/effective/0\n",
+        ),
+        (
+            "{\"capabilities\":{\"effective\":[\"CAP_KILL\"]}}",
+            "office: effective-outside 5\n",
+        ),
+        (
+            "{\"capabilities\":{\"ambient\":[\"CAP_NET_BIND_SERVICE\"],\"permitted\":[\"CAP_NET_BIND_SERVICE\"]}}",
+            "office: ambient-outside 10\n",
+        ),
+    ] {
+        let said = said_of(alloc, document.as_bytes(), &CHECK)?;
+        assert_said(&rt, &said, 1, "", errors);
+    }
+    Ok(())
+}
+
+#[test]
+fn a_file_of_262145_bytes_is_too_long(rt: HostRuntime) -> Result<(), Fail> {
+    let alloc = rt.alloc();
+    let closed =
+        "{\"capabilities\":{\"ambient\":[],\"bounding\":[],\"effective\":[],\"inheritable\":[],\"permitted\":[]}}\n";
+    // Spaces before a document of 19 bytes.
+    let mut bytes = vec![in alloc; b' '; 262_125]?;
+    bytes.extend_from_slice(b"{\"capabilities\":{}}")?;
+    assert_said(&rt, &said_of(alloc, &bytes, &CHECK)?, 0, closed, "");
+    bytes.push(b' ')?;
+    assert_said(
+        &rt,
+        &said_of(alloc, &bytes, &CHECK)?,
+        1,
+        "",
+        "office: too-long\n",
+    );
+    bytes.push(b' ')?;
+    assert_said(
+        &rt,
+        &said_of(alloc, &bytes, &CHECK)?,
+        1,
+        "",
+        "office: too-long\n",
+    );
+    Ok(())
+}
+
+#[test]
+fn a_file_that_fails_midway_or_never_ends_is_refused(rt: HostRuntime) -> Result<(), Fail> {
+    let alloc = rt.alloc();
+    for (then, errors) in [
+        (Then::Fails, "office: read\n"),
+        (Then::IsInterrupted, "office: too-many-reads\n"),
+    ] {
+        let bytes: &[u8] = b"{\"capabilities\":{}}";
+        let said = said_over(&Shelf { bytes, then }, alloc, &CHECK)?;
+        assert_said(&rt, &said, 1, "", errors);
+    }
+    Ok(())
+}
+
+#[test]
+fn a_path_with_no_file_and_a_folder_are_refused(rt: HostRuntime) -> Result<(), Fail> {
+    let alloc = rt.alloc();
+    for (path, errors) in [
+        ("/nowhere/web.json", "office: read\n"),
+        ("/", "office: read\n"),
+        ("/dev/null", "office: not-json\n"),
+    ] {
+        let said = said_over(&rt, alloc, &["check", path])?;
+        assert_said(&rt, &said, 1, "", errors);
+    }
+    Ok(())
+}
