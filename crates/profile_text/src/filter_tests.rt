@@ -249,19 +249,30 @@ fn many_entries(alloc: Global, count: usize) -> Result<String, Fail> {
     Ok(filter)
 }
 
-// The time for twice the entries is to be a little more than twice the time: each line shows a count and its time.
+// A document of no capabilities and this filter, of so many bytes by spaces at its end.
+fn padded(alloc: Global, filter: &str, length: usize) -> Result<String, Fail> {
+    let mut document = format!(in alloc; "{{\"capabilities\":{{}},\"seccomp\":{filter}}}")?;
+    for _ in document.len()..length {
+        document.push(' ')?;
+    }
+    Ok(document)
+}
+
+// The longest document has 2,048 entries in 262,144 bytes. The time for twice the entries is to be a little more than twice
+// the time: each line shows a count and its time.
 #[test]
 fn the_time_to_read_and_print_is_printed(rt: HostRuntime) -> Result<(), Fail> {
     let alloc = rt.alloc();
-    for count in [512, 1024, 2048] {
+    for (count, length) in [(512, 65_536), (1_024, 131_072), (2_048, 262_144)] {
         let filter = many_entries(alloc, count)?;
+        let document = padded(alloc, filter.as_str(), length)?;
+        assert_eq!(rt; document.len(), length);
         let start = Instant::now(&rt)?;
-        let text = told_of(alloc, filter.as_str())?;
+        let text = told(alloc, document.as_bytes())?;
         let time = start.elapsed(&rt)?;
         assert_eq!(rt; text.as_str(), canonical(alloc, filter.as_str())?.as_str());
         println!(rt;
-            "{count} entries in {} bytes: {} microseconds",
-            text.len(),
+            "{count} entries in {length} bytes: {} microseconds",
             time.as_micros()
         )?;
     }

@@ -1,5 +1,6 @@
 use crate::tests::said::{assert_said, said_of, said_over};
 use crate::tests::shelf::{PATH, Shelf, Then};
+use std::alloc::Global;
 use std::test::Fail;
 
 const CHECK: [&str; 2] = ["check", PATH];
@@ -14,6 +15,64 @@ fn check_prints_the_canonical_text_and_that_of_it_is_the_same(rt: HostRuntime) -
     for text in [document, canonical] {
         let said = said_of(alloc, text.as_bytes(), &CHECK)?;
         assert_said(&rt, &said, 0, canonical, "");
+    }
+    Ok(())
+}
+
+#[test]
+fn a_filter_is_printed_in_its_canonical_text(rt: HostRuntime) -> Result<(), Fail> {
+    let alloc = rt.alloc();
+    let document =
+        "{\"seccomp\":{\"defaultAction\":\"SCMP_ACT_KILL\",\"syscalls\":[{\"names\":[\"clone3\"],\"action\":\"SCMP_ACT_ERRNO\",\"args\":null}]},\"capabilities\":{\"effective\":[\"CAP_KILL\",\"CAP_CHOWN\",\"CAP_KILL\"],\"permitted\":[\"CAP_CHOWN\",\"CAP_KILL\"]}}";
+    let canonical =
+        "{\"capabilities\":{\"ambient\":[],\"bounding\":[],\"effective\":[\"CAP_CHOWN\",\"CAP_KILL\"],\"inheritable\":[],\"permitted\":[\"CAP_CHOWN\",\"CAP_KILL\"]},\"seccomp\":{\"defaultAction\":\"SCMP_ACT_KILL_THREAD\",\"syscalls\":[{\"action\":\"SCMP_ACT_ERRNO\",\"errnoRet\":1,\"names\":[\"clone3\"]}]}}\n";
+    for text in [document, canonical] {
+        let said = said_of(alloc, text.as_bytes(), &CHECK)?;
+        assert_said(&rt, &said, 0, canonical, "");
+    }
+    Ok(())
+}
+
+// A document of no capabilities and the default KILL_PROCESS, with these further members of its filter.
+fn with_filter(alloc: Global, members: &str) -> Result<String, Fail> {
+    Ok(format!(in alloc;
+        "{{\"capabilities\":{{}},\"seccomp\":{{\"defaultAction\":\"SCMP_ACT_KILL_PROCESS\"{members}}}}}"
+    )?)
+}
+
+#[test]
+fn what_is_no_filter_is_refused_by_its_fault(rt: HostRuntime) -> Result<(), Fail> {
+    let alloc = rt.alloc();
+    for (members, errors) in [
+        (
+            ",\"listenerPath\":\"/run/a\"",
+            "office: not-in-profile /seccomp/listenerPath\n",
+        ),
+        (
+            ",\"defaultErrnoRet\":-1",
+            "office: bad-number /seccomp/defaultErrnoRet\n",
+        ),
+        (",\"defaultErrnoRet\":1", "office: errno-not-taken\n"),
+        (
+            ",\"syscalls\":[{\"names\":[],\"action\":\"SCMP_ACT_ALLOW\"}]",
+            "office: no-names\n",
+        ),
+        (
+            ",\"syscalls\":[{\"names\":[\"Read\"],\"action\":\"SCMP_ACT_ALLOW\"}]",
+            "office: bad-call-name\n",
+        ),
+        (
+            ",\"syscalls\":[{\"names\":[\"read\"],\"action\":\"SCMP_ACT_ERRNO\",\"errnoRet\":65536}]",
+            "office: errno-too-large\n",
+        ),
+        (
+            ",\"syscalls\":[{\"names\":[\"read\"],\"action\":\"SCMP_ACT_ALLOW\"},{\"names\":[\"read\"],\"action\":\"SCMP_ACT_LOG\"}]",
+            "office: two-actions read\n",
+        ),
+    ] {
+        let document = with_filter(alloc, members)?;
+        let said = said_of(alloc, document.as_bytes(), &CHECK)?;
+        assert_said(&rt, &said, 1, "", errors);
     }
     Ok(())
 }
