@@ -2,7 +2,7 @@
 use Rattle.std.proofs.Common.{◌≡◌, ◌∙◌, ap, refl, sym, List, [], ◌∷◌, Bool, true, false, cond, ◌||◌, Some, None, map, inl, inr}
 use Rattle.std.specs.Prelude.{find, filter}
 use Rattle.std.specs.List.{list_all, list_any, flat_map}
-use Rattle.std.proofs.lemmas.Bool.{cases_Bool, cond-true, cond-false, and_parts, and_from, or_cases, or_left, or_right, or_from, or_parts}
+use Rattle.std.proofs.lemmas.Bool.{cases_Bool, cond-true, cond-false, and_parts, or_cases, or_left, or_right, or_from, or_parts}
 use Rattle.std.proofs.lemmas.List.Folds.{list_any-append}
 
 module _ {X : Type 0} where
@@ -34,13 +34,6 @@ module _ {X : Type 0} where
         | inr gone ↦ or_from (q y) (list_any q ys) gone (none_passes q ys (sym (cond-false (q y) (Some y) (find q ys) gone) ∙ none))
       ]
 
-  -- where none passes nothing is found
-  pub find-none : (q : X → Bool) (xs : List X) → list_any q xs ≡ false → find q xs ≡ None
-  find-none q [] none = refl
-  find-none q (y ∷ ys) none =
-      let parts = or_parts (q y) (list_any q ys) none in
-      cond-false (q y) (Some y) (find q ys) parts.0 ∙ find-none q ys parts.1
-
   -- some element passes a weaker test
   pub list_any-weaker : (p q : X → Bool) → ((x : X) → p x ≡ true → q x ≡ true) → (xs : List X) → list_any p xs ≡ true → list_any q xs ≡ true
   list_any-weaker p q weaker [] some = some
@@ -48,22 +41,6 @@ module _ {X : Type 0} where
       elim (or_cases (p x) (list_any p xs) some) as (λ _. list_any q (x ∷ xs) ≡ true) [
         | inl here ↦ or_left (q x) (list_any q xs) (weaker x here)
         | inr later ↦ or_right (q x) (list_any q xs) (list_any-weaker p q weaker xs later)
-      ]
-
-  pub list_all-weaker : (p q : X → Bool) → ((x : X) → p x ≡ true → q x ≡ true) → (xs : List X) → list_all p xs ≡ true → list_all q xs ≡ true
-  list_all-weaker p q weaker [] all = refl
-  list_all-weaker p q weaker (x ∷ xs) all =
-      let parts = and_parts (p x) (list_all p xs) all in
-      and_from (q x) (list_all q xs) (weaker x parts.0) (list_all-weaker p q weaker xs parts.1)
-
-  -- some element passes one test, and all pass another
-  pub some_of_all : (p q r : X → Bool) → ((x : X) → p x ≡ true → q x ≡ true → r x ≡ true) → (xs : List X) → list_any p xs ≡ true → list_all q xs ≡ true → list_any r xs ≡ true
-  some_of_all p q r both [] some all = some
-  some_of_all p q r both (x ∷ xs) some all =
-      let parts = and_parts (q x) (list_all q xs) all in
-      elim (or_cases (p x) (list_any p xs) some) as (λ _. list_any r (x ∷ xs) ≡ true) [
-        | inl here ↦ or_left (r x) (list_any r xs) (both x here parts.0)
-        | inr later ↦ or_right (r x) (list_any r xs) (some_of_all p q r both xs later parts.1)
       ]
 
   -- a filter keeps nothing just where no element passes
