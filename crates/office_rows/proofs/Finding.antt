@@ -32,7 +32,6 @@ IsFound {X} passes shown xs (Some row) = (x : X) × Has xs x × (passes x ≡ tr
 
 module _ (command : Command) (schema : Schema) (sql : List ℕ) (params : Row) (means : Means schema sql command)
     (old new : State) (has : old.now.schema ≡ schema) (settled : old.now ≡ old.committed) (idle : old.in_transaction ≡ false) where
-
   plain_old : IsPlain (understood old.now.schema sql)
   plain_old = rw has means.plain
 
@@ -69,7 +68,6 @@ module _ {X : Type 0} (encode shown : X → Row) (passes : X → Bool) (project 
     (tested : (k : ℤ × X) → list_all (holds (params ∷ row_of encode k ∷ [])) tests ≡ passes k.1)
     (showed : (k : ℤ × X) → eval_all project (params ∷ row_of encode k ∷ []) ≡ shown k.1)
     (old new : State) (has : old.now.schema ≡ schema) (settled : old.now ≡ old.committed) (idle : old.in_transaction ≡ false) where
-
   pub finds_some : (xs : List X) → Keeps encode (overlay old.now.trees [] tree) xs → (r : Result (Option Row) StoreFault) → FindsRow sql params old new r
       → IfOk r (IsFound passes shown xs) × (r ≢ Err NotAnOffice) × IsKept old new × OnOk r (IsTrue new.is_open)
   finds_some xs keeps =

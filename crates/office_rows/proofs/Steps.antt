@@ -23,7 +23,6 @@ use Rattle.office_rows.proofs.Writing.{IsTableOf, WritesIn, deleted, inserted, u
 
 module _ {K X : Type 0} (same : K → K → Bool) (decides : (a b : K) → Decides (same a b) (a ≡ b)) (key : X → K) (encode : X → Row) (IsFormed : X → Type 0)
     (schema : Schema) (at : ℕ) (table : Table) (is_table : IsTableOf schema at table) where
-
   abbrev pub Entries : List Row → Type 0
   Entries = Stores encode (is_at same decides key) IsFormed
 

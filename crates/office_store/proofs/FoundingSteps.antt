@@ -126,9 +126,9 @@ module _ {S : Type 0} (g : Ghosts S) where
   office_step : (listed : ℕ) → listed < 2 ^ 41 → Makes g (statement INSERT_OFFICE.now (Int (pos listed) ∷ [])) (HasEmptyTables office_schema) (λ db. IsOffice db (no_tables listed))
   office_step listed below = record {
     ok = λ old new count before ran.
-    let it = inserts office_schema 0 (office_table 0) is_offices INSERT_OFFICE.now (Int (pos listed) ∷ []) (state g old) (state g new) count before.schema_is ran office_terms 4 (office_row listed) insert_means refl in
-    let row = it.rows ∙ first_put ((state g old).now.trees 0) _ before.empty.0 ∙ ap (λ r. with_rowid Chosen ((state g old).now.trees 0) r ∷ []) (cast_office listed) in
-    only_office (state g old).now (state g new).now listed below before it.writes row;
+        let it = inserts office_schema 0 (office_table 0) is_offices INSERT_OFFICE.now (Int (pos listed) ∷ []) (state g old) (state g new) count before.schema_is ran office_terms 4 (office_row listed) insert_means refl in
+        let row = it.rows ∙ first_put ((state g old).now.trees 0) _ before.empty.0 ∙ ap (λ r. with_rowid Chosen ((state g old).now.trees 0) r ∷ []) (cast_office listed) in
+        only_office (state g old).now (state g new).now listed below before it.writes row;
     err = λ old new e before failed. insert_failed INSERT_OFFICE.now (Int (pos listed) ∷ []) 0 _ office_schema (state g old) (state g new) e before.schema_is insert_means failed;
   }
 

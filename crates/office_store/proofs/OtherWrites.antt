@@ -170,20 +170,20 @@ module _ {S : Type 0} (g : Ghosts S) where
   delete_vote_step : (v : VoteKey) (t : Tables) → IsStep g (delete_vote v) t (without_vote v t)
   delete_vote_step v t = record {
     ok = λ old new count o ran.
-    let it = removes same_vote votes_decide vote_key vote_row IsVote office_schema 3 (votes_table 6) is_votes DELETE_VOTE.now (vote_params v) (state g old) (state g new) count o.schema ran o.votes
-    v at_voter delete_vote_means (vote_tested v) in
-    with_votes (state g old).now (state g new).now t o it.writes it.left _
-    (λ q n name. ap (cond (same_vote (key_of q n name) v) None) (o.votes_are q n name) ∙ map_without vote_of (same_vote (key_of q n name) v) _ ∙ sym (ap (option_map vote_of) (it.are (key_of q n name))));
+        let it = removes same_vote votes_decide vote_key vote_row IsVote office_schema 3 (votes_table 6) is_votes DELETE_VOTE.now (vote_params v) (state g old) (state g new) count o.schema ran o.votes
+        v at_voter delete_vote_means (vote_tested v) in
+        with_votes (state g old).now (state g new).now t o it.writes it.left _
+        (λ q n name. ap (cond (same_vote (key_of q n name) v) None) (o.votes_are q n name) ∙ map_without vote_of (same_vote (key_of q n name) v) _ ∙ sym (ap (option_map vote_of) (it.are (key_of q n name))));
     err = λ old new e o failed. delete_failed DELETE_VOTE.now (vote_params v) 3 _ office_schema (state g old) (state g new) e o.schema delete_vote_means failed;
   }
 
   insert_vote_step : (e : VoteEntry) (t : Tables) → IsVote e → t.votes e.0.profile e.0.number e.0.voter ≡ None → IsStep g (insert_vote e) t (vote_put e t)
   insert_vote_step e t formed none = record {
     ok = λ old new count o ran.
-    let it = puts same_vote votes_decide vote_key vote_row IsVote office_schema 3 (votes_table 6) is_votes INSERT_VOTE.now (vote_row e) (state g old) (state g new) count o.schema ran o.votes
-    e formed (none_mapped vote_of _ (sym (o.votes_are e.0.profile e.0.number e.0.voter) ∙ none)) vote_terms 7 (Null ∷ vote_row e) insert_vote_means refl (cast_vote e) in
-    with_votes (state g old).now (state g new).now t o it.writes it.left _
-    (λ q n name. ap (cond (same_vote (key_of q n name) e.0) (Some e.1)) (o.votes_are q n name) ∙ map_with vote_of (same_vote (key_of q n name) e.0) e _ ∙ sym (ap (option_map vote_of) (it.are (key_of q n name))));
+        let it = puts same_vote votes_decide vote_key vote_row IsVote office_schema 3 (votes_table 6) is_votes INSERT_VOTE.now (vote_row e) (state g old) (state g new) count o.schema ran o.votes
+        e formed (none_mapped vote_of _ (sym (o.votes_are e.0.profile e.0.number e.0.voter) ∙ none)) vote_terms 7 (Null ∷ vote_row e) insert_vote_means refl (cast_vote e) in
+        with_votes (state g old).now (state g new).now t o it.writes it.left _
+        (λ q n name. ap (cond (same_vote (key_of q n name) e.0) (Some e.1)) (o.votes_are q n name) ∙ map_with vote_of (same_vote (key_of q n name) e.0) e _ ∙ sym (ap (option_map vote_of) (it.are (key_of q n name))));
     err = λ old new x o failed. insert_failed INSERT_VOTE.now (vote_row e) 3 _ office_schema (state g old) (state g new) x o.schema insert_vote_means failed;
   }
 
@@ -204,20 +204,20 @@ module _ {S : Type 0} (g : Ghosts S) where
   delete_baseline_step : (team : List ℕ) (t : Tables) → IsStep g (delete_baseline team) t (without_baseline team t)
   delete_baseline_step team t = record {
     ok = λ old new count o ran.
-    let it = removes bytes_eq bytes_eq-Decides baseline_key baseline_row IsBaseline office_schema 4 (baselines_table 8) is_baselines DELETE_BASELINE.now (Text team ∷ []) (state g old) (state g new) count o.schema ran o.baselines
-    team (column_is 1 0 ∷ []) delete_baseline_means (baseline_tested team) in
-    with_baselines (state g old).now (state g new).now t o it.writes it.left _
-    (λ other. ap (cond (bytes_eq other team) None) (o.baselines_are other) ∙ map_without baseline_of (bytes_eq other team) _ ∙ sym (ap (option_map baseline_of) (it.are other)));
+        let it = removes bytes_eq bytes_eq-Decides baseline_key baseline_row IsBaseline office_schema 4 (baselines_table 8) is_baselines DELETE_BASELINE.now (Text team ∷ []) (state g old) (state g new) count o.schema ran o.baselines
+        team (column_is 1 0 ∷ []) delete_baseline_means (baseline_tested team) in
+        with_baselines (state g old).now (state g new).now t o it.writes it.left _
+        (λ other. ap (cond (bytes_eq other team) None) (o.baselines_are other) ∙ map_without baseline_of (bytes_eq other team) _ ∙ sym (ap (option_map baseline_of) (it.are other)));
     err = λ old new e o failed. delete_failed DELETE_BASELINE.now (Text team ∷ []) 4 _ office_schema (state g old) (state g new) e o.schema delete_baseline_means failed;
   }
 
   insert_baseline_step : (e : BaselineEntry) (t : Tables) → IsBaseline e → t.baselines e.0 ≡ None → IsStep g (insert_baseline e) t (baseline_put e t)
   insert_baseline_step e t formed none = record {
     ok = λ old new count o ran.
-    let it = puts bytes_eq bytes_eq-Decides baseline_key baseline_row IsBaseline office_schema 4 (baselines_table 8) is_baselines INSERT_BASELINE.now (baseline_row e) (state g old) (state g new) count o.schema ran o.baselines
-    e formed (none_mapped baseline_of _ (sym (o.baselines_are e.0) ∙ none)) baseline_terms 4 (Null ∷ baseline_row e) insert_baseline_means refl (cast_baseline e) in
-    with_baselines (state g old).now (state g new).now t o it.writes it.left _
-    (λ other. ap (cond (bytes_eq other e.0) (Some e.1)) (o.baselines_are other) ∙ map_with baseline_of (bytes_eq other e.0) e _ ∙ sym (ap (option_map baseline_of) (it.are other)));
+        let it = puts bytes_eq bytes_eq-Decides baseline_key baseline_row IsBaseline office_schema 4 (baselines_table 8) is_baselines INSERT_BASELINE.now (baseline_row e) (state g old) (state g new) count o.schema ran o.baselines
+        e formed (none_mapped baseline_of _ (sym (o.baselines_are e.0) ∙ none)) baseline_terms 4 (Null ∷ baseline_row e) insert_baseline_means refl (cast_baseline e) in
+        with_baselines (state g old).now (state g new).now t o it.writes it.left _
+        (λ other. ap (cond (bytes_eq other e.0) (Some e.1)) (o.baselines_are other) ∙ map_with baseline_of (bytes_eq other e.0) e _ ∙ sym (ap (option_map baseline_of) (it.are other)));
     err = λ old new x o failed. insert_failed INSERT_BASELINE.now (baseline_row e) 4 _ office_schema (state g old) (state g new) x o.schema insert_baseline_means failed;
   }
 
@@ -239,20 +239,20 @@ module _ {S : Type 0} (g : Ghosts S) where
   delete_hold_step : (p : ProfileName) (t : Tables) → IsStep g (delete_hold p) t (without_hold p t)
   delete_hold_step p t = record {
     ok = λ old new count o ran.
-    let it = removes is_profile profiles_decide itself hold_row IsProfileName office_schema 5 (holds_table 10) is_holds DELETE_HOLD.now (profile_params p) (state g old) (state g new) count o.schema ran o.holds
-    p at_profile delete_hold_means (hold_tested p) in
-    with_holds (state g old).now (state g new).now t o it.writes it.left _
-    (λ q. ap (cond (is_profile q p) false) (o.holds_are q) ∙ holds_without (is_profile q p) _ ∙ sym (ap is_some (it.are q)));
+        let it = removes is_profile profiles_decide itself hold_row IsProfileName office_schema 5 (holds_table 10) is_holds DELETE_HOLD.now (profile_params p) (state g old) (state g new) count o.schema ran o.holds
+        p at_profile delete_hold_means (hold_tested p) in
+        with_holds (state g old).now (state g new).now t o it.writes it.left _
+        (λ q. ap (cond (is_profile q p) false) (o.holds_are q) ∙ holds_without (is_profile q p) _ ∙ sym (ap is_some (it.are q)));
     err = λ old new e o failed. delete_failed DELETE_HOLD.now (profile_params p) 5 _ office_schema (state g old) (state g new) e o.schema delete_hold_means failed;
   }
 
   insert_hold_step : (p : ProfileName) (t : Tables) → IsProfileName p → t.holds p ≡ false → IsStep g (insert_hold p) t (with_hold p t)
   insert_hold_step p t formed none = record {
     ok = λ old new count o ran.
-    let it = puts is_profile profiles_decide itself hold_row IsProfileName office_schema 5 (holds_table 10) is_holds INSERT_HOLD.now (hold_row p) (state g old) (state g new) count o.schema ran o.holds
-    p formed (none_held _ (sym (o.holds_are p) ∙ none)) hold_terms 3 (Null ∷ hold_row p) insert_hold_means refl (cast_hold p) in
-    with_holds (state g old).now (state g new).now t o it.writes it.left _
-    (λ q. ap (cond (is_profile q p) true) (o.holds_are q) ∙ holds_with (is_profile q p) p _ ∙ sym (ap is_some (it.are q)));
+        let it = puts is_profile profiles_decide itself hold_row IsProfileName office_schema 5 (holds_table 10) is_holds INSERT_HOLD.now (hold_row p) (state g old) (state g new) count o.schema ran o.holds
+        p formed (none_held _ (sym (o.holds_are p) ∙ none)) hold_terms 3 (Null ∷ hold_row p) insert_hold_means refl (cast_hold p) in
+        with_holds (state g old).now (state g new).now t o it.writes it.left _
+        (λ q. ap (cond (is_profile q p) true) (o.holds_are q) ∙ holds_with (is_profile q p) p _ ∙ sym (ap is_some (it.are q)));
     err = λ old new x o failed. insert_failed INSERT_HOLD.now (hold_row p) 5 _ office_schema (state g old) (state g new) x o.schema insert_hold_means failed;
   }
 

@@ -55,22 +55,22 @@ number_itself a = grind (arith, nat_tests)
 pub revisions_decide : (a b : ProfileName × ℕ) → Decides (same_revision a b) (a ≡ b)
 revisions_decide a b = (
   λ e.
-  let both = both_true (is_profile a.0 b.0) (a.1 == b.1) e in
-  let profile = same_profile a.0 b.0 both.0 in
-  let number = same_number a.1 b.1 both.1 in
-  λ i. (profile i, number i),
+      let both = both_true (is_profile a.0 b.0) (a.1 == b.1) e in
+      let profile = same_profile a.0 b.0 both.0 in
+      let number = same_number a.1 b.1 both.1 in
+      λ i. (profile i, number i),
   λ e. subst (λ r. same_revision a r ≡ true) e (λ i. profile_itself a.0 i && number_itself a.1 i),
 )
 
 pub votes_decide : (a b : VoteKey) → Decides (same_vote a b) (a ≡ b)
 votes_decide a b = (
   λ e.
-  let outer = both_true (is_profile a.profile b.profile && (a.number == b.number)) (bytes_eq a.voter b.voter) e in
-  let both = both_true (is_profile a.profile b.profile) (a.number == b.number) outer.0 in
-  let profile = same_profile a.profile b.profile both.0 in
-  let number = same_number a.number b.number both.1 in
-  let voter = (bytes_eq-Decides a.voter b.voter).0 outer.1 in
-  λ i. record { profile = profile i; number = number i; voter = voter i },
+      let outer = both_true (is_profile a.profile b.profile && (a.number == b.number)) (bytes_eq a.voter b.voter) e in
+      let both = both_true (is_profile a.profile b.profile) (a.number == b.number) outer.0 in
+      let profile = same_profile a.profile b.profile both.0 in
+      let number = same_number a.number b.number both.1 in
+      let voter = (bytes_eq-Decides a.voter b.voter).0 outer.1 in
+      λ i. record { profile = profile i; number = number i; voter = voter i },
   λ e. subst (λ r. same_vote a r ≡ true) e (λ i. (profile_itself a.profile i && number_itself a.number i) && (bytes_eq-Decides a.voter a.voter).1 refl i),
 )
 

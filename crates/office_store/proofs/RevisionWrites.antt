@@ -122,12 +122,12 @@ module _ {S : Type 0} (g : Ghosts S) where
       → (t : Tables) → IsStep g (record { sql = sql; params = params }) t (changed_by f t)
   state_step sql params passes s tests means tested f does t = record {
     ok = λ old new count o ran.
-    let it = changes same_revision revisions_decide revision_key revision_row IsRevision office_schema 2 (revisions_table 4) is_revisions sql params (state g old) (state g new) count o.schema ran o.revisions
-    passes (put_in s) (λ e. key_kept s (passes e) e) (λ e h. form_kept s (passes e) e h) (put_state s) tests means tested (λ k. refl) (λ k. cast_kept (k.0, put_in s k.1)) in
-    with_revisions (state g old).now (state g new).now t o it.writes it.left _
-    (λ q n. ap (option_map (f q n)) (o.revisions_are q n)
-    ∙ found_changed passes s f does q n (find (at_key q n) o.revisions.entries) (λ e at. (revisions_decide (q, n) (revision_key e)).0 (has_found (at_key q n) o.revisions.entries e at).1)
-    ∙ sym (ap (option_map (λ (e : Revision). e.1)) (it.are (q, n))));
+        let it = changes same_revision revisions_decide revision_key revision_row IsRevision office_schema 2 (revisions_table 4) is_revisions sql params (state g old) (state g new) count o.schema ran o.revisions
+        passes (put_in s) (λ e. key_kept s (passes e) e) (λ e h. form_kept s (passes e) e h) (put_state s) tests means tested (λ k. refl) (λ k. cast_kept (k.0, put_in s k.1)) in
+        with_revisions (state g old).now (state g new).now t o it.writes it.left _
+        (λ q n. ap (option_map (f q n)) (o.revisions_are q n)
+        ∙ found_changed passes s f does q n (find (at_key q n) o.revisions.entries) (λ e at. (revisions_decide (q, n) (revision_key e)).0 (has_found (at_key q n) o.revisions.entries e at).1)
+        ∙ sym (ap (option_map (λ (e : Revision). e.1)) (it.are (q, n))));
     err = λ old new e o failed. update_failed sql params 2 _ office_schema (state g old) (state g new) e o.schema means failed;
   }
 
@@ -199,10 +199,10 @@ module _ {S : Type 0} (g : Ghosts S) where
   insert_step : (e : Revision) (t : Tables) → IsRevision e → t.revisions e.0 e.1.number ≡ None → IsStep g (insert_revision e) t (inserted e t)
   insert_step e t formed none = record {
     ok = λ old new count o ran.
-    let it = puts same_revision revisions_decide revision_key revision_row IsRevision office_schema 2 (revisions_table 4) is_revisions INSERT_REVISION.now (revision_row e) (state g old) (state g new) count o.schema ran o.revisions
-    e formed (none_mapped _ (sym (o.revisions_are e.0 e.1.number) ∙ none)) insert_terms 8 (Null ∷ revision_row e) insert_means refl (cast_new e) in
-    with_revisions (state g old).now (state g new).now t o it.writes it.left _
-    (λ q n. ap (cond (same_revision (q, n) (revision_key e)) (Some e.1)) (o.revisions_are q n) ∙ mapped_cond (same_revision (q, n) (revision_key e)) e (find (at_key q n) o.revisions.entries) ∙ sym (ap (option_map (λ (e : Revision). e.1)) (it.are (q, n))));
+        let it = puts same_revision revisions_decide revision_key revision_row IsRevision office_schema 2 (revisions_table 4) is_revisions INSERT_REVISION.now (revision_row e) (state g old) (state g new) count o.schema ran o.revisions
+        e formed (none_mapped _ (sym (o.revisions_are e.0 e.1.number) ∙ none)) insert_terms 8 (Null ∷ revision_row e) insert_means refl (cast_new e) in
+        with_revisions (state g old).now (state g new).now t o it.writes it.left _
+        (λ q n. ap (cond (same_revision (q, n) (revision_key e)) (Some e.1)) (o.revisions_are q n) ∙ mapped_cond (same_revision (q, n) (revision_key e)) e (find (at_key q n) o.revisions.entries) ∙ sym (ap (option_map (λ (e : Revision). e.1)) (it.are (q, n))));
     err = λ old new x o failed. insert_failed INSERT_REVISION.now (revision_row e) 2 _ office_schema (state g old) (state g new) x o.schema insert_means failed;
   }
 

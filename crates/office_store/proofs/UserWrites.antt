@@ -57,18 +57,18 @@ module _ {S : Type 0} (g : Ghosts S) where
   delete_step : (name : List ℕ) (t : Tables) → IsStep g (delete_user name) t (without_user name t)
   delete_step name t = record {
     ok = λ old new count o ran.
-    let it = removes bytes_eq bytes_eq-Decides name_of user_row IsUser office_schema 1 (users_table 1) is_users DELETE_USER.now (Text name ∷ []) (state g old) (state g new) count o.schema ran o.users
-    name (column_is 1 0 ∷ []) delete_means (named_tested name) in
-    with_users (state g old).now (state g new).now t o it.writes it.left _ (λ n. ap (cond (bytes_eq n name) None) (o.users_are n) ∙ sym (it.are n));
+        let it = removes bytes_eq bytes_eq-Decides name_of user_row IsUser office_schema 1 (users_table 1) is_users DELETE_USER.now (Text name ∷ []) (state g old) (state g new) count o.schema ran o.users
+        name (column_is 1 0 ∷ []) delete_means (named_tested name) in
+        with_users (state g old).now (state g new).now t o it.writes it.left _ (λ n. ap (cond (bytes_eq n name) None) (o.users_are n) ∙ sym (it.are n));
     err = λ old new e o failed. delete_failed DELETE_USER.now (Text name ∷ []) 1 _ office_schema (state g old) (state g new) e o.schema delete_means failed;
   }
 
   pub insert_step : (u : UserRow) (t : Tables) → IsUser u → t.users u.name ≡ None → IsStep g (insert_user u) t (with_user u t)
   insert_step u t formed none = record {
     ok = λ old new count o ran.
-    let it = puts bytes_eq bytes_eq-Decides name_of user_row IsUser office_schema 1 (users_table 1) is_users INSERT_USER.now (user_row u) (state g old) (state g new) count o.schema ran o.users
-    u formed (sym (o.users_are u.name) ∙ none) insert_terms 5 (Null ∷ user_row u) insert_means refl (cast_user u) in
-    with_users (state g old).now (state g new).now t o it.writes it.left _ (λ n. ap (cond (bytes_eq n u.name) (Some u)) (o.users_are n) ∙ sym (it.are n));
+        let it = puts bytes_eq bytes_eq-Decides name_of user_row IsUser office_schema 1 (users_table 1) is_users INSERT_USER.now (user_row u) (state g old) (state g new) count o.schema ran o.users
+        u formed (sym (o.users_are u.name) ∙ none) insert_terms 5 (Null ∷ user_row u) insert_means refl (cast_user u) in
+        with_users (state g old).now (state g new).now t o it.writes it.left _ (λ n. ap (cond (bytes_eq n u.name) (Some u)) (o.users_are n) ∙ sym (it.are n));
     err = λ old new e o failed. insert_failed INSERT_USER.now (user_row u) 1 _ office_schema (state g old) (state g new) e o.schema insert_means failed;
   }
 

@@ -55,10 +55,7 @@ pub fn held<S: Alter>(conn: &mut Connection<S>, profile: &ProfileName) -> Result
 }
 
 /// Holds a profile.
-pub fn put_hold<S: Alter>(
-    conn: &mut Connection<S>,
-    profile: &ProfileName,
-) -> Result<(), StoreFault>
+pub fn put_hold<S: Alter>(conn: &mut Connection<S>, profile: &ProfileName) -> Result<(), StoreFault>
     requires { IsIdle (state S.Store conn.old) }
     ensures held { (t : Tables) → Shows (state S.Store conn.old) t → HasCleanDisk (state S.Store conn.new) → OnOk result (Shows (state S.Store conn.new) (with_hold profile.now t)) }
     ensures same { (t : Tables) → Shows (state S.Store conn.old) t → HasCleanDisk (state S.Store conn.new) → OnErr result (ShowsIfOpen (state S.Store conn.new) t) }

@@ -22,3 +22,6 @@ pub use office::listed;
 pub use revisions::{add_revision, issued, last, revision, set_issued, set_withdrawn};
 pub use users::{put_user, user_by_name, user_by_token};
 pub use votes::{Ballot, put_vote};
+
+#[cfg(test)]
+mod tests;

@@ -21,11 +21,14 @@ use sqlite::types::ValueRef;
 use sqlite::{Alter, Connection, Row, params};
 use std::alloc::Global;
 
-pub(crate) const REVISION_AT: &str = "SELECT number, author, state, body, digest FROM revisions WHERE team = ?1 AND profile = ?2 AND number = ?3";
+pub(crate) const REVISION_AT: &str =
+    "SELECT number, author, state, body, digest FROM revisions WHERE team = ?1 AND profile = ?2 AND number = ?3";
 
-pub(crate) const ISSUED_OF: &str = "SELECT number, author, state, body, digest FROM revisions WHERE team = ?1 AND profile = ?2 AND state = 2";
+pub(crate) const ISSUED_OF: &str =
+    "SELECT number, author, state, body, digest FROM revisions WHERE team = ?1 AND profile = ?2 AND state = 2";
 
-pub(crate) const LAST_OF: &str = "SELECT number, author, state, body, digest FROM revisions WHERE team = ?1 AND profile = ?2 ORDER BY number DESC LIMIT 1";
+pub(crate) const LAST_OF: &str =
+    "SELECT number, author, state, body, digest FROM revisions WHERE team = ?1 AND profile = ?2 ORDER BY number DESC LIMIT 1";
 
 pub(crate) const CLOSE_OPEN: &str =
     "UPDATE revisions SET state = 1 WHERE team = ?1 AND profile = ?2 AND state = 0";
@@ -39,7 +42,8 @@ pub(crate) const ISSUE_REVISION: &str =
 pub(crate) const WITHDRAW_REVISION: &str =
     "UPDATE revisions SET state = 4 WHERE team = ?1 AND profile = ?2 AND number = ?3";
 
-pub(crate) const INSERT_REVISION: &str = "INSERT INTO revisions (team, profile, number, author, state, body, digest) VALUES (?1, ?2, ?3, ?4, ?5, ?6, ?7)";
+pub(crate) const INSERT_REVISION: &str =
+    "INSERT INTO revisions (team, profile, number, author, state, body, digest) VALUES (?1, ?2, ?3, ?4, ?5, ?6, ?7)";
 
 // The revision that a row stands for.
 fn read_revision(alloc: Global, row: &Row) -> Result<RevisionRow, StoreFault>

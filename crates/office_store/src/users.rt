@@ -22,11 +22,13 @@ use std::alloc::Global;
 
 pub(crate) const USER_BY_NAME: &str = "SELECT name, team, roles, token FROM users WHERE name = ?1";
 
-pub(crate) const USER_BY_TOKEN: &str = "SELECT name, team, roles, token FROM users WHERE token = ?1";
+pub(crate) const USER_BY_TOKEN: &str =
+    "SELECT name, team, roles, token FROM users WHERE token = ?1";
 
 pub(crate) const DELETE_USER: &str = "DELETE FROM users WHERE name = ?1";
 
-pub(crate) const INSERT_USER: &str = "INSERT INTO users (name, team, roles, token) VALUES (?1, ?2, ?3, ?4)";
+pub(crate) const INSERT_USER: &str =
+    "INSERT INTO users (name, team, roles, token) VALUES (?1, ?2, ?3, ?4)";
 
 // The user that a row stands for.
 fn read_user(alloc: Global, row: &Row) -> Result<UserRow, StoreFault>
@@ -45,10 +47,7 @@ fn read_user(alloc: Global, row: &Row) -> Result<UserRow, StoreFault>
 }
 
 // The row of the user of that name.
-fn row_named<S: Alter>(
-    conn: &mut Connection<S>,
-    name: &str,
-) -> Result<Option<Row>, StoreFault>
+fn row_named<S: Alter>(conn: &mut Connection<S>, name: &str) -> Result<Option<Row>, StoreFault>
     requires { IsIdle (state S.Store conn.old) }
     ensures found { (t : Tables) → Shows (state S.Store conn.old) t → HasCleanDisk (state S.Store conn.new) → IfOk result (λ row. row ≡ option_map user_row (t.users name.now)) }
     ensures fault { (t : Tables) → Shows (state S.Store conn.old) t → HasCleanDisk (state S.Store conn.new) → result ≢ Err StoreFault.NotAnOffice }
@@ -62,10 +61,7 @@ fn row_named<S: Alter>(
 }
 
 // The row of the user whose token has that digest.
-fn row_showing<S: Alter>(
-    conn: &mut Connection<S>,
-    digest: &[u8],
-) -> Result<Option<Row>, StoreFault>
+fn row_showing<S: Alter>(conn: &mut Connection<S>, digest: &[u8]) -> Result<Option<Row>, StoreFault>
     requires { IsIdle (state S.Store conn.old) }
     ensures found { (t : Tables) → Shows (state S.Store conn.old) t → HasCleanDisk (state S.Store conn.new) → IfOk result (IsRowShowing t digest.now) }
     ensures fault { (t : Tables) → Shows (state S.Store conn.old) t → HasCleanDisk (state S.Store conn.new) → result ≢ Err StoreFault.NotAnOffice }

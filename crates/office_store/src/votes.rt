@@ -16,7 +16,8 @@ use sqlite::{Alter, Connection, params};
 pub(crate) const DELETE_VOTE: &str =
     "DELETE FROM votes WHERE team = ?1 AND profile = ?2 AND number = ?3 AND voter = ?4";
 
-pub(crate) const INSERT_VOTE: &str = "INSERT INTO votes (team, profile, number, voter, approve, security) VALUES (?1, ?2, ?3, ?4, ?5, ?6)";
+pub(crate) const INSERT_VOTE: &str =
+    "INSERT INTO votes (team, profile, number, voter, approve, security) VALUES (?1, ?2, ?3, ?4, ?5, ?6)";
 
 /// A vote on a revision, and whether the voter holds the role security at it.
 #[derive(Clone, Copy, Debug, PartialEq, Eq)]

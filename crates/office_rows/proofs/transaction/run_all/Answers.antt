@@ -17,8 +17,8 @@ loop-statement-preserved g c =
     let left = first_left c.args.statements.now c.loop-statement.statement-index below in (
       search rules,
       one_more g.S.Store _ _ _ c.args.conn.now c.loop-statement.tx.conn.now c.execute.new.self.conn.now c.in_ok-execute.field-0
-      (subst (λ l. IsUnderWay g.S.Store (map statement_of c.args.statements.now) l c.args.conn.now c.loop-statement.tx.conn.now) left c.loop-statement.invariant.1)
-      c.execute.ensures.survives c.in_ok-execute.ensures.runs,
+          (subst (λ l. IsUnderWay g.S.Store (map statement_of c.args.statements.now) l c.args.conn.now c.loop-statement.tx.conn.now) left c.loop-statement.invariant.1)
+          c.execute.ensures.survives c.in_ok-execute.ensures.runs,
     )
 
 pub returns-in_err-execute-clause-cause : goal.returns-in_err-execute-clause-cause
