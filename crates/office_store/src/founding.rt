@@ -3,7 +3,7 @@
 ghost use Rattle.std.specs.Prelude.{◌≡◌, ◌≢◌, ◌↔◌, ◌<◌, ◌^◌, false, true, pos, is_some, IsTrue, Err, IfErr, OnOk, OnErr};
 ghost use Rattle.sqlite.specs.Effect.{Database};
 ghost use Rattle.sqlite.specs.Held.{state};
-ghost use Rattle.sqlite.specs.State.{HasCleanDisk, Survives, Shows as Leads};
+ghost use Rattle.sqlite.specs.State.{HasCleanDisk, Survives, Shows as Sees};
 ghost use Rattle.sqlite.specs.Values.{bound};
 ghost use Rattle.sqlite_schema.specs.Names.{table_named};
 ghost use Rattle.office_tables.specs.declared.row.UserRow.{UserRow};
@@ -74,7 +74,7 @@ fn run_founding<'a, S: Alter>(
 ) -> Result<(), Error>
     requires { conn.old.in_transaction ≡ false }
     ensures all { HasCleanDisk (state S.Store conn.new) → OnOk result (RanAll S.Store (founding (bound none.now) (bound office.now) (bound user.now)) (begun conn.old) (state S.Store conn.new).now
-        × Leads (state S.Store conn.old) (state S.Store conn.new) (state S.Store conn.new).now (state S.Store conn.new).now false) }
+        × Sees (state S.Store conn.old) (state S.Store conn.new) (state S.Store conn.new).now (state S.Store conn.new).now false) }
     ensures none { HasCleanDisk (state S.Store conn.new) → IsTrue (state S.Store conn.new).is_open → OnErr result ((state S.Store conn.new).now ≡ (state S.Store conn.old).committed × (state S.Store conn.new).committed ≡ (state S.Store conn.old).committed) }
     ensures cause { HasCleanDisk (state S.Store conn.new) → IfErr result (FailedIn S.Store (founding (bound none.now) (bound office.now) (bound user.now)) (begun conn.old)) }
     ensures mode { conn.new.in_transaction ≡ false }

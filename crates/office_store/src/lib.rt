@@ -31,3 +31,5 @@ pub use votes::{Ballot, put_vote};
 
 #[cfg(test)]
 mod list_tests;
+#[cfg(test)]
+mod tests;
