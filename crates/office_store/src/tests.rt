@@ -33,7 +33,7 @@ fn found_office<S: Alter>(alloc: Global, conn: &mut Connection<S>) -> Result<(),
 }
 
 // A new office in memory.
-fn office(alloc: Global) -> Result<Connection<MemStore>, Fail>
+pub(crate) fn office(alloc: Global) -> Result<Connection<MemStore>, Fail>
     ensures { IfOk result (λ conn. IsIdle (state over_memory conn)) }
 {
     let mut conn = Connection::open_in_memory(alloc)?;
@@ -41,18 +41,18 @@ fn office(alloc: Global) -> Result<Connection<MemStore>, Fail>
     Ok(conn)
 }
 
-fn word(alloc: Global, text: &str) -> Result<Word, Fail> {
+pub(crate) fn word(alloc: Global, text: &str) -> Result<Word, Fail> {
     Ok(Word::new(alloc, text).ok().ok_or("word")?)
 }
 
-fn profile(alloc: Global, team: &str, profile: &str) -> Result<ProfileName, Fail> {
+pub(crate) fn profile(alloc: Global, team: &str, profile: &str) -> Result<ProfileName, Fail> {
     Ok(ProfileName {
         team: word(alloc, team)?,
         profile: word(alloc, profile)?,
     })
 }
 
-fn user(alloc: Global, name: &str, bits: u8, first: u8) -> Result<UserRow, Fail> {
+pub(crate) fn user(alloc: Global, name: &str, bits: u8, first: u8) -> Result<UserRow, Fail> {
     Ok(UserRow {
         name: word(alloc, name)?,
         team: word(alloc, "blue")?,
