@@ -10,7 +10,6 @@ IsPassing stores.NoMemory = Unit {0}
 IsPassing stores.Disk = Unit {0}
 IsPassing stores.Full = Unit {0}
 IsPassing stores.NotAnOffice = ⊥
-IsPassing stores.AlreadyFounded = ⊥
 
 -- what is told of a fault of the store
 abbrev pub told_of : StoreFault → Fault
@@ -18,4 +17,3 @@ told_of stores.NoMemory = faults.Memory
 told_of stores.Disk = faults.Disk
 told_of stores.Full = faults.Full
 told_of stores.NotAnOffice = faults.NotAnOffice
-told_of stores.AlreadyFounded = faults.NotAnOffice

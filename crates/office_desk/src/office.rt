@@ -63,6 +63,6 @@ fn told(fault: StoreFault) -> Fault
         StoreFault::NoMemory => Fault::Memory,
         StoreFault::Disk => Fault::Disk,
         StoreFault::Full => Fault::Full,
-        StoreFault::NotAnOffice | StoreFault::AlreadyFounded => Fault::NotAnOffice,
+        StoreFault::NotAnOffice => Fault::NotAnOffice,
     }
 }

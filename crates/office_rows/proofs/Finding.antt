@@ -16,7 +16,7 @@ use Rattle.sqlite.proofs.StateLemmas.{survives_weaker}
 use Rattle.sqlite_rules.specs.Lists.{Has}
 use Rattle.office_tables.specs.declared.fault.StoreFault.{StoreFault}
 use Rattle.office_tables.specs.declared.fault.StoreFault.TheVariants.{NotAnOffice}
-use Rattle.office_rows.specs.Faults.{fault_of, FindsRow}
+use Rattle.office_rows.specs.Faults.{FindsRow}
 use Rattle.office_rows.specs.Entries.{Keeps, Stores, row_of}
 use Rattle.office_rows.proofs.Errors.{IsKept, unchanged_kept, query_failed}
 use Rattle.office_rows.proofs.Plain.{plain_query, Means}
@@ -53,10 +53,10 @@ module _ (command : Command) (schema : Schema) (sql : List ℕ) (params : Row) (
   finds Tells some none (Ok (Some row)) h = let same = row_same row h in (some row h, (λ e. cc), unchanged_kept old new same, same.0.is_open)
   finds Tells some none (Ok None) (inl h) = absurd ((query_failed _ _ old new _ plain_old settled idle h).0.1 refl)
   finds Tells some none (Ok None) (inr h) = let same = shown_same [] h.1 in (none h.1, (λ e. cc), unchanged_kept old new same, same.0.is_open)
-  finds Tells some none (Err f) (e, inl h, is) =
+  finds Tells some none (Err f) (e, inl h, is, another) =
       let failed = query_failed _ _ old new e plain_old settled idle h in
       (tt, (λ same. failed.0.0 (sym is ∙ (let k : f ≡ NotAnOffice = cc in k))), failed.1, tt)
-  finds Tells some none (Err f) (e, inr h, is) = (tt, (λ same. let k : f ≡ NotAnOffice = cc in absurd (let z = sym k ∙ is ∙ ap fault_of h.0 in cc)), unchanged_kept old new (shown_same [] h.1), tt)
+  finds Tells some none (Err f) (e, inr h, is, another) = absurd (another h.0)
 
   pub commits_none : Survives old new (CommitsShowing sql params old) → Survives old new (λ _. ⊥)
   commits_none = survives_weaker old new _ _ (λ _ db. never_commits _ _ old db plain_old)

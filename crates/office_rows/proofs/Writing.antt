@@ -1,7 +1,6 @@
 -- What a DELETE, an INSERT and an UPDATE of a known meaning do to the entries of a table.
 use Rattle.std.proofs.Common.{◌⊎◌, inl, inr, ◌≡◌, ◌≢◌, ℕ, ℤ, pos, List, [], ◌∷◌, ◌++◌, map, Bool, true, false, not, cond, Option, None, Some, Ok, Err, Result, refl, sym, ap, subst, ◌∙◌, append-nil}
 use Rattle.std.specs.Prelude.{MatchBool, drop, filter, slice_get, length, ◌/◌, ◌&&◌}
-use Rattle.sqlite.specs.Effect.{value_rows}
 use Rattle.sqlite.specs.Rows.{stamped}
 use Rattle.sqlite.specs.Cast.{cast_row}
 use Rattle.sqlite_rules.specs.Edit.{id_in, next_rowid, with_rowid, is_taken, are_fresh, put_all, numbered, without_all, taken_by}
@@ -22,7 +21,7 @@ use Rattle.sqlite.specs.Edit.{Edit, edit_of, edited}
 use Rattle.sqlite.specs.Table.{Table}
 use Rattle.sqlite.specs.Tree.{Trees}
 use Rattle.sqlite.specs.Program.{overlay}
-use Rattle.sqlite.specs.Effect.{Database}
+use Rattle.sqlite.specs.Effect.{Database, IsDatabase, value_rows}
 use Rattle.sqlite.specs.Does.{Tally, Does, OnRows, AtPlace}
 use Rattle.sqlite.specs.Rows.{Written, Task, Edited, count_of}
 use Rattle.sqlite.specs.declared.error.Error.{Error}
@@ -63,9 +62,10 @@ pub record IsTableOf (schema : Schema) (at : ℕ) (table : Table) : Type 0 where
   pub plainly : (trees : Trees) → overlay trees [] table.tree ≡ trees table.tree
   pub free : (gone news : List Row) (keys : Keys) → works schema keys 0 table.tree gone news ≡ []
 
--- of the rows of tables, only those of this tree are written
+-- of the rows of tables, only those of this tree are written, and the trees list the schema and obey it
 pub record WritesIn (schema : Schema) (tree : ℕ) (old new : Database) : Type 0 where
   pub schema_is : new.schema ≡ schema
+  pub sound : IsDatabase new
   pub tables : AllByRecursion (λ t. t.tree ≢ tree → new.trees t.tree ≡ old.trees t.tree) schema.tables
 
 given_numbers : (news rows : List Row) → numbered Given rows news ≡ news
@@ -101,6 +101,7 @@ module _ (schema : Schema) (at : ℕ) (table : Table) (is_table : IsTableOf sche
         rw (map-map (λ (r : Row). id_in (rowid r)) (λ (k : ℤ × X). Int k.0 ∷ []) (filter (λ k. passes k.1) keeps.kept)) at (IsPermutation-map (λ (r : Row). id_in (rowid r)) _ _ same) in (
           record {
             schema_is = ap (λ (d : Database). d.schema) now;
+            sound = w.sound;
             tables = subst (λ (ts : Trees). AllByRecursion (λ t. t.tree ≢ table.tree → ts t.tree ≡ old.now.trees t.tree) schema.tables) (sym trees) applied.tables;
           },
           subst (λ rows. Keeps encode rows (filter (λ x. not (passes x)) xs)) (sym (ap (λ (ts : Trees). ts table.tree) trees ∙ applied.rows))
@@ -157,6 +158,7 @@ module _ (schema : Schema) (at : ℕ) (table : Table) (is_table : IsTableOf sche
         (changed_are passes change xs) in (
           record {
             schema_is = ap (λ (d : Database). d.schema) now;
+            sound = w.sound;
             tables = subst (λ (ts : Trees). AllByRecursion (λ t. t.tree ≢ table.tree → ts t.tree ≡ old.now.trees t.tree) schema.tables) (sym trees) applied.tables;
           },
           subst (λ rows. Keeps encode rows (map (changed_if passes change) xs)) (sym (ap (λ (ts : Trees). ts table.tree) trees ∙ subst (λ ns. wrote.0 table.tree ≡ put_all left ns) news applied.rows))
@@ -198,6 +200,7 @@ module _ (schema : Schema) (at : ℕ) (table : Table) (is_table : IsTableOf sche
         record {
           writes = record {
             schema_is = ap (λ (d : Database). d.schema) now;
+            sound = w.sound;
             tables = subst (λ (ts : Trees). AllByRecursion (λ t. t.tree ≢ table.tree → ts t.tree ≡ old.now.trees t.tree) schema.tables) (sym trees) applied.tables;
           };
           free = not_taken _ (subst (λ ns. are_fresh (old.now.trees table.tree) ns ≡ true) news applied.fresh);

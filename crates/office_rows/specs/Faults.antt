@@ -27,4 +27,4 @@ IsOfMachine e = (fault_of e ≢ NotAnOffice) × (e ≢ error.QueryReturnedNoRows
 abbrev pub FindsRow : List ℕ → Row → State → State → Result (Option Row) StoreFault → Type 0
 FindsRow sql params old new (Ok (Some row)) = QueriesRow sql params old new (Ok row)
 FindsRow sql params old new (Ok None) = QueriesRow sql params old new (Err error.QueryReturnedNoRows)
-FindsRow sql params old new (Err f) = (e : Error) × QueriesRow sql params old new (Err e) × (f ≡ fault_of e)
+FindsRow sql params old new (Err f) = (e : Error) × QueriesRow sql params old new (Err e) × (f ≡ fault_of e) × (e ≢ error.QueryReturnedNoRows)

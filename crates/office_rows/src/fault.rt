@@ -1,6 +1,6 @@
 //! The faults of a store, of the errors of `sqlite`.
 
-ghost use Rattle.std.specs.Prelude.{◌≡◌, ◌≢◌};
+ghost use Rattle.std.specs.Prelude.{◌≡◌};
 ghost use Rattle.office_rows.specs.Faults.{fault_of};
 
 use office_tables::StoreFault;
@@ -9,8 +9,7 @@ use sqlite::{Error, ErrorCode};
 /// The fault of a store that an error of `sqlite` is. A text that isn't understood and a value of another kind are
 /// `NotAnOffice`; what is neither want of memory nor of room is `Disk`.
 pub fn fault_of(error: Error) -> StoreFault
-    ensures fault { result ≡ fault_of error }
-    ensures unfounded { result ≢ StoreFault.AlreadyFounded }
+    ensures { result ≡ fault_of error }
 {
     match error {
         Error::SqliteFailure(ErrorCode::OutOfMemory) => StoreFault::NoMemory,

@@ -108,6 +108,7 @@ first_put rows row is = ap (put_row row) is
 only_office : (old new : Database) (listed : ℕ) → listed < 2 ^ 41 → HasEmptyTables office_schema old → WritesIn office_schema 0 old new → new.trees 0 ≡ office_row listed ∷ [] → IsOffice new (no_tables listed)
 only_office old new listed below before w row = record {
   schema = w.schema_is;
+  sound = w.sound;
   office = row;
   listed = below;
   users = none_stored (new.trees 1) (w.tables.1.0 (λ e. omega (arith, e)) ∙ before.empty.1.0);

@@ -42,6 +42,7 @@ module _ (old new : Database) (t : Tables) (o : IsOffice old t) where
       → IsOffice new (record t { users = get })
   with_users w users get are = record {
     schema = w.schema_is;
+    sound = w.sound;
     office = w.tables.0 (λ e. omega (arith, e)) ∙ o.office;
     listed = o.listed;
     users = users;
@@ -60,6 +61,7 @@ module _ (old new : Database) (t : Tables) (o : IsOffice old t) where
       → ((p : ProfileName) (n : ℕ) → get p n ≡ option_map (λ e. e.1) (find (λ e. same_revision (p, n) (revision_key e)) revisions.entries)) → IsOffice new (record t { revisions = get })
   with_revisions w revisions get are = record {
     schema = w.schema_is;
+    sound = w.sound;
     office = w.tables.0 (λ e. omega (arith, e)) ∙ o.office;
     listed = o.listed;
     users = moved (old.trees 1) (new.trees 1) (w.tables.1.0 (λ e. omega (arith, e))) o.users;
@@ -79,6 +81,7 @@ module _ (old new : Database) (t : Tables) (o : IsOffice old t) where
       → IsOffice new (record t { votes = get })
   with_votes w votes get are = record {
     schema = w.schema_is;
+    sound = w.sound;
     office = w.tables.0 (λ e. omega (arith, e)) ∙ o.office;
     listed = o.listed;
     users = moved (old.trees 1) (new.trees 1) (w.tables.1.0 (λ e. omega (arith, e))) o.users;
@@ -97,6 +100,7 @@ module _ (old new : Database) (t : Tables) (o : IsOffice old t) where
       → ((team : List ℕ) → get team ≡ option_map (λ e. e.1) (find (λ e. bytes_eq team e.0) baselines.entries)) → IsOffice new (record t { baselines = get })
   with_baselines w baselines get are = record {
     schema = w.schema_is;
+    sound = w.sound;
     office = w.tables.0 (λ e. omega (arith, e)) ∙ o.office;
     listed = o.listed;
     users = moved (old.trees 1) (new.trees 1) (w.tables.1.0 (λ e. omega (arith, e))) o.users;
@@ -115,6 +119,7 @@ module _ (old new : Database) (t : Tables) (o : IsOffice old t) where
       → IsOffice new (record t { holds = get })
   with_holds w holds get are = record {
     schema = w.schema_is;
+    sound = w.sound;
     office = w.tables.0 (λ e. omega (arith, e)) ∙ o.office;
     listed = o.listed;
     users = moved (old.trees 1) (new.trees 1) (w.tables.1.0 (λ e. omega (arith, e))) o.users;

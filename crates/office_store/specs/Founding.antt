@@ -1,5 +1,5 @@
 -- A store before an office is founded in it, and the statements that found one.
-use Rattle.std.specs.Prelude.{◌≡◌, Bool, List, [], ◌∷◌, codes, is_some, IsTrue}
+use Rattle.std.specs.Prelude.{◌≡◌, ◌≢◌, Bool, false, List, [], ◌∷◌, codes, is_some, IsTrue}
 use Rattle.std.specs.List.{list_any}
 use Rattle.sqlite.specs.Order.{Row}
 use Rattle.sqlite.specs.Schema.{Schema}
@@ -9,12 +9,17 @@ use Rattle.office_rows.specs.Statements.{Statement}
 use Rattle.office_store.specs.declared.schema.TheConstants.{CREATE_OFFICE, CREATE_USERS, CREATE_REVISIONS, CREATE_VOTES, CREATE_BASELINES, CREATE_HOLDS}
 use Rattle.office_store.specs.declared.founding.TheConstants.{INSERT_OFFICE}
 use Rattle.office_store.specs.declared.users.TheConstants.{INSERT_USER}
+use Rattle.office_store.specs.Schema.{no_schema}
 use Rattle.office_store.specs.Steps.{statement}
 
 -- whether one of the six tables is there
 abbrev pub has_table : Schema → Bool
 has_table schema =
     list_any (λ name. is_some (table_named schema name)) (codes "office" ∷ codes "users" ∷ codes "revisions" ∷ codes "votes" ∷ codes "baselines" ∷ codes "holds" ∷ [])
+
+-- something is there, and none of the six tables
+abbrev pub IsForeign : Schema → Type 0
+IsForeign schema = (has_table schema ≡ false) × (schema ≢ no_schema)
 
 -- the connection shows what it showed, unless a fault of the disk has shut it
 abbrev pub IsAsItWas : State → State → Type 0

@@ -2,7 +2,7 @@
 use Rattle.std.specs.Prelude.{◌≡◌, ◌⊎◌, ◌<◌, ◌^◌, ℕ, pos, false, List, [], ◌∷◌, find, option_map, is_some, None, bytes_eq, IsTrue}
 use Rattle.sqlite.specs.declared.types.Value.TheVariants.{Null, Int}
 use Rattle.sqlite.specs.Order.{Row}
-use Rattle.sqlite.specs.Effect.{Database}
+use Rattle.sqlite.specs.Effect.{Database, IsDatabase}
 use Rattle.sqlite.specs.State.{State, HasCleanDisk}
 use Rattle.sqlite_trees.specs.Tree.{Trees}
 use Rattle.review_policy.specs.declared.ask.ProfileName.{ProfileName}
@@ -30,9 +30,10 @@ Baselines = Stores baseline_row (λ team e. bytes_eq team e.0) IsBaseline
 abbrev pub Holds : List Row → Type 0
 Holds = Stores hold_row is_profile IsProfileName
 
--- the database has the schema of an office, and at each key what the tables have there
+-- the database has the schema of an office, which its trees list and obey, and at each key what the tables have there
 pub record IsOffice (db : Database) (t : Tables) : Type 0 where
   pub schema : db.schema ≡ office_schema
+  pub sound : IsDatabase db
   pub office : db.trees 0 ≡ office_row t.listed ∷ []
   pub listed : t.listed < 2 ^ 41
   pub users : Users (db.trees 1)

@@ -1,6 +1,6 @@
 //! The test that a store is an office.
 
-ghost use Rattle.std.specs.Prelude.{◌≡◌, ◌≢◌, ◌<◌, ◌^◌, ℕ, List, [], true, Err, IfOk, OnOk, IfSome};
+ghost use Rattle.std.specs.Prelude.{◌≡◌, ◌≢◌, ◌<◌, ◌^◌, ℕ, List, [], false, Err, IfOk, OnOk};
 ghost use Rattle.std.specs.List.{list_all};
 ghost use Rattle.sqlite.specs.Held.{state};
 ghost use Rattle.sqlite.specs.State.{HasCleanDisk, Survives};
@@ -94,6 +94,7 @@ fn form_row<S: Alter>(conn: &mut Connection<S>) -> Result<Option<Row>, StoreFaul
 /// row has key 1, schema 2 and no bit but those of capabilities. Any other store is [`StoreFault::NotAnOffice`].
 pub fn check_office<S: Alter>(conn: &mut Connection<S>) -> Result<Caps, StoreFault>
     requires { IsIdle (state S.Store conn.old) }
+    ensures foreign { has_tables (state S.Store conn.old).now.schema ≡ false → (result ≡ Err StoreFault.NotAnOffice) × (conn.new ≡ conn.old) }
     ensures form { HasCleanDisk (state S.Store conn.new) → IfOk result (HasForm (state S.Store conn.old) (state S.Store conn.new)) }
     ensures found { (t : Tables) → Shows (state S.Store conn.old) t → HasCleanDisk (state S.Store conn.new) → IfOk result (λ listed. listed ≡ t.listed) }
     ensures formed { (t : Tables) → Shows (state S.Store conn.old) t → HasCleanDisk (state S.Store conn.new) → result ≢ Err StoreFault.NotAnOffice }

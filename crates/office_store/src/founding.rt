@@ -10,11 +10,12 @@ ghost use Rattle.office_tables.specs.declared.row.UserRow.{UserRow};
 ghost use Rattle.office_tables.specs.Tables.{Tables};
 ghost use Rattle.office_tables.specs.Changes.{founded_tables};
 ghost use Rattle.office_rows.specs.Statements.{begun, RanAll, FailedIn};
-ghost use Rattle.office_store.specs.Founding.{has_table, IsAsItWas, founding};
+ghost use Rattle.office_store.specs.Founding.{has_table, IsForeign, IsAsItWas, founding};
 ghost use Rattle.office_store.specs.Schema.{no_schema};
 ghost use Rattle.office_store.specs.Shown.{IsIdle, Shows, AreOffice, LeavesOnly};
 
 use crate::column::bytes_of;
+use crate::fault::FoundingFault;
 use crate::schema::{
     CREATE_BASELINES, CREATE_HOLDS, CREATE_OFFICE, CREATE_REVISIONS, CREATE_USERS, CREATE_VOTES,
 };
@@ -133,7 +134,6 @@ fn make_office<S: Alter>(
     ensures founded { HasCleanDisk (state S.Store conn.new) → OnOk result (Shows (state S.Store conn.new) (founded_tables (record { name = name.now; team = team.now; roles = 1; digest = digest.now }) listed)) }
     ensures kept { HasCleanDisk (state S.Store conn.new) → OnOk result (LeavesOnly (state S.Store conn.new) (founded_tables (record { name = name.now; team = team.now; roles = 1; digest = digest.now }) listed)) }
     ensures formed { HasCleanDisk (state S.Store conn.new) → result ≢ Err StoreFault.NotAnOffice }
-    ensures unfounded { result ≢ Err StoreFault.AlreadyFounded }
     ensures same { (state S.Store conn.old).now ≡ (state S.Store conn.old).committed → HasCleanDisk (state S.Store conn.new) → OnErr result (IsAsItWas (state S.Store conn.old) (state S.Store conn.new)) }
     ensures idle { IsIdle (state S.Store conn.new) }
     ensures clean { HasCleanDisk (state S.Store conn.new) → HasCleanDisk (state S.Store conn.old) }
@@ -156,32 +156,38 @@ fn make_office<S: Alter>(
 
 /// Founds an office in an empty store: its six tables, the listed capabilities, and its first user, who is a registrar.
 ///
-/// Where one of the tables is there it answers [`StoreFault::AlreadyFounded`], and where anything else is there
-/// [`StoreFault::NotAnOffice`]. After a fault the store is as it was. A crash leaves the store as it was or the founded
-/// office, and after `Ok` the founded office.
+/// A crash leaves the store as it was or the founded office, and after `Ok` the founded office.
+///
+/// # Errors
+///
+/// `AlreadyFounded` where one of the tables is there; `NotAnOffice` where none of them is and something else is; else the
+/// fault of the store.
 pub fn found<S: Alter>(
     conn: &mut Connection<S>,
     name: &Word,
     team: &Word,
     digest: &[u8; 32],
     listed: Caps,
-) -> Result<(), StoreFault>
+) -> Result<(), FoundingFault>
     requires { IsIdle (state S.Store conn.old) }
     ensures founded { HasCleanDisk (state S.Store conn.new) → OnOk result (Shows (state S.Store conn.new) (founded_tables (record { name = name.now; team = team.now; roles = 1; digest = digest.now }) listed)) }
     ensures kept { HasCleanDisk (state S.Store conn.new) → OnOk result (LeavesOnly (state S.Store conn.new) (founded_tables (record { name = name.now; team = team.now; roles = 1; digest = digest.now }) listed)) }
-    ensures already { result ≡ Err StoreFault.AlreadyFounded ↔ IsTrue (has_table (state S.Store conn.old).now.schema) }
+    ensures already { result ≡ Err FoundingFault.AlreadyFounded ↔ IsTrue (has_table (state S.Store conn.old).now.schema) }
+    ensures foreign { HasCleanDisk (state S.Store conn.new) → result ≡ Err (FoundingFault.Store StoreFault.NotAnOffice) ↔ IsForeign (state S.Store conn.old).now.schema }
     ensures empty { OnOk result ((state S.Store conn.old).now.schema ≡ no_schema) }
-    ensures formed { (state S.Store conn.old).now.schema ≡ no_schema → HasCleanDisk (state S.Store conn.new) → result ≢ Err StoreFault.NotAnOffice }
     ensures same { (state S.Store conn.old).now ≡ (state S.Store conn.old).committed → HasCleanDisk (state S.Store conn.new) → OnErr result (IsAsItWas (state S.Store conn.old) (state S.Store conn.new)) }
     ensures idle { IsIdle (state S.Store conn.new) }
     ensures clean { HasCleanDisk (state S.Store conn.new) → HasCleanDisk (state S.Store conn.old) }
     ensures crash { Survives (state S.Store conn.old) (state S.Store conn.new) (λ trees. AreOffice trees (founded_tables (record { name = name.now; team = team.now; roles = 1; digest = digest.now }) listed)) }
 {
     if has_table(conn.schema()) {
-        return Err(StoreFault::AlreadyFounded);
+        return Err(FoundingFault::AlreadyFounded);
     }
     if !is_empty(conn.schema()) {
-        return Err(StoreFault::NotAnOffice);
+        return Err(FoundingFault::Store(StoreFault::NotAnOffice));
     }
-    make_office(conn, name, team, digest, listed)
+    match make_office(conn, name, team, digest, listed) {
+        Ok(()) => Ok(()),
+        Err(fault) => Err(FoundingFault::Store(fault)),
+    }
 }

@@ -5,6 +5,7 @@
 pub mod author;
 pub mod baselines;
 mod column;
+pub mod fault;
 pub mod form;
 pub mod founding;
 pub mod holds;
@@ -19,6 +20,7 @@ mod write;
 
 pub use author::{authors, is_author};
 pub use baselines::{Adopted, baseline, put_baseline};
+pub use fault::FoundingFault;
 pub use form::check_office;
 pub use founding::found;
 pub use holds::{delete_hold, held, put_hold};

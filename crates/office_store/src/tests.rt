@@ -6,9 +6,9 @@ ghost use Rattle.sqlite_disk.specs.Memory.{memory_is_usable};
 ghost use Rattle.office_store.specs.Shown.{IsIdle};
 
 use crate::{
-    Ballot, add_revision, baseline, check_office, delete_hold, found, held, issued, last, listed,
-    put_baseline, put_hold, put_user, put_vote, revision, set_issued, set_withdrawn, user_by_name,
-    user_by_token,
+    Ballot, FoundingFault, add_revision, baseline, check_office, delete_hold, found, held, issued,
+    last, listed, put_baseline, put_hold, put_user, put_vote, revision, set_issued, set_withdrawn,
+    user_by_name, user_by_token,
 };
 use cap_sets::Caps;
 use office_tables::{StoreFault, UserRow};
@@ -19,15 +19,15 @@ use std::alloc::Global;
 use std::test::Fail;
 
 // Founds an office whose first user is root of the team ops, with the one listed capability CAP_SYS_ADMIN.
-fn found_office<S: Alter>(alloc: Global, conn: &mut Connection<S>) -> Result<(), StoreFault>
+fn found_office<S: Alter>(alloc: Global, conn: &mut Connection<S>) -> Result<(), FoundingFault>
     requires { IsIdle (state S.Store conn.old) }
     ensures { IsIdle (state S.Store conn.new) }
 {
     let (Ok(name), Ok(team)) = (Word::new(alloc, "root"), Word::new(alloc, "ops")) else {
-        return Err(StoreFault::NoMemory);
+        return Err(FoundingFault::Store(StoreFault::NoMemory));
     };
     let Some(listed) = Caps::from_name("CAP_SYS_ADMIN") else {
-        return Err(StoreFault::NotAnOffice);
+        return Err(FoundingFault::Store(StoreFault::NotAnOffice));
     };
     found(conn, &name, &team, &[1; 32], listed)
 }
@@ -371,16 +371,16 @@ fn an_office_is_founded_once_and_in_an_empty_store(rt: HostRuntime) -> Result<()
     assert_eq!(rt; roles_shown(alloc, &mut conn, &[1; 32]), Ok(1));
     assert_eq!(rt;
         found_office(alloc, &mut conn),
-        Err(StoreFault::AlreadyFounded)
+        Err(FoundingFault::AlreadyFounded)
     );
     for (sql, fault) in [
         (
             "CREATE TABLE Holds (name TEXT) STRICT",
-            StoreFault::AlreadyFounded,
+            FoundingFault::AlreadyFounded,
         ),
         (
             "CREATE TABLE notes (name TEXT) STRICT",
-            StoreFault::NotAnOffice,
+            FoundingFault::Store(StoreFault::NotAnOffice),
         ),
     ] {
         let mut conn = Connection::open_in_memory(alloc)?;

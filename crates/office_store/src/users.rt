@@ -116,7 +116,8 @@ pub fn user_by_token<S: Alter>(
     }
 }
 
-/// Puts a user in the place of any of that name. Where another user shows the same token, it fails.
+/// Puts a user in the place of any of that name. Where another user shows the same token the store refuses it, as
+/// [`StoreFault::Disk`].
 pub fn put_user<S: Alter>(conn: &mut Connection<S>, user: &UserRow) -> Result<(), StoreFault>
     requires { IsIdle (state S.Store conn.old) }
     ensures put { (t : Tables) → Shows (state S.Store conn.old) t → HasCleanDisk (state S.Store conn.new) → OnOk result (Shows (state S.Store conn.new) (with_user user.now t)) }

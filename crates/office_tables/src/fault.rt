@@ -3,13 +3,13 @@
 use std::alloc::AllocError;
 use thiserror::Error;
 
-/// Why a store gives no answer. The tables are as they were.
+/// Why a store gives no answer. Where the store is still open, its tables are as they were.
 #[derive(Clone, Copy, Debug, Drop, PartialEq, Eq, Error)]
 pub enum StoreFault {
     /// There was no memory.
     #[error("memory")]
     NoMemory,
-    /// The disk failed.
+    /// The disk failed, or the store refused a call for another cause, as a second row under one key.
     #[error("disk")]
     Disk,
     /// The disk is full, or a value is too big for it.
@@ -18,9 +18,6 @@ pub enum StoreFault {
     /// A table or a row isn't of an office's form.
     #[error("not-an-office")]
     NotAnOffice,
-    /// One of the tables is there already.
-    #[error("already-founded")]
-    AlreadyFounded,
 }
 
 impl From<AllocError> for StoreFault {

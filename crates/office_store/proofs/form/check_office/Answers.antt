@@ -1,4 +1,4 @@
-use Rattle.std.proofs.Common.{rules, ◌≡◌, Err, true, ap, ◌∙◌}
+use Rattle.std.proofs.Common.{rules, ◌≡◌, Err, true, refl, ap, ◌∙◌}
 use Rattle.sqlite.specs.Held.{state}
 use Rattle.office_tables.specs.declared.fault.StoreFault.TheVariants.{NotAnOffice}
 use Rattle.office_store.specs.Form.{has_tables}
@@ -27,3 +27,6 @@ returns-then-not-has_tables-clause-formed g c t shows clean same =
     let tables : c.has_tables.result ≡ true =
     c.has_tables.ensures ∙ ap has_tables c.schema.ensures.value ∙ shown_has_tables (state g.S.Store c.args.conn.now) (state g.S.Store c.args.conn.now) t shows c.requires.autocommit in
     absurd (let e = rw tables at c.if-not-has_tables.true in cc)
+
+pub returns-then-not-has_tables-clause-foreign : goal.returns-then-not-has_tables-clause-foreign
+returns-then-not-has_tables-clause-foreign g c _ = (refl, refl)

@@ -28,7 +28,7 @@ pub returns-in-Err-clause-formed : goal.returns-in-Err-clause-formed
 returns-in-Err-clause-formed g c t u shows steps clean same =
     let it = c.in-Err.ensures.cause clean in
     let k : c.fault_of.result ≡ NotAnOffice = cc in
-    (none_made g.S.Store (map statement_of c.args.statements.now) (begun c.args.conn.now) c.in-Err.error t u shows.office steps it).0 (sym c.fault_of.ensures.fault ∙ k)
+    (none_made g.S.Store (map statement_of c.args.statements.now) (begun c.args.conn.now) c.in-Err.error t u shows.office steps it).0 (sym c.fault_of.ensures ∙ k)
 
 pub returns-in-Err-clause-crash : goal.returns-in-Err-clause-crash
 returns-in-Err-clause-crash g c t u shows steps =
