@@ -64,3 +64,14 @@ fn commands_are_told_apart(rt: HostRuntime) -> Result<(), Fail> {
     assert!(rt; matches!(read_words(alloc, &words), Err(WordsFault::Help(_))));
     Ok(())
 }
+
+#[test]
+fn usage_names_the_office_whatever_the_program_file_is_called(rt: HostRuntime) -> Result<(), Fail> {
+    let alloc = rt.alloc();
+    let words = words_of(alloc, &["./out/office_program", "check", "--help"])?;
+    let Err(WordsFault::Help(help)) = read_words(alloc, &words) else {
+        return Err(Fail::from("no help"));
+    };
+    assert!(rt; help.as_str().contains("Usage: office check <FILE>"));
+    Ok(())
+}

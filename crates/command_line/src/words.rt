@@ -30,7 +30,8 @@ Examples:
 fn office_command<'a>(alloc: Global) -> Result<clap::Command<'a>, AllocError>
     ensures { IfOk result (λ c. app_of c ≡ office_app) }
 {
-    let office = described(clap::Command::new(alloc, "office"), ABOUT, EXAMPLES);
+    let office = clap::Command::new(alloc, "office").bin_name("office")?;
+    let office = described(office, ABOUT, EXAMPLES);
     let office = with_command(office, check_command(alloc)?)?;
     with_command(office, execve_command(alloc)?)
 }

@@ -18,8 +18,9 @@ use Rattle.profile_text.specs.declared.fault.DocFault.{DocFault}
 use Rattle.profile_text.specs.Text.{text_of}
 use Rattle.office_tables.specs.declared.row.UserRow.{UserRow}
 use Rattle.office_tables.specs.declared.row.RevisionRow.{RevisionRow}
+use Rattle.office_tables.specs.Lists.{holds_role}
 use Rattle.office_desk.specs.History.{History}
-use Rattle.office_desk.specs.Users.{user_of, user_showing, holds_role, is_named, is_of_team, name_of}
+use Rattle.office_desk.specs.Users.{user_of, user_showing, is_named, is_of_team, name_of}
 use Rattle.office_desk.specs.Revisions.{revision_of, revision_count, if_open, issued_revision, is_author, state_in}
 use Rattle.office_desk.specs.Votes.{approvals, rejections, secure_approvals}
 use Rattle.office_desk.specs.Holds.{is_held}

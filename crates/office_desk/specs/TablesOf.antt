@@ -2,8 +2,9 @@
 use Rattle.std.specs.Prelude.{ℕ, List, option_map}
 use Rattle.review_policy.specs.declared.role.Role.TheVariants.{Security}
 use Rattle.office_tables.specs.Tables.{Tables, Vote}
+use Rattle.office_tables.specs.Lists.{holds_role}
 use Rattle.office_desk.specs.History.{History}
-use Rattle.office_desk.specs.Users.{user_of, holds_role}
+use Rattle.office_desk.specs.Users.{user_of}
 use Rattle.office_desk.specs.Revisions.{revision_of}
 use Rattle.office_desk.specs.Votes.{CastVote, vote_of}
 use Rattle.office_desk.specs.Holds.{is_held}

@@ -1,8 +1,7 @@
 -- Who is enrolled: what the last enrolment of a name gave it.
 use Rattle.std.specs.Prelude.{ℕ, ◌^◌, List, [], ◌∷◌, Bool, false, if◌then◌else◌, Option, Some, None, option_and_then, bytes_eq, find}
-use Rattle.review_policy.specs.declared.role.Role.{Role}
 use Rattle.review_policy.specs.declared.role.Role.TheVariants.{Registrar}
-use Rattle.review_policy.specs.Role.{has_role, place_of}
+use Rattle.review_policy.specs.Role.{place_of}
 use Rattle.office_tables.specs.declared.row.UserRow.{UserRow}
 use Rattle.office_desk.specs.History.{founded, enrolled, History}
 
@@ -34,11 +33,6 @@ shows_digest digest (Some u) = bytes_eq u.digest digest
 -- the user whose present digest is this one
 abbrev pub user_showing : History → List ℕ → Option UserRow
 user_showing h digest = option_and_then (user_of h) (find (λ name. shows_digest digest (user_of h name)) (names_of h))
-
--- whether a user holds a role
-abbrev pub holds_role : Option UserRow → Role → Bool
-holds_role None role = false
-holds_role (Some u) role = has_role u.roles role
 
 -- whether the user has this name
 abbrev pub is_named : Option UserRow → List ℕ → Bool

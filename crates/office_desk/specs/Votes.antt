@@ -3,8 +3,9 @@ use Rattle.std.specs.Prelude.{ℕ, List, [], ◌∷◌, Bool, false, not, ◌&&�
 use Rattle.review_policy.specs.declared.ask.ProfileName.{ProfileName}
 use Rattle.review_policy.specs.declared.role.Role.TheVariants.{Reviewer, Security}
 use Rattle.office_tables.specs.Tables.{is_profile}
+use Rattle.office_tables.specs.Lists.{holds_role}
 use Rattle.office_desk.specs.History.{voted, History}
-use Rattle.office_desk.specs.Users.{user_of, holds_role}
+use Rattle.office_desk.specs.Users.{user_of}
 
 -- a vote, with the events before it
 pub record CastVote : Type 0 where

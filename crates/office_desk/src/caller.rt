@@ -1,7 +1,8 @@
 // What the rules ask of the user who calls.
 
 ghost use Rattle.std.specs.Prelude.{◌≡◌, is_some, not, ◌&&◌, ◌||◌, bytes_eq};
-ghost use Rattle.office_desk.specs.Users.{holds_role, is_named, is_of_team};
+ghost use Rattle.office_tables.specs.Lists.{holds_role};
+ghost use Rattle.office_desk.specs.Users.{is_named, is_of_team};
 ghost use Rattle.office_desk.specs.Facts.{is_elsewhere, is_another, sees_every_team};
 
 use office_tables::UserRow;

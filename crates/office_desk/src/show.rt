@@ -3,8 +3,9 @@
 ghost use Rattle.std.specs.Prelude.{◌≡◌, ◌||◌};
 ghost use Rattle.review_policy.specs.declared.ask.Ask.TheVariants as ask;
 ghost use Rattle.memory_store.specs.Shows.{Shows};
+ghost use Rattle.office_tables.specs.Lists.{holds_role};
 ghost use Rattle.office_desk.specs.History.{History};
-ghost use Rattle.office_desk.specs.Users.{holds_role, is_of_team};
+ghost use Rattle.office_desk.specs.Users.{is_of_team};
 ghost use Rattle.office_desk.specs.Facts.{read_facts, sees_every_team};
 ghost use Rattle.office_desk.specs.Verdict.{Measures, verdict_of};
 ghost use Rattle.office_desk.specs.TablesOf.{tables_of};
