@@ -27,8 +27,9 @@ fn reading(alloc: Global, document: &[u8]) -> Result<Result<Profile, DocFault>, 
     ensures fault { IfErr result (λ fault. fault ≡ StoreFault.NoMemory) }
 {
     match read(alloc, document) {
+        Ok(profile) => Ok(Ok(profile)),
         Err(DocFault::NoMemory) => Err(StoreFault::NoMemory),
-        reading => Ok(reading),
+        Err(fault) => Ok(Err(fault)),
     }
 }
 
