@@ -9,9 +9,11 @@
 mod calls;
 mod caps;
 mod finding;
+mod groups;
 mod laws;
 mod listed;
 mod listing;
+mod rules;
 #[cfg(test)]
 mod tests;
 mod wider;
