@@ -13,6 +13,8 @@ mod groups;
 mod laws;
 mod listed;
 mod listing;
+#[cfg(test)]
+mod plain_tests;
 mod rules;
 #[cfg(test)]
 mod tests;
