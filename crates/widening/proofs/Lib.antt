@@ -4,5 +4,6 @@ pub mod TextFacts
 pub mod CapFacts
 pub mod FoundFacts
 pub mod WiderFacts
+pub mod GroupFacts
 pub mod Permitted
 pub mod Itself

@@ -67,17 +67,17 @@ call_none p es earlier i e names told within is same none tells denied seen =
 
 -- ---- the set of all names
 
-shown_twice : (names : List (Bor (Bor (List ℕ)))) → map (λ n. n.now.now) names ≡ map (λ t. t.now) (map deref names)
+pub shown_twice : (names : List (Bor (Bor (List ℕ)))) → map (λ n. n.now.now) names ≡ map (λ t. t.now) (map deref names)
 shown_twice [] = refl
 shown_twice (n ∷ names) = ap (λ ts. n.now.now ∷ ts) (shown_twice names)
 
--- the names that were gone through are those of both filters, in order
-pub all_in_order : (walked : List (Bor (Bor (List ℕ)))) (start one two : List (Bor (List ℕ))) (base new base_entries new_entries : List EntryValue) →
-    map deref walked ≡ two → start ≡ [] → map (λ t. t.now) one ≡ put_in_order (map (λ t. t.now) start) (entry_names base_entries) →
+-- the names of both filters, in order
+pub all_in_order : (start one two : List (Bor (List ℕ))) (base new base_entries new_entries : List EntryValue) →
+    start ≡ [] → map (λ t. t.now) one ≡ put_in_order (map (λ t. t.now) start) (entry_names base_entries) →
     map (λ t. t.now) two ≡ put_in_order (map (λ t. t.now) one) (entry_names new_entries) → base_entries ≡ base → new_entries ≡ new →
-    map (λ n. n.now.now) walked ≡ in_byte_order (entry_names base ++ entry_names new)
-all_in_order walked start one two base new base_entries new_entries all none first second same_base same_new =
-    shown_twice walked ∙ ap (map (λ t. t.now)) all ∙ second
+    map (λ t. t.now) two ≡ in_byte_order (entry_names base ++ entry_names new)
+all_in_order start one two base new base_entries new_entries none first second same_base same_new =
+    second
     ∙ ap (λ ts. put_in_order ts (entry_names new_entries)) (first ∙ ap (λ ks. put_in_order (map (λ t. t.now) ks) (entry_names base_entries)) none)
     ∙ sym (put_in_order-append [] (entry_names base_entries) (entry_names new_entries))
     ∙ ap (λ es. in_byte_order (entry_names es ++ entry_names new_entries)) same_base

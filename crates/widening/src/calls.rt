@@ -81,7 +81,7 @@ fn is_at_most_entries(entries: &[Entry], name: &str, rank: u8) -> bool
 }
 
 // Whether the rank of an entry is this one or above it.
-fn has_rank_from(entry: &Entry, rank: u8) -> bool
+pub(crate) fn has_rank_from(entry: &Entry, rank: u8) -> bool
     ensures { result ≡ nat_le rank (entry_rank entry.now) }
 {
     rank <= entry.action().rank()

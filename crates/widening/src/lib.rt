@@ -9,9 +9,13 @@
 mod calls;
 mod caps;
 mod finding;
+mod groups;
 mod laws;
 mod listed;
 mod listing;
+#[cfg(test)]
+mod plain_tests;
+mod rules;
 #[cfg(test)]
 mod tests;
 mod wider;

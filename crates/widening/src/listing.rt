@@ -1,13 +1,13 @@
 // The list of findings.
 
-ghost use Rattle.std.specs.Prelude.{◌≡◌, ◌∷◌, ◌++◌, [], if◌then◌else◌, IfOk, OnOk};
+ghost use Rattle.std.specs.Prelude.{◌≡◌, ◌∷◌, ◌++◌, [], filter, if◌then◌else◌, map, IfOk, OnOk};
 ghost use Rattle.widening.specs.Calls.{entry_names, is_permitted_more};
 ghost use Rattle.widening.specs.Findings.{between_filters, call_findings, default_findings, filter_findings, findings_of};
 ghost use Rattle.widening.specs.Texts.{put_in_order, texts_in};
 
-use crate::calls::keeps_to;
 use crate::caps::find_caps;
 use crate::finding::Finding;
+use crate::groups::{Groups, keeps_to};
 use crate::listed::{find_architectures, find_flags};
 use profile_text::Profile;
 use seccomp_doc::{CallName, Entry, Filter};
@@ -91,7 +91,23 @@ fn find_calls(
     let mut names = BTreeSet::new(alloc);
     add_entries(&mut names, base.entries())?;
     add_entries(&mut names, new.entries())?;
-    for name in &names {
+    let base_groups = Groups::new(alloc, base)?;
+    let new_groups = Groups::new(alloc, new)?;
+    find_named(alloc, found, &base_groups, &new_groups, &names)
+}
+
+// Adds each of these names, where the new filter may permit a call of it more.
+fn find_named(
+    alloc: Global,
+    found: &mut Vec<Finding>,
+    base: &Groups,
+    new: &Groups,
+    names: &BTreeSet<&str>,
+) -> Result<(), AllocError>
+    ensures { OnOk result (found.new.items ≡ found.old.items
+        ++ map Finding.Call (filter (is_permitted_more base.now.filter.now new.now.filter.now) (texts_in names.now))) }
+{
+    for name in names {
         find_call(alloc, found, base, new, name)?;
     }
     Ok(())
@@ -101,12 +117,12 @@ fn find_calls(
 fn find_call(
     alloc: Global,
     found: &mut Vec<Finding>,
-    base: &Filter,
-    new: &Filter,
+    base: &Groups,
+    new: &Groups,
     name: &str,
 ) -> Result<(), AllocError>
     ensures { OnOk result (found.new.items ≡ found.old.items
-        ++ (if is_permitted_more base.now new.now name.now then Finding.Call name.now ∷ [] else [])) }
+        ++ (if is_permitted_more base.now.filter.now new.now.filter.now name.now then Finding.Call name.now ∷ [] else [])) }
 {
     if !keeps_to(base, new, name) {
         let name = CallName::read(alloc, name).map_err(|_| AllocError)?;

@@ -1,6 +1,5 @@
 // Findings by examples.
 
-use crate::calls::keeps_to;
 use crate::{Finding, findings, is_wider};
 use cap_sets::{CapState, Caps};
 use profile_text::Profile;
@@ -10,7 +9,7 @@ use seccomp_doc::{
 use std::alloc::{AllocError, Global};
 use std::test::Fail;
 
-fn arg(op: Op, value: u64, value_two: u64) -> ArgParts {
+pub(crate) fn arg(op: Op, value: u64, value_two: u64) -> ArgParts {
     ArgParts {
         index: 0,
         op,
@@ -34,7 +33,7 @@ fn entry(
 }
 
 // A filter of these entries.
-fn filter(
+pub(crate) fn filter(
     alloc: Global,
     default: ActionWord,
     entries: Vec<EntryParts>,
@@ -64,7 +63,7 @@ fn no_caps() -> CapState {
 }
 
 // The profile with no capability and this filter.
-fn filtered(filter: Filter) -> Profile {
+pub(crate) fn filtered(filter: Filter) -> Profile {
     Profile::new(no_caps(), Some(filter))
 }
 
@@ -77,7 +76,7 @@ fn allowing(alloc: Global, name: &str, args: &[ArgParts]) -> Result<Profile, Fai
 }
 
 // The findings as one text, each ended by a semicolon.
-fn told(alloc: Global, base: &Profile, new: &Profile) -> Result<String, AllocError> {
+pub(crate) fn told(alloc: Global, base: &Profile, new: &Profile) -> Result<String, AllocError> {
     let mut text = String::new(alloc);
     for finding in &findings(alloc, base, new)? {
         match finding {
@@ -274,61 +273,5 @@ fn all_kinds_in_their_order(rt: HostRuntime) -> Result<(), Fail> {
         "effective 0;permitted 0;permitted 2;inheritable 0;bounding 0;bounding 2;\
         SCMP_ARCH_X86;SECCOMP_FILTER_FLAG_TSYNC;call close;call read;call write;default;"
     );
-    Ok(())
-}
-
-// A filter of 2,048 entries with a name each, where the argument may be at most the number of the entry and this much.
-fn large(alloc: Global, more: u64) -> Result<Profile, Fail> {
-    let mut entries = Vec::new(alloc);
-    for number in 0..2048u64 {
-        let name = format!(in alloc; "call_{number}")?;
-        let most = if number % 2 == 0 {
-            number
-        } else {
-            number.saturating_add(more)
-        };
-        entries.push(entry(
-            alloc,
-            name.as_str(),
-            ActionWord::Allow,
-            &[arg(Op::LessOrEqual, most, 0)],
-        )?)?;
-    }
-    Ok(filtered(filter(alloc, ActionWord::Errno, entries)?))
-}
-
-#[test]
-fn two_filters_of_2048_entries(rt: HostRuntime) -> Result<(), Fail> {
-    let alloc = rt.alloc();
-    let base = large(alloc, 0)?;
-    let wider = large(alloc, 1)?;
-    assert_eq!(rt; findings(alloc, &base, &wider)?.len(), 1024);
-    assert!(rt; is_wider(&base, &wider));
-    assert!(rt; !is_wider(&wider, &base));
-    Ok(())
-}
-
-// The plain body looks at all entries for each name.
-#[test]
-fn the_plain_body_finds_the_same_calls(rt: HostRuntime) -> Result<(), Fail> {
-    let alloc = rt.alloc();
-    let base = large(alloc, 0)?;
-    let wider = large(alloc, 1)?;
-    let found = findings(alloc, &base, &wider)?;
-    let base = base.filter.as_ref().ok_or("filter")?;
-    let wider = wider.filter.as_ref().ok_or("filter")?;
-    for finding in &found {
-        assert!(rt;
-            matches!(finding, Finding::Call(name) if !keeps_to(base, wider, name.as_str()))
-        );
-    }
-    let mut failing = 0usize;
-    for number in 0..2048u64 {
-        let name = format!(in alloc; "call_{number}")?;
-        if !keeps_to(base, wider, name.as_str()) {
-            failing = failing.saturating_add(1);
-        }
-    }
-    assert_eq!(rt; found.len(), failing);
     Ok(())
 }

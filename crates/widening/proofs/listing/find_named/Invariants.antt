@@ -2,8 +2,8 @@ use Rattle.std.proofs.Common.{◌≡◌, ◌++◌, map}
 use Rattle.std.specs.Prelude.{filter}
 use Rattle.widening.specs.declared.finding.Finding.TheVariants.{Call}
 use Rattle.widening.specs.Calls.{is_permitted_more}
-use Rattle.widening.proofs.listing.find_calls.Given as goal
+use Rattle.widening.proofs.listing.find_named.Given as goal
 
 abbrev pub invariant-loop-name : goal.invariant-loop-name
 invariant-loop-name l =
-    l.found.items ≡ l.initial.found.items ++ map Call (filter (is_permitted_more l.base l.new) (map (λ name. name.now.now) l.yielded))
+    l.found.items ≡ l.initial.found.items ++ map Call (filter (is_permitted_more l.base.filter.now l.new.filter.now) (map (λ name. name.now.now) l.yielded))

@@ -1,0 +1,14 @@
+use Rattle.std.proofs.Common.{◌≡◌, ◌∙◌, ap, sym, rules, tests}
+use Rattle.std.specs.List.{list_any}
+use Rattle.std.proofs.lemmas.Iterator.{YieldsList-from_slice}
+use Rattle.std.proofs.lemmas.Iterator.Search.{any_from_yields_List}
+use Rattle.widening.proofs.Searches.{list_any-map}
+use Rattle.implication.specs.Implication.{entry_implies}
+use Rattle.widening.proofs.rules.implies_some.Goals as goal
+
+pub returns : goal.returns
+returns c =
+    let told : c.any.result ≡ list_any (λ e. entry_implies c.args.entry.now e.now) c.rules.inside.entries.now =
+    any_from_yields_List (λ e. entry_implies c.args.entry.now e.now) _ _ c.any.result c.any.ensures.ran (YieldsList-from_slice c.rules.inside.entries.now cc) (λ x b q k. search (rules, tests)) in
+    told ∙ sym (list_any-map (λ e. entry_implies c.args.entry.now e) (λ e. e.now) c.rules.inside.entries.now)
+    ∙ ap (λ r. list_any (λ e. entry_implies c.args.entry.now e) r.entries) c.rules.view_is
