@@ -32,6 +32,10 @@ pub use users::{put_user, user_by_name, user_by_token};
 pub use votes::{Ballot, put_vote};
 
 #[cfg(test)]
+mod file_tests;
+#[cfg(test)]
 mod list_tests;
+#[cfg(test)]
+mod memory_tests;
 #[cfg(test)]
 mod tests;

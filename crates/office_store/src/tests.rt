@@ -19,7 +19,10 @@ use std::alloc::Global;
 use std::test::Fail;
 
 // Founds an office whose first user is root of the team ops, with the one listed capability CAP_SYS_ADMIN.
-fn found_office<S: Alter>(alloc: Global, conn: &mut Connection<S>) -> Result<(), FoundingFault>
+pub(crate) fn found_office<S: Alter>(
+    alloc: Global,
+    conn: &mut Connection<S>,
+) -> Result<(), FoundingFault>
     requires { IsIdle (state S.Store conn.old) }
     ensures { IsIdle (state S.Store conn.new) }
 {
@@ -62,7 +65,7 @@ pub(crate) fn user(alloc: Global, name: &str, bits: u8, first: u8) -> Result<Use
 }
 
 // The roles of the user of that name, or 99 where there is none.
-fn roles_of<S: Alter>(
+pub(crate) fn roles_of<S: Alter>(
     alloc: Global,
     conn: &mut Connection<S>,
     name: &Word,
@@ -91,7 +94,7 @@ fn roles_shown<S: Alter>(
     })
 }
 
-fn put<S: Alter>(conn: &mut Connection<S>, user: &UserRow) -> Result<(), StoreFault>
+pub(crate) fn put<S: Alter>(conn: &mut Connection<S>, user: &UserRow) -> Result<(), StoreFault>
     requires { IsIdle (state S.Store conn.old) }
     ensures { IsIdle (state S.Store conn.new) }
 {
@@ -129,7 +132,7 @@ fn a_token_of_another_user_is_refused(rt: HostRuntime) -> Result<(), Fail> {
 }
 
 // The state of a revision, where there is one.
-fn state_of<S: Alter>(
+pub(crate) fn state_of<S: Alter>(
     alloc: Global,
     conn: &mut Connection<S>,
     name: &ProfileName,
@@ -175,7 +178,7 @@ fn last_of<S: Alter>(
 }
 
 // Adds a revision of ann's, and answers its number.
-fn add<S: Alter>(
+pub(crate) fn add<S: Alter>(
     alloc: Global,
     conn: &mut Connection<S>,
     name: &ProfileName,
@@ -236,7 +239,7 @@ fn a_revision_is_closed_issued_replaced_and_withdrawn(rt: HostRuntime) -> Result
 }
 
 // The number that the team last adopted, or 0.
-fn adopted_of<S: Alter>(
+pub(crate) fn adopted_of<S: Alter>(
     alloc: Global,
     conn: &mut Connection<S>,
     team: &Word,
@@ -250,7 +253,7 @@ fn adopted_of<S: Alter>(
     })
 }
 
-fn adopt<S: Alter>(
+pub(crate) fn adopt<S: Alter>(
     conn: &mut Connection<S>,
     name: &ProfileName,
     number: u32,
@@ -261,7 +264,7 @@ fn adopt<S: Alter>(
     put_baseline(conn, name, number)
 }
 
-fn hold<S: Alter>(conn: &mut Connection<S>, name: &ProfileName) -> Result<(), StoreFault>
+pub(crate) fn hold<S: Alter>(conn: &mut Connection<S>, name: &ProfileName) -> Result<(), StoreFault>
     requires { IsIdle (state S.Store conn.old) }
     ensures { IsIdle (state S.Store conn.new) }
 {
@@ -275,7 +278,10 @@ fn release<S: Alter>(conn: &mut Connection<S>, name: &ProfileName) -> Result<(),
     delete_hold(conn, name)
 }
 
-fn is_held<S: Alter>(conn: &mut Connection<S>, name: &ProfileName) -> Result<bool, StoreFault>
+pub(crate) fn is_held<S: Alter>(
+    conn: &mut Connection<S>,
+    name: &ProfileName,
+) -> Result<bool, StoreFault>
     requires { IsIdle (state S.Store conn.old) }
     ensures { IsIdle (state S.Store conn.new) }
 {
@@ -345,7 +351,7 @@ fn the_last_vote_of_a_user_stands(rt: HostRuntime) -> Result<(), Fail> {
 }
 
 // The bits of the listed capabilities, where the store is an office.
-fn checked<S: Alter>(conn: &mut Connection<S>) -> Result<u64, StoreFault>
+pub(crate) fn checked<S: Alter>(conn: &mut Connection<S>) -> Result<u64, StoreFault>
     requires { IsIdle (state S.Store conn.old) }
     ensures { IsIdle (state S.Store conn.new) }
 {
