@@ -10,7 +10,7 @@ use seccomp_doc::{Entry, Filter};
 use std::alloc::{AllocError, Global};
 use std::collections::BTreeMap;
 
-// A filter, its entries by the names of their calls, and the entries of a name that none has.
+// A filter, and its entries by the names of their calls. `none` stands for the group of a name that no entry has.
 #[derive(Drop)]
 pub(crate) struct Groups<'a> {
     filter: &'a Filter,
@@ -52,7 +52,7 @@ pub(crate) fn keeps_to(base: &Groups, new: &Groups, name: &str) -> bool
     permits_no_more(&base.rules(name), &new.rules(name))
 }
 
-// The entries under a name, or these, which are none.
+// The entries under a name, or `none` where there is no group.
 fn entries_of<'b, 'a>(
     groups: &'b BTreeMap<&'a str, Vec<&'a Entry>>,
     none: &'b Vec<&'a Entry>,
