@@ -1,6 +1,6 @@
 -- Why a DELETE, an INSERT or an UPDATE of a known meaning fails: never for the form of the tables.
-use Rattle.std.proofs.Common.{◌⊎◌, inl, inr, ◌≡◌, ◌≢◌, ℕ, ℤ, List, [], Bool, true, false, Option, None, Some, Ok, Err, Result, refl, sym, ap, subst, ◌∙◌}
-use Rattle.std.specs.Prelude.{MatchBool, option_map, slice_get, length}
+use Rattle.std.proofs.Common.{inl, inr, ◌≡◌, ℕ, ℤ, List, [], Bool, true, false, Option, None, Some, Ok, Err, Result, sym, ap, subst, ◌∙◌}
+use Rattle.std.specs.Prelude.{MatchBool, slice_get, length}
 use Rattle.std.specs.List.{fold}
 use Rattle.sqlite.specs.Clock.{timed}
 use Rattle.sqlite.specs.Edit.{edit_of}
@@ -12,7 +12,7 @@ use Rattle.sqlite_resolve.specs.declared.compiled.Compiled.{Compiled}
 use Rattle.sqlite.specs.Order.{Row}
 use Rattle.sqlite.specs.declared.error.Error.{Error}
 use Rattle.sqlite.specs.declared.error.Error.TheVariants as error
-use Rattle.sqlite.specs.Effect.{Database, RefusesQuery, RefusesSource, edit_error, alter_error}
+use Rattle.sqlite.specs.Effect.{Database, edit_error, alter_error}
 use Rattle.sqlite.specs.Command.{Command}
 use Rattle.sqlite.specs.Command.TheVariants.{Insert, Update, Delete, CreateTable}
 use Rattle.sqlite.specs.Compile.{table_defined_by}
@@ -26,7 +26,6 @@ use Rattle.sqlite.specs.Source.TheVariants as source
 use Rattle.sqlite_schema.specs.declared.program.Program.{Program}
 use Rattle.sqlite_schema.specs.declared.schema.Keys.{Keys}
 use Rattle.sqlite_schema.specs.declared.schema.Among.{Among}
-use Rattle.sqlite_schema.specs.declared.command.Returning.{Returning}
 use Rattle.sqlite.specs.Schema.{Schema}
 use Rattle.sqlite.specs.Table.{Table}
 use Rattle.sqlite.specs.Tree.{Trees}
@@ -34,10 +33,10 @@ use Rattle.sqlite.specs.Edit.{Edit}
 use Rattle.sqlite_rules.specs.declared.error.Refusal.{Refusal}
 use Rattle.sqlite_rules.specs.declared.error.Refusal.TheVariants.{Violates, Mismatch, NoRowid, BadReference, TooDeep}
 use Rattle.sqlite.specs.declared.run.Mode.{Mode}
-use Rattle.sqlite.specs.Rows.{Part, Gives, Refuses, Then, Queried, Sourced, Edited, Task, Written, Counter, CounterIn, Counts, CountsIn, Deletes, Inserts, Updates, sequence, counter_in, counting, rowids_for, count_of, higher, last_id, stamped}
+use Rattle.sqlite.specs.Rows.{Part, Gives, Refuses, Then, Queried, Sourced, Edited, Task, Written, Counter, CounterIn, Counts, CountsIn, Deletes, Inserts, Updates, counter_in, counting, rowids_for, count_of, higher, last_id, stamped}
 use Rattle.sqlite.specs.Does.{Tested, Does, AtPlace, Concludes, OnRows, Tally, MakesTable, MakesSequence, lacks_sequence, no_rows}
 use Rattle.sqlite.specs.Listing.{understood}
-use Rattle.sqlite.specs.State.{State, IsNotRun, IsMisplaced, RunsAlone, RunsCommand, ExecutesIn, ExecutesInside, shows_rows, mode_of, text_of, Fails, IsUnchanged}
+use Rattle.sqlite.specs.State.{State, IsNotRun, IsMisplaced, RunsCommand, ExecutesIn, ExecutesInside, shows_rows, mode_of, text_of, Fails, IsUnchanged}
 use Rattle.sqlite.proofs.Callers.{IsPlain, command_of, statement_of}
 use Rattle.office_rows.proofs.Plain.{Means}
 use Rattle.office_rows.specs.Faults.{IsOfMachine}

@@ -8,7 +8,6 @@ use Rattle.sqlite.specs.Term.{Term, eval_all, holds}
 use Rattle.sqlite.specs.Command.{Command}
 use Rattle.sqlite.specs.Command.TheVariants.{Select}
 use Rattle.sqlite.specs.Program.{overlay}
-use Rattle.sqlite.specs.declared.error.Error.{Error}
 use Rattle.sqlite.specs.State.{State, QueriesRow, Shown, IsUnchanged, Survives, CommitsShowing}
 use Rattle.sqlite.specs.Listing.{understood}
 use Rattle.sqlite.proofs.Callers.{IsPlain, never_commits}

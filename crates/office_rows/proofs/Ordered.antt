@@ -1,5 +1,5 @@
 -- What the first row of a query that is put in an order tells of the entries that a table keeps.
-use Rattle.std.proofs.Common.{inl, inr, ◌≡◌, ◌≢◌, ◌<◌, ℕ, ℤ, pos, List, [], ◌∷◌, map, take, length, Bool, true, false, Option, None, Some, Ok, Err, Result, IfOk, OnOk, IsTrue, All, refl, sym, ap, subst, ◌∙◌, arith}
+use Rattle.std.proofs.Common.{inl, ◌≡◌, ◌≢◌, ℕ, ℤ, pos, List, [], ◌∷◌, map, take, Bool, true, false, Option, None, Some, Ok, Err, Result, IfOk, OnOk, IsTrue, All, refl, sym, ap, subst, ◌∙◌, arith}
 use Rattle.std.specs.Prelude.{filter}
 use Rattle.std.specs.List.{list_all}
 use Rattle.std.specs.Ordering.{is_lt}
@@ -9,7 +9,7 @@ use Rattle.std.proofs.lemmas.List.Elements.{All-contains}
 use Rattle.sqlite.specs.declared.types.Value.TheVariants.{Null, Int}
 use Rattle.sqlite.specs.Order.{Row}
 use Rattle.sqlite.specs.Schema.{Schema}
-use Rattle.sqlite.specs.Term.{Term, Env, lit, eval_all, holds}
+use Rattle.sqlite.specs.Term.{Term, lit, eval_all, holds}
 use Rattle.sqlite.specs.Command.TheVariants.{Select}
 use Rattle.sqlite.specs.Program.{overlay}
 use Rattle.sqlite.specs.State.{State, QueriesRow, Shown}

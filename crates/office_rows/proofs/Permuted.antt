@@ -6,7 +6,6 @@ use Rattle.std.specs.List.Sorted.{IsPermutation}
 use Rattle.std.proofs.Math.ListN.{get_or, set, length-map, get_or-map}
 use Rattle.std.proofs.lemmas.List.{map-set, map-append}
 use Rattle.std.proofs.lemmas.List.Sorted.{IsPermutation-refl, IsPermutation-trans, IsPermutation-sym, IsPermutation-map, IsPermutation-swap, IsPermutation-keeps, IsPermutation-filter_both}
-use Rattle.std.proofs.lemmas.Bool.{both_ways}
 
 module _ {X Y : Type 0} (f : X → Y) where
   map_swap : (xs : List X) (i j : ℕ) → map f (swap xs i j) ≡ swap (map f xs) i j

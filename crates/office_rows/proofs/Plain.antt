@@ -1,5 +1,5 @@
 -- The query of one table by tests on its columns, and what a text means under a schema.
-use Rattle.std.proofs.Common.{◌≡◌, List, [], None, Bool, false, ℕ, pos, negsuc}
+use Rattle.std.proofs.Common.{◌≡◌, List, [], None, false, ℕ, pos, negsuc}
 use Rattle.sqlite.specs.declared.types.Value.TheVariants.{Int}
 use Rattle.sqlite.specs.Term.{Term, lit}
 use Rattle.sqlite.specs.Query.{Query, inner, end}

@@ -1,5 +1,5 @@
 -- Rows under rowids of their own: what taking some out and putting one in makes of the entries.
-use Rattle.std.proofs.Common.{◌⊎◌, inl, inr, ◌≡◌, ℕ, ℤ, List, [], ◌∷◌, ◌++◌, map, Bool, true, false, not, cond, refl, sym, ap, subst, ◌∙◌, true≢false}
+use Rattle.std.proofs.Common.{inl, inr, ◌≡◌, ℤ, List, [], ◌∷◌, ◌++◌, map, Bool, true, false, not, cond, refl, sym, ap, ◌∙◌, true≢false}
 use Rattle.std.specs.Prelude.{filter, ◌&&◌, ◌||◌}
 use Rattle.std.specs.List.{list_all, list_any, AllByRecursion}
 use Rattle.std.specs.Cmp.{both_ways}
@@ -12,7 +12,7 @@ use Rattle.sqlite.specs.declared.types.Value.TheVariants.{Int}
 use Rattle.sqlite.specs.Order.{Row}
 use Rattle.sqlite_value.specs.Order.{value_cmp}
 use Rattle.sqlite_value.proofs.OrderLemmas.{value_cmp_total}
-use Rattle.sqlite_trees.specs.Tree.{rowid, has_rowid, without_rowid, put_row, IsAscending}
+use Rattle.sqlite_trees.specs.Tree.{has_rowid, without_rowid, put_row}
 use Rattle.sqlite_trees.proofs.ListLemmas.{filter-map, ascending-filter, filter_all, IsPermutation-filter}
 use Rattle.sqlite_rules.specs.Edit.{without_all, put_all, is_taken, are_fresh}
 use Rattle.sqlite_rules.specs.Lists.{Has}

@@ -1,7 +1,7 @@
 -- What a statement of a known meaning makes of the entries of a table and of what stands at each key.
-use Rattle.std.proofs.Common.{◌≡◌, ℕ, ℤ, List, [], ◌∷◌, map, Bool, not, cond, Option, None, Some, Ok, refl, sym, ◌∙◌}
+use Rattle.std.proofs.Common.{◌≡◌, ℕ, ℤ, List, [], ◌∷◌, map, Bool, not, cond, Option, None, Some, Ok, refl}
 use Rattle.std.specs.Prelude.{filter, find, option_map, length, ◌/◌}
-use Rattle.std.specs.List.{list_all, AllByRecursion}
+use Rattle.std.specs.List.{list_all}
 use Rattle.std.specs.Bool.{Decides}
 use Rattle.sqlite.specs.declared.types.Value.TheVariants.{Null}
 use Rattle.sqlite.specs.Order.{Row}

@@ -1,5 +1,5 @@
 -- What the statements of a write leave of an office.
-use Rattle.std.proofs.Common.{arith, Ok, Err, Result, OnOk, OnErr, inl, inr, ◌≡◌, List, [], ◌∷◌, refl, sym, ap, subst, ◌∙◌}
+use Rattle.std.proofs.Common.{arith, Ok, Err, Result, OnOk, OnErr, inl, inr, ◌≡◌, List, [], ◌∷◌, refl, sym, subst}
 use Rattle.sqlite.specs.declared.error.Error.{Error}
 use Rattle.sqlite.specs.Store.{Ghosts}
 use Rattle.sqlite.specs.Effect.{Database}
@@ -11,7 +11,7 @@ use Rattle.office_rows.specs.Faults.{IsOfMachine}
 use Rattle.office_rows.specs.Statements.{Statement, RanAll, FailedIn}
 use Rattle.office_rows.proofs.Errors.{of_store}
 use Rattle.office_store.specs.Shown.{IsOffice, AreOffice}
-use Rattle.office_store.specs.Steps.{IsStep, AreSteps}
+use Rattle.office_store.specs.Steps.{AreSteps}
 
 module _ {S : Type 0} (g : Ghosts S) where
   pub all_made : (ss : List Statement) (h : Held S) (db : Database) (t u : Tables) → IsOffice (state g h).now t → AreSteps g ss t u → RanAll g ss h db → IsOffice db u

@@ -1,5 +1,5 @@
 -- A connection that was left as it was shows the tables that it showed; and what a row says of an optional entry.
-use Rattle.std.proofs.Common.{◌≡◌, Option, None, Some, Result, Ok, Err, OnOk, IsTrue, refl, sym, ap, ◌∙◌}
+use Rattle.std.proofs.Common.{◌≡◌, Option, None, Some, Result, Ok, Err, OnOk, IsTrue, refl, sym, ◌∙◌}
 use Rattle.std.specs.Prelude.{option_map, is_some}
 use Rattle.sqlite.specs.State.{State}
 use Rattle.office_tables.specs.declared.fault.StoreFault.{StoreFault}

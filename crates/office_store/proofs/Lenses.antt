@@ -1,5 +1,5 @@
 -- An office of which one table was written.
-use Rattle.std.proofs.Common.{◌≡◌, ◌≢◌, ℕ, List, [], ◌∷◌, Bool, Option, refl, sym, ◌∙◌, arith}
+use Rattle.std.proofs.Common.{◌≡◌, ℕ, List, Bool, Option, refl, ◌∙◌, arith}
 use Rattle.std.specs.Prelude.{find, option_map, is_some, bytes_eq}
 use Rattle.sqlite.specs.Order.{Row}
 use Rattle.sqlite.specs.Effect.{Database}
@@ -7,10 +7,10 @@ use Rattle.review_policy.specs.declared.ask.ProfileName.{ProfileName}
 use Rattle.office_tables.specs.declared.row.UserRow.{UserRow}
 use Rattle.office_tables.specs.declared.row.RevisionRow.{RevisionRow}
 use Rattle.office_tables.specs.Tables.{Tables, Vote, Baseline, is_profile}
-use Rattle.office_rows.specs.Entries.{Keeps, Stores}
+use Rattle.office_rows.specs.Entries.{Stores}
 use Rattle.office_rows.proofs.Writing.{IsTableOf, WritesIn}
 use Rattle.office_store.specs.Schema.{office_schema, users_table, revisions_table, votes_table, baselines_table, holds_table}
-use Rattle.office_store.specs.Entries.{is_named, user_row, IsUser, IsProfileName, same_revision, revision_key, revision_row, IsRevision, VoteKey, same_vote, vote_row, IsVote, baseline_row, IsBaseline, hold_row}
+use Rattle.office_store.specs.Entries.{is_named, same_revision, revision_key, same_vote}
 use Rattle.office_store.specs.Shown.{Users, Revisions, Votes, Baselines, Holds, IsOffice}
 
 pub is_users : IsTableOf office_schema 1 (users_table 1)

@@ -1,10 +1,10 @@
 -- Tests on the columns of profiles, revisions and votes.
-use Rattle.std.proofs.Common.{◌≡◌, ℕ, ℤ, pos, List, [], ◌∷◌, Bool, true, false, cond, refl, sym, ap, subst, ◌∙◌, arith}
+use Rattle.std.proofs.Common.{◌≡◌, ℕ, ℤ, pos, List, [], ◌∷◌, Bool, true, false, refl, sym, subst, arith}
 use Rattle.std.specs.Prelude.{bytes_eq, ◌&&◌, ◌==◌}
 use Rattle.std.specs.Bool.{Decides}
 use Rattle.std.specs.List.{list_all}
 use Rattle.std.specs.Cmp.{both_ways}
-use Rattle.std.proofs.lemmas.Bool.Decides.{nat_tests, eqb_tells}
+use Rattle.std.proofs.lemmas.Bool.Decides.{nat_tests}
 use Rattle.std.proofs.lemmas.Slice.Eq.{bytes_eq-Decides}
 use Rattle.sqlite.specs.declared.types.Value.TheVariants.{Int, Text}
 use Rattle.sqlite.specs.Order.{Row}

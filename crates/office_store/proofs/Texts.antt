@@ -2,8 +2,8 @@
 use Rattle.std.proofs.Common.{◌≡◌, Ok, refl}
 use Rattle.sqlite.specs.Compile.{table_defined_by}
 use Rattle.sqlite_tied.specs.Compute.{everything}
-use Rattle.office_store.specs.declared.schema.TheConstants.{CREATE_OFFICE, CREATE_USERS, CREATE_REVISIONS, CREATE_VOTES, CREATE_BASELINES, CREATE_HOLDS}
-use Rattle.office_store.specs.Schema.{office_table, users_table, revisions_table, votes_table, baselines_table, holds_table}
+use Rattle.office_store.specs.declared.schema.TheConstants.{CREATE_OFFICE, CREATE_HOLDS}
+use Rattle.office_store.specs.Schema.{office_table, holds_table}
 
 pub office_is : table_defined_by CREATE_OFFICE.now ≡ Ok (office_table 0)
 unfolding everything

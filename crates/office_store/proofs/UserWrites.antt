@@ -1,8 +1,8 @@
 -- What the writes of users make of the tables.
-use Rattle.std.proofs.Common.{◌≡◌, ℕ, ℤ, pos, List, [], ◌∷◌, Bool, true, false, cond, Option, None, Some, refl, sym, ap, subst, ◌∙◌}
-use Rattle.std.specs.Prelude.{bytes_eq, find}
+use Rattle.std.proofs.Common.{◌≡◌, ℕ, pos, List, [], ◌∷◌, Bool, true, false, cond, Option, None, Some, refl, sym, ap, subst, ◌∙◌}
+use Rattle.std.specs.Prelude.{bytes_eq}
 use Rattle.std.proofs.lemmas.Slice.Eq.{bytes_eq-Decides}
-use Rattle.sqlite.specs.declared.types.Value.TheVariants.{Null, Int, Text, Blob}
+use Rattle.sqlite.specs.declared.types.Value.TheVariants.{Null, Text}
 use Rattle.sqlite.specs.Order.{Row}
 use Rattle.sqlite.specs.Term.{Term, lit, col}
 use Rattle.sqlite.specs.Cast.{cast_row}
@@ -21,7 +21,7 @@ use Rattle.office_rows.proofs.Failing.{delete_failed, insert_failed}
 use Rattle.office_rows.proofs.Steps.{removes, puts}
 use Rattle.office_store.specs.declared.users.TheConstants.{DELETE_USER, INSERT_USER}
 use Rattle.office_store.specs.Schema.{office_schema, users_table}
-use Rattle.office_store.specs.Entries.{is_named, user_row, IsUser}
+use Rattle.office_store.specs.Entries.{user_row, IsUser}
 use Rattle.office_store.specs.Steps.{statement, IsStep, AreSteps}
 use Rattle.office_store.proofs.Columns.{column_is, cast_null, cast_int}
 use Rattle.office_store.proofs.Lenses.{is_users, with_users}

@@ -9,7 +9,7 @@ use Rattle.review_policy.specs.declared.ask.ProfileName.{ProfileName}
 use Rattle.office_tables.specs.Tables.{Tables, is_profile}
 use Rattle.office_rows.specs.Entries.{Stores}
 use Rattle.office_store.specs.Schema.{office_schema}
-use Rattle.office_store.specs.Entries.{is_named, user_row, IsUser, IsProfileName, Revision, same_revision, revision_key, revision_row, IsRevision, VoteEntry, same_vote, vote_row, IsVote, BaselineEntry, baseline_row, IsBaseline, hold_row}
+use Rattle.office_store.specs.Entries.{is_named, user_row, IsUser, IsProfileName, same_revision, revision_key, revision_row, IsRevision, same_vote, vote_row, IsVote, baseline_row, IsBaseline, hold_row}
 
 -- its key, the number of the schema, and the listed capabilities
 abbrev pub office_row : ℕ → Row

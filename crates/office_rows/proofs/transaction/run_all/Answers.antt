@@ -1,14 +1,9 @@
-use Rattle.std.proofs.Common.{rules, ◌≡◌, Err, map, refl, sym, subst, arith, ℕ, ◌<◌, ◌≤◌, length, List, [], ◌∷◌, inl, drop, get_or, ◌+◌}
-use Rattle.std.proofs.lemmas.List.{at_drop_more, at_drop_all}
-use Rattle.sqlite.specs.Tree.{Trees}
+use Rattle.std.proofs.Common.{rules, ◌≡◌, Err, map, sym, subst, arith, ◌<◌, ◌≤◌, length, inl}
 use Rattle.sqlite.specs.Effect.{Database}
 use Rattle.sqlite.specs.Held.{state}
 use Rattle.sqlite.specs.State.{HasCleanDisk, Survives}
-use Rattle.sqlite.proofs.StateLemmas.{survives_then}
-use Rattle.sqlite.proofs.Callers.{survives_begin}
-use Rattle.office_rows.specs.declared.transaction.Statement.{Statement as Lent}
-use Rattle.office_rows.specs.Statements.{Statement, statement_of, begun, RanAll, FailedIn}
-use Rattle.office_rows.proofs.Transactions.{IsUnderWay, one_more, nothing_lent, first_left, none_left, committed_all}
+use Rattle.office_rows.specs.Statements.{statement_of, begun, RanAll, FailedIn}
+use Rattle.office_rows.proofs.Transactions.{IsUnderWay, one_more, first_left, none_left, committed_all}
 use Rattle.office_rows.proofs.transaction.run_all.Goals as goal
 
 pub loop-statement-preserved : goal.loop-statement-preserved

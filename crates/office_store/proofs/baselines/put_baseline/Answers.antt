@@ -1,5 +1,4 @@
-use Rattle.std.proofs.Common.{◌≡◌, ◌<◌, ◌^◌, rules, arith, length}
-use Rattle.sqlite.specs.Held.{state}
+use Rattle.std.proofs.Common.{rules}
 use Rattle.office_tables.specs.Changes.{with_baseline}
 use Rattle.office_store.proofs.OtherWrites.{baseline_given}
 use Rattle.office_store.proofs.baselines.put_baseline.Goals as goal

@@ -1,4 +1,4 @@
-use Rattle.std.proofs.Common.{SFits, w64, [], ◌∷◌, ◌≡◌, ◌<◌, ◌^◌, sym, ◌∙◌, ap, rules, arith, length}
+use Rattle.std.proofs.Common.{SFits, w64, [], ◌∷◌, ◌≡◌, sym, ◌∙◌, ap, rules, arith}
 use Rattle.std.proofs.lemmas.Int.{to_z-of_z}
 use Rattle.sqlite.specs.Values.{bound_value}
 use Rattle.sqlite.specs.declared.types.Value.{Value}

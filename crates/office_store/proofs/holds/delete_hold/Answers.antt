@@ -1,5 +1,3 @@
-use Rattle.std.proofs.Common.{◌≡◌, ◌<◌, ◌^◌, rules, arith, length}
-use Rattle.sqlite.specs.Held.{state}
 use Rattle.office_tables.specs.Changes.{without_hold}
 use Rattle.office_store.proofs.OtherWrites.{release_given}
 use Rattle.office_store.proofs.holds.delete_hold.Goals as goal

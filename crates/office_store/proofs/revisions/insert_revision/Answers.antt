@@ -1,5 +1,4 @@
-use Rattle.std.proofs.Common.{◌≡◌, ◌<◌, ◌^◌, rules, arith, length}
-use Rattle.sqlite.specs.Held.{state}
+use Rattle.std.proofs.Common.{rules}
 use Rattle.office_tables.specs.Changes.{with_revision}
 use Rattle.office_store.proofs.RevisionWrites.{add_given}
 use Rattle.office_store.proofs.revisions.insert_revision.Goals as goal

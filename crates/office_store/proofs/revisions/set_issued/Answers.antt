@@ -1,5 +1,3 @@
-use Rattle.std.proofs.Common.{◌≡◌, ◌<◌, ◌^◌, rules, arith, length}
-use Rattle.sqlite.specs.Held.{state}
 use Rattle.office_tables.specs.Changes.{with_issued}
 use Rattle.office_store.proofs.RevisionWrites.{issue_given}
 use Rattle.office_store.proofs.revisions.set_issued.Goals as goal

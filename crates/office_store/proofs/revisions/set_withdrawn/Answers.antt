@@ -1,5 +1,3 @@
-use Rattle.std.proofs.Common.{◌≡◌, ◌<◌, ◌^◌, rules, arith, length}
-use Rattle.sqlite.specs.Held.{state}
 use Rattle.office_tables.specs.Changes.{with_withdrawn}
 use Rattle.office_store.proofs.RevisionWrites.{withdraw_given}
 use Rattle.office_store.proofs.revisions.set_withdrawn.Goals as goal

@@ -1,5 +1,4 @@
-use Rattle.std.proofs.Common.{◌≡◌, ◌<◌, ◌^◌, rules, arith, length}
-use Rattle.sqlite.specs.Held.{state}
+use Rattle.std.proofs.Common.{◌≡◌, rules, arith}
 use Rattle.office_tables.specs.Changes.{with_user}
 use Rattle.office_store.proofs.UserWrites.{put_given}
 use Rattle.office_store.proofs.users.put_user.Goals as goal

@@ -1,5 +1,4 @@
-use Rattle.std.proofs.Common.{◌≡◌, ◌<◌, ◌^◌, rules, arith, length}
-use Rattle.sqlite.specs.Held.{state}
+use Rattle.std.proofs.Common.{rules}
 use Rattle.office_tables.specs.Changes.{with_vote}
 use Rattle.office_store.proofs.OtherWrites.{vote_given}
 use Rattle.office_store.proofs.votes.put_vote.Goals as goal
