@@ -2,7 +2,7 @@
 
 use cap_sets::Caps;
 use counted_io::Counted;
-use line_desk::{DeskFault, desk};
+use desk::{DeskFault, desk};
 use office_desk::Office;
 use office_tables::StoreFault;
 use profile_commands::CommandFault;

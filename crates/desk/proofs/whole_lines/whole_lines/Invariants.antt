@@ -1,0 +1,12 @@
+use Rattle.std.proofs.Common.{◌≡◌, ◌≢◌, ℕ, ◌<◌, ◌≤◌, length, get_or}
+use Rattle.desk.proofs.whole_lines.whole_lines.Given as goal
+
+abbrev pub invariant-loop-end : goal.invariant-loop-end
+invariant-loop-end l =
+    record {
+      within : l.end ≤ length l.bytes;
+      none : (k : ℕ) → l.end ≤ k → k < length l.bytes → get_or l.bytes k 0 ≢ 10;
+    }
+
+abbrev pub decreases-loop-end : goal.decreases-loop-end
+decreases-loop-end l = l.end

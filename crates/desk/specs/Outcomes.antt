@@ -1,0 +1,47 @@
+-- What comes of lines, each handled on what the ones before it left, and what is written for them.
+use Rattle.std.specs.Prelude.{◌≡◌, ℕ, List, [], ◌∷◌, ◌++◌, Err}
+use Rattle.review_policy.specs.declared.answer.Answer.TheVariants.{Fault}
+use Rattle.review_policy.specs.declared.answer.Fault.TheVariants.{Memory}
+use Rattle.office_desk.specs.History.{History}
+use Rattle.office_desk.specs.Verdict.{Measures}
+use Rattle.office_desk.specs.Handled.{IsAnswer, history_after}
+use Rattle.request_lines.specs.Answers.{line_of}
+use Rattle.request_lines.specs.Bad.{bad_line}
+use Rattle.request_lines.specs.Requests.{asked, Asks}
+use Rattle.desk.specs.declared.outcome.Outcome.{Outcome}
+use Rattle.desk.specs.declared.outcome.Outcome.TheVariants.{Bad, NoMemory, Answered}
+
+-- this may come of the line: it is no request, there was no memory to read it, or the request that it asks has this answer
+abbrev pub IsOutcome : Measures → History → List ℕ → Outcome → Type 0
+IsOutcome m h line (Bad fault) = asked line ≡ Err fault
+IsOutcome m h line NoMemory = Unit {0}
+IsOutcome m h line (Answered request answer) = Asks line request × IsAnswer m h request answer
+
+-- the history after it: only a request that is carried out adds an event
+abbrev pub history_after_line : Measures → History → Outcome → History
+history_after_line m h (Bad fault) = h
+history_after_line m h NoMemory = h
+history_after_line m h (Answered request answer) = history_after m h request answer
+
+-- the line that tells it
+abbrev pub told : Outcome → List ℕ
+told (Bad fault) = bad_line fault
+told NoMemory = line_of (Fault Memory)
+told (Answered request answer) = line_of answer
+
+-- there is one outcome to each line, on the history that the lines before it left
+abbrev pub AreOutcomes : Measures → History → List (List ℕ) → List Outcome → Type 0
+AreOutcomes m h [] [] = Unit {0}
+AreOutcomes m h (line ∷ lines) (outcome ∷ outcomes) = IsOutcome m h line outcome × AreOutcomes m (history_after_line m h outcome) lines outcomes
+AreOutcomes m h [] (outcome ∷ outcomes) = ⊥
+AreOutcomes m h (line ∷ lines) [] = ⊥
+
+-- the history after all of them
+abbrev pub history_after_lines : Measures → History → List Outcome → History
+history_after_lines m h [] = h
+history_after_lines m h (outcome ∷ outcomes) = history_after_lines m (history_after_line m h outcome) outcomes
+
+-- the transcript: the lines that tell them, one after the other
+abbrev pub transcript : List Outcome → List ℕ
+transcript [] = []
+transcript (outcome ∷ outcomes) = told outcome ++ transcript outcomes

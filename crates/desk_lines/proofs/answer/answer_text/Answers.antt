@@ -1,5 +1,0 @@
-use Rattle.desk_lines.proofs.AnswerFacts.{text_is}
-use Rattle.desk_lines.proofs.answer.answer_text.Goals as goal
-
-pub returns : goal.returns
-returns c = text_is _ c.args.answer.now _ c.in_ok-value.ensures c.in_ok-text.ensures.text

@@ -1,0 +1,69 @@
+//! The kinds of request, and the members that a line of each kind has.
+
+ghost use Rattle.std.specs.Prelude.{◌≡◌};
+ghost use Rattle.request_lines.specs.Kinds.{kind_of, has_member, has_own_member};
+
+/// The kinds of request.
+#[derive(Clone, Copy, Debug, PartialEq, Eq)]
+pub enum Kind {
+    Enrol,
+    Submit,
+    Vote,
+    Issue,
+    Withdraw,
+    Adopt,
+    Show,
+    Sheet,
+    List,
+    Fetch,
+    Hold,
+    Release,
+}
+
+impl Kind {
+    /// The kind of this word, among those that the desk serves.
+    pub fn from_word(text: &str) -> Option<Kind>
+        ensures { result ≡ kind_of text.now }
+    {
+        if text == "enrol" {
+            Some(Kind::Enrol)
+        } else if text == "submit" {
+            Some(Kind::Submit)
+        } else if text == "show" {
+            Some(Kind::Show)
+        } else {
+            None
+        }
+    }
+
+    /// Whether a line of this kind has a member of this name.
+    pub fn has_member(self, name: &str) -> bool
+        ensures { result ≡ has_member self name.now }
+    {
+        name == "ask" || name == "token" || self.has_own_member(name)
+    }
+
+    // The same, apart from the members that every line has.
+    fn has_own_member(self, name: &str) -> bool
+        ensures { result ≡ has_own_member self name.now }
+    {
+        match self {
+            Kind::Enrol => {
+                name == "user" || name == "team" || name == "roles" || name == "digest"
+            }
+            Kind::Submit => name == "team" || name == "profile" || name == "document",
+            Kind::Vote => {
+                name == "team"
+                    || name == "profile"
+                    || name == "revision"
+                    || name == "digest"
+                    || name == "vote"
+            }
+            Kind::Issue | Kind::Withdraw | Kind::Adopt | Kind::Show | Kind::Sheet => {
+                name == "team" || name == "profile" || name == "revision"
+            }
+            Kind::List => name == "team",
+            Kind::Fetch | Kind::Hold | Kind::Release => name == "team" || name == "profile",
+        }
+    }
+}
