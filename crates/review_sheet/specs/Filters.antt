@@ -1,5 +1,5 @@
 -- The lines of a filter of system calls.
-use Rattle.std.specs.Prelude.{ℕ, suc, List, [], ◌∷◌, ◌++◌, Option, Some, None, if◌then◌else◌, codes, decimal, length, map}
+use Rattle.std.specs.Prelude.{ℕ, ◌+◌, List, [], ◌∷◌, ◌++◌, Option, Some, None, if◌then◌else◌, codes, decimal, length, map}
 use Rattle.seccomp_doc.specs.declared.action.Action.{Action}
 use Rattle.seccomp_doc.specs.declared.compare.Compare.{Compare}
 use Rattle.seccomp_doc.specs.Action.{action_word_text, errno_of, word_of}
@@ -28,7 +28,7 @@ entry_lines number e =
 -- entries, the first of which has this number
 abbrev pub entries_lines : ℕ → List EntryValue → List (List ℕ)
 entries_lines number [] = []
-entries_lines number (e ∷ entries) = entry_lines number e ++ entries_lines (suc number) entries
+entries_lines number (e ∷ entries) = entry_lines number e ++ entries_lines (number + 1) entries
 
 abbrev pub filter_lines : FilterValue → List (List ℕ)
 filter_lines f =

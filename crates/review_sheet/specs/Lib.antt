@@ -5,4 +5,5 @@ pub mod Sets
 pub mod Filters
 pub mod Review
 pub mod Sheet
+pub mod Laws
 pub mod Examples
