@@ -17,3 +17,4 @@ pub mod VoteReads
 pub mod FoundingSteps
 pub mod FormReads
 pub mod Numbers
+pub mod Reopened

@@ -11,6 +11,7 @@ pub mod founding;
 pub mod holds;
 pub mod listing;
 pub mod office;
+pub mod reopening;
 pub mod revisions;
 pub mod schema;
 pub mod standing_votes;
