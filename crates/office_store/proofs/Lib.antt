@@ -14,6 +14,8 @@ pub mod ListReads
 pub mod AuthorReads
 pub mod ListingReads
 pub mod VoteReads
+pub mod Indexing
 pub mod FoundingSteps
 pub mod FormReads
 pub mod Numbers
+pub mod Reopened

@@ -7,3 +7,4 @@ pub mod Steps
 pub mod Adopted
 pub mod Lists
 pub mod Founding
+pub mod Reopening

@@ -1,6 +1,6 @@
 //! The table of revisions.
 
-ghost use Rattle.std.specs.Prelude.{◌≡◌, ◌≢◌, ◌+◌, Err, IfOk, IfErr, OnOk, OnErr, Option, None, option_map};
+ghost use Rattle.std.specs.Prelude.{◌≡◌, ◌≢◌, ◌↔◌, ◌+◌, true, is_some, Err, IfOk, IfErr, OnOk, OnErr, Option, None, option_map};
 ghost use Rattle.sqlite.specs.Held.{state};
 ghost use Rattle.sqlite.specs.State.{HasCleanDisk, Survives};
 ghost use Rattle.office_tables.specs.Tables.{Tables};
@@ -10,7 +10,7 @@ ghost use Rattle.review_policy.specs.declared.ask.ProfileName.{ProfileName as Na
 ghost use Rattle.office_tables.specs.declared.row.RevisionRow.{RevisionRow as Revision};
 ghost use Rattle.office_store.specs.Entries.{state_number, revision_columns, IsRevision};
 ghost use Rattle.office_tables.specs.Reads.{IsLast, next_number};
-ghost use Rattle.office_store.specs.Reads.{IsIssued, IsIssuedRow, IsLastRow, IsNextNumber, submitted};
+ghost use Rattle.office_store.specs.Reads.{IsIssued, IsIssuedRow, IsLastRow, HasRevision, IsNextNumber, submitted};
 
 use crate::column::{bytes_of, digest_at, number_at, state_at, text_at, word_at};
 use crate::write::{write_one, write_two};
@@ -29,6 +29,9 @@ pub(crate) const ISSUED_OF: &str =
 
 pub(crate) const LAST_OF: &str =
     "SELECT number, author, state, body, digest FROM revisions WHERE team = ?1 AND profile = ?2 ORDER BY number DESC LIMIT 1";
+
+pub(crate) const REVISION_OF: &str =
+    "SELECT number FROM revisions WHERE team = ?1 AND profile = ?2";
 
 pub(crate) const CLOSE_OPEN: &str =
     "UPDATE revisions SET state = 1 WHERE team = ?1 AND profile = ?2 AND state = 0";
@@ -118,6 +121,43 @@ fn last_row<S: Alter>(
     let team = profile.team.as_str();
     let name = profile.profile.as_str();
     first_row(conn, LAST_OF, params![team, name])
+}
+
+// The row of a revision of a profile.
+fn row_of<S: Alter>(
+    conn: &mut Connection<S>,
+    profile: &ProfileName,
+) -> Result<Option<Row>, StoreFault>
+    requires { IsIdle (state S.Store conn.old) }
+    ensures found { (t : Tables) → Shows (state S.Store conn.old) t → HasCleanDisk (state S.Store conn.new) → IfOk result (λ row. is_some row ≡ true ↔ HasRevision t profile.now) }
+    ensures fault { (t : Tables) → Shows (state S.Store conn.old) t → HasCleanDisk (state S.Store conn.new) → result ≢ Err StoreFault.NotAnOffice }
+    ensures same { (t : Tables) → Shows (state S.Store conn.old) t → HasCleanDisk (state S.Store conn.new) → ShowsIfOpen (state S.Store conn.new) t }
+    ensures shown { (t : Tables) → Shows (state S.Store conn.old) t → HasCleanDisk (state S.Store conn.new) → OnOk result (Shows (state S.Store conn.new) t) }
+    ensures idle { IsIdle (state S.Store conn.new) }
+    ensures clean { HasCleanDisk (state S.Store conn.new) → HasCleanDisk (state S.Store conn.old) }
+    ensures crash { (t : Tables) → Shows (state S.Store conn.old) t → Survives (state S.Store conn.old) (state S.Store conn.new) (λ _. ⊥) }
+{
+    let team = profile.team.as_str();
+    let name = profile.profile.as_str();
+    first_row(conn, REVISION_OF, params![team, name])
+}
+
+/// Whether a profile has a revision.
+pub fn has_revision<S: Alter>(
+    conn: &mut Connection<S>,
+    profile: &ProfileName,
+) -> Result<bool, StoreFault>
+    requires { IsIdle (state S.Store conn.old) }
+    ensures found { (t : Tables) → Shows (state S.Store conn.old) t → HasCleanDisk (state S.Store conn.new) → IfOk result (λ found. found ≡ true ↔ HasRevision t profile.now) }
+    ensures formed { (t : Tables) → Shows (state S.Store conn.old) t → HasCleanDisk (state S.Store conn.new) → result ≢ Err StoreFault.NotAnOffice }
+    ensures same { (t : Tables) → Shows (state S.Store conn.old) t → HasCleanDisk (state S.Store conn.new) → ShowsIfOpen (state S.Store conn.new) t }
+    ensures shown { (t : Tables) → Shows (state S.Store conn.old) t → HasCleanDisk (state S.Store conn.new) → OnOk result (Shows (state S.Store conn.new) t) }
+    ensures idle { IsIdle (state S.Store conn.new) }
+    ensures clean { HasCleanDisk (state S.Store conn.new) → HasCleanDisk (state S.Store conn.old) }
+    ensures crash { (t : Tables) → Shows (state S.Store conn.old) t → Survives (state S.Store conn.old) (state S.Store conn.new) (λ _. ⊥) }
+{
+    let row = row_of(conn, profile)?;
+    Ok(row.is_some())
 }
 
 /// A revision of a profile by its number.
