@@ -4,8 +4,8 @@ use Rattle.std.proofs.KnownBytes.{Appends-nil, Appends-trans}
 use Rattle.std.specs.Io.KnownBytes.{Appends}
 use Rattle.counted_io.specs.Steps.{AppendsPart}
 use Rattle.office_desk.specs.declared.office.Office.{Office}
-use Rattle.office_desk.specs.History.{History}
-use Rattle.office_desk.specs.Verdict.{Measures}
+use Rattle.office_policy.specs.History.{History}
+use Rattle.office_policy.specs.Verdict.{Measures}
 use Rattle.office_desk.specs.Handled.{IsOffice}
 use Rattle.request_lines.specs.Answers.{line_of}
 use Rattle.request_lines.specs.Bad.{bad_line}

@@ -6,10 +6,10 @@ use Rattle.std.proofs.lemmas.List.Folds.{list_all_at}
 use Rattle.std.proofs.lemmas.List.{take_more}
 use Rattle.review_policy.specs.declared.ask.Request.{Request}
 use Rattle.review_policy.specs.declared.answer.Answer.{Answer}
-use Rattle.office_desk.specs.History.{History}
-use Rattle.office_desk.specs.Verdict.{Measures}
-use Rattle.office_desk.specs.Handled.{is_served, IsAnswer, history_after}
-use Rattle.desk.specs.Runs.{Took, history_after_all}
+use Rattle.office_policy.specs.History.{History}
+use Rattle.office_policy.specs.Verdict.{Measures}
+use Rattle.office_desk.specs.Handled.{is_served}
+use Rattle.office_policy.specs.Runs.{IsAnswer, history_after, Took, history_after_all}
 
 -- each request is of a kind that is served
 pub served_at : (requests : List Request) (i : ℕ) (r : Request) → i < length requests → r ≡ get_or requests i r → list_all (λ x. is_served x.ask) requests ≡ true → is_served r.ask ≡ true

@@ -2,9 +2,9 @@
 use Rattle.std.specs.Prelude.{◌≡◌, ℕ, List, [], ◌∷◌, ◌++◌, Err}
 use Rattle.review_policy.specs.declared.answer.Answer.TheVariants.{Fault}
 use Rattle.review_policy.specs.declared.answer.Fault.TheVariants.{Memory}
-use Rattle.office_desk.specs.History.{History}
-use Rattle.office_desk.specs.Verdict.{Measures}
-use Rattle.office_desk.specs.Handled.{IsAnswer, history_after}
+use Rattle.office_policy.specs.History.{History}
+use Rattle.office_policy.specs.Verdict.{Measures}
+use Rattle.office_policy.specs.Runs.{IsAnswer, history_after}
 use Rattle.request_lines.specs.Answers.{line_of}
 use Rattle.request_lines.specs.Bad.{bad_line}
 use Rattle.request_lines.specs.Requests.{asked, Asks}

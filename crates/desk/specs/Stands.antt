@@ -2,8 +2,8 @@
 use Rattle.std.specs.Prelude.{◌≡◌, ℕ, zero, suc, ◌<◌, ◌≤◌, List, [], ◌∷◌, ◌++◌, Option, IfSome, length, take}
 use Rattle.std.specs.Io.KnownBytes.{Keeps, Appends, Consumes}
 use Rattle.office_desk.specs.declared.office.Office.{Office}
-use Rattle.office_desk.specs.History.{History}
-use Rattle.office_desk.specs.Verdict.{Measures}
+use Rattle.office_policy.specs.History.{History}
+use Rattle.office_policy.specs.Verdict.{Measures}
 use Rattle.office_desk.specs.Handled.{IsOffice}
 use Rattle.request_lines.specs.Lines.{lines_of}
 use Rattle.desk.specs.declared.outcome.Outcome.{Outcome}

@@ -1,8 +1,8 @@
 //! What comes of a line.
 
 ghost use Rattle.std.specs.Prelude.{◌≡◌};
-ghost use Rattle.office_desk.specs.History.{History};
-ghost use Rattle.office_desk.specs.Verdict.{Measures};
+ghost use Rattle.office_policy.specs.History.{History};
+ghost use Rattle.office_policy.specs.Verdict.{Measures};
 ghost use Rattle.office_desk.specs.Handled.{IsOffice};
 ghost use Rattle.request_lines.specs.Answers.{line_of};
 

@@ -2,10 +2,10 @@
 
 ghost use Rattle.std.specs.Prelude.{◌≡◌, true, IfOk, OnErr};
 ghost use Rattle.std.specs.List.{list_all};
-ghost use Rattle.office_desk.specs.History.{History};
-ghost use Rattle.office_desk.specs.Verdict.{Measures};
+ghost use Rattle.office_policy.specs.History.{History};
+ghost use Rattle.office_policy.specs.Verdict.{Measures};
 ghost use Rattle.office_desk.specs.Handled.{is_served, IsOffice};
-ghost use Rattle.desk.specs.Runs.{Took, history_after_all};
+ghost use Rattle.office_policy.specs.Runs.{Took, history_after_all};
 
 use office_desk::Office;
 use review_policy::{Answer, Request};

@@ -19,18 +19,19 @@ use Rattle.office_tables.specs.Changes.{with_user}
 use Rattle.office_tables.specs.Reads.{IsUserShowing}
 use Rattle.memory_store.specs.declared.store.MemoryStore.{MemoryStore}
 use Rattle.memory_store.specs.Shows.{Shows}
-use Rattle.office_desk.specs.History.{enrolled, History}
-use Rattle.office_desk.specs.Users.{user_of, user_showing}
-use Rattle.office_desk.specs.Revisions.{revision_of}
-use Rattle.office_desk.specs.Facts.{enrol_facts, enrol_facts_by, read_facts}
-use Rattle.office_desk.specs.Verdict.{Measures, Verdict, accepted, denied, rules_of, done_of, fault_of, judged, of_revision, verdict_of, verdict}
-use Rattle.office_desk.specs.Lawful.{IsLawful}
-use Rattle.office_desk.specs.TablesOf.{tables_of}
+use Rattle.office_policy.specs.History.{enrolled, History}
+use Rattle.office_policy.specs.Users.{user_of, user_showing}
+use Rattle.office_policy.specs.Revisions.{revision_of}
+use Rattle.office_policy.specs.Facts.{enrol_facts, enrol_facts_by, read_facts}
+use Rattle.office_policy.specs.Verdict.{Measures, Verdict, accepted, denied, rules_of, done_of, fault_of, judged, of_revision, verdict_of, verdict}
+use Rattle.office_policy.specs.Lawful.{IsLawful}
+use Rattle.office_policy.specs.TablesOf.{tables_of}
 use Rattle.office_desk.specs.Told.{IsPassing}
-use Rattle.office_desk.specs.Handled.{CarriesOut, IsOffice, answer_of, event_of, with_event, history_after}
-use Rattle.office_desk.specs.Laws.{AreApart}
-use Rattle.office_desk.proofs.UserFacts.{showing_one, showing_none}
-use Rattle.office_desk.proofs.LawFacts.{lawful_apart, lawful_more}
+use Rattle.office_desk.specs.Handled.{CarriesOut, IsOffice}
+use Rattle.office_policy.specs.Runs.{answer_of, event_of, with_event, history_after}
+use Rattle.office_policy.specs.Laws.{AreApart}
+use Rattle.office_policy.proofs.UserFacts.{showing_one, showing_none}
+use Rattle.office_policy.proofs.LawFacts.{lawful_apart, lawful_more}
 
 -- a refusal is told, and leaves the tables
 pub refused : (m : Measures) (h : History) (caller : Option UserRow) (a : Ask) (d : Denial) (store : MemoryStore) → first_denial (rules_of m h caller a) ≡ Err d

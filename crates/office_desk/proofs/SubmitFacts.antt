@@ -19,16 +19,16 @@ use Rattle.office_tables.specs.Changes.{with_revision}
 use Rattle.office_tables.specs.Reads.{IsLast, next_number}
 use Rattle.memory_store.specs.declared.store.MemoryStore.{MemoryStore}
 use Rattle.memory_store.specs.Shows.{Shows}
-use Rattle.office_desk.specs.History.{submitted, History}
-use Rattle.office_desk.specs.Revisions.{revision_count, number_of}
-use Rattle.office_desk.specs.Facts.{canonical, submit_facts, submit_facts_by}
-use Rattle.office_desk.specs.Verdict.{Measures, new_revision, fault_told, verdict_of}
-use Rattle.office_desk.specs.Lawful.{IsLawful}
-use Rattle.office_desk.specs.TablesOf.{tables_of}
+use Rattle.office_policy.specs.History.{submitted, History}
+use Rattle.office_policy.specs.Revisions.{revision_count, number_of}
+use Rattle.office_policy.specs.Facts.{canonical, submit_facts, submit_facts_by}
+use Rattle.office_policy.specs.Verdict.{Measures, new_revision, fault_told, verdict_of}
+use Rattle.office_policy.specs.Lawful.{IsLawful}
+use Rattle.office_policy.specs.TablesOf.{tables_of}
 use Rattle.office_desk.specs.Handled.{CarriesOut}
 use Rattle.office_desk.proofs.CarryFacts.{refused, allowed}
-use Rattle.office_desk.proofs.RevisionFacts.{none_last, number_is, last_is}
-use Rattle.office_desk.proofs.StateFacts.{new_row, revision_submitted}
+use Rattle.office_policy.proofs.RevisionFacts.{none_last, number_is, last_is}
+use Rattle.office_policy.proofs.StateFacts.{new_row, revision_submitted}
 
 -- the number of the last revision that a store answers
 pub last_number_is : (h : History) (p : ProfileName) (found : Option RevisionRow) → IsLast (tables_of h) p found → revision_count h p ≡ number_of found

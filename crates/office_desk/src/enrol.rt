@@ -3,11 +3,11 @@
 ghost use Rattle.std.specs.Prelude.{◌≡◌};
 ghost use Rattle.review_policy.specs.declared.ask.Ask.TheVariants as ask;
 ghost use Rattle.memory_store.specs.Shows.{Shows};
-ghost use Rattle.office_desk.specs.History.{History};
-ghost use Rattle.office_desk.specs.Facts.{enrol_facts_by};
-ghost use Rattle.office_desk.specs.Verdict.{Measures, verdict_of};
-ghost use Rattle.office_desk.specs.Lawful.{IsLawful};
-ghost use Rattle.office_desk.specs.TablesOf.{tables_of};
+ghost use Rattle.office_policy.specs.History.{History};
+ghost use Rattle.office_policy.specs.Facts.{enrol_facts_by};
+ghost use Rattle.office_policy.specs.Verdict.{Measures, verdict_of};
+ghost use Rattle.office_policy.specs.Lawful.{IsLawful};
+ghost use Rattle.office_policy.specs.TablesOf.{tables_of};
 ghost use Rattle.office_desk.specs.Handled.{CarriesOut};
 
 use crate::caller::{holds_role, is_another, is_elsewhere, is_named};

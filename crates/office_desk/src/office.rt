@@ -18,9 +18,10 @@ pub struct Office {
 
 impl Office {
     ghost use Rattle.std.specs.Prelude.{◌≡◌, [], ◌∷◌, true, IfOk, IfErr};
-    ghost use Rattle.office_desk.specs.History.{History, founded};
-    ghost use Rattle.office_desk.specs.Verdict.{Measures};
-    ghost use Rattle.office_desk.specs.Handled.{is_served, IsOffice, IsAnswer, history_after};
+    ghost use Rattle.office_policy.specs.History.{History, founded};
+    ghost use Rattle.office_policy.specs.Verdict.{Measures};
+    ghost use Rattle.office_desk.specs.Handled.{is_served, IsOffice};
+    ghost use Rattle.office_policy.specs.Runs.{IsAnswer, history_after};
 
     /// A new office, with its first user, who is a registrar and shows the token of this digest, and with the listed
     /// capabilities: a document that holds one of them needs two approvals.

@@ -4,12 +4,12 @@ ghost use Rattle.std.specs.Prelude.{◌≡◌, IfOk, IfErr};
 ghost use Rattle.review_policy.specs.declared.ask.Ask.TheVariants as ask;
 ghost use Rattle.profile_text.specs.Reading.{reading_of};
 ghost use Rattle.memory_store.specs.Shows.{Shows};
-ghost use Rattle.office_desk.specs.History.{History};
-ghost use Rattle.office_desk.specs.Facts.{canonical, is_text_of, submit_facts_by};
-ghost use Rattle.office_desk.specs.Revisions.{if_open, number_of};
-ghost use Rattle.office_desk.specs.Verdict.{Measures, fault_told, verdict_of};
-ghost use Rattle.office_desk.specs.Lawful.{IsLawful};
-ghost use Rattle.office_desk.specs.TablesOf.{tables_of};
+ghost use Rattle.office_policy.specs.History.{History};
+ghost use Rattle.office_policy.specs.Facts.{canonical, is_text_of, submit_facts_by};
+ghost use Rattle.office_policy.specs.Revisions.{if_open, number_of};
+ghost use Rattle.office_policy.specs.Verdict.{Measures, fault_told, verdict_of};
+ghost use Rattle.office_policy.specs.Lawful.{IsLawful};
+ghost use Rattle.office_policy.specs.TablesOf.{tables_of};
 ghost use Rattle.office_desk.specs.Handled.{CarriesOut};
 
 use crate::caller::{holds_role, is_of_team};

@@ -1,5 +1,5 @@
 use Rattle.std.proofs.Common.{◌≡◌, ◌∙◌, ap, ◌+◌, le_trans, take}
-use Rattle.desk.specs.Runs.{history_after_all}
+use Rattle.office_policy.specs.Runs.{history_after_all}
 use Rattle.desk.proofs.RunFacts.{served_at, took_next, after_next}
 use Rattle.desk.proofs.requests.run.Goals as goal
 

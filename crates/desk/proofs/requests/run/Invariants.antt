@@ -1,8 +1,8 @@
 use Rattle.std.proofs.Common.{◌≡◌, ◌≤◌, take, length, vec_len, vec_capacity}
-use Rattle.office_desk.specs.History.{History}
-use Rattle.office_desk.specs.Verdict.{Measures}
+use Rattle.office_policy.specs.History.{History}
+use Rattle.office_policy.specs.Verdict.{Measures}
 use Rattle.office_desk.specs.Handled.{IsOffice}
-use Rattle.desk.specs.Runs.{Took, history_after_all}
+use Rattle.office_policy.specs.Runs.{Took, history_after_all}
 use Rattle.desk.proofs.requests.run.Given as goal
 
 abbrev pub invariant-loop-request : goal.invariant-loop-request

@@ -1,7 +1,7 @@
 use Rattle.std.proofs.Common.{◌∙◌, ap}
 use Rattle.review_policy.specs.declared.ask.Ask.TheVariants as ask
 use Rattle.profile_text.specs.Digest.{digest_of}
-use Rattle.office_desk.specs.TablesOf.{tables_of}
+use Rattle.office_policy.specs.TablesOf.{tables_of}
 use Rattle.office_desk.proofs.CarryFacts.{carried}
 use Rattle.office_desk.proofs.carry_out.carry_out.Goals as goal
 

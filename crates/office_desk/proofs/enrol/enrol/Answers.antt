@@ -4,8 +4,8 @@ use Rattle.review_policy.specs.declared.answer.Answer.TheVariants.{Done}
 use Rattle.review_policy.specs.declared.answer.Reply.TheVariants.{Enrolled}
 use Rattle.review_policy.specs.declared.ask.Ask.TheVariants as ask
 use Rattle.review_policy.specs.Rules.{first_denial, enrol_rules}
-use Rattle.office_desk.specs.Users.{name_of}
-use Rattle.office_desk.specs.TablesOf.{tables_of}
+use Rattle.office_policy.specs.Users.{name_of}
+use Rattle.office_policy.specs.TablesOf.{tables_of}
 use Rattle.office_desk.proofs.CarryFacts.{refused, allowed, enrol_decided, enrol_done, memory_passes}
 use Rattle.office_desk.proofs.enrol.enrol.Goals as goal
 

@@ -3,7 +3,7 @@ use Rattle.review_policy.specs.declared.ask.Ask.TheVariants as ask
 use Rattle.review_policy.specs.declared.answer.Answer.TheVariants.{Done}
 use Rattle.review_policy.specs.declared.answer.Reply.TheVariants.{Shown}
 use Rattle.review_policy.specs.Rules.{first_denial, read_rules}
-use Rattle.office_desk.specs.TablesOf.{tables_of}
+use Rattle.office_policy.specs.TablesOf.{tables_of}
 use Rattle.office_desk.proofs.CarryFacts.{refused, allowed, show_decided, show_done}
 use Rattle.office_desk.proofs.show.show.Goals as goal
 

@@ -4,7 +4,7 @@ use Rattle.review_policy.specs.Rules.{first_denial, submit_rules}
 use Rattle.profile_text.specs.Digest.{digest_of}
 use Rattle.profile_text.specs.Reading.{reading_of}
 use Rattle.office_tables.specs.Reads.{IsLast}
-use Rattle.office_desk.specs.TablesOf.{tables_of}
+use Rattle.office_policy.specs.TablesOf.{tables_of}
 use Rattle.office_desk.proofs.CarryFacts.{room_passes}
 use Rattle.office_desk.proofs.SubmitFacts.{submit_refused, submit_allowed}
 use Rattle.office_desk.proofs.submit.submit.Goals as goal

@@ -1,0 +1,14 @@
+pub mod History
+pub mod Users
+pub mod Revisions
+pub mod Votes
+pub mod Holds
+pub mod Documents
+pub mod Baseline
+pub mod Listing
+pub mod Facts
+pub mod Verdict
+pub mod Lawful
+pub mod TablesOf
+pub mod Runs
+pub mod Laws
