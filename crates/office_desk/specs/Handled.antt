@@ -7,7 +7,7 @@ use Rattle.office_tables.specs.declared.fault.StoreFault.{StoreFault}
 use Rattle.memory_store.specs.declared.store.MemoryStore.{MemoryStore}
 use Rattle.memory_store.specs.Shows.{Shows}
 use Rattle.office_policy.specs.History.{History}
-use Rattle.office_policy.specs.Verdict.{Measures, Verdict}
+use Rattle.office_policy.specs.Verdict.{Verdict}
 use Rattle.office_policy.specs.Lawful.{IsLawful}
 use Rattle.office_policy.specs.TablesOf.{tables_of}
 use Rattle.office_policy.specs.Runs.{answer_of, event_of, with_event}
@@ -23,8 +23,8 @@ is_served _ = false
 
 -- The office has the tables of a lawful history. While only three kinds of request are served, that is one without votes,
 -- adoptions and holds.
-pub record IsOffice (m : Measures) (h : History) (o : Office) : Type 0 where
-  pub lawful : IsLawful m h
+pub record IsOffice (h : History) (o : Office) : Type 0 where
+  pub lawful : IsLawful h
   pub tables : Shows o.store (tables_of h)
 
 -- the answer tells the verdict and the store shows the tables with its event; a passing fault leaves the tables

@@ -10,9 +10,8 @@ use Rattle.office_tables.specs.declared.row.UserRow.{UserRow}
 use Rattle.office_tables.specs.Tables.{is_profile}
 use Rattle.office_policy.specs.History.{Event, founded, enrolled, submitted, issued, History}
 use Rattle.office_policy.specs.Users.{user_of}
-use Rattle.office_policy.specs.Revisions.{Submission, issues, issues_profile, withdraws, since, revision_count, submission_of, revision_of, state_in, last_issue}
+use Rattle.office_policy.specs.Revisions.{Submission, issues, withdraws, is_replaced, revision_count, submission_of, revision_of, state_in, last_issue}
 use Rattle.office_policy.specs.Facts.{is_elsewhere}
-use Rattle.office_policy.specs.Verdict.{Measures}
 use Rattle.office_policy.specs.Lawful.{IsLawful}
 use Rattle.office_policy.specs.Laws.{KeepsTeams, KeepsSubmissions, NumbersRun, OpenIsLast, OneIssued}
 use Rattle.office_policy.proofs.UserFacts.{same_bytes}
@@ -40,9 +39,9 @@ teams_more h (enrolled c n t r d) is name u v before after =
     ] refl after
 teams_more h _ is name u v before after = let row : v ≡ u = cc in ap (λ x. x.team) row
 
-pub teams_kept : (m : Measures) (h : History) (e : Event) → IsLawful m (e ∷ h) → KeepsTeams h e
-teams_kept m [] e lawful name u v before after = absurd (cc)
-teams_kept m (f ∷ h) e lawful name u v before after = teams_more (f ∷ h) e (allowed_follows m (f ∷ h) e lawful.0) name u v before after
+pub teams_kept : (h : History) (e : Event) → IsLawful (e ∷ h) → KeepsTeams h e
+teams_kept [] e lawful name u v before after = absurd (cc)
+teams_kept (f ∷ h) e lawful name u v before after = teams_more (f ∷ h) e (allowed_follows (f ∷ h) e lawful.0) name u v before after
 
 there : (o : Option Submission) (s : Submission) → o ≡ Some s → o ≢ None
 there o s e none = cc
@@ -94,25 +93,22 @@ open_last h p n r is is_open = by_submission (submission_of h p n) refl is
       where
         earlier_open : (row_at h p n (revision_count h p) s).state ≡ Open → n < revision_count h p → ⊥
         earlier_open e earlier =
-            not_open (list_any (withdraws p n) h) (list_any (issues p n) h) (list_any (issues_profile p) (since (issues p n) h))
+            not_open (list_any (withdraws p n) h) (list_any (issues p n) h) (is_replaced h p n)
             (rw (lt-ltb n (revision_count h p) earlier) at e)
 
 -- the newest issue names a revision that was issued and not since replaced
-newest_issue : (h : History) (p : ProfileName) (n : ℕ) → list_any (issues p n) h ≡ true → list_any (issues_profile p) (since (issues p n) h) ≡ false → last_issue h p ≡ Some n
+newest_issue : (h : History) (p : ProfileName) (n : ℕ) → list_any (issues p n) h ≡ true → is_replaced h p n ≡ false → last_issue h p ≡ Some n
 newest_issue [] p n was last = absurd (cc)
-newest_issue (issued c q m ∷ h) p n was last = by_issue (newest_issue h p n) (is_profile p q) refl was last
+newest_issue (issued c q m ∷ h) p n was last = by_issue (is_profile p q) (n == m) (list_any (issues p n) h) (is_replaced h p n) (newest_issue h p n) refl was last
   where
-    by_issue : (list_any (issues p n) h ≡ true → list_any (issues_profile p) (since (issues p n) h) ≡ false → last_issue h p ≡ Some n) → (b : Bool) → is_profile p q ≡ b → ((b && (n == m)) || list_any (issues p n) h) ≡ true
-        → list_any (issues_profile p) (cond (b && (n == m)) [] (issued c q m ∷ since (issues p n) h)) ≡ false → cond b (Some m) (last_issue h p) ≡ Some n
-    by_issue before true same was last =
-        elim (n == m) as (λ x. (n == m) ≡ x → list_any (issues_profile p) (cond x [] (issued c q m ∷ since (issues p n) h)) ≡ false → Some m ≡ Some n) [
-          | true ↦ λ named last. ap Some (sym (eqb-true n m named))
-          | false ↦ λ named last. let e : true ≡ false = rw same at last in absurd (cc)
-        ] refl last
-    by_issue before false same was last = before was (rw same at last)
+    by_issue : (b x a r : Bool) → (a ≡ true → r ≡ false → last_issue h p ≡ Some n) → (n == m) ≡ x → ((b && x) || a) ≡ true → ((b && a) || r) ≡ false → cond b (Some m) (last_issue h p) ≡ Some n
+    by_issue true x true r before named was last = absurd (cc)
+    by_issue true true false r before named was last = ap Some (sym (eqb-true n m named))
+    by_issue true false false r before named was last = absurd (cc)
+    by_issue false x a r before named was last = before was last
 newest_issue (_ ∷ h) p n was last = newest_issue h p n was last
 
-issued_by : (w i r c : Bool) → is_issued (Some (state_by w i r c)) ≡ true → (i ≡ true) × (r ≡ false)
+pub issued_by : (w i r c : Bool) → is_issued (Some (state_by w i r c)) ≡ true → (i ≡ true) × (r ≡ false)
 issued_by true i r c e = absurd (cc)
 issued_by false true true c e = absurd (cc)
 issued_by false true false c e = (refl, refl)
@@ -125,7 +121,7 @@ newest h p n is = by_submission (submission_of h p n) is
     by_submission : (s : Option Submission) → is_issued (state_in (option_map (row_at h p n (revision_count h p)) s)) ≡ true → last_issue h p ≡ Some n
     by_submission None e = absurd (cc)
     by_submission (Some s) e =
-        let parts = issued_by (list_any (withdraws p n) h) (list_any (issues p n) h) (list_any (issues_profile p) (since (issues p n) h)) (nat_lt n (revision_count h p)) e in
+        let parts = issued_by (list_any (withdraws p n) h) (list_any (issues p n) h) (is_replaced h p n) (nat_lt n (revision_count h p)) e in
         newest_issue h p n parts.0 parts.1
 
 pub one_issued : (h : History) (p : ProfileName) → OneIssued h p

@@ -1,4 +1,5 @@
 pub mod RuleFacts
+pub mod NameFacts
 pub mod UserFacts
 pub mod LawFacts
 pub mod RevisionFacts
@@ -6,3 +7,9 @@ pub mod StateFacts
 pub mod Histories
 pub mod Judged
 pub mod ListingFacts
+pub mod Numbered
+pub mod GivenOut
+pub mod CastFacts
+pub mod TextFacts
+pub mod DutyFacts
+pub mod TeamFacts

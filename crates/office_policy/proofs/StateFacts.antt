@@ -11,14 +11,13 @@ use Rattle.office_tables.specs.declared.row.RevisionRow.{RevisionRow}
 use Rattle.office_tables.specs.Tables.{is_profile}
 use Rattle.office_tables.specs.Changes.{after_submission}
 use Rattle.office_policy.specs.History.{Event, founded, enrolled, submitted, voted, issued, withdrawn, adopted, held, released, History}
-use Rattle.office_policy.specs.Revisions.{Submission, submits, issues, issues_profile, withdraws, since, revision_count, submission_of, revision_of}
-use Rattle.office_policy.specs.Verdict.{Measures}
+use Rattle.office_policy.specs.Revisions.{Submission, submits, issues, withdraws, is_replaced, revision_count, submission_of, revision_of}
 use Rattle.office_policy.specs.Lawful.{IsLawful}
 use Rattle.office_policy.proofs.UserFacts.{same_bytes, bytes_same}
-use Rattle.office_policy.proofs.RevisionFacts.{count_more, within_last}
+use Rattle.office_policy.proofs.RevisionFacts.{count_more, within_last, standing_within}
 use Rattle.office_policy.proofs.LawFacts.{Follows, allowed_follows}
 
-both : (a b : Bool) → (a && b) ≡ true → (a ≡ true) × (b ≡ true)
+pub both : (a b : Bool) → (a && b) ≡ true → (a ≡ true) × (b ≡ true)
 both true true e = (refl, refl)
 both true false e = absurd (cc)
 both false b e = absurd (cc)
@@ -59,20 +58,20 @@ unnamed_more h (submitted c q t) is p n above before =
     fewer false k n more = more
 unnamed_more h (voted c q k d a) is p n above before = let u = before above in record { issues = u.issues; withdrawals = u.withdrawals }
 unnamed_more h (issued c q k) is p n above before =
-    let u = before above in record { issues = rw (unlike h p q n k above is) u.issues; withdrawals = u.withdrawals }
+    let u = before above in record { issues = rw (unlike h p q n k above (standing_within h q k is.there)) u.issues; withdrawals = u.withdrawals }
 unnamed_more h (withdrawn c q k) is p n above before =
-    let u = before above in record { issues = u.issues; withdrawals = rw (unlike h p q n k above is) u.withdrawals }
+    let u = before above in record { issues = u.issues; withdrawals = rw (unlike h p q n k above (standing_within h q k is.there)) u.withdrawals }
 unnamed_more h (adopted c q k) is p n above before = let u = before above in record { issues = u.issues; withdrawals = u.withdrawals }
 unnamed_more h (held c q) is p n above before = let u = before above in record { issues = u.issues; withdrawals = u.withdrawals }
 unnamed_more h (released c q) is p n above before = let u = before above in record { issues = u.issues; withdrawals = u.withdrawals }
 
 -- no issue and no withdrawal names a revision above the last
-pub unnamed_above : (m : Measures) (h : History) → IsLawful m h → (p : ProfileName) (n : ℕ) → revision_count h p < n → IsUnnamed h p n
-unnamed_above m [] lawful p n above = absurd lawful
-unnamed_above m (founded x t d l ∷ []) lawful p n above = record { issues = refl; withdrawals = refl }
-unnamed_above m (_ ∷ []) lawful p n above = absurd lawful
-unnamed_above m (e ∷ f ∷ h) lawful p n above =
-    unnamed_more (f ∷ h) e (allowed_follows m (f ∷ h) e lawful.0) p n above (unnamed_above m (f ∷ h) lawful.1 p n)
+pub unnamed_above : (h : History) → IsLawful h → (p : ProfileName) (n : ℕ) → revision_count h p < n → IsUnnamed h p n
+unnamed_above [] lawful p n above = absurd lawful
+unnamed_above (founded x t d l ∷ []) lawful p n above = record { issues = refl; withdrawals = refl }
+unnamed_above (_ ∷ []) lawful p n above = absurd lawful
+unnamed_above (e ∷ f ∷ h) lawful p n above =
+    unnamed_more (f ∷ h) e (allowed_follows (f ∷ h) e lawful.0) p n above (unnamed_above (f ∷ h) lawful.1 p n)
 
 -- a state by what holds of a revision: withdrawn, issued, replaced, closed
 abbrev pub state_by : Bool → Bool → Bool → Bool → State
@@ -97,7 +96,7 @@ abbrev pub row_at : History → ProfileName → ℕ → ℕ → Submission → R
 row_at h p n last s = record {
   number = n;
   author = s.author;
-  state = state_by (list_any (withdraws p n) h) (list_any (issues p n) h) (list_any (issues_profile p) (since (issues p n) h)) (nat_lt n last);
+  state = state_by (list_any (withdraws p n) h) (list_any (issues p n) h) (is_replaced h p n) (nat_lt n last);
   body = s.text;
   digest = digest_of s.text;
 }
@@ -116,16 +115,16 @@ closed_earlier : (h : History) (p : ProfileName) (n : ℕ) (s : Option Submissio
 closed_earlier h p n None is = refl
 closed_earlier h p n (Some s) is =
     let within : n ≤ revision_count h p = within_last h p n (λ none. there none) in
-    rw (lt-ltb n (suc (revision_count h p)) (omega arith)) (ap Some (closes (list_any (withdraws p n) h) (list_any (issues p n) h) (list_any (issues_profile p) (since (issues p n) h)) (nat_lt n (revision_count h p)) n s.author s.text))
+    rw (lt-ltb n (suc (revision_count h p)) (omega arith)) (ap Some (closes (list_any (withdraws p n) h) (list_any (issues p n) h) (is_replaced h p n) (nat_lt n (revision_count h p)) n s.author s.text))
   where
     there : submission_of h p n ≡ None → ⊥
     there none = cc
 
 -- the submission's own profile has the new row, and its others are closed
-same_submitted : (m : Measures) (h : History) → IsLawful m h → (c : List ℕ) (p : ProfileName) (t : List ℕ) (n : ℕ)
+same_submitted : (h : History) → IsLawful h → (c : List ℕ) (p : ProfileName) (t : List ℕ) (n : ℕ)
     → option_map (row_at h p n (suc (revision_count h p))) (cond (n == suc (revision_count h p)) (Some (record { author = c; text = t })) (submission_of h p n))
     ≡ cond (n == suc (revision_count h p)) (Some (new_row h p c t)) (option_map after_submission (revision_of h p n))
-same_submitted m h lawful c p t n =
+same_submitted h lawful c p t n =
     elim (n == suc (revision_count h p)) as (λ b. (n == suc (revision_count h p)) ≡ b →
     option_map (row_at h p n (suc (revision_count h p))) (cond b (Some (record { author = c; text = t })) (submission_of h p n))
     ≡ cond b (Some (new_row h p c t)) (option_map after_submission (revision_of h p n))) [
@@ -136,12 +135,12 @@ same_submitted m h lawful c p t n =
     new_last : n ≡ suc (revision_count h p) → Some (row_at h p n (suc (revision_count h p)) (record { author = c; text = t })) ≡ Some (new_row h p c t)
     new_last is =
         ap (λ k. Some (row_at h p k (suc (revision_count h p)) (record { author = c; text = t }))) is
-        ∙ ap Some (open_last h p (suc (revision_count h p)) (unnamed_above m h lawful p (suc (revision_count h p)) (omega arith)) c t)
+        ∙ ap Some (open_last h p (suc (revision_count h p)) (unnamed_above h lawful p (suc (revision_count h p)) (omega arith)) c t)
 
 -- the revisions after a submission
-pub revision_submitted : (m : Measures) (h : History) → IsLawful m h → (c : List ℕ) (p : ProfileName) (t : List ℕ) (q : ProfileName) (n : ℕ)
+pub revision_submitted : (h : History) → IsLawful h → (c : List ℕ) (p : ProfileName) (t : List ℕ) (q : ProfileName) (n : ℕ)
     → revision_of (submitted c p t ∷ h) q n ≡ cond (is_profile q p) (cond (n == suc (revision_count h p)) (Some (new_row h p c t)) (option_map after_submission (revision_of h q n))) (revision_of h q n)
-revision_submitted m h lawful c p t q n =
+revision_submitted h lawful c p t q n =
     elim (is_profile q p) as (λ b. is_profile q p ≡ b →
     option_map (row_at h q n (length (cond b (submitted c p t ∷ filter (submits q) h) (filter (submits q) h)))) (cond (b && (n == suc (revision_count h q))) (Some (record { author = c; text = t })) (submission_of h q n))
     ≡ cond b (cond (n == suc (revision_count h p)) (Some (new_row h p c t)) (option_map after_submission (revision_of h q n))) (revision_of h q n)) [
@@ -154,4 +153,4 @@ revision_submitted m h lawful c p t q n =
         ≡ cond (n == suc (revision_count h p)) (Some (new_row h p c t)) (option_map after_submission (revision_of h x n))
     own x is =
         subst (λ y. option_map (row_at h y n (suc (revision_count h y))) (cond (n == suc (revision_count h y)) (Some (record { author = c; text = t })) (submission_of h y n))
-        ≡ cond (n == suc (revision_count h p)) (Some (new_row h p c t)) (option_map after_submission (revision_of h y n))) (sym is) (same_submitted m h lawful c p t n)
+        ≡ cond (n == suc (revision_count h p)) (Some (new_row h p c t)) (option_map after_submission (revision_of h y n))) (sym is) (same_submitted h lawful c p t n)

@@ -1,13 +1,13 @@
--- What a revision is compared with, and how many approvals it needs.
-use Rattle.std.specs.Prelude.{ℕ, List, [], ◌∷◌, if◌then◌else◌, Option, Some, None, bytes_eq}
+-- What the revisions of a team are compared with.
+use Rattle.std.specs.Prelude.{ℕ, List, [], ◌∷◌, if◌then◌else◌, Option, Some, None, option_map, bytes_eq}
+use Rattle.profile_text.specs.declared.profile.Profile.{Profile}
+use Rattle.profile_text.specs.Profile.{closed_profile}
 use Rattle.review_policy.specs.declared.revision.State.{State}
 use Rattle.review_policy.specs.declared.revision.State.TheVariants.{Withdrawn}
-use Rattle.profile_text.specs.declared.profile.Profile.{Profile}
 use Rattle.office_tables.specs.declared.row.RevisionRow.{RevisionRow}
 use Rattle.office_tables.specs.Tables.{Baseline}
 use Rattle.office_policy.specs.History.{founded, adopted, History}
 use Rattle.office_policy.specs.Revisions.{revision_of}
-use Rattle.profile_text.specs.Profile.{closed_profile}
 use Rattle.office_policy.specs.Documents.{document_of}
 
 -- the listed capabilities, fixed at the founding
@@ -23,19 +23,30 @@ adoption_of (adopted c q n ∷ before) team =
     if bytes_eq team q.team then Some (record { profile = q.profile; number = n }) else adoption_of before team
 adoption_of (_ ∷ before) team = adoption_of before team
 
--- the document of a revision, or the closed profile where it was withdrawn
-abbrev pub document_unless_withdrawn : Option RevisionRow → Profile
-document_unless_withdrawn None = closed_profile
-document_unless_withdrawn (Some r) = unless r.state
+-- a revision, unless it was withdrawn
+abbrev pub unless_withdrawn : Option RevisionRow → Option RevisionRow
+unless_withdrawn None = None
+unless_withdrawn (Some r) = unless r.state
   where
-    unless : State → Profile
-    unless Withdrawn = closed_profile
-    unless s = document_of r.body
+    unless : State → Option RevisionRow
+    unless Withdrawn = None
+    unless state = Some r
 
--- the document that a team last adopted, where that revision isn't withdrawn now, else the closed profile
+-- the revision of an adoption, with the name of its profile, where it isn't withdrawn now
+abbrev pub standing_adoption : History → (team : List ℕ) → Option Baseline → Option (List ℕ × RevisionRow)
+standing_adoption h team None = None
+standing_adoption h team (Some b) =
+    option_map (λ r. (b.profile, r)) (unless_withdrawn (revision_of h (record { team = team; profile = b.profile }) b.number))
+
+-- that of the last adoption of a team
+abbrev pub adopted_revision : History → List ℕ → Option (List ℕ × RevisionRow)
+adopted_revision h team = standing_adoption h team (adoption_of h team)
+
+-- the document of an adopted revision, else the closed profile
+abbrev pub document_or_closed : Option (List ℕ × RevisionRow) → Profile
+document_or_closed None = closed_profile
+document_or_closed (Some found) = document_of found.1.body
+
+-- the document that a team last adopted, where its revision isn't withdrawn now, else the closed profile
 abbrev pub baseline_of : History → List ℕ → Profile
-baseline_of h team = adopted_document (adoption_of h team)
-  where
-    adopted_document : Option Baseline → Profile
-    adopted_document None = closed_profile
-    adopted_document (Some b) = document_unless_withdrawn (revision_of h (record { team = team; profile = b.profile }) b.number)
+baseline_of h team = document_or_closed (adopted_revision h team)

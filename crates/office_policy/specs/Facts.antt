@@ -1,6 +1,5 @@
--- What the rules of each request ask, by looking back over what has happened.
-use Rattle.std.specs.Prelude.{ℕ, List, Bool, false, not, ◌&&◌, ◌||◌, ◌==◌, Option, Some, None, is_some, is_none, is_err, Result, Ok, Err, length, bytes_eq}
-use Rattle.review_policy.specs.declared.ask.ProfileName.{ProfileName}
+-- What the rules of each request ask, of what was looked back.
+use Rattle.std.specs.Prelude.{ℕ, List, Bool, false, not, ◌&&◌, ◌||◌, Option, Some, None, is_some, is_none, is_err, Result, Ok, Err, bytes_eq}
 use Rattle.review_policy.specs.declared.role.Role.TheVariants.{Registrar, Author, Reviewer, Security, Issuer, Machine}
 use Rattle.review_policy.specs.declared.denial.Need.{Need}
 use Rattle.review_policy.specs.declared.facts.EnrolFacts.{EnrolFacts}
@@ -18,12 +17,10 @@ use Rattle.profile_text.specs.declared.fault.DocFault.{DocFault}
 use Rattle.profile_text.specs.Text.{text_of}
 use Rattle.office_tables.specs.declared.row.UserRow.{UserRow}
 use Rattle.office_tables.specs.declared.row.RevisionRow.{RevisionRow}
+use Rattle.office_tables.specs.declared.listed.Tally.{Tally}
 use Rattle.office_tables.specs.Lists.{holds_role}
-use Rattle.office_policy.specs.History.{History}
-use Rattle.office_policy.specs.Users.{user_of, user_showing, is_named, is_of_team, name_of}
-use Rattle.office_policy.specs.Revisions.{revision_of, revision_count, if_open, issued_revision, is_author, state_in}
-use Rattle.office_policy.specs.Votes.{approvals, rejections, secure_approvals}
-use Rattle.office_policy.specs.Holds.{is_held}
+use Rattle.office_policy.specs.Users.{is_named, is_of_team}
+use Rattle.office_policy.specs.Revisions.{if_open, state_in}
 
 -- whether a user is there and of another team
 abbrev pub is_elsewhere : Option UserRow → List ℕ → Bool
@@ -52,18 +49,9 @@ has_digest (Some r) digest = bytes_eq r.digest digest
 abbrev pub sees_every_team : Option UserRow → Bool
 sees_every_team user = holds_role user Reviewer || holds_role user Security || holds_role user Issuer
 
--- of a read: of a team alone, or of a revision of a team's profile
-abbrev pub read_facts : (caller : Option UserRow) → (team : List ℕ) → (no_revision : Bool) → ReadFacts
-read_facts caller team no_revision = record {
-  caller_unknown = is_none caller;
-  role_missing = not (holds_role caller Author || sees_every_team caller);
-  other_team = not (is_of_team caller team || sees_every_team caller);
-  no_revision = no_revision;
-}
-
 -- of an enrolment: the user that has the name now, and the one that shows the digest
-abbrev pub enrol_facts_by : (caller known shower : Option UserRow) → (user team : List ℕ) → EnrolFacts
-enrol_facts_by caller known shower user team = record {
+abbrev pub enrol_facts : (caller known shower : Option UserRow) → (user team : List ℕ) → EnrolFacts
+enrol_facts caller known shower user team = record {
   caller_unknown = is_none caller;
   role_missing = not (holds_role caller Registrar);
   own_row = is_named caller user;
@@ -71,83 +59,92 @@ enrol_facts_by caller known shower user team = record {
   token_taken = is_another shower user;
 }
 
--- of a submission: what the document reads as, and the last revision with its number
-abbrev pub submit_facts_by : (caller : Option UserRow) → (team : List ℕ) → Result Profile DocFault → (last : Option RevisionRow) → (revisions : ℕ) → SubmitFacts
-submit_facts_by caller team reading last revisions = record {
-  caller_unknown = is_none caller;
-  role_missing = not (holds_role caller Author);
-  other_team = not (is_of_team caller team);
-  document = is_err reading;
-  same_as_open = is_text_of (canonical reading) (if_open last);
-  revisions = revisions;
-}
+module _ (caller : Option UserRow) where
+  -- of a submission: what the document reads as, and the last revision with its number
+  abbrev pub submit_facts : (team : List ℕ) → Result Profile DocFault → (last : Option RevisionRow) → (revisions : ℕ) → SubmitFacts
+  submit_facts team reading last revisions = record {
+    caller_unknown = is_none caller;
+    role_missing = not (holds_role caller Author);
+    other_team = not (is_of_team caller team);
+    document = is_err reading;
+    same_as_open = is_text_of (canonical reading) (if_open last);
+    revisions = revisions;
+  }
 
-module _ (h : History) (caller : Option UserRow) where
-  abbrev pub enrol_facts : (user team digest : List ℕ) → EnrolFacts
-  enrol_facts user team digest = enrol_facts_by caller (user_of h user) (user_showing h digest) user team
-
-  abbrev pub submit_facts : ProfileName → Result Profile DocFault → SubmitFacts
-  submit_facts p reading = submit_facts_by caller p.team reading (revision_of h p (revision_count h p)) (revision_count h p)
-
-  abbrev pub vote_facts : ProfileName → (number : ℕ) → (digest : List ℕ) → VoteFacts
-  vote_facts p n digest = record {
+  -- of a vote: the revision, whether the caller is an author of its profile, and the digest that is named
+  abbrev pub vote_facts : Option RevisionRow → (author : Bool) → (digest : List ℕ) → VoteFacts
+  vote_facts revision author digest = record {
     caller_unknown = is_none caller;
     role_missing = not (holds_role caller Reviewer);
-    state = state_in (revision_of h p n);
-    author_votes = is_author h p (name_of caller);
-    other_bytes = not (has_digest (revision_of h p n) digest);
+    state = state_in revision;
+    author_votes = author;
+    other_bytes = not (has_digest revision digest);
   }
 
-  abbrev pub issue_facts : Need → ProfileName → (number : ℕ) → IssueFacts
-  issue_facts need p n = record {
+  -- of an issue: the revision, whether the caller is an author of its profile, its votes, its need, and whether it is held
+  abbrev pub issue_facts : Option RevisionRow → (author : Bool) → Tally → Need → (held : Bool) → IssueFacts
+  issue_facts revision author tally need held = record {
     caller_unknown = is_none caller;
     role_missing = not (holds_role caller Issuer);
-    state = state_in (revision_of h p n);
-    author_issues = is_author h p (name_of caller);
-    rejections = length (rejections h p n);
-    approvals = length (approvals h p n);
-    secure = length (secure_approvals h p n);
+    state = state_in revision;
+    author_issues = author;
+    rejections = tally.rejections;
+    approvals = tally.approvals;
+    secure = tally.secure;
     need = need;
-    held = is_held h p;
+    held = held;
   }
 
-  abbrev pub withdraw_facts : ProfileName → (number : ℕ) → WithdrawFacts
-  withdraw_facts p n = record {
+  -- of a withdrawal: the revision of the team's
+  abbrev pub withdraw_facts : (team : List ℕ) → Option RevisionRow → WithdrawFacts
+  withdraw_facts team revision = record {
     caller_unknown = is_none caller;
     role_missing = not (holds_role caller Author || holds_role caller Security);
-    other_team = not (is_of_team caller p.team || holds_role caller Security);
-    state = state_in (revision_of h p n);
+    other_team = not (is_of_team caller team || holds_role caller Security);
+    state = state_in revision;
   }
 
-  abbrev pub adopt_facts : ProfileName → (number : ℕ) → AdoptFacts
-  adopt_facts p n = record {
+  -- of an adoption: the revision, and whether the caller is an author of its profile
+  abbrev pub adopt_facts : Option RevisionRow → (author : Bool) → AdoptFacts
+  adopt_facts revision author = record {
     caller_unknown = is_none caller;
     role_missing = not (holds_role caller Security);
-    state = state_in (revision_of h p n);
-    author_adopts = is_author h p (name_of caller);
+    state = state_in revision;
+    author_adopts = author;
   }
 
-  abbrev pub fetch_facts : ProfileName → FetchFacts
-  fetch_facts p = record {
+  -- of a read: of a team alone, or of a revision of a team's profile
+  abbrev pub read_facts : (team : List ℕ) → (no_revision : Bool) → ReadFacts
+  read_facts team no_revision = record {
+    caller_unknown = is_none caller;
+    role_missing = not (holds_role caller Author || sees_every_team caller);
+    other_team = not (is_of_team caller team || sees_every_team caller);
+    no_revision = no_revision;
+  }
+
+  -- of a fetch: the issued revision of the team's profile, and whether that is held
+  abbrev pub fetch_facts : (team : List ℕ) → (issued : Option RevisionRow) → (held : Bool) → FetchFacts
+  fetch_facts team issued held = record {
     caller_unknown = is_none caller;
     role_missing = not (holds_role caller Machine);
-    other_team = not (is_of_team caller p.team);
-    nothing_issued = is_none (issued_revision h p);
-    held = is_held h p;
+    other_team = not (is_of_team caller team);
+    nothing_issued = is_none issued;
+    held = held;
   }
 
-  abbrev pub hold_facts : ProfileName → HoldFacts
-  hold_facts p = record {
+  -- of a hold, and of a release: whether the profile has no revision, and whether it is held
+  abbrev pub hold_facts : (no_profile held : Bool) → HoldFacts
+  hold_facts no_profile held = record {
     caller_unknown = is_none caller;
     role_missing = not (holds_role caller Security);
-    no_profile = revision_count h p == 0;
-    already_held = is_held h p;
+    no_profile = no_profile;
+    already_held = held;
   }
 
-  abbrev pub release_facts : ProfileName → ReleaseFacts
-  release_facts p = record {
+  abbrev pub release_facts : (no_profile held : Bool) → ReleaseFacts
+  release_facts no_profile held = record {
     caller_unknown = is_none caller;
     role_missing = not (holds_role caller Security);
-    no_profile = revision_count h p == 0;
-    not_held = not (is_held h p);
+    no_profile = no_profile;
+    not_held = not held;
   }

@@ -16,7 +16,7 @@ use Rattle.office_policy.specs.History.{Event, History}
 use Rattle.office_policy.specs.Users.{user_of}
 use Rattle.office_policy.specs.Revisions.{Submission, submission_of, revision_of, revision_count, state_in}
 use Rattle.office_policy.specs.Listing.{listing_of}
-use Rattle.office_policy.specs.Verdict.{Measures, verdict, unreached}
+use Rattle.office_policy.specs.Verdict.{verdict, unreached}
 
 -- no two users show one digest
 abbrev pub AreApart : History → Type 0
@@ -43,8 +43,8 @@ abbrev pub OneIssued : History → ProfileName → Type 0
 OneIssued h p = (n k : ℕ) → is_issued (state_in (revision_of h p n)) ≡ true → is_issued (state_in (revision_of h p k)) ≡ true → n ≡ k
 
 -- a rule refuses the request, or it is carried out
-abbrev pub IsJudged : Measures → History → Request → Type 0
-IsJudged m h r = verdict m h r ≢ unreached
+abbrev pub IsJudged : History → Request → Type 0
+IsJudged h r = verdict h r ≢ unreached
 
 -- the names of a list of profiles
 abbrev pub listed_names : List ListedProfile → List (List ℕ)

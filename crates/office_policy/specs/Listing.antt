@@ -1,25 +1,12 @@
 -- The profiles of a team, by name.
 use Rattle.std.specs.Prelude.{ℕ, List, [], ◌∷◌, map, if◌then◌else◌, bytes_eq}
-use Rattle.std.specs.Ordering.{nat_cmp}
-use Rattle.std.specs.declared.cmp.Ordering.{Ordering}
-use Rattle.std.specs.declared.cmp.Ordering.TheVariants.{Less, Equal, Greater}
-use Rattle.std.specs.Cmp.Lexicographic.{slice_cmp}
 use Rattle.review_policy.specs.declared.ask.ProfileName.{ProfileName}
 use Rattle.review_policy.specs.declared.answer.ListedProfile.{ListedProfile}
 use Rattle.office_policy.specs.History.{submitted, History}
+use Rattle.office_policy.specs.Names.{with_name}
 use Rattle.office_policy.specs.Revisions.{revision_count, number_of, state_of, issued_revision}
 
--- the names with one more, in byte order, each once
-abbrev pub with_name : List ℕ → List (List ℕ) → List (List ℕ)
-with_name name [] = name ∷ []
-with_name name (first ∷ names) = placed (slice_cmp nat_cmp name first) (with_name name names)
-  where
-    placed : Ordering → List (List ℕ) → List (List ℕ)
-    placed Less others = name ∷ first ∷ names
-    placed Equal others = first ∷ names
-    placed Greater others = first ∷ others
-
--- the names of a team's profiles
+-- the names of a team's profiles, each once, in byte order
 abbrev pub profiles_of : History → List ℕ → List (List ℕ)
 profiles_of [] team = []
 profiles_of (submitted c q t ∷ before) team =

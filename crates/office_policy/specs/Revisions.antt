@@ -1,5 +1,5 @@
 -- Revisions of a profile: its submissions, numbered from 1.
-use Rattle.std.specs.Prelude.{ℕ, suc, List, [], ◌∷◌, Bool, false, ◌&&◌, ◌==◌, nat_lt, if◌then◌else◌, Option, Some, None, option_map, option_and_then, filter, length, bytes_eq}
+use Rattle.std.specs.Prelude.{ℕ, suc, List, [], ◌∷◌, Bool, false, ◌&&◌, ◌||◌, ◌==◌, nat_lt, if◌then◌else◌, Option, Some, None, option_map, option_and_then, filter, length, bytes_eq}
 use Rattle.std.specs.List.{list_any}
 use Rattle.profile_text.specs.Digest.{digest_of}
 use Rattle.review_policy.specs.declared.ask.ProfileName.{ProfileName}
@@ -46,17 +46,17 @@ submission_of (submitted c q t ∷ before) p n =
     if is_profile p q && (n == suc (revision_count before p)) then Some (record { author = c; text = t }) else submission_of before p n
 submission_of (_ ∷ before) p n = submission_of before p n
 
--- the events that are newer than the newest that passes the test, or all where none passes
-abbrev pub since : (Event → Bool) → History → History
-since test [] = []
-since test (e ∷ before) = if test e then [] else e ∷ since test before
+-- whether some issue of the revision was followed by an issue of its profile
+abbrev pub is_replaced : History → ProfileName → ℕ → Bool
+is_replaced [] p n = false
+is_replaced (e ∷ before) p n = (issues_profile p e && list_any (issues p n) before) || is_replaced before p n
 
 -- Withdrawn where a withdrawal names the revision; else Replaced where it was issued and a later issue names its profile;
 -- else Issued where it was issued; else Closed where a later submission names its profile; else Open
 abbrev pub state_of : History → ProfileName → ℕ → State
 state_of h p n =
     if list_any (withdraws p n) h then Withdrawn
-    else if list_any (issues p n) h then (if list_any (issues_profile p) (since (issues p n) h) then Replaced else Issued)
+    else if list_any (issues p n) h then (if is_replaced h p n then Replaced else Issued)
     else if nat_lt n (revision_count h p) then Closed
     else Open
 
@@ -66,6 +66,10 @@ revision_of h p n =
     option_map
     (λ s. record { number = n; author = s.author; state = state_of h p n; body = s.text; digest = digest_of s.text })
     (submission_of h p n)
+
+-- the last revision of a profile
+abbrev pub last_revision : History → ProfileName → Option RevisionRow
+last_revision h p = revision_of h p (revision_count h p)
 
 -- whether an event is a submission of the profile by this name
 abbrev pub is_submission_by : List ℕ → ProfileName → Event → Bool

@@ -5,7 +5,7 @@ use Rattle.review_policy.specs.declared.answer.Answer.{Answer}
 use Rattle.review_policy.specs.declared.answer.Answer.TheVariants.{Done, Denied, Fault}
 use Rattle.review_policy.specs.declared.answer.Fault.TheVariants as faults
 use Rattle.office_policy.specs.History.{Event, History}
-use Rattle.office_policy.specs.Verdict.{Measures, Verdict, accepted, denied, verdict}
+use Rattle.office_policy.specs.Verdict.{Verdict, accepted, denied, verdict}
 
 -- the answer that tells a verdict
 abbrev pub answer_of : Verdict → Answer
@@ -23,26 +23,26 @@ event_of (accepted reply event) = event
 event_of (denied denial fault) = None
 
 -- the history after a request: a fault adds no event
-abbrev pub history_after : Measures → History → Request → Answer → History
-history_after m h r (Fault f) = h
-history_after m h r answer = with_event (event_of (verdict m h r)) h
+abbrev pub history_after : History → Request → Answer → History
+history_after h r (Fault f) = h
+history_after h r answer = with_event (event_of (verdict h r)) h
 
 -- the answer is the verdict's, or the fault of memory, of the disk or of room on it
-abbrev pub IsAnswer : Measures → History → Request → Answer → Type 0
-IsAnswer m h r (Fault faults.Memory) = Unit {0}
-IsAnswer m h r (Fault faults.Disk) = Unit {0}
-IsAnswer m h r (Fault faults.Full) = Unit {0}
-IsAnswer m h r (Fault faults.NotAnOffice) = ⊥
-IsAnswer m h r answer = answer ≡ answer_of (verdict m h r)
+abbrev pub IsAnswer : History → Request → Answer → Type 0
+IsAnswer h r (Fault faults.Memory) = Unit {0}
+IsAnswer h r (Fault faults.Disk) = Unit {0}
+IsAnswer h r (Fault faults.Full) = Unit {0}
+IsAnswer h r (Fault faults.NotAnOffice) = ⊥
+IsAnswer h r answer = answer ≡ answer_of (verdict h r)
 
 -- there is one answer to each request: the policy's, on the requests that were accepted before it, or a fault
-abbrev pub Took : Measures → History → List Request → List Answer → Type 0
-Took m h [] [] = Unit {0}
-Took m h (request ∷ requests) (answer ∷ answers) = IsAnswer m h request answer × Took m (history_after m h request answer) requests answers
-Took m h [] (answer ∷ answers) = ⊥
-Took m h (request ∷ requests) [] = ⊥
+abbrev pub Took : History → List Request → List Answer → Type 0
+Took h [] [] = Unit {0}
+Took h (request ∷ requests) (answer ∷ answers) = IsAnswer h request answer × Took (history_after h request answer) requests answers
+Took h [] (answer ∷ answers) = ⊥
+Took h (request ∷ requests) [] = ⊥
 
 -- the history after all of them
-abbrev pub history_after_all : Measures → History → List Request → List Answer → History
-history_after_all m h (request ∷ requests) (answer ∷ answers) = history_after_all m (history_after m h request answer) requests answers
-history_after_all m h _ _ = h
+abbrev pub history_after_all : History → List Request → List Answer → History
+history_after_all h (request ∷ requests) (answer ∷ answers) = history_after_all (history_after h request answer) requests answers
+history_after_all h _ _ = h

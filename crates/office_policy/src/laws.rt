@@ -4,18 +4,17 @@ ghost use Rattle.std.specs.Prelude.{◌≡◌, ◌∷◌, List, ℕ};
 ghost use Rattle.review_policy.specs.declared.ask.ProfileName.{ProfileName};
 ghost use Rattle.review_policy.specs.declared.ask.Request.{Request};
 ghost use Rattle.office_policy.specs.History.{Event, History};
-ghost use Rattle.office_policy.specs.Verdict.{Measures};
 ghost use Rattle.office_policy.specs.Lawful.{IsLawful};
 ghost use Rattle.office_policy.specs.Laws.{AreApart, KeepsTeams, KeepsSubmissions, NumbersRun, OpenIsLast, OneIssued, IsJudged, ListsInOrder, ListsAll};
 
 /// No two users show one digest.
 pub fn digests_are_apart()
-    ensures { (m : Measures) (h : History) → IsLawful m h → AreApart h }
+    ensures { (h : History) → IsLawful h → AreApart h }
 {}
 
 /// A user's team never changes.
 pub fn teams_are_kept()
-    ensures { (m : Measures) (h : History) (e : Event) → IsLawful m (e ∷ h) → KeepsTeams h e }
+    ensures { (h : History) (e : Event) → IsLawful (e ∷ h) → KeepsTeams h e }
 {}
 
 /// A revision's author and text never change.
@@ -40,7 +39,7 @@ pub fn one_revision_is_issued()
 
 /// Each request is refused by a rule, or carried out: no verdict is the one that stands where its rules leave nothing to do.
 pub fn every_request_is_judged()
-    ensures { (m : Measures) (h : History) (request : Request) → IsJudged m h request }
+    ensures { (h : History) (request : Request) → IsJudged h request }
 {}
 
 /// The profiles of a team are listed in byte order of their names, each once.
