@@ -1,5 +1,5 @@
 use Rattle.profile_commands.proofs.OutcomeFacts.{by_root, of_file}
-use Rattle.profile_commands.proofs.outcome.outcome_of.Goals as goal
+use Rattle.profile_commands.proofs.execve.outcome_of.Goals as goal
 
 pub returns-in-ByRoot : goal.returns-in-ByRoot
 returns-in-ByRoot c = rw c.in-ByRoot.is (by_root _ c.execve_root.result c.done.result c.execve_root.ensures c.done.ensures)

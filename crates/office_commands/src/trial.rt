@@ -1,11 +1,11 @@
 //! The trial desk.
 
+use crate::fault::CommandFault;
 use cap_sets::Caps;
 use counted_io::Counted;
-use desk::{DeskFault, desk};
+use desk::desk;
 use office_desk::Office;
 use office_tables::StoreFault;
-use profile_commands::CommandFault;
 use profile_text::digest;
 use review_policy::{Word, WordFault};
 use std::alloc::Global;
@@ -37,16 +37,6 @@ fn trial_office(alloc: Global) -> Result<Office, NotFounded> {
     Ok(office)
 }
 
-// What is said of a desk that stopped.
-fn said_of(fault: DeskFault) -> CommandFault {
-    match fault {
-        DeskFault::Read { .. } => CommandFault::Read,
-        DeskFault::Write { .. } => CommandFault::Write,
-        DeskFault::TooManyReads { .. } => CommandFault::TooManyReads,
-        DeskFault::NoMemory { .. } => CommandFault::NoMemory,
-    }
-}
-
 /// Answers the lines of a reader at the trial desk.
 pub(crate) fn serve_trial<R: Read, W: Write>(
     alloc: Global,
@@ -58,5 +48,6 @@ pub(crate) fn serve_trial<R: Read, W: Write>(
     };
     let mut reader = Counted::new(input);
     let mut writer = Counted::new(output);
-    desk(&mut office, alloc, &mut reader, &mut writer).map_err(said_of)
+    desk(&mut office, alloc, &mut reader, &mut writer)?;
+    Ok(())
 }

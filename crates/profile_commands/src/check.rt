@@ -1,11 +1,11 @@
 //! The command `check`.
 
-ghost use Rattle.std.specs.Prelude.{◌≡◌, ◌+◌, ◌^◌, ◌<◌, ◌≤◌, ◌++◌, ◌∷◌, [], IfErr, IfOk, IfSome, string_bytes};
+ghost use Rattle.std.specs.Prelude.{◌≡◌, ◌^◌, ◌≤◌, ◌++◌, ◌∷◌, [], IfOk, IfSome, string_bytes};
 ghost use Rattle.profile_text.specs.Text.{text_of};
-ghost use Rattle.profile_commands.specs.Refusal.{IsChecked};
+ghost use Rattle.profile_commands.specs.Refusal.{AgreesWithReads, IsChecked};
 
 use crate::document::read_document;
-use crate::fault::CommandFault;
+use crate::fault::FileFault;
 use counted_io::Counted;
 use profile_text::{Profile, print};
 use std::alloc::{AllocError, Global};
@@ -25,13 +25,11 @@ fn text_line(alloc: Global, profile: &Profile) -> Result<String, AllocError>
 /// # Errors
 ///
 /// Those of `read_document`.
-pub fn check<R: Read>(alloc: Global, reader: &mut Counted<R>) -> Result<String, CommandFault>
+pub fn check_document<R: Read>(alloc: Global, reader: &mut Counted<R>) -> Result<String, FileFault>
     requires calls { reader.old.calls ≤ 2 ^ 62 }
     requires faults { reader.old.faults ≤ 2 ^ 62 }
     ensures checked { IfSome (R.remaining reader.old.inner) (λ bytes. IsChecked bytes result) }
-    ensures read { IfErr result (λ fault. fault ≡ CommandFault.Read → reader.old.faults < reader.new.faults) }
-    ensures too_many { IfErr result (λ fault. fault ≡ CommandFault.TooManyReads →
-        (reader.new.calls ≡ reader.old.calls + 600000) × (reader.new.faults ≡ reader.old.faults)) }
+    ensures reads { AgreesWithReads reader.old.calls reader.new.calls reader.old.faults reader.new.faults result }
 {
     let profile = read_document(alloc, reader)?;
     let text = text_line(alloc, &profile)?;

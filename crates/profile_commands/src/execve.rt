@@ -1,11 +1,12 @@
 //! The command `execve`.
 
-ghost use Rattle.std.specs.Prelude.{◌≡◌, ◌+◌, ◌^◌, ◌<◌, ◌≤◌, IfErr, IfOk, IfSome};
+ghost use Rattle.std.specs.Prelude.{◌^◌, ◌≤◌, IfOk, IfSome};
 ghost use Rattle.profile_commands.specs.Executions.{IsDone, IsExecuted, IsOutcome};
+ghost use Rattle.profile_commands.specs.Refusal.{AgreesWithReads};
 
 use crate::document::read_document;
 use crate::execution::Execution;
-use crate::fault::CommandFault;
+use crate::fault::FileFault;
 use crate::text::state_text;
 use cap_sets::{CapState, execve, execve_root};
 use counted_io::Counted;
@@ -55,13 +56,11 @@ pub fn execve_document<R: Read>(
     alloc: Global,
     execution: &Execution,
     reader: &mut Counted<R>,
-) -> Result<Outcome, CommandFault>
+) -> Result<Outcome, FileFault>
     requires calls { reader.old.calls ≤ 2 ^ 62 }
     requires faults { reader.old.faults ≤ 2 ^ 62 }
     ensures executed { IfSome (R.remaining reader.old.inner) (λ bytes. IsExecuted execution.now bytes result) }
-    ensures read { IfErr result (λ fault. fault ≡ CommandFault.Read → reader.old.faults < reader.new.faults) }
-    ensures too_many { IfErr result (λ fault. fault ≡ CommandFault.TooManyReads →
-        (reader.new.calls ≡ reader.old.calls + 600000) × (reader.new.faults ≡ reader.old.faults)) }
+    ensures reads { AgreesWithReads reader.old.calls reader.new.calls reader.old.faults reader.new.faults result }
 {
     let profile = read_document(alloc, reader)?;
     let outcome = outcome_of(alloc, execution, &profile.caps)?;
