@@ -17,3 +17,7 @@ pub mod VoteReads
 pub mod FoundingSteps
 pub mod FormReads
 pub mod Numbers
+pub mod Calls
+pub mod Queries
+pub mod OfficeRow
+pub mod Told
