@@ -36,7 +36,7 @@ refused_query limit db q params e (inl h) = rw h.0 (λ h. cc, λ h. cc)
 refused_query limit db q params e (inr (inl h)) = rw h.0 (λ h. cc, λ h. cc)
 refused_query limit db q params e (inr (inr h)) = rw h.0 (λ h. cc, λ h. cc)
 
-refused_read : (limit : Option ℕ) (command : Command) (db : Database) (params : Row) (e : Error) → RefusesToRead limit command db params e → IsOfMachine e
+pub refused_read : (limit : Option ℕ) (command : Command) (db : Database) (params : Row) (e : Error) → RefusesToRead limit command db params e → IsOfMachine e
 refused_read limit (Select q names) db params e h = refused_query limit db q params e h
 refused_read limit (Rows values width names) db params e h = rw h.0 (λ h. cc, λ h. cc)
 refused_read limit _ db params e h = rw h (λ h. cc, λ h. cc)

@@ -15,3 +15,6 @@ pub mod InOrder
 pub mod Distinct
 pub mod Asked
 pub mod Creating
+pub mod Queries
+pub mod Shut
+pub mod Whole

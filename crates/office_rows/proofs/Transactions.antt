@@ -1,11 +1,12 @@
 -- A transaction between its statements.
-use Rattle.std.proofs.Common.{inr, ◌≡◌, ℕ, ◌<◌, ◌≤◌, ◌+◌, List, [], ◌∷◌, map, length, drop, get_or, Ok, IsTrue, refl, ◌∙◌, arith}
+use Rattle.std.proofs.Common.{inl, inr, Err, ◌≡◌, ℕ, ◌<◌, ◌≤◌, ◌+◌, List, [], ◌∷◌, map, length, drop, get_or, Ok, IsTrue, refl, ◌∙◌, arith}
 use Rattle.std.proofs.lemmas.List.{at_drop_more, at_drop_all}
 use Rattle.sqlite.specs.Store.{Ghosts}
 use Rattle.sqlite.specs.declared.error.Error.{Error}
 use Rattle.sqlite.specs.Effect.{Database}
 use Rattle.sqlite.specs.Tree.{Trees}
-use Rattle.sqlite.specs.State.{HasCleanDisk, Survives, ExecutesInside}
+use Rattle.sqlite.specs.Order.{Row}
+use Rattle.sqlite.specs.State.{State, HasCleanDisk, Survives, ExecutesInside}
 use Rattle.sqlite.specs.Held.{Held, state}
 use Rattle.sqlite.proofs.StateLemmas.{survives_then}
 use Rattle.sqlite.proofs.Callers.{survives_begin}
@@ -33,8 +34,8 @@ one_more g all left s old now next count it step runs =
       mode = λ clean. (done clean).1.mode;
       was_open = λ clean is_open. it.was_open (before clean) (done clean).1.was_open;
       committed = λ clean is_open. (done clean).1.committed_is ∙ it.committed (before clean) (done clean).1.was_open;
-      ran = λ clean db rest. it.ran (before clean) db (next, count, (done clean).0, rest);
-      failed = λ clean e rest. it.failed (before clean) e (inr (next, count, (done clean).0, rest));
+      ran = λ clean db rest. it.ran (before clean) db (next, count, done clean, rest);
+      failed = λ clean e rest. it.failed (before clean) e (inr (next, count, done clean, rest));
     }
 
 abbrev pub nothing_lent : Lent
@@ -55,3 +56,14 @@ committed_all g all old last new it commit =
     survives_then (state g old) (state g last) (state g new) _ _ P (λ _ db none. absurd none)
     (λ clean trees is. let before : HasCleanDisk (state g last) = omega (arith, commit.clean) in ((state g last).now, it.ran before (state g last).now refl, is))
     (survives_begin g old (state g last) _ it.survives) commit
+
+-- the connection that a statement failed over was open if it is
+pub failed_open : (sql : List ℕ) (params : Row) (old new : State) (e : Error) → ExecutesInside 0 sql params old new (Err e) → IsTrue new.is_open → IsTrue old.is_open
+failed_open sql params old new e (inl (h, inl same)) is_open = same.0.was_open
+failed_open sql params old new e (inl (h, inr back)) is_open = back.was_open is_open
+failed_open sql params old new e (inr (ends, is, same)) is_open = same.0.was_open
+
+-- a statement that has run did so over an open connection
+pub ran_open : {S : Type 0} (g : Ghosts S) (ss : List Statement) (h : Held S) (db : Database) → 0 < length ss → RanAll g ss h db → IsTrue (state g h).is_open
+ran_open g [] h db some ran = absurd (omega arith)
+ran_open g (s ∷ ss) h db some ran = ran.2.1.was_open

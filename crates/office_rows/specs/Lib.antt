@@ -2,3 +2,5 @@ pub mod Faults
 pub mod Entries
 pub mod Statements
 pub mod Rows
+pub mod Queries
+pub mod Told

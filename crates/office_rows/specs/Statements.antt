@@ -4,10 +4,12 @@ use Rattle.sqlite.specs.declared.error.Error.{Error}
 use Rattle.sqlite.specs.Store.{Ghosts}
 use Rattle.sqlite.specs.Order.{Row}
 use Rattle.sqlite.specs.Effect.{Database}
-use Rattle.sqlite.specs.State.{Executes, ExecutesInside}
+use Rattle.sqlite.specs.State.{ExecutesInside}
 use Rattle.sqlite.specs.Steps.{FailsToCommit}
 use Rattle.sqlite.specs.Held.{Held, state}
 use Rattle.sqlite.specs.Values.{bound}
+use Rattle.office_tables.specs.declared.fault.StoreFault.{StoreFault}
+use Rattle.office_rows.specs.Faults.{fault_of}
 use Rattle.office_rows.specs.declared.transaction.Statement.{Statement as Lent}
 
 pub record Statement : Type 0 where
@@ -25,11 +27,17 @@ module _ {S : Type 0} (g : Ghosts S) where
   -- from this connection on, the statements ran in turn and left this database
   abbrev pub RanAll : List Statement → Held S → Database → Type 0
   RanAll [] h db = db ≡ (state g h).now
-  RanAll (s ∷ ss) h db = (mid : Held S) × (count : ℕ) × Executes s.sql s.params (state g h) (state g mid) (Ok count) × RanAll ss mid db
+  RanAll (s ∷ ss) h db = (mid : Held S) × (count : ℕ) × ExecutesInside 0 s.sql s.params (state g h) (state g mid) (Ok count) × RanAll ss mid db
 
   -- from this connection on, one of the statements failed, or the commit after them
   abbrev pub FailedIn : List Statement → Held S → Error → Type 0
   FailedIn [] h e = (new : Held S) × FailsToCommit (state g h) (state g new) e
   FailedIn (s ∷ ss) h e =
       ((new : Held S) × ExecutesInside 0 s.sql s.params (state g h) (state g new) (Err e))
-      ⊎ ((mid : Held S) × (count : ℕ) × Executes s.sql s.params (state g h) (state g mid) (Ok count) × FailedIn ss mid e)
+      ⊎ ((mid : Held S) × (count : ℕ) × ExecutesInside 0 s.sql s.params (state g h) (state g mid) (Ok count) × FailedIn ss mid e)
+
+  -- this fault is that of a statement of a transaction, or of its commit
+  pub record IsCause (statements : List Statement) (h : Held S) (f : StoreFault) : Type 0 where
+    pub error : Error
+    pub failed : FailedIn statements (begun h) error
+    pub fault : f ≡ fault_of error

@@ -8,6 +8,6 @@ pub mod rows;
 pub mod transaction;
 
 pub use fault::fault_of;
-pub use query::first_row;
+pub use query::{first_row, is_there};
 pub use rows::all_rows;
 pub use transaction::{Statement, run_all};

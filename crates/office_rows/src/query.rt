@@ -5,6 +5,7 @@ ghost use Rattle.sqlite.specs.Held.{state};
 ghost use Rattle.sqlite.specs.State.{HasCleanDisk, Survives, CommitsShowing};
 ghost use Rattle.sqlite.specs.Values.{bound};
 ghost use Rattle.office_rows.specs.Faults.{FindsRow};
+ghost use Rattle.office_rows.specs.Told.{IsTold, TellsWhether};
 
 use crate::fault::fault_of;
 use office_tables::StoreFault;
@@ -27,4 +28,12 @@ pub fn first_row<S: Alter>(
         Err(Error::QueryReturnedNoRows) => Ok(None),
         Err(error) => Err(fault_of(error)),
     }
+}
+
+/// Whether a query found a row.
+pub fn is_there(found: Result<Option<Row>, StoreFault>) -> Result<bool, StoreFault>
+    ensures { IsTold TellsWhether found result }
+{
+    let row = found?;
+    Ok(row.is_some())
 }

@@ -26,6 +26,7 @@ pub fn run_all<S: Alter>(
         × Shows (state S.Store conn.old) (state S.Store conn.new) (state S.Store conn.new).now (state S.Store conn.new).now false) }
     ensures none { HasCleanDisk (state S.Store conn.new) → IsTrue (state S.Store conn.new).is_open → OnErr result ((state S.Store conn.new).now ≡ (state S.Store conn.old).committed × (state S.Store conn.new).committed ≡ (state S.Store conn.old).committed) }
     ensures cause { HasCleanDisk (state S.Store conn.new) → IfErr result (FailedIn S.Store (map statement_of statements.now) (begun conn.old)) }
+    ensures was_open { HasCleanDisk (state S.Store conn.new) → IsTrue (state S.Store conn.new).is_open → IsTrue (state S.Store conn.old).is_open }
     ensures mode { conn.new.in_transaction ≡ false }
     ensures clean { HasCleanDisk (state S.Store conn.new) → HasCleanDisk (state S.Store conn.old) }
     ensures crash { Survives (state S.Store conn.old) (state S.Store conn.new) (λ trees. (db : Database) × RanAll S.Store (map statement_of statements.now) (begun conn.old) db × (trees ≡ db.trees)) }

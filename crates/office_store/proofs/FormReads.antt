@@ -1,5 +1,5 @@
 -- What the test that a store is an office finds in one.
-use Rattle.std.proofs.Common.{inl, inr, ◌≡◌, ◌≢◌, ◌<◌, ◌^◌, ℕ, ℤ, pos, List, [], ◌∷◌, codes, Some, Ok, Err, Result, Option, IfOk, OnOk, Bool, true, false, refl, sym, ap, subst, ◌∙◌}
+use Rattle.std.proofs.Common.{inl, inr, ◌≡◌, ◌≢◌, ℕ, ℤ, pos, List, [], ◌∷◌, codes, Ok, Err, Result, Option, IfOk, OnOk, Bool, true, false, refl, ap, ◌∙◌}
 use Rattle.sqlite.specs.declared.types.Value.TheVariants.{Null, Int}
 use Rattle.sqlite.specs.Order.{Row}
 use Rattle.sqlite.specs.Term.{Term, col}
@@ -22,7 +22,7 @@ use Rattle.office_rows.proofs.Rowids.{has_permuted}
 use Rattle.office_rows.proofs.Finding.{finds, commits_none}
 use Rattle.office_store.specs.declared.form.TheConstants.{OFFICE_ROW}
 use Rattle.office_store.specs.Schema.{office_schema}
-use Rattle.office_store.specs.Form.{has_tables, form_row, HasForm}
+use Rattle.office_store.specs.Form.{has_tables, form_row}
 use Rattle.office_store.specs.Reads.{IsFormRow}
 use Rattle.office_store.specs.Shown.{Shows, ShowsIfOpen}
 use Rattle.office_store.proofs.Kept.{still_shows, answered_shows}
@@ -32,13 +32,13 @@ pub office_has_tables : has_tables office_schema ≡ true
 unfolding same_name
 office_has_tables = refl
 
-abbrev columns : List Term
+abbrev pub columns : List Term
 columns = col 1 0 ∷ col 1 2 ∷ col 1 3 ∷ []
 
 abbrev names : List (List ℕ)
 names = codes "key" ∷ codes "schema" ∷ codes "listed" ∷ []
 
-form_means : Means office_schema OFFICE_ROW.now (Select (record { lets = []; body = plain_query columns [] 0 }) names)
+pub form_means : Means office_schema OFFICE_ROW.now (Select (record { lets = []; body = plain_query columns [] 0 }) names)
 unfolding understood everything
 form_means = record { is = refl; plain = (refl, refl); unlisted = refl }
 
@@ -75,15 +75,3 @@ module _ (old new : State) (t : Tables) (shows : Shows old t) (idle : old.in_tra
 
   pub shown_has_tables : has_tables old.now.schema ≡ true
   shown_has_tables = ap has_tables shows.office.schema ∙ office_has_tables
-
--- a row of the form tells it
-pub has_form : (old new : State) (r : Result ℕ StoreFault) (row : Row) → has_tables old.now.schema ≡ true → FindsRow OFFICE_ROW.now [] old new (Ok (Some row))
-    → IfOk r (λ listed. (listed < 2 ^ 41) × (row ≡ form_row listed)) → IfOk r (HasForm old new)
-has_form old new (Ok listed) row tables finds it = record { tables = tables; below = it.0; row = subst (λ w. FindsRow OFFICE_ROW.now [] old new (Ok (Some w))) it.1 finds }
-has_form old new (Err f) row tables finds it = tt
-
-pub form_listed : (r : Result ℕ StoreFault) (row : Row) (n : ℕ) → row ≡ form_row n → IfOk r (λ listed. (listed < 2 ^ 41) × (row ≡ form_row listed)) → IfOk r (λ listed. listed ≡ n)
-form_listed (Ok listed) row n is it =
-    let same : form_row n ≡ form_row listed = sym is ∙ it.1 in
-    let k : listed ≡ n = cc in k
-form_listed (Err f) row n is it = tt

@@ -19,3 +19,7 @@ pub mod FoundingSteps
 pub mod FormReads
 pub mod Numbers
 pub mod Reopened
+pub mod Calls
+pub mod Queries
+pub mod OfficeRow
+pub mod Told

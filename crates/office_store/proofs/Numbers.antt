@@ -24,10 +24,16 @@ one_next t p (Some r) None x y = absurd (let z = sym (y r.number) ∙ x.0 in cc)
 one_next t p (Some r) (Some s) x y =
     ap (λ n. n + 1) (neither_less r.number s.number (λ below. let z = sym (x.1 s.number below) ∙ y.0 in cc) (λ below. let z = sym (y.1 r.number below) ∙ x.0 in cc))
 
-next_free : (t : Tables) (p : ProfileName) (last : Option RevisionRow) → IsLast t p last → t.revisions p (next_number last) ≡ None
-next_free t p None it = it 1
-next_free t p (Some r) it = it.1 (r.number + 1) (omega arith)
+pub one_number : (t : Tables) (p : ProfileName) (m n : ℕ) → IsNextNumber t p m → IsNextNumber t p n → m ≡ n
+one_number t p m n a b = a.2 ∙ one_next t p a.0 b.0 a.1 b.1 ∙ sym b.2
+
+last_free : (t : Tables) (p : ProfileName) (last : Option RevisionRow) → IsLast t p last → t.revisions p (next_number last) ≡ None
+last_free t p None it = it 1
+last_free t p (Some r) it = it.1 (r.number + 1) (omega arith)
+
+pub next_free : (t : Tables) (p : ProfileName) (n : ℕ) → IsNextNumber t p n → t.revisions p n ≡ None
+next_free t p n it = ap (t.revisions p) it.2 ∙ last_free t p it.0 it.1
 
 pub next_is : (t : Tables) (p : ProfileName) (last : Option RevisionRow) → IsLast t p last → (r : Result ℕ StoreFault) → IfOk r (λ n. n ≡ next_number last) → IfOk r (IsNextNumber t p)
-next_is t p last it (Ok n) is = ((λ other same. is ∙ one_next t p last other it same), ap (t.revisions p) is ∙ next_free t p last it)
+next_is t p last it (Ok n) is = (last, it, is)
 next_is t p last it (Err f) is = is

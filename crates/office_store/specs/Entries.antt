@@ -63,6 +63,10 @@ pub record IsRevision (e : Revision) : Type 0 where
   pub body : IsUtf8 e.1.body
   pub digest : length e.1.digest ≡ 32
 
+-- of some profile
+abbrev pub IsRevisionForm : RevisionRow → Type 0
+IsRevisionForm r = (p : ProfileName) × IsRevision (p, r)
+
 -- ---- votes, by profile, number and voter
 
 pub record VoteKey : Type 0 where

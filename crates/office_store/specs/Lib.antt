@@ -1,9 +1,12 @@
 pub mod Schema
 pub mod Entries
+pub mod Keys
 pub mod Shown
+pub mod Calls
 pub mod Form
 pub mod Reads
 pub mod Steps
+pub mod Writes
 pub mod Adopted
 pub mod Lists
 pub mod Founding

@@ -7,6 +7,7 @@ use Rattle.review_policy.specs.declared.revision.State.TheVariants.{Open, Issued
 use Rattle.office_tables.specs.declared.row.UserRow.{UserRow}
 use Rattle.office_tables.specs.declared.row.RevisionRow.{RevisionRow}
 use Rattle.office_tables.specs.Tables.{Tables}
+use Rattle.office_tables.specs.Changes.{with_revision}
 use Rattle.office_tables.specs.Reads.{IsUserShowing, IsLast, next_number}
 use Rattle.office_store.specs.Entries.{user_row, revision_columns}
 use Rattle.office_store.specs.Form.{form_row}
@@ -37,13 +38,21 @@ pub record HasRevision (t : Tables) (p : ProfileName) : Type 0 where
   pub revision : RevisionRow
   pub there : t.revisions p number ≡ Some revision
 
--- the number after that of the last revision, under which there is none yet
+-- the number after that of the last revision
 abbrev pub IsNextNumber : Tables → ProfileName → ℕ → Type 0
-IsNextNumber t p n = ((last : Option RevisionRow) → IsLast t p last → n ≡ next_number last) × (t.revisions p n ≡ None)
+IsNextNumber t p n = (last : Option RevisionRow) × IsLast t p last × (n ≡ next_number last)
 
 -- a revision that is submitted
 abbrev pub submitted : ℕ → List ℕ → List ℕ → List ℕ → RevisionRow
 submitted number author body digest = record { number = number; author = author; state = Open; body = body; digest = digest }
+
+-- a revision is added, whose number is free
+abbrev pub Adds : ProfileName → RevisionRow → Tables → Tables → Type 0
+Adds p r t u = (t.revisions p r.number ≡ None) × (u ≡ with_revision p r t)
+
+-- a revision is submitted, under the next number
+abbrev pub Submits : ProfileName → List ℕ → List ℕ → List ℕ → Tables → Tables → Type 0
+Submits p author body digest t u = (n : ℕ) × IsNextNumber t p n × (u ≡ with_revision p (submitted n author body digest) t)
 
 -- the row of the listed capabilities
 abbrev pub IsRowListed : Tables → Option Row → Type 0

@@ -74,3 +74,7 @@ LeavesOnly s t = (trees : Trees) → s.may_leave trees → AreOffice trees t
 -- a crash may leave what it could leave before, or what is said here
 abbrev pub MayLeave : State → State → (Trees → Type 0) → Type 0
 MayLeave old new Said = HasCleanDisk new → (trees : Trees) → new.may_leave trees → old.may_leave trees ⊎ Said trees
+
+-- a crash may leave nothing that it couldn't leave before
+abbrev pub LeavesNoMore : State → State → Type 0
+LeavesNoMore old new = HasCleanDisk new → (trees : Trees) → new.may_leave trees → old.may_leave trees

@@ -1,21 +1,24 @@
 //! The authors of a profile.
 
-ghost use Rattle.std.specs.Prelude.{◌≡◌, ◌≢◌, ◌↔◌, ℕ, List, true, Err, IfOk, OnOk, map, is_some};
+ghost use Rattle.std.specs.Prelude.{◌≡◌, ◌≢◌, ◌↔◌, ℕ, List, true, Err, IfOk, map, is_some};
 ghost use Rattle.std.specs.List.{AllByRecursion};
 ghost use Rattle.sqlite.specs.Held.{state};
-ghost use Rattle.sqlite.specs.State.{HasCleanDisk, Survives};
+ghost use Rattle.sqlite.specs.State.{HasCleanDisk};
 ghost use Rattle.review_policy.specs.Words.{is_word};
-ghost use Rattle.office_tables.specs.Tables.{Tables};
+ghost use Rattle.office_rows.specs.Faults.{FindsRow};
+ghost use Rattle.office_rows.specs.Told.{TellsRow, TellsWhether};
 ghost use Rattle.office_tables.specs.Lists.{IsAuthor, AreAuthors};
+ghost use Rattle.office_store.specs.Calls.{IsRead};
+ghost use Rattle.office_store.specs.Keys.{author_params};
 ghost use Rattle.office_store.specs.Lists.{name_row, AreAuthorRows};
-ghost use Rattle.office_store.specs.Shown.{IsIdle, Shows, ShowsIfOpen};
+ghost use Rattle.office_store.specs.Shown.{IsIdle};
 
+use crate::bind::{of_author, of_profile};
 use crate::column::word_at;
-use office_rows::{all_rows, first_row};
+use office_rows::{all_rows, first_row, is_there};
 use office_tables::StoreFault;
 use review_policy::{ProfileName, Word};
-use sqlite::types::ValueRef;
-use sqlite::{Alter, Connection, Row, params};
+use sqlite::{Alter, Connection, Row};
 use std::alloc::Global;
 
 pub(crate) const REVISION_BY: &str =
@@ -31,18 +34,10 @@ fn revision_by<S: Alter>(
     author: &Word,
 ) -> Result<Option<Row>, StoreFault>
     requires { IsIdle (state S.Store conn.old) }
-    ensures found { (t : Tables) → Shows (state S.Store conn.old) t → HasCleanDisk (state S.Store conn.new) → IfOk result (λ row. is_some row ≡ true ↔ IsAuthor t profile.now author.now) }
-    ensures fault { (t : Tables) → Shows (state S.Store conn.old) t → HasCleanDisk (state S.Store conn.new) → result ≢ Err StoreFault.NotAnOffice }
-    ensures shown { (t : Tables) → Shows (state S.Store conn.old) t → HasCleanDisk (state S.Store conn.new) → OnOk result (Shows (state S.Store conn.new) t) }
-    ensures same { (t : Tables) → Shows (state S.Store conn.old) t → HasCleanDisk (state S.Store conn.new) → ShowsIfOpen (state S.Store conn.new) t }
-    ensures idle { IsIdle (state S.Store conn.new) }
-    ensures clean { HasCleanDisk (state S.Store conn.new) → HasCleanDisk (state S.Store conn.old) }
-    ensures crash { (t : Tables) → Shows (state S.Store conn.old) t → Survives (state S.Store conn.old) (state S.Store conn.new) (λ _. ⊥) }
+    ensures read { IsRead (state S.Store conn.old) (state S.Store conn.new) result (λ t row. is_some row ≡ true ↔ IsAuthor t profile.now author.now) }
+    ensures row { HasCleanDisk (state S.Store conn.new) → FindsRow REVISION_BY.now (author_params profile.now author.now) (state S.Store conn.old) (state S.Store conn.new) result }
 {
-    let team = profile.team.as_str();
-    let profile = profile.profile.as_str();
-    let author = author.as_str();
-    first_row(conn, REVISION_BY, params![team, profile, author])
+    first_row(conn, REVISION_BY, &of_author(profile, author))
 }
 
 /// Whether a user submitted a revision of a profile.
@@ -52,16 +47,10 @@ pub fn is_author<S: Alter>(
     author: &Word,
 ) -> Result<bool, StoreFault>
     requires { IsIdle (state S.Store conn.old) }
-    ensures found { (t : Tables) → Shows (state S.Store conn.old) t → HasCleanDisk (state S.Store conn.new) → IfOk result (λ found. found ≡ true ↔ IsAuthor t profile.now author.now) }
-    ensures formed { (t : Tables) → Shows (state S.Store conn.old) t → HasCleanDisk (state S.Store conn.new) → result ≢ Err StoreFault.NotAnOffice }
-    ensures shown { (t : Tables) → Shows (state S.Store conn.old) t → HasCleanDisk (state S.Store conn.new) → OnOk result (Shows (state S.Store conn.new) t) }
-    ensures same { (t : Tables) → Shows (state S.Store conn.old) t → HasCleanDisk (state S.Store conn.new) → ShowsIfOpen (state S.Store conn.new) t }
-    ensures idle { IsIdle (state S.Store conn.new) }
-    ensures clean { HasCleanDisk (state S.Store conn.new) → HasCleanDisk (state S.Store conn.old) }
-    ensures crash { (t : Tables) → Shows (state S.Store conn.old) t → Survives (state S.Store conn.old) (state S.Store conn.new) (λ _. ⊥) }
+    ensures read { IsRead (state S.Store conn.old) (state S.Store conn.new) result (λ t is_author. is_author ≡ true ↔ IsAuthor t profile.now author.now) }
+    ensures told { HasCleanDisk (state S.Store conn.new) → TellsRow REVISION_BY.now (author_params profile.now author.now) (state S.Store conn.old) (state S.Store conn.new) TellsWhether result }
 {
-    let row = revision_by(conn, profile, author)?;
-    Ok(row.is_some())
+    is_there(revision_by(conn, profile, author))
 }
 
 // The rows of the authors of a profile.
@@ -70,17 +59,9 @@ fn author_rows<S: Alter>(
     profile: &ProfileName,
 ) -> Result<Vec<Row>, StoreFault>
     requires { IsIdle (state S.Store conn.old) }
-    ensures found { (t : Tables) → Shows (state S.Store conn.old) t → HasCleanDisk (state S.Store conn.new) → IfOk result (λ rows. AreAuthorRows t profile.now rows.items) }
-    ensures fault { (t : Tables) → Shows (state S.Store conn.old) t → HasCleanDisk (state S.Store conn.new) → result ≢ Err StoreFault.NotAnOffice }
-    ensures shown { (t : Tables) → Shows (state S.Store conn.old) t → HasCleanDisk (state S.Store conn.new) → OnOk result (Shows (state S.Store conn.new) t) }
-    ensures same { (t : Tables) → Shows (state S.Store conn.old) t → HasCleanDisk (state S.Store conn.new) → ShowsIfOpen (state S.Store conn.new) t }
-    ensures idle { IsIdle (state S.Store conn.new) }
-    ensures clean { HasCleanDisk (state S.Store conn.new) → HasCleanDisk (state S.Store conn.old) }
-    ensures crash { (t : Tables) → Shows (state S.Store conn.old) t → Survives (state S.Store conn.old) (state S.Store conn.new) (λ _. ⊥) }
+    ensures read { IsRead (state S.Store conn.old) (state S.Store conn.new) result (λ t rows. AreAuthorRows t profile.now rows.items) }
 {
-    let team = profile.team.as_str();
-    let profile = profile.profile.as_str();
-    all_rows(conn, AUTHORS_OF, params![team, profile])
+    all_rows(conn, AUTHORS_OF, &of_profile(profile))
 }
 
 // The names that rows have in their first column.
@@ -103,13 +84,7 @@ pub fn authors<S: Alter>(
     profile: &ProfileName,
 ) -> Result<Vec<Word>, StoreFault>
     requires { IsIdle (state S.Store conn.old) }
-    ensures found { (t : Tables) → Shows (state S.Store conn.old) t → HasCleanDisk (state S.Store conn.new) → IfOk result (λ names. AreAuthors t profile.now names.items) }
-    ensures formed { (t : Tables) → Shows (state S.Store conn.old) t → HasCleanDisk (state S.Store conn.new) → result ≢ Err StoreFault.NotAnOffice }
-    ensures shown { (t : Tables) → Shows (state S.Store conn.old) t → HasCleanDisk (state S.Store conn.new) → OnOk result (Shows (state S.Store conn.new) t) }
-    ensures same { (t : Tables) → Shows (state S.Store conn.old) t → HasCleanDisk (state S.Store conn.new) → ShowsIfOpen (state S.Store conn.new) t }
-    ensures idle { IsIdle (state S.Store conn.new) }
-    ensures clean { HasCleanDisk (state S.Store conn.new) → HasCleanDisk (state S.Store conn.old) }
-    ensures crash { (t : Tables) → Shows (state S.Store conn.old) t → Survives (state S.Store conn.old) (state S.Store conn.new) (λ _. ⊥) }
+    ensures read { IsRead (state S.Store conn.old) (state S.Store conn.new) result (λ t names. AreAuthors t profile.now names.items) }
 {
     let rows = author_rows(conn, profile)?;
     read_names(alloc, rows.as_slice())

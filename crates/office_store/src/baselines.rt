@@ -1,21 +1,27 @@
 //! The table of baselines.
 
-ghost use Rattle.std.specs.Prelude.{◌≡◌, ◌≢◌, ℕ, List, Err, IfOk, OnOk, OnErr, option_map};
+ghost use Rattle.std.specs.Prelude.{◌≡◌, ◌≢◌, [], ◌∷◌, ℕ, List, Err, IfOk, IfErr, option_map};
 ghost use Rattle.sqlite.specs.Held.{state};
-ghost use Rattle.sqlite.specs.State.{HasCleanDisk, Survives};
-ghost use Rattle.office_tables.specs.Tables.{Tables, Baseline};
+ghost use Rattle.sqlite.specs.State.{HasCleanDisk};
+ghost use Rattle.sqlite.specs.declared.types.Value.TheVariants.{Text as SqlText};
+ghost use Rattle.office_rows.specs.Faults.{FindsRow};
+ghost use Rattle.office_rows.specs.Statements.{IsCause};
+ghost use Rattle.office_rows.specs.Told.{IsOfRow, IsTold, TellsRow, TellsOne};
 ghost use Rattle.office_tables.specs.Changes.{with_baseline};
+ghost use Rattle.office_store.specs.declared.baselines.Adopted.{Adopted as AdoptedValue};
+ghost use Rattle.office_store.specs.Adopted.{baseline_of, row_of_adopted, IsAdopted};
+ghost use Rattle.office_store.specs.Calls.{IsRead, IsWrite, Into};
 ghost use Rattle.office_store.specs.Entries.{adopted_row, IsBaseline};
-ghost use Rattle.office_store.specs.Adopted.{baseline_of};
-ghost use Rattle.office_store.specs.Shown.{IsIdle, Shows, ShowsIfOpen, AreOffice, LeavesOnly};
+ghost use Rattle.office_store.specs.Shown.{IsIdle};
+ghost use Rattle.office_store.specs.Writes.{putting_baseline};
 
+use crate::bind::{of_baseline, of_word};
 use crate::column::{number_at, word_at};
 use crate::write::write_two;
 use office_rows::first_row;
 use office_tables::StoreFault;
 use review_policy::{ProfileName, Word};
-use sqlite::types::ValueRef;
-use sqlite::{Alter, Connection, Row, params};
+use sqlite::{Alter, Connection, Row};
 use std::alloc::Global;
 
 pub(crate) const BASELINE_OF: &str = "SELECT profile, number FROM baselines WHERE team = ?1";
@@ -35,8 +41,9 @@ pub struct Adopted {
 
 // The revision that a row names.
 fn read_adopted(alloc: Global, row: &Row) -> Result<Adopted, StoreFault>
-    ensures adopted { IfOk result (λ adopted. row.now ≡ adopted_row (baseline_of adopted)) }
-    ensures formed { (team : List ℕ) (baseline : Baseline) → IsBaseline (team, baseline) → row.now ≡ adopted_row baseline → result ≢ Err StoreFault.NotAnOffice }
+    ensures adopted { IfOk result (λ adopted. row.now ≡ row_of_adopted adopted) }
+    ensures formed { (team : List ℕ) (adopted : AdoptedValue) → IsBaseline (team, baseline_of adopted) → row.now ≡ row_of_adopted adopted → result ≢ Err StoreFault.NotAnOffice }
+    ensures cause { IfErr result IsOfRow }
 {
     if row.column_count() != 2 {
         return Err(StoreFault::NotAnOffice);
@@ -47,18 +54,26 @@ fn read_adopted(alloc: Global, row: &Row) -> Result<Adopted, StoreFault>
     })
 }
 
-// The row of the baseline of a team.
-fn row_of<S: Alter>(conn: &mut Connection<S>, team: &str) -> Result<Option<Row>, StoreFault>
-    requires { IsIdle (state S.Store conn.old) }
-    ensures found { (t : Tables) → Shows (state S.Store conn.old) t → HasCleanDisk (state S.Store conn.new) → IfOk result (λ row. row ≡ option_map adopted_row (t.baselines team.now)) }
-    ensures fault { (t : Tables) → Shows (state S.Store conn.old) t → HasCleanDisk (state S.Store conn.new) → result ≢ Err StoreFault.NotAnOffice }
-    ensures same { (t : Tables) → Shows (state S.Store conn.old) t → HasCleanDisk (state S.Store conn.new) → ShowsIfOpen (state S.Store conn.new) t }
-    ensures shown { (t : Tables) → Shows (state S.Store conn.old) t → HasCleanDisk (state S.Store conn.new) → OnOk result (Shows (state S.Store conn.new) t) }
-    ensures idle { IsIdle (state S.Store conn.new) }
-    ensures clean { HasCleanDisk (state S.Store conn.new) → HasCleanDisk (state S.Store conn.old) }
-    ensures crash { (t : Tables) → Shows (state S.Store conn.old) t → Survives (state S.Store conn.old) (state S.Store conn.new) (λ _. ⊥) }
+// The revision of the row that a query found, if it found one.
+fn adopted_of(
+    alloc: Global,
+    found: Result<Option<Row>, StoreFault>,
+) -> Result<Option<Adopted>, StoreFault>
+    ensures { IsTold (TellsOne row_of_adopted IsAdopted) found result }
 {
-    first_row(conn, BASELINE_OF, params![team])
+    match found? {
+        Some(row) => Ok(Some(read_adopted(alloc, &row)?)),
+        None => Ok(None),
+    }
+}
+
+// The row of the baseline of a team.
+fn row_of<S: Alter>(conn: &mut Connection<S>, team: &Word) -> Result<Option<Row>, StoreFault>
+    requires { IsIdle (state S.Store conn.old) }
+    ensures read { IsRead (state S.Store conn.old) (state S.Store conn.new) result (λ t row. row ≡ option_map adopted_row (t.baselines team.now)) }
+    ensures row { HasCleanDisk (state S.Store conn.new) → FindsRow BASELINE_OF.now (SqlText team.now ∷ []) (state S.Store conn.old) (state S.Store conn.new) result }
+{
+    first_row(conn, BASELINE_OF, &of_word(team))
 }
 
 /// The revision that a team last adopted.
@@ -68,18 +83,10 @@ pub fn baseline<S: Alter>(
     team: &Word,
 ) -> Result<Option<Adopted>, StoreFault>
     requires { IsIdle (state S.Store conn.old) }
-    ensures found { (t : Tables) → Shows (state S.Store conn.old) t → HasCleanDisk (state S.Store conn.new) → IfOk result (λ found. option_map baseline_of found ≡ t.baselines team.now) }
-    ensures formed { (t : Tables) → Shows (state S.Store conn.old) t → HasCleanDisk (state S.Store conn.new) → result ≢ Err StoreFault.NotAnOffice }
-    ensures same { (t : Tables) → Shows (state S.Store conn.old) t → HasCleanDisk (state S.Store conn.new) → ShowsIfOpen (state S.Store conn.new) t }
-    ensures shown { (t : Tables) → Shows (state S.Store conn.old) t → HasCleanDisk (state S.Store conn.new) → OnOk result (Shows (state S.Store conn.new) t) }
-    ensures idle { IsIdle (state S.Store conn.new) }
-    ensures clean { HasCleanDisk (state S.Store conn.new) → HasCleanDisk (state S.Store conn.old) }
-    ensures crash { (t : Tables) → Shows (state S.Store conn.old) t → Survives (state S.Store conn.old) (state S.Store conn.new) (λ _. ⊥) }
+    ensures read { IsRead (state S.Store conn.old) (state S.Store conn.new) result (λ t adopted. option_map baseline_of adopted ≡ t.baselines team.now) }
+    ensures told { HasCleanDisk (state S.Store conn.new) → TellsRow BASELINE_OF.now (SqlText team.now ∷ []) (state S.Store conn.old) (state S.Store conn.new) (TellsOne row_of_adopted IsAdopted) result }
 {
-    match row_of(conn, team.as_str())? {
-        Some(row) => Ok(Some(read_adopted(alloc, &row)?)),
-        None => Ok(None),
-    }
+    adopted_of(alloc, row_of(conn, team))
 }
 
 /// Makes a revision the baseline of its team, in the place of any earlier one.
@@ -89,21 +96,14 @@ pub fn put_baseline<S: Alter>(
     number: u32,
 ) -> Result<(), StoreFault>
     requires { IsIdle (state S.Store conn.old) }
-    ensures put { (t : Tables) → Shows (state S.Store conn.old) t → HasCleanDisk (state S.Store conn.new) → OnOk result (Shows (state S.Store conn.new) (with_baseline profile.now number t)) }
-    ensures same { (t : Tables) → Shows (state S.Store conn.old) t → HasCleanDisk (state S.Store conn.new) → OnErr result (ShowsIfOpen (state S.Store conn.new) t) }
-    ensures formed { (t : Tables) → Shows (state S.Store conn.old) t → HasCleanDisk (state S.Store conn.new) → result ≢ Err StoreFault.NotAnOffice }
-    ensures idle { IsIdle (state S.Store conn.new) }
-    ensures clean { HasCleanDisk (state S.Store conn.new) → HasCleanDisk (state S.Store conn.old) }
-    ensures kept { (t : Tables) → Shows (state S.Store conn.old) t → HasCleanDisk (state S.Store conn.new) → OnOk result (LeavesOnly (state S.Store conn.new) (with_baseline profile.now number t)) }
-    ensures crash { (t : Tables) → Shows (state S.Store conn.old) t → Survives (state S.Store conn.old) (state S.Store conn.new) (λ trees. AreOffice trees (with_baseline profile.now number t)) }
+    ensures write { IsWrite (state S.Store conn.old) (state S.Store conn.new) result (Into (with_baseline profile.now number)) }
+    ensures cause { HasCleanDisk (state S.Store conn.new) → IfErr result (IsCause S.Store (putting_baseline profile.now number) conn.old) }
 {
-    let team = profile.team.as_str();
-    let name = profile.profile.as_str();
     write_two(
         conn,
         DELETE_BASELINE,
-        params![team],
+        &of_word(&profile.team),
         INSERT_BASELINE,
-        params![team, name, number],
+        &of_baseline(profile, number),
     )
 }

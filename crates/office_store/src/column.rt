@@ -1,10 +1,11 @@
 //! The columns of a row, read as what they stand for. A column that stands for nothing is `NotAnOffice`.
 
-ghost use Rattle.std.specs.Prelude.{◌≡◌, ◌≢◌, ◌<◌, ◌^◌, ℕ, List, true, pos, length, string_bytes, Err, IfOk, IsUtf8};
+ghost use Rattle.std.specs.Prelude.{◌≡◌, ◌≢◌, ◌<◌, ◌^◌, ℕ, List, true, pos, length, string_bytes, Err, IfOk, IfErr, IsUtf8};
 ghost use Rattle.sqlite.specs.declared.types.Value.TheVariants.{Int, Text as SqlText, Blob};
 ghost use Rattle.sqlite_value.specs.Order.{column};
 ghost use Rattle.review_policy.specs.Words.{is_word};
 ghost use Rattle.review_policy.specs.declared.revision.State.{State as StateValue};
+ghost use Rattle.office_rows.specs.Told.{IsOfRow};
 ghost use Rattle.office_store.specs.Entries.{state_number};
 
 use cap_sets::Caps;
@@ -18,6 +19,7 @@ use std::alloc::Global;
 pub(crate) fn text_at(row: &Row, at: usize) -> Result<String, StoreFault>
     ensures text { IfOk result (λ text. (at < length row.now) × (column row.now at ≡ SqlText (string_bytes text))) }
     ensures formed { (text : List ℕ) → at < length row.now → column row.now at ≡ SqlText text → IsUtf8 text → result ≢ Err StoreFault.NotAnOffice }
+    ensures cause { IfErr result IsOfRow }
 {
     row.get(at).map_err(fault_of)
 }
@@ -27,6 +29,7 @@ pub(crate) fn text_at(row: &Row, at: usize) -> Result<String, StoreFault>
 pub(crate) fn word_at(alloc: Global, row: &Row, at: usize) -> Result<Word, StoreFault>
     ensures word { IfOk result (λ word. (at < length row.now) × (column row.now at ≡ SqlText word)) }
     ensures formed { (word : List ℕ) → at < length row.now → column row.now at ≡ SqlText word → is_word word ≡ true → result ≢ Err StoreFault.NotAnOffice }
+    ensures cause { IfErr result IsOfRow }
 {
     let text = text_at(row, at)?;
     match Word::new(alloc, text.as_str()) {
@@ -40,6 +43,7 @@ pub(crate) fn word_at(alloc: Global, row: &Row, at: usize) -> Result<Word, Store
 pub(crate) fn number_at(row: &Row, at: usize) -> Result<u32, StoreFault>
     ensures number { IfOk result (λ number. (at < length row.now) × (column row.now at ≡ Int (pos number))) }
     ensures formed { (number : ℕ) → at < length row.now → column row.now at ≡ Int (pos number) → number < 2 ^ 32 → result ≢ Err StoreFault.NotAnOffice }
+    ensures cause { IfErr result IsOfRow }
 {
     row.get(at).map_err(fault_of)
 }
@@ -48,6 +52,7 @@ pub(crate) fn number_at(row: &Row, at: usize) -> Result<u32, StoreFault>
 fn bits_at(row: &Row, at: usize) -> Result<u64, StoreFault>
     ensures bits { IfOk result (λ bits. (at < length row.now) × (column row.now at ≡ Int (pos bits))) }
     ensures formed { (bits : ℕ) → at < length row.now → column row.now at ≡ Int (pos bits) → result ≢ Err StoreFault.NotAnOffice }
+    ensures cause { IfErr result IsOfRow }
 {
     row.get(at).map_err(fault_of)
 }
@@ -56,6 +61,7 @@ fn bits_at(row: &Row, at: usize) -> Result<u64, StoreFault>
 pub(crate) fn caps_at(row: &Row, at: usize) -> Result<Caps, StoreFault>
     ensures caps { IfOk result (λ caps. (at < length row.now) × (column row.now at ≡ Int (pos caps)) × (caps < 2 ^ 41)) }
     ensures formed { (caps : ℕ) → at < length row.now → column row.now at ≡ Int (pos caps) → caps < 2 ^ 41 → result ≢ Err StoreFault.NotAnOffice }
+    ensures cause { IfErr result IsOfRow }
 {
     match Caps::from_bits(bits_at(row, at)?) {
         Some(caps) => Ok(caps),
@@ -67,6 +73,7 @@ pub(crate) fn caps_at(row: &Row, at: usize) -> Result<Caps, StoreFault>
 pub(crate) fn digest_at(row: &Row, at: usize) -> Result<[u8; 32], StoreFault>
     ensures digest { IfOk result (λ digest. (at < length row.now) × (column row.now at ≡ Blob digest)) }
     ensures formed { (digest : List ℕ) → at < length row.now → column row.now at ≡ Blob digest → length digest ≡ 32 → result ≢ Err StoreFault.NotAnOffice }
+    ensures cause { IfErr result IsOfRow }
 {
     let bytes: Vec<u8> = row.get(at).map_err(fault_of)?;
     match <[u8; 32]>::try_from(bytes.as_slice()) {
@@ -87,6 +94,7 @@ pub(crate) fn bytes_of(digest: &[u8; 32]) -> &[u8]
 pub(crate) fn roles_at(row: &Row, at: usize) -> Result<Roles, StoreFault>
     ensures roles { IfOk result (λ roles. (at < length row.now) × (column row.now at ≡ Int (pos roles))) }
     ensures formed { (roles : ℕ) → at < length row.now → column row.now at ≡ Int (pos roles) → roles < 64 → result ≢ Err StoreFault.NotAnOffice }
+    ensures cause { IfErr result IsOfRow }
 {
     let bits = number_at(row, at)?;
     if bits >= 64 {
@@ -102,6 +110,7 @@ pub(crate) fn roles_at(row: &Row, at: usize) -> Result<Roles, StoreFault>
 pub(crate) fn state_at(row: &Row, at: usize) -> Result<State, StoreFault>
     ensures state { IfOk result (λ state. (at < length row.now) × (column row.now at ≡ Int (pos (state_number state)))) }
     ensures formed { (state : StateValue) → at < length row.now → column row.now at ≡ Int (pos (state_number state)) → result ≢ Err StoreFault.NotAnOffice }
+    ensures cause { IfErr result IsOfRow }
 {
     match number_at(row, at)? {
         0 => Ok(State::Open),

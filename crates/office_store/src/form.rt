@@ -1,21 +1,21 @@
 //! The test that a store is an office.
 
-ghost use Rattle.std.specs.Prelude.{◌≡◌, ◌≢◌, ◌<◌, ◌^◌, ℕ, List, [], false, Err, IfOk, OnOk};
+ghost use Rattle.std.specs.Prelude.{◌≡◌, ◌≢◌, ℕ, List, [], false, true, Err, IfOk, IfErr};
 ghost use Rattle.std.specs.List.{list_all};
 ghost use Rattle.sqlite.specs.Held.{state};
-ghost use Rattle.sqlite.specs.State.{HasCleanDisk, Survives};
-ghost use Rattle.office_tables.specs.Tables.{Tables};
-ghost use Rattle.office_store.specs.Form.{has_column, has_tables, form_row, HasForm};
+ghost use Rattle.sqlite.specs.State.{HasCleanDisk};
 ghost use Rattle.office_rows.specs.Faults.{FindsRow};
+ghost use Rattle.office_rows.specs.Told.{IsOfRow, IsTold, TellsOnly};
+ghost use Rattle.office_store.specs.Calls.{IsRead};
+ghost use Rattle.office_store.specs.Form.{has_column, has_tables, form_row, AreCaps, HasForm};
 ghost use Rattle.office_store.specs.Reads.{IsFormRow};
-ghost use Rattle.office_store.specs.Shown.{IsIdle, Shows, ShowsIfOpen};
+ghost use Rattle.office_store.specs.Shown.{IsIdle};
 
 use crate::column::{caps_at, number_at};
 use cap_sets::Caps;
 use office_rows::first_row;
 use office_tables::StoreFault;
-use sqlite::types::ValueRef;
-use sqlite::{Alter, Connection, Row, params};
+use sqlite::{Alter, Connection, Row};
 use sqlite_schema::schema::Schema;
 
 pub(crate) const OFFICE_ROW: &str = "SELECT key, schema, listed FROM office";
@@ -66,8 +66,9 @@ fn has_tables(schema: &Schema) -> bool
 
 // The listed capabilities of a row that is of the form of the office's.
 fn read_form(row: &Row) -> Result<Caps, StoreFault>
-    ensures form { IfOk result (λ listed. (listed < 2 ^ 41) × (row.now ≡ form_row listed)) }
-    ensures formed { (listed : ℕ) → listed < 2 ^ 41 → row.now ≡ form_row listed → result ≢ Err StoreFault.NotAnOffice }
+    ensures form { IfOk result (λ listed. AreCaps listed × (row.now ≡ form_row listed)) }
+    ensures formed { (listed : ℕ) → AreCaps listed → row.now ≡ form_row listed → result ≢ Err StoreFault.NotAnOffice }
+    ensures cause { IfErr result IsOfRow }
 {
     if row.column_count() != 3 || number_at(row, 0)? != 1 || number_at(row, 1)? != 2 {
         return Err(StoreFault::NotAnOffice);
@@ -75,40 +76,36 @@ fn read_form(row: &Row) -> Result<Caps, StoreFault>
     caps_at(row, 2)
 }
 
-// The row of the office.
-fn form_row<S: Alter>(conn: &mut Connection<S>) -> Result<Option<Row>, StoreFault>
-    requires { IsIdle (state S.Store conn.old) }
-    ensures row { HasCleanDisk (state S.Store conn.new) → FindsRow OFFICE_ROW.now [] (state S.Store conn.old) (state S.Store conn.new) result }
-    ensures found { (t : Tables) → Shows (state S.Store conn.old) t → HasCleanDisk (state S.Store conn.new) → IfOk result (IsFormRow t) }
-    ensures fault { (t : Tables) → Shows (state S.Store conn.old) t → HasCleanDisk (state S.Store conn.new) → result ≢ Err StoreFault.NotAnOffice }
-    ensures same { (t : Tables) → Shows (state S.Store conn.old) t → HasCleanDisk (state S.Store conn.new) → ShowsIfOpen (state S.Store conn.new) t }
-    ensures shown { (t : Tables) → Shows (state S.Store conn.old) t → HasCleanDisk (state S.Store conn.new) → OnOk result (Shows (state S.Store conn.new) t) }
-    ensures idle { IsIdle (state S.Store conn.new) }
-    ensures clean { HasCleanDisk (state S.Store conn.new) → HasCleanDisk (state S.Store conn.old) }
-    ensures crash { (t : Tables) → Shows (state S.Store conn.old) t → Survives (state S.Store conn.old) (state S.Store conn.new) (λ _. ⊥) }
+// The listed capabilities of the row that a query found.
+fn form_of(found: Result<Option<Row>, StoreFault>) -> Result<Caps, StoreFault>
+    ensures told { IsTold (TellsOnly form_row AreCaps) found result }
+    ensures below { IfOk result AreCaps }
 {
-    first_row(conn, OFFICE_ROW, params![])
+    match found? {
+        Some(row) => read_form(&row),
+        None => Err(StoreFault::NotAnOffice),
+    }
+}
+
+// The row of the office.
+fn office_form<S: Alter>(conn: &mut Connection<S>) -> Result<Option<Row>, StoreFault>
+    requires { IsIdle (state S.Store conn.old) }
+    ensures read { IsRead (state S.Store conn.old) (state S.Store conn.new) result (λ t row. IsFormRow t row) }
+    ensures row { HasCleanDisk (state S.Store conn.new) → FindsRow OFFICE_ROW.now [] (state S.Store conn.old) (state S.Store conn.new) result }
+{
+    first_row(conn, OFFICE_ROW, &[])
 }
 
 /// The listed capabilities of the office that a store is: it has the six tables, each with its columns, and its office's
 /// row has key 1, schema 2 and no bit but those of capabilities. Any other store is [`StoreFault::NotAnOffice`].
 pub fn check_office<S: Alter>(conn: &mut Connection<S>) -> Result<Caps, StoreFault>
     requires { IsIdle (state S.Store conn.old) }
+    ensures read { has_tables (state S.Store conn.old).now.schema ≡ true → IsRead (state S.Store conn.old) (state S.Store conn.new) result (λ t listed. listed ≡ t.listed) }
     ensures foreign { has_tables (state S.Store conn.old).now.schema ≡ false → (result ≡ Err StoreFault.NotAnOffice) × (conn.new ≡ conn.old) }
     ensures form { HasCleanDisk (state S.Store conn.new) → IfOk result (HasForm (state S.Store conn.old) (state S.Store conn.new)) }
-    ensures found { (t : Tables) → Shows (state S.Store conn.old) t → HasCleanDisk (state S.Store conn.new) → IfOk result (λ listed. listed ≡ t.listed) }
-    ensures formed { (t : Tables) → Shows (state S.Store conn.old) t → HasCleanDisk (state S.Store conn.new) → result ≢ Err StoreFault.NotAnOffice }
-    ensures same { (t : Tables) → Shows (state S.Store conn.old) t → HasCleanDisk (state S.Store conn.new) → ShowsIfOpen (state S.Store conn.new) t }
-    ensures shown { (t : Tables) → Shows (state S.Store conn.old) t → HasCleanDisk (state S.Store conn.new) → OnOk result (Shows (state S.Store conn.new) t) }
-    ensures idle { IsIdle (state S.Store conn.new) }
-    ensures clean { HasCleanDisk (state S.Store conn.new) → HasCleanDisk (state S.Store conn.old) }
-    ensures crash { (t : Tables) → Shows (state S.Store conn.old) t → Survives (state S.Store conn.old) (state S.Store conn.new) (λ _. ⊥) }
 {
     if !has_tables(conn.schema()) {
         return Err(StoreFault::NotAnOffice);
     }
-    match form_row(conn)? {
-        Some(row) => read_form(&row),
-        None => Err(StoreFault::NotAnOffice),
-    }
+    form_of(office_form(conn))
 }

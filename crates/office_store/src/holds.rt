@@ -1,18 +1,23 @@
 //! The table of holds.
 
-ghost use Rattle.std.specs.Prelude.{◌≡◌, ◌≢◌, Err, IfOk, OnOk, OnErr, is_some};
+ghost use Rattle.std.specs.Prelude.{◌≡◌, IfErr, is_some};
 ghost use Rattle.sqlite.specs.Held.{state};
-ghost use Rattle.sqlite.specs.State.{HasCleanDisk, Survives};
-ghost use Rattle.office_tables.specs.Tables.{Tables};
+ghost use Rattle.sqlite.specs.State.{HasCleanDisk};
+ghost use Rattle.office_rows.specs.Faults.{FindsRow};
+ghost use Rattle.office_rows.specs.Statements.{IsCause};
+ghost use Rattle.office_rows.specs.Told.{TellsRow, TellsWhether};
 ghost use Rattle.office_tables.specs.Changes.{with_hold, without_hold};
-ghost use Rattle.office_store.specs.Shown.{IsIdle, Shows, ShowsIfOpen, AreOffice, LeavesOnly};
+ghost use Rattle.office_store.specs.Calls.{IsRead, IsWrite, Into};
+ghost use Rattle.office_store.specs.Keys.{profile_params};
+ghost use Rattle.office_store.specs.Shown.{IsIdle};
+ghost use Rattle.office_store.specs.Writes.{holding, releasing};
 
+use crate::bind::of_profile;
 use crate::write::{write_one, write_two};
-use office_rows::first_row;
+use office_rows::{first_row, is_there};
 use office_tables::StoreFault;
 use review_policy::ProfileName;
-use sqlite::types::ValueRef;
-use sqlite::{Alter, Connection, Row, params};
+use sqlite::{Alter, Connection, Row};
 
 pub(crate) const HOLD_OF: &str = "SELECT team, profile FROM holds WHERE team = ?1 AND profile = ?2";
 
@@ -26,54 +31,29 @@ fn hold_of<S: Alter>(
     profile: &ProfileName,
 ) -> Result<Option<Row>, StoreFault>
     requires { IsIdle (state S.Store conn.old) }
-    ensures found { (t : Tables) → Shows (state S.Store conn.old) t → HasCleanDisk (state S.Store conn.new) → IfOk result (λ row. is_some row ≡ t.holds profile.now) }
-    ensures fault { (t : Tables) → Shows (state S.Store conn.old) t → HasCleanDisk (state S.Store conn.new) → result ≢ Err StoreFault.NotAnOffice }
-    ensures same { (t : Tables) → Shows (state S.Store conn.old) t → HasCleanDisk (state S.Store conn.new) → ShowsIfOpen (state S.Store conn.new) t }
-    ensures shown { (t : Tables) → Shows (state S.Store conn.old) t → HasCleanDisk (state S.Store conn.new) → OnOk result (Shows (state S.Store conn.new) t) }
-    ensures idle { IsIdle (state S.Store conn.new) }
-    ensures clean { HasCleanDisk (state S.Store conn.new) → HasCleanDisk (state S.Store conn.old) }
-    ensures crash { (t : Tables) → Shows (state S.Store conn.old) t → Survives (state S.Store conn.old) (state S.Store conn.new) (λ _. ⊥) }
+    ensures read { IsRead (state S.Store conn.old) (state S.Store conn.new) result (λ t row. is_some row ≡ t.holds profile.now) }
+    ensures row { HasCleanDisk (state S.Store conn.new) → FindsRow HOLD_OF.now (profile_params profile.now) (state S.Store conn.old) (state S.Store conn.new) result }
 {
-    let team = profile.team.as_str();
-    let name = profile.profile.as_str();
-    first_row(conn, HOLD_OF, params![team, name])
+    first_row(conn, HOLD_OF, &of_profile(profile))
 }
 
 /// Whether a profile is held.
 pub fn held<S: Alter>(conn: &mut Connection<S>, profile: &ProfileName) -> Result<bool, StoreFault>
     requires { IsIdle (state S.Store conn.old) }
-    ensures found { (t : Tables) → Shows (state S.Store conn.old) t → HasCleanDisk (state S.Store conn.new) → IfOk result (λ found. found ≡ t.holds profile.now) }
-    ensures formed { (t : Tables) → Shows (state S.Store conn.old) t → HasCleanDisk (state S.Store conn.new) → result ≢ Err StoreFault.NotAnOffice }
-    ensures same { (t : Tables) → Shows (state S.Store conn.old) t → HasCleanDisk (state S.Store conn.new) → ShowsIfOpen (state S.Store conn.new) t }
-    ensures shown { (t : Tables) → Shows (state S.Store conn.old) t → HasCleanDisk (state S.Store conn.new) → OnOk result (Shows (state S.Store conn.new) t) }
-    ensures idle { IsIdle (state S.Store conn.new) }
-    ensures clean { HasCleanDisk (state S.Store conn.new) → HasCleanDisk (state S.Store conn.old) }
-    ensures crash { (t : Tables) → Shows (state S.Store conn.old) t → Survives (state S.Store conn.old) (state S.Store conn.new) (λ _. ⊥) }
+    ensures read { IsRead (state S.Store conn.old) (state S.Store conn.new) result (λ t held. held ≡ t.holds profile.now) }
+    ensures told { HasCleanDisk (state S.Store conn.new) → TellsRow HOLD_OF.now (profile_params profile.now) (state S.Store conn.old) (state S.Store conn.new) TellsWhether result }
 {
-    let row = hold_of(conn, profile)?;
-    Ok(row.is_some())
+    is_there(hold_of(conn, profile))
 }
 
 /// Holds a profile.
 pub fn put_hold<S: Alter>(conn: &mut Connection<S>, profile: &ProfileName) -> Result<(), StoreFault>
     requires { IsIdle (state S.Store conn.old) }
-    ensures held { (t : Tables) → Shows (state S.Store conn.old) t → HasCleanDisk (state S.Store conn.new) → OnOk result (Shows (state S.Store conn.new) (with_hold profile.now t)) }
-    ensures same { (t : Tables) → Shows (state S.Store conn.old) t → HasCleanDisk (state S.Store conn.new) → OnErr result (ShowsIfOpen (state S.Store conn.new) t) }
-    ensures formed { (t : Tables) → Shows (state S.Store conn.old) t → HasCleanDisk (state S.Store conn.new) → result ≢ Err StoreFault.NotAnOffice }
-    ensures idle { IsIdle (state S.Store conn.new) }
-    ensures clean { HasCleanDisk (state S.Store conn.new) → HasCleanDisk (state S.Store conn.old) }
-    ensures kept { (t : Tables) → Shows (state S.Store conn.old) t → HasCleanDisk (state S.Store conn.new) → OnOk result (LeavesOnly (state S.Store conn.new) (with_hold profile.now t)) }
-    ensures crash { (t : Tables) → Shows (state S.Store conn.old) t → Survives (state S.Store conn.old) (state S.Store conn.new) (λ trees. AreOffice trees (with_hold profile.now t)) }
+    ensures write { IsWrite (state S.Store conn.old) (state S.Store conn.new) result (Into (with_hold profile.now)) }
+    ensures cause { HasCleanDisk (state S.Store conn.new) → IfErr result (IsCause S.Store (holding profile.now) conn.old) }
 {
-    let team = profile.team.as_str();
-    let name = profile.profile.as_str();
-    write_two(
-        conn,
-        DELETE_HOLD,
-        params![team, name],
-        INSERT_HOLD,
-        params![team, name],
-    )
+    let key = of_profile(profile);
+    write_two(conn, DELETE_HOLD, &key, INSERT_HOLD, &key)
 }
 
 /// Holds a profile no longer.
@@ -82,15 +62,8 @@ pub fn delete_hold<S: Alter>(
     profile: &ProfileName,
 ) -> Result<(), StoreFault>
     requires { IsIdle (state S.Store conn.old) }
-    ensures released { (t : Tables) → Shows (state S.Store conn.old) t → HasCleanDisk (state S.Store conn.new) → OnOk result (Shows (state S.Store conn.new) (without_hold profile.now t)) }
-    ensures same { (t : Tables) → Shows (state S.Store conn.old) t → HasCleanDisk (state S.Store conn.new) → OnErr result (ShowsIfOpen (state S.Store conn.new) t) }
-    ensures formed { (t : Tables) → Shows (state S.Store conn.old) t → HasCleanDisk (state S.Store conn.new) → result ≢ Err StoreFault.NotAnOffice }
-    ensures idle { IsIdle (state S.Store conn.new) }
-    ensures clean { HasCleanDisk (state S.Store conn.new) → HasCleanDisk (state S.Store conn.old) }
-    ensures kept { (t : Tables) → Shows (state S.Store conn.old) t → HasCleanDisk (state S.Store conn.new) → OnOk result (LeavesOnly (state S.Store conn.new) (without_hold profile.now t)) }
-    ensures crash { (t : Tables) → Shows (state S.Store conn.old) t → Survives (state S.Store conn.old) (state S.Store conn.new) (λ trees. AreOffice trees (without_hold profile.now t)) }
+    ensures write { IsWrite (state S.Store conn.old) (state S.Store conn.new) result (Into (without_hold profile.now)) }
+    ensures cause { HasCleanDisk (state S.Store conn.new) → IfErr result (IsCause S.Store (releasing profile.now) conn.old) }
 {
-    let team = profile.team.as_str();
-    let name = profile.profile.as_str();
-    write_one(conn, DELETE_HOLD, params![team, name])
+    write_one(conn, DELETE_HOLD, &of_profile(profile))
 }

@@ -4,6 +4,7 @@
 
 pub mod author;
 pub mod baselines;
+mod bind;
 mod column;
 pub mod fault;
 pub mod form;

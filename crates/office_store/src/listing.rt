@@ -1,21 +1,20 @@
 //! The revisions of a team.
 
-ghost use Rattle.std.specs.Prelude.{◌≡◌, ◌≢◌, List, Err, IfOk, OnOk, map};
+ghost use Rattle.std.specs.Prelude.{◌≡◌, ◌≢◌, List, Err, IfOk, map};
 ghost use Rattle.std.specs.List.{AllByRecursion};
 ghost use Rattle.sqlite.specs.Held.{state};
-ghost use Rattle.sqlite.specs.State.{HasCleanDisk, Survives};
-ghost use Rattle.office_tables.specs.Tables.{Tables};
 ghost use Rattle.office_tables.specs.Lists.{AreRevisionsOf};
 ghost use Rattle.office_tables.specs.declared.listed.ListedRevision.{ListedRevision as Listed};
+ghost use Rattle.office_store.specs.Calls.{IsRead};
 ghost use Rattle.office_store.specs.Lists.{listed_row, IsListedForm, AreListedRows};
-ghost use Rattle.office_store.specs.Shown.{IsIdle, Shows, ShowsIfOpen};
+ghost use Rattle.office_store.specs.Shown.{IsIdle};
 
+use crate::bind::of_word;
 use crate::column::{number_at, state_at, word_at};
 use office_rows::all_rows;
 use office_tables::{ListedRevision, StoreFault};
 use review_policy::Word;
-use sqlite::types::ValueRef;
-use sqlite::{Alter, Connection, Row, params};
+use sqlite::{Alter, Connection, Row};
 use std::alloc::Global;
 
 pub(crate) const REVISIONS_OF: &str =
@@ -24,16 +23,9 @@ pub(crate) const REVISIONS_OF: &str =
 // The rows of the revisions of a team.
 fn listed_rows<S: Alter>(conn: &mut Connection<S>, team: &Word) -> Result<Vec<Row>, StoreFault>
     requires { IsIdle (state S.Store conn.old) }
-    ensures found { (t : Tables) → Shows (state S.Store conn.old) t → HasCleanDisk (state S.Store conn.new) → IfOk result (λ rows. AreListedRows t team.now rows.items) }
-    ensures fault { (t : Tables) → Shows (state S.Store conn.old) t → HasCleanDisk (state S.Store conn.new) → result ≢ Err StoreFault.NotAnOffice }
-    ensures shown { (t : Tables) → Shows (state S.Store conn.old) t → HasCleanDisk (state S.Store conn.new) → OnOk result (Shows (state S.Store conn.new) t) }
-    ensures same { (t : Tables) → Shows (state S.Store conn.old) t → HasCleanDisk (state S.Store conn.new) → ShowsIfOpen (state S.Store conn.new) t }
-    ensures idle { IsIdle (state S.Store conn.new) }
-    ensures clean { HasCleanDisk (state S.Store conn.new) → HasCleanDisk (state S.Store conn.old) }
-    ensures crash { (t : Tables) → Shows (state S.Store conn.old) t → Survives (state S.Store conn.old) (state S.Store conn.new) (λ _. ⊥) }
+    ensures read { IsRead (state S.Store conn.old) (state S.Store conn.new) result (λ t rows. AreListedRows t team.now rows.items) }
 {
-    let team = team.as_str();
-    all_rows(conn, REVISIONS_OF, params![team])
+    all_rows(conn, REVISIONS_OF, &of_word(team))
 }
 
 // The revision that a row names.
@@ -68,13 +60,7 @@ pub fn revisions_of<S: Alter>(
     team: &Word,
 ) -> Result<Vec<ListedRevision>, StoreFault>
     requires { IsIdle (state S.Store conn.old) }
-    ensures found { (t : Tables) → Shows (state S.Store conn.old) t → HasCleanDisk (state S.Store conn.new) → IfOk result (λ listed. AreRevisionsOf t team.now listed.items) }
-    ensures formed { (t : Tables) → Shows (state S.Store conn.old) t → HasCleanDisk (state S.Store conn.new) → result ≢ Err StoreFault.NotAnOffice }
-    ensures shown { (t : Tables) → Shows (state S.Store conn.old) t → HasCleanDisk (state S.Store conn.new) → OnOk result (Shows (state S.Store conn.new) t) }
-    ensures same { (t : Tables) → Shows (state S.Store conn.old) t → HasCleanDisk (state S.Store conn.new) → ShowsIfOpen (state S.Store conn.new) t }
-    ensures idle { IsIdle (state S.Store conn.new) }
-    ensures clean { HasCleanDisk (state S.Store conn.new) → HasCleanDisk (state S.Store conn.old) }
-    ensures crash { (t : Tables) → Shows (state S.Store conn.old) t → Survives (state S.Store conn.old) (state S.Store conn.new) (λ _. ⊥) }
+    ensures read { IsRead (state S.Store conn.old) (state S.Store conn.new) result (λ t listed. AreRevisionsOf t team.now listed.items) }
 {
     let rows = listed_rows(conn, team)?;
     read_all_listed(alloc, rows.as_slice())

@@ -1,48 +1,59 @@
 //! The table of the office itself.
 
-ghost use Rattle.std.specs.Prelude.{◌≡◌, ◌≢◌, Err, IfOk, OnOk};
+ghost use Rattle.std.specs.Prelude.{◌≡◌, ◌≢◌, ◌<◌, ◌^◌, ℕ, [], Err, IfOk, IfErr};
 ghost use Rattle.sqlite.specs.Held.{state};
-ghost use Rattle.sqlite.specs.State.{HasCleanDisk, Survives};
-ghost use Rattle.office_tables.specs.Tables.{Tables};
+ghost use Rattle.sqlite.specs.State.{HasCleanDisk};
+ghost use Rattle.office_rows.specs.Faults.{FindsRow};
+ghost use Rattle.office_rows.specs.Told.{IsOfRow, IsTold, TellsRow, TellsOnly};
+ghost use Rattle.office_store.specs.Calls.{IsRead};
+ghost use Rattle.office_store.specs.Form.{listed_row, AreCaps};
 ghost use Rattle.office_store.specs.Reads.{IsRowListed};
-ghost use Rattle.office_store.specs.Shown.{IsIdle, Shows, ShowsIfOpen};
+ghost use Rattle.office_store.specs.Shown.{IsIdle};
 
 use crate::column::caps_at;
 use cap_sets::Caps;
 use office_rows::first_row;
 use office_tables::StoreFault;
-use sqlite::types::ValueRef;
-use sqlite::{Alter, Connection, Row, params};
+use sqlite::{Alter, Connection, Row};
 
 pub(crate) const LISTED: &str = "SELECT listed FROM office";
+
+// The listed capabilities of a row of them alone.
+fn read_listed(row: &Row) -> Result<Caps, StoreFault>
+    ensures listed { IfOk result (λ listed. row.now ≡ listed_row listed) }
+    ensures formed { (listed : ℕ) → AreCaps listed → row.now ≡ listed_row listed → result ≢ Err StoreFault.NotAnOffice }
+    ensures cause { IfErr result IsOfRow }
+{
+    if row.column_count() != 1 {
+        return Err(StoreFault::NotAnOffice);
+    }
+    caps_at(row, 0)
+}
+
+// The listed capabilities of the row that a query found.
+fn listed_of(found: Result<Option<Row>, StoreFault>) -> Result<Caps, StoreFault>
+    ensures { IsTold (TellsOnly listed_row AreCaps) found result }
+{
+    match found? {
+        Some(row) => read_listed(&row),
+        None => Err(StoreFault::NotAnOffice),
+    }
+}
 
 // The row of the office.
 fn office_row<S: Alter>(conn: &mut Connection<S>) -> Result<Option<Row>, StoreFault>
     requires { IsIdle (state S.Store conn.old) }
-    ensures found { (t : Tables) → Shows (state S.Store conn.old) t → HasCleanDisk (state S.Store conn.new) → IfOk result (IsRowListed t) }
-    ensures fault { (t : Tables) → Shows (state S.Store conn.old) t → HasCleanDisk (state S.Store conn.new) → result ≢ Err StoreFault.NotAnOffice }
-    ensures same { (t : Tables) → Shows (state S.Store conn.old) t → HasCleanDisk (state S.Store conn.new) → ShowsIfOpen (state S.Store conn.new) t }
-    ensures shown { (t : Tables) → Shows (state S.Store conn.old) t → HasCleanDisk (state S.Store conn.new) → OnOk result (Shows (state S.Store conn.new) t) }
-    ensures idle { IsIdle (state S.Store conn.new) }
-    ensures clean { HasCleanDisk (state S.Store conn.new) → HasCleanDisk (state S.Store conn.old) }
-    ensures crash { (t : Tables) → Shows (state S.Store conn.old) t → Survives (state S.Store conn.old) (state S.Store conn.new) (λ _. ⊥) }
+    ensures read { IsRead (state S.Store conn.old) (state S.Store conn.new) result (λ t row. IsRowListed t row) }
+    ensures row { HasCleanDisk (state S.Store conn.new) → FindsRow LISTED.now [] (state S.Store conn.old) (state S.Store conn.new) result }
 {
-    first_row(conn, LISTED, params![])
+    first_row(conn, LISTED, &[])
 }
 
 /// The listed capabilities, fixed at the founding.
 pub fn listed<S: Alter>(conn: &mut Connection<S>) -> Result<Caps, StoreFault>
     requires { IsIdle (state S.Store conn.old) }
-    ensures found { (t : Tables) → Shows (state S.Store conn.old) t → HasCleanDisk (state S.Store conn.new) → IfOk result (λ listed. listed ≡ t.listed) }
-    ensures formed { (t : Tables) → Shows (state S.Store conn.old) t → HasCleanDisk (state S.Store conn.new) → result ≢ Err StoreFault.NotAnOffice }
-    ensures same { (t : Tables) → Shows (state S.Store conn.old) t → HasCleanDisk (state S.Store conn.new) → ShowsIfOpen (state S.Store conn.new) t }
-    ensures shown { (t : Tables) → Shows (state S.Store conn.old) t → HasCleanDisk (state S.Store conn.new) → OnOk result (Shows (state S.Store conn.new) t) }
-    ensures idle { IsIdle (state S.Store conn.new) }
-    ensures clean { HasCleanDisk (state S.Store conn.new) → HasCleanDisk (state S.Store conn.old) }
-    ensures crash { (t : Tables) → Shows (state S.Store conn.old) t → Survives (state S.Store conn.old) (state S.Store conn.new) (λ _. ⊥) }
+    ensures read { IsRead (state S.Store conn.old) (state S.Store conn.new) result (λ t listed. listed ≡ t.listed) }
+    ensures told { HasCleanDisk (state S.Store conn.new) → TellsRow LISTED.now [] (state S.Store conn.old) (state S.Store conn.new) (TellsOnly listed_row AreCaps) result }
 {
-    match office_row(conn)? {
-        Some(row) => caps_at(&row, 0),
-        None => Err(StoreFault::NotAnOffice),
-    }
+    listed_of(office_row(conn))
 }

@@ -1,24 +1,30 @@
 //! The table of revisions.
 
-ghost use Rattle.std.specs.Prelude.{◌≡◌, ◌≢◌, ◌↔◌, ◌+◌, true, is_some, Err, IfOk, IfErr, OnOk, OnErr, Option, None, option_map};
+ghost use Rattle.std.specs.Prelude.{◌≡◌, ◌≢◌, ◌↔◌, ◌+◌, true, is_some, Err, IfOk, IfErr, option_map};
 ghost use Rattle.sqlite.specs.Held.{state};
-ghost use Rattle.sqlite.specs.State.{HasCleanDisk, Survives};
-ghost use Rattle.office_tables.specs.Tables.{Tables};
-ghost use Rattle.office_tables.specs.Changes.{with_revision, with_issued, with_withdrawn};
-ghost use Rattle.office_store.specs.Shown.{IsIdle, Shows, ShowsIfOpen, AreOffice, LeavesOnly, MayLeave};
+ghost use Rattle.sqlite.specs.State.{HasCleanDisk};
 ghost use Rattle.review_policy.specs.declared.ask.ProfileName.{ProfileName as Name};
+ghost use Rattle.office_rows.specs.Faults.{FindsRow};
+ghost use Rattle.office_rows.specs.Statements.{IsCause};
+ghost use Rattle.office_rows.specs.Told.{IsOfRow, IsTold, TellsRow, TellsOne, TellsWhether};
+ghost use Rattle.office_tables.specs.Tables.{Tables};
+ghost use Rattle.office_tables.specs.Changes.{with_issued, with_withdrawn};
+ghost use Rattle.office_tables.specs.Reads.{IsLast};
 ghost use Rattle.office_tables.specs.declared.row.RevisionRow.{RevisionRow as Revision};
-ghost use Rattle.office_store.specs.Entries.{state_number, revision_columns, IsRevision};
-ghost use Rattle.office_tables.specs.Reads.{IsLast, next_number};
-ghost use Rattle.office_store.specs.Reads.{IsIssued, IsIssuedRow, IsLastRow, HasRevision, IsNextNumber, submitted};
+ghost use Rattle.office_store.specs.Calls.{IsRead, IsWrite, Into};
+ghost use Rattle.office_store.specs.Entries.{revision_columns, IsRevision, IsRevisionForm};
+ghost use Rattle.office_store.specs.Keys.{profile_params, revision_params};
+ghost use Rattle.office_store.specs.Reads.{IsIssued, IsIssuedRow, IsLastRow, HasRevision, IsNextNumber, Adds, Submits};
+ghost use Rattle.office_store.specs.Shown.{IsIdle, ShowsIfOpen};
+ghost use Rattle.office_store.specs.Writes.{adding_revision, issuing, withdrawing};
 
-use crate::column::{bytes_of, digest_at, number_at, state_at, text_at, word_at};
+use crate::bind::{of_number, of_profile, of_revision};
+use crate::column::{digest_at, number_at, state_at, text_at, word_at};
 use crate::write::{write_one, write_two};
-use office_rows::first_row;
+use office_rows::{first_row, is_there};
 use office_tables::{RevisionRow, StoreFault};
 use review_policy::{ProfileName, State, Text, Word};
-use sqlite::types::ValueRef;
-use sqlite::{Alter, Connection, Row, params};
+use sqlite::{Alter, Connection, Row};
 use std::alloc::Global;
 
 pub(crate) const REVISION_AT: &str =
@@ -52,6 +58,7 @@ pub(crate) const INSERT_REVISION: &str =
 fn read_revision(alloc: Global, row: &Row) -> Result<RevisionRow, StoreFault>
     ensures revision { IfOk result (λ revision. row.now ≡ revision_columns revision) }
     ensures formed { (profile : Name) (revision : Revision) → IsRevision (profile, revision) → row.now ≡ revision_columns revision → result ≢ Err StoreFault.NotAnOffice }
+    ensures cause { IfErr result IsOfRow }
 {
     if row.column_count() != 5 {
         return Err(StoreFault::NotAnOffice);
@@ -65,6 +72,19 @@ fn read_revision(alloc: Global, row: &Row) -> Result<RevisionRow, StoreFault>
     })
 }
 
+// The revision of the row that a query found, if it found one.
+fn revision_of(
+    alloc: Global,
+    found: Result<Option<Row>, StoreFault>,
+) -> Result<Option<RevisionRow>, StoreFault>
+    ensures { IsTold (TellsOne revision_columns IsRevisionForm) found result }
+{
+    match found? {
+        Some(row) => Ok(Some(read_revision(alloc, &row)?)),
+        None => Ok(None),
+    }
+}
+
 // The row of a revision.
 fn row_at<S: Alter>(
     conn: &mut Connection<S>,
@@ -72,17 +92,10 @@ fn row_at<S: Alter>(
     number: u32,
 ) -> Result<Option<Row>, StoreFault>
     requires { IsIdle (state S.Store conn.old) }
-    ensures found { (t : Tables) → Shows (state S.Store conn.old) t → HasCleanDisk (state S.Store conn.new) → IfOk result (λ row. row ≡ option_map revision_columns (t.revisions profile.now number)) }
-    ensures fault { (t : Tables) → Shows (state S.Store conn.old) t → HasCleanDisk (state S.Store conn.new) → result ≢ Err StoreFault.NotAnOffice }
-    ensures same { (t : Tables) → Shows (state S.Store conn.old) t → HasCleanDisk (state S.Store conn.new) → ShowsIfOpen (state S.Store conn.new) t }
-    ensures shown { (t : Tables) → Shows (state S.Store conn.old) t → HasCleanDisk (state S.Store conn.new) → OnOk result (Shows (state S.Store conn.new) t) }
-    ensures idle { IsIdle (state S.Store conn.new) }
-    ensures clean { HasCleanDisk (state S.Store conn.new) → HasCleanDisk (state S.Store conn.old) }
-    ensures crash { (t : Tables) → Shows (state S.Store conn.old) t → Survives (state S.Store conn.old) (state S.Store conn.new) (λ _. ⊥) }
+    ensures read { IsRead (state S.Store conn.old) (state S.Store conn.new) result (λ t row. row ≡ option_map revision_columns (t.revisions profile.now number)) }
+    ensures row { HasCleanDisk (state S.Store conn.new) → FindsRow REVISION_AT.now (revision_params profile.now number) (state S.Store conn.old) (state S.Store conn.new) result }
 {
-    let team = profile.team.as_str();
-    let name = profile.profile.as_str();
-    first_row(conn, REVISION_AT, params![team, name, number])
+    first_row(conn, REVISION_AT, &of_number(profile, number))
 }
 
 // The row of the issued revision of a profile.
@@ -91,17 +104,10 @@ fn issued_row<S: Alter>(
     profile: &ProfileName,
 ) -> Result<Option<Row>, StoreFault>
     requires { IsIdle (state S.Store conn.old) }
-    ensures found { (t : Tables) → Shows (state S.Store conn.old) t → HasCleanDisk (state S.Store conn.new) → IfOk result (IsIssuedRow t profile.now) }
-    ensures fault { (t : Tables) → Shows (state S.Store conn.old) t → HasCleanDisk (state S.Store conn.new) → result ≢ Err StoreFault.NotAnOffice }
-    ensures same { (t : Tables) → Shows (state S.Store conn.old) t → HasCleanDisk (state S.Store conn.new) → ShowsIfOpen (state S.Store conn.new) t }
-    ensures shown { (t : Tables) → Shows (state S.Store conn.old) t → HasCleanDisk (state S.Store conn.new) → OnOk result (Shows (state S.Store conn.new) t) }
-    ensures idle { IsIdle (state S.Store conn.new) }
-    ensures clean { HasCleanDisk (state S.Store conn.new) → HasCleanDisk (state S.Store conn.old) }
-    ensures crash { (t : Tables) → Shows (state S.Store conn.old) t → Survives (state S.Store conn.old) (state S.Store conn.new) (λ _. ⊥) }
+    ensures read { IsRead (state S.Store conn.old) (state S.Store conn.new) result (λ t row. IsIssuedRow t profile.now row) }
+    ensures row { HasCleanDisk (state S.Store conn.new) → FindsRow ISSUED_OF.now (profile_params profile.now) (state S.Store conn.old) (state S.Store conn.new) result }
 {
-    let team = profile.team.as_str();
-    let name = profile.profile.as_str();
-    first_row(conn, ISSUED_OF, params![team, name])
+    first_row(conn, ISSUED_OF, &of_profile(profile))
 }
 
 // The row of the last revision of a profile.
@@ -110,17 +116,10 @@ fn last_row<S: Alter>(
     profile: &ProfileName,
 ) -> Result<Option<Row>, StoreFault>
     requires { IsIdle (state S.Store conn.old) }
-    ensures found { (t : Tables) → Shows (state S.Store conn.old) t → HasCleanDisk (state S.Store conn.new) → IfOk result (IsLastRow t profile.now) }
-    ensures fault { (t : Tables) → Shows (state S.Store conn.old) t → HasCleanDisk (state S.Store conn.new) → result ≢ Err StoreFault.NotAnOffice }
-    ensures same { (t : Tables) → Shows (state S.Store conn.old) t → HasCleanDisk (state S.Store conn.new) → ShowsIfOpen (state S.Store conn.new) t }
-    ensures shown { (t : Tables) → Shows (state S.Store conn.old) t → HasCleanDisk (state S.Store conn.new) → OnOk result (Shows (state S.Store conn.new) t) }
-    ensures idle { IsIdle (state S.Store conn.new) }
-    ensures clean { HasCleanDisk (state S.Store conn.new) → HasCleanDisk (state S.Store conn.old) }
-    ensures crash { (t : Tables) → Shows (state S.Store conn.old) t → Survives (state S.Store conn.old) (state S.Store conn.new) (λ _. ⊥) }
+    ensures read { IsRead (state S.Store conn.old) (state S.Store conn.new) result (λ t row. IsLastRow t profile.now row) }
+    ensures row { HasCleanDisk (state S.Store conn.new) → FindsRow LAST_OF.now (profile_params profile.now) (state S.Store conn.old) (state S.Store conn.new) result }
 {
-    let team = profile.team.as_str();
-    let name = profile.profile.as_str();
-    first_row(conn, LAST_OF, params![team, name])
+    first_row(conn, LAST_OF, &of_profile(profile))
 }
 
 // The row of a revision of a profile.
@@ -129,17 +128,10 @@ fn row_of<S: Alter>(
     profile: &ProfileName,
 ) -> Result<Option<Row>, StoreFault>
     requires { IsIdle (state S.Store conn.old) }
-    ensures found { (t : Tables) → Shows (state S.Store conn.old) t → HasCleanDisk (state S.Store conn.new) → IfOk result (λ row. is_some row ≡ true ↔ HasRevision t profile.now) }
-    ensures fault { (t : Tables) → Shows (state S.Store conn.old) t → HasCleanDisk (state S.Store conn.new) → result ≢ Err StoreFault.NotAnOffice }
-    ensures same { (t : Tables) → Shows (state S.Store conn.old) t → HasCleanDisk (state S.Store conn.new) → ShowsIfOpen (state S.Store conn.new) t }
-    ensures shown { (t : Tables) → Shows (state S.Store conn.old) t → HasCleanDisk (state S.Store conn.new) → OnOk result (Shows (state S.Store conn.new) t) }
-    ensures idle { IsIdle (state S.Store conn.new) }
-    ensures clean { HasCleanDisk (state S.Store conn.new) → HasCleanDisk (state S.Store conn.old) }
-    ensures crash { (t : Tables) → Shows (state S.Store conn.old) t → Survives (state S.Store conn.old) (state S.Store conn.new) (λ _. ⊥) }
+    ensures read { IsRead (state S.Store conn.old) (state S.Store conn.new) result (λ t row. is_some row ≡ true ↔ HasRevision t profile.now) }
+    ensures row { HasCleanDisk (state S.Store conn.new) → FindsRow REVISION_OF.now (profile_params profile.now) (state S.Store conn.old) (state S.Store conn.new) result }
 {
-    let team = profile.team.as_str();
-    let name = profile.profile.as_str();
-    first_row(conn, REVISION_OF, params![team, name])
+    first_row(conn, REVISION_OF, &of_profile(profile))
 }
 
 /// Whether a profile has a revision.
@@ -148,16 +140,10 @@ pub fn has_revision<S: Alter>(
     profile: &ProfileName,
 ) -> Result<bool, StoreFault>
     requires { IsIdle (state S.Store conn.old) }
-    ensures found { (t : Tables) → Shows (state S.Store conn.old) t → HasCleanDisk (state S.Store conn.new) → IfOk result (λ found. found ≡ true ↔ HasRevision t profile.now) }
-    ensures formed { (t : Tables) → Shows (state S.Store conn.old) t → HasCleanDisk (state S.Store conn.new) → result ≢ Err StoreFault.NotAnOffice }
-    ensures same { (t : Tables) → Shows (state S.Store conn.old) t → HasCleanDisk (state S.Store conn.new) → ShowsIfOpen (state S.Store conn.new) t }
-    ensures shown { (t : Tables) → Shows (state S.Store conn.old) t → HasCleanDisk (state S.Store conn.new) → OnOk result (Shows (state S.Store conn.new) t) }
-    ensures idle { IsIdle (state S.Store conn.new) }
-    ensures clean { HasCleanDisk (state S.Store conn.new) → HasCleanDisk (state S.Store conn.old) }
-    ensures crash { (t : Tables) → Shows (state S.Store conn.old) t → Survives (state S.Store conn.old) (state S.Store conn.new) (λ _. ⊥) }
+    ensures read { IsRead (state S.Store conn.old) (state S.Store conn.new) result (λ t found. found ≡ true ↔ HasRevision t profile.now) }
+    ensures told { HasCleanDisk (state S.Store conn.new) → TellsRow REVISION_OF.now (profile_params profile.now) (state S.Store conn.old) (state S.Store conn.new) TellsWhether result }
 {
-    let row = row_of(conn, profile)?;
-    Ok(row.is_some())
+    is_there(row_of(conn, profile))
 }
 
 /// A revision of a profile by its number.
@@ -168,18 +154,10 @@ pub fn revision<S: Alter>(
     number: u32,
 ) -> Result<Option<RevisionRow>, StoreFault>
     requires { IsIdle (state S.Store conn.old) }
-    ensures found { (t : Tables) → Shows (state S.Store conn.old) t → HasCleanDisk (state S.Store conn.new) → IfOk result (λ found. found ≡ t.revisions profile.now number) }
-    ensures formed { (t : Tables) → Shows (state S.Store conn.old) t → HasCleanDisk (state S.Store conn.new) → result ≢ Err StoreFault.NotAnOffice }
-    ensures same { (t : Tables) → Shows (state S.Store conn.old) t → HasCleanDisk (state S.Store conn.new) → ShowsIfOpen (state S.Store conn.new) t }
-    ensures shown { (t : Tables) → Shows (state S.Store conn.old) t → HasCleanDisk (state S.Store conn.new) → OnOk result (Shows (state S.Store conn.new) t) }
-    ensures idle { IsIdle (state S.Store conn.new) }
-    ensures clean { HasCleanDisk (state S.Store conn.new) → HasCleanDisk (state S.Store conn.old) }
-    ensures crash { (t : Tables) → Shows (state S.Store conn.old) t → Survives (state S.Store conn.old) (state S.Store conn.new) (λ _. ⊥) }
+    ensures read { IsRead (state S.Store conn.old) (state S.Store conn.new) result (λ t revision. revision ≡ t.revisions profile.now number) }
+    ensures told { HasCleanDisk (state S.Store conn.new) → TellsRow REVISION_AT.now (revision_params profile.now number) (state S.Store conn.old) (state S.Store conn.new) (TellsOne revision_columns IsRevisionForm) result }
 {
-    match row_at(conn, profile, number)? {
-        Some(row) => Ok(Some(read_revision(alloc, &row)?)),
-        None => Ok(None),
-    }
+    revision_of(alloc, row_at(conn, profile, number))
 }
 
 /// The revision of a profile that is issued.
@@ -189,18 +167,10 @@ pub fn issued<S: Alter>(
     profile: &ProfileName,
 ) -> Result<Option<RevisionRow>, StoreFault>
     requires { IsIdle (state S.Store conn.old) }
-    ensures found { (t : Tables) → Shows (state S.Store conn.old) t → HasCleanDisk (state S.Store conn.new) → IfOk result (IsIssued t profile.now) }
-    ensures formed { (t : Tables) → Shows (state S.Store conn.old) t → HasCleanDisk (state S.Store conn.new) → result ≢ Err StoreFault.NotAnOffice }
-    ensures same { (t : Tables) → Shows (state S.Store conn.old) t → HasCleanDisk (state S.Store conn.new) → ShowsIfOpen (state S.Store conn.new) t }
-    ensures shown { (t : Tables) → Shows (state S.Store conn.old) t → HasCleanDisk (state S.Store conn.new) → OnOk result (Shows (state S.Store conn.new) t) }
-    ensures idle { IsIdle (state S.Store conn.new) }
-    ensures clean { HasCleanDisk (state S.Store conn.new) → HasCleanDisk (state S.Store conn.old) }
-    ensures crash { (t : Tables) → Shows (state S.Store conn.old) t → Survives (state S.Store conn.old) (state S.Store conn.new) (λ _. ⊥) }
+    ensures read { IsRead (state S.Store conn.old) (state S.Store conn.new) result (λ t revision. IsIssued t profile.now revision) }
+    ensures told { HasCleanDisk (state S.Store conn.new) → TellsRow ISSUED_OF.now (profile_params profile.now) (state S.Store conn.old) (state S.Store conn.new) (TellsOne revision_columns IsRevisionForm) result }
 {
-    match issued_row(conn, profile)? {
-        Some(row) => Ok(Some(read_revision(alloc, &row)?)),
-        None => Ok(None),
-    }
+    revision_of(alloc, issued_row(conn, profile))
 }
 
 /// The revision of a profile with the greatest number.
@@ -210,31 +180,10 @@ pub fn last<S: Alter>(
     profile: &ProfileName,
 ) -> Result<Option<RevisionRow>, StoreFault>
     requires { IsIdle (state S.Store conn.old) }
-    ensures found { (t : Tables) → Shows (state S.Store conn.old) t → HasCleanDisk (state S.Store conn.new) → IfOk result (IsLast t profile.now) }
-    ensures formed { (t : Tables) → Shows (state S.Store conn.old) t → HasCleanDisk (state S.Store conn.new) → result ≢ Err StoreFault.NotAnOffice }
-    ensures same { (t : Tables) → Shows (state S.Store conn.old) t → HasCleanDisk (state S.Store conn.new) → ShowsIfOpen (state S.Store conn.new) t }
-    ensures shown { (t : Tables) → Shows (state S.Store conn.old) t → HasCleanDisk (state S.Store conn.new) → OnOk result (Shows (state S.Store conn.new) t) }
-    ensures idle { IsIdle (state S.Store conn.new) }
-    ensures clean { HasCleanDisk (state S.Store conn.new) → HasCleanDisk (state S.Store conn.old) }
-    ensures crash { (t : Tables) → Shows (state S.Store conn.old) t → Survives (state S.Store conn.old) (state S.Store conn.new) (λ _. ⊥) }
+    ensures read { IsRead (state S.Store conn.old) (state S.Store conn.new) result (λ t revision. IsLast t profile.now revision) }
+    ensures told { HasCleanDisk (state S.Store conn.new) → TellsRow LAST_OF.now (profile_params profile.now) (state S.Store conn.old) (state S.Store conn.new) (TellsOne revision_columns IsRevisionForm) result }
 {
-    match last_row(conn, profile)? {
-        Some(row) => Ok(Some(read_revision(alloc, &row)?)),
-        None => Ok(None),
-    }
-}
-
-// The number of a state.
-fn state_number(state: State) -> u32
-    ensures { result ≡ state_number state }
-{
-    match state {
-        State::Open => 0,
-        State::Closed => 1,
-        State::Issued => 2,
-        State::Replaced => 3,
-        State::Withdrawn => 4,
-    }
+    revision_of(alloc, last_row(conn, profile))
 }
 
 // Adds a revision whose number is free, and closes the open one of its profile.
@@ -244,26 +193,15 @@ fn insert_revision<S: Alter>(
     revision: &RevisionRow,
 ) -> Result<(), StoreFault>
     requires { IsIdle (state S.Store conn.old) }
-    ensures added { (t : Tables) → Shows (state S.Store conn.old) t → t.revisions profile.now revision.now.number ≡ None → HasCleanDisk (state S.Store conn.new) → OnOk result (Shows (state S.Store conn.new) (with_revision profile.now revision.now t)) }
-    ensures same { (t : Tables) → Shows (state S.Store conn.old) t → t.revisions profile.now revision.now.number ≡ None → HasCleanDisk (state S.Store conn.new) → OnErr result (ShowsIfOpen (state S.Store conn.new) t) }
-    ensures formed { (t : Tables) → Shows (state S.Store conn.old) t → t.revisions profile.now revision.now.number ≡ None → HasCleanDisk (state S.Store conn.new) → result ≢ Err StoreFault.NotAnOffice }
-    ensures idle { IsIdle (state S.Store conn.new) }
-    ensures clean { HasCleanDisk (state S.Store conn.new) → HasCleanDisk (state S.Store conn.old) }
-    ensures kept { (t : Tables) → Shows (state S.Store conn.old) t → t.revisions profile.now revision.now.number ≡ None → HasCleanDisk (state S.Store conn.new) → OnOk result (LeavesOnly (state S.Store conn.new) (with_revision profile.now revision.now t)) }
-    ensures crash { (t : Tables) → Shows (state S.Store conn.old) t → t.revisions profile.now revision.now.number ≡ None → Survives (state S.Store conn.old) (state S.Store conn.new) (λ trees. AreOffice trees (with_revision profile.now revision.now t)) }
+    ensures write { IsWrite (state S.Store conn.old) (state S.Store conn.new) result (Adds profile.now revision.now) }
+    ensures cause { HasCleanDisk (state S.Store conn.new) → IfErr result (IsCause S.Store (adding_revision profile.now revision.now) conn.old) }
 {
-    let team = profile.team.as_str();
-    let name = profile.profile.as_str();
-    let author = revision.author.as_str();
-    let state = state_number(revision.state);
-    let body = revision.body.as_str();
-    let digest = bytes_of(&revision.digest);
     write_two(
         conn,
         CLOSE_OPEN,
-        params![team, name],
+        &of_profile(profile),
         INSERT_REVISION,
-        params![team, name, revision.number, author, state, body, digest],
+        &of_revision(profile, revision),
     )
 }
 
@@ -285,13 +223,7 @@ fn next_number<S: Alter>(
     profile: &ProfileName,
 ) -> Result<u32, StoreFault>
     requires { IsIdle (state S.Store conn.old) }
-    ensures found { (t : Tables) → Shows (state S.Store conn.old) t → HasCleanDisk (state S.Store conn.new) → IfOk result (IsNextNumber t profile.now) }
-    ensures formed { (t : Tables) → Shows (state S.Store conn.old) t → HasCleanDisk (state S.Store conn.new) → result ≢ Err StoreFault.NotAnOffice }
-    ensures same { (t : Tables) → Shows (state S.Store conn.old) t → HasCleanDisk (state S.Store conn.new) → ShowsIfOpen (state S.Store conn.new) t }
-    ensures shown { (t : Tables) → Shows (state S.Store conn.old) t → HasCleanDisk (state S.Store conn.new) → OnOk result (Shows (state S.Store conn.new) t) }
-    ensures idle { IsIdle (state S.Store conn.new) }
-    ensures clean { HasCleanDisk (state S.Store conn.new) → HasCleanDisk (state S.Store conn.old) }
-    ensures crash { (t : Tables) → Shows (state S.Store conn.old) t → Survives (state S.Store conn.old) (state S.Store conn.new) (λ _. ⊥) }
+    ensures read { IsRead (state S.Store conn.old) (state S.Store conn.new) result (λ t number. IsNextNumber t profile.now number) }
 {
     match last(alloc, conn, profile)? {
         Some(revision) => number_after(revision.number),
@@ -310,13 +242,8 @@ pub fn add_revision<S: Alter>(
     digest: [u8; 32],
 ) -> Result<u32, StoreFault>
     requires { IsIdle (state S.Store conn.old) }
-    ensures added { (t : Tables) → Shows (state S.Store conn.old) t → HasCleanDisk (state S.Store conn.new) → IfOk result (λ number. (last : Option Revision) → IsLast t profile.now last → (number ≡ next_number last) × Shows (state S.Store conn.new) (with_revision profile.now (submitted number author body digest) t)) }
-    ensures same { (t : Tables) → Shows (state S.Store conn.old) t → HasCleanDisk (state S.Store conn.new) → OnErr result (ShowsIfOpen (state S.Store conn.new) t) }
-    ensures formed { (t : Tables) → Shows (state S.Store conn.old) t → HasCleanDisk (state S.Store conn.new) → result ≢ Err StoreFault.NotAnOffice }
-    ensures idle { IsIdle (state S.Store conn.new) }
-    ensures clean { HasCleanDisk (state S.Store conn.new) → HasCleanDisk (state S.Store conn.old) }
-    ensures kept { (t : Tables) → Shows (state S.Store conn.old) t → HasCleanDisk (state S.Store conn.new) → IfOk result (λ number. LeavesOnly (state S.Store conn.new) (with_revision profile.now (submitted number author body digest) t)) }
-    ensures crash { (t : Tables) → Shows (state S.Store conn.old) t → (last : Option Revision) → IsLast t profile.now last → MayLeave (state S.Store conn.old) (state S.Store conn.new) (λ trees. AreOffice trees (with_revision profile.now (submitted (next_number last) author body digest) t)) }
+    ensures write { IsWrite (state S.Store conn.old) (state S.Store conn.new) result (Submits profile.now author body digest) }
+    ensures number { (t : Tables) → ShowsIfOpen (state S.Store conn.old) t → HasCleanDisk (state S.Store conn.new) → IfOk result (IsNextNumber t profile.now) }
 {
     let number = next_number(alloc, conn, profile)?;
     let revision = RevisionRow {
@@ -337,22 +264,15 @@ pub fn set_issued<S: Alter>(
     number: u32,
 ) -> Result<(), StoreFault>
     requires { IsIdle (state S.Store conn.old) }
-    ensures issued { (t : Tables) → Shows (state S.Store conn.old) t → HasCleanDisk (state S.Store conn.new) → OnOk result (Shows (state S.Store conn.new) (with_issued profile.now number t)) }
-    ensures same { (t : Tables) → Shows (state S.Store conn.old) t → HasCleanDisk (state S.Store conn.new) → OnErr result (ShowsIfOpen (state S.Store conn.new) t) }
-    ensures formed { (t : Tables) → Shows (state S.Store conn.old) t → HasCleanDisk (state S.Store conn.new) → result ≢ Err StoreFault.NotAnOffice }
-    ensures idle { IsIdle (state S.Store conn.new) }
-    ensures clean { HasCleanDisk (state S.Store conn.new) → HasCleanDisk (state S.Store conn.old) }
-    ensures kept { (t : Tables) → Shows (state S.Store conn.old) t → HasCleanDisk (state S.Store conn.new) → OnOk result (LeavesOnly (state S.Store conn.new) (with_issued profile.now number t)) }
-    ensures crash { (t : Tables) → Shows (state S.Store conn.old) t → Survives (state S.Store conn.old) (state S.Store conn.new) (λ trees. AreOffice trees (with_issued profile.now number t)) }
+    ensures write { IsWrite (state S.Store conn.old) (state S.Store conn.new) result (Into (with_issued profile.now number)) }
+    ensures cause { HasCleanDisk (state S.Store conn.new) → IfErr result (IsCause S.Store (issuing profile.now number) conn.old) }
 {
-    let team = profile.team.as_str();
-    let name = profile.profile.as_str();
     write_two(
         conn,
         REPLACE_ISSUED,
-        params![team, name],
+        &of_profile(profile),
         ISSUE_REVISION,
-        params![team, name, number],
+        &of_number(profile, number),
     )
 }
 
@@ -363,15 +283,8 @@ pub fn set_withdrawn<S: Alter>(
     number: u32,
 ) -> Result<(), StoreFault>
     requires { IsIdle (state S.Store conn.old) }
-    ensures withdrawn { (t : Tables) → Shows (state S.Store conn.old) t → HasCleanDisk (state S.Store conn.new) → OnOk result (Shows (state S.Store conn.new) (with_withdrawn profile.now number t)) }
-    ensures same { (t : Tables) → Shows (state S.Store conn.old) t → HasCleanDisk (state S.Store conn.new) → OnErr result (ShowsIfOpen (state S.Store conn.new) t) }
-    ensures formed { (t : Tables) → Shows (state S.Store conn.old) t → HasCleanDisk (state S.Store conn.new) → result ≢ Err StoreFault.NotAnOffice }
-    ensures idle { IsIdle (state S.Store conn.new) }
-    ensures clean { HasCleanDisk (state S.Store conn.new) → HasCleanDisk (state S.Store conn.old) }
-    ensures kept { (t : Tables) → Shows (state S.Store conn.old) t → HasCleanDisk (state S.Store conn.new) → OnOk result (LeavesOnly (state S.Store conn.new) (with_withdrawn profile.now number t)) }
-    ensures crash { (t : Tables) → Shows (state S.Store conn.old) t → Survives (state S.Store conn.old) (state S.Store conn.new) (λ trees. AreOffice trees (with_withdrawn profile.now number t)) }
+    ensures write { IsWrite (state S.Store conn.old) (state S.Store conn.new) result (Into (with_withdrawn profile.now number)) }
+    ensures cause { HasCleanDisk (state S.Store conn.new) → IfErr result (IsCause S.Store (withdrawing profile.now number) conn.old) }
 {
-    let team = profile.team.as_str();
-    let name = profile.profile.as_str();
-    write_one(conn, WITHDRAW_REVISION, params![team, name, number])
+    write_one(conn, WITHDRAW_REVISION, &of_number(profile, number))
 }

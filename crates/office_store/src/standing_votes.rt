@@ -1,23 +1,22 @@
 //! The standing votes on a revision, and how many of them approve and reject.
 
-ghost use Rattle.std.specs.Prelude.{◌≡◌, ◌≢◌, ◌<◌, ◌&&◌, not, Bool, List, Err, IfOk, OnOk, length, map};
+ghost use Rattle.std.specs.Prelude.{◌≡◌, ◌≢◌, ◌<◌, ◌&&◌, not, Bool, List, Err, IfOk, length, map};
 ghost use Rattle.std.specs.List.{AllByRecursion};
 ghost use Rattle.sqlite.specs.Held.{state};
-ghost use Rattle.sqlite.specs.State.{HasCleanDisk, Survives};
 ghost use Rattle.sqlite.specs.declared.types.Value.TheVariants.{Int};
 ghost use Rattle.sqlite_value.specs.Order.{column};
-ghost use Rattle.office_tables.specs.Tables.{Tables};
 ghost use Rattle.office_tables.specs.Lists.{AreStanding, IsTally, tally_of};
+ghost use Rattle.office_store.specs.Calls.{IsRead};
 ghost use Rattle.office_store.specs.Entries.{bit};
 ghost use Rattle.office_store.specs.Lists.{Cast, cast_row, standing_of, IsCastForm, AreVoteRows};
-ghost use Rattle.office_store.specs.Shown.{IsIdle, Shows, ShowsIfOpen};
+ghost use Rattle.office_store.specs.Shown.{IsIdle};
 
+use crate::bind::of_number;
 use crate::column::{roles_at, word_at};
 use office_rows::{all_rows, fault_of};
 use office_tables::{StoreFault, Tally};
 use review_policy::{ProfileName, Role, VoteRow};
-use sqlite::types::ValueRef;
-use sqlite::{Alter, Connection, Row, params};
+use sqlite::{Alter, Connection, Row};
 use std::alloc::Global;
 
 // A voter who has no row has no roles.
@@ -31,17 +30,9 @@ fn vote_rows<S: Alter>(
     number: u32,
 ) -> Result<Vec<Row>, StoreFault>
     requires { IsIdle (state S.Store conn.old) }
-    ensures found { (t : Tables) → Shows (state S.Store conn.old) t → HasCleanDisk (state S.Store conn.new) → IfOk result (λ rows. AreVoteRows t profile.now number rows.items) }
-    ensures fault { (t : Tables) → Shows (state S.Store conn.old) t → HasCleanDisk (state S.Store conn.new) → result ≢ Err StoreFault.NotAnOffice }
-    ensures shown { (t : Tables) → Shows (state S.Store conn.old) t → HasCleanDisk (state S.Store conn.new) → OnOk result (Shows (state S.Store conn.new) t) }
-    ensures same { (t : Tables) → Shows (state S.Store conn.old) t → HasCleanDisk (state S.Store conn.new) → ShowsIfOpen (state S.Store conn.new) t }
-    ensures idle { IsIdle (state S.Store conn.new) }
-    ensures clean { HasCleanDisk (state S.Store conn.new) → HasCleanDisk (state S.Store conn.old) }
-    ensures crash { (t : Tables) → Shows (state S.Store conn.old) t → Survives (state S.Store conn.old) (state S.Store conn.new) (λ _. ⊥) }
+    ensures read { IsRead (state S.Store conn.old) (state S.Store conn.new) result (λ t rows. AreVoteRows t profile.now number rows.items) }
 {
-    let team = profile.team.as_str();
-    let profile = profile.profile.as_str();
-    all_rows(conn, VOTES_ON, params![team, profile, number])
+    all_rows(conn, VOTES_ON, &of_number(profile, number))
 }
 
 // The truth value of a column.
@@ -92,13 +83,7 @@ pub fn standing<S: Alter>(
     number: u32,
 ) -> Result<Vec<VoteRow>, StoreFault>
     requires { IsIdle (state S.Store conn.old) }
-    ensures found { (t : Tables) → Shows (state S.Store conn.old) t → HasCleanDisk (state S.Store conn.new) → IfOk result (λ votes. AreStanding t profile.now number votes.items) }
-    ensures formed { (t : Tables) → Shows (state S.Store conn.old) t → HasCleanDisk (state S.Store conn.new) → result ≢ Err StoreFault.NotAnOffice }
-    ensures shown { (t : Tables) → Shows (state S.Store conn.old) t → HasCleanDisk (state S.Store conn.new) → OnOk result (Shows (state S.Store conn.new) t) }
-    ensures same { (t : Tables) → Shows (state S.Store conn.old) t → HasCleanDisk (state S.Store conn.new) → ShowsIfOpen (state S.Store conn.new) t }
-    ensures idle { IsIdle (state S.Store conn.new) }
-    ensures clean { HasCleanDisk (state S.Store conn.new) → HasCleanDisk (state S.Store conn.old) }
-    ensures crash { (t : Tables) → Shows (state S.Store conn.old) t → Survives (state S.Store conn.old) (state S.Store conn.new) (λ _. ⊥) }
+    ensures read { IsRead (state S.Store conn.old) (state S.Store conn.new) result (λ t votes. AreStanding t profile.now number votes.items) }
 {
     let rows = vote_rows(conn, profile, number)?;
     read_votes(alloc, rows.as_slice())
@@ -165,13 +150,7 @@ pub fn tally<S: Alter>(
     number: u32,
 ) -> Result<Tally, StoreFault>
     requires { IsIdle (state S.Store conn.old) }
-    ensures found { (t : Tables) → Shows (state S.Store conn.old) t → HasCleanDisk (state S.Store conn.new) → IfOk result (IsTally t profile.now number) }
-    ensures formed { (t : Tables) → Shows (state S.Store conn.old) t → HasCleanDisk (state S.Store conn.new) → result ≢ Err StoreFault.NotAnOffice }
-    ensures shown { (t : Tables) → Shows (state S.Store conn.old) t → HasCleanDisk (state S.Store conn.new) → OnOk result (Shows (state S.Store conn.new) t) }
-    ensures same { (t : Tables) → Shows (state S.Store conn.old) t → HasCleanDisk (state S.Store conn.new) → ShowsIfOpen (state S.Store conn.new) t }
-    ensures idle { IsIdle (state S.Store conn.new) }
-    ensures clean { HasCleanDisk (state S.Store conn.new) → HasCleanDisk (state S.Store conn.old) }
-    ensures crash { (t : Tables) → Shows (state S.Store conn.old) t → Survives (state S.Store conn.old) (state S.Store conn.new) (λ _. ⊥) }
+    ensures read { IsRead (state S.Store conn.old) (state S.Store conn.new) result (λ t tally. IsTally t profile.now number tally) }
 {
     let votes = standing(alloc, conn, profile, number)?;
     Ok(count(votes.as_slice()))

@@ -1,23 +1,28 @@
 //! The table of users.
 
-ghost use Rattle.std.specs.Prelude.{◌≡◌, ◌≢◌, Err, IfOk, OnOk, OnErr, option_map};
+ghost use Rattle.std.specs.Prelude.{◌≡◌, ◌≢◌, [], ◌∷◌, Err, IfOk, IfErr, option_map};
 ghost use Rattle.sqlite.specs.Held.{state};
-ghost use Rattle.sqlite.specs.State.{HasCleanDisk, Survives};
+ghost use Rattle.sqlite.specs.State.{HasCleanDisk};
+ghost use Rattle.sqlite.specs.declared.types.Value.TheVariants.{Text as SqlText, Blob};
+ghost use Rattle.office_rows.specs.Faults.{FindsRow};
+ghost use Rattle.office_rows.specs.Statements.{IsCause};
+ghost use Rattle.office_rows.specs.Told.{IsOfRow, IsTold, TellsRow, TellsOne};
 ghost use Rattle.office_tables.specs.declared.row.UserRow.{UserRow as User};
-ghost use Rattle.office_tables.specs.Tables.{Tables};
 ghost use Rattle.office_tables.specs.Changes.{with_user};
 ghost use Rattle.office_tables.specs.Reads.{IsUserShowing};
+ghost use Rattle.office_store.specs.Calls.{IsRead, IsWrite, Into};
 ghost use Rattle.office_store.specs.Entries.{user_row, IsUser};
 ghost use Rattle.office_store.specs.Reads.{IsRowShowing};
-ghost use Rattle.office_store.specs.Shown.{IsIdle, Shows, ShowsIfOpen, AreOffice, LeavesOnly};
+ghost use Rattle.office_store.specs.Shown.{IsIdle};
+ghost use Rattle.office_store.specs.Writes.{putting_user};
 
-use crate::column::{bytes_of, digest_at, roles_at, word_at};
+use crate::bind::{of_digest, of_user, of_word};
+use crate::column::{digest_at, roles_at, word_at};
 use crate::write::write_two;
 use office_rows::first_row;
 use office_tables::{StoreFault, UserRow};
 use review_policy::Word;
-use sqlite::types::ValueRef;
-use sqlite::{Alter, Connection, Row, params};
+use sqlite::{Alter, Connection, Row};
 use std::alloc::Global;
 
 pub(crate) const USER_BY_NAME: &str = "SELECT name, team, roles, token FROM users WHERE name = ?1";
@@ -34,6 +39,7 @@ pub(crate) const INSERT_USER: &str =
 fn read_user(alloc: Global, row: &Row) -> Result<UserRow, StoreFault>
     ensures user { IfOk result (λ user. row.now ≡ user_row user) }
     ensures formed { (user : User) → IsUser user → row.now ≡ user_row user → result ≢ Err StoreFault.NotAnOffice }
+    ensures cause { IfErr result IsOfRow }
 {
     if row.column_count() != 4 {
         return Err(StoreFault::NotAnOffice);
@@ -46,32 +52,38 @@ fn read_user(alloc: Global, row: &Row) -> Result<UserRow, StoreFault>
     })
 }
 
-// The row of the user of that name.
-fn row_named<S: Alter>(conn: &mut Connection<S>, name: &str) -> Result<Option<Row>, StoreFault>
-    requires { IsIdle (state S.Store conn.old) }
-    ensures found { (t : Tables) → Shows (state S.Store conn.old) t → HasCleanDisk (state S.Store conn.new) → IfOk result (λ row. row ≡ option_map user_row (t.users name.now)) }
-    ensures fault { (t : Tables) → Shows (state S.Store conn.old) t → HasCleanDisk (state S.Store conn.new) → result ≢ Err StoreFault.NotAnOffice }
-    ensures same { (t : Tables) → Shows (state S.Store conn.old) t → HasCleanDisk (state S.Store conn.new) → ShowsIfOpen (state S.Store conn.new) t }
-    ensures shown { (t : Tables) → Shows (state S.Store conn.old) t → HasCleanDisk (state S.Store conn.new) → OnOk result (Shows (state S.Store conn.new) t) }
-    ensures idle { IsIdle (state S.Store conn.new) }
-    ensures clean { HasCleanDisk (state S.Store conn.new) → HasCleanDisk (state S.Store conn.old) }
-    ensures crash { (t : Tables) → Shows (state S.Store conn.old) t → Survives (state S.Store conn.old) (state S.Store conn.new) (λ _. ⊥) }
+// The user of the row that a query found, if it found one.
+fn user_of(
+    alloc: Global,
+    found: Result<Option<Row>, StoreFault>,
+) -> Result<Option<UserRow>, StoreFault>
+    ensures { IsTold (TellsOne user_row IsUser) found result }
 {
-    first_row(conn, USER_BY_NAME, params![name])
+    match found? {
+        Some(row) => Ok(Some(read_user(alloc, &row)?)),
+        None => Ok(None),
+    }
+}
+
+// The row of the user of that name.
+fn row_named<S: Alter>(conn: &mut Connection<S>, name: &Word) -> Result<Option<Row>, StoreFault>
+    requires { IsIdle (state S.Store conn.old) }
+    ensures read { IsRead (state S.Store conn.old) (state S.Store conn.new) result (λ t row. row ≡ option_map user_row (t.users name.now)) }
+    ensures row { HasCleanDisk (state S.Store conn.new) → FindsRow USER_BY_NAME.now (SqlText name.now ∷ []) (state S.Store conn.old) (state S.Store conn.new) result }
+{
+    first_row(conn, USER_BY_NAME, &of_word(name))
 }
 
 // The row of the user whose token has that digest.
-fn row_showing<S: Alter>(conn: &mut Connection<S>, digest: &[u8]) -> Result<Option<Row>, StoreFault>
+fn row_showing<S: Alter>(
+    conn: &mut Connection<S>,
+    digest: &[u8; 32],
+) -> Result<Option<Row>, StoreFault>
     requires { IsIdle (state S.Store conn.old) }
-    ensures found { (t : Tables) → Shows (state S.Store conn.old) t → HasCleanDisk (state S.Store conn.new) → IfOk result (IsRowShowing t digest.now) }
-    ensures fault { (t : Tables) → Shows (state S.Store conn.old) t → HasCleanDisk (state S.Store conn.new) → result ≢ Err StoreFault.NotAnOffice }
-    ensures same { (t : Tables) → Shows (state S.Store conn.old) t → HasCleanDisk (state S.Store conn.new) → ShowsIfOpen (state S.Store conn.new) t }
-    ensures shown { (t : Tables) → Shows (state S.Store conn.old) t → HasCleanDisk (state S.Store conn.new) → OnOk result (Shows (state S.Store conn.new) t) }
-    ensures idle { IsIdle (state S.Store conn.new) }
-    ensures clean { HasCleanDisk (state S.Store conn.new) → HasCleanDisk (state S.Store conn.old) }
-    ensures crash { (t : Tables) → Shows (state S.Store conn.old) t → Survives (state S.Store conn.old) (state S.Store conn.new) (λ _. ⊥) }
+    ensures read { IsRead (state S.Store conn.old) (state S.Store conn.new) result (λ t row. IsRowShowing t digest.now row) }
+    ensures row { HasCleanDisk (state S.Store conn.new) → FindsRow USER_BY_TOKEN.now (Blob digest.now ∷ []) (state S.Store conn.old) (state S.Store conn.new) result }
 {
-    first_row(conn, USER_BY_TOKEN, params![digest])
+    first_row(conn, USER_BY_TOKEN, &of_digest(digest))
 }
 
 /// The user of that name.
@@ -81,18 +93,10 @@ pub fn user_by_name<S: Alter>(
     name: &Word,
 ) -> Result<Option<UserRow>, StoreFault>
     requires { IsIdle (state S.Store conn.old) }
-    ensures found { (t : Tables) → Shows (state S.Store conn.old) t → HasCleanDisk (state S.Store conn.new) → IfOk result (λ found. found ≡ t.users name.now) }
-    ensures formed { (t : Tables) → Shows (state S.Store conn.old) t → HasCleanDisk (state S.Store conn.new) → result ≢ Err StoreFault.NotAnOffice }
-    ensures same { (t : Tables) → Shows (state S.Store conn.old) t → HasCleanDisk (state S.Store conn.new) → ShowsIfOpen (state S.Store conn.new) t }
-    ensures shown { (t : Tables) → Shows (state S.Store conn.old) t → HasCleanDisk (state S.Store conn.new) → OnOk result (Shows (state S.Store conn.new) t) }
-    ensures idle { IsIdle (state S.Store conn.new) }
-    ensures clean { HasCleanDisk (state S.Store conn.new) → HasCleanDisk (state S.Store conn.old) }
-    ensures crash { (t : Tables) → Shows (state S.Store conn.old) t → Survives (state S.Store conn.old) (state S.Store conn.new) (λ _. ⊥) }
+    ensures read { IsRead (state S.Store conn.old) (state S.Store conn.new) result (λ t user. user ≡ t.users name.now) }
+    ensures told { HasCleanDisk (state S.Store conn.new) → TellsRow USER_BY_NAME.now (SqlText name.now ∷ []) (state S.Store conn.old) (state S.Store conn.new) (TellsOne user_row IsUser) result }
 {
-    match row_named(conn, name.as_str())? {
-        Some(row) => Ok(Some(read_user(alloc, &row)?)),
-        None => Ok(None),
-    }
+    user_of(alloc, row_named(conn, name))
 }
 
 /// A user whose token has that SHA-256.
@@ -102,41 +106,24 @@ pub fn user_by_token<S: Alter>(
     digest: &[u8; 32],
 ) -> Result<Option<UserRow>, StoreFault>
     requires { IsIdle (state S.Store conn.old) }
-    ensures found { (t : Tables) → Shows (state S.Store conn.old) t → HasCleanDisk (state S.Store conn.new) → IfOk result (IsUserShowing t digest.now) }
-    ensures formed { (t : Tables) → Shows (state S.Store conn.old) t → HasCleanDisk (state S.Store conn.new) → result ≢ Err StoreFault.NotAnOffice }
-    ensures same { (t : Tables) → Shows (state S.Store conn.old) t → HasCleanDisk (state S.Store conn.new) → ShowsIfOpen (state S.Store conn.new) t }
-    ensures shown { (t : Tables) → Shows (state S.Store conn.old) t → HasCleanDisk (state S.Store conn.new) → OnOk result (Shows (state S.Store conn.new) t) }
-    ensures idle { IsIdle (state S.Store conn.new) }
-    ensures clean { HasCleanDisk (state S.Store conn.new) → HasCleanDisk (state S.Store conn.old) }
-    ensures crash { (t : Tables) → Shows (state S.Store conn.old) t → Survives (state S.Store conn.old) (state S.Store conn.new) (λ _. ⊥) }
+    ensures read { IsRead (state S.Store conn.old) (state S.Store conn.new) result (λ t user. IsUserShowing t digest.now user) }
+    ensures told { HasCleanDisk (state S.Store conn.new) → TellsRow USER_BY_TOKEN.now (Blob digest.now ∷ []) (state S.Store conn.old) (state S.Store conn.new) (TellsOne user_row IsUser) result }
 {
-    match row_showing(conn, digest.as_slice())? {
-        Some(row) => Ok(Some(read_user(alloc, &row)?)),
-        None => Ok(None),
-    }
+    user_of(alloc, row_showing(conn, digest))
 }
 
 /// Puts a user in the place of any of that name. Where another user shows the same token the store refuses it, as
 /// [`StoreFault::Disk`].
 pub fn put_user<S: Alter>(conn: &mut Connection<S>, user: &UserRow) -> Result<(), StoreFault>
     requires { IsIdle (state S.Store conn.old) }
-    ensures put { (t : Tables) → Shows (state S.Store conn.old) t → HasCleanDisk (state S.Store conn.new) → OnOk result (Shows (state S.Store conn.new) (with_user user.now t)) }
-    ensures same { (t : Tables) → Shows (state S.Store conn.old) t → HasCleanDisk (state S.Store conn.new) → OnErr result (ShowsIfOpen (state S.Store conn.new) t) }
-    ensures formed { (t : Tables) → Shows (state S.Store conn.old) t → HasCleanDisk (state S.Store conn.new) → result ≢ Err StoreFault.NotAnOffice }
-    ensures idle { IsIdle (state S.Store conn.new) }
-    ensures clean { HasCleanDisk (state S.Store conn.new) → HasCleanDisk (state S.Store conn.old) }
-    ensures kept { (t : Tables) → Shows (state S.Store conn.old) t → HasCleanDisk (state S.Store conn.new) → OnOk result (LeavesOnly (state S.Store conn.new) (with_user user.now t)) }
-    ensures crash { (t : Tables) → Shows (state S.Store conn.old) t → Survives (state S.Store conn.old) (state S.Store conn.new) (λ trees. AreOffice trees (with_user user.now t)) }
+    ensures write { IsWrite (state S.Store conn.old) (state S.Store conn.new) result (Into (with_user user.now)) }
+    ensures cause { HasCleanDisk (state S.Store conn.new) → IfErr result (IsCause S.Store (putting_user user.now) conn.old) }
 {
-    let name = user.name.as_str();
-    let team = user.team.as_str();
-    let roles = u32::from(user.roles.bits());
-    let digest = bytes_of(&user.digest);
     write_two(
         conn,
         DELETE_USER,
-        params![name],
+        &of_word(&user.name),
         INSERT_USER,
-        params![name, team, roles, digest],
+        &of_user(user),
     )
 }

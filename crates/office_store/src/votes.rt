@@ -1,17 +1,19 @@
 //! The table of votes.
 
-ghost use Rattle.std.specs.Prelude.{◌≡◌, ◌≢◌, Err, OnOk, OnErr};
+ghost use Rattle.std.specs.Prelude.{IfErr};
 ghost use Rattle.sqlite.specs.Held.{state};
-ghost use Rattle.sqlite.specs.State.{HasCleanDisk, Survives};
-ghost use Rattle.office_tables.specs.Tables.{Tables};
+ghost use Rattle.sqlite.specs.State.{HasCleanDisk};
+ghost use Rattle.office_rows.specs.Statements.{IsCause};
 ghost use Rattle.office_tables.specs.Changes.{with_vote};
-ghost use Rattle.office_store.specs.Shown.{IsIdle, Shows, ShowsIfOpen, AreOffice, LeavesOnly};
+ghost use Rattle.office_store.specs.Calls.{IsWrite, Into};
+ghost use Rattle.office_store.specs.Shown.{IsIdle};
+ghost use Rattle.office_store.specs.Writes.{putting_vote};
 
+use crate::bind::{of_vote, of_voter};
 use crate::write::write_two;
 use office_tables::StoreFault;
 use review_policy::{ProfileName, Word};
-use sqlite::types::ValueRef;
-use sqlite::{Alter, Connection, params};
+use sqlite::{Alter, Connection};
 
 pub(crate) const DELETE_VOTE: &str =
     "DELETE FROM votes WHERE team = ?1 AND profile = ?2 AND number = ?3 AND voter = ?4";
@@ -35,22 +37,14 @@ pub fn put_vote<S: Alter>(
     ballot: Ballot,
 ) -> Result<(), StoreFault>
     requires { IsIdle (state S.Store conn.old) }
-    ensures put { (t : Tables) → Shows (state S.Store conn.old) t → HasCleanDisk (state S.Store conn.new) → OnOk result (Shows (state S.Store conn.new) (with_vote profile.now number voter.now (record { approves = ballot.approves; security = ballot.security }) t)) }
-    ensures same { (t : Tables) → Shows (state S.Store conn.old) t → HasCleanDisk (state S.Store conn.new) → OnErr result (ShowsIfOpen (state S.Store conn.new) t) }
-    ensures formed { (t : Tables) → Shows (state S.Store conn.old) t → HasCleanDisk (state S.Store conn.new) → result ≢ Err StoreFault.NotAnOffice }
-    ensures idle { IsIdle (state S.Store conn.new) }
-    ensures clean { HasCleanDisk (state S.Store conn.new) → HasCleanDisk (state S.Store conn.old) }
-    ensures kept { (t : Tables) → Shows (state S.Store conn.old) t → HasCleanDisk (state S.Store conn.new) → OnOk result (LeavesOnly (state S.Store conn.new) (with_vote profile.now number voter.now (record { approves = ballot.approves; security = ballot.security }) t)) }
-    ensures crash { (t : Tables) → Shows (state S.Store conn.old) t → Survives (state S.Store conn.old) (state S.Store conn.new) (λ trees. AreOffice trees (with_vote profile.now number voter.now (record { approves = ballot.approves; security = ballot.security }) t)) }
+    ensures write { IsWrite (state S.Store conn.old) (state S.Store conn.new) result (Into (with_vote profile.now number voter.now (record { approves = ballot.approves; security = ballot.security }))) }
+    ensures cause { HasCleanDisk (state S.Store conn.new) → IfErr result (IsCause S.Store (putting_vote (record { profile = profile.now; number = number; voter = voter.now }, record { approves = ballot.approves; security = ballot.security })) conn.old) }
 {
-    let team = profile.team.as_str();
-    let name = profile.profile.as_str();
-    let voter = voter.as_str();
     write_two(
         conn,
         DELETE_VOTE,
-        params![team, name, number, voter],
+        &of_voter(profile, number, voter),
         INSERT_VOTE,
-        params![team, name, number, voter, ballot.approves, ballot.security],
+        &of_vote(profile, number, voter, ballot),
     )
 }

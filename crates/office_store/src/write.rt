@@ -1,12 +1,12 @@
 //! A write: statements in one transaction.
 
-ghost use Rattle.std.specs.Prelude.{◌≡◌, ◌≢◌, [], ◌∷◌, map, Err, OnOk, OnErr};
+ghost use Rattle.std.specs.Prelude.{◌≡◌, ◌<◌, [], ◌∷◌, length, map, IfErr};
 ghost use Rattle.sqlite.specs.Held.{state};
-ghost use Rattle.sqlite.specs.State.{HasCleanDisk, Survives};
-ghost use Rattle.office_tables.specs.Tables.{Tables};
-ghost use Rattle.office_rows.specs.Statements.{statement_of};
-ghost use Rattle.office_store.specs.Shown.{IsIdle, Shows, ShowsIfOpen, AreOffice, LeavesOnly};
+ghost use Rattle.sqlite.specs.State.{HasCleanDisk};
 ghost use Rattle.sqlite.specs.Values.{bound};
+ghost use Rattle.office_rows.specs.Statements.{statement_of, IsCause};
+ghost use Rattle.office_store.specs.Calls.{IsWrite};
+ghost use Rattle.office_store.specs.Shown.{IsIdle};
 ghost use Rattle.office_store.specs.Steps.{statement, AreSteps};
 
 use office_rows::{Statement, fault_of, run_all};
@@ -19,14 +19,10 @@ fn write<S: Alter>(
     conn: &mut Connection<S>,
     statements: &[Statement<'_, '_>],
 ) -> Result<(), StoreFault>
-    requires { IsIdle (state S.Store conn.old) }
-    ensures done { (t u : Tables) → Shows (state S.Store conn.old) t → AreSteps S.Store (map statement_of statements.now) t u → HasCleanDisk (state S.Store conn.new) → OnOk result (Shows (state S.Store conn.new) u) }
-    ensures same { (t u : Tables) → Shows (state S.Store conn.old) t → AreSteps S.Store (map statement_of statements.now) t u → HasCleanDisk (state S.Store conn.new) → OnErr result (ShowsIfOpen (state S.Store conn.new) t) }
-    ensures formed { (t u : Tables) → Shows (state S.Store conn.old) t → AreSteps S.Store (map statement_of statements.now) t u → HasCleanDisk (state S.Store conn.new) → result ≢ Err StoreFault.NotAnOffice }
-    ensures idle { IsIdle (state S.Store conn.new) }
-    ensures clean { HasCleanDisk (state S.Store conn.new) → HasCleanDisk (state S.Store conn.old) }
-    ensures kept { (t u : Tables) → Shows (state S.Store conn.old) t → AreSteps S.Store (map statement_of statements.now) t u → HasCleanDisk (state S.Store conn.new) → OnOk result (LeavesOnly (state S.Store conn.new) u) }
-    ensures crash { (t u : Tables) → Shows (state S.Store conn.old) t → AreSteps S.Store (map statement_of statements.now) t u → Survives (state S.Store conn.old) (state S.Store conn.new) (λ trees. AreOffice trees u) }
+    requires idle { IsIdle (state S.Store conn.old) }
+    requires some { 0 < length statements.now }
+    ensures write { IsWrite (state S.Store conn.old) (state S.Store conn.new) result (AreSteps S.Store (map statement_of statements.now)) }
+    ensures cause { HasCleanDisk (state S.Store conn.new) → IfErr result (IsCause S.Store (map statement_of statements.now) conn.old) }
 {
     match run_all(conn, statements) {
         Ok(()) => Ok(()),
@@ -41,13 +37,8 @@ pub(crate) fn write_one<'a, S: Alter>(
     params: &'a [ValueRef<'a>],
 ) -> Result<(), StoreFault>
     requires { IsIdle (state S.Store conn.old) }
-    ensures done { (t u : Tables) → Shows (state S.Store conn.old) t → AreSteps S.Store (statement first.now (bound params.now) ∷ []) t u → HasCleanDisk (state S.Store conn.new) → OnOk result (Shows (state S.Store conn.new) u) }
-    ensures same { (t u : Tables) → Shows (state S.Store conn.old) t → AreSteps S.Store (statement first.now (bound params.now) ∷ []) t u → HasCleanDisk (state S.Store conn.new) → OnErr result (ShowsIfOpen (state S.Store conn.new) t) }
-    ensures formed { (t u : Tables) → Shows (state S.Store conn.old) t → AreSteps S.Store (statement first.now (bound params.now) ∷ []) t u → HasCleanDisk (state S.Store conn.new) → result ≢ Err StoreFault.NotAnOffice }
-    ensures idle { IsIdle (state S.Store conn.new) }
-    ensures clean { HasCleanDisk (state S.Store conn.new) → HasCleanDisk (state S.Store conn.old) }
-    ensures kept { (t u : Tables) → Shows (state S.Store conn.old) t → AreSteps S.Store (statement first.now (bound params.now) ∷ []) t u → HasCleanDisk (state S.Store conn.new) → OnOk result (LeavesOnly (state S.Store conn.new) u) }
-    ensures crash { (t u : Tables) → Shows (state S.Store conn.old) t → AreSteps S.Store (statement first.now (bound params.now) ∷ []) t u → Survives (state S.Store conn.old) (state S.Store conn.new) (λ trees. AreOffice trees u) }
+    ensures write { IsWrite (state S.Store conn.old) (state S.Store conn.new) result (AreSteps S.Store (statement first.now (bound params.now) ∷ [])) }
+    ensures cause { HasCleanDisk (state S.Store conn.new) → IfErr result (IsCause S.Store (statement first.now (bound params.now) ∷ []) conn.old) }
 {
     write(conn, &[Statement { sql: first, params }])
 }
@@ -61,13 +52,8 @@ pub(crate) fn write_two<'a, S: Alter>(
     second_params: &'a [ValueRef<'a>],
 ) -> Result<(), StoreFault>
     requires { IsIdle (state S.Store conn.old) }
-    ensures done { (t u : Tables) → Shows (state S.Store conn.old) t → AreSteps S.Store (statement first.now (bound first_params.now) ∷ statement second.now (bound second_params.now) ∷ []) t u → HasCleanDisk (state S.Store conn.new) → OnOk result (Shows (state S.Store conn.new) u) }
-    ensures same { (t u : Tables) → Shows (state S.Store conn.old) t → AreSteps S.Store (statement first.now (bound first_params.now) ∷ statement second.now (bound second_params.now) ∷ []) t u → HasCleanDisk (state S.Store conn.new) → OnErr result (ShowsIfOpen (state S.Store conn.new) t) }
-    ensures formed { (t u : Tables) → Shows (state S.Store conn.old) t → AreSteps S.Store (statement first.now (bound first_params.now) ∷ statement second.now (bound second_params.now) ∷ []) t u → HasCleanDisk (state S.Store conn.new) → result ≢ Err StoreFault.NotAnOffice }
-    ensures idle { IsIdle (state S.Store conn.new) }
-    ensures clean { HasCleanDisk (state S.Store conn.new) → HasCleanDisk (state S.Store conn.old) }
-    ensures kept { (t u : Tables) → Shows (state S.Store conn.old) t → AreSteps S.Store (statement first.now (bound first_params.now) ∷ statement second.now (bound second_params.now) ∷ []) t u → HasCleanDisk (state S.Store conn.new) → OnOk result (LeavesOnly (state S.Store conn.new) u) }
-    ensures crash { (t u : Tables) → Shows (state S.Store conn.old) t → AreSteps S.Store (statement first.now (bound first_params.now) ∷ statement second.now (bound second_params.now) ∷ []) t u → Survives (state S.Store conn.old) (state S.Store conn.new) (λ trees. AreOffice trees u) }
+    ensures write { IsWrite (state S.Store conn.old) (state S.Store conn.new) result (AreSteps S.Store (statement first.now (bound first_params.now) ∷ statement second.now (bound second_params.now) ∷ [])) }
+    ensures cause { HasCleanDisk (state S.Store conn.new) → IfErr result (IsCause S.Store (statement first.now (bound first_params.now) ∷ statement second.now (bound second_params.now) ∷ []) conn.old) }
 {
     write(
         conn,

@@ -1,18 +1,17 @@
-use Rattle.std.proofs.Common.{rules, ◌≡◌, Err, sym, ◌∙◌, subst}
+use Rattle.std.proofs.Common.{rules, ◌≡◌, refl, sym, subst, ◌∙◌}
 use Rattle.std.proofs.lemmas.Result.{IfOk-weaker}
-use Rattle.office_tables.specs.declared.fault.StoreFault.TheVariants.{NotAnOffice}
+use Rattle.sqlite.specs.Held.{state}
+use Rattle.office_store.proofs.Calls.{read_failed, read_made}
 use Rattle.office_tables.specs.Lists.{AreAuthors}
 use Rattle.office_store.proofs.author.authors.Goals as goal
 
-pub returns-in_err-rows-clause-formed : goal.returns-in_err-rows-clause-formed
-returns-in_err-rows-clause-formed g c t shows clean same = let k : c.author_rows.result ≡ Err NotAnOffice = search rules in c.author_rows.ensures.fault t shows clean k
+pub returns-in_err-rows : goal.returns-in_err-rows
+returns-in_err-rows g c =
+    record { read = read_failed (state g.S.Store c.args.conn.now) (state g.S.Store c.author_rows.new.conn) _ _ c.author_rows.result c.author_rows.ensures.read _ _ c.in_err-rows.was (search rules) }
 
-pub returns-clause-found : goal.returns-clause-found
-returns-clause-found g c t shows clean =
-    let it = c.in_ok-rows.ensures.found t shows clean in
-    IfOk-weaker c.read_names.result (λ read. read.items ≡ it.names) (λ read. AreAuthors t c.args.profile.now read.items) (λ read is. subst (AreAuthors t c.args.profile.now) (sym is) it.authors) (c.read_names.ensures.names it.names (c.as_slice.ensures.value ∙ it.rows_are))
-
-pub returns-clause-formed : goal.returns-clause-formed
-returns-clause-formed g c t shows clean same =
-    let it = c.in_ok-rows.ensures.found t shows clean in
-    c.read_names.ensures.formed it.names (c.as_slice.ensures.value ∙ it.rows_are) it.formed same
+pub returns : goal.returns
+returns g c =
+    record {
+      read = read_made (state g.S.Store c.args.conn.now) (state g.S.Store c.author_rows.new.conn) _ _ _ c.in_ok-rows.ensures.read c.read_names.result _ refl
+          (λ t shows it. (IfOk-weaker c.read_names.result (λ read. read.items ≡ it.names) (λ read. AreAuthors t c.args.profile.now read.items) (λ read is. subst (AreAuthors t c.args.profile.now) (sym is) it.authors) (c.read_names.ensures.names it.names (c.as_slice.ensures.value ∙ it.rows_are)), c.read_names.ensures.formed it.names (c.as_slice.ensures.value ∙ it.rows_are) it.formed));
+    }

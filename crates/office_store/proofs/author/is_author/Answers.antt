@@ -1,11 +1,11 @@
-use Rattle.std.proofs.Common.{rules, ◌≡◌, Err, true, sym, subst}
-use Rattle.std.specs.Prelude.{◌↔◌}
-use Rattle.office_tables.specs.declared.fault.StoreFault.TheVariants.{NotAnOffice}
-use Rattle.office_tables.specs.Lists.{IsAuthor}
+use Rattle.sqlite.specs.Held.{state}
+use Rattle.office_store.proofs.Told.{whether_read}
 use Rattle.office_store.proofs.author.is_author.Goals as goal
 
-pub returns-in_err-row-clause-formed : goal.returns-in_err-row-clause-formed
-returns-in_err-row-clause-formed g c t shows clean same = let k : c.revision_by.result ≡ Err NotAnOffice = search rules in c.revision_by.ensures.fault t shows clean k
+pub returns-clause-read : goal.returns-clause-read
+returns-clause-read g c =
+    whether_read (state g.S.Store c.args.conn.now) (state g.S.Store c.revision_by.new.conn) _ _ c.revision_by.result c.is_there.result c.revision_by.ensures.read c.is_there.ensures
+    (λ t o found. found)
 
-pub returns-clause-found : goal.returns-clause-found
-returns-clause-found g c t shows clean = subst (λ found. found ≡ true ↔ IsAuthor t c.args.profile.now c.args.author.now) (sym c.is_some.ensures) (c.in_ok-row.ensures.found t shows clean)
+pub returns-clause-told : goal.returns-clause-told
+returns-clause-told g c clean = record { row = c.revision_by.result; found = c.revision_by.ensures.row clean; told = c.is_there.ensures }

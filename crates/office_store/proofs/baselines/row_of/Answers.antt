@@ -1,23 +1,15 @@
 use Rattle.sqlite.specs.Held.{state}
-use Rattle.office_store.proofs.OtherReads.{reads_baseline, baseline_crash}
+use Rattle.office_store.specs.declared.baselines.TheConstants.{BASELINE_OF}
+use Rattle.office_store.proofs.Calls.{first_read}
+use Rattle.office_store.proofs.Queries.{baseline_of}
+use Rattle.office_store.proofs.OtherReads.{reads_baseline}
 use Rattle.office_store.proofs.baselines.row_of.Goals as goal
 
-pub returns-clause-found : goal.returns-clause-found
-returns-clause-found g c t shows clean =
-    (reads_baseline (state g.S.Store c.args.conn.now) (state g.S.Store c.first_row.new.conn) t shows c.requires.autocommit c.args.team.now c.first_row.result (rw (c.params-to_sql.ensures) at (c.first_row.ensures.row clean))).0
+pub returns-clause-read : goal.returns-clause-read
+returns-clause-read g c =
+    first_read BASELINE_OF.now baseline_of _ _ (state g.S.Store c.args.conn.now) (state g.S.Store c.first_row.new.conn) c.first_row.result _ c.requires c.first_row.ensures.mode
+    (g.met.S.Store.settled c.first_row.new.conn.store) c.first_row.ensures.survives c.first_row.ensures.row c.of_word.ensures.row
+    (λ t shows h. let it = reads_baseline (state g.S.Store c.args.conn.now) (state g.S.Store c.first_row.new.conn) t shows c.requires.autocommit c.args.team.now c.first_row.result h in (it.0, it.1))
 
-pub returns-clause-fault : goal.returns-clause-fault
-returns-clause-fault g c t shows clean =
-    (reads_baseline (state g.S.Store c.args.conn.now) (state g.S.Store c.first_row.new.conn) t shows c.requires.autocommit c.args.team.now c.first_row.result (rw (c.params-to_sql.ensures) at (c.first_row.ensures.row clean))).1
-
-pub returns-clause-same : goal.returns-clause-same
-returns-clause-same g c t shows clean =
-    (reads_baseline (state g.S.Store c.args.conn.now) (state g.S.Store c.first_row.new.conn) t shows c.requires.autocommit c.args.team.now c.first_row.result (rw (c.params-to_sql.ensures) at (c.first_row.ensures.row clean))).2
-
-pub returns-clause-shown : goal.returns-clause-shown
-returns-clause-shown g c t shows clean =
-    (reads_baseline (state g.S.Store c.args.conn.now) (state g.S.Store c.first_row.new.conn) t shows c.requires.autocommit c.args.team.now c.first_row.result (rw (c.params-to_sql.ensures) at (c.first_row.ensures.row clean))).3
-
-pub returns-clause-crash : goal.returns-clause-crash
-returns-clause-crash g c t shows =
-    baseline_crash (state g.S.Store c.args.conn.now) (state g.S.Store c.first_row.new.conn) t shows c.requires.autocommit c.args.team.now (rw (c.params-to_sql.ensures) at (c.first_row.ensures.survives))
+pub returns-clause-row : goal.returns-clause-row
+returns-clause-row g c clean = rw c.of_word.ensures.row at (c.first_row.ensures.row clean)

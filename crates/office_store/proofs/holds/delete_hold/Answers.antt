@@ -1,18 +1,15 @@
+use Rattle.std.proofs.Common.{refl}
+use Rattle.sqlite.specs.Held.{state}
+use Rattle.office_store.proofs.Calls.{write_into}
 use Rattle.office_tables.specs.Changes.{without_hold}
+use Rattle.office_store.specs.Writes.{releasing}
 use Rattle.office_store.proofs.OtherWrites.{release_given}
 use Rattle.office_store.proofs.holds.delete_hold.Goals as goal
 
-pub returns-clause-released : goal.returns-clause-released
-returns-clause-released g c t shows clean = c.write_one.ensures.done t (without_hold c.args.profile.now t) shows (release_given g.S.Store c.args.profile.now t _ (rw (c.params-to_sql.ensures, c.params-to_sql-2.ensures, c.as_str-team.ensures.text, c.as_str-name.ensures.text))) clean
+pub returns-clause-write : goal.returns-clause-write
+returns-clause-write g c =
+    write_into g.S.Store (releasing c.args.profile.now) (state g.S.Store c.args.conn.now) (state g.S.Store c.write_one.new.conn) _ (without_hold c.args.profile.now)
+    (λ t. release_given g.S.Store c.args.profile.now t _ refl) (rw (c.of_profile.ensures.row) at c.write_one.ensures.write)
 
-pub returns-clause-same : goal.returns-clause-same
-returns-clause-same g c t shows clean = c.write_one.ensures.same t (without_hold c.args.profile.now t) shows (release_given g.S.Store c.args.profile.now t _ (rw (c.params-to_sql.ensures, c.params-to_sql-2.ensures, c.as_str-team.ensures.text, c.as_str-name.ensures.text))) clean
-
-pub returns-clause-formed : goal.returns-clause-formed
-returns-clause-formed g c t shows clean = c.write_one.ensures.formed t (without_hold c.args.profile.now t) shows (release_given g.S.Store c.args.profile.now t _ (rw (c.params-to_sql.ensures, c.params-to_sql-2.ensures, c.as_str-team.ensures.text, c.as_str-name.ensures.text))) clean
-
-pub returns-clause-kept : goal.returns-clause-kept
-returns-clause-kept g c t shows clean = c.write_one.ensures.kept t (without_hold c.args.profile.now t) shows (release_given g.S.Store c.args.profile.now t _ (rw (c.params-to_sql.ensures, c.params-to_sql-2.ensures, c.as_str-team.ensures.text, c.as_str-name.ensures.text))) clean
-
-pub returns-clause-crash : goal.returns-clause-crash
-returns-clause-crash g c t shows = c.write_one.ensures.crash t (without_hold c.args.profile.now t) shows (release_given g.S.Store c.args.profile.now t _ (rw (c.params-to_sql.ensures, c.params-to_sql-2.ensures, c.as_str-team.ensures.text, c.as_str-name.ensures.text)))
+pub returns-clause-cause : goal.returns-clause-cause
+returns-clause-cause g c clean = rw (c.of_profile.ensures.row) at (c.write_one.ensures.cause clean)

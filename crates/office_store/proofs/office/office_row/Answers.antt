@@ -1,23 +1,13 @@
+use Rattle.std.proofs.Common.{refl}
 use Rattle.sqlite.specs.Held.{state}
-use Rattle.office_store.proofs.OtherReads.{reads_listed, listed_crash}
+use Rattle.office_store.specs.declared.office.TheConstants.{LISTED}
+use Rattle.office_store.proofs.Calls.{first_read}
+use Rattle.office_store.proofs.Queries.{listed}
+use Rattle.office_store.proofs.OtherReads.{reads_listed}
 use Rattle.office_store.proofs.office.office_row.Goals as goal
 
-pub returns-clause-found : goal.returns-clause-found
-returns-clause-found g c t shows clean =
-    (reads_listed (state g.S.Store c.args.conn.now) (state g.S.Store c.first_row.new.conn) t shows c.requires.autocommit c.first_row.result (c.first_row.ensures.row clean)).0
-
-pub returns-clause-fault : goal.returns-clause-fault
-returns-clause-fault g c t shows clean =
-    (reads_listed (state g.S.Store c.args.conn.now) (state g.S.Store c.first_row.new.conn) t shows c.requires.autocommit c.first_row.result (c.first_row.ensures.row clean)).1
-
-pub returns-clause-same : goal.returns-clause-same
-returns-clause-same g c t shows clean =
-    (reads_listed (state g.S.Store c.args.conn.now) (state g.S.Store c.first_row.new.conn) t shows c.requires.autocommit c.first_row.result (c.first_row.ensures.row clean)).2
-
-pub returns-clause-shown : goal.returns-clause-shown
-returns-clause-shown g c t shows clean =
-    (reads_listed (state g.S.Store c.args.conn.now) (state g.S.Store c.first_row.new.conn) t shows c.requires.autocommit c.first_row.result (c.first_row.ensures.row clean)).3
-
-pub returns-clause-crash : goal.returns-clause-crash
-returns-clause-crash g c t shows =
-    listed_crash (state g.S.Store c.args.conn.now) (state g.S.Store c.first_row.new.conn) t shows c.requires.autocommit (c.first_row.ensures.survives)
+pub returns-clause-read : goal.returns-clause-read
+returns-clause-read g c =
+    first_read LISTED.now listed _ _ (state g.S.Store c.args.conn.now) (state g.S.Store c.first_row.new.conn) c.first_row.result _ c.requires c.first_row.ensures.mode
+    (g.met.S.Store.settled c.first_row.new.conn.store) c.first_row.ensures.survives c.first_row.ensures.row refl
+    (λ t shows h. let it = reads_listed (state g.S.Store c.args.conn.now) (state g.S.Store c.first_row.new.conn) t shows c.requires.autocommit c.first_row.result h in (it.0, it.1))

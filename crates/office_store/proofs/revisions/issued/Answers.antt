@@ -1,25 +1,22 @@
-use Rattle.std.proofs.Common.{rules, ◌≡◌, Err, sym, ◌∙◌, subst, Some}
+use Rattle.std.proofs.Common.{Some, sym, ◌∙◌, subst}
 use Rattle.sqlite.specs.Held.{state}
-use Rattle.office_tables.specs.declared.fault.StoreFault.TheVariants.{NotAnOffice}
 use Rattle.office_tables.specs.declared.row.RevisionRow.{RevisionRow}
+use Rattle.office_store.specs.Entries.{revision_columns, IsRevisionForm}
 use Rattle.office_store.specs.Reads.{IsIssued}
 use Rattle.office_store.proofs.RevisionReads.{revision_formed, same_columns}
+use Rattle.office_store.proofs.Told.{one_read}
 use Rattle.office_store.proofs.revisions.issued.Goals as goal
 
-pub returns-in_err-row-clause-formed : goal.returns-in_err-row-clause-formed
-returns-in_err-row-clause-formed g c t shows clean same = let k : c.issued_row.result ≡ Err NotAnOffice = search rules in c.issued_row.ensures.fault t shows clean k
+pub returns-clause-read : goal.returns-clause-read
+returns-clause-read g c =
+    one_read revision_columns IsRevisionForm (state g.S.Store c.args.conn.now) (state g.S.Store c.issued_row.new.conn) _ _ c.issued_row.result c.revision_of.result c.issued_row.ensures.read c.revision_of.ensures
+    (λ t shows none. none)
+    (λ t shows w it. (
+      it.0,
+      (c.args.profile.now, revision_formed (state g.S.Store c.args.conn.now) (state g.S.Store c.issued_row.new.conn) t shows c.args.profile.now _ it.0 it.1.0),
+      it.2,
+      λ y is. subst (λ (r : RevisionRow). IsIssued t c.args.profile.now (Some r)) (same_columns it.0 y (sym it.2 ∙ is)) it.1,
+    ))
 
-pub returns-in_err-read_revision-in-Some-clause-formed : goal.returns-in_err-read_revision-in-Some-clause-formed
-returns-in_err-read_revision-in-Some-clause-formed g c t shows clean same =
-    let it = rw c.in-Some.is at (c.in_ok-row.ensures.found t shows clean) in
-    let k : c.read_revision.result ≡ Err NotAnOffice = search rules in
-    c.read_revision.ensures.formed c.args.profile.now it.0 (revision_formed (state g.S.Store c.args.conn.now) (state g.S.Store c.issued_row.new.conn) t shows c.args.profile.now _ it.0 it.1.0) it.2 k
-
-pub returns-in_ok-read_revision-in-Some-clause-found : goal.returns-in_ok-read_revision-in-Some-clause-found
-returns-in_ok-read_revision-in-Some-clause-found g c t shows clean =
-    let it = rw c.in-Some.is at (c.in_ok-row.ensures.found t shows clean) in
-    let same = same_columns it.0 c.in_ok-read_revision-in-Some.field-0 (sym it.2 ∙ c.in_ok-read_revision-in-Some.ensures.revision) in
-    subst (λ (r : RevisionRow). IsIssued t c.args.profile.now (Some r)) same it.1
-
-pub returns-in-None-clause-found : goal.returns-in-None-clause-found
-returns-in-None-clause-found g c t shows clean = rw c.in-None.is at (c.in_ok-row.ensures.found t shows clean)
+pub returns-clause-told : goal.returns-clause-told
+returns-clause-told g c clean = record { row = c.issued_row.result; found = c.issued_row.ensures.row clean; told = c.revision_of.ensures }

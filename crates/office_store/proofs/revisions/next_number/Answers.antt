@@ -1,13 +1,24 @@
-use Rattle.std.proofs.Common.{rules, ◌≡◌, None, Some, Ok, Err, refl}
-use Rattle.office_tables.specs.declared.fault.StoreFault.TheVariants.{NotAnOffice}
+use Rattle.std.proofs.Common.{rules, Some, None, Ok, refl}
+use Rattle.std.proofs.lemmas.Result.{IfErr-at_err}
+use Rattle.sqlite.specs.Held.{state}
+use Rattle.office_store.proofs.Calls.{read_failed, read_made}
 use Rattle.office_store.proofs.Numbers.{next_is}
 use Rattle.office_store.proofs.revisions.next_number.Goals as goal
 
-pub returns-in_err-revision-clause-formed : goal.returns-in_err-revision-clause-formed
-returns-in_err-revision-clause-formed g c t shows clean same = let k : c.last.result ≡ Err NotAnOffice = search rules in c.last.ensures.formed t shows clean k
+pub returns-in_err-revision : goal.returns-in_err-revision
+returns-in_err-revision g c =
+    record { read = read_failed (state g.S.Store c.args.conn.now) (state g.S.Store c.last.new.conn) _ _ c.last.result c.last.ensures.read _ _ c.in_err-revision.was (search rules) }
 
-pub returns-in-Some-clause-found : goal.returns-in-Some-clause-found
-returns-in-Some-clause-found g c t shows clean = next_is t c.args.profile.now (Some c.in-Some.revision) (rw c.in-Some.is at (c.in_ok-revision.ensures.found t shows clean)) c.number_after.result c.number_after.ensures.value
+pub returns-in-Some : goal.returns-in-Some
+returns-in-Some g c =
+    record {
+      read = read_made (state g.S.Store c.args.conn.now) (state g.S.Store c.last.new.conn) _ _ _ c.in_ok-revision.ensures.read c.number_after.result _ refl
+          (λ t shows last. (next_is t c.args.profile.now (Some c.in-Some.revision) (rw c.in-Some.is at last) c.number_after.result c.number_after.ensures.value, λ same. let z = IfErr-at_err _ same c.number_after.ensures.full in cc));
+    }
 
-pub returns-in-None-clause-found : goal.returns-in-None-clause-found
-returns-in-None-clause-found g c t shows clean = next_is t c.args.profile.now None (rw c.in-None.is at (c.in_ok-revision.ensures.found t shows clean)) (Ok 1) refl
+pub returns-in-None : goal.returns-in-None
+returns-in-None g c =
+    record {
+      read = read_made (state g.S.Store c.args.conn.now) (state g.S.Store c.last.new.conn) _ _ _ c.in_ok-revision.ensures.read _ _ refl
+          (λ t shows last. (next_is t c.args.profile.now None (rw c.in-None.is at last) (Ok 1) refl, λ same. cc));
+    }

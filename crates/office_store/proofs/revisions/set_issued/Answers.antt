@@ -1,18 +1,15 @@
+use Rattle.std.proofs.Common.{refl}
+use Rattle.sqlite.specs.Held.{state}
+use Rattle.office_store.proofs.Calls.{write_into}
 use Rattle.office_tables.specs.Changes.{with_issued}
+use Rattle.office_store.specs.Writes.{issuing}
 use Rattle.office_store.proofs.RevisionWrites.{issue_given}
 use Rattle.office_store.proofs.revisions.set_issued.Goals as goal
 
-pub returns-clause-issued : goal.returns-clause-issued
-returns-clause-issued g c t shows clean = c.write_two.ensures.done t (with_issued c.args.profile.now c.args.number t) shows (issue_given g.S.Store c.args.profile.now c.args.number t _ _ (rw (c.params-to_sql.ensures, c.params-to_sql-2.ensures, c.as_str-team.ensures.text, c.as_str-name.ensures.text)) (rw (c.params-to_sql-3.ensures, c.params-to_sql-4.ensures, c.params-to_sql-5.ensures, c.as_str-team.ensures.text, c.as_str-name.ensures.text))) clean
+pub returns-clause-write : goal.returns-clause-write
+returns-clause-write g c =
+    write_into g.S.Store (issuing c.args.profile.now c.args.number) (state g.S.Store c.args.conn.now) (state g.S.Store c.write_two.new.conn) _ (with_issued c.args.profile.now c.args.number)
+    (λ t. issue_given g.S.Store c.args.profile.now c.args.number t _ _ refl refl) (rw (c.of_profile.ensures.row, c.of_number.ensures.row) at c.write_two.ensures.write)
 
-pub returns-clause-same : goal.returns-clause-same
-returns-clause-same g c t shows clean = c.write_two.ensures.same t (with_issued c.args.profile.now c.args.number t) shows (issue_given g.S.Store c.args.profile.now c.args.number t _ _ (rw (c.params-to_sql.ensures, c.params-to_sql-2.ensures, c.as_str-team.ensures.text, c.as_str-name.ensures.text)) (rw (c.params-to_sql-3.ensures, c.params-to_sql-4.ensures, c.params-to_sql-5.ensures, c.as_str-team.ensures.text, c.as_str-name.ensures.text))) clean
-
-pub returns-clause-formed : goal.returns-clause-formed
-returns-clause-formed g c t shows clean = c.write_two.ensures.formed t (with_issued c.args.profile.now c.args.number t) shows (issue_given g.S.Store c.args.profile.now c.args.number t _ _ (rw (c.params-to_sql.ensures, c.params-to_sql-2.ensures, c.as_str-team.ensures.text, c.as_str-name.ensures.text)) (rw (c.params-to_sql-3.ensures, c.params-to_sql-4.ensures, c.params-to_sql-5.ensures, c.as_str-team.ensures.text, c.as_str-name.ensures.text))) clean
-
-pub returns-clause-kept : goal.returns-clause-kept
-returns-clause-kept g c t shows clean = c.write_two.ensures.kept t (with_issued c.args.profile.now c.args.number t) shows (issue_given g.S.Store c.args.profile.now c.args.number t _ _ (rw (c.params-to_sql.ensures, c.params-to_sql-2.ensures, c.as_str-team.ensures.text, c.as_str-name.ensures.text)) (rw (c.params-to_sql-3.ensures, c.params-to_sql-4.ensures, c.params-to_sql-5.ensures, c.as_str-team.ensures.text, c.as_str-name.ensures.text))) clean
-
-pub returns-clause-crash : goal.returns-clause-crash
-returns-clause-crash g c t shows = c.write_two.ensures.crash t (with_issued c.args.profile.now c.args.number t) shows (issue_given g.S.Store c.args.profile.now c.args.number t _ _ (rw (c.params-to_sql.ensures, c.params-to_sql-2.ensures, c.as_str-team.ensures.text, c.as_str-name.ensures.text)) (rw (c.params-to_sql-3.ensures, c.params-to_sql-4.ensures, c.params-to_sql-5.ensures, c.as_str-team.ensures.text, c.as_str-name.ensures.text)))
+pub returns-clause-cause : goal.returns-clause-cause
+returns-clause-cause g c clean = rw (c.of_profile.ensures.row, c.of_number.ensures.row) at (c.write_two.ensures.cause clean)

@@ -1,18 +1,15 @@
+use Rattle.std.proofs.Common.{refl}
+use Rattle.sqlite.specs.Held.{state}
+use Rattle.office_store.proofs.Calls.{write_into}
 use Rattle.office_tables.specs.Changes.{with_withdrawn}
+use Rattle.office_store.specs.Writes.{withdrawing}
 use Rattle.office_store.proofs.RevisionWrites.{withdraw_given}
 use Rattle.office_store.proofs.revisions.set_withdrawn.Goals as goal
 
-pub returns-clause-withdrawn : goal.returns-clause-withdrawn
-returns-clause-withdrawn g c t shows clean = c.write_one.ensures.done t (with_withdrawn c.args.profile.now c.args.number t) shows (withdraw_given g.S.Store c.args.profile.now c.args.number t _ (rw (c.params-to_sql.ensures, c.params-to_sql-2.ensures, c.params-to_sql-3.ensures, c.as_str-team.ensures.text, c.as_str-name.ensures.text))) clean
+pub returns-clause-write : goal.returns-clause-write
+returns-clause-write g c =
+    write_into g.S.Store (withdrawing c.args.profile.now c.args.number) (state g.S.Store c.args.conn.now) (state g.S.Store c.write_one.new.conn) _ (with_withdrawn c.args.profile.now c.args.number)
+    (λ t. withdraw_given g.S.Store c.args.profile.now c.args.number t _ refl) (rw (c.of_number.ensures.row) at c.write_one.ensures.write)
 
-pub returns-clause-same : goal.returns-clause-same
-returns-clause-same g c t shows clean = c.write_one.ensures.same t (with_withdrawn c.args.profile.now c.args.number t) shows (withdraw_given g.S.Store c.args.profile.now c.args.number t _ (rw (c.params-to_sql.ensures, c.params-to_sql-2.ensures, c.params-to_sql-3.ensures, c.as_str-team.ensures.text, c.as_str-name.ensures.text))) clean
-
-pub returns-clause-formed : goal.returns-clause-formed
-returns-clause-formed g c t shows clean = c.write_one.ensures.formed t (with_withdrawn c.args.profile.now c.args.number t) shows (withdraw_given g.S.Store c.args.profile.now c.args.number t _ (rw (c.params-to_sql.ensures, c.params-to_sql-2.ensures, c.params-to_sql-3.ensures, c.as_str-team.ensures.text, c.as_str-name.ensures.text))) clean
-
-pub returns-clause-kept : goal.returns-clause-kept
-returns-clause-kept g c t shows clean = c.write_one.ensures.kept t (with_withdrawn c.args.profile.now c.args.number t) shows (withdraw_given g.S.Store c.args.profile.now c.args.number t _ (rw (c.params-to_sql.ensures, c.params-to_sql-2.ensures, c.params-to_sql-3.ensures, c.as_str-team.ensures.text, c.as_str-name.ensures.text))) clean
-
-pub returns-clause-crash : goal.returns-clause-crash
-returns-clause-crash g c t shows = c.write_one.ensures.crash t (with_withdrawn c.args.profile.now c.args.number t) shows (withdraw_given g.S.Store c.args.profile.now c.args.number t _ (rw (c.params-to_sql.ensures, c.params-to_sql-2.ensures, c.params-to_sql-3.ensures, c.as_str-team.ensures.text, c.as_str-name.ensures.text)))
+pub returns-clause-cause : goal.returns-clause-cause
+returns-clause-cause g c clean = rw (c.of_number.ensures.row) at (c.write_one.ensures.cause clean)

@@ -1,23 +1,14 @@
 use Rattle.sqlite.specs.Held.{state}
-use Rattle.office_store.proofs.VoteReads.{reads_votes, votes_crash}
+use Rattle.office_store.specs.declared.standing_votes.TheConstants.{VOTES_ON}
+use Rattle.office_store.proofs.Calls.{rows_read}
+use Rattle.office_store.proofs.Queries.{votes_on}
+use Rattle.office_store.proofs.VoteReads.{reads_votes}
 use Rattle.office_store.proofs.standing_votes.vote_rows.Goals as goal
 
-pub returns-clause-found : goal.returns-clause-found
-returns-clause-found g c t shows clean =
-    (reads_votes (state g.S.Store c.args.conn.now) (state g.S.Store c.all_rows.new.conn) t shows c.requires.autocommit (λ rows. rows.items) c.args.profile.now c.args.number c.all_rows.result (rw (c.params-to_sql.ensures, c.params-to_sql-2.ensures, c.params-to_sql-3.ensures, c.as_str-team.ensures.text, c.as_str-profile.ensures.text) at (c.all_rows.ensures.rows clean)) (rw (c.params-to_sql.ensures, c.params-to_sql-2.ensures, c.params-to_sql-3.ensures, c.as_str-team.ensures.text, c.as_str-profile.ensures.text) at (c.all_rows.ensures.fault clean))).found
-
-pub returns-clause-fault : goal.returns-clause-fault
-returns-clause-fault g c t shows clean =
-    (reads_votes (state g.S.Store c.args.conn.now) (state g.S.Store c.all_rows.new.conn) t shows c.requires.autocommit (λ rows. rows.items) c.args.profile.now c.args.number c.all_rows.result (rw (c.params-to_sql.ensures, c.params-to_sql-2.ensures, c.params-to_sql-3.ensures, c.as_str-team.ensures.text, c.as_str-profile.ensures.text) at (c.all_rows.ensures.rows clean)) (rw (c.params-to_sql.ensures, c.params-to_sql-2.ensures, c.params-to_sql-3.ensures, c.as_str-team.ensures.text, c.as_str-profile.ensures.text) at (c.all_rows.ensures.fault clean))).formed
-
-pub returns-clause-shown : goal.returns-clause-shown
-returns-clause-shown g c t shows clean =
-    (reads_votes (state g.S.Store c.args.conn.now) (state g.S.Store c.all_rows.new.conn) t shows c.requires.autocommit (λ rows. rows.items) c.args.profile.now c.args.number c.all_rows.result (rw (c.params-to_sql.ensures, c.params-to_sql-2.ensures, c.params-to_sql-3.ensures, c.as_str-team.ensures.text, c.as_str-profile.ensures.text) at (c.all_rows.ensures.rows clean)) (rw (c.params-to_sql.ensures, c.params-to_sql-2.ensures, c.params-to_sql-3.ensures, c.as_str-team.ensures.text, c.as_str-profile.ensures.text) at (c.all_rows.ensures.fault clean))).shown
-
-pub returns-clause-same : goal.returns-clause-same
-returns-clause-same g c t shows clean =
-    (reads_votes (state g.S.Store c.args.conn.now) (state g.S.Store c.all_rows.new.conn) t shows c.requires.autocommit (λ rows. rows.items) c.args.profile.now c.args.number c.all_rows.result (rw (c.params-to_sql.ensures, c.params-to_sql-2.ensures, c.params-to_sql-3.ensures, c.as_str-team.ensures.text, c.as_str-profile.ensures.text) at (c.all_rows.ensures.rows clean)) (rw (c.params-to_sql.ensures, c.params-to_sql-2.ensures, c.params-to_sql-3.ensures, c.as_str-team.ensures.text, c.as_str-profile.ensures.text) at (c.all_rows.ensures.fault clean))).same
-
-pub returns-clause-crash : goal.returns-clause-crash
-returns-clause-crash g c t shows =
-    votes_crash (state g.S.Store c.args.conn.now) (state g.S.Store c.all_rows.new.conn) t shows c.args.profile.now c.args.number (rw (c.params-to_sql.ensures, c.params-to_sql-2.ensures, c.params-to_sql-3.ensures, c.as_str-team.ensures.text, c.as_str-profile.ensures.text) at (c.all_rows.ensures.survives))
+pub returns : goal.returns
+returns g c =
+    record {
+      read = rows_read (λ rows. rows.items) VOTES_ON.now votes_on _ _ (state g.S.Store c.args.conn.now) (state g.S.Store c.all_rows.new.conn) c.all_rows.result _ c.requires c.all_rows.ensures.mode
+          (g.met.S.Store.settled c.all_rows.new.conn.store) c.all_rows.ensures.survives c.all_rows.ensures.rows c.all_rows.ensures.fault c.of_number.ensures.row
+          (λ t shows rows fault. let it = reads_votes (state g.S.Store c.args.conn.now) (state g.S.Store c.all_rows.new.conn) t shows c.requires.autocommit (λ rows. rows.items) c.args.profile.now c.args.number c.all_rows.result rows fault in (it.found, it.formed));
+    }

@@ -1,27 +1,22 @@
-use Rattle.std.proofs.Common.{rules, ◌≡◌, Err, sym, ◌∙◌, subst, Some}
+use Rattle.std.proofs.Common.{Some, sym, ◌∙◌, subst}
 use Rattle.sqlite.specs.Held.{state}
-use Rattle.office_tables.specs.declared.fault.StoreFault.TheVariants.{NotAnOffice}
 use Rattle.office_tables.specs.declared.row.UserRow.{UserRow}
 use Rattle.office_tables.specs.Reads.{IsUserShowing}
+use Rattle.office_store.specs.Entries.{user_row, IsUser}
 use Rattle.office_store.proofs.UserReads.{user_formed, same_user}
+use Rattle.office_store.proofs.Told.{one_read}
 use Rattle.office_store.proofs.users.user_by_token.Goals as goal
 
-pub returns-in_err-row-clause-formed : goal.returns-in_err-row-clause-formed
-returns-in_err-row-clause-formed g c t shows clean same = let k : c.row_showing.result ≡ Err NotAnOffice = search rules in c.row_showing.ensures.fault t shows clean k
+pub returns-clause-read : goal.returns-clause-read
+returns-clause-read g c =
+    one_read user_row IsUser (state g.S.Store c.args.conn.now) (state g.S.Store c.row_showing.new.conn) _ _ c.row_showing.result c.user_of.result c.row_showing.ensures.read c.user_of.ensures
+    (λ t shows none. none)
+    (λ t shows w it. (
+      it.0,
+      user_formed (state g.S.Store c.args.conn.now) (state g.S.Store c.row_showing.new.conn) t shows it.0 it.1.0,
+      it.2,
+      λ y is. subst (λ (u : UserRow). IsUserShowing t c.args.digest.now (Some u)) (same_user it.0 y (sym it.2 ∙ is)) it.1,
+    ))
 
-pub returns-in_err-read_user-in-Some-clause-formed :
-    goal.returns-in_err-read_user-in-Some-clause-formed
-returns-in_err-read_user-in-Some-clause-formed g c t shows clean same =
-    let it = rw c.in-Some.is at (c.in_ok-row.ensures.found t shows clean) in
-    let k : c.read_user.result ≡ Err NotAnOffice = search rules in
-    c.read_user.ensures.formed it.0 (user_formed (state g.S.Store c.args.conn.now) (state g.S.Store c.row_showing.new.conn) t shows it.0 it.1.0) it.2 k
-
-pub returns-in_ok-read_user-in-Some-clause-found :
-    goal.returns-in_ok-read_user-in-Some-clause-found
-returns-in_ok-read_user-in-Some-clause-found g c t shows clean =
-    let it = rw (c.in-Some.is, c.as_slice.ensures) at (c.in_ok-row.ensures.found t shows clean) in
-    let same = same_user it.0 c.in_ok-read_user-in-Some.field-0 (sym it.2 ∙ c.in_ok-read_user-in-Some.ensures.user) in
-    subst (λ (u : UserRow). IsUserShowing t c.args.digest.now (Some u)) same it.1
-
-pub returns-in-None-clause-found : goal.returns-in-None-clause-found
-returns-in-None-clause-found g c t shows clean = rw (c.in-None.is, c.as_slice.ensures) at (c.in_ok-row.ensures.found t shows clean)
+pub returns-clause-told : goal.returns-clause-told
+returns-clause-told g c clean = record { row = c.row_showing.result; found = c.row_showing.ensures.row clean; told = c.user_of.ensures }

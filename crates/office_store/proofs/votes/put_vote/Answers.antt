@@ -1,19 +1,15 @@
-use Rattle.std.proofs.Common.{rules}
+use Rattle.std.proofs.Common.{refl}
+use Rattle.sqlite.specs.Held.{state}
+use Rattle.office_store.proofs.Calls.{write_into}
 use Rattle.office_tables.specs.Changes.{with_vote}
+use Rattle.office_store.specs.Writes.{putting_vote}
 use Rattle.office_store.proofs.OtherWrites.{vote_given}
 use Rattle.office_store.proofs.votes.put_vote.Goals as goal
 
-pub returns-clause-put : goal.returns-clause-put
-returns-clause-put g c t shows clean = c.write_two.ensures.done t (with_vote c.args.profile.now c.args.number c.args.voter.now (record { approves = c.args.ballot.approves; security = c.args.ballot.security }) t) shows (vote_given g.S.Store c.args.profile.now c.args.number c.args.voter.now (record { approves = c.args.ballot.approves; security = c.args.ballot.security }) t (record { profile = record { team = c.as_str-team.ensures.formed; profile = c.as_str-name.ensures.formed }; number = search rules; voter = c.as_str-voter.ensures.formed }) _ _ (rw (c.params-to_sql.ensures, c.params-to_sql-2.ensures, c.params-to_sql-3.ensures, c.params-to_sql-4.ensures, c.as_str-team.ensures.text, c.as_str-name.ensures.text, c.as_str-voter.ensures.text)) (rw (c.params-to_sql-5.ensures, c.params-to_sql-6.ensures, c.params-to_sql-7.ensures, c.params-to_sql-8.ensures, c.params-to_sql-9.ensures, c.params-to_sql-10.ensures, c.as_str-team.ensures.text, c.as_str-name.ensures.text, c.as_str-voter.ensures.text))) clean
+pub returns-clause-write : goal.returns-clause-write
+returns-clause-write g c =
+    write_into g.S.Store (putting_vote ((record { profile = c.args.profile.now; number = c.args.number; voter = c.args.voter.now }), (record { approves = c.args.ballot.approves; security = c.args.ballot.security }))) (state g.S.Store c.args.conn.now) (state g.S.Store c.write_two.new.conn) _ (with_vote c.args.profile.now c.args.number c.args.voter.now (record { approves = c.args.ballot.approves; security = c.args.ballot.security }))
+    (λ t. vote_given g.S.Store c.args.profile.now c.args.number c.args.voter.now (record { approves = c.args.ballot.approves; security = c.args.ballot.security }) t c.of_vote.ensures.formed _ _ refl refl) (rw (c.of_voter.ensures.row, c.of_vote.ensures.row) at c.write_two.ensures.write)
 
-pub returns-clause-same : goal.returns-clause-same
-returns-clause-same g c t shows clean = c.write_two.ensures.same t (with_vote c.args.profile.now c.args.number c.args.voter.now (record { approves = c.args.ballot.approves; security = c.args.ballot.security }) t) shows (vote_given g.S.Store c.args.profile.now c.args.number c.args.voter.now (record { approves = c.args.ballot.approves; security = c.args.ballot.security }) t (record { profile = record { team = c.as_str-team.ensures.formed; profile = c.as_str-name.ensures.formed }; number = search rules; voter = c.as_str-voter.ensures.formed }) _ _ (rw (c.params-to_sql.ensures, c.params-to_sql-2.ensures, c.params-to_sql-3.ensures, c.params-to_sql-4.ensures, c.as_str-team.ensures.text, c.as_str-name.ensures.text, c.as_str-voter.ensures.text)) (rw (c.params-to_sql-5.ensures, c.params-to_sql-6.ensures, c.params-to_sql-7.ensures, c.params-to_sql-8.ensures, c.params-to_sql-9.ensures, c.params-to_sql-10.ensures, c.as_str-team.ensures.text, c.as_str-name.ensures.text, c.as_str-voter.ensures.text))) clean
-
-pub returns-clause-formed : goal.returns-clause-formed
-returns-clause-formed g c t shows clean = c.write_two.ensures.formed t (with_vote c.args.profile.now c.args.number c.args.voter.now (record { approves = c.args.ballot.approves; security = c.args.ballot.security }) t) shows (vote_given g.S.Store c.args.profile.now c.args.number c.args.voter.now (record { approves = c.args.ballot.approves; security = c.args.ballot.security }) t (record { profile = record { team = c.as_str-team.ensures.formed; profile = c.as_str-name.ensures.formed }; number = search rules; voter = c.as_str-voter.ensures.formed }) _ _ (rw (c.params-to_sql.ensures, c.params-to_sql-2.ensures, c.params-to_sql-3.ensures, c.params-to_sql-4.ensures, c.as_str-team.ensures.text, c.as_str-name.ensures.text, c.as_str-voter.ensures.text)) (rw (c.params-to_sql-5.ensures, c.params-to_sql-6.ensures, c.params-to_sql-7.ensures, c.params-to_sql-8.ensures, c.params-to_sql-9.ensures, c.params-to_sql-10.ensures, c.as_str-team.ensures.text, c.as_str-name.ensures.text, c.as_str-voter.ensures.text))) clean
-
-pub returns-clause-kept : goal.returns-clause-kept
-returns-clause-kept g c t shows clean = c.write_two.ensures.kept t (with_vote c.args.profile.now c.args.number c.args.voter.now (record { approves = c.args.ballot.approves; security = c.args.ballot.security }) t) shows (vote_given g.S.Store c.args.profile.now c.args.number c.args.voter.now (record { approves = c.args.ballot.approves; security = c.args.ballot.security }) t (record { profile = record { team = c.as_str-team.ensures.formed; profile = c.as_str-name.ensures.formed }; number = search rules; voter = c.as_str-voter.ensures.formed }) _ _ (rw (c.params-to_sql.ensures, c.params-to_sql-2.ensures, c.params-to_sql-3.ensures, c.params-to_sql-4.ensures, c.as_str-team.ensures.text, c.as_str-name.ensures.text, c.as_str-voter.ensures.text)) (rw (c.params-to_sql-5.ensures, c.params-to_sql-6.ensures, c.params-to_sql-7.ensures, c.params-to_sql-8.ensures, c.params-to_sql-9.ensures, c.params-to_sql-10.ensures, c.as_str-team.ensures.text, c.as_str-name.ensures.text, c.as_str-voter.ensures.text))) clean
-
-pub returns-clause-crash : goal.returns-clause-crash
-returns-clause-crash g c t shows = c.write_two.ensures.crash t (with_vote c.args.profile.now c.args.number c.args.voter.now (record { approves = c.args.ballot.approves; security = c.args.ballot.security }) t) shows (vote_given g.S.Store c.args.profile.now c.args.number c.args.voter.now (record { approves = c.args.ballot.approves; security = c.args.ballot.security }) t (record { profile = record { team = c.as_str-team.ensures.formed; profile = c.as_str-name.ensures.formed }; number = search rules; voter = c.as_str-voter.ensures.formed }) _ _ (rw (c.params-to_sql.ensures, c.params-to_sql-2.ensures, c.params-to_sql-3.ensures, c.params-to_sql-4.ensures, c.as_str-team.ensures.text, c.as_str-name.ensures.text, c.as_str-voter.ensures.text)) (rw (c.params-to_sql-5.ensures, c.params-to_sql-6.ensures, c.params-to_sql-7.ensures, c.params-to_sql-8.ensures, c.params-to_sql-9.ensures, c.params-to_sql-10.ensures, c.as_str-team.ensures.text, c.as_str-name.ensures.text, c.as_str-voter.ensures.text)))
+pub returns-clause-cause : goal.returns-clause-cause
+returns-clause-cause g c clean = rw (c.of_voter.ensures.row, c.of_vote.ensures.row) at (c.write_two.ensures.cause clean)

@@ -1,0 +1,334 @@
+-- From a query to a read, from a read to what is told of it, and from statements to a write.
+use Rattle.std.proofs.Common.{inl, inr, ◌≡◌, ◌≢◌, ℕ, Option, IfErr, Bool, true, false, Result, Ok, Err, IfOk, OnOk, OnErr, IsTrue, List, ◌<◌, length, refl, sym, ap, subst, ◌∙◌, arith}
+use Rattle.sqlite.specs.Effect.{Database}
+use Rattle.sqlite.specs.Held.{Held, state}
+use Rattle.sqlite.specs.Store.{Ghosts}
+use Rattle.sqlite.specs.declared.error.Error.{Error}
+use Rattle.sqlite.specs.Order.{Row}
+use Rattle.sqlite.specs.State.{State, HasCleanDisk, Survives, CommitsShowing, Shown, Shows as Sees}
+use Rattle.sqlite.specs.Tree.{Trees}
+use Rattle.sqlite.proofs.StateLemmas.{survives_weaker, survives_then}
+use Rattle.office_tables.specs.Tables.{Tables}
+use Rattle.office_tables.specs.declared.fault.StoreFault.{StoreFault}
+use Rattle.office_tables.specs.declared.fault.StoreFault.TheVariants.{NotAnOffice}
+use Rattle.office_rows.specs.Faults.{fault_of, FindsRow}
+use Rattle.office_rows.specs.Rows.{IsFaultOf}
+use Rattle.office_rows.specs.Queries.{IsQuery, IsAsItWas, IsAsked}
+use Rattle.office_rows.proofs.Queries.{first_asked, rows_asked}
+use Rattle.office_rows.specs.Statements.{Statement, begun, RanAll, FailedIn}
+use Rattle.office_rows.specs.Told.{IsTold}
+use Rattle.office_rows.proofs.Transactions.{ran_open}
+use Rattle.office_rows.proofs.Shut.{failed_shut}
+use Rattle.office_store.specs.Shown.{IsIdle, IsOffice, Shows, ShowsIfOpen, AreOffice, LeavesOnly, LeavesNoMore, MayLeave}
+use Rattle.office_store.specs.Steps.{AreSteps}
+use Rattle.office_store.specs.Calls.{Leaves, IsRead, IsWrite, Into}
+use Rattle.office_store.proofs.Committed.{trees_of, all_made, none_made, on_err}
+
+never_both : {P : Type 0} (b : Bool) → IsTrue b → b ≡ false → P
+never_both true is_open shut = absurd cc
+never_both false is_open shut = absurd cc
+
+-- a connection that is open was open
+opened : (old new : Bool) → IsTrue new → (old ≡ false → new ≡ false) → IsTrue old
+opened true new is_open shut = refl
+opened false new is_open shut = never_both new is_open (shut refl)
+
+by_open : (b : Bool) (P : Type 0) → (IsTrue b → P) → (b ≡ false → P) → P
+by_open true P f g = f refl
+by_open false P f g = g refl
+
+if_open : {A : Type 0} (P Q : Type 0) (r : Result A StoreFault) (R : A → Type 0) → OnOk r (P × Q) → (P → IfOk r R) → IfOk r R
+if_open P Q (Ok a) R both f = f both.0
+if_open P Q (Err f) R both g = tt
+
+-- the connection shows the tables again, where it has what it had
+shows_again : (old new : State) (t : Tables) → Shows old t → IsAsItWas old new → ShowsIfOpen new t
+shows_again old new t shows same is_open =
+    let kept = same is_open in
+    record { is_open = is_open; settled = kept.0 ∙ shows.settled ∙ sym kept.1; office = rw kept.0 shows.office }
+
+abbrev pub Settles : State → Type 0
+Settles new = (trees : Trees) → IsTrue new.is_open → new.may_leave trees → trees ≡ new.committed.trees
+
+pub leaves_only : (new : State) → Settles new → (t : Tables) → Shows new t → LeavesOnly new t
+leaves_only new law t shows trees may = trees_of new.now trees t shows.office (law trees shows.is_open may ∙ ap (λ (d : Database). d.trees) (sym shows.settled))
+
+-- ---- a query
+
+pub read_of : {X : Type 0} (old new : State) (r : Result X StoreFault) (Found : Tables → X → Type 0) → IsIdle old → new.in_transaction ≡ false → IsAsked old new r → Settles new
+    → ((t : Tables) → Shows old t → HasCleanDisk new → IfOk r (Found t) × (r ≢ Err NotAnOffice)) → IsRead old new r Found
+read_of old new r Found idle mode asked law finds = record {
+  leaves = record {
+    idle = record { autocommit = mode; unlimited = asked.crash.limit ∙ idle.unlimited };
+    clean = λ clean. let before : HasCleanDisk old = omega (arith, asked.crash.clean) in before;
+    survives = survives_weaker old new _ _ (λ _ trees none. absurd none) asked.crash;
+    answered = asked.answered;
+    shut = asked.shut;
+    settled = leaves_only new law;
+  };
+  found = λ t shows clean. if_open _ _ r (Found t) (asked.answered clean) (λ is_open. (finds t (shows is_open) clean).0);
+  formed = λ t shows clean. by_open old.is_open (r ≢ Err NotAnOffice) (λ is_open. (finds t (shows is_open) clean).1) (λ shut. (asked.shut clean shut).1);
+  shown = λ t shows clean is_open.
+      let was = opened old.is_open new.is_open is_open (λ shut. (asked.shut clean shut).0) in
+      shows_again old new t (shows was) (asked.same (shows was).settled clean) is_open;
+  same = asked.same;
+  crash = λ clean trees may. elim (asked.crash.crash clean trees may) [ inl before ↦ before | inr none ↦ absurd none ];
+}
+
+-- a query of the first row, by these parameters
+pub first_read : (sql : List ℕ) → IsQuery sql → (given params : Row) (old new : State) (r : Result (Option Row) StoreFault) (Found : Tables → Option Row → Type 0) → IsIdle old
+    → (old.in_transaction ≡ false → new.in_transaction ≡ false) → Settles new → Survives old new (CommitsShowing sql given old) → (HasCleanDisk new → FindsRow sql given old new r) → given ≡ params
+    → ((t : Tables) → Shows old t → FindsRow sql params old new r → IfOk r (Found t) × (r ≢ Err NotAnOffice)) → IsRead old new r Found
+first_read sql query given params old new r Found idle mode law survives row are finds =
+    read_of old new r Found idle (mode idle.autocommit) (first_asked sql query given old new r row survives) law
+    (λ t shows clean. finds t shows (subst (λ (p : Row). FindsRow sql p old new r) are (row clean)))
+
+-- a query of all its rows
+pub rows_read : {X : Type 0} (items : X → List Row) (sql : List ℕ) → IsQuery sql → (given params : Row) (old new : State) (r : Result X StoreFault) (Found : Tables → X → Type 0) → IsIdle old
+    → (old.in_transaction ≡ false → new.in_transaction ≡ false) → Settles new → Survives old new (CommitsShowing sql given old)
+    → (HasCleanDisk new → IfOk r (λ x. Shown sql given old new (items x))) → (HasCleanDisk new → IfErr r (IsFaultOf sql given old new)) → given ≡ params
+    → ((t : Tables) → Shows old t → IfOk r (λ x. Shown sql params old new (items x)) → IfErr r (IsFaultOf sql params old new) → IfOk r (Found t) × (r ≢ Err NotAnOffice)) → IsRead old new r Found
+rows_read items sql query given params old new r Found idle mode law survives rows fault are finds =
+    read_of old new r Found idle (mode idle.autocommit) (rows_asked sql query given old new items r rows fault survives) law
+    (λ t shows clean.
+    finds t shows (subst (λ (p : Row). IfOk r (λ x. Shown sql p old new (items x))) are (rows clean)) (subst (λ (p : Row). IfErr r (IsFaultOf sql p old new)) are (fault clean)))
+
+-- ---- what is told of what was read
+
+module _ {X A : Type 0} (Tells : X → Result A StoreFault → Type 0) where
+  told_ok : (P : Type 0) (row : Result X StoreFault) (r : Result A StoreFault) → IsTold Tells row r → OnOk row P → OnOk r P
+  told_ok P (Ok x) (Ok a) told p = p
+  told_ok P (Ok x) (Err f) told p = tt
+  told_ok P (Err e) (Ok a) told p = absurd cc
+  told_ok P (Err e) (Err f) told p = tt
+
+  told_found : (FoundRow : X → Type 0) (Found : A → Type 0) (row : Result X StoreFault) (r : Result A StoreFault) → IsTold Tells row r → IfOk row FoundRow
+      → ((x : X) → FoundRow x → (a : A) → Tells x (Ok a) → Found a) → IfOk r Found
+  told_found FoundRow Found (Ok x) (Ok a) told row f = f x row a told
+  told_found FoundRow Found (Ok x) (Err e) told row f = tt
+  told_found FoundRow Found (Err e) (Ok a) told row f = absurd cc
+  told_found FoundRow Found (Err e) (Err d) told row f = tt
+
+  passed_on : (e : StoreFault) (r : Result A StoreFault) → r ≡ Err e → ◌≢◌ {A = Result X StoreFault} (Err e) (Err NotAnOffice) → r ≢ Err NotAnOffice
+  passed_on e r told other same = other (let k : e ≡ NotAnOffice = cc in ap Err k)
+
+  told_formed : (FoundRow : X → Type 0) (row : Result X StoreFault) (r : Result A StoreFault) → IsTold Tells row r → row ≢ Err NotAnOffice → IfOk row FoundRow
+      → ((x : X) → FoundRow x → Tells x (Err NotAnOffice) → ⊥) → r ≢ Err NotAnOffice
+  told_formed FoundRow (Ok x) r told other row none same = none x row (subst (Tells x) same told)
+  told_formed FoundRow (Err e) r told other row none same = passed_on e r told other same
+
+  told_shut : (Q : Type 0) (b : Bool) (row : Result X StoreFault) (r : Result A StoreFault) → IsTold Tells row r → OnOk row (IsTrue b × Q) → b ≡ false → row ≢ Err NotAnOffice → r ≢ Err NotAnOffice
+  told_shut Q b (Ok x) r told both shut other = never_both b both.0 shut
+  told_shut Q b (Err e) r told both shut other = passed_on e r told other
+
+  pub read_told : (old new : State) (FoundRow : Tables → X → Type 0) (Found : Tables → A → Type 0) (row : Result X StoreFault) (r : Result A StoreFault) → IsRead old new row FoundRow → IsTold Tells row r
+      → ((t : Tables) → Shows old t → (x : X) → FoundRow t x → (a : A) → Tells x (Ok a) → Found t a)
+      → ((t : Tables) → Shows old t → (x : X) → FoundRow t x → Tells x (Err NotAnOffice) → ⊥)
+      → IsRead old new r Found
+  read_told old new FoundRow Found row r read told some none = record {
+    leaves = record {
+      idle = read.leaves.idle;
+      clean = read.leaves.clean;
+      survives = read.leaves.survives;
+      answered = λ clean. told_ok _ row r told (read.leaves.answered clean);
+      shut = λ clean shut. ((read.leaves.shut clean shut).0, told_shut _ old.is_open row r told (read.leaves.answered clean) shut (read.leaves.shut clean shut).1);
+      settled = read.leaves.settled;
+    };
+    found = λ t shows clean.
+        if_open _ _ r (Found t) (told_ok _ row r told (read.leaves.answered clean)) (λ is_open. told_found (FoundRow t) (Found t) row r told (read.found t shows clean) (some t (shows is_open)));
+    formed = λ t shows clean.
+        by_open old.is_open (r ≢ Err NotAnOffice) (λ is_open. told_formed (FoundRow t) row r told (read.formed t shows clean) (read.found t shows clean) (none t (shows is_open)))
+        (λ shut. told_shut _ old.is_open row r told (read.leaves.answered clean) shut (read.leaves.shut clean shut).1);
+    shown = read.shown;
+    same = read.same;
+    crash = read.crash;
+  }
+
+-- ---- a write
+
+-- a read that failed, and whose fault is passed on, or what is made of its answer
+module _ {X A : Type 0} (old new : State) (FoundRow : Tables → X → Type 0) (Found : Tables → A → Type 0) (row : Result X StoreFault) (read : IsRead old new row FoundRow) (r : Result A StoreFault) where
+  abbrev Makes : X → Result A StoreFault → Type 0
+  Makes x s = (t : Tables) → Shows old t → FoundRow t x → IfOk s (Found t) × (s ≢ Err NotAnOffice)
+
+  made : IsTold Makes row r → IsRead old new r Found
+  made told = read_told Makes old new FoundRow Found row r read told (λ t shows x found a makes. (makes t shows found).0) (λ t shows x found makes. (makes t shows found).1 refl)
+
+  pub read_failed : (f : StoreFault) → row ≡ Err f → r ≡ Err f → IsRead old new r Found
+  read_failed f is same = made (subst (λ (s : Result X StoreFault). IsTold Makes s r) (sym is) same)
+
+  pub read_made : (x : X) → row ≡ Ok x → ((t : Tables) → Shows old t → FoundRow t x → IfOk r (Found t) × (r ≢ Err NotAnOffice)) → IsRead old new r Found
+  read_made x is makes = made (subst (λ (s : Result X StoreFault). IsTold Makes s r) (sym is) makes)
+
+-- a write of these statements is one of whatever makes the same tables
+pub write_as : {A : Type 0} (old new : State) (r : Result A StoreFault) (First Second : Tables → Tables → Type 0) → ((t u : Tables) → Second t u → First t u) → IsWrite old new r First → IsWrite old new r Second
+write_as old new r First Second given write = record {
+  leaves = write.leaves;
+  done = λ t u shows makes. write.done t u shows (given t u makes);
+  undone = write.undone;
+  same = write.same;
+  formed = λ t u shows makes. write.formed t u shows (given t u makes);
+  crash = λ t u shows makes. write.crash t u shows (given t u makes);
+  lost = write.lost;
+}
+
+-- a write of statements that make this change
+pub write_into : {S A : Type 0} (g : Ghosts S) (ss : List Statement) (old new : State) (r : Result A StoreFault) (change : Tables → Tables) → ((t : Tables) → AreSteps g ss t (change t)) → IsWrite old new r (AreSteps g ss)
+    → IsWrite old new r (Into change)
+write_into g ss old new r change steps = write_as old new r (AreSteps g ss) (Into change) (λ t u is. subst (λ v. AreSteps g ss t v) (sym is) (steps t))
+
+no_answer : {A : Type 0} (P : Type 0) (r : Result A StoreFault) (f : StoreFault) → r ≡ Err f → OnOk r P
+no_answer P (Ok a) f same = absurd cc
+no_answer P (Err e) f same = tt
+
+-- a read that failed before the write
+pub read_stops : {X A : Type 0} (old new : State) (FoundRow : Tables → X → Type 0) (Makes : Tables → Tables → Type 0) (row : Result X StoreFault) → IsRead old new row FoundRow → (r : Result A StoreFault) (f : StoreFault)
+    → row ≡ Err f → r ≡ Err f → IsWrite old new r Makes
+read_stops old new FoundRow Makes row read r f is same =
+    let again = read_failed old new FoundRow (λ t a. Unit {0}) row read r f is same in
+    record {
+      leaves = again.leaves;
+      done = λ t u shows makes clean. no_answer _ r f same;
+      undone = λ t shows clean. on_err r (again.shown t shows clean);
+      same = λ settled clean. on_err r (again.same settled clean);
+      formed = λ t u shows makes clean. again.formed t shows clean;
+      crash = λ t u shows makes clean trees may. inl (again.crash clean trees may);
+      lost = λ shut. again.crash;
+    }
+
+-- ---- statements in one transaction
+
+module _ {S : Type 0} (g : Ghosts S) (ss : List Statement) (some : 0 < length ss) (old new : Held S) (idle : IsIdle (state g old)) (mode : new.in_transaction ≡ false) (law : Settles (state g new))
+    (was_open : HasCleanDisk (state g new) → IsTrue (state g new).is_open → IsTrue (state g old).is_open)
+    (survives : Survives (state g old) (state g new) (λ trees. (db : Database) × RanAll g ss (begun old) db × (trees ≡ db.trees))) where
+  leaves_of : {A : Type 0} (r : Result A StoreFault) → (HasCleanDisk (state g new) → OnOk r (IsTrue (state g old).is_open × IsTrue (state g new).is_open))
+      → (HasCleanDisk (state g new) → (state g old).is_open ≡ false → r ≢ Err NotAnOffice) → Leaves (state g old) (state g new) r
+  leaves_of r answered other = record {
+    idle = record { autocommit = mode; unlimited = survives.limit ∙ idle.unlimited };
+    clean = λ clean. let before : HasCleanDisk (state g old) = omega (arith, survives.clean) in before;
+    survives = survives_weaker (state g old) (state g new) _ _ (λ _ trees left. tt) survives;
+    answered = answered;
+    shut = λ clean shut. (by_open (state g new).is_open ((state g new).is_open ≡ false) (λ is_open. never_both (state g old).is_open (was_open clean is_open) shut) (λ closed. closed), other clean shut);
+    settled = leaves_only (state g new) law;
+  }
+
+  crash_of : (t u : Tables) → ShowsIfOpen (state g old) t → AreSteps g ss t u → MayLeave (state g old) (state g new) (λ trees. AreOffice trees u)
+  crash_of t u shows steps clean trees may = elim (survives.crash clean trees may) [
+    | inl before ↦ inl before
+    | inr left ↦ inr (trees_of left.0 trees u (all_made g ss (begun old) left.0 t u (shows (ran_open g ss (begun old) left.0 some left.1)).office steps left.1) left.2)
+  ]
+
+  lost_of : (state g old).is_open ≡ false → LeavesNoMore (state g old) (state g new)
+  lost_of shut clean trees may = elim (survives.crash clean trees may) [
+    | inl before ↦ before
+    | inr left ↦ never_both (state g old).is_open (ran_open g ss (begun old) left.0 some left.1) shut
+  ]
+
+  pub write_done : {A : Type 0} (a : A) → (HasCleanDisk (state g new) → RanAll g ss (begun old) (state g new).now × Sees (state g old) (state g new) (state g new).now (state g new).now false)
+      → IsWrite (state g old) (state g new) (Ok a) (AreSteps g ss)
+  write_done a all = record {
+    leaves = leaves_of (Ok a) (λ clean. ((all clean).1.was_open, (all clean).1.is_open)) (λ clean shut same. cc);
+    done = λ t u shows steps clean.
+        let it = all clean in
+        record { is_open = it.1.is_open; settled = sym it.1.committed_is; office = all_made g ss (begun old) _ t u (shows it.1.was_open).office steps it.0 };
+    undone = λ t shows clean. tt;
+    same = λ settled clean. tt;
+    formed = λ t u shows steps clean same. cc;
+    crash = crash_of;
+    lost = lost_of;
+  }
+
+  pub write_refused : (A : Type 0) (e : Error) (f : StoreFault) → f ≡ fault_of e
+      → (HasCleanDisk (state g new) → IsTrue (state g new).is_open → ((state g new).now ≡ (state g old).committed) × ((state g new).committed ≡ (state g old).committed))
+      → (HasCleanDisk (state g new) → FailedIn g ss (begun old) e) → IsWrite {A = A} (state g old) (state g new) (Err f) (AreSteps g ss)
+  write_refused A e f is none cause = record {
+    leaves = leaves_of {A = A} (Err f) (λ clean. tt) other;
+    done = λ t u shows steps clean. tt;
+    undone = λ t shows clean is_open.
+        let was = shows (was_open clean is_open) in
+        let back = none clean is_open in
+        record { is_open = is_open; settled = back.0 ∙ sym back.1; office = subst (λ (d : Database). IsOffice d t) (was.settled ∙ sym back.0) was.office };
+    same = λ settled clean is_open. let back = none clean is_open in (back.0 ∙ sym settled, back.1);
+    formed = λ t u shows steps clean same.
+        by_open (state g old).is_open ⊥ (λ is_open. (none_made g ss (begun old) e t u (shows is_open).office steps (cause clean)).0 (sym is ∙ (let k : f ≡ NotAnOffice = cc in k)))
+        (λ shut. other clean shut same);
+    crash = crash_of;
+    lost = lost_of;
+  }
+    where
+      other : HasCleanDisk (state g new) → (state g old).is_open ≡ false → ◌≢◌ {A = Result A StoreFault} (Err f) (Err NotAnOffice)
+      other clean shut same = failed_shut g ss (begun old) e some (cause clean) shut (sym is ∙ (let k : f ≡ NotAnOffice = cc in k))
+
+-- ---- a read and then a write
+
+-- both are done, or both fail of one fault
+abbrev pub EndAlike : {A B : Type 0} → Result B StoreFault → Result A StoreFault → Type 0
+EndAlike (Ok b) (Ok a) = Unit {0}
+EndAlike (Err f) (Err e) = e ≡ f
+EndAlike _ _ = ⊥
+
+pub alike_failed : {A B : Type 0} (s : Result B StoreFault) (r : Result A StoreFault) (f : StoreFault) → s ≡ Err f → r ≡ Err f → EndAlike s r
+alike_failed {A} {B} s r f is same = subst (λ (o : Result B StoreFault). EndAlike o r) (sym is) (subst (λ (o : Result A StoreFault). EndAlike {B = B} (Err f) o) (sym same) refl)
+
+alike_ok : {A B : Type 0} (P : Type 0) (s : Result B StoreFault) (r : Result A StoreFault) → EndAlike s r → OnOk s P → OnOk r P
+alike_ok P (Ok b) (Ok a) same p = p
+alike_ok P (Ok b) (Err e) same p = tt
+alike_ok P (Err f) (Ok a) same p = absurd same
+alike_ok P (Err f) (Err e) same p = tt
+
+alike_err : {A B : Type 0} (P : Type 0) (s : Result B StoreFault) (r : Result A StoreFault) → EndAlike s r → OnErr s P → OnErr r P
+alike_err P (Ok b) (Ok a) same p = tt
+alike_err P (Ok b) (Err e) same p = absurd same
+alike_err P (Err f) (Ok a) same p = tt
+alike_err P (Err f) (Err e) same p = p
+
+alike_formed : {A B : Type 0} (s : Result B StoreFault) (r : Result A StoreFault) → EndAlike s r → s ≢ Err NotAnOffice → r ≢ Err NotAnOffice
+alike_formed (Ok b) (Ok a) same other is = cc
+alike_formed (Ok b) (Err e) same other is = absurd same
+alike_formed (Err f) (Ok a) same other is = cc
+alike_formed (Err f) (Err e) same other is = other (let k : e ≡ NotAnOffice = cc in ap Err (sym same ∙ k))
+
+module _ {X A B : Type 0} (old mid new : State) (FoundRow : Tables → X → Type 0) (First Second : Tables → Tables → Type 0) (row : Result X StoreFault) (x : X) (is : row ≡ Ok x)
+    (read : IsRead old mid row FoundRow) (s : Result B StoreFault) (write : IsWrite mid new s First) (r : Result A StoreFault) (alike : EndAlike s r)
+    (makes : (t u : Tables) → Shows old t → FoundRow t x → Second t u → First t u) where
+  both_open : HasCleanDisk new → IsTrue old.is_open × IsTrue mid.is_open
+  both_open clean = subst (λ (o : Result X StoreFault). OnOk o (IsTrue old.is_open × IsTrue mid.is_open)) is (read.leaves.answered (write.leaves.clean clean))
+
+  first_made : (t u : Tables) → ShowsIfOpen old t → Second t u → HasCleanDisk new → First t u
+  first_made t u shows second clean =
+      makes t u (shows (both_open clean).0) (subst (λ (o : Result X StoreFault). IfOk o (FoundRow t)) is (read.found t shows (write.leaves.clean clean))) second
+
+  pub read_then_write : IsWrite old new r Second
+  read_then_write = record {
+    leaves = record {
+      idle = write.leaves.idle;
+      clean = λ clean. read.leaves.clean (write.leaves.clean clean);
+      survives = survives_then old mid new _ _ (λ _. Unit {0}) (λ _ trees left. tt) (λ _ trees left. tt) read.leaves.survives write.leaves.survives;
+      answered = λ clean. alike_ok _ s r alike (both_answered _ s (write.leaves.answered clean) (both_open clean).0);
+      shut = λ clean shut. never_both old.is_open (both_open clean).0 shut;
+      settled = write.leaves.settled;
+    };
+    done = λ t u shows second clean. alike_ok _ s r alike (write.done t u (read.shown t shows (write.leaves.clean clean)) (first_made t u shows second clean) clean);
+    undone = λ t shows clean. alike_err _ s r alike (write.undone t (read.shown t shows (write.leaves.clean clean)) clean);
+    same = λ settled clean.
+        let was = both_open clean in
+        let kept = read.same settled (write.leaves.clean clean) was.1 in
+        let mid_settled : mid.now ≡ mid.committed = kept.0 ∙ settled ∙ sym kept.1 in
+        alike_err _ s r alike (since s (write.same mid_settled clean) kept);
+    formed = λ t u shows second clean. alike_formed s r alike (write.formed t u (read.shown t shows (write.leaves.clean clean)) (first_made t u shows second clean) clean);
+    crash = λ t u shows second clean trees may.
+        let before = write.leaves.clean clean in
+        elim (write.crash t u (read.shown t shows before) (first_made t u shows second clean) clean trees may) [
+          | inl earlier ↦ inl (read.crash before trees earlier)
+          | inr left ↦ inr left
+        ];
+    lost = λ shut clean. never_both old.is_open (both_open clean).0 shut;
+  }
+    where
+      both_answered : {P : Type 0} (Q : Type 0) (s : Result B StoreFault) → OnOk s (Q × IsTrue new.is_open) → P → OnOk s (P × IsTrue new.is_open)
+      both_answered Q (Ok b) both p = (p, both.1)
+      both_answered Q (Err f) both p = tt
+
+      since : (s : Result B StoreFault) → OnErr s (IsAsItWas mid new) → (mid.now ≡ old.now) × (mid.committed ≡ old.committed) → OnErr s (IsAsItWas old new)
+      since (Ok b) same kept = tt
+      since (Err f) same kept = λ is_open. ((same is_open).0 ∙ kept.0, (same is_open).1 ∙ kept.1)

@@ -1,0 +1,71 @@
+-- The texts of the reads are queries, whatever the schema.
+use Rattle.std.proofs.Common.{refl}
+use Rattle.sqlite_tied.specs.Compute.{everything}
+use Rattle.sqlite_resolve.specs.Compile.{first, returning}
+use Rattle.office_rows.specs.Queries.{IsQuery}
+use Rattle.office_rows.proofs.Queries.{is_query}
+use Rattle.office_store.specs.declared.author.TheConstants.{REVISION_BY, AUTHORS_OF}
+use Rattle.office_store.specs.declared.baselines.TheConstants.{BASELINE_OF}
+use Rattle.office_store.specs.declared.form.TheConstants.{OFFICE_ROW}
+use Rattle.office_store.specs.declared.holds.TheConstants.{HOLD_OF}
+use Rattle.office_store.specs.declared.listing.TheConstants.{REVISIONS_OF}
+use Rattle.office_store.specs.declared.office.TheConstants.{LISTED}
+use Rattle.office_store.specs.declared.revisions.TheConstants.{REVISION_AT, REVISION_OF, ISSUED_OF, LAST_OF}
+use Rattle.office_store.specs.declared.standing_votes.TheConstants.{VOTES_ON}
+use Rattle.office_store.specs.declared.users.TheConstants.{USER_BY_NAME, USER_BY_TOKEN}
+
+pub user_by_name : IsQuery USER_BY_NAME.now
+unfolding everything first returning
+user_by_name = is_query USER_BY_NAME.now _ (record { is = refl; bare = λ schema base. refl })
+
+pub user_by_token : IsQuery USER_BY_TOKEN.now
+unfolding everything first returning
+user_by_token = is_query USER_BY_TOKEN.now _ (record { is = refl; bare = λ schema base. refl })
+
+pub revision_at : IsQuery REVISION_AT.now
+unfolding everything first returning
+revision_at = is_query REVISION_AT.now _ (record { is = refl; bare = λ schema base. refl })
+
+pub revision_of : IsQuery REVISION_OF.now
+unfolding everything first returning
+revision_of = is_query REVISION_OF.now _ (record { is = refl; bare = λ schema base. refl })
+
+pub issued_of : IsQuery ISSUED_OF.now
+unfolding everything first returning
+issued_of = is_query ISSUED_OF.now _ (record { is = refl; bare = λ schema base. refl })
+
+pub last_of : IsQuery LAST_OF.now
+unfolding everything first returning
+last_of = is_query LAST_OF.now _ (record { is = refl; bare = λ schema base. refl })
+
+pub baseline_of : IsQuery BASELINE_OF.now
+unfolding everything first returning
+baseline_of = is_query BASELINE_OF.now _ (record { is = refl; bare = λ schema base. refl })
+
+pub hold_of : IsQuery HOLD_OF.now
+unfolding everything first returning
+hold_of = is_query HOLD_OF.now _ (record { is = refl; bare = λ schema base. refl })
+
+pub listed : IsQuery LISTED.now
+unfolding everything first returning
+listed = is_query LISTED.now _ (record { is = refl; bare = λ schema base. refl })
+
+pub office_row : IsQuery OFFICE_ROW.now
+unfolding everything first returning
+office_row = is_query OFFICE_ROW.now _ (record { is = refl; bare = λ schema base. refl })
+
+pub revision_by : IsQuery REVISION_BY.now
+unfolding everything first returning
+revision_by = is_query REVISION_BY.now _ (record { is = refl; bare = λ schema base. refl })
+
+pub authors_of : IsQuery AUTHORS_OF.now
+unfolding everything first returning
+authors_of = is_query AUTHORS_OF.now _ (record { is = refl; bare = λ schema base. refl })
+
+pub revisions_of : IsQuery REVISIONS_OF.now
+unfolding everything first returning
+revisions_of = is_query REVISIONS_OF.now _ (record { is = refl; bare = λ schema base. refl })
+
+pub votes_on : IsQuery VOTES_ON.now
+unfolding everything first returning
+votes_on = is_query VOTES_ON.now _ (record { is = refl; bare = λ schema base. refl })

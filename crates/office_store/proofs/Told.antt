@@ -1,0 +1,110 @@
+-- What is read of the rows that a query found, and why a row isn't read.
+use Rattle.std.proofs.Common.{inl, inr, ◌≡◌, ◌≢◌, ℕ, [], true, Option, None, Some, Result, Ok, Err, IfOk, IfErr, Bool, sym, ap, ◌∙◌, subst}
+use Rattle.std.specs.Prelude.{is_some}
+use Rattle.sqlite.specs.Order.{Row}
+use Rattle.sqlite.specs.Reading.{IsReadError}
+use Rattle.sqlite.specs.State.{State}
+use Rattle.sqlite_value.specs.declared.value.Value.{Value}
+use Rattle.sqlite.specs.declared.error.Error.{Error}
+use Rattle.office_tables.specs.declared.fault.StoreFault.{StoreFault}
+use Rattle.office_tables.specs.declared.fault.StoreFault.TheVariants.{NotAnOffice}
+use Rattle.office_tables.specs.Tables.{Tables}
+use Rattle.office_rows.specs.Faults.{fault_of, FindsRow}
+use Rattle.office_rows.specs.Told.{IsOfRow, IsTold, IsUnread, TellsOne, TellsOnly, TellsWhether}
+use Rattle.office_store.specs.declared.form.TheConstants.{OFFICE_ROW}
+use Rattle.office_store.specs.Form.{has_tables, listed_row, form_row, AreCaps, HasForm, HasOfficeRow}
+use Rattle.office_store.specs.Schema.{office_schema}
+use Rattle.office_store.specs.Shown.{Shows}
+use Rattle.office_store.specs.Calls.{IsRead}
+use Rattle.office_store.proofs.Calls.{read_told}
+use Rattle.office_store.proofs.OfficeRow.{shown_row}
+use Rattle.sqlite_value.specs.Order.{column}
+use Rattle.sqlite_rules.proofs.ListLemmas.{contains_had}
+
+pub read_cause : (at : ℕ) (v : Value) (e : Error) → IsReadError at v e → IsOfRow (fault_of e)
+read_cause at v e (inl h) = inr (ap fault_of h)
+read_cause at v e (inr (inl h)) = inr (ap fault_of h)
+read_cause at v e (inr (inr (inl h))) = inr (ap fault_of h)
+read_cause at v e (inr (inr (inr (inl h)))) = inr (ap fault_of h)
+read_cause at v e (inr (inr (inr (inr h)))) = inl (ap fault_of h)
+
+-- a reading that fails for no memory, or since the row is no such value's
+pub unread : {X R A : Type 0} (encode : X → R) (IsFormed : X → Type 0) (row : R) (r : Result A StoreFault) (f : StoreFault) → r ≡ Err f
+    → ((x : X) → IsFormed x → row ≡ encode x → r ≢ Err NotAnOffice) → IfErr r IsOfRow → IsUnread encode IsFormed row f
+unread {A = A} encode IsFormed row r f is formed cause = elim (subst (λ (s : Result A StoreFault). IfErr s IsOfRow) is cause) [
+  | inl memory ↦ inl memory
+  | inr named ↦ inr (named, λ x ok same. formed x ok same (is ∙ ap Err named))
+]
+
+-- ---- one row
+
+module _ {X : Type 0} (encode : X → Row) (IsFormed : X → Type 0) (old new : State) (FoundRow : Tables → Option Row → Type 0) where
+  -- the first row was told as the value that it stands for
+  pub one_read : (Found : Tables → Option X → Type 0) (row : Result (Option Row) StoreFault) (r : Result (Option X) StoreFault) → IsRead old new row FoundRow → IsTold (TellsOne encode IsFormed) row r
+      → ((t : Tables) → Shows old t → FoundRow t None → Found t None)
+      → ((t : Tables) → Shows old t → (w : Row) → FoundRow t (Some w) → (x : X) × IsFormed x × (w ≡ encode x) × ((y : X) → w ≡ encode y → Found t (Some y)))
+      → IsRead old new r Found
+  one_read Found row r read told none some = read_told (TellsOne encode IsFormed) old new FoundRow Found row r read told each never
+    where
+      each : (t : Tables) → Shows old t → (o : Option Row) → FoundRow t o → (a : Option X) → TellsOne encode IsFormed o (Ok a) → Found t a
+      each t shows None found a tells = let same : a ≡ None = cc in subst (Found t) (sym same) (none t shows found)
+      each t shows (Some w) found (Some y) tells = (some t shows w found).3 y tells
+      each t shows (Some w) found None tells = absurd tells
+
+      never : (t : Tables) → Shows old t → (o : Option Row) → FoundRow t o → TellsOne encode IsFormed o (Err NotAnOffice) → ⊥
+      never t shows None found tells = absurd cc
+      never t shows (Some w) found (inl memory) = absurd cc
+      never t shows (Some w) found (inr unread) = let it = some t shows w found in unread.1 it.0 it.1 it.2
+
+  -- the same of a row that is always there
+  pub only_read : (Found : Tables → X → Type 0) (row : Result (Option Row) StoreFault) (r : Result X StoreFault) → IsRead old new row FoundRow → IsTold (TellsOnly encode IsFormed) row r
+      → ((t : Tables) → Shows old t → FoundRow t None → ⊥)
+      → ((t : Tables) → Shows old t → (w : Row) → FoundRow t (Some w) → (x : X) × IsFormed x × (w ≡ encode x) × ((y : X) → w ≡ encode y → Found t y))
+      → IsRead old new r Found
+  only_read Found row r read told none some = read_told (TellsOnly encode IsFormed) old new FoundRow Found row r read told each never
+    where
+      each : (t : Tables) → Shows old t → (o : Option Row) → FoundRow t o → (a : X) → TellsOnly encode IsFormed o (Ok a) → Found t a
+      each t shows None found a tells = absurd (none t shows found)
+      each t shows (Some w) found a tells = (some t shows w found).3 a tells
+
+      never : (t : Tables) → Shows old t → (o : Option Row) → FoundRow t o → TellsOnly encode IsFormed o (Err NotAnOffice) → ⊥
+      never t shows None found tells = none t shows found
+      never t shows (Some w) found (inl memory) = absurd cc
+      never t shows (Some w) found (inr unread) = let it = some t shows w found in unread.1 it.0 it.1 it.2
+
+-- whether a row was found
+pub whether_read : (old new : State) (FoundRow : Tables → Option Row → Type 0) (Found : Tables → Bool → Type 0) (row : Result (Option Row) StoreFault) (r : Result Bool StoreFault) → IsRead old new row FoundRow
+    → IsTold TellsWhether row r → ((t : Tables) (o : Option Row) → FoundRow t o → Found t (is_some o)) → IsRead old new r Found
+whether_read old new FoundRow Found row r read told finds =
+    read_told TellsWhether old new FoundRow Found row r read told (λ t shows o found a tells. subst (Found t) (let same : is_some o ≡ a = cc in same) (finds t o found)) (λ t shows o found tells. absurd cc)
+
+-- ---- the rows of the office
+
+pub same_listed : (n m : ℕ) (row : Row) → row ≡ listed_row n → row ≡ listed_row m → m ≡ n
+same_listed n m row a b = let same : listed_row m ≡ listed_row n = sym b ∙ a in let k : m ≡ n = cc in k
+
+pub same_form : (n m : ℕ) (row : Row) → row ≡ form_row n → row ≡ form_row m → m ≡ n
+same_form n m row a b = let same : form_row m ≡ form_row n = sym b ∙ a in let k : m ≡ n = cc in k
+
+-- what was told as listed capabilities is the form of the row
+pub has_form : (old new : State) (found : Result (Option Row) StoreFault) (r : Result ℕ StoreFault) → has_tables old.now.schema ≡ true → FindsRow OFFICE_ROW.now [] old new found
+    → IsTold (TellsOnly form_row AreCaps) found r → IfOk r AreCaps → IfOk r (HasForm old new)
+has_form old new (Ok (Some w)) (Ok listed) tables finds told below =
+    let row = subst (λ (v : Row). FindsRow OFFICE_ROW.now [] old new (Ok (Some v))) told finds in
+    record { tables = tables; below = below; row = row; stands = λ has. stands has row }
+  where
+    stands : old.now.schema ≡ office_schema → FindsRow OFFICE_ROW.now [] old new (Ok (Some (form_row listed))) → HasOfficeRow (old.now.trees 0) listed
+    stands has row =
+        let it = shown_row old new (form_row listed) has row in
+        record {
+          row = it.0;
+          there = contains_had (old.now.trees 0) it.0 it.1;
+          key = sym (ap (λ (r : Row). column r 0) it.2);
+          schema = sym (ap (λ (r : Row). column r 1) it.2);
+          listed_are = sym (ap (λ (r : Row). column r 2) it.2);
+        }
+has_form old new (Ok None) (Ok listed) tables finds told below = absurd cc
+has_form old new (Err f) (Ok listed) tables finds told below = absurd cc
+has_form old new (Ok (Some w)) (Err e) tables finds told below = tt
+has_form old new (Ok None) (Err e) tables finds told below = tt
+has_form old new (Err f) (Err e) tables finds told below = tt
