@@ -1,13 +1,9 @@
 -- Separation of duty.
-use Rattle.std.proofs.Common.{◌≡◌, ◌≢◌, ◌∙◌, ◌⊎◌, inl, inr, ◌<◌, ◌≤◌, ◌==◌, ◌&&◌, ◌||◌, ℕ, zero, suc, List, [], ◌∷◌, ◌++◌, length, get_or, Bool, true, false, not, cond, Some, None, Option, Less, Equal, refl, sym, ap, subst, arith, eqb-true}
+use Rattle.std.proofs.Common.{◌≡◌, ◌≢◌, ◌∙◌, ◌⊎◌, inl, inr, ◌<◌, ◌≤◌, ◌==◌, ◌&&◌, ◌||◌, ℕ, zero, suc, List, [], ◌∷◌, ◌++◌, length, get_or, Bool, true, false, not, cond, Some, None, Option, refl, sym, ap, subst, arith, eqb-true}
 use Rattle.std.specs.Prelude.{option_map, filter, nat_lt, bytes_eq}
-use Rattle.std.specs.List.{AllPairs, AllByRecursion, Contains, list_any}
-use Rattle.std.specs.List.Sorted.{IsStrictlySortedBy}
-use Rattle.std.specs.Ordering.{nat_cmp}
-use Rattle.std.specs.Cmp.Lexicographic.{slice_cmp}
+use Rattle.std.specs.List.{AllPairs, Contains}
 use Rattle.std.specs.Int.RustNames.{bit_and, bit_or}
 use Rattle.std.proofs.lemmas.Bool.{ltb-false, eqb-false}
-use Rattle.std.proofs.lemmas.Cmp.{nat_list_cmp_total, tied_itself}
 use Rattle.cap_sets.specs.Capability.{Has}
 use Rattle.cap_sets.specs.declared.state.CapState.{CapState}
 use Rattle.cap_sets.proofs.Bits.{none_in_zero, or_from_either, and_from_both}
@@ -26,14 +22,12 @@ use Rattle.review_policy.specs.declared.role.Role.TheVariants.{Reviewer}
 use Rattle.review_policy.specs.Rules.{is_open, need_of, approvals_of, asks_security}
 use Rattle.office_tables.specs.declared.row.RevisionRow.{RevisionRow}
 use Rattle.office_tables.specs.Lists.{holds_role, standing_vote}
-use Rattle.office_tables.specs.Tables.{is_profile}
 use Rattle.office_tables.proofs.Members.{Has as IsIn, AreOnce, has_contained}
 use Rattle.widening.specs.Findings.{is_wider}
 use Rattle.widening.proofs.Permitted.{no_wider_by_test}
 use Rattle.review_sheet.specs.Review.{all_sets, holds_listed}
 use Rattle.office_policy.specs.History.{Event, issued, voted, History}
 use Rattle.office_policy.specs.Users.{user_of}
-use Rattle.office_policy.specs.Names.{with_name}
 use Rattle.office_policy.specs.Revisions.{Submission, submission_of, revision_of, revision_count, state_of, is_author, state_in}
 use Rattle.office_policy.specs.Votes.{CastVote, vote_of, kept_vote, standing_at, voters_of, passes, approvals, secure_approvals}
 use Rattle.office_policy.specs.Documents.{document_of}
@@ -42,7 +36,7 @@ use Rattle.office_policy.specs.Need.{need_against, need_of_row, need_at}
 use Rattle.office_policy.specs.Facts.{has_digest}
 use Rattle.office_policy.specs.Lawful.{IsLawful}
 use Rattle.office_policy.specs.Duty.{AreOthers, NamesTheText, AreOfTheText, AreEnough, LacksTwo, IsPlain, IsPlainRevision}
-use Rattle.office_policy.proofs.NameFacts.{ordered_more}
+use Rattle.office_policy.proofs.VoterFacts.{once_ordered, voters_ordered}
 use Rattle.office_policy.proofs.UserFacts.{same_bytes}
 use Rattle.office_policy.proofs.Histories.{open_last}
 use Rattle.office_policy.proofs.LawFacts.{IssueAllowed, allowed_follows}
@@ -86,29 +80,6 @@ open_submission h p n is = by_submission (submission_of h p n) refl is
     }
 
 -- ---- lists
-
-once_ordered : (names : List (List ℕ)) → IsStrictlySortedBy (slice_cmp nat_cmp) names → AreOnce names
-unfolding IsStrictlySortedBy
-once_ordered [] ordered = tt
-once_ordered (x ∷ names) ordered = ((λ h. apart names h ordered.0), once_ordered names ordered.1)
-  where
-    apart : (names : List (List ℕ)) → IsIn names x → AllByRecursion (λ y. slice_cmp nat_cmp x y ≡ Less) names → ⊥
-    apart [] h above = h
-    apart (y ∷ names) (inl same) above =
-        let less : slice_cmp nat_cmp x x ≡ Less = subst (λ z. slice_cmp nat_cmp x z ≡ Less) (sym same) above.0 in
-        let apart : Less ≡ Equal = sym less ∙ tied_itself nat_list_cmp_total x in
-        absurd (cc)
-    apart (y ∷ names) (inr h) above = apart names h above.1
-
-voters_ordered : (h : History) (p : ProfileName) (n : ℕ) → IsStrictlySortedBy (slice_cmp nat_cmp) (voters_of h p n)
-unfolding IsStrictlySortedBy
-voters_ordered [] p n = tt
-voters_ordered (voted c q m d a ∷ h) p n =
-    elim (is_profile p q && (n == m)) as (λ b. IsStrictlySortedBy (slice_cmp nat_cmp) (cond b (with_name c (voters_of h p n)) (voters_of h p n))) [
-      | true ↦ ordered_more c (voters_of h p n) (voters_ordered h p n)
-      | false ↦ voters_ordered h p n
-    ]
-voters_ordered (_ ∷ h) p n = voters_ordered h p n
 
 module _ (test : List ℕ → Bool) where
   pub in_filter : (names : List (List ℕ)) (name : List ℕ) → IsIn (filter test names) name → IsIn names name × (test name ≡ true)

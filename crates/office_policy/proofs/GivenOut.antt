@@ -15,7 +15,7 @@ use Rattle.review_policy.specs.declared.revision.State.TheVariants.{Open, Closed
 use Rattle.review_policy.specs.Rules.{is_issued, issue_rules, fetch_rules, first_denial}
 use Rattle.office_tables.specs.declared.row.UserRow.{UserRow}
 use Rattle.office_tables.specs.declared.row.RevisionRow.{RevisionRow}
-use Rattle.office_policy.specs.History.{Event, History}
+use Rattle.office_policy.specs.History.{Event, issued as issued_event, History}
 use Rattle.office_policy.specs.Users.{user_showing, name_of}
 use Rattle.office_policy.specs.Revisions.{Submission, submission_of, revision_of, revision_count, state_of, issues, withdraws, is_replaced, is_author, last_issue, if_issued, issued_revision}
 use Rattle.office_policy.specs.Votes.{tally_at}
@@ -23,7 +23,7 @@ use Rattle.office_policy.specs.Holds.{is_held}
 use Rattle.office_policy.specs.Need.{need_at}
 use Rattle.office_policy.specs.Facts.{issue_facts, fetch_facts}
 use Rattle.office_policy.specs.Verdict.{Verdict, accepted, denied, of_revision, rules_of, done_of, judged, verdict_of, verdict}
-use Rattle.office_policy.specs.Duty.{IsTextOf, IsFetched}
+use Rattle.office_policy.specs.Duty.{IsTextOf, IsDigestOf, IsFetched}
 use Rattle.office_policy.proofs.RuleFacts.{none_refuses}
 use Rattle.office_policy.proofs.Histories.{issued_by}
 
@@ -80,6 +80,20 @@ shown_text h r p n digest text state e asks is = by_submission (submission_of h 
           submitted = found ∙ (λ i. Some (record { author = s.author; text = same_text i }));
           is_digest = sym same_digest ∙ ap digest_of same_text;
         }
+
+pub issued_digest : (h : History) (r : Request) (p : ProfileName) (n : ℕ) (digest : List ℕ) (e : Option Event)
+    → r.ask ≡ ask.Issue p n → verdict h r ≡ accepted (reply.Issued digest) e → IsDigestOf h p n digest
+issued_digest h r p n digest e asks is = by_submission (submission_of h p n) refl (carried_out h r (ask.Issue p n) (reply.Issued digest) e asks is).done
+  where
+    event : Event
+    event = issued_event (name_of (user_showing h (digest_of r.token))) p n
+
+    by_submission : (s : Option Submission) → submission_of h p n ≡ s
+        → of_revision (option_map (row_of h p n) s) (λ x. accepted (reply.Issued x.digest) (Some event)) ≡ accepted (reply.Issued digest) e → IsDigestOf h p n digest
+    by_submission None found done = absurd (cc)
+    by_submission (Some s) found done =
+        let same : digest_of s.text ≡ digest = cc in
+        record { submission = s; submitted = found; of_its_text = sym same }
 
 issued_state : (state : State) → is_issued (Some state) ≡ true → state ≡ Issued
 issued_state Open is = absurd (cc)

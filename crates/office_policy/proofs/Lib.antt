@@ -10,6 +10,7 @@ pub mod ListingFacts
 pub mod Numbered
 pub mod GivenOut
 pub mod CastFacts
+pub mod VoterFacts
 pub mod TextFacts
 pub mod DutyFacts
 pub mod TeamFacts

@@ -31,7 +31,9 @@ use Rattle.office_policy.specs.Need.{need_at}
 -- neither is the issuer
 pub record AreOthers (h : History) (issuer : List ℕ) (p : ProfileName) (n : ℕ) : Type 0 where
   pub distinct : AllPairs (λ a b. a ≢ b) (approvals h p n)
-  pub reviewers_then : (name : List ℕ) (v : CastVote) → Contains (approvals h p n) name → vote_of h p n name ≡ Some v → holds_role (user_of v.before name) Reviewer ≡ true
+  pub reviewers_then :
+    (name : List ℕ) (v : CastVote) → Contains (approvals h p n) name → vote_of h p n name ≡ Some v →
+    holds_role (user_of v.before name) Reviewer ≡ true
   pub reviewers_now : (name : List ℕ) → Contains (approvals h p n) name → holds_role (user_of h name) Reviewer ≡ true
   pub no_authors : (name : List ℕ) → Contains (approvals h p n) name → is_author h p name ≡ false
   pub issuer_no_author : is_author h p issuer ≡ false
@@ -86,6 +88,12 @@ pub record IsTextOf (h : History) (p : ProfileName) (n : ℕ) (digest text : Lis
   pub author : List ℕ
   pub submitted : submission_of h p n ≡ Some (record { author = author; text = text })
   pub is_digest : digest ≡ digest_of text
+
+-- the digest is that of the text that the submission of that number carried
+pub record IsDigestOf (h : History) (p : ProfileName) (n : ℕ) (digest : List ℕ) : Type 0 where
+  pub submission : Submission
+  pub submitted : submission_of h p n ≡ Some submission
+  pub of_its_text : digest ≡ digest_of submission.text
 
 -- what is fetched was issued and is issued now
 pub record IsFetched (h : History) (p : ProfileName) (n : ℕ) (digest text : List ℕ) : Type 0 where

@@ -1,14 +1,16 @@
 -- An office in which things have happened, to show what looking back says of it.
-use Rattle.std.specs.Prelude.{ℕ, List, [], ◌∷◌, Bool, true, false, Some, None, codes, map, Result, ⊤}
+use Rattle.std.specs.Prelude.{ℕ, List, [], ◌∷◌, Bool, true, false, Some, None, codes, map, Result, Err, ⊤}
 use Rattle.cap_sets.specs.declared.state.CapState.{CapState}
 use Rattle.cap_sets.proofs.Bits.{none_in_zero}
 use Rattle.seccomp_doc.specs.declared.action.Action.TheVariants.{Allow, Errno}
 use Rattle.profile_text.specs.declared.profile.Profile.{Profile}
+use Rattle.profile_text.specs.Digest.{digest_of}
 use Rattle.profile_text.specs.Profile.{no_caps}
 use Rattle.review_policy.specs.declared.ask.ProfileName.{ProfileName}
 use Rattle.review_policy.specs.declared.ask.Ask.{Ask}
 use Rattle.review_policy.specs.declared.denial.Denial.{Denial}
 use Rattle.review_policy.specs.declared.denial.Need.{Need}
+use Rattle.review_policy.specs.declared.denial.Rule.{Rule}
 use Rattle.review_policy.specs.declared.revision.State.TheVariants.{Open}
 use Rattle.review_policy.specs.Rules.{first_denial, vote_rules, issue_rules}
 use Rattle.office_tables.specs.declared.row.RevisionRow.{RevisionRow}
@@ -150,7 +152,27 @@ released_then = releases ∷ approved_while_held
 abbrev pub issued_then : History
 issued_then = issues 2 ∷ released_then
 
+-- a revision that was voted on after an earlier one was issued and adopted, and one of its voters is no reviewer now
+abbrev pub after_an_adoption : (old new : List ℕ) → History
+after_an_adoption old new =
+    has_roles rev 0 (3 ∷ [])
+    ∷ approves sue 2
+    ∷ rejects rev 2
+    ∷ submitted ann web new
+    ∷ adopts 1
+    ∷ issues 1
+    ∷ submitted ann web old
+    ∷ office
+
+-- the row of an open revision by ann
+abbrev pub open_row : ℕ → List ℕ → RevisionRow
+open_row number bytes = record { number = number; author = ann; state = Open; body = bytes; digest = digest_of bytes }
+
 -- ---- what is decided
+
+-- the rule of this number refuses
+abbrev pub refused : ℕ → Rule → Result ⊤ Denial
+refused number rule = Err (record { number = number; rule = rule })
 
 -- the first rule that refuses what a user asks, if any
 abbrev pub decision : History → List ℕ → Ask → Result ⊤ Denial
@@ -170,8 +192,10 @@ issue h need n = issue_by iss h need n
 
 -- and of a vote by rev on an open revision whose digest is 9, that names a digest
 abbrev pub vote_naming : List ℕ → Result ⊤ Denial
-vote_naming digest =
-    first_denial (vote_rules (vote_facts (user_of office rev) (Some (record { number = 1; author = ann; state = Open; body = text; digest = 9 ∷ [] })) false digest))
+vote_naming digest = first_denial (vote_rules (vote_facts (user_of office rev) (Some row) false digest))
+  where
+    row : RevisionRow
+    row = record { number = 1; author = ann; state = Open; body = text; digest = 9 ∷ [] }
 
 -- ---- documents
 

@@ -14,7 +14,7 @@ ghost use Rattle.office_policy.specs.Holds.{is_held};
 ghost use Rattle.office_policy.specs.Verdict.{verdict, accepted};
 ghost use Rattle.office_policy.specs.Lawful.{IsLawful};
 ghost use Rattle.office_policy.specs.Teams.{concerns, team_of};
-ghost use Rattle.office_policy.specs.Duty.{AreOthers, AreOfTheText, AreEnough, LacksTwo, IsPlainRevision, IsTextOf, IsFetched, ReadsBack};
+ghost use Rattle.office_policy.specs.Duty.{AreOthers, AreOfTheText, AreEnough, LacksTwo, IsPlainRevision, IsTextOf, IsDigestOf, IsFetched, ReadsBack};
 
 /// What is shown is the text that the submission of that number carried.
 pub fn what_is_shown_was_submitted()
@@ -29,6 +29,14 @@ pub fn what_is_fetched_was_issued()
     ensures {
         (h : History) (r : Request) (p : ProfileName) (n : ℕ) (digest text : List ℕ) (e : Option Event)
         → r.ask ≡ ask.Fetch p → verdict h r ≡ accepted (reply.Fetched digest text n) e → IsFetched h p n digest text
+    }
+{}
+
+/// What is issued is told by the digest of the text that the submission of that number carried.
+pub fn what_is_issued_was_submitted()
+    ensures {
+        (h : History) (r : Request) (p : ProfileName) (n : ℕ) (digest : List ℕ) (e : Option Event)
+        → r.ask ≡ ask.Issue p n → verdict h r ≡ accepted (reply.Issued digest) e → IsDigestOf h p n digest
     }
 {}
 

@@ -1,9 +1,19 @@
 //! Laws of histories. Each is a function without a parameter whose contract is the law; it does nothing.
 
-ghost use Rattle.std.specs.Prelude.{◌≡◌, ◌∷◌, List, ℕ};
+ghost use Rattle.std.specs.Prelude.{◌≡◌, ◌≤◌, ◌∷◌, List, ℕ, Some};
 ghost use Rattle.review_policy.specs.declared.ask.ProfileName.{ProfileName};
 ghost use Rattle.review_policy.specs.declared.ask.Request.{Request};
+ghost use Rattle.review_policy.specs.Rules.{max_revisions};
+ghost use Rattle.office_tables.specs.declared.listed.Tally.{Tally};
+ghost use Rattle.office_tables.specs.declared.row.RevisionRow.{RevisionRow};
+ghost use Rattle.office_tables.specs.Lists.{IsTally};
+ghost use Rattle.review_sheet.specs.Sheet.{need_at as sheet_need};
 ghost use Rattle.office_policy.specs.History.{Event, History};
+ghost use Rattle.office_policy.specs.Revisions.{revision_of, revision_count};
+ghost use Rattle.office_policy.specs.Votes.{tally_at};
+ghost use Rattle.office_policy.specs.Need.{need_at};
+ghost use Rattle.office_policy.specs.Sheets.{sheet_of};
+ghost use Rattle.office_policy.specs.TablesOf.{tables_of};
 ghost use Rattle.office_policy.specs.Lawful.{IsLawful};
 ghost use Rattle.office_policy.specs.Laws.{AreApart, KeepsTeams, KeepsSubmissions, NumbersRun, OpenIsLast, OneIssued, IsJudged, ListsInOrder, ListsAll};
 
@@ -50,4 +60,19 @@ pub fn profiles_are_listed_in_order()
 /// Just those profiles of a team are listed that have a revision.
 pub fn each_profile_is_listed()
     ensures { (h : History) (team : List ℕ) → ListsAll h team }
+{}
+
+/// No profile has more revisions than there are numbers, 9,999.
+pub fn numbers_are_limited()
+    ensures { (h : History) (p : ProfileName) → IsLawful h → revision_count h p ≤ max_revisions }
+{}
+
+/// The counts of a revision's votes, by the tables that a history leaves, are those of looking back.
+pub fn tallies_are_of_the_tables()
+    ensures { (h : History) (p : ProfileName) (n : ℕ) (tally : Tally) → IsTally (tables_of h) p n tally → tally ≡ tally_at h p n }
+{}
+
+/// A sheet tells the need of its revision.
+pub fn sheets_tell_the_need()
+    ensures { (h : History) (p : ProfileName) (n : ℕ) (r : RevisionRow) → revision_of h p n ≡ Some r → sheet_need (sheet_of h p r) ≡ need_at h p n }
 {}
