@@ -17,7 +17,8 @@ then_lines start mid end xs ys first others =
     ∙ ap (λ t. start ++ t) (sym (flat_map-append ended xs ys))
 
 -- one line, and then others
-pub line_then : (start mid end line : List ℕ) (lines : List (List ℕ)) → mid ≡ start ++ ended line → end ≡ mid ++ joined lines → end ≡ start ++ joined (line ∷ lines)
+pub line_then : (start mid end line : List ℕ) (lines : List (List ℕ)) → mid ≡ start ++ ended line → end ≡ mid ++ joined lines
+    → end ≡ start ++ joined (line ∷ lines)
 line_then start mid end line lines first others = others ∙ ap (λ t. t ++ joined lines) first ∙ append_assoc start (ended line) (joined lines)
 
 -- one line and no more
@@ -55,7 +56,8 @@ found_some [] = refl
 found_some (f ∷ found) = ap not (ne_eqb (suc (length found)) 0 (λ same. absurd (omega (arith, same))))
 
 -- a list with its first item written, and then the others
-pub list_begun : (start mid end first : List ℕ) (items rest : List (List ℕ)) → items ≡ first ∷ rest → mid ≡ start ++ first → end ≡ mid ++ spaced rest → end ≡ start ++ items_text items
+pub list_begun : (start mid end first : List ℕ) (items rest : List (List ℕ)) → items ≡ first ∷ rest
+    → mid ≡ start ++ first → end ≡ mid ++ spaced rest → end ≡ start ++ items_text items
 list_begun start mid end first items rest begins one others =
     others ∙ ap (λ t. t ++ spaced rest) one ∙ append_assoc start first (spaced rest) ∙ ap (λ is. start ++ items_text is) (sym begins)
 

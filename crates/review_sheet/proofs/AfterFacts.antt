@@ -31,7 +31,10 @@ root_sets : (before after : CapState) → IsAfterRoot before after → SameSets 
 root_sets before after is =
     let permitted : after.permitted ≡ bit_or before.inheritable before.bounding =
     same_members after.permitted (bit_or before.inheritable before.bounding)
-    (λ n. ((λ h. or_from_either before.inheritable before.bounding n ((is.permitted n).0 h)), λ h. (is.permitted n).1 (either_from_or before.inheritable before.bounding n h))) in
+    (λ n. (
+      (λ h. or_from_either before.inheritable before.bounding n ((is.permitted n).0 h)),
+      λ h. (is.permitted n).1 (either_from_or before.inheritable before.bounding n h),
+    )) in
     record { permitted = permitted; effective = is.effective ∙ permitted; ambient = is.ambient }
 
 -- whatever state is after execve of a plain file, its lines are those of a sheet; and likewise by root

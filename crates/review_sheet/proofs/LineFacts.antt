@@ -28,7 +28,8 @@ around_findings : (s : SheetValue) → sheet_lines s ≡ above_findings s ++ fin
 unfolding sheet_lines
 around_findings s = simp append_assoc refl
 
-around_need : (s : SheetValue) → sheet_lines s ≡ (above_findings s ++ findings_lines (findings_of s.base s.shown)) ++ need_lines s ++ (votes_lines s.votes ++ tally_lines s.votes)
+around_need : (s : SheetValue) → sheet_lines s ≡
+    (above_findings s ++ findings_lines (findings_of s.base s.shown)) ++ need_lines s ++ (votes_lines s.votes ++ tally_lines s.votes)
 unfolding sheet_lines
 around_need s = simp append_assoc refl
 
@@ -36,11 +37,15 @@ around_votes : (s : SheetValue) → sheet_lines s ≡ above_votes s ++ votes_lin
 unfolding sheet_lines
 around_votes s = simp append_assoc refl
 
-pub findings_part : (s : SheetValue) → HasPart ((codes "findings: " ++ decimal (length (findings_of s.base s.shown))) ∷ map finding_line (findings_of s.base s.shown)) (sheet_lines s)
+pub findings_part : (s : SheetValue) → HasPart
+    ((codes "findings: " ++ decimal (length (findings_of s.base s.shown))) ∷ map finding_line (findings_of s.base s.shown))
+    (sheet_lines s)
 unfolding findings_lines
 findings_part s = record { above = above_findings s; below = below_findings s; whole = around_findings s }
 
-pub need_part : (s : SheetValue) → HasPart (set_line (codes "listed") (listed_in s.listed s.shown) ∷ (codes "need: " ++ need_text (need_at s)) ∷ []) (sheet_lines s)
+pub need_part : (s : SheetValue) → HasPart
+    (set_line (codes "listed") (listed_in s.listed s.shown) ∷ (codes "need: " ++ need_text (need_at s)) ∷ [])
+    (sheet_lines s)
 unfolding need_lines
 need_part s = record {
   above = above_findings s ++ findings_lines (findings_of s.base s.shown);
@@ -63,19 +68,21 @@ vote_indented : (v : VoteRow) → is_indented (vote_line v) ≡ true
 vote_indented v = refl
 
 -- indented lines, up to the next line that isn't
-all_indented : {X : Type 0} (f : X → List ℕ) → ((x : X) → is_indented (f x) ≡ true) → (xs : List X) (line : List ℕ) (lines : List (List ℕ)) → is_indented line ≡ false
-    → indented_first (map f xs ++ (line ∷ lines)) ≡ map f xs
+all_indented : {X : Type 0} (f : X → List ℕ) → ((x : X) → is_indented (f x) ≡ true) → (xs : List X) (line : List ℕ) (lines : List (List ℕ))
+    → is_indented line ≡ false → indented_first (map f xs ++ (line ∷ lines)) ≡ map f xs
 all_indented f each [] line lines other = ap (λ b. cond b (line ∷ indented_first lines) []) other
 all_indented f each (x ∷ xs) line lines other =
     ap (λ b. cond b (f x ∷ indented_first (map f xs ++ (line ∷ lines))) []) (each x) ∙ ap (λ ls. f x ∷ ls) (all_indented f each xs line lines other)
 
 -- the number after a label is that of the lines of a list below it
-number_below : {X : Type 0} (f : X → List ℕ) → ((x : X) → is_indented (f x) ≡ true) → (label : List ℕ) (xs : List X) (line : List ℕ) (above lines : List (List ℕ)) → is_indented line ≡ false
+number_below : {X : Type 0} (f : X → List ℕ) → ((x : X) → is_indented (f x) ≡ true)
+    → (label : List ℕ) (xs : List X) (line : List ℕ) (above lines : List (List ℕ)) → is_indented line ≡ false
     → above ++ ((label ++ decimal (length xs)) ∷ map f xs) ++ (line ∷ lines)
     ≡ above ++ ((label ++ decimal (length (indented_first (map f xs ++ (line ∷ lines))))) ∷ (map f xs ++ (line ∷ lines)))
 number_below f each label xs line above lines other =
     append_assoc above ((label ++ decimal (length xs)) ∷ map f xs) (line ∷ lines)
-    ∙ ap (λ n. above ++ ((label ++ decimal n) ∷ (map f xs ++ (line ∷ lines)))) (sym (length-map xs f) ∙ ap length (sym (all_indented f each xs line lines other)))
+    ∙ ap (λ n. above ++ ((label ++ decimal n) ∷ (map f xs ++ (line ∷ lines))))
+    (sym (length-map xs f) ∙ ap length (sym (all_indented f each xs line lines other)))
 
 pub findings_counted : (s : SheetValue) → CountsBelow (codes "findings: ") (sheet_lines s)
 unfolding findings_lines need_lines
@@ -103,7 +110,8 @@ votes_counted s =
 -- ---- what votes say
 
 -- the line of a vote from its end
-reversed : (voter word mark : List ℕ) → reverse (codes "  " ++ voter ++ codes " " ++ word ++ mark) ≡ reverse mark ++ (reverse word ++ (32 ∷ reverse (codes "  " ++ voter)))
+reversed : (voter word mark : List ℕ)
+    → reverse (codes "  " ++ voter ++ codes " " ++ word ++ mark) ≡ reverse mark ++ (reverse word ++ (32 ∷ reverse (codes "  " ++ voter)))
 reversed voter word mark =
     let name = codes "  " ++ voter in
     reverse-append (name ++ codes " " ++ word) mark
@@ -117,7 +125,8 @@ abbrev reject_back : List ℕ → Bool
 reject_back line = bytes_eq (take 7 line) (reverse (codes " reject")) || bytes_eq (take 16 line) (reverse (codes " reject security"))
 
 approval_said : (voter : List ℕ) (approve security counts : Bool)
-    → says_approve (codes "  " ++ voter ++ codes " " ++ vote_word approve ++ cond counts (cond security (codes " security") []) (codes " lapsed")) ≡ (counts && approve)
+    → says_approve (codes "  " ++ voter ++ codes " " ++ vote_word approve ++ cond counts (cond security (codes " security") []) (codes " lapsed"))
+    ≡ (counts && approve)
 approval_said voter true true true = ap approve_back (reversed voter (codes "approve") (codes " security"))
 approval_said voter true false true = ap approve_back (reversed voter (codes "approve") [])
 approval_said voter false true true = ap approve_back (reversed voter (codes "reject") (codes " security"))
@@ -126,7 +135,8 @@ approval_said voter true security false = ap approve_back (reversed voter (codes
 approval_said voter false security false = ap approve_back (reversed voter (codes "reject") (codes " lapsed"))
 
 rejection_said : (voter : List ℕ) (approve security counts : Bool)
-    → says_reject (codes "  " ++ voter ++ codes " " ++ vote_word approve ++ cond counts (cond security (codes " security") []) (codes " lapsed")) ≡ (counts && not approve)
+    → says_reject (codes "  " ++ voter ++ codes " " ++ vote_word approve ++ cond counts (cond security (codes " security") []) (codes " lapsed"))
+    ≡ (counts && not approve)
 rejection_said voter true true true = ap reject_back (reversed voter (codes "approve") (codes " security"))
 rejection_said voter true false true = ap reject_back (reversed voter (codes "approve") [])
 rejection_said voter false true true = ap reject_back (reversed voter (codes "reject") (codes " security"))
@@ -142,15 +152,18 @@ counted says is same before (v ∷ votes) =
     ap (λ b. fold (λ count v. count + cond (is v) 1 0) (before + cond b 1 0) votes) (sym (same v))
     ∙ counted says is same (before + cond (says (vote_line v)) 1 0) votes
 
-count_said : (says : List ℕ → Bool) (is : VoteRow → Bool) → ((v : VoteRow) → says (vote_line v) ≡ is v) → (votes : List VoteRow) → count_by is votes ≡ count_by says (map vote_line votes)
+count_said : (says : List ℕ → Bool) (is : VoteRow → Bool) → ((v : VoteRow) → says (vote_line v) ≡ is v) → (votes : List VoteRow)
+    → count_by is votes ≡ count_by says (map vote_line votes)
 count_said says is same votes = counted says is same 0 votes
 
 pub votes_said : (s : SheetValue) → CountsVotes (sheet_lines s)
 unfolding votes_lines
 votes_said s =
     let lines = map vote_line s.votes in
-    let approvals : count_by is_approval s.votes ≡ count_by says_approve lines = count_said says_approve is_approval (λ v. approval_said v.voter v.approve v.security v.counts) s.votes in
-    let rejections : count_by is_rejection s.votes ≡ count_by says_reject lines = count_said says_reject is_rejection (λ v. rejection_said v.voter v.approve v.security v.counts) s.votes in
+    let approvals : count_by is_approval s.votes ≡ count_by says_approve lines =
+    count_said says_approve is_approval (λ v. approval_said v.voter v.approve v.security v.counts) s.votes in
+    let rejections : count_by is_rejection s.votes ≡ count_by says_reject lines =
+    count_said says_reject is_rejection (λ v. rejection_said v.voter v.approve v.security v.counts) s.votes in
     record {
       above = above_votes s;
       votes = lines;

@@ -19,9 +19,11 @@ returns c =
     let three = string_bytes c.push_list-2.new.text in
     let four = string_bytes c.push_count.new.text in
     let five = string_bytes c.push_entries.new.text in
-    line_then (string_bytes c.args.text.now) one five default (architectures ∷ flags ∷ count ∷ entries) (c.in_ok-push_default.ensures ∙ ap (λ a. string_bytes c.args.text.now ++ ended (codes "seccomp: " ++ action_text a)) c.default_action.ensures)
+    line_then (string_bytes c.args.text.now) one five default (architectures ∷ flags ∷ count ∷ entries)
+    (c.in_ok-push_default.ensures ∙ ap (λ a. string_bytes c.args.text.now ++ ended (codes "seccomp: " ++ action_text a)) c.default_action.ensures)
     (line_then one two five architectures (flags ∷ count ∷ entries)
-    (c.in_ok-push_list.ensures ∙ ap (λ names. one ++ ended (codes "architectures: " ++ items_text names)) (map-id c.architectures.result.now ∙ c.architectures.ensures))
+    (c.in_ok-push_list.ensures ∙ ap (λ names. one ++ ended (codes "architectures: " ++ items_text names))
+    (map-id c.architectures.result.now ∙ c.architectures.ensures))
     (line_then two three five flags (count ∷ entries)
     (c.in_ok-push_list-2.ensures ∙ ap (λ names. two ++ ended (codes "flags: " ++ items_text names)) (map-id c.flags.result.now ∙ c.flags.ensures))
     (line_then three four five count entries

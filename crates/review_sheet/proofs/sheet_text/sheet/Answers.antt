@@ -35,7 +35,8 @@ returns c =
     let findings = c.in_ok-push_findings.ensures ∙ ap (λ fs. three ++ joined (findings_lines fs)) found_is in
     let caps = c.in_ok-push_caps.ensures ∙ ap (λ v. one ++ joined (caps_lines v.shown.caps)) same in
     let seccomp = c.in_ok-push_seccomp.ensures ∙ ap (λ v. two ++ joined (seccomp_lines v.shown.filter)) same in
-    let need = c.in_ok-push_need.ensures ∙ ap (λ l. four ++ joined (lines_by l (not c.is_empty.result))) (c.listed_in-listed.ensures ∙ ap (λ v. listed_in v.listed v.shown) same)
+    let need = c.in_ok-push_need.ensures ∙ ap (λ l. four ++ joined (lines_by l (not c.is_empty.result)))
+    (c.listed_in-listed.ensures ∙ ap (λ v. listed_in v.listed v.shown) same)
     ∙ ap (λ w. four ++ joined (lines_by (listed_in s.listed s.shown) w)) wide in
     let votes = c.in_ok-push_votes.ensures ∙ ap (λ vs. five ++ joined (votes_lines vs)) (c.as_slice-2.ensures.value ∙ ap (λ v. v.votes) same) in
     let tally = c.in_ok-push_tally.ensures ∙ ap (λ vs. six ++ joined (tally_lines vs)) (c.as_slice-3.ensures.value ∙ ap (λ v. v.votes) same) in
