@@ -1,5 +1,5 @@
 -- What the entries of a name are told by, and entries that are grouped.
-use Rattle.std.proofs.Common.{◌≡◌, ◌∙◌, ap, refl, sym, ℕ, ◌+◌, ◌<◌, List, [], ◌∷◌, ◌++◌, Bool, true, false, not, cond, ◌||◌, ◌&&◌, length, take, get_or, nat_le, bytes_eq, Option, Some, None, unwrap_or, inl, inr}
+use Rattle.std.proofs.Common.{◌≡◌, ◌∙◌, ap, refl, sym, ℕ, ◌+◌, ◌<◌, List, [], ◌∷◌, ◌++◌, Bool, true, false, not, cond, ◌||◌, ◌&&◌, length, take, drop, get_or, nat_le, nat_lt, bytes_eq, Option, Some, None, unwrap_or, append_assoc, arith, inl, inr}
 use Rattle.std.specs.Prelude.{filter}
 use Rattle.std.specs.Borrow.{Bor}
 use Rattle.std.specs.BTreeMap.{BTreeMap, is_at}
@@ -9,35 +9,37 @@ use Rattle.std.specs.Map.{lookup}
 use Rattle.std.specs.Option.{option_map_or}
 use Rattle.std.specs.Ordering.{nat_cmp}
 use Rattle.std.specs.declared.vec.Vec.{Vec}
-use Rattle.std.proofs.lemmas.Bool.{cases_Bool}
+use Rattle.std.proofs.Math.Seq.{drop-append_seam}
+use Rattle.std.proofs.lemmas.Bool.{and_from, cases_Bool, lt-ltb, ltb-true}
 use Rattle.std.proofs.lemmas.Bool.Decides.{same_from_decides}
-use Rattle.std.proofs.lemmas.List.{take_more}
-use Rattle.std.proofs.lemmas.List.Elements.{filter-append}
+use Rattle.std.proofs.lemmas.List.{drop_more, length-append, length-take-le, take_more}
+use Rattle.std.proofs.lemmas.List.Concat.{flat_map-append}
+use Rattle.std.proofs.lemmas.List.Elements.{All-weaker}
 use Rattle.std.proofs.lemmas.List.Folds.{list_any-append, list_any_more}
+use Rattle.std.proofs.lemmas.List.Sums.{AllPass-from_list_all}
 use Rattle.std.proofs.lemmas.Slice.Eq.{bytes_eq-Decides}
 use Rattle.seccomp_doc.specs.declared.action.Action.{Action}
 use Rattle.seccomp_doc.specs.Action.{rank_of}
 use Rattle.seccomp_doc.specs.Filter.{EntryValue, FilterValue}
 use Rattle.seccomp_doc.specs.Meaning.{has_name}
 use Rattle.implication.specs.Implication.{entry_implies}
-use Rattle.widening.specs.Calls.{Rules, entry_rank, is_at_most_entries, is_at_most_possible, is_covered, is_default_covered, is_kept, is_plain, keeps_to, permits_no_more, rules_of}
-use Rattle.widening.specs.Groups.{HasSameElements, entries_under, lent}
+use Rattle.widening.specs.Calls.{entry_rank, is_at_most_entries, is_at_most_possible, is_covered, is_default_covered, is_kept, is_plain, keeps_to, permits_no_more, rules_of}
+use Rattle.widening.specs.Groups.{AreWithin, HasSameElements, entries_at, places_from, places_of, places_under}
+use Rattle.widening.specs.Ranks.{rules_with}
+use Rattle.widening.proofs.Searches.{list_any-flat_map}
 
 -- ---- tests of lists with the same elements
 
-all_as_any : (p : EntryValue → Bool) (xs : List EntryValue) → list_all p xs ≡ not (list_any (λ x. not (p x)) xs)
+all_as_any : {X : Type 0} (p : X → Bool) (xs : List X) → list_all p xs ≡ not (list_any (λ x. not (p x)) xs)
 all_as_any p [] = refl
 all_as_any p (x ∷ xs) = elim (p x) as (λ b. (b && list_all p xs) ≡ not (not b || list_any (λ y. not (p y)) xs)) [ true ↦ all_as_any p xs | false ↦ refl ]
 
-all_same : (p : EntryValue → Bool) (xs ys : List EntryValue) → HasSameElements xs ys → list_all p xs ≡ list_all p ys
+pub all_same : {X : Type 0} (p : X → Bool) (xs ys : List X) → HasSameElements xs ys → list_all p xs ≡ list_all p ys
 all_same p xs ys same = all_as_any p xs ∙ ap not (same (λ x. not (p x))) ∙ sym (all_as_any p ys)
 
 all_alike : (p q : EntryValue → Bool) → ((x : EntryValue) → p x ≡ q x) → (xs : List EntryValue) → list_all p xs ≡ list_all q xs
 all_alike p q alike [] = refl
 all_alike p q alike (x ∷ xs) = ap (λ b. b && list_all p xs) (alike x) ∙ ap (λ b. q x && b) (all_alike p q alike xs)
-
-abbrev rules_with : Action → List EntryValue → Rules
-rules_with default entries = record { default = default; entries = entries }
 
 possible_same : (rank : ℕ) (d : Action) (xs ys : List EntryValue) → HasSameElements xs ys → is_at_most_possible rank (rules_with d xs) ≡ is_at_most_possible rank (rules_with d ys)
 possible_same rank d xs ys same =
@@ -70,89 +72,145 @@ permits_same d n xs ys zs ws same new =
 
 -- ---- one name more, and one entry more
 
-abbrev grown : (a b t h : Bool) → Bool
-grown a b t h = cond h ((a || (b && t)) || (t || false)) (a || (b && t))
-
-grown_is : (a b t h : Bool) → grown a b t h ≡ (a || ((b || h) && t))
-grown_is true b t true = refl
-grown_is true b t false = refl
-grown_is false true true true = refl
-grown_is false true true false = refl
-grown_is false true false true = refl
-grown_is false true false false = refl
-grown_is false false true true = refl
-grown_is false false true false = refl
-grown_is false false false true = refl
-grown_is false false false false = refl
-
-bytes_eq-swap : (a b : List ℕ) → bytes_eq a b ≡ bytes_eq b a
-bytes_eq-swap a b = let other = bytes_eq-Decides b a in same_from_decides _ _ (bytes_eq-Decides a b) ((λ e. sym (other.0 e)), (λ e. other.1 (sym e)))
-
--- `old`, `mid` and `new` give the entries under a name: at first, before this name of the entry, and after it
-pub name_added : (old mid new : List ℕ → List EntryValue) (names : List (List ℕ)) (i : ℕ) (name shown : List ℕ) (entry : EntryValue) →
-    i < length names → name ≡ get_or names i name → shown ≡ name →
-    ((q : List ℕ) (test : EntryValue → Bool) → list_any test (mid q) ≡ (list_any test (old q) || (list_any (bytes_eq q) (take i names) && test entry))) →
-    ((q : List ℕ) → new q ≡ cond (bytes_eq shown q) (mid shown ++ entry ∷ []) (mid q)) →
-    (q : List ℕ) (test : EntryValue → Bool) → list_any test (new q) ≡ (list_any test (old q) || (list_any (bytes_eq q) (take (i + 1) names) && test entry))
-name_added old mid new names i name shown entry within is same before adds q test =
-    let a = list_any test (old q) in
-    let b = list_any (bytes_eq q) (take i names) in
-    let more : list_any (bytes_eq q) (take (i + 1) names) ≡ (b || bytes_eq q name) = list_any_more (bytes_eq q) names i name within ∙ ap (λ n. b || bytes_eq q n) (sym is) in
-    let step : list_any test (new q) ≡ grown a b (test entry) (bytes_eq shown q) =
-    ap (list_any test) (adds q)
-    ∙ elim (cases_Bool (bytes_eq shown q)) as (λ _. list_any test (cond (bytes_eq shown q) (mid shown ++ entry ∷ []) (mid q)) ≡ grown a b (test entry) (bytes_eq shown q)) [
-      | inl here ↦
-          let is_q : shown ≡ q = (bytes_eq-Decides shown q).0 here in
-          ap (λ h. list_any test (cond h (mid shown ++ entry ∷ []) (mid q))) here
-          ∙ list_any-append test (mid shown) (entry ∷ [])
-          ∙ ap (λ n. list_any test (mid n) || (test entry || false)) is_q
-          ∙ ap (λ x. x || (test entry || false)) (before q test)
-          ∙ ap (λ h. grown a b (test entry) h) (sym here)
-      | inr gone ↦
-          ap (λ h. list_any test (cond h (mid shown ++ entry ∷ []) (mid q))) gone
-          ∙ before q test ∙ ap (λ h. grown a b (test entry) h) (sym gone)
-    ] in
-    step ∙ ap (grown a b (test entry)) (bytes_eq-swap shown q ∙ ap (bytes_eq q) same)
-    ∙ grown_is a b (test entry) (bytes_eq q name) ∙ ap (λ x. a || (x && test entry)) (sym more)
-
 or_none : (b : Bool) → (b || false) ≡ b
 or_none true = refl
 or_none false = refl
 
-filter_last : (name : List ℕ) (e : EntryValue) (test : EntryValue → Bool) → list_any test (filter (has_name name) (e ∷ [])) ≡ (has_name name e && test e)
-filter_last name e test = elim (has_name name e) as (λ b. list_any test (cond b (e ∷ []) []) ≡ (b && test e)) [ true ↦ or_none (test e) | false ↦ refl ]
+or_spread : (a b t h : Bool) → ((a || (b && t)) || (h && t)) ≡ (a || ((b || h) && t))
+or_spread true b t h = refl
+or_spread false true true h = refl
+or_spread false true false true = refl
+or_spread false true false false = refl
+or_spread false false t h = refl
 
-pub entry_added : (old new : List ℕ → List EntryValue) (es : List EntryValue) (i : ℕ) (e : EntryValue) → i < length es → e ≡ get_or es i e →
-    ((q : List ℕ) → HasSameElements (old q) (filter (has_name q) (take i es))) →
-    ((q : List ℕ) (test : EntryValue → Bool) → list_any test (new q) ≡ (list_any test (old q) || (list_any (bytes_eq q) e.names && test e))) →
-    (q : List ℕ) → HasSameElements (new q) (filter (has_name q) (take (i + 1) es))
+bytes_eq-swap : (a b : List ℕ) → bytes_eq a b ≡ bytes_eq b a
+bytes_eq-swap a b = let other = bytes_eq-Decides b a in same_from_decides _ _ (bytes_eq-Decides a b) ((λ e. sym (other.0 e)), (λ e. other.1 (sym e)))
+
+-- `old`, `mid` and `new` give the places under a name: at first, before this name of the entry, and after it
+pub name_added : (old mid new : List ℕ → List ℕ) (names : List (List ℕ)) (i : ℕ) (name shown : List ℕ) (place : ℕ) →
+    i < length names → name ≡ get_or names i name → shown ≡ name →
+    ((q : List ℕ) (test : ℕ → Bool) → list_any test (mid q) ≡ (list_any test (old q) || (list_any (bytes_eq q) (take i names) && test place))) →
+    ((q : List ℕ) (test : ℕ → Bool) → list_any test (new q) ≡ (list_any test (mid q) || (bytes_eq shown q && test place))) →
+    (q : List ℕ) (test : ℕ → Bool) → list_any test (new q) ≡ (list_any test (old q) || (list_any (bytes_eq q) (take (i + 1) names) && test place))
+name_added old mid new names i name shown place within is same before adds q test =
+    let a = list_any test (old q) in
+    let b = list_any (bytes_eq q) (take i names) in
+    let more : list_any (bytes_eq q) (take (i + 1) names) ≡ (b || bytes_eq q name) = list_any_more (bytes_eq q) names i name within ∙ ap (λ n. b || bytes_eq q n) (sym is) in
+    adds q test
+    ∙ ap (λ x. x || (bytes_eq shown q && test place)) (before q test)
+    ∙ or_spread a b (test place) (bytes_eq shown q)
+    ∙ ap (λ h. a || ((b || h) && test place)) (bytes_eq-swap shown q ∙ ap (bytes_eq q) same)
+    ∙ ap (λ x. a || (x && test place)) (sym more)
+
+places_from-push : (first : ℕ) (test : EntryValue → Bool) (es : List EntryValue) (e : EntryValue) →
+    places_from first test (es ++ e ∷ []) ≡ places_from first test es ++ cond (test e) ((first + length es) ∷ []) []
+places_from-push first test [] e = ap (λ n. cond (test e) (n ∷ []) []) (omega arith)
+places_from-push first test (d ∷ es) e =
+    let rest : places_from (first + 1) test (es ++ e ∷ []) ≡ places_from (first + 1) test es ++ cond (test e) ((first + length (d ∷ es)) ∷ []) [] =
+    places_from-push (first + 1) test es e ∙ ap (λ n. places_from (first + 1) test es ++ cond (test e) (n ∷ []) []) (omega arith) in
+    elim (test d) as (λ b. cond b (first ∷ places_from (first + 1) test (es ++ e ∷ [])) (places_from (first + 1) test (es ++ e ∷ []))
+    ≡ cond b (first ∷ places_from (first + 1) test es) (places_from (first + 1) test es) ++ cond (test e) ((first + length (d ∷ es)) ∷ []) []) [
+      | true ↦ ap (λ ps. first ∷ ps) rest
+      | false ↦ rest
+    ]
+
+any_last : (test : ℕ → Bool) (h : Bool) (n : ℕ) → list_any test (cond h (n ∷ []) []) ≡ (h && test n)
+any_last test true n = or_none (test n)
+any_last test false n = refl
+
+pub entry_added : (old new : List ℕ → List ℕ) (es : List EntryValue) (i : ℕ) (e : EntryValue) → i < length es → e ≡ get_or es i e →
+    ((q : List ℕ) → HasSameElements (old q) (places_of q (take i es))) →
+    ((q : List ℕ) (test : ℕ → Bool) → list_any test (new q) ≡ (list_any test (old q) || (list_any (bytes_eq q) e.names && test i))) →
+    (q : List ℕ) → HasSameElements (new q) (places_of q (take (i + 1) es))
 entry_added old new es i e within is before adds q test =
-    adds q test ∙ ap (λ b. b || (has_name q e && test e)) (before q test)
-    ∙ ap (λ b. list_any test (filter (has_name q) (take i es)) || b) (sym (filter_last q e test))
-    ∙ sym (list_any-append test (filter (has_name q) (take i es)) (filter (has_name q) (e ∷ [])))
-    ∙ ap (list_any test) (sym (filter-append (has_name q) (take i es) (e ∷ [])))
-    ∙ ap (λ ds. list_any test (filter (has_name q) ds)) (ap (λ d. take i es ++ d ∷ []) is ∙ sym (take_more es i e within))
+    let count : length (take i es) ≡ i = length-take-le i es (omega arith) in
+    adds q test ∙ ap (λ b. b || (has_name q e && test i)) (before q test)
+    ∙ ap (λ b. list_any test (places_of q (take i es)) || b) (ap (λ n. has_name q e && test n) (sym count) ∙ sym (any_last test (has_name q e) (length (take i es))))
+    ∙ sym (list_any-append test (places_of q (take i es)) (cond (has_name q e) (length (take i es) ∷ []) []))
+    ∙ ap (list_any test) (ap (λ n. places_of q (take i es) ++ cond (has_name q e) (n ∷ []) []) (omega arith) ∙ sym (places_from-push 0 (has_name q) (take i es) e))
+    ∙ ap (λ ds. list_any test (places_of q ds)) (ap (λ d. take i es ++ d ∷ []) is ∙ sym (take_more es i e within))
 
 -- ---- one group
 
 -- without entries there is no group
-pub none_under : {A : Type 0} (groups : BTreeMap (Bor (List ℕ)) (Vec (Bor EntryValue) A)) → groups.entries ≡ [] → (name : List ℕ) → entries_under groups name ≡ []
-none_under groups none name = ap (λ es. option_map_or (λ g. lent g.items) (lookup (is_at (λ key. slice_cmp nat_cmp name key.now)) es) []) none
+pub none_under : {A : Type 0} (groups : BTreeMap (Bor (List ℕ)) (Vec ℕ A)) → groups.entries ≡ [] → (name : List ℕ) → places_under groups name ≡ []
+none_under groups none name = ap (λ es. option_map_or (λ g. g.items) (lookup (is_at (λ key. slice_cmp nat_cmp name key.now)) es) []) none
 
-pub group_or : {A : Type 0} (o : Option (Vec (Bor EntryValue) A)) (empty : Vec (Bor EntryValue) A) → empty.items ≡ [] →
-    lent (unwrap_or o empty).items ≡ option_map_or (λ g. lent g.items) o []
-group_or None empty none = ap lent none
+pub group_or : {A : Type 0} (o : Option (Vec ℕ A)) (empty : Vec ℕ A) → empty.items ≡ [] → (unwrap_or o empty).items ≡ option_map_or (λ g. g.items) o []
+group_or None empty none = none
 group_or (Some group) empty none = refl
 
--- a group with one entry more, under its name
-pub group_added : {A : Type 0} (name q : List ℕ) (old : List ℕ → List EntryValue) (group : Vec (Bor EntryValue) A) (other : Option (Vec (Bor EntryValue) A)) (entry : EntryValue) →
-    lent group.items ≡ old name ++ entry ∷ [] → (bytes_eq name q ≡ false → option_map_or (λ g. lent g.items) other [] ≡ old q) →
-    option_map_or (λ g. lent g.items) (cond (bytes_eq name q) (Some group) other) [] ≡ cond (bytes_eq name q) (old name ++ entry ∷ []) (old q)
-group_added name q old group other entry here elsewhere =
-    elim (bytes_eq name q) as (λ b. (b ≡ false → option_map_or (λ g. lent g.items) other [] ≡ old q) → option_map_or (λ g. lent g.items) (cond b (Some group) other) [] ≡ cond b (old name ++ entry ∷ []) (old q)) [
-      | true ↦ λ _. here
-      | false ↦ λ same. same refl
-    ] elsewhere
+-- ---- the entries at places
+
+passing : (test t : EntryValue → Bool) (before es : List EntryValue) →
+    list_any (λ p. list_any t (take 1 (drop p (before ++ es)))) (places_from (length before) test es) ≡ list_any t (filter test es)
+passing test t before [] = refl
+passing test t before (e ∷ es) =
+    let here : list_any t (take 1 (drop (length before) (before ++ e ∷ es))) ≡ t e = ap (λ ds. list_any t (take 1 ds)) (drop-append_seam before (e ∷ es)) ∙ or_none (t e) in
+    let at : ℕ → List EntryValue → Bool = λ n ds. list_any (λ p. list_any t (take 1 (drop p ds))) (places_from n test es) in
+    let rest : at (length before + 1) (before ++ e ∷ es) ≡ list_any t (filter test es) =
+    ap (λ n. at n (before ++ e ∷ es)) (sym (length-append before (e ∷ []))) ∙ ap (at (length (before ++ e ∷ []))) (sym (append_assoc before (e ∷ []) es))
+    ∙ passing test t (before ++ e ∷ []) es in
+    elim (test e) as (λ b. list_any (λ p. list_any t (take 1 (drop p (before ++ e ∷ es)))) (cond b (length before ∷ places_from (length before + 1) test es) (places_from (length before + 1) test es))
+    ≡ list_any t (cond b (e ∷ filter test es) (filter test es))) [
+      | true ↦ ap (λ b. b || at (length before + 1) (before ++ e ∷ es)) here ∙ ap (λ b. t e || b) rest
+      | false ↦ rest
+    ]
+
+-- the entries at the places of a name
+pub named_at : (name : List ℕ) (es : List EntryValue) (places : List ℕ) → HasSameElements places (places_of name es) → HasSameElements (entries_at es places) (filter (has_name name) es)
+named_at name es places same t =
+    list_any-flat_map t (λ p. take 1 (drop p es)) places
+    ∙ same (λ p. list_any t (take 1 (drop p es)))
+    ∙ passing (has_name name) t [] es
+
+places_below : (first : ℕ) (test : EntryValue → Bool) (es : List EntryValue) (n : ℕ) → first + length es ≡ n → list_all (λ p. nat_lt p n) (places_from first test es) ≡ true
+places_below first test [] n end = refl
+places_below first test (e ∷ es) n end =
+    let rest = places_below (first + 1) test es n (omega (arith, end)) in
+    elim (test e) as (λ b. list_all (λ p. nat_lt p n) (cond b (first ∷ places_from (first + 1) test es) (places_from (first + 1) test es)) ≡ true) [
+      | true ↦ and_from (nat_lt first n) (list_all (λ p. nat_lt p n) (places_from (first + 1) test es)) (lt-ltb first n (omega (arith, end))) rest
+      | false ↦ rest
+    ]
+
+pub named_within : (name : List ℕ) (es : List EntryValue) (places : List ℕ) → HasSameElements places (places_of name es) → AreWithin es places
+named_within name es places same =
+    All-weaker (λ (p : ℕ). nat_lt p (length es) ≡ true) (λ (p : ℕ). p < length es) (λ p below. ltb-true p (length es) below) places
+    (AllPass-from_list_all (λ p. nat_lt p (length es)) places
+    (all_same (λ p. nat_lt p (length es)) places (places_of name es) same ∙ places_below 0 (has_name name) es (length es) (omega arith)))
+
+-- one place more
+pub entries_at-push : (es : List EntryValue) (places : List ℕ) (place : ℕ) (e : EntryValue) → place < length es → e ≡ get_or es place e →
+    entries_at es (places ++ place ∷ []) ≡ entries_at es places ++ e ∷ []
+entries_at-push es places place e within is =
+    flat_map-append (λ p. take 1 (drop p es)) places (place ∷ [])
+    ∙ ap (λ ds. entries_at es places ++ (take 1 ds ++ [])) (drop_more es place e within)
+    ∙ ap (λ d. entries_at es places ++ d ∷ []) (sym is)
+
+pub entries_at-more : (es : List EntryValue) (places : List ℕ) (i place : ℕ) (e : EntryValue) → i < length places → place ≡ get_or places i place →
+    place < length es → e ≡ get_or es place e → entries_at es (take (i + 1) places) ≡ entries_at es (take i places) ++ e ∷ []
+entries_at-more es places i place e within is place_within e_is =
+    ap (entries_at es) (take_more places i place within ∙ ap (λ p. take i places ++ p ∷ []) (sym is)) ∙ entries_at-push es (take i places) place e place_within e_is
+
+-- the places under a name, where a place was added under one
+pub under_added : {A : Type 0} (name q : List ℕ) (old : List ℕ → List ℕ) (after : Vec ℕ A) (found other : Option (Vec ℕ A)) (place : ℕ) (test : ℕ → Bool) →
+    found ≡ cond (bytes_eq name q) (Some after) other → option_map_or (λ g. g.items) other [] ≡ old q →
+    ((t : ℕ → Bool) → list_any t after.items ≡ (list_any t (old name) || t place)) →
+    list_any test (option_map_or (λ g. g.items) found []) ≡ (list_any test (old q) || (bytes_eq name q && test place))
+under_added name q old after found other place test is elsewhere adds =
+    ap (λ o. list_any test (option_map_or (λ g. g.items) o [])) is
+    ∙ elim (cases_Bool (bytes_eq name q)) as (λ _. list_any test (option_map_or (λ g. g.items) (cond (bytes_eq name q) (Some after) other) []) ≡ (list_any test (old q) || (bytes_eq name q && test place))) [
+      | inl here ↦
+          ap (λ b. list_any test (option_map_or (λ g. g.items) (cond b (Some after) other) [])) here
+          ∙ adds test
+          ∙ ap (λ n. list_any test (old n) || test place) ((bytes_eq-Decides name q).0 here)
+          ∙ ap (λ b. list_any test (old q) || (b && test place)) (sym here)
+      | inr gone ↦
+          ap (λ b. list_any test (option_map_or (λ g. g.items) (cond b (Some after) other) [])) gone
+          ∙ ap (list_any test) elsewhere
+          ∙ sym (or_none (list_any test (old q)))
+          ∙ ap (λ b. list_any test (old q) || (b && test place)) (sym gone)
+    ]
 
 -- the test of a name by the groups of two filters
 pub grouped_keeps : (base new : FilterValue) (name : List ℕ) (d n : Action) (xs zs : List EntryValue) → d ≡ base.default → n ≡ new.default →

@@ -5,5 +5,8 @@ pub mod CapFacts
 pub mod FoundFacts
 pub mod WiderFacts
 pub mod GroupFacts
+pub mod RankFacts
+pub mod MemoFacts
 pub mod Permitted
 pub mod Itself
+pub mod Ordered

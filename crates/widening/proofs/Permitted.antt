@@ -1,13 +1,11 @@
 -- Where nothing is found, nothing is permitted more.
-use Rattle.std.proofs.Common.{◌≡◌, ◌∙◌, ap, refl, sym, ℕ, ◌≤◌, List, [], ◌∷◌, ◌++◌, false, not, cond, ◌&&◌, Option, Some, None, nat_lt, inl, inr, ltb-false, arith, bytes_eq}
+use Rattle.std.proofs.Common.{◌≡◌, ◌∙◌, ap, refl, sym, ℕ, ◌≤◌, List, [], ◌∷◌, ◌++◌, false, not, cond, ◌&&◌, Option, Some, None, nat_lt, inl, inr, ltb-false, bytes_eq}
 use Rattle.std.specs.Prelude.{find}
 use Rattle.std.specs.List.{list_any}
 use Rattle.std.specs.Option.{option_map_or}
 use Rattle.std.proofs.lemmas.Bool.{cases_Bool, cond-true, or_parts, both_ways}
 use Rattle.std.proofs.lemmas.List.Folds.{list_any-append}
 use Rattle.cap_sets.specs.declared.state.CapState.{CapState}
-use Rattle.seccomp_doc.specs.declared.action.Action.{Action}
-use Rattle.seccomp_doc.specs.declared.action.Action.TheVariants.{KillProcess, KillThread, Trap, Errno, Trace, Log, Allow}
 use Rattle.seccomp_doc.specs.Action.{rank_of}
 use Rattle.seccomp_doc.specs.Filter.{EntryValue, FilterValue}
 use Rattle.seccomp_doc.specs.Meaning.{admits_words, has_name, is_match, meaning}
@@ -21,6 +19,7 @@ use Rattle.widening.specs.Findings.{arch_findings, call_findings, call_names, ca
 use Rattle.widening.specs.Permits.{AllowsNoMore, HoldsNoMore, IsNoWider, action_under}
 use Rattle.widening.specs.Texts.{lists}
 use Rattle.widening.proofs.CapFacts.{within_from_nothing}
+use Rattle.widening.proofs.RankFacts.{rank-most}
 use Rattle.widening.proofs.Searches.{is_empty_map}
 use Rattle.widening.proofs.RulesFacts.{meaning-rules, rules_at_most}
 use Rattle.widening.proofs.WiderFacts.{lists-names}
@@ -74,15 +73,6 @@ module _ (base new : FilterValue) where
               unnamed-default base name words (sym (lists-names name base.entries) ∙ gone.0),
             ) (default_below default)
       ]
-
-rank-most : (a : Action) → rank_of a ≤ 6
-rank-most KillProcess = omega arith
-rank-most KillThread = omega arith
-rank-most Trap = omega arith
-rank-most (Errno n) = omega arith
-rank-most (Trace n) = omega arith
-rank-most Log = omega arith
-rank-most Allow = omega arith
 
 -- the same where a profile may have no filter
 pub allows_no_more : (base new : Option FilterValue) → filter_findings base new ≡ [] → AllowsNoMore base new

@@ -74,6 +74,15 @@ filter_findings (Some base) (Some new) = between_filters base new
 unfoldable pub findings_of : Profile → Profile → List Finding
 findings_of base new = cap_findings base.caps new.caps ++ filter_findings base.filter new.filter
 
+-- the name of the call that a finding is of, if it is of one
+abbrev pub called_by : Finding → List (List ℕ)
+called_by (Call name) = name ∷ []
+called_by finding = []
+
+-- the names of the calls that are found, in the order of the findings
+abbrev pub called : List Finding → List (List ℕ)
+called found = flat_map called_by found
+
 -- something was found
 abbrev pub is_found : List Finding → Bool
 is_found [] = false

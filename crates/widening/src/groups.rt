@@ -1,21 +1,43 @@
 // Entries grouped by the names of their calls.
 
-ghost use Rattle.std.specs.Prelude.{◌≡◌, ◌∷◌, ◌++◌, [], ℕ, List, bytes_eq, false, filter, if◌then◌else◌, IfOk, OnOk};
+ghost use Rattle.std.specs.Prelude.{◌≡◌, [], ℕ, Bool, List, ◌&&◌, ◌||◌, bytes_eq, filter, IfOk, OnOk};
+ghost use Rattle.std.specs.List.{list_any};
 ghost use Rattle.seccomp_doc.specs.Meaning.{has_name};
 ghost use Rattle.widening.specs.Calls.{keeps_to};
-ghost use Rattle.widening.specs.Groups.{AddsUnder, HasSameElements, IsGrouping, entries_under, lent};
+ghost use Rattle.widening.specs.Groups.{AddsPlace, AddsUnder, AreWithin, HasSameElements, IsGrouping, entries_at, places_under};
+ghost use Rattle.widening.specs.Memo.{IsMemo};
+ghost use Rattle.widening.specs.Ranks.{AreRanksOf, rules_with};
 
-use crate::rules::{CallRules, permits_no_more};
-use seccomp_doc::{Entry, Filter};
+use crate::memo::{Memo, do_imply};
+use crate::ranks::{Ranks, asked_of_base, asked_of_new};
+use seccomp_doc::{Action, Entry, Filter};
 use std::alloc::{AllocError, Global};
 use std::collections::BTreeMap;
 
-// A filter, and its entries by the names of their calls. `none` stands for the group of a name that no entry has.
+// The entries of one name: those at these places.
+#[derive(Drop)]
+pub(crate) struct Group<'b> {
+    pub(crate) entries: &'b [Entry],
+    pub(crate) places: &'b [usize],
+    ghost within: { AreWithin entries.now places.now },
+}
+
+impl<'b> Group<'b> {
+    // The ranks of what may be done with a call of the name.
+    fn ranks(&self, default: Action) -> Ranks
+        ensures { AreRanksOf result (rules_with default (entries_at self.now.entries.now self.now.places.now)) }
+    {
+        ranks_at(default, self.entries, self.places)
+    }
+}
+
+// A filter, and the places of its entries by the names of their calls. `none` stands for the group of a name that no entry
+// has.
 #[derive(Drop)]
 pub(crate) struct Groups<'a> {
     filter: &'a Filter,
-    by_name: BTreeMap<&'a str, Vec<&'a Entry>>,
-    none: Vec<&'a Entry>,
+    by_name: BTreeMap<&'a str, Vec<usize>>,
+    none: Vec<usize>,
     ghost grouped: { IsGrouping filter.now.entries by_name },
     ghost none_is_empty: { none.items ≡ [] },
 }
@@ -33,89 +55,118 @@ impl<'a> Groups<'a> {
         })
     }
 
-    // What the filter says of a name.
-    fn rules<'b>(&'b self, name: &str) -> CallRules<'b, 'a>
-        ensures default { result.default ≡ self.now.filter.now.default }
-        ensures entries { HasSameElements result.entries (filter (has_name name.now) self.now.filter.now.entries) }
+    // The entries of a name.
+    fn group<'b>(&'b self, name: &str) -> Group<'b>
+        ensures filter { result.entries.now ≡ self.now.filter.now.entries }
+        ensures named { HasSameElements (entries_at result.entries.now result.places.now) (filter (has_name name.now) self.now.filter.now.entries) }
     {
-        CallRules {
-            default: self.filter.default_action(),
-            entries: entries_of(&self.by_name, &self.none, name),
+        Group {
+            entries: self.filter.entries(),
+            places: places_at(&self.by_name, &self.none, name),
         }
     }
 }
 
-// Whether the new filter permits no call of this name more than the baseline.
-pub(crate) fn keeps_to(base: &Groups, new: &Groups, name: &str) -> bool
-    ensures { result ≡ keeps_to base.now.filter.now new.now.filter.now name.now }
+// The ranks of what may be done with a call, where the entries at these places are those of its name.
+fn ranks_at(default: Action, entries: &[Entry], places: &[usize]) -> Ranks
+    requires { AreWithin entries.now places.now }
+    ensures { AreRanksOf result (rules_with default (entries_at entries.now places.now)) }
 {
-    permits_no_more(&base.rules(name), &new.rules(name))
+    let mut ranks = Ranks::of_default(default);
+    for place in places {
+        ranks = ranks.with(&entries[*place]);
+    }
+    ranks
 }
 
-// The entries under a name, or `none` where there is no group.
-fn entries_of<'b, 'a>(
-    groups: &'b BTreeMap<&'a str, Vec<&'a Entry>>,
-    none: &'b Vec<&'a Entry>,
+// Whether the new filter permits no call of this name more than the baseline.
+pub(crate) fn keeps_to(
+    alloc: Global,
+    base: &Groups,
+    new: &Groups,
+    memo: &mut Memo,
     name: &str,
-) -> &'b [&'a Entry]
+) -> Result<bool, AllocError>
+    requires { IsMemo base.now.filter.now.entries new.now.filter.now.entries memo.old.of_new.items memo.old.of_base.items }
+    ensures memo { OnOk result (IsMemo base.now.filter.now.entries new.now.filter.now.entries memo.new.of_new.items memo.new.of_base.items) }
+    ensures told { IfOk result (λ told. told ≡ keeps_to base.now.filter.now new.now.filter.now name.now) }
+{
+    let base_group = base.group(name);
+    let new_group = new.group(name);
+    let base_ranks = base_group.ranks(base.filter.default_action());
+    let new_ranks = new_group.ranks(new.filter.default_action());
+    let of_new = asked_of_new(base_ranks, new_ranks);
+    let of_base = asked_of_base(base_ranks, new_ranks);
+    let new_entries_do = do_imply(alloc, &mut memo.of_new, of_new, &new_group, &base_group)?;
+    if !new_entries_do {
+        return Ok(false);
+    }
+    let base_entries_do = do_imply(alloc, &mut memo.of_base, of_base, &base_group, &new_group)?;
+    Ok(base_entries_do)
+}
+
+// The places under a name, or `none` where there is no group.
+fn places_at<'b>(
+    groups: &'b BTreeMap<&str, Vec<usize>>,
+    none: &'b Vec<usize>,
+    name: &str,
+) -> &'b [usize]
     requires { none.now.items ≡ [] }
-    ensures { lent result.now ≡ entries_under groups.now name.now }
+    ensures { result.now ≡ places_under groups.now name.now }
 {
     groups.get(name).unwrap_or(none).as_slice()
 }
 
-// The entries of each name. An entry stands in a group as often as it has the name.
+// The places of the entries of each name.
 fn group_by_name<'a>(
     alloc: Global,
     filter: &'a Filter,
-) -> Result<BTreeMap<&'a str, Vec<&'a Entry>>, AllocError>
+) -> Result<BTreeMap<&'a str, Vec<usize>>, AllocError>
     ensures { IfOk result (IsGrouping filter.now.entries) }
 {
     let mut groups = BTreeMap::new(alloc);
-    for entry in filter.entries() {
-        add_entry(alloc, &mut groups, entry)?;
+    let entries = filter.entries();
+    for place in 0..entries.len() {
+        add_entry(alloc, &mut groups, &entries[place], place)?;
     }
     Ok(groups)
 }
 
-// Adds an entry under each of its names.
+// Adds the place of an entry under each of its names.
 fn add_entry<'a>(
     alloc: Global,
-    groups: &mut BTreeMap<&'a str, Vec<&'a Entry>>,
+    groups: &mut BTreeMap<&'a str, Vec<usize>>,
     entry: &'a Entry,
+    place: usize,
 ) -> Result<(), AllocError>
-    ensures { OnOk result (AddsUnder groups.old groups.new entry.now.names entry.now) }
+    ensures { OnOk result (AddsUnder groups.old groups.new entry.now.names place) }
 {
     for name in entry.names() {
-        add_under(alloc, groups, name.as_str(), entry)?;
+        add_under(alloc, groups, name.as_str(), place)?;
     }
     Ok(())
 }
 
-// Adds an entry under a name.
+// Adds a place under a name.
 fn add_under<'a>(
     alloc: Global,
-    groups: &mut BTreeMap<&'a str, Vec<&'a Entry>>,
+    groups: &mut BTreeMap<&'a str, Vec<usize>>,
     name: &'a str,
-    entry: &'a Entry,
+    place: usize,
 ) -> Result<(), AllocError>
-    ensures { OnOk result ((q : List ℕ) → entries_under groups.new q
-        ≡ (if bytes_eq name.now q then entries_under groups.old name.now ++ entry.now ∷ [] else entries_under groups.old q)) }
+    ensures { OnOk result ((q : List ℕ) (test : ℕ → Bool) → list_any test (places_under groups.new q)
+        ≡ (list_any test (places_under groups.old q) || (bytes_eq name.now q && test place))) }
 {
-    let mut group = take_group(alloc, groups, name);
-    group.push(entry)?;
-    groups.insert(name, group)?;
+    add_place(groups.entry(name)?.or_insert(Vec::new(alloc)), place)?;
     Ok(())
 }
 
-// Takes the entries of a name out.
-fn take_group<'a>(
-    alloc: Global,
-    groups: &mut BTreeMap<&'a str, Vec<&'a Entry>>,
-    name: &'a str,
-) -> Vec<&'a Entry>
-    ensures group { lent result.items ≡ entries_under groups.old name.now }
-    ensures others { (q : List ℕ) → bytes_eq name.now q ≡ false → entries_under groups.new q ≡ entries_under groups.old q }
+// Adds a place, unless it is the last: an entry that has a name twice stands under it once.
+fn add_place(places: &mut Vec<usize>, place: usize) -> Result<(), AllocError>
+    ensures { OnOk result (AddsPlace places.old.items places.new.items place) }
 {
-    groups.remove(name).unwrap_or(Vec::new(alloc))
+    if places.last() != Some(&place) {
+        places.push(place)?;
+    }
+    Ok(())
 }

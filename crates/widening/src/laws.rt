@@ -1,10 +1,13 @@
 // What holds of findings, apart from any call.
 
 ghost use Rattle.std.specs.Prelude.{◌≡◌, [], false, IfSome};
+ghost use Rattle.std.specs.Cmp.Lexicographic.{slice_cmp};
+ghost use Rattle.std.specs.List.Sorted.{IsStrictlySortedBy};
+ghost use Rattle.std.specs.Ordering.{nat_cmp};
 ghost use Rattle.profile_text.specs.Reads.{HasKnownCaps};
 ghost use Rattle.profile_text.specs.declared.profile.Profile.{Profile};
 ghost use Rattle.seccomp_doc.specs.Lawful.{IsLawful};
-ghost use Rattle.widening.specs.Findings.{findings_of, is_wider};
+ghost use Rattle.widening.specs.Findings.{called, findings_of, is_wider};
 ghost use Rattle.widening.specs.Permits.{IsNoWider};
 
 /// Where nothing is found, the new profile permits no more than its baseline: each of its five capability sets is within
@@ -17,4 +20,9 @@ pub fn no_finding_permits_no_more()
 /// Nothing is found between a profile and itself.
 pub fn nothing_is_found_against_itself()
     ensures { (p : Profile) → IfSome p.filter IsLawful → findings_of p p ≡ [] }
+{}
+
+/// The names of the calls that are found stand once each, in byte order.
+pub fn calls_are_found_in_byte_order()
+    ensures { (base new : Profile) → IsStrictlySortedBy (slice_cmp nat_cmp) (called (findings_of base new)) }
 {}

@@ -13,15 +13,15 @@ mod groups;
 mod laws;
 mod listed;
 mod listing;
-#[cfg(test)]
-mod plain_tests;
-mod rules;
-#[cfg(test)]
-mod tests;
+mod memo;
+mod ranks;
 mod wider;
 
 pub use finding::Finding;
-pub use laws::{no_finding_permits_no_more, nothing_is_found_against_itself};
+pub use implication::{entry_implies, implies};
+pub use laws::{
+    calls_are_found_in_byte_order, no_finding_permits_no_more, nothing_is_found_against_itself,
+};
 pub use listing::findings;
 pub use profile_text::CapSet;
 pub use wider::is_wider;

@@ -3,12 +3,14 @@
 ghost use Rattle.std.specs.Prelude.{◌≡◌, ◌∷◌, ◌++◌, [], filter, if◌then◌else◌, map, IfOk, OnOk};
 ghost use Rattle.widening.specs.Calls.{entry_names, is_permitted_more};
 ghost use Rattle.widening.specs.Findings.{between_filters, call_findings, default_findings, filter_findings, findings_of};
+ghost use Rattle.widening.specs.Memo.{IsMemo};
 ghost use Rattle.widening.specs.Texts.{put_in_order, texts_in};
 
 use crate::caps::find_caps;
 use crate::finding::Finding;
 use crate::groups::{Groups, keeps_to};
 use crate::listed::{find_architectures, find_flags};
+use crate::memo::Memo;
 use profile_text::Profile;
 use seccomp_doc::{CallName, Entry, Filter};
 use std::alloc::{AllocError, Global};
@@ -93,7 +95,8 @@ fn find_calls(
     add_entries(&mut names, new.entries())?;
     let base_groups = Groups::new(alloc, base)?;
     let new_groups = Groups::new(alloc, new)?;
-    find_named(alloc, found, &base_groups, &new_groups, &names)
+    let mut memo = Memo::new(alloc, base, new)?;
+    find_named(alloc, found, &base_groups, &new_groups, &mut memo, &names)
 }
 
 // Adds each of these names, where the new filter may permit a call of it more.
@@ -102,13 +105,15 @@ fn find_named(
     found: &mut Vec<Finding>,
     base: &Groups,
     new: &Groups,
+    memo: &mut Memo,
     names: &BTreeSet<&str>,
 ) -> Result<(), AllocError>
+    requires { IsMemo base.now.filter.now.entries new.now.filter.now.entries memo.old.of_new.items memo.old.of_base.items }
     ensures { OnOk result (found.new.items ≡ found.old.items
         ++ map Finding.Call (filter (is_permitted_more base.now.filter.now new.now.filter.now) (texts_in names.now))) }
 {
     for name in names {
-        find_call(alloc, found, base, new, name)?;
+        find_call(alloc, found, base, new, memo, name)?;
     }
     Ok(())
 }
@@ -119,12 +124,15 @@ fn find_call(
     found: &mut Vec<Finding>,
     base: &Groups,
     new: &Groups,
+    memo: &mut Memo,
     name: &str,
 ) -> Result<(), AllocError>
-    ensures { OnOk result (found.new.items ≡ found.old.items
+    requires { IsMemo base.now.filter.now.entries new.now.filter.now.entries memo.old.of_new.items memo.old.of_base.items }
+    ensures memo { OnOk result (IsMemo base.now.filter.now.entries new.now.filter.now.entries memo.new.of_new.items memo.new.of_base.items) }
+    ensures found { OnOk result (found.new.items ≡ found.old.items
         ++ (if is_permitted_more base.now.filter.now new.now.filter.now name.now then Finding.Call name.now ∷ [] else [])) }
 {
-    if !keeps_to(base, new, name) {
+    if !keeps_to(alloc, base, new, memo, name)? {
         let name = CallName::read(alloc, name).map_err(|_| AllocError)?;
         found.push(Finding::Call(name))?;
     }

@@ -18,7 +18,8 @@ use seccomp_doc::{CallName, Entry, Filter};
 
 /// Whether there is a finding: whether the new profile permits, or may permit, more than the baseline.
 ///
-/// It takes no memory, and compares each name with all entries; `findings` groups the entries by name first.
+/// It takes no memory, and looks at all entries for each name: with as many names as a filter can have that takes seconds.
+/// `findings` groups the entries by name first, and is the call for documents of others.
 pub fn is_wider(base: &Profile, new: &Profile) -> bool
     ensures told { result ≡ is_wider base.now new.now }
 

@@ -2,5 +2,5 @@ use Rattle.std.proofs.Common.{take}
 use Rattle.widening.specs.Groups.{IsGrouping}
 use Rattle.widening.proofs.groups.group_by_name.Given as goal
 
-abbrev pub invariant-loop-entry : goal.invariant-loop-entry
-invariant-loop-entry l = IsGrouping (take l.entry-index l.entry-items) l.groups
+abbrev pub invariant-loop-place : goal.invariant-loop-place
+invariant-loop-place l = IsGrouping (take l.place l.entries) l.groups

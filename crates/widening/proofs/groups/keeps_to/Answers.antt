@@ -1,9 +1,34 @@
-use Rattle.std.proofs.Common.{◌∙◌}
+use Rattle.std.proofs.Common.{◌≡◌, ◌∙◌, false, rules, tests, true}
+use Rattle.widening.specs.Groups.{entries_at}
+use Rattle.widening.specs.Ranks.{rules_with}
 use Rattle.widening.proofs.GroupFacts.{grouped_keeps}
+use Rattle.widening.proofs.RankFacts.{both_imply, first_fails}
 use Rattle.widening.proofs.groups.keeps_to.Goals as goal
 
-pub returns : goal.returns
-returns c =
-    c.permits_no_more.ensures
-    ∙ grouped_keeps c.args.base.now.filter.now c.args.new.now.filter.now c.args.name.now c.rules.result.default c.rules-2.result.default c.rules.result.entries c.rules-2.result.entries
-    c.rules.ensures.default c.rules-2.ensures.default c.rules.ensures.entries c.rules-2.ensures.entries
+pub returns-clause-told : goal.returns-clause-told
+returns-clause-told c =
+    let xs = entries_at c.group-base_group.result.entries.now c.group-base_group.result.places.now in
+    let zs = entries_at c.group-new_group.result.entries.now c.group-new_group.result.places.now in
+    let b = rules_with c.default_action.result xs in
+    let n = rules_with c.default_action-2.result zs in
+    let passes : c.in_ok-new_entries_do.new_entries_do ≡ true = search (rules, tests) in
+    both_imply b n c.asked_of_new-of_new.result c.asked_of_base-of_base.result
+    (c.asked_of_new-of_new.ensures b n c.ranks-base_ranks.ensures c.ranks-new_ranks.ensures)
+    (c.asked_of_base-of_base.ensures b n c.ranks-base_ranks.ensures c.ranks-new_ranks.ensures)
+    c.in_ok-new_entries_do.new_entries_do c.in_ok-new_entries_do.ensures.told passes c.in_ok-base_entries_do.base_entries_do c.in_ok-base_entries_do.ensures.told
+    ∙ grouped_keeps c.args.base.now.filter.now c.args.new.now.filter.now c.args.name.now c.default_action.result c.default_action-2.result xs zs
+    c.default_action.ensures c.default_action-2.ensures c.group-base_group.ensures.named c.group-new_group.ensures.named
+
+pub returns-then-not-new_entries_do-clause-told : goal.returns-then-not-new_entries_do-clause-told
+returns-then-not-new_entries_do-clause-told c =
+    let xs = entries_at c.group-base_group.result.entries.now c.group-base_group.result.places.now in
+    let zs = entries_at c.group-new_group.result.entries.now c.group-new_group.result.places.now in
+    let b = rules_with c.default_action.result xs in
+    let n = rules_with c.default_action-2.result zs in
+    let fails : c.in_ok-new_entries_do.new_entries_do ≡ false = search (rules, tests) in
+    first_fails b n c.asked_of_new-of_new.result c.asked_of_base-of_base.result
+    (c.asked_of_new-of_new.ensures b n c.ranks-base_ranks.ensures c.ranks-new_ranks.ensures)
+    (c.asked_of_base-of_base.ensures b n c.ranks-base_ranks.ensures c.ranks-new_ranks.ensures)
+    c.in_ok-new_entries_do.new_entries_do c.in_ok-new_entries_do.ensures.told fails
+    ∙ grouped_keeps c.args.base.now.filter.now c.args.new.now.filter.now c.args.name.now c.default_action.result c.default_action-2.result xs zs
+    c.default_action.ensures c.default_action-2.ensures c.group-base_group.ensures.named c.group-new_group.ensures.named
