@@ -21,3 +21,4 @@ pub mod Calls
 pub mod Queries
 pub mod OfficeRow
 pub mod Told
+pub mod ToldLists
