@@ -1,5 +1,6 @@
 -- What a read makes of the rows that its query found.
-use Rattle.std.specs.Prelude.{◌≡◌, ◌≢◌, ◌⊎◌, ℕ, Bool, is_some, List, Option, Some, None, Result, Ok, Err}
+use Rattle.std.specs.Prelude.{◌≡◌, ◌≢◌, ◌⊎◌, ℕ, Bool, is_some, map, List, Option, Some, None, Result, Ok, Err}
+use Rattle.std.specs.List.{AllByRecursion}
 use Rattle.sqlite.specs.Order.{Row}
 use Rattle.sqlite.specs.State.{State, Shown}
 use Rattle.office_tables.specs.declared.fault.StoreFault.{StoreFault}
@@ -35,6 +36,15 @@ TellsOnly encode IsFormed (Some row) result = IsReadAs encode IsFormed row resul
 -- whether there is one
 abbrev pub TellsWhether : {R : Type 0} → Option R → Result Bool StoreFault → Type 0
 TellsWhether row result = result ≡ Ok (is_some row)
+
+-- several rows are read, each as the value that it is the row of
+abbrev pub TellsAll : {X R : Type 0} → (X → R) → (X → Type 0) → List R → Result (List X) StoreFault → Type 0
+TellsAll encode IsFormed = IsReadAs (map encode) (AllByRecursion IsFormed)
+
+-- what an answer shows of its value
+abbrev pub map_ok : {X Y : Type 0} → Result X StoreFault → (X → Y) → Result Y StoreFault
+map_ok (Ok x) f = Ok (f x)
+map_ok (Err e) f = Err e
 
 -- what was found is told, and a fault is passed on
 abbrev pub IsTold : {X A : Type 0} → (X → Result A StoreFault → Type 0) → Result X StoreFault → Result A StoreFault → Type 0

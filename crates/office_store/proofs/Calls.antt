@@ -53,6 +53,10 @@ Settles new = (trees : Trees) → IsTrue new.is_open → new.may_leave trees →
 pub leaves_only : (new : State) → Settles new → (t : Tables) → Shows new t → LeavesOnly new t
 leaves_only new law t shows trees may = trees_of new.now trees t shows.office (law trees shows.is_open may ∙ ap (λ (d : Database). d.trees) (sym shows.settled))
 
+-- a fault that is passed on has what it had
+pub err_of : {A : Type 0} (P : StoreFault → Type 0) (r : Result A StoreFault) (f : StoreFault) → r ≡ Err f → P f → IfErr r P
+err_of {A} P r f is p = subst (λ (o : Result A StoreFault). IfErr o P) (sym is) p
+
 -- ---- a query
 
 pub read_of : {X : Type 0} (old new : State) (r : Result X StoreFault) (Found : Tables → X → Type 0) → IsIdle old → new.in_transaction ≡ false → IsAsked old new r → Settles new

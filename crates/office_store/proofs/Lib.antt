@@ -23,3 +23,4 @@ pub mod Calls
 pub mod Queries
 pub mod OfficeRow
 pub mod Told
+pub mod ToldLists

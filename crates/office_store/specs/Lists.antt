@@ -17,6 +17,9 @@ use Rattle.office_store.specs.Entries.{state_number, bit}
 abbrev pub name_row : List ℕ → Row
 name_row name = Text name ∷ []
 
+abbrev pub IsWord : List ℕ → Type 0
+IsWord name = is_word name ≡ true
+
 -- the rows of the authors of a profile
 pub record AreAuthorRows (t : Tables) (p : ProfileName) (rows : List Row) : Type 0 where
   pub names : List (List ℕ)

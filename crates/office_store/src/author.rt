@@ -1,16 +1,15 @@
 //! The authors of a profile.
 
-ghost use Rattle.std.specs.Prelude.{◌≡◌, ◌≢◌, ◌↔◌, ℕ, List, true, Err, IfOk, map, is_some};
+ghost use Rattle.std.specs.Prelude.{◌≡◌, ◌≢◌, ◌↔◌, ℕ, List, true, Err, IfOk, IfErr, map, is_some};
 ghost use Rattle.std.specs.List.{AllByRecursion};
 ghost use Rattle.sqlite.specs.Held.{state};
 ghost use Rattle.sqlite.specs.State.{HasCleanDisk};
-ghost use Rattle.review_policy.specs.Words.{is_word};
 ghost use Rattle.office_rows.specs.Faults.{FindsRow};
-ghost use Rattle.office_rows.specs.Told.{TellsRow, TellsWhether};
+ghost use Rattle.office_rows.specs.Told.{IsOfRow, IsTold, FindsRows, TellsAll, TellsRow, TellsRows, TellsWhether, map_ok};
 ghost use Rattle.office_tables.specs.Lists.{IsAuthor, AreAuthors};
 ghost use Rattle.office_store.specs.Calls.{IsRead};
-ghost use Rattle.office_store.specs.Keys.{author_params};
-ghost use Rattle.office_store.specs.Lists.{name_row, AreAuthorRows};
+ghost use Rattle.office_store.specs.Keys.{author_params, profile_params};
+ghost use Rattle.office_store.specs.Lists.{name_row, IsWord, AreAuthorRows};
 ghost use Rattle.office_store.specs.Shown.{IsIdle};
 
 use crate::bind::{of_author, of_profile};
@@ -60,21 +59,43 @@ fn author_rows<S: Alter>(
 ) -> Result<Vec<Row>, StoreFault>
     requires { IsIdle (state S.Store conn.old) }
     ensures read { IsRead (state S.Store conn.old) (state S.Store conn.new) result (λ t rows. AreAuthorRows t profile.now rows.items) }
+    ensures rows { HasCleanDisk (state S.Store conn.new) → FindsRows AUTHORS_OF.now (profile_params profile.now) (state S.Store conn.old) (state S.Store conn.new) (map_ok result (λ rows. rows.items)) }
 {
     all_rows(conn, AUTHORS_OF, &of_profile(profile))
 }
 
-// The names that rows have in their first column.
+// The name of a row of one.
+fn read_name(alloc: Global, row: &Row) -> Result<Word, StoreFault>
+    ensures name { IfOk result (λ name. row.now ≡ name_row name) }
+    ensures formed { (name : List ℕ) → IsWord name → row.now ≡ name_row name → result ≢ Err StoreFault.NotAnOffice }
+    ensures cause { IfErr result IsOfRow }
+{
+    if row.column_count() != 1 {
+        return Err(StoreFault::NotAnOffice);
+    }
+    word_at(alloc, row, 0)
+}
+
+// The names of rows of one each.
 fn read_names(alloc: Global, rows: &[Row]) -> Result<Vec<Word>, StoreFault>
-    ensures names { (names : List (List ℕ)) → rows.now ≡ map name_row names → IfOk result (λ read. read.items ≡ names) }
-    ensures formed { (names : List (List ℕ)) → rows.now ≡ map name_row names → AllByRecursion (λ name. is_word name ≡ true) names → result ≢ Err StoreFault.NotAnOffice }
+    ensures names { IfOk result (λ names. rows.now ≡ map name_row names.items) }
+    ensures formed { (names : List (List ℕ)) → rows.now ≡ map name_row names → AllByRecursion IsWord names → result ≢ Err StoreFault.NotAnOffice }
+    ensures cause { IfErr result IsOfRow }
 {
     let mut names = Vec::new(alloc);
     for row in rows {
-        let name = word_at(alloc, row, 0)?;
+        let name = read_name(alloc, row)?;
         names.push(name).map_err(|_| StoreFault::NoMemory)?;
     }
     Ok(names)
+}
+
+// The names of the rows that a query found.
+fn names_of(alloc: Global, found: Result<Vec<Row>, StoreFault>) -> Result<Vec<Word>, StoreFault>
+    ensures { IsTold (TellsAll name_row IsWord) (map_ok found (λ rows. rows.items)) (map_ok result (λ names. names.items)) }
+{
+    let rows = found?;
+    read_names(alloc, rows.as_slice())
 }
 
 /// The names of those who submitted a revision of a profile, each once, in the order of their bytes.
@@ -85,7 +106,7 @@ pub fn authors<S: Alter>(
 ) -> Result<Vec<Word>, StoreFault>
     requires { IsIdle (state S.Store conn.old) }
     ensures read { IsRead (state S.Store conn.old) (state S.Store conn.new) result (λ t names. AreAuthors t profile.now names.items) }
+    ensures told { HasCleanDisk (state S.Store conn.new) → TellsRows AUTHORS_OF.now (profile_params profile.now) (state S.Store conn.old) (state S.Store conn.new) (TellsAll name_row IsWord) (map_ok result (λ names. names.items)) }
 {
-    let rows = author_rows(conn, profile)?;
-    read_names(alloc, rows.as_slice())
+    names_of(alloc, author_rows(conn, profile))
 }

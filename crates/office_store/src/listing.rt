@@ -1,8 +1,11 @@
 //! The revisions of a team.
 
-ghost use Rattle.std.specs.Prelude.{◌≡◌, ◌≢◌, List, Err, IfOk, map};
+ghost use Rattle.std.specs.Prelude.{◌≡◌, ◌≢◌, [], ◌∷◌, List, Err, IfOk, IfErr, map};
 ghost use Rattle.std.specs.List.{AllByRecursion};
 ghost use Rattle.sqlite.specs.Held.{state};
+ghost use Rattle.sqlite.specs.State.{HasCleanDisk};
+ghost use Rattle.sqlite.specs.declared.types.Value.TheVariants.{Text as SqlText};
+ghost use Rattle.office_rows.specs.Told.{IsOfRow, IsTold, FindsRows, TellsAll, TellsRows, map_ok};
 ghost use Rattle.office_tables.specs.Lists.{AreRevisionsOf};
 ghost use Rattle.office_tables.specs.declared.listed.ListedRevision.{ListedRevision as Listed};
 ghost use Rattle.office_store.specs.Calls.{IsRead};
@@ -24,15 +27,20 @@ pub(crate) const REVISIONS_OF: &str =
 fn listed_rows<S: Alter>(conn: &mut Connection<S>, team: &Word) -> Result<Vec<Row>, StoreFault>
     requires { IsIdle (state S.Store conn.old) }
     ensures read { IsRead (state S.Store conn.old) (state S.Store conn.new) result (λ t rows. AreListedRows t team.now rows.items) }
+    ensures rows { HasCleanDisk (state S.Store conn.new) → FindsRows REVISIONS_OF.now (SqlText team.now ∷ []) (state S.Store conn.old) (state S.Store conn.new) (map_ok result (λ rows. rows.items)) }
 {
     all_rows(conn, REVISIONS_OF, &of_word(team))
 }
 
 // The revision that a row names.
 fn read_listed(alloc: Global, row: &Row) -> Result<ListedRevision, StoreFault>
-    ensures listed { (listed : Listed) → row.now ≡ listed_row listed → IfOk result (λ read. read ≡ listed) }
-    ensures formed { (listed : Listed) → row.now ≡ listed_row listed → IsListedForm listed → result ≢ Err StoreFault.NotAnOffice }
+    ensures listed { IfOk result (λ listed. row.now ≡ listed_row listed) }
+    ensures formed { (listed : Listed) → IsListedForm listed → row.now ≡ listed_row listed → result ≢ Err StoreFault.NotAnOffice }
+    ensures cause { IfErr result IsOfRow }
 {
+    if row.column_count() != 3 {
+        return Err(StoreFault::NotAnOffice);
+    }
     Ok(ListedRevision {
         profile: word_at(alloc, row, 0)?,
         number: number_at(row, 1)?,
@@ -42,8 +50,9 @@ fn read_listed(alloc: Global, row: &Row) -> Result<ListedRevision, StoreFault>
 
 // The revisions that rows name.
 fn read_all_listed(alloc: Global, rows: &[Row]) -> Result<Vec<ListedRevision>, StoreFault>
-    ensures listed { (listed : List Listed) → rows.now ≡ map listed_row listed → IfOk result (λ read. read.items ≡ listed) }
+    ensures listed { IfOk result (λ listed. rows.now ≡ map listed_row listed.items) }
     ensures formed { (listed : List Listed) → rows.now ≡ map listed_row listed → AllByRecursion IsListedForm listed → result ≢ Err StoreFault.NotAnOffice }
+    ensures cause { IfErr result IsOfRow }
 {
     let mut listed = Vec::new(alloc);
     for row in rows {
@@ -51,6 +60,17 @@ fn read_all_listed(alloc: Global, rows: &[Row]) -> Result<Vec<ListedRevision>, S
         listed.push(revision).map_err(|_| StoreFault::NoMemory)?;
     }
     Ok(listed)
+}
+
+// The revisions of the rows that a query found.
+fn listed_of(
+    alloc: Global,
+    found: Result<Vec<Row>, StoreFault>,
+) -> Result<Vec<ListedRevision>, StoreFault>
+    ensures { IsTold (TellsAll listed_row IsListedForm) (map_ok found (λ rows. rows.items)) (map_ok result (λ listed. listed.items)) }
+{
+    let rows = found?;
+    read_all_listed(alloc, rows.as_slice())
 }
 
 /// The revisions of all profiles of a team, by the name of the profile, in the order of its bytes, and by number.
@@ -61,7 +81,7 @@ pub fn revisions_of<S: Alter>(
 ) -> Result<Vec<ListedRevision>, StoreFault>
     requires { IsIdle (state S.Store conn.old) }
     ensures read { IsRead (state S.Store conn.old) (state S.Store conn.new) result (λ t listed. AreRevisionsOf t team.now listed.items) }
+    ensures told { HasCleanDisk (state S.Store conn.new) → TellsRows REVISIONS_OF.now (SqlText team.now ∷ []) (state S.Store conn.old) (state S.Store conn.new) (TellsAll listed_row IsListedForm) (map_ok result (λ listed. listed.items)) }
 {
-    let rows = listed_rows(conn, team)?;
-    read_all_listed(alloc, rows.as_slice())
+    listed_of(alloc, listed_rows(conn, team))
 }

@@ -1,6 +1,6 @@
 //! The table of revisions.
 
-ghost use Rattle.std.specs.Prelude.{◌≡◌, ◌≢◌, ◌↔◌, ◌+◌, true, is_some, Err, IfOk, IfErr, option_map};
+ghost use Rattle.std.specs.Prelude.{◌≡◌, ◌≢◌, ◌↔◌, true, is_some, Err, IfOk, IfErr, option_map};
 ghost use Rattle.sqlite.specs.Held.{state};
 ghost use Rattle.sqlite.specs.State.{HasCleanDisk};
 ghost use Rattle.review_policy.specs.declared.ask.ProfileName.{ProfileName as Name};
@@ -11,6 +11,7 @@ ghost use Rattle.office_tables.specs.Tables.{Tables};
 ghost use Rattle.office_tables.specs.Changes.{with_issued, with_withdrawn};
 ghost use Rattle.office_tables.specs.Reads.{IsLast};
 ghost use Rattle.office_tables.specs.declared.row.RevisionRow.{RevisionRow as Revision};
+ghost use Rattle.office_store.specs.Adding.{IsAfter, TellsNext, FailsToAdd};
 ghost use Rattle.office_store.specs.Calls.{IsRead, IsWrite, Into};
 ghost use Rattle.office_store.specs.Entries.{revision_columns, IsRevision, IsRevisionForm};
 ghost use Rattle.office_store.specs.Keys.{profile_params, revision_params};
@@ -207,8 +208,7 @@ fn insert_revision<S: Alter>(
 
 // The number after this one.
 fn number_after(number: u32) -> Result<u32, StoreFault>
-    ensures value { IfOk result (λ next. next ≡ number + 1) }
-    ensures full { IfErr result (λ fault. fault ≡ StoreFault.Full) }
+    ensures { IsAfter number result }
 {
     match number.checked_add(1) {
         Some(next) => Ok(next),
@@ -224,6 +224,7 @@ fn next_number<S: Alter>(
 ) -> Result<u32, StoreFault>
     requires { IsIdle (state S.Store conn.old) }
     ensures read { IsRead (state S.Store conn.old) (state S.Store conn.new) result (λ t number. IsNextNumber t profile.now number) }
+    ensures told { HasCleanDisk (state S.Store conn.new) → TellsRow LAST_OF.now (profile_params profile.now) (state S.Store conn.old) (state S.Store conn.new) TellsNext result }
 {
     match last(alloc, conn, profile)? {
         Some(revision) => number_after(revision.number),
@@ -244,6 +245,7 @@ pub fn add_revision<S: Alter>(
     requires { IsIdle (state S.Store conn.old) }
     ensures write { IsWrite (state S.Store conn.old) (state S.Store conn.new) result (Submits profile.now author body digest) }
     ensures number { (t : Tables) → ShowsIfOpen (state S.Store conn.old) t → HasCleanDisk (state S.Store conn.new) → IfOk result (IsNextNumber t profile.now) }
+    ensures cause { HasCleanDisk (state S.Store conn.new) → IfErr result (FailsToAdd S.Store profile.now author body digest conn.old conn.new) }
 {
     let number = next_number(alloc, conn, profile)?;
     let revision = RevisionRow {

@@ -1,8 +1,8 @@
-use Rattle.std.proofs.Common.{rules, refl, ◌∙◌, ap}
+use Rattle.std.proofs.Common.{inl, inr, rules, Ok, refl, ◌∙◌, ap}
 use Rattle.sqlite.specs.Held.{state}
 use Rattle.office_tables.specs.Changes.{with_revision}
-use Rattle.office_store.specs.Reads.{Submits, submitted}
-use Rattle.office_store.proofs.Calls.{read_stops, read_then_write, alike_failed}
+use Rattle.office_store.specs.Reads.{Adds, Submits, submitted}
+use Rattle.office_store.proofs.Calls.{err_of, read_stops, read_then_write, alike_failed}
 use Rattle.office_store.proofs.Numbers.{next_free, one_number}
 use Rattle.office_store.proofs.revisions.add_revision.Goals as goal
 
@@ -28,3 +28,10 @@ returns-clause-write g c =
 
 pub returns-clause-number : goal.returns-clause-number
 returns-clause-number g c t shows clean = c.in_ok-number.ensures.read.found t shows (c.insert_revision.ensures.write.leaves.clean clean)
+
+pub returns-in_err-number-clause-cause : goal.returns-in_err-number-clause-cause
+returns-in_err-number-clause-cause g c clean = err_of _ c.from_residual.result c.in_err-number.field-0.0 (search rules) (inl (c.in_err-number.ensures.told clean))
+
+pub returns-in_err-insert_revision-clause-cause : goal.returns-in_err-insert_revision-clause-cause
+returns-in_err-insert_revision-clause-cause g c clean =
+    err_of _ c.from_residual-in_err-insert_revision.result c.in_err-insert_revision.field-0.0 (search rules) (inr (c.next_number.new.conn, c.in_ok-number.number, c.in_err-insert_revision.ensures.cause clean))

@@ -1,0 +1,104 @@
+-- What is read of all rows that a query found.
+use Rattle.std.proofs.Common.{inl, inr, ◌≡◌, ◌≢◌, ℕ, ◌<◌, ◌≤◌, ◌+◌, List, [], ◌∷◌, ◌++◌, map, take, get_or, length, Result, Ok, Err, IfOk, IfErr, true, arith, sym, ap, ◌∙◌, subst}
+use Rattle.std.specs.List.{AllByRecursion}
+use Rattle.std.proofs.lemmas.List.{take_more, take_all, map-append}
+use Rattle.sqlite.specs.Order.{Row}
+use Rattle.sqlite.specs.State.{State, Shown}
+use Rattle.office_tables.specs.Tables.{Tables}
+use Rattle.office_tables.specs.declared.fault.StoreFault.{StoreFault}
+use Rattle.office_tables.specs.declared.fault.StoreFault.TheVariants.{NotAnOffice}
+use Rattle.office_rows.specs.Rows.{IsFaultOf}
+use Rattle.office_rows.specs.Told.{IsOfRow, IsTold, TellsAll, FindsRows, map_ok}
+use Rattle.office_tables.specs.declared.listed.ListedRevision.{ListedRevision}
+use Rattle.review_policy.specs.declared.revision.State.{State as State_}
+use Rattle.office_store.specs.Entries.{state_number}
+use Rattle.office_store.specs.Lists.{name_row, listed_row}
+use Rattle.office_store.specs.Shown.{Shows}
+use Rattle.office_store.specs.Calls.{IsRead}
+use Rattle.office_store.proofs.Calls.{read_told}
+use Rattle.office_store.proofs.Profiles.{same_state}
+use Rattle.std.specs.Prelude.{◌==◌}
+use Rattle.std.proofs.lemmas.Bool.Decides.{nat_tests}
+
+-- ---- a loop that reads each row
+
+pub one_more_read : {X : Type 0} (f : X → Row) (rows : List Row) (i : ℕ) (row : Row) (xs : List X) (x : X) → i < length rows → row ≡ get_or rows i row → row ≡ f x → take i rows ≡ map f xs
+    → take (i + 1) rows ≡ map f (xs ++ x ∷ [])
+one_more_read f rows i row xs x below at is so_far = take_more rows i row below ∙ (λ k. so_far k ++ (sym at ∙ is) k ∷ []) ∙ sym (map-append f xs (x ∷ []))
+
+pub all_read : {X : Type 0} (f : X → Row) (rows : List Row) (i : ℕ) (xs : List X) → length rows ≤ i → take i rows ≡ map f xs → rows ≡ map f xs
+all_read f rows i xs past so_far = sym (take_all i rows past) ∙ so_far
+
+-- ---- what a query of all its rows found
+
+pub rows_found : {V : Type 0} (rows_of : V → List Row) (sql : List ℕ) (given params : Row) (old new : State) (r : Result V StoreFault) → IfOk r (λ v. Shown sql given old new (rows_of v))
+    → IfErr r (IsFaultOf sql given old new) → given ≡ params → FindsRows sql params old new (map_ok r rows_of)
+rows_found rows_of sql given params old new (Ok v) shown fault are = subst (λ (p : Row). Shown sql p old new (rows_of v)) are shown
+rows_found rows_of sql given params old new (Err f) shown fault are = subst (λ (p : Row). IsFaultOf sql p old new f) are fault
+
+-- ---- what is told of them
+
+module _ {V W X : Type 0} (rows_of : V → List Row) (items_of : W → List X) (encode : X → Row) (IsFormed : X → Type 0) where
+  pub all_failed : (found : Result V StoreFault) (r : Result W StoreFault) (f : StoreFault) → found ≡ Err f → r ≡ Err f → IsTold (TellsAll encode IsFormed) (map_ok found rows_of) (map_ok r items_of)
+  all_failed found r f is same =
+      subst (λ (o : Result V StoreFault). IsTold (TellsAll encode IsFormed) (map_ok o rows_of) (map_ok r items_of)) (sym is) (ap (λ (o : Result W StoreFault). map_ok o items_of) same)
+
+  read_all : (rows : List Row) (r : Result W StoreFault) → IfOk r (λ w. rows ≡ map encode (items_of w)) → ((xs : List X) → rows ≡ map encode xs → AllByRecursion IsFormed xs → r ≢ Err NotAnOffice)
+      → IfErr r IsOfRow → TellsAll encode IsFormed rows (map_ok r items_of)
+  read_all rows (Ok w) read formed cause = read
+  read_all rows (Err f) read formed cause = elim cause [ inl memory ↦ inl memory | inr named ↦ inr (named, λ xs all is. formed xs is all (ap Err named)) ]
+
+  pub all_told : (found : Result V StoreFault) (v : V) → found ≡ Ok v → (rows : List Row) → rows ≡ rows_of v → (r : Result W StoreFault) → IfOk r (λ w. rows ≡ map encode (items_of w))
+      → ((xs : List X) → rows ≡ map encode xs → AllByRecursion IsFormed xs → r ≢ Err NotAnOffice) → IfErr r IsOfRow
+      → IsTold (TellsAll encode IsFormed) (map_ok found rows_of) (map_ok r items_of)
+  all_told found v is rows are r read formed cause =
+      subst (λ (o : Result V StoreFault). IsTold (TellsAll encode IsFormed) (map_ok o rows_of) (map_ok r items_of)) (sym is)
+      (subst (λ (l : List Row). TellsAll encode IsFormed l (map_ok r items_of)) are (read_all rows r read formed cause))
+
+  -- a read of the tables, from its rows
+  pub list_read_told : (old new : State) (FoundRows : Tables → V → Type 0) (Found : Tables → W → Type 0) (found : Result V StoreFault) (r : Result W StoreFault) → IsRead old new found FoundRows
+      → IsTold (TellsAll encode IsFormed) (map_ok found rows_of) (map_ok r items_of)
+      → ((t : Tables) → Shows old t → (v : V) → FoundRows t v → (xs : List X) × AllByRecursion IsFormed xs × (rows_of v ≡ map encode xs) × ((w : W) → map encode (items_of w) ≡ map encode xs → Found t w))
+      → IsRead old new r Found
+  list_read_told old new FoundRows Found found r read told finds = read_told Tells old new FoundRows Found found r read (each found r told)
+      (λ t shows v rows w tells. let it = finds t shows v rows in it.3 w (sym tells ∙ it.2))
+      (λ t shows v rows tells. let it = finds t shows v rows in never v it.0 it.1 it.2 tells)
+    where
+      Tells : V → Result W StoreFault → Type 0
+      Tells v s = TellsAll encode IsFormed (rows_of v) (map_ok s items_of)
+
+      each : (found : Result V StoreFault) (r : Result W StoreFault) → IsTold (TellsAll encode IsFormed) (map_ok found rows_of) (map_ok r items_of) → IsTold Tells found r
+      each (Ok v) r told = told
+      each (Err e) (Ok w) told = absurd cc
+      each (Err e) (Err f) told = let same : f ≡ e = cc in ap Err same
+
+      never : (v : V) (xs : List X) → AllByRecursion IsFormed xs → rows_of v ≡ map encode xs → Tells v (Err NotAnOffice) → ⊥
+      never v xs all is (inl memory) = absurd cc
+      never v xs all is (inr unread) = unread.1 xs all is
+
+-- rows that tell their values tell the lists apart
+pub same_list : {X : Type 0} (f : X → Row) → ((x y : X) → f x ≡ f y → x ≡ y) → (xs ys : List X) → map f xs ≡ map f ys → xs ≡ ys
+same_list f one [] [] same = λ _. []
+same_list f one [] (y ∷ ys) same = absurd cc
+same_list f one (x ∷ xs) [] same = absurd cc
+same_list f one (x ∷ xs) (y ∷ ys) same =
+    let head : f x ≡ f y = cc in
+    let tail : map f xs ≡ map f ys = cc in
+    λ i. one x y head i ∷ same_list f one xs ys tail i
+
+pub same_name_row : (a b : List ℕ) → name_row a ≡ name_row b → a ≡ b
+same_name_row a b same = let k : a ≡ b = cc in k
+
+numbered_as : (s r : State_) → state_number s ≡ state_number r → s ≡ r
+numbered_as s r same = same_state s r (both same)
+  where
+    both : state_number s ≡ state_number r → (state_number s == state_number r) ≡ true
+    both e = grind (arith, nat_tests)
+
+pub same_listed_row : (a b : ListedRevision) → listed_row a ≡ listed_row b → a ≡ b
+same_listed_row a b same =
+    let profile : a.profile ≡ b.profile = cc in
+    let number : a.number ≡ b.number = cc in
+    let numbers : state_number a.state ≡ state_number b.state = cc in
+    let state = numbered_as a.state b.state numbers in
+    λ i. record { profile = profile i; number = number i; state = state i }
