@@ -1,4 +1,4 @@
-//! A new office in a file, with so many users, revisions and votes.
+//! A new office in a file, with so many users, revisions and votes, and one long profile.
 
 ghost use Rattle.sqlite.specs.Held.{state};
 ghost use Rattle.office_store.specs.Shown.{IsIdle};
@@ -7,7 +7,7 @@ use crate::sample;
 use anyhow::{Context, Result};
 use cap_sets::Caps;
 use office_store::{Ballot, add_revision, found, put_user, put_vote, set_issued};
-use review_policy::{Text, Word};
+use review_policy::{ProfileName, Text, Word};
 use sqlite::{Alter, Connection};
 use std::alloc::Global;
 
@@ -33,76 +33,96 @@ pub fn enrol<S: Alter>(alloc: Global, conn: &mut Connection<S>, number: u32) -> 
     Ok(())
 }
 
-/// Adds a revision by a user, and answers its number.
-pub fn submit<S: Alter>(alloc: Global, conn: &mut Connection<S>, number: u32) -> Result<u32>
+/// Adds a revision of a profile by a user, and answers its number.
+pub fn submit<S: Alter>(
+    alloc: Global,
+    conn: &mut Connection<S>,
+    profile: &ProfileName,
+    user: u32,
+    body: &str,
+) -> Result<u32>
     requires { IsIdle (state S.Store conn.old) }
     ensures { IsIdle (state S.Store conn.new) }
 {
-    let profile = sample::profile(alloc, number / sample::REVISIONS_OF_PROFILE)?;
-    let author = sample::name(alloc, number)?;
-    let body = Text::new(String::from_str(alloc, "{}")?);
-    let added = add_revision(alloc, conn, &profile, author, body, sample::digest(number))?;
+    let author = sample::name(alloc, user)?;
+    let body = Text::new(String::from_str(alloc, body)?);
+    let added = add_revision(alloc, conn, profile, author, body, sample::digest(user))?;
     Ok(added)
 }
 
-/// Issues a revision of a profile.
-pub fn issue<S: Alter>(
+/// Has a user vote on the first revision of a profile.
+pub fn vote<S: Alter>(
     alloc: Global,
     conn: &mut Connection<S>,
-    profile: u32,
-    number: u32,
+    profile: &ProfileName,
+    user: u32,
 ) -> Result<()>
     requires { IsIdle (state S.Store conn.old) }
     ensures { IsIdle (state S.Store conn.new) }
 {
-    let profile = sample::profile(alloc, profile)?;
-    set_issued(conn, &profile, number)?;
-    Ok(())
-}
-
-/// Has a user vote on the first revision of a profile.
-pub fn vote<S: Alter>(alloc: Global, conn: &mut Connection<S>, number: u32) -> Result<()>
-    requires { IsIdle (state S.Store conn.old) }
-    ensures { IsIdle (state S.Store conn.new) }
-{
-    let profile = sample::profile(alloc, number / sample::REVISIONS_OF_PROFILE)?;
-    let voter = sample::name(alloc, number)?;
+    let voter = sample::name(alloc, user)?;
     let ballot = Ballot {
         approves: true,
         security: false,
     };
-    put_vote(conn, &profile, 1, &voter, ballot)?;
+    put_vote(conn, profile, 1, &voter, ballot)?;
     Ok(())
 }
 
-// Puts a user, a revision and a vote into an office, and issues the fifth revision of each profile.
-fn put_one<S: Alter>(alloc: Global, conn: &mut Connection<S>, number: u32) -> Result<()>
+// Puts a user, a revision and a vote into an office, and issues the fifth revision of each short profile.
+fn put_one<S: Alter>(alloc: Global, conn: &mut Connection<S>, user: u32) -> Result<()>
     requires { IsIdle (state S.Store conn.old) }
     ensures { IsIdle (state S.Store conn.new) }
 {
-    enrol(alloc, conn, number)?;
-    let added = submit(alloc, conn, number)?;
+    enrol(alloc, conn, user)?;
+    let profile = sample::short_profile(alloc, user)?;
+    let added = submit(alloc, conn, &profile, user, "{}")?;
     if added == 5 {
-        issue(alloc, conn, number / sample::REVISIONS_OF_PROFILE, added)?;
+        set_issued(conn, &profile, added)?;
     }
-    vote(alloc, conn, number)
+    vote(alloc, conn, &profile, user)
 }
 
-fn fill<S: Alter>(alloc: Global, conn: &mut Connection<S>, count: u32) -> Result<()>
+fn fill_short<S: Alter>(alloc: Global, conn: &mut Connection<S>, count: u32) -> Result<()>
     requires { IsIdle (state S.Store conn.old) }
     ensures { IsIdle (state S.Store conn.new) }
 {
-    found_office(alloc, conn)?;
-    for number in 0..count {
-        put_one(alloc, conn, number)?;
+    for user in 0..count {
+        put_one(alloc, conn, user)?;
     }
+    Ok(())
+}
+
+// Adds the revisions of the long profile, of ten users in turn, and issues the first.
+fn fill_long<S: Alter>(
+    alloc: Global,
+    conn: &mut Connection<S>,
+    revisions: u32,
+    body: &str,
+) -> Result<()>
+    requires { IsIdle (state S.Store conn.old) }
+    ensures { IsIdle (state S.Store conn.new) }
+{
+    let profile = sample::long_profile(alloc)?;
+    for number in 0..revisions {
+        submit(alloc, conn, &profile, number % 10, body)?;
+    }
+    set_issued(conn, &profile, 1)?;
     Ok(())
 }
 
 /// Makes a new office in a file, and closes it.
-pub fn fill_file(rt: &HostRuntime, path: &str, count: u32) -> Result<()> {
+pub fn fill_file(
+    rt: &HostRuntime,
+    path: &str,
+    count: u32,
+    revisions: u32,
+    body: &str,
+) -> Result<()> {
     let mut conn = Connection::open(rt, path)?;
-    fill(rt.alloc(), &mut conn, count)?;
+    found_office(rt.alloc(), &mut conn)?;
+    fill_short(rt.alloc(), &mut conn, count)?;
+    fill_long(rt.alloc(), &mut conn, revisions, body)?;
     conn.close()?;
     Ok(())
 }

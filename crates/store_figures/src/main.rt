@@ -1,9 +1,10 @@
 //! What the calls of an office over a file take.
 //!
-//! `store_figures FILE COUNT` founds an office in FILE, which must not be there, enrols COUNT users, adds as many revisions
-//! and votes, closes the file, opens it again and makes each call, a hundred times at most. How many of the calls found or
-//! wrote something is printed, and to standard error how many microseconds they took. Without words FILE is `office.db`, COUNT
-//! is 20, and the file is removed at the end.
+//! `store_figures FILE COUNT REVISIONS SIZE` founds an office in FILE, which must not be there, enrols COUNT users, adds as
+//! many revisions and votes, ten of each a profile, and one more profile of REVISIONS revisions with bodies of SIZE bytes. It
+//! closes the file, opens it again and makes each call, a hundred times at most, about the short profiles and then about the
+//! long one. How many of the reads found something is printed, and to standard error how many microseconds a call took.
+//! Without words FILE is `office.db`, the numbers are small, and the file is removed at the end.
 #![tactic(auto)]
 
 mod call;
@@ -17,9 +18,17 @@ use sqlite::Connection;
 use std::time::Instant;
 use std::{env, fs};
 
-fn fill_timed(rt: &HostRuntime, path: &str, count: u32) -> Result<()> {
+// How much an office is filled with.
+#[derive(Clone, Copy, Debug)]
+struct Sizes {
+    count: u32,
+    revisions: u32,
+    size: u32,
+}
+
+fn fill_timed(rt: &HostRuntime, path: &str, sizes: &Sizes, body: &str) -> Result<()> {
     let start = Instant::now(rt)?;
-    fill::fill_file(rt, path, count)?;
+    fill::fill_file(rt, path, sizes.count, sizes.revisions, body)?;
     eprintln!(rt;
         "to fill the file: {} microseconds",
         start.elapsed(rt)?.as_micros()
@@ -27,8 +36,9 @@ fn fill_timed(rt: &HostRuntime, path: &str, count: u32) -> Result<()> {
     Ok(())
 }
 
-fn run(rt: &HostRuntime, path: &str, count: u32) -> Result<()> {
-    fill_timed(rt, path, count)?;
+fn run(rt: &HostRuntime, path: &str, sizes: &Sizes) -> Result<()> {
+    let body = sample::body(rt.alloc(), sizes.size)?;
+    fill_timed(rt, path, sizes, body.as_str())?;
     let start = Instant::now(rt)?;
     let mut conn = Connection::open(rt, path)?;
     eprintln!(rt;
@@ -37,27 +47,44 @@ fn run(rt: &HostRuntime, path: &str, count: u32) -> Result<()> {
     )?;
     let listed = check_office(&mut conn)?;
     println!(rt;
-        "{count} users, revisions and votes; listed capabilities {:#x}",
+        "{} users, revisions and votes; listed capabilities {:#x}",
+        sizes.count,
         listed.bits()
     )?;
-    timed::time_calls(rt, &mut conn, count)?;
+    timed::time_calls(rt, &mut conn, sizes.count, body.as_str())?;
     conn.close()?;
     Ok(())
 }
 
 // Does so in a file that is removed.
 fn run_and_remove(rt: &HostRuntime) -> Result<()> {
-    run(rt, "office.db", 20)?;
+    let sizes = Sizes {
+        count: 20,
+        revisions: 30,
+        size: 1000,
+    };
+    run(rt, "office.db", &sizes)?;
     fs::remove_file(rt, "office.db")?;
     fs::remove_file(rt, "office.db-wal")?;
     Ok(())
+}
+
+fn number(word: &str) -> Result<u32> {
+    word.parse::<u32>().context("a number")
 }
 
 fn main(rt: HostRuntime) -> Result<()> {
     let words: Vec<String> = env::args(&rt)?.collect(rt.alloc())?;
     match words.as_slice() {
         [_] => run_and_remove(&rt),
-        [_, path, count] => run(&rt, path.as_str(), count.parse::<u32>().context("COUNT")?),
-        _ => bail!("usage: store_figures [FILE COUNT]"),
+        [_, path, count, revisions, size] => {
+            let sizes = Sizes {
+                count: number(count.as_str())?,
+                revisions: number(revisions.as_str())?,
+                size: number(size.as_str())?,
+            };
+            run(&rt, path.as_str(), &sizes)
+        }
+        _ => bail!("usage: store_figures [FILE COUNT REVISIONS SIZE]"),
     }
 }

@@ -5,10 +5,10 @@ use office_tables::UserRow;
 use review_policy::{ProfileName, Role, Roles, Word};
 use std::alloc::Global;
 
-/// How many revisions each profile gets.
+/// How many revisions each of the short profiles gets.
 pub const REVISIONS_OF_PROFILE: u32 = 10;
 
-/// How many profiles each team has.
+/// How many short profiles each team has.
 pub const PROFILES_OF_TEAM: u32 = 10;
 
 fn word(alloc: Global, letter: char, number: u32) -> Result<Word> {
@@ -42,10 +42,28 @@ pub fn user(alloc: Global, number: u32) -> Result<UserRow> {
     })
 }
 
-/// A profile.
-pub fn profile(alloc: Global, number: u32) -> Result<ProfileName> {
+/// The short profile to which a user submits.
+pub fn short_profile(alloc: Global, user: u32) -> Result<ProfileName> {
+    let number = user / REVISIONS_OF_PROFILE;
     Ok(ProfileName {
         team: word(alloc, 't', number / PROFILES_OF_TEAM)?,
         profile: word(alloc, 'p', number)?,
     })
+}
+
+/// The long profile, alone in its team.
+pub fn long_profile(alloc: Global) -> Result<ProfileName> {
+    Ok(ProfileName {
+        team: Word::new(alloc, "long")?,
+        profile: Word::new(alloc, "long")?,
+    })
+}
+
+/// A body of so many bytes.
+pub fn body(alloc: Global, size: u32) -> Result<String> {
+    let mut text = String::new(alloc);
+    for _ in 0..size {
+        text.push(' ')?;
+    }
+    Ok(text)
 }

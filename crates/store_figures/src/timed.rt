@@ -3,8 +3,10 @@
 ghost use Rattle.sqlite.specs.Held.{state};
 ghost use Rattle.office_store.specs.Shown.{IsIdle};
 
-use crate::call::{CALLS, Call};
+use crate::call::{READS, Read, WRITES, Write};
+use crate::sample;
 use anyhow::Result;
+use review_policy::ProfileName;
 use sqlite::{Alter, Connection};
 use std::alloc::Global;
 use std::time::{Duration, Instant};
@@ -12,16 +14,32 @@ use std::time::{Duration, Instant};
 /// How often each call is made at most.
 const MOST_TIMES: u32 = 100;
 
+/// The profiles that calls are about.
+#[derive(Clone, Copy, Debug)]
+enum Profiles {
+    Short,
+    Long,
+}
+
+// The profile that a call about a user is about.
+fn profile_of(alloc: Global, profiles: Profiles, user: u32) -> Result<ProfileName> {
+    match profiles {
+        Profiles::Short => sample::short_profile(alloc, user),
+        Profiles::Long => sample::long_profile(alloc),
+    }
+}
+
 // A number below the count, which jumps about as the index rises.
 fn spread(index: u32, count: u32) -> u32 {
     index.wrapping_mul(7919).checked_rem(count).unwrap_or(0)
 }
 
-// Makes a call so often, and answers how often it found or wrote something.
-fn make_all<S: Alter>(
+// Makes a read so often, and answers how often it found something.
+fn read_all<S: Alter>(
     alloc: Global,
     conn: &mut Connection<S>,
-    call: Call,
+    read: Read,
+    profiles: Profiles,
     count: u32,
     times: u32,
 ) -> Result<u32>
@@ -30,11 +48,34 @@ fn make_all<S: Alter>(
 {
     let mut found = 0u32;
     for index in 0..times {
-        if call.make(alloc, conn, spread(index, count))? {
+        let user = spread(index, count);
+        let profile = profile_of(alloc, profiles, user)?;
+        if read.make(alloc, conn, &profile, user)? {
             found = found.wrapping_add(1);
         }
     }
     Ok(found)
+}
+
+// Makes a write so often.
+fn write_all<S: Alter>(
+    alloc: Global,
+    conn: &mut Connection<S>,
+    write: Write,
+    profiles: Profiles,
+    count: u32,
+    times: u32,
+    body: &str,
+) -> Result<()>
+    requires { IsIdle (state S.Store conn.old) }
+    ensures { IsIdle (state S.Store conn.new) }
+{
+    for index in 0..times {
+        let user = spread(index, count);
+        let profile = profile_of(alloc, profiles, user)?;
+        write.make(alloc, conn, &profile, user, body)?;
+    }
+    Ok(())
 }
 
 // How many microseconds one of so many calls took.
@@ -42,17 +83,81 @@ fn microseconds_each(time: Duration, times: u32) -> u128 {
     time.as_micros().checked_div(u128::from(times)).unwrap_or(0)
 }
 
-/// Makes each call on an office of so many users and revisions, and prints what it took.
-pub fn time_calls<S: Alter>(rt: &HostRuntime, conn: &mut Connection<S>, count: u32) -> Result<()>
+// Makes a read about these profiles, and prints what it took.
+fn time_read<S: Alter>(
+    rt: &HostRuntime,
+    conn: &mut Connection<S>,
+    read: Read,
+    profiles: Profiles,
+    count: u32,
+) -> Result<()>
     requires { IsIdle (state S.Store conn.old) }
+    ensures { IsIdle (state S.Store conn.new) }
 {
     let times = count.min(MOST_TIMES);
-    for call in CALLS {
-        let start = Instant::now(rt)?;
-        let found = make_all(rt.alloc(), conn, call, count, times)?;
-        let time = start.elapsed(rt)?;
-        println!(rt; "{call:?}: {found} of {times}")?;
-        eprintln!(rt; "{call:?}: {} microseconds", microseconds_each(time, times))?;
+    let start = Instant::now(rt)?;
+    let found = read_all(rt.alloc(), conn, read, profiles, count, times)?;
+    let time = start.elapsed(rt)?;
+    println!(rt; "{profiles:?} {read:?}: {found} of {times}")?;
+    eprintln!(rt;
+        "{profiles:?} {read:?}: {} microseconds",
+        microseconds_each(time, times)
+    )?;
+    Ok(())
+}
+
+// Makes a write about these profiles, and prints what it took.
+fn time_write<S: Alter>(
+    rt: &HostRuntime,
+    conn: &mut Connection<S>,
+    write: Write,
+    profiles: Profiles,
+    count: u32,
+    body: &str,
+) -> Result<()>
+    requires { IsIdle (state S.Store conn.old) }
+    ensures { IsIdle (state S.Store conn.new) }
+{
+    let times = count.min(MOST_TIMES);
+    let start = Instant::now(rt)?;
+    write_all(rt.alloc(), conn, write, profiles, count, times, body)?;
+    let time = start.elapsed(rt)?;
+    eprintln!(rt;
+        "{profiles:?} {write:?}: {} microseconds",
+        microseconds_each(time, times)
+    )?;
+    Ok(())
+}
+
+// Makes each call about these profiles.
+fn time_about<S: Alter>(
+    rt: &HostRuntime,
+    conn: &mut Connection<S>,
+    profiles: Profiles,
+    count: u32,
+    body: &str,
+) -> Result<()>
+    requires { IsIdle (state S.Store conn.old) }
+    ensures { IsIdle (state S.Store conn.new) }
+{
+    for read in READS {
+        time_read(rt, conn, read, profiles, count)?;
+    }
+    for write in WRITES {
+        time_write(rt, conn, write, profiles, count, body)?;
     }
     Ok(())
+}
+
+/// Makes each call on an office of so many users, about short profiles and then about the long one, and prints what it took.
+pub fn time_calls<S: Alter>(
+    rt: &HostRuntime,
+    conn: &mut Connection<S>,
+    count: u32,
+    body: &str,
+) -> Result<()>
+    requires { IsIdle (state S.Store conn.old) }
+{
+    time_about(rt, conn, Profiles::Short, count, "{}")?;
+    time_about(rt, conn, Profiles::Long, count, body)
 }
