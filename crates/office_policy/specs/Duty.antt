@@ -32,8 +32,8 @@ use Rattle.office_policy.specs.Need.{need_at}
 pub record AreOthers (h : History) (issuer : List ℕ) (p : ProfileName) (n : ℕ) : Type 0 where
   pub distinct : AllPairs (λ a b. a ≢ b) (approvals h p n)
   pub reviewers_then :
-    (name : List ℕ) (v : CastVote) → Contains (approvals h p n) name → vote_of h p n name ≡ Some v →
-    holds_role (user_of v.before name) Reviewer ≡ true
+      (name : List ℕ) (v : CastVote) → Contains (approvals h p n) name → vote_of h p n name ≡ Some v →
+      holds_role (user_of v.before name) Reviewer ≡ true
   pub reviewers_now : (name : List ℕ) → Contains (approvals h p n) name → holds_role (user_of h name) Reviewer ≡ true
   pub no_authors : (name : List ℕ) → Contains (approvals h p n) name → is_author h p name ≡ false
   pub issuer_no_author : is_author h p issuer ≡ false

@@ -65,19 +65,15 @@ pub fn examples_of_lapsed_votes()
     ensures security_came_back { issue (has_roles sue 12 (5 ∷ []) ∷ has_roles sue 4 (5 ∷ []) ∷ both_approve) TwoWithSecurity 1 ≡ Ok tt }
     ensures no_reviewer_now { issue (has_roles rev 0 (3 ∷ []) ∷ both_approve) TwoWithSecurity 1 ≡ refused 7 (rule.ApprovalsShort 1 TwoWithSecurity) }
     ensures reviewer_again { issue (has_roles rev 4 (3 ∷ []) ∷ has_roles rev 0 (3 ∷ []) ∷ both_approve) TwoWithSecurity 1 ≡ Ok tt }
-    ensures security_after_the_vote {
-        issue (has_roles rev 12 (3 ∷ []) ∷ approves ray 1 ∷ approves rev 1 ∷ one_submitted) TwoWithSecurity 1
-        ≡ refused 8 rule.SecurityMissing
-    }
+    ensures security_after_the_vote { issue (has_roles rev 12 (3 ∷ []) ∷ approves ray 1 ∷ approves rev 1 ∷ one_submitted) TwoWithSecurity 1
+        ≡ refused 8 rule.SecurityMissing }
     ensures security_without_reviewer { secure_approvals (has_roles sue 8 (5 ∷ []) ∷ both_approve) web 1 ≡ [] }
     ensures lapsed_rejection { issue (has_roles ray 0 (4 ∷ []) ∷ rejects ray 1 ∷ both_approve) TwoWithSecurity 1 ≡ Ok tt }
     ensures kept { kept_vote_of (has_roles sue 0 (5 ∷ []) ∷ both_approve) web 1 sue ≡ Some (record { approves = true; security = true }) }
-    ensures lapsed_row {
-        standing_votes (has_roles rev 0 (3 ∷ []) ∷ both_approve) web 1
+    ensures lapsed_row { standing_votes (has_roles rev 0 (3 ∷ []) ∷ both_approve) web 1
         ≡ record { voter = rev; approve = true; security = false; counts = false }
         ∷ record { voter = sue; approve = true; security = true; counts = true }
-        ∷ []
-    }
+        ∷ [] }
 {}
 
 /// A revision is open until a later one is submitted or it is issued; what was issued is replaced by a later issue, and what
@@ -93,20 +89,16 @@ pub fn examples_of_issues()
     ensures other_profile { state_of (issued iss unknown_profile 1 ∷ first_issued) web 1 ≡ Issued }
     ensures no_issuer { issue_by rev both_approve TwoWithSecurity 1 ≡ refused 2 rule.RoleMissing }
     ensures no_revision { issue both_approve One 2 ≡ refused 3 rule.NoRevision }
-    ensures author_issues {
-        issue_by ann (approves rev 1 ∷ submits ann ∷ enrolled root ann blue 26 (1 ∷ []) ∷ office) One 1
-        ≡ refused 4 rule.AuthorIssues
-    }
+    ensures author_issues { issue_by ann (approves rev 1 ∷ submits ann ∷ enrolled root ann blue 26 (1 ∷ []) ∷ office) One 1
+        ≡ refused 4 rule.AuthorIssues }
     ensures not_open { issue first_issued One 1 ≡ refused 5 rule.NotOpen }
 {}
 
 /// Machines of the team fetch the issued revision, as it was submitted.
 pub fn examples_of_fetches()
     ensures newest { told second_issued blue_machine (ask.Fetch web) ≡ accepted (reply.Fetched (digest_of text) text 2) None }
-    ensures text {
-        (bytes : List ℕ) → told (issues 1 ∷ submitted ann web bytes ∷ office) blue_machine (ask.Fetch web)
-        ≡ accepted (reply.Fetched (digest_of bytes) bytes 1) None
-    }
+    ensures text { (bytes : List ℕ) → told (issues 1 ∷ submitted ann web bytes ∷ office) blue_machine (ask.Fetch web)
+        ≡ accepted (reply.Fetched (digest_of bytes) bytes 1) None }
     ensures closed_is_issued_still { number_of (issued_revision second_approved web) ≡ 1 }
     ensures replaced_does_not_come_back { decision second_withdrawn blue_machine (ask.Fetch web) ≡ refused 4 rule.NothingIssued }
     ensures other_team { decision second_withdrawn red_machine (ask.Fetch web) ≡ refused 3 rule.OtherTeam }
@@ -123,10 +115,8 @@ pub fn examples_of_withdrawals()
     ensures twice { decision (withdraws 1 ∷ first_issued) sue (ask.Withdraw web 1) ≡ refused 5 rule.NotStanding }
     ensures of_the_closed { decision (submits ann ∷ one_submitted) sue (ask.Withdraw web 1) ≡ refused 5 rule.NotStanding }
     ensures of_the_replaced { decision second_issued sue (ask.Withdraw web 1) ≡ refused 5 rule.NotStanding }
-    ensures other_team {
-        decision (enrolled root (codes "rob") red 2 (10 ∷ []) ∷ first_issued) (codes "rob") (ask.Withdraw web 1)
-        ≡ refused 3 rule.OtherTeam
-    }
+    ensures other_team { decision (enrolled root (codes "rob") red 2 (10 ∷ []) ∷ first_issued) (codes "rob") (ask.Withdraw web 1)
+        ≡ refused 3 rule.OtherTeam }
     ensures no_revision { decision first_issued sue (ask.Withdraw web 2) ≡ refused 4 rule.NoRevision }
     ensures no_role { decision first_issued rev (ask.Withdraw web 1) ≡ refused 2 rule.RoleMissing }
     ensures state { state_of (withdraws 1 ∷ first_issued) web 1 ≡ Withdrawn }
@@ -143,35 +133,23 @@ pub fn examples_of_adoption()
     ensures no_security { decision first_issued rev (ask.Adopt web 1) ≡ refused 2 rule.RoleMissing }
     ensures nothing_adopted { baseline_of first_issued blue ≡ closed_profile }
     ensures adopted_document { (bytes : List ℕ) → baseline_of (adopts 1 ∷ issues 1 ∷ submitted ann web bytes ∷ office) blue ≡ document_of bytes }
-    ensures replaced_document {
-        (bytes : List ℕ) → baseline_of (issues 2 ∷ submits ann ∷ adopts 1 ∷ issues 1 ∷ submitted ann web bytes ∷ office) blue
-        ≡ document_of bytes
-    }
+    ensures replaced_document { (bytes : List ℕ) → baseline_of (issues 2 ∷ submits ann ∷ adopts 1 ∷ issues 1 ∷ submitted ann web bytes ∷ office) blue
+        ≡ document_of bytes }
     ensures of_another_team { baseline_of second_approved red ≡ closed_profile }
-    ensures last_adopted {
-        (bytes : List ℕ) → baseline_of (adopts 2 ∷ issues 2 ∷ submitted ann web bytes ∷ adopts 1 ∷ first_issued) blue
-        ≡ document_of bytes
-    }
-    ensures withdrawn_gives_no_earlier {
-        baseline_of (withdraws 2 ∷ adopts 2 ∷ issues 2 ∷ submits ann ∷ adopts 1 ∷ first_issued) blue
-        ≡ closed_profile
-    }
+    ensures last_adopted { (bytes : List ℕ) → baseline_of (adopts 2 ∷ issues 2 ∷ submitted ann web bytes ∷ adopts 1 ∷ first_issued) blue
+        ≡ document_of bytes }
+    ensures withdrawn_gives_no_earlier { baseline_of (withdraws 2 ∷ adopts 2 ∷ issues 2 ∷ submits ann ∷ adopts 1 ∷ first_issued) blue
+        ≡ closed_profile }
 {}
 
 /// The need is that against the baseline of the moment.
 pub fn examples_of_the_need()
-    ensures against_the_adopted {
-        (old new : List ℕ) → need_at (submitted ann web new ∷ adopts 1 ∷ issues 1 ∷ submitted ann web old ∷ office) web 2
-        ≡ need_against listed (document_of old) (document_of new)
-    }
-    ensures against_the_closed {
-        (old new : List ℕ) → need_at (withdraws 1 ∷ submitted ann web new ∷ adopts 1 ∷ issues 1 ∷ submitted ann web old ∷ office) web 2
-        ≡ need_against listed closed_profile (document_of new)
-    }
-    ensures against_what_is_adopted_later {
-        (old new : List ℕ) → need_at (adopts 1 ∷ issues 1 ∷ submitted ann web new ∷ submitted ann web old ∷ office) web 2
-        ≡ need_against listed (document_of old) (document_of new)
-    }
+    ensures against_the_adopted { (old new : List ℕ) → need_at (submitted ann web new ∷ adopts 1 ∷ issues 1 ∷ submitted ann web old ∷ office) web 2
+        ≡ need_against listed (document_of old) (document_of new) }
+    ensures against_the_closed { (old new : List ℕ) → need_at (withdraws 1 ∷ submitted ann web new ∷ adopts 1 ∷ issues 1 ∷ submitted ann web old ∷ office) web 2
+        ≡ need_against listed closed_profile (document_of new) }
+    ensures against_what_is_adopted_later { (old new : List ℕ) → need_at (adopts 1 ∷ issues 1 ∷ submitted ann web new ∷ submitted ann web old ∷ office) web 2
+        ≡ need_against listed (document_of old) (document_of new) }
     ensures listed_at_the_founding { listed_of second_withdrawn ≡ 2097152 }
     ensures one_is_short { issue second_approved TwoWithSecurity 2 ≡ refused 7 (rule.ApprovalsShort 1 TwoWithSecurity) }
     ensures one_is_enough { issue second_approved One 2 ≡ Ok tt }
@@ -221,42 +199,28 @@ pub fn examples_of_enrolments()
     ensures callers_token_taken { decision office root (ask.Enrol (codes "new") blue 2 (0 ∷ [])) ≡ refused 5 rule.TokenTaken }
     ensures given_up_token { decision (enrolled root ann blue 2 (11 ∷ []) ∷ office) root (ask.Enrol (codes "new") blue 2 (1 ∷ [])) ≡ Ok tt }
     ensures no_registrar { decision office sue (ask.Enrol ann blue 0 (1 ∷ [])) ≡ refused 2 rule.RoleMissing }
-    ensures roles_are_replaced {
-        user_of (enrolled root ben blue 2 (2 ∷ []) ∷ office) ben
-        ≡ Some (record { name = ben; team = blue; roles = 2; digest = 2 ∷ [] })
-    }
-    ensures role_before_document {
-        first_denial (submit_rules (submit_facts (user_of (enrolled root ann blue 0 (1 ∷ []) ∷ office) ann) blue (Err TooLong) None 0))
-        ≡ refused 2 rule.RoleMissing
-    }
-    ensures team_before_document {
-        first_denial (submit_rules (submit_facts (user_of office ann) red (Err TooLong) None 0))
-        ≡ refused 3 rule.OtherTeam
-    }
+    ensures roles_are_replaced { user_of (enrolled root ben blue 2 (2 ∷ []) ∷ office) ben
+        ≡ Some (record { name = ben; team = blue; roles = 2; digest = 2 ∷ [] }) }
+    ensures role_before_document { first_denial (submit_rules (submit_facts (user_of (enrolled root ann blue 0 (1 ∷ []) ∷ office) ann) blue (Err TooLong) None 0))
+        ≡ refused 2 rule.RoleMissing }
+    ensures team_before_document { first_denial (submit_rules (submit_facts (user_of office ann) red (Err TooLong) None 0))
+        ≡ refused 3 rule.OtherTeam }
     ensures no_document { first_denial (submit_rules (submit_facts (user_of office ann) blue (Err TooLong) None 0)) ≡ refused 4 rule.Document }
 {}
 
 /// A team's profiles are listed with their last revision's number and state, and the number that is issued now, or 0.
 pub fn examples_of_listings()
     ensures nothing { told office sue (ask.List blue) ≡ accepted (reply.Listed []) None }
-    ensures resubmitted {
-        listing_of (submits ann ∷ one_submitted) blue
-        ≡ record { profile = codes "web"; issued = 0; revisions = 2; state = Open } ∷ []
-    }
+    ensures resubmitted { listing_of (submits ann ∷ one_submitted) blue
+        ≡ record { profile = codes "web"; issued = 0; revisions = 2; state = Open } ∷ [] }
     ensures after_an_issue { listing_of first_issued blue ≡ record { profile = codes "web"; issued = 1; revisions = 1; state = Issued } ∷ [] }
-    ensures issued_before_the_last {
-        listing_of second_approved blue
-        ≡ record { profile = codes "web"; issued = 1; revisions = 2; state = Open } ∷ []
-    }
-    ensures after_a_withdrawal {
-        listing_of second_withdrawn blue
-        ≡ record { profile = codes "web"; issued = 0; revisions = 2; state = Withdrawn } ∷ []
-    }
-    ensures in_order {
-        listing_of (submitted ann unknown_profile text ∷ one_submitted) blue
+    ensures issued_before_the_last { listing_of second_approved blue
+        ≡ record { profile = codes "web"; issued = 1; revisions = 2; state = Open } ∷ [] }
+    ensures after_a_withdrawal { listing_of second_withdrawn blue
+        ≡ record { profile = codes "web"; issued = 0; revisions = 2; state = Withdrawn } ∷ [] }
+    ensures in_order { listing_of (submitted ann unknown_profile text ∷ one_submitted) blue
         ≡ record { profile = codes "none"; issued = 0; revisions = 1; state = Open }
-        ∷ record { profile = codes "web"; issued = 0; revisions = 1; state = Open } ∷ []
-    }
+        ∷ record { profile = codes "web"; issued = 0; revisions = 1; state = Open } ∷ [] }
     ensures of_another_team { listing_of first_issued red ≡ [] }
     ensures no_reader { decision first_issued blue_machine (ask.List blue) ≡ refused 2 rule.RoleMissing }
     ensures no_machine_shows { decision first_issued blue_machine (ask.Show web 1) ≡ refused 2 rule.RoleMissing }
@@ -264,8 +228,7 @@ pub fn examples_of_listings()
 
 /// A sheet shows a revision beside the baseline of the moment, with each standing vote.
 pub fn examples_of_sheets()
-    ensures without_a_baseline {
-        (bytes : List ℕ) → sheet_of (submitted ann web bytes ∷ office) web (open_row 1 bytes)
+    ensures without_a_baseline { (bytes : List ℕ) → sheet_of (submitted ann web bytes ∷ office) web (open_row 1 bytes)
         ≡ record {
           team = blue;
           profile = codes "web";
@@ -277,10 +240,8 @@ pub fn examples_of_sheets()
           shown = document_of bytes;
           listed = 2097152;
           votes = [];
-        }
-    }
-    ensures with_a_baseline {
-        (old new : List ℕ) → sheet_of (after_an_adoption old new) web (open_row 2 new)
+        } }
+    ensures with_a_baseline { (old new : List ℕ) → sheet_of (after_an_adoption old new) web (open_row 2 new)
         ≡ record {
           team = blue;
           profile = codes "web";
@@ -292,10 +253,9 @@ pub fn examples_of_sheets()
           shown = document_of new;
           listed = 2097152;
           votes =
-            record { voter = rev; approve = false; security = false; counts = false }
-            ∷ record { voter = sue; approve = true; security = true; counts = true }
-            ∷ [];
-        }
-    }
+              record { voter = rev; approve = false; security = false; counts = false }
+              ∷ record { voter = sue; approve = true; security = true; counts = true }
+              ∷ [];
+        } }
     ensures with_a_withdrawn_baseline { adopted_revision baseline_withdrawn blue ≡ None }
 {}
