@@ -17,7 +17,6 @@ use std::alloc::AllocError;
 use widening::{CapSet, Finding};
 
 /// Adds the findings.
-#[tactic(auto, unfolding(crate::specs::Review::findings_lines))]
 pub(crate) fn push_findings(text: &mut String, found: &[Finding]) -> Result<(), AllocError>
     ensures { OnOk result (AddsLines text.old text.new (findings_lines found.now)) }
 {

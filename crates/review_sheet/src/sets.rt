@@ -10,7 +10,6 @@ use cap_sets::{CapState, File, execve, execve_root};
 use std::alloc::AllocError;
 
 /// Adds the sets of a document, and then those after execve.
-#[tactic(auto, unfolding(crate::specs::Sets::caps_lines))]
 pub(crate) fn push_caps(text: &mut String, state: &CapState) -> Result<(), AllocError>
     ensures { OnOk result (AddsLines text.old text.new (caps_lines state.now)) }
 {

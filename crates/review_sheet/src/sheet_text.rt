@@ -24,7 +24,6 @@ use widening::findings;
 /// # Errors
 ///
 /// Memory was refused.
-#[tactic(auto, unfolding(crate::specs::Sheet::sheet_text, crate::specs::Sheet::sheet_lines, crate::specs::Sheet::need_lines))]
 pub fn sheet(alloc: Global, facts: &SheetFacts<'_>) -> Result<String, AllocError>
     requires { AreByVoter facts.now.votes }
     ensures { IfOk result (λ text. string_bytes text ≡ sheet_text facts.now) }
@@ -43,7 +42,6 @@ pub fn sheet(alloc: Global, facts: &SheetFacts<'_>) -> Result<String, AllocError
 }
 
 // Adds which revision it is, where it stands, and what it is compared with.
-#[tactic(auto, unfolding(crate::specs::Sheet::head_lines))]
 fn push_head(alloc: Global, text: &mut String, facts: &SheetFacts<'_>) -> Result<(), AllocError>
     ensures { OnOk result (AddsLines text.old text.new (head_lines facts.now)) }
 {

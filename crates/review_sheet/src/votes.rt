@@ -9,7 +9,6 @@ use review_policy::VoteRow;
 use std::alloc::AllocError;
 
 /// Adds the votes.
-#[tactic(auto, unfolding(crate::specs::Review::votes_lines))]
 pub(crate) fn push_votes(text: &mut String, votes: &[VoteRow]) -> Result<(), AllocError>
     ensures { OnOk result (AddsLines text.old text.new (votes_lines votes.now)) }
 {

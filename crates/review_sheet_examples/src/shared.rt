@@ -1,0 +1,101 @@
+// What the tests share.
+
+ghost use Rattle.std.specs.Prelude.{◌≡◌, IfOk};
+ghost use Rattle.review_sheet.specs.Facts.{AreByVoter};
+
+use cap_sets::Caps;
+use profile_text::{Profile, digest, print, read};
+use review_policy::{State, VoteRow, Word};
+use review_sheet::{SheetFacts, sheet};
+use std::alloc::{AllocError, Global};
+use std::test::Fail;
+
+// The profile of a document.
+pub(crate) fn profile(alloc: Global, document: &str) -> Result<Profile, Fail> {
+    Ok(read(alloc, document.as_bytes())?)
+}
+
+// The vote of a user, which counts, or has lapsed.
+fn vote(
+    alloc: Global,
+    voter: &str,
+    approve: bool,
+    security: bool,
+    counts: bool,
+) -> Result<VoteRow, Fail>
+    ensures { IfOk result (λ vote. vote.voter ≡ voter.now) }
+{
+    let voter = Word::new(alloc, voter)?;
+    Ok(VoteRow {
+        voter,
+        approve,
+        security,
+        counts,
+    })
+}
+
+// The votes of rev and sue: whether each approves, has security and counts.
+pub(crate) fn rev_and_sue(
+    alloc: Global,
+    rev: (bool, bool, bool),
+    sue: (bool, bool, bool),
+) -> Result<Vec<VoteRow>, Fail>
+    ensures { IfOk result (λ votes. AreByVoter votes.items) }
+{
+    let rev = vote(alloc, "rev", rev.0, rev.1, rev.2)?;
+    let sue = vote(alloc, "sue", sue.0, sue.1, sue.2)?;
+    let votes = vec![in alloc; rev, sue]?;
+    Ok(votes)
+}
+
+// The sheet of the first revision of blue/web, which is open.
+pub(crate) fn sheet_of(
+    alloc: Global,
+    baseline: Option<(Word, u32)>,
+    base: &Profile,
+    shown: &Profile,
+    listed: Caps,
+    votes: Vec<VoteRow>,
+) -> Result<String, Fail>
+    requires { AreByVoter votes.items }
+{
+    let team = Word::new(alloc, "blue")?;
+    let profile = Word::new(alloc, "web")?;
+    let text = print(alloc, shown)?;
+    let facts = SheetFacts {
+        team: &team,
+        profile: &profile,
+        number: 1,
+        state: State::Open,
+        digest: digest(text.as_bytes()),
+        baseline,
+        base,
+        shown,
+        listed,
+        votes,
+    };
+    Ok(sheet(alloc, &facts)?)
+}
+
+// The same without votes, against a document.
+pub(crate) fn sheet_against(alloc: Global, base: &str, shown: &str) -> Result<String, Fail> {
+    let base = profile(alloc, base)?;
+    let shown = profile(alloc, shown)?;
+    sheet_of(alloc, None, &base, &shown, Caps::empty(), Vec::new(alloc))
+}
+
+// Lines, each ended by a line feed.
+pub(crate) fn lines_of(alloc: Global, lines: &[&str]) -> Result<String, AllocError> {
+    let mut text = String::new(alloc);
+    for line in lines {
+        text.push_str(line)?;
+        text.push('\n')?;
+    }
+    Ok(text)
+}
+
+// Whether these lines stand in a sheet in their order, with no line between them.
+pub(crate) fn has_lines(alloc: Global, sheet: &str, lines: &[&str]) -> Result<bool, AllocError> {
+    let part = lines_of(alloc, lines)?;
+    Ok(sheet.contains(part.as_str()))
+}
