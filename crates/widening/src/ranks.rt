@@ -107,7 +107,7 @@ pub(crate) fn asked_of_new(base: Ranks, new: Ranks) -> Option<Span>
 }
 
 // The ranks of the baseline's entries that must imply a new one, so that the new default permits no more. Without a span
-// it does, whatever they compare.
+// it permits more, whatever they compare.
 pub(crate) fn asked_of_base(base: Ranks, new: Ranks) -> Option<Span>
     ensures { (b n : Rules) → AreRanksOf base b → AreRanksOf new n →
         is_default_covered b n ≡ do_imply result b.entries n.entries }
