@@ -44,13 +44,13 @@ pub(crate) struct Parts {
 }
 
 // What was found so far, with one member more.
-fn found_with(alloc: Global, found: Found, name: &str, value: &Value) -> Result<Found, DocFault>
+fn found_with(alloc: Global, found: Found, name: &str, value: Value) -> Result<Found, DocFault>
     ensures { Gives result (unless_faulty
-        (row_faults (row_named document_rows name.now) (below [] name.now) (view value.now))
-        (found_with name.now (view value.now) found)) }
+        (row_faults (row_named document_rows name.now) (below [] name.now) (view value))
+        (found_with name.now (view value) found)) }
 {
     if name == "capabilities" {
-        let sets = Some(capabilities_of(alloc, value)?);
+        let sets = Some(capabilities_of(alloc, &value)?);
         Ok(Found { sets, ..found })
     } else if name == "seccomp" {
         let filter = seccomp_of(alloc, value)?;
@@ -61,10 +61,10 @@ fn found_with(alloc: Global, found: Found, name: &str, value: &Value) -> Result<
 }
 
 // What the members give.
-fn found_in(alloc: Global, members: &Map<String, Value>) -> Result<Found, DocFault>
+fn found_in(alloc: Global, members: Map<String, Value>) -> Result<Found, DocFault>
     ensures { Gives result (unless_faulty
-        (members_faults document_rows [] (members_view members.now.entries))
-        (found_in (members_view members.now.entries))) }
+        (members_faults document_rows [] (members_view members.entries))
+        (found_in (members_view members.entries))) }
 {
     let mut found = Found {
         sets: None,
@@ -78,10 +78,10 @@ fn found_in(alloc: Global, members: &Map<String, Value>) -> Result<Found, DocFau
 }
 
 // The parts of the members, of which `capabilities` is required.
-fn parts_in(alloc: Global, members: &Map<String, Value>) -> Result<Parts, DocFault>
+fn parts_in(alloc: Global, members: Map<String, Value>) -> Result<Parts, DocFault>
     ensures { Gives result (unless_faulty
-        (object_faults document_rows [] (members_view members.now.entries))
-        (parts_of (found_in (members_view members.now.entries)))) }
+        (object_faults document_rows [] (members_view members.entries))
+        (parts_of (found_in (members_view members.entries)))) }
 {
     let Found { sets, filter } = found_in(alloc, members)?;
     match sets {
@@ -92,8 +92,8 @@ fn parts_in(alloc: Global, members: &Map<String, Value>) -> Result<Parts, DocFau
 
 // The parts of a document.
 #[tactic(auto, unfolding(crate::specs::Document::document_faults, crate::specs::Parts::document_parts))]
-fn parts_of(alloc: Global, value: &Value) -> Result<Parts, DocFault>
-    ensures { Gives result (unless_faulty (document_faults (view value.now)) (document_parts (view value.now))) }
+fn parts_of(alloc: Global, value: Value) -> Result<Parts, DocFault>
+    ensures { Gives result (unless_faulty (document_faults (view value)) (document_parts (view value))) }
 {
     match value {
         Value::Object(members) => parts_in(alloc, members),
@@ -115,8 +115,8 @@ fn with_text(alloc: Global, profile: Profile) -> Result<Document, DocFault>
 
 // The profile and the canonical text of a JSON value.
 #[tactic(auto, unfolding(crate::specs::Reading::profile_of))]
-fn document_of(alloc: Global, value: &Value) -> Result<Document, DocFault>
-    ensures reading { GivesAs (λ document. document.profile) result (profile_of (view value.now)) }
+fn document_of(alloc: Global, value: Value) -> Result<Document, DocFault>
+    ensures reading { GivesAs (λ document. document.profile) result (profile_of (view value)) }
     ensures text { IfOk result HasItsText }
 {
     let Parts { sets, filter } = parts_of(alloc, value)?;
@@ -143,7 +143,7 @@ pub fn read_with_text(alloc: Global, bytes: &[u8]) -> Result<Document, DocFault>
         return Err(DocFault::TooLong);
     }
     match Value::from_slice(alloc, bytes) {
-        Ok(value) => document_of(alloc, &value),
+        Ok(value) => document_of(alloc, value),
         Err(error) => {
             if error.is_memory() {
                 Err(DocFault::NoMemory)

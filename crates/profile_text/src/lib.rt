@@ -11,16 +11,12 @@ mod document;
 mod entry;
 mod fault;
 mod filter;
-#[cfg(test)]
-mod filter_tests;
 mod filter_text;
 mod filter_words;
 mod hash;
 pub mod law;
 mod profile;
 mod sets;
-#[cfg(test)]
-mod tests;
 mod value;
 
 pub use canonical::print;
