@@ -15,31 +15,25 @@ ghost use Rattle.office_desk.specs.Handled.{CarriesOut};
 use crate::caller::{holds_role, is_of_team};
 use memory_store::MemoryStore;
 use office_tables::{RevisionRow, StoreFault, UserRow};
-use profile_text::{DocFault, Profile, digest, fault_text, print, read};
+use profile_text::{DocFault, Document, Profile, digest, fault_text, read_with_text};
 use review_policy::{
     Answer, ProfileName, Reply, Role, Rule, State, SubmitFacts, Text, Word, decide_submit,
 };
 use std::alloc::{AllocError, Global};
 
-// What the bytes read as, or why they don't.
-fn reading(alloc: Global, document: &[u8]) -> Result<Result<Profile, DocFault>, StoreFault>
-    ensures read { IfOk result (λ reading. reading ≡ reading_of document.now) }
+// What the bytes read as, or why they don't, and the canonical text, where they read.
+fn reading(
+    alloc: Global,
+    document: &[u8],
+) -> Result<(Result<Profile, DocFault>, Option<Text>), StoreFault>
+    ensures read { IfOk result (λ found. found.0 ≡ reading_of document.now) }
+    ensures text { IfOk result (λ found. found.1 ≡ canonical found.0) }
     ensures fault { IfErr result (λ fault. fault ≡ StoreFault.NoMemory) }
 {
-    match read(alloc, document) {
-        Ok(profile) => Ok(Ok(profile)),
+    match read_with_text(alloc, document) {
+        Ok(Document { profile, text }) => Ok((Ok(profile), Some(Text::new(text)))),
         Err(DocFault::NoMemory) => Err(StoreFault::NoMemory),
-        Err(fault) => Ok(Err(fault)),
-    }
-}
-
-// The canonical text of a document that reads.
-fn canonical(alloc: Global, reading: &Result<Profile, DocFault>) -> Result<Option<Text>, AllocError>
-    ensures { IfOk result (λ text. text ≡ canonical reading.now) }
-{
-    match reading {
-        Ok(profile) => Ok(Some(Text::new(print(alloc, profile)?))),
-        Err(_) => Ok(None),
+        Err(fault) => Ok((Err(fault), None)),
     }
 }
 
@@ -119,8 +113,7 @@ pub(crate) fn submit(
     ensures { (h : History) → IsLawful h → Shows store.old (tables_of h) →
         CarriesOut h (verdict_of h caller.now (ask.Submit name.now document.now)) result store.new }
 {
-    let reading = reading(alloc, document.as_slice())?;
-    let text = canonical(alloc, &reading)?;
+    let (reading, text) = reading(alloc, document.as_slice())?;
     let last = store.last(alloc, name)?;
     let facts = submit_facts(caller, &name.team, &reading, &text, &last);
     match decide_submit(&facts) {

@@ -1,5 +1,4 @@
 pub mod States
-pub mod TextFacts
 pub mod GivesFacts
 pub mod Bits
 pub mod Picks
@@ -13,6 +12,7 @@ pub mod FilterAgrees
 pub mod OwnParts
 pub mod LawfulRead
 pub mod WordBytes
+pub mod Writing
 pub mod Printing
 pub mod Listed
 pub mod OwnStands

@@ -1,6 +1,6 @@
 -- Steps of a loop that reads the members of an object, or the items of a list, one after another.
-use Rattle.std.proofs.Common.{◌≡◌, ◌∙◌, ℕ, ◌+◌, ◌<◌, ◌≤◌, List, [], ◌∷◌, ◌++◌, length, get_or, drop, Result, Ok, Err, refl, sym, ap, append_assoc, append-nil}
-use Rattle.std.proofs.lemmas.List.{drop_more, drop_all}
+use Rattle.std.proofs.Common.{◌≡◌, ◌∙◌, ℕ, ◌+◌, List, [], ◌∷◌, ◌++◌, length, Result, Ok, Err, refl, sym, ap, append_assoc, append-nil, length-append}
+use Rattle.std.proofs.lemmas.List.{nil_from_length}
 use Rattle.std.specs.Prelude.{decimal, String, string_bytes}
 use Rattle.std.specs.declared.alloc.Global.{Global}
 use Rattle.serde_json.specs.Data.{Data}
@@ -11,47 +11,40 @@ use Rattle.profile_text.specs.FilterParts.{items_as}
 use Rattle.profile_text.specs.Reading.{Gives, unless_faulty}
 use Rattle.profile_text.specs.Shape.{Shape, Row, below, items_faults, row_faults, row_named, members_faults}
 use Rattle.profile_text.proofs.GivesFacts.{gives_first, ok_parts}
-use Rattle.profile_text.proofs.WalkFacts.{items_more, items_end, members_more, members_end}
+use Rattle.profile_text.proofs.WalkFacts.{members_more, members_end}
 
 -- ---- items
 
-as_more : {X : Type 0} (read : Data → X) (values : List Value) (i : ℕ) (v : Value) → i < length values → v ≡ get_or values i v
-    → items_as read (items_view (drop i values)) ≡ read (view v) ∷ items_as read (items_view (drop (i + 1) values))
-unfolding items_as
-as_more read values i v lt at = rw (drop_more values i v lt, ← at) refl
-
-as_end : {X : Type 0} (read : Data → X) (values : List Value) (i : ℕ) → length values ≤ i → items_as read (items_view (drop i values)) ≡ []
-unfolding items_as
-as_end read values i ge = rw (drop_all i values ge) refl
-
 -- what is still to be read: the faults of the items that are left, and those done with them
-abbrev pub left : {X : Type 0} → Shape → (Data → X) → List ℕ → List Value → ℕ → List X → Result (List X) DocFault
-left shape read path values i done =
-    unless_faulty (items_faults shape path i (items_view (drop i values))) (done ++ items_as read (items_view (drop i values)))
+abbrev pub left : {X : Type 0} → Shape → (Data → X) → List ℕ → List Value → List X → Result (List X) DocFault
+left shape read path values done =
+    unless_faulty (items_faults shape path (length done) (items_view values)) (done ++ items_as read (items_view values))
 
 -- the fault of an item is the fault of the list
-pub item_refused : {X : Type 0} (shape : Shape) (read : Data → X) (path : List ℕ) (values : List Value) (i : ℕ) (v : Value) (done : List X) (whole : Result (List X) DocFault) (fault : DocFault)
-    → i < length values → v ≡ get_or values i v → whole ≡ left shape read path values i done
-    → Gives {X = X} (Err fault) (unless_faulty (shape (below path (decimal i)) (view v)) (read (view v))) → Gives {X = List X} (Err fault) whole
-item_refused shape read path values i v done whole fault lt at is told =
-    let first = shape (below path (decimal i)) (view v) in
-    let rest = items_faults shape path (i + 1) (items_view (drop (i + 1) values)) in
-    rw (is, items_more shape path values i v lt at) (gives_first fault first rest (read (view v)) (done ++ items_as read (items_view (drop i values))) told)
+pub item_refused : {X : Type 0} (shape : Shape) (read : Data → X) (path : List ℕ) (v : Value) (values rest : List Value) (done : List X) (whole : Result (List X) DocFault) (fault : DocFault)
+    → values ≡ v ∷ rest → whole ≡ left shape read path values done
+    → Gives {X = X} (Err fault) (unless_faulty (shape (below path (decimal (length done))) (view v)) (read (view v))) → Gives {X = List X} (Err fault) whole
+unfolding items_faults
+item_refused shape read path v values rest done whole fault here is told =
+    let first = shape (below path (decimal (length done))) (view v) in
+    let others = items_faults shape path (length done + 1) (items_view rest) in
+    rw (is, here) (gives_first fault first others (read (view v)) (done ++ items_as read (items_view (v ∷ rest))) told)
 
 -- an item is read, and the others are left
-pub item_read : {X : Type 0} (shape : Shape) (read : Data → X) (path : List ℕ) (values : List Value) (i : ℕ) (v : Value) (done : List X) (whole : Result (List X) DocFault) (x : X)
-    → i < length values → v ≡ get_or values i v → whole ≡ left shape read path values i done
-    → unless_faulty (shape (below path (decimal i)) (view v)) (read (view v)) ≡ Ok x → whole ≡ left shape read path values (i + 1) (done ++ x ∷ [])
-item_read shape read path values i v done whole x lt at is told =
-    let parts = ok_parts (shape (below path (decimal i)) (view v)) (read (view v)) x told in
-    let rest = items_faults shape path (i + 1) (items_view (drop (i + 1) values)) in
-    let others = items_as read (items_view (drop (i + 1) values)) in
-    is ∙ rw (items_more shape path values i v lt at, as_more read values i v lt at, parts.0, parts.1) (ap (unless_faulty rest) (sym (append_assoc done (x ∷ []) others)))
+pub item_read : {X : Type 0} (shape : Shape) (read : Data → X) (path : List ℕ) (v : Value) (values rest : List Value) (done : List X) (whole : Result (List X) DocFault) (x : X)
+    → values ≡ v ∷ rest → whole ≡ left shape read path values done
+    → unless_faulty (shape (below path (decimal (length done))) (view v)) (read (view v)) ≡ Ok x → whole ≡ left shape read path rest (done ++ x ∷ [])
+unfolding items_faults items_as
+item_read shape read path v values rest done whole x here is told =
+    let parts = ok_parts (shape (below path (decimal (length done))) (view v)) (read (view v)) x told in
+    let others = items_as read (items_view rest) in
+    is ∙ rw (here, parts.0, parts.1, length-append done (x ∷ []), append_assoc done (x ∷ []) others) refl
 
 -- all items are read
-pub items_read : {X : Type 0} (shape : Shape) (read : Data → X) (path : List ℕ) (values : List Value) (i : ℕ) (done : List X) (whole : Result (List X) DocFault)
-    → length values ≤ i → whole ≡ left shape read path values i done → whole ≡ Ok done
-items_read shape read path values i done whole ge is = is ∙ rw (items_end shape path values i ge, as_end read values i ge, append-nil) refl
+pub items_read : {X : Type 0} (shape : Shape) (read : Data → X) (path : List ℕ) (values : List Value) (done : List X) (whole : Result (List X) DocFault)
+    → length values ≡ 0 → whole ≡ left shape read path values done → whole ≡ Ok done
+unfolding items_faults items_as
+items_read shape read path values done whole none is = is ∙ rw (nil_from_length values none, append-nil done) refl
 
 -- ---- members
 

@@ -2,6 +2,7 @@ pub mod Profile
 pub mod Digest
 pub mod FaultText
 pub mod Text
+pub mod Tokens
 pub mod Shape
 pub mod FilterParts
 pub mod FilterShape

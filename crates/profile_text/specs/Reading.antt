@@ -1,5 +1,5 @@
 -- What bytes read as: a profile, or the first fault.
-use Rattle.std.specs.Prelude.{◌≡◌, ◌⊎◌, ℕ, List, [], ◌∷◌, length, nat_lt, if◌then◌else◌, Option, Some, None, Result, Ok, Err}
+use Rattle.std.specs.Prelude.{◌≡◌, ◌⊎◌, ℕ, List, [], ◌∷◌, length, nat_lt, if◌then◌else◌, Option, Some, None, Result, Ok, Err, string_bytes}
 use Rattle.std.specs.Str.{is_utf8}
 use Rattle.serde_json.specs.Data.{Data}
 use Rattle.serde_json.specs.Read.{read}
@@ -9,6 +9,7 @@ use Rattle.seccomp_doc.specs.declared.fault.FilterFault.{FilterFault}
 use Rattle.seccomp_doc.specs.Filter.{FilterValue}
 use Rattle.seccomp_doc.specs.Parts.{FilterPartsValue, filter_of}
 use Rattle.seccomp_doc.specs.Checks.{fault_of}
+use Rattle.profile_text.specs.declared.document.Document.{Document}
 use Rattle.profile_text.specs.declared.fault.DocFault.{DocFault}
 use Rattle.profile_text.specs.declared.fault.DocFault.TheVariants.{TooLong, NotJson, Caps, Filter, NoMemory, TextTooLong}
 use Rattle.profile_text.specs.declared.profile.Profile.{Profile}
@@ -80,3 +81,7 @@ Gives (Err fault) reading = (fault ≡ NoMemory) ⊎ (reading ≡ Err fault)
 abbrev pub GivesAs : {X Y : Type 0} → (X → Y) → Result X DocFault → Result Y DocFault → Type 0
 GivesAs seen (Ok x) reading = reading ≡ Ok (seen x)
 GivesAs seen (Err fault) reading = (fault ≡ NoMemory) ⊎ (reading ≡ Err fault)
+
+-- the text of a document is the canonical one of its profile
+abbrev pub HasItsText : Document → Type 0
+HasItsText document = string_bytes document.text ≡ text_of document.profile

@@ -5,7 +5,7 @@ ghost use Rattle.profile_text.specs.FilterFound.{arg_found, arg_found_with};
 ghost use Rattle.profile_text.specs.FilterParts.{arg_at, arg_in, items_as, list_as};
 ghost use Rattle.profile_text.specs.FilterShape.{arg_faults, arg_rows};
 ghost use Rattle.profile_text.specs.Reading.{Gives, GivesAs, unless_faulty};
-ghost use Rattle.profile_text.specs.Shape.{items_faults, list_faults, members_faults, object_faults, optional_faults, row_faults, row_named};
+ghost use Rattle.profile_text.specs.Shape.{below, items_faults, list_faults, members_faults, object_faults, optional_faults, row_faults, row_named};
 
 use crate::fault::{DocFault, Path};
 use crate::value::{number_of, op_of, optional_number_of};
@@ -23,25 +23,31 @@ pub(crate) struct FoundArg {
 }
 
 // What was found so far, with one member more.
-fn found_with(path: Path, found: FoundArg, name: &str, value: &Value) -> Result<FoundArg, DocFault>
+fn found_with(
+    alloc: Global,
+    path: &str,
+    found: FoundArg,
+    name: &str,
+    value: &Value,
+) -> Result<FoundArg, DocFault>
     ensures { Gives result (unless_faulty
-        (row_faults (row_named arg_rows name.now) path (view value.now))
+        (row_faults (row_named arg_rows name.now) (below path.now name.now) (view value.now))
         (arg_found_with name.now (view value.now) found)) }
 {
     if name == "index" {
-        let index = Some(number_of(path, value)?);
+        let index = Some(number_of(alloc, path, name, value)?);
         Ok(FoundArg { index, ..found })
     } else if name == "op" {
-        let op = Some(op_of(path, value)?);
+        let op = Some(op_of(alloc, path, name, value)?);
         Ok(FoundArg { op, ..found })
     } else if name == "value" {
-        let value = Some(number_of(path, value)?);
+        let value = Some(number_of(alloc, path, name, value)?);
         Ok(FoundArg { value, ..found })
     } else if name == "valueTwo" {
-        let value_two = optional_number_of(path, value)?.unwrap_or(0);
+        let value_two = optional_number_of(alloc, path, name, value)?.unwrap_or(0);
         Ok(FoundArg { value_two, ..found })
     } else {
-        Err(DocFault::UnknownMember(path))
+        Err(DocFault::UnknownMember(Path::of_member(alloc, path, name)?))
     }
 }
 
@@ -59,8 +65,7 @@ fn found_in(alloc: Global, path: &str, members: &Map<String, Value>) -> Result<F
     };
     for (name, value) in members {
         let name = name.as_str();
-        let member = Path::of_member(alloc, path, name)?;
-        found = found_with(member, found, name, value)?;
+        found = found_with(alloc, path, found, name, value)?;
     }
     Ok(found)
 }
@@ -91,24 +96,29 @@ fn arg_at(alloc: Global, path: &str, members: &Map<String, Value>) -> Result<Arg
 
 // An argument.
 #[tactic(auto, unfolding(crate::specs::FilterShape::table_faults, crate::specs::FilterParts::arg_in))]
-fn arg_of(alloc: Global, path: &str, value: &Value) -> Result<ArgParts, DocFault>
-    ensures { Gives result (unless_faulty (arg_faults path.now (view value.now)) (arg_in (view value.now))) }
+fn arg_of(alloc: Global, path: &str, value: Value) -> Result<ArgParts, DocFault>
+    ensures { Gives result (unless_faulty (arg_faults path.now (view value)) (arg_in (view value))) }
 {
     match value {
-        Value::Object(members) => arg_at(alloc, path, members),
+        Value::Object(members) => arg_at(alloc, path, &members),
         _ => Err(DocFault::WrongShape(Path::new(alloc, path)?)),
     }
 }
 
 // The arguments of a list.
-fn args_in(alloc: Global, path: &str, values: &[Value]) -> Result<Vec<ArgParts>, DocFault>
+fn args_in(
+    alloc: Global,
+    path: &str,
+    name: &str,
+    values: Vec<Value>,
+) -> Result<Vec<ArgParts>, DocFault>
     ensures { GivesAs (λ args. args.items) result (unless_faulty
-        (items_faults arg_faults path.now 0 (items_view values.now))
-        (items_as arg_in (items_view values.now))) }
+        (items_faults arg_faults (below path.now name.now) 0 (items_view values.items))
+        (items_as arg_in (items_view values.items))) }
 {
-    let mut args = Vec::new(alloc);
-    for (position, value) in values.iter().enumerate() {
-        let item = Path::of_item(alloc, path, position)?;
+    let mut args = Vec::with_capacity(alloc, values.len())?;
+    for value in values {
+        let item = Path::of_item(alloc, path, name, args.len())?;
         let arg = arg_of(alloc, item.as_str(), value)?;
         args.push(arg).map_err(|_| DocFault::NoMemory)?;
     }
@@ -117,14 +127,19 @@ fn args_in(alloc: Global, path: &str, values: &[Value]) -> Result<Vec<ArgParts>,
 
 /// A list of arguments, or null.
 #[tactic(auto, unfolding(crate::specs::Shape::optional_faults, crate::specs::Shape::list_faults, crate::specs::FilterParts::list_as))]
-pub(crate) fn args_of(alloc: Global, path: &str, value: &Value) -> Result<Vec<ArgParts>, DocFault>
+pub(crate) fn args_of(
+    alloc: Global,
+    path: &str,
+    name: &str,
+    value: Value,
+) -> Result<Vec<ArgParts>, DocFault>
     ensures { GivesAs (λ args. args.items) result (unless_faulty
-        (optional_faults (list_faults arg_faults) path.now (view value.now))
-        (list_as arg_in (view value.now))) }
+        (optional_faults (list_faults arg_faults) (below path.now name.now) (view value))
+        (list_as arg_in (view value))) }
 {
     match value {
         Value::Null => Ok(Vec::new(alloc)),
-        Value::Array(values) => args_in(alloc, path, values.as_slice()),
-        _ => Err(DocFault::WrongShape(Path::new(alloc, path)?)),
+        Value::Array(values) => args_in(alloc, path, name, values),
+        _ => Err(DocFault::WrongShape(Path::of_member(alloc, path, name)?)),
     }
 }

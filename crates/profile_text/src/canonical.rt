@@ -1,66 +1,76 @@
 // The canonical text of a profile.
 
-ghost use Rattle.std.specs.Prelude.{◌≡◌, ◌≤◌, length, Ok, IfOk, option_map, string_bytes};
-ghost use Rattle.serde_json.specs.View.{view};
-ghost use Rattle.profile_text.specs.Reading.{most_bytes, reading_of};
+ghost use Rattle.std.specs.Prelude.{◌≡◌, [], IfOk, OnOk, Some, codes, string_bytes};
+ghost use Rattle.json.specs.Print.{print};
 ghost use Rattle.profile_text.specs.Text.{caps_data, profile_data, seccomp_data, set_data, text_of};
+ghost use Rattle.profile_text.specs.Tokens.{Appends, member_tokens, tokens_of};
 
-use crate::filter_json::{filter_value, put_if};
+use crate::filter_text::write_filter;
 use crate::profile::Profile;
 use cap_sets::{CapState, Caps};
+use json::Writer;
 use seccomp_doc::Filter;
-use serde_json::{Map, Value, json};
 use std::alloc::{AllocError, Global};
 
 // The names of a set's members.
-fn set_value(alloc: Global, caps: Caps) -> Result<Value, AllocError>
-    ensures { IfOk result (λ value. view value ≡ set_data caps) }
+fn write_set(out: &mut Writer, set: &str, caps: Caps) -> Result<(), AllocError>
+    ensures { OnOk result (Appends out.old out.new (member_tokens set.now (Some (set_data caps)))) }
 {
-    let mut names = Vec::new(alloc);
+    out.key(set)?;
+    out.begin_array()?;
     for name in caps.names() {
-        names.push(Value::try_from_str(alloc, name)?)?;
+        out.string(name)?;
     }
-    Ok(Value::Array(names))
+    out.end_array()
 }
 
 // The five sets.
-fn caps_value(alloc: Global, caps: &CapState) -> Result<Value, AllocError>
-    ensures { IfOk result (λ value. view value ≡ caps_data caps.now) }
+fn write_caps(out: &mut Writer, caps: &CapState) -> Result<(), AllocError>
+    ensures { OnOk result (Appends out.old out.new (tokens_of (caps_data caps.now))) }
 {
-    let ambient = set_value(alloc, caps.ambient)?;
-    let bounding = set_value(alloc, caps.bounding)?;
-    let effective = set_value(alloc, caps.effective)?;
-    let inheritable = set_value(alloc, caps.inheritable)?;
-    let permitted = set_value(alloc, caps.permitted)?;
-    json!(in alloc; {
-        "ambient": ambient,
-        "bounding": bounding,
-        "effective": effective,
-        "inheritable": inheritable,
-        "permitted": permitted,
-    })
+    out.begin_object()?;
+    write_set(out, "ambient", caps.ambient)?;
+    write_set(out, "bounding", caps.bounding)?;
+    write_set(out, "effective", caps.effective)?;
+    write_set(out, "inheritable", caps.inheritable)?;
+    write_set(out, "permitted", caps.permitted)?;
+    out.end_object()
 }
 
 // The filter, where there is one.
-fn seccomp_value(alloc: Global, filter: &Option<Filter>) -> Result<Option<Value>, AllocError>
-    ensures { IfOk result (λ value. option_map view value ≡ seccomp_data filter.now) }
+fn write_seccomp(out: &mut Writer, filter: &Option<Filter>) -> Result<(), AllocError>
+    ensures { OnOk result (Appends out.old out.new
+        (member_tokens (codes "seccomp") (seccomp_data filter.now))) }
 {
     match filter {
-        Some(filter) => Ok(Some(filter_value(alloc, filter)?)),
-        None => Ok(None),
+        Some(filter) => {
+            out.key("seccomp")?;
+            write_filter(out, filter)
+        }
+        None => Ok(()),
     }
 }
 
 // The whole profile.
-fn profile_value(alloc: Global, profile: &Profile) -> Result<Value, AllocError>
-    ensures { IfOk result (λ value. view value ≡ profile_data profile.now) }
+fn write_profile(out: &mut Writer, profile: &Profile) -> Result<(), AllocError>
+    ensures { OnOk result (Appends out.old out.new (tokens_of (profile_data profile.now))) }
 {
-    let mut members = Map::new(alloc);
-    let caps = caps_value(alloc, &profile.caps)?;
-    serde_json::put(&mut members, alloc, "capabilities", caps)?;
-    let filter = seccomp_value(alloc, &profile.filter)?;
-    put_if(&mut members, alloc, "seccomp", filter)?;
-    Ok(Value::Object(members))
+    out.begin_object()?;
+    out.key("capabilities")?;
+    write_caps(out, &profile.caps)?;
+    write_seccomp(out, &profile.filter)?;
+    out.end_object()
+}
+
+// The text of what was written.
+fn written(out: Writer) -> String
+    requires { out.before ≡ [] }
+    ensures { string_bytes result ≡ print out.tokens }
+{
+    match String::from_utf8(out.into_inner()) {
+        Ok(text) => text,
+        Err(_) => unreachable!(),
+    }
 }
 
 /// The canonical text of a profile: compact JSON, with the members of each object in byte order of their names. All five
@@ -68,7 +78,7 @@ fn profile_value(alloc: Global, profile: &Profile) -> Result<Value, AllocError>
 pub fn print(alloc: Global, profile: &Profile) -> Result<String, AllocError>
     ensures { IfOk result (λ text. string_bytes text ≡ text_of profile.now) }
 {
-    let value = profile_value(alloc, profile)?;
-    let text = value.to_string(alloc)?;
-    Ok(text)
+    let mut out = Writer::new(Vec::new(alloc));
+    write_profile(&mut out, profile)?;
+    Ok(written(out))
 }

@@ -15,63 +15,68 @@ use std::alloc::Global;
 
 // One name of a list.
 #[tactic(auto, unfolding(crate::specs::Shape::word_faults))]
-fn cap_of(alloc: Global, path: &str, position: usize, value: &Value) -> Result<Caps, DocFault>
+fn cap_of(alloc: Global, name: &str, position: usize, value: &Value) -> Result<Caps, DocFault>
     ensures { Gives result (unless_faulty
-        (word_faults is_cap_name (below path.now (decimal position)) (view value.now))
+        (word_faults is_cap_name (below (below (codes "/capabilities") name.now) (decimal position)) (view value.now))
         (cap_of (view value.now))) }
 {
     match value {
         Value::String(word) => match Caps::from_name(word.as_str()) {
             Some(caps) => Ok(caps),
-            None => Err(DocFault::UnknownWord(Path::of_item(alloc, path, position)?)),
+            None => Err(DocFault::UnknownWord(Path::of_item(
+                alloc,
+                "/capabilities",
+                name,
+                position,
+            )?)),
         },
-        _ => Err(DocFault::WrongShape(Path::of_item(alloc, path, position)?)),
+        _ => Err(DocFault::WrongShape(Path::of_item(alloc, "/capabilities", name, position)?)),
     }
 }
 
 // The names of a list.
-fn caps_of(alloc: Global, path: &str, values: &[Value]) -> Result<Caps, DocFault>
+fn caps_of(alloc: Global, name: &str, values: &[Value]) -> Result<Caps, DocFault>
     ensures { Gives result (unless_faulty
-        (items_faults (word_faults is_cap_name) path.now 0 (items_view values.now))
+        (items_faults (word_faults is_cap_name) (below (codes "/capabilities") name.now) 0 (items_view values.now))
         (caps_of (items_view values.now))) }
 {
     let mut caps = Caps::empty();
     for (position, value) in values.iter().enumerate() {
-        caps = caps.union(cap_of(alloc, path, position, value)?);
+        caps = caps.union(cap_of(alloc, name, position, value)?);
     }
     Ok(caps)
 }
 
 // The value of a set.
 #[tactic(auto, unfolding(crate::specs::Shape::optional_faults, crate::specs::Shape::list_faults, crate::specs::Sets::set_of))]
-fn set_of(alloc: Global, path: &str, value: &Value) -> Result<Caps, DocFault>
-    ensures { Gives result (unless_faulty (set_faults path.now (view value.now)) (set_of (view value.now))) }
+fn set_of(alloc: Global, name: &str, value: &Value) -> Result<Caps, DocFault>
+    ensures { Gives result (unless_faulty (set_faults (below (codes "/capabilities") name.now) (view value.now)) (set_of (view value.now))) }
 {
     match value {
         Value::Null => Ok(Caps::empty()),
-        Value::Array(values) => caps_of(alloc, path, values.as_slice()),
-        _ => Err(DocFault::WrongShape(Path::new(alloc, path)?)),
+        Value::Array(values) => caps_of(alloc, name, values.as_slice()),
+        _ => Err(DocFault::WrongShape(Path::of_member(alloc, "/capabilities", name)?)),
     }
 }
 
 // The sets with that of one more member.
 fn sets_with(
     alloc: Global,
-    path: Path,
+    name: &str,
     sets: Sets,
     set: Option<CapSet>,
     value: &Value,
 ) -> Result<Sets, DocFault>
     ensures { Gives result (unless_faulty
-        (row_faults (option_map caps_row set) path (view value.now))
+        (row_faults (option_map caps_row set) (below (codes "/capabilities") name.now) (view value.now))
         (sets_with set (view value.now) sets)) }
 {
     match set {
         Some(set) => {
-            let caps = set_of(alloc, path.as_str(), value)?;
+            let caps = set_of(alloc, name, value)?;
             Ok(sets.with(set, caps))
         }
-        None => Err(DocFault::UnknownMember(path)),
+        None => Err(DocFault::UnknownMember(Path::of_member(alloc, "/capabilities", name)?)),
     }
 }
 
@@ -84,8 +89,7 @@ fn sets_in(alloc: Global, members: &Map<String, Value>) -> Result<Sets, DocFault
     let mut sets = Sets::empty();
     for (name, value) in members {
         let name = name.as_str();
-        let path = Path::of_member(alloc, "/capabilities", name)?;
-        sets = sets_with(alloc, path, sets, CapSet::from_name(name), value)?;
+        sets = sets_with(alloc, name, sets, CapSet::from_name(name), value)?;
     }
     Ok(sets)
 }

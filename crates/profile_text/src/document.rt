@@ -1,9 +1,9 @@
 // The reader of documents.
 
-ghost use Rattle.std.specs.Prelude.{◌≡◌, ◌<◌, [], length, Err};
+ghost use Rattle.std.specs.Prelude.{◌≡◌, ◌<◌, [], length, Err, IfOk};
 ghost use Rattle.serde_json.specs.View.{members_view, view};
 ghost use Rattle.profile_text.specs.Document.{document_faults, document_rows};
-ghost use Rattle.profile_text.specs.Reading.{Gives, if_short, most_bytes, profile_of, reading_of, unless_faulty};
+ghost use Rattle.profile_text.specs.Reading.{Gives, GivesAs, HasItsText, if_short, most_bytes, profile_of, reading_of, unless_faulty};
 ghost use Rattle.profile_text.specs.Parts.{document_parts, found_in, found_with, parts_of};
 ghost use Rattle.profile_text.specs.Shape.{below, members_faults, object_faults, row_faults, row_named};
 
@@ -20,6 +20,15 @@ use std::alloc::Global;
 // How many bytes a document may have, and its canonical text.
 const MOST_BYTES: usize = 262_144;
 
+/// A document that was read.
+#[derive(Debug, Drop)]
+pub struct Document {
+    /// What it stands for.
+    pub profile: Profile,
+    /// The canonical text of the profile, as `print` writes it.
+    pub text: String,
+}
+
 // What the members of a document give, where they are there.
 #[derive(Debug, Drop)]
 pub(crate) struct Found {
@@ -35,13 +44,13 @@ pub(crate) struct Parts {
 }
 
 // What was found so far, with one member more.
-fn found_with(alloc: Global, found: Found, name: &str, value: &Value) -> Result<Found, DocFault>
+fn found_with(alloc: Global, found: Found, name: &str, value: Value) -> Result<Found, DocFault>
     ensures { Gives result (unless_faulty
-        (row_faults (row_named document_rows name.now) (below [] name.now) (view value.now))
-        (found_with name.now (view value.now) found)) }
+        (row_faults (row_named document_rows name.now) (below [] name.now) (view value))
+        (found_with name.now (view value) found)) }
 {
     if name == "capabilities" {
-        let sets = Some(capabilities_of(alloc, value)?);
+        let sets = Some(capabilities_of(alloc, &value)?);
         Ok(Found { sets, ..found })
     } else if name == "seccomp" {
         let filter = seccomp_of(alloc, value)?;
@@ -52,10 +61,10 @@ fn found_with(alloc: Global, found: Found, name: &str, value: &Value) -> Result<
 }
 
 // What the members give.
-fn found_in(alloc: Global, members: &Map<String, Value>) -> Result<Found, DocFault>
+fn found_in(alloc: Global, members: Map<String, Value>) -> Result<Found, DocFault>
     ensures { Gives result (unless_faulty
-        (members_faults document_rows [] (members_view members.now.entries))
-        (found_in (members_view members.now.entries))) }
+        (members_faults document_rows [] (members_view members.entries))
+        (found_in (members_view members.entries))) }
 {
     let mut found = Found {
         sets: None,
@@ -69,10 +78,10 @@ fn found_in(alloc: Global, members: &Map<String, Value>) -> Result<Found, DocFau
 }
 
 // The parts of the members, of which `capabilities` is required.
-fn parts_in(alloc: Global, members: &Map<String, Value>) -> Result<Parts, DocFault>
+fn parts_in(alloc: Global, members: Map<String, Value>) -> Result<Parts, DocFault>
     ensures { Gives result (unless_faulty
-        (object_faults document_rows [] (members_view members.now.entries))
-        (parts_of (found_in (members_view members.now.entries)))) }
+        (object_faults document_rows [] (members_view members.entries))
+        (parts_of (found_in (members_view members.entries)))) }
 {
     let Found { sets, filter } = found_in(alloc, members)?;
     match sets {
@@ -83,8 +92,8 @@ fn parts_in(alloc: Global, members: &Map<String, Value>) -> Result<Parts, DocFau
 
 // The parts of a document.
 #[tactic(auto, unfolding(crate::specs::Document::document_faults, crate::specs::Parts::document_parts))]
-fn parts_of(alloc: Global, value: &Value) -> Result<Parts, DocFault>
-    ensures { Gives result (unless_faulty (document_faults (view value.now)) (document_parts (view value.now))) }
+fn parts_of(alloc: Global, value: Value) -> Result<Parts, DocFault>
+    ensures { Gives result (unless_faulty (document_faults (view value)) (document_parts (view value))) }
 {
     match value {
         Value::Object(members) => parts_in(alloc, members),
@@ -92,29 +101,56 @@ fn parts_of(alloc: Global, value: &Value) -> Result<Parts, DocFault>
     }
 }
 
-// The profile, where its canonical text is short enough.
-fn if_short(alloc: Global, profile: Profile) -> Result<Profile, DocFault>
-    ensures { Gives result (if_short profile) }
+// A profile with its canonical text, where that is short enough.
+fn with_text(alloc: Global, profile: Profile) -> Result<Document, DocFault>
+    ensures reading { GivesAs (λ document. document.profile) result (if_short profile) }
+    ensures text { IfOk result HasItsText }
 {
     let text = print(alloc, &profile)?;
     if text.len() > MOST_BYTES {
         return Err(DocFault::TextTooLong);
     }
-    Ok(profile)
+    Ok(Document { profile, text })
 }
 
-// The profile of a JSON value.
+// The profile and the canonical text of a JSON value.
 #[tactic(auto, unfolding(crate::specs::Reading::profile_of))]
-fn profile_of(alloc: Global, value: &Value) -> Result<Profile, DocFault>
-    ensures { Gives result (profile_of (view value.now)) }
+fn document_of(alloc: Global, value: Value) -> Result<Document, DocFault>
+    ensures reading { GivesAs (λ document. document.profile) result (profile_of (view value)) }
+    ensures text { IfOk result HasItsText }
 {
     let Parts { sets, filter } = parts_of(alloc, value)?;
     match sets.state() {
         Ok(caps) => {
             let filter = filter_of(alloc, filter)?;
-            if_short(alloc, Profile::new(caps, filter))
+            with_text(alloc, Profile::new(caps, filter))
         }
         Err(fault) => Err(DocFault::Caps(fault)),
+    }
+}
+
+/// Reads a document: its profile with its canonical text, or its first fault in the order of `DocFault`.
+///
+/// # Errors
+///
+/// Each fault of `DocFault`; `NoMemory` only where memory was refused, and never for `TooLong`.
+pub fn read_with_text(alloc: Global, bytes: &[u8]) -> Result<Document, DocFault>
+    ensures reading { GivesAs (λ document. document.profile) result (reading_of bytes.now) }
+    ensures text { IfOk result HasItsText }
+    ensures too_long { most_bytes < length bytes.now → result ≡ Err DocFault.TooLong }
+{
+    if bytes.len() > MOST_BYTES {
+        return Err(DocFault::TooLong);
+    }
+    match Value::from_slice(alloc, bytes) {
+        Ok(value) => document_of(alloc, value),
+        Err(error) => {
+            if error.is_memory() {
+                Err(DocFault::NoMemory)
+            } else {
+                Err(DocFault::NotJson)
+            }
+        }
     }
 }
 
@@ -127,17 +163,8 @@ pub fn read(alloc: Global, bytes: &[u8]) -> Result<Profile, DocFault>
     ensures reading { Gives result (reading_of bytes.now) }
     ensures too_long { most_bytes < length bytes.now → result ≡ Err DocFault.TooLong }
 {
-    if bytes.len() > MOST_BYTES {
-        return Err(DocFault::TooLong);
-    }
-    match Value::from_slice(alloc, bytes) {
-        Ok(value) => profile_of(alloc, &value),
-        Err(error) => {
-            if error.is_memory() {
-                Err(DocFault::NoMemory)
-            } else {
-                Err(DocFault::NotJson)
-            }
-        }
+    match read_with_text(alloc, bytes) {
+        Ok(document) => Ok(document.profile),
+        Err(fault) => Err(fault),
     }
 }

@@ -6,7 +6,7 @@ ghost use Rattle.profile_text.specs.FilterFound.{entry_found, entry_found_with, 
 ghost use Rattle.profile_text.specs.FilterParts.{entry_at, entry_in, items_as, list_as, string_in};
 ghost use Rattle.profile_text.specs.FilterShape.{entry_faults, entry_rows, text_faults};
 ghost use Rattle.profile_text.specs.Reading.{Gives, GivesAs, unless_faulty};
-ghost use Rattle.profile_text.specs.Shape.{items_faults, list_faults, members_faults, object_faults, optional_faults, row_faults, row_named};
+ghost use Rattle.profile_text.specs.Shape.{below, items_faults, list_faults, members_faults, object_faults, optional_faults, row_faults, row_named};
 
 use crate::argument::args_of;
 use crate::fault::{DocFault, Path};
@@ -16,29 +16,34 @@ use serde_json::{Map, Value};
 use std::alloc::Global;
 
 // The texts of a list.
-fn names_in(alloc: Global, path: &str, values: &[Value]) -> Result<Vec<String>, DocFault>
+fn names_in(
+    alloc: Global,
+    path: &str,
+    name: &str,
+    values: Vec<Value>,
+) -> Result<Vec<String>, DocFault>
     ensures { GivesAs (λ names. map string_bytes names.items) result (unless_faulty
-        (items_faults text_faults path.now 0 (items_view values.now))
-        (items_as string_in (items_view values.now))) }
+        (items_faults text_faults (below path.now name.now) 0 (items_view values.items))
+        (items_as string_in (items_view values.items))) }
 {
-    let mut names = Vec::new(alloc);
-    for (position, value) in values.iter().enumerate() {
-        let name = text_of(alloc, path, position, value)?;
-        names.push(name).map_err(|_| DocFault::NoMemory)?;
+    let mut names = Vec::with_capacity(alloc, values.len())?;
+    for value in values {
+        let text = text_of(alloc, path, name, names.len(), value)?;
+        names.push(text).map_err(|_| DocFault::NoMemory)?;
     }
     Ok(names)
 }
 
 // A list of texts.
 #[tactic(auto, unfolding(crate::specs::Shape::list_faults, crate::specs::FilterParts::list_as))]
-fn names_of(alloc: Global, path: Path, value: &Value) -> Result<Vec<String>, DocFault>
+fn names_of(alloc: Global, path: &str, name: &str, value: Value) -> Result<Vec<String>, DocFault>
     ensures { GivesAs (λ names. map string_bytes names.items) result (unless_faulty
-        (list_faults text_faults path (view value.now))
-        (list_as string_in (view value.now))) }
+        (list_faults text_faults (below path.now name.now) (view value))
+        (list_as string_in (view value))) }
 {
     match value {
-        Value::Array(values) => names_in(alloc, path.as_str(), values.as_slice()),
-        _ => Err(DocFault::WrongShape(path)),
+        Value::Array(values) => names_in(alloc, path, name, values),
+        _ => Err(DocFault::WrongShape(Path::of_member(alloc, path, name)?)),
     }
 }
 
@@ -54,37 +59,37 @@ pub(crate) struct FoundEntry {
 // What was found so far, with one member more.
 fn found_with(
     alloc: Global,
-    path: Path,
+    path: &str,
     found: FoundEntry,
     name: &str,
-    value: &Value,
+    value: Value,
 ) -> Result<FoundEntry, DocFault>
     ensures { GivesAs entry_seen result (unless_faulty
-        (row_faults (row_named entry_rows name.now) path (view value.now))
-        (entry_found_with name.now (view value.now) (entry_seen found))) }
+        (row_faults (row_named entry_rows name.now) (below path.now name.now) (view value))
+        (entry_found_with name.now (view value) (entry_seen found))) }
 {
     if name == "action" {
-        let word = Some(action_of(path, value)?);
+        let word = Some(action_of(alloc, path, name, &value)?);
         Ok(FoundEntry { word, ..found })
     } else if name == "args" {
-        let args = args_of(alloc, path.as_str(), value)?;
+        let args = args_of(alloc, path, name, value)?;
         Ok(FoundEntry { args, ..found })
     } else if name == "errnoRet" {
-        let errno = optional_number_of(path, value)?;
+        let errno = optional_number_of(alloc, path, name, &value)?;
         Ok(FoundEntry { errno, ..found })
     } else if name == "names" {
-        let names = Some(names_of(alloc, path, value)?);
+        let names = Some(names_of(alloc, path, name, value)?);
         Ok(FoundEntry { names, ..found })
     } else {
-        Err(DocFault::UnknownMember(path))
+        Err(DocFault::UnknownMember(Path::of_member(alloc, path, name)?))
     }
 }
 
 // What the members give.
-fn found_in(alloc: Global, path: &str, members: &Map<String, Value>) -> Result<FoundEntry, DocFault>
+fn found_in(alloc: Global, path: &str, members: Map<String, Value>) -> Result<FoundEntry, DocFault>
     ensures { GivesAs entry_seen result (unless_faulty
-        (members_faults entry_rows path.now (members_view members.now.entries))
-        (entry_found (members_view members.now.entries))) }
+        (members_faults entry_rows path.now (members_view members.entries))
+        (entry_found (members_view members.entries))) }
 {
     let mut found = FoundEntry {
         word: None,
@@ -94,17 +99,16 @@ fn found_in(alloc: Global, path: &str, members: &Map<String, Value>) -> Result<F
     };
     for (name, value) in members {
         let name = name.as_str();
-        let member = Path::of_member(alloc, path, name)?;
-        found = found_with(alloc, member, found, name, value)?;
+        found = found_with(alloc, path, found, name, value)?;
     }
     Ok(found)
 }
 
 // The entry of the members, of which the action and the names are required.
-fn entry_at(alloc: Global, path: &str, members: &Map<String, Value>) -> Result<EntryParts, DocFault>
+fn entry_at(alloc: Global, path: &str, members: Map<String, Value>) -> Result<EntryParts, DocFault>
     ensures { Gives result (unless_faulty
-        (object_faults entry_rows path.now (members_view members.now.entries))
-        (entry_at (members_view members.now.entries))) }
+        (object_faults entry_rows path.now (members_view members.entries))
+        (entry_at (members_view members.entries))) }
 {
     let FoundEntry {
         word,
@@ -128,8 +132,8 @@ fn entry_at(alloc: Global, path: &str, members: &Map<String, Value>) -> Result<E
 
 // An entry.
 #[tactic(auto, unfolding(crate::specs::FilterShape::table_faults, crate::specs::FilterParts::entry_in))]
-fn entry_of(alloc: Global, path: &str, value: &Value) -> Result<EntryParts, DocFault>
-    ensures { Gives result (unless_faulty (entry_faults path.now (view value.now)) (entry_in (view value.now))) }
+fn entry_of(alloc: Global, path: &str, value: Value) -> Result<EntryParts, DocFault>
+    ensures { Gives result (unless_faulty (entry_faults path.now (view value)) (entry_in (view value))) }
 {
     match value {
         Value::Object(members) => entry_at(alloc, path, members),
@@ -138,14 +142,19 @@ fn entry_of(alloc: Global, path: &str, value: &Value) -> Result<EntryParts, DocF
 }
 
 // The entries of a list.
-fn entries_in(alloc: Global, path: &str, values: &[Value]) -> Result<Vec<EntryParts>, DocFault>
+fn entries_in(
+    alloc: Global,
+    path: &str,
+    name: &str,
+    values: Vec<Value>,
+) -> Result<Vec<EntryParts>, DocFault>
     ensures { GivesAs (λ entries. entries.items) result (unless_faulty
-        (items_faults entry_faults path.now 0 (items_view values.now))
-        (items_as entry_in (items_view values.now))) }
+        (items_faults entry_faults (below path.now name.now) 0 (items_view values.items))
+        (items_as entry_in (items_view values.items))) }
 {
-    let mut entries = Vec::new(alloc);
-    for (position, value) in values.iter().enumerate() {
-        let item = Path::of_item(alloc, path, position)?;
+    let mut entries = Vec::with_capacity(alloc, values.len())?;
+    for value in values {
+        let item = Path::of_item(alloc, path, name, entries.len())?;
         let entry = entry_of(alloc, item.as_str(), value)?;
         entries.push(entry).map_err(|_| DocFault::NoMemory)?;
     }
@@ -157,15 +166,16 @@ fn entries_in(alloc: Global, path: &str, values: &[Value]) -> Result<Vec<EntryPa
 pub(crate) fn entries_of(
     alloc: Global,
     path: &str,
-    value: &Value,
+    name: &str,
+    value: Value,
 ) -> Result<Vec<EntryParts>, DocFault>
     ensures { GivesAs (λ entries. entries.items) result (unless_faulty
-        (optional_faults (list_faults entry_faults) path.now (view value.now))
-        (list_as entry_in (view value.now))) }
+        (optional_faults (list_faults entry_faults) (below path.now name.now) (view value))
+        (list_as entry_in (view value))) }
 {
     match value {
         Value::Null => Ok(Vec::new(alloc)),
-        Value::Array(values) => entries_in(alloc, path, values.as_slice()),
-        _ => Err(DocFault::WrongShape(Path::new(alloc, path)?)),
+        Value::Array(values) => entries_in(alloc, path, name, values),
+        _ => Err(DocFault::WrongShape(Path::of_member(alloc, path, name)?)),
     }
 }

@@ -45,11 +45,16 @@ impl Path {
         Ok(Path { text })
     }
 
-    /// The path of the item at this position, below another path.
-    pub(crate) fn of_item(alloc: Global, path: &str, position: usize) -> Result<Path, AllocError>
-        ensures { IfOk result (λ found. found ≡ below path.now (decimal position)) }
+    /// The path of the item at this position, in the list that is the member of this name, below another path.
+    pub(crate) fn of_item(
+        alloc: Global,
+        path: &str,
+        name: &str,
+        position: usize,
+    ) -> Result<Path, AllocError>
+        ensures { IfOk result (λ found. found ≡ below (below path.now name.now) (decimal position)) }
     {
-        let text = format!(in alloc; "{path}/{position}")?;
+        let text = format!(in alloc; "{path}/{name}/{position}")?;
         Ok(Path { text })
     }
 

@@ -6,7 +6,7 @@ ghost use Rattle.profile_text.specs.FilterFound.{filter_found, filter_found_with
 ghost use Rattle.profile_text.specs.FilterParts.{filter_at, seccomp_in};
 ghost use Rattle.profile_text.specs.FilterShape.{seccomp_faults, seccomp_rows};
 ghost use Rattle.profile_text.specs.Reading.{Gives, GivesAs, filter_or_fault, unless_faulty};
-ghost use Rattle.profile_text.specs.Shape.{members_faults, object_faults, row_faults, row_named};
+ghost use Rattle.profile_text.specs.Shape.{below, members_faults, object_faults, row_faults, row_named};
 
 use crate::entry::entries_of;
 use crate::fault::{DocFault, Path};
@@ -29,48 +29,48 @@ pub(crate) struct FoundFilter {
 // What was found so far, with one member more.
 fn found_with(
     alloc: Global,
-    path: Path,
+    path: &str,
     found: FoundFilter,
     name: &str,
-    value: &Value,
+    value: Value,
 ) -> Result<FoundFilter, DocFault>
     ensures { GivesAs filter_seen result (unless_faulty
-        (row_faults (row_named seccomp_rows name.now) path (view value.now))
-        (filter_found_with name.now (view value.now) (filter_seen found))) }
+        (row_faults (row_named seccomp_rows name.now) (below path.now name.now) (view value))
+        (filter_found_with name.now (view value) (filter_seen found))) }
 {
     if name == "architectures" {
-        let architectures = architectures_of(alloc, path, value)?;
+        let architectures = architectures_of(alloc, path, name, value)?;
         Ok(FoundFilter {
             architectures,
             ..found
         })
     } else if name == "defaultAction" {
-        let default = Some(action_of(path, value)?);
+        let default = Some(action_of(alloc, path, name, &value)?);
         Ok(FoundFilter { default, ..found })
     } else if name == "defaultErrnoRet" {
-        let default_errno = optional_number_of(path, value)?;
+        let default_errno = optional_number_of(alloc, path, name, &value)?;
         Ok(FoundFilter {
             default_errno,
             ..found
         })
     } else if name == "flags" {
-        let flags = flags_of(alloc, path, value)?;
+        let flags = flags_of(alloc, path, name, value)?;
         Ok(FoundFilter { flags, ..found })
     } else if name == "listenerMetadata" || name == "listenerPath" {
-        Err(DocFault::NotInProfile(path))
+        Err(DocFault::NotInProfile(Path::of_member(alloc, path, name)?))
     } else if name == "syscalls" {
-        let entries = entries_of(alloc, path.as_str(), value)?;
+        let entries = entries_of(alloc, path, name, value)?;
         Ok(FoundFilter { entries, ..found })
     } else {
-        Err(DocFault::UnknownMember(path))
+        Err(DocFault::UnknownMember(Path::of_member(alloc, path, name)?))
     }
 }
 
 // What the members give.
-fn found_in(alloc: Global, members: &Map<String, Value>) -> Result<FoundFilter, DocFault>
+fn found_in(alloc: Global, members: Map<String, Value>) -> Result<FoundFilter, DocFault>
     ensures { GivesAs filter_seen result (unless_faulty
-        (members_faults seccomp_rows (codes "/seccomp") (members_view members.now.entries))
-        (filter_found (members_view members.now.entries))) }
+        (members_faults seccomp_rows (codes "/seccomp") (members_view members.entries))
+        (filter_found (members_view members.entries))) }
 {
     let mut found = FoundFilter {
         architectures: Vec::new(alloc),
@@ -81,17 +81,16 @@ fn found_in(alloc: Global, members: &Map<String, Value>) -> Result<FoundFilter, 
     };
     for (name, value) in members {
         let name = name.as_str();
-        let member = Path::of_member(alloc, "/seccomp", name)?;
-        found = found_with(alloc, member, found, name, value)?;
+        found = found_with(alloc, "/seccomp", found, name, value)?;
     }
     Ok(found)
 }
 
 // The parts of the members, of which the default is required.
-fn filter_at(alloc: Global, members: &Map<String, Value>) -> Result<FilterParts, DocFault>
+fn filter_at(alloc: Global, members: Map<String, Value>) -> Result<FilterParts, DocFault>
     ensures { Gives result (unless_faulty
-        (object_faults seccomp_rows (codes "/seccomp") (members_view members.now.entries))
-        (filter_at (members_view members.now.entries))) }
+        (object_faults seccomp_rows (codes "/seccomp") (members_view members.entries))
+        (filter_at (members_view members.entries))) }
 {
     let FoundFilter {
         architectures,
@@ -114,10 +113,10 @@ fn filter_at(alloc: Global, members: &Map<String, Value>) -> Result<FilterParts,
 
 /// The parts of the filter that the member `seccomp` of a document names; null names none.
 #[tactic(auto, unfolding(crate::specs::Shape::optional_faults, crate::specs::FilterShape::table_faults, crate::specs::FilterParts::seccomp_in))]
-pub(crate) fn seccomp_of(alloc: Global, value: &Value) -> Result<Option<FilterParts>, DocFault>
+pub(crate) fn seccomp_of(alloc: Global, value: Value) -> Result<Option<FilterParts>, DocFault>
     ensures { Gives result (unless_faulty
-        (seccomp_faults (codes "/seccomp") (view value.now))
-        (seccomp_in (view value.now))) }
+        (seccomp_faults (codes "/seccomp") (view value))
+        (seccomp_in (view value))) }
 {
     match value {
         Value::Null => Ok(None),

@@ -14,32 +14,43 @@ use std::alloc::Global;
 
 // The architecture at a position of a list.
 #[tactic(auto, unfolding(crate::specs::Shape::word_faults))]
-fn arch_of(alloc: Global, path: &str, position: usize, value: &Value) -> Result<Arch, DocFault>
+fn arch_of(
+    alloc: Global,
+    path: &str,
+    name: &str,
+    position: usize,
+    value: Value,
+) -> Result<Arch, DocFault>
     ensures { Gives result (unless_faulty
-        (word_faults is_arch (below path.now (decimal position)) (view value.now))
-        (string_in (view value.now))) }
+        (word_faults is_arch (below (below path.now name.now) (decimal position)) (view value))
+        (string_in (view value))) }
 {
     match value {
         Value::String(text) => match Arch::read(alloc, text.as_str()) {
             Ok(arch) => Ok(arch),
             Err(WordFault::NotAWord) => {
-                Err(DocFault::UnknownWord(Path::of_item(alloc, path, position)?))
+                Err(DocFault::UnknownWord(Path::of_item(alloc, path, name, position)?))
             }
             Err(WordFault::NoMemory) => Err(DocFault::NoMemory),
         },
-        _ => Err(DocFault::WrongShape(Path::of_item(alloc, path, position)?)),
+        _ => Err(DocFault::WrongShape(Path::of_item(alloc, path, name, position)?)),
     }
 }
 
 // The architectures of a list.
-fn architectures_in(alloc: Global, path: &str, values: &[Value]) -> Result<Vec<Arch>, DocFault>
+fn architectures_in(
+    alloc: Global,
+    path: &str,
+    name: &str,
+    values: Vec<Value>,
+) -> Result<Vec<Arch>, DocFault>
     ensures { GivesAs (λ architectures. architectures.items) result (unless_faulty
-        (items_faults (word_faults is_arch) path.now 0 (items_view values.now))
-        (items_as string_in (items_view values.now))) }
+        (items_faults (word_faults is_arch) (below path.now name.now) 0 (items_view values.items))
+        (items_as string_in (items_view values.items))) }
 {
-    let mut architectures = Vec::new(alloc);
-    for (position, value) in values.iter().enumerate() {
-        let arch = arch_of(alloc, path, position, value)?;
+    let mut architectures = Vec::with_capacity(alloc, values.len())?;
+    for value in values {
+        let arch = arch_of(alloc, path, name, architectures.len(), value)?;
         architectures.push(arch).map_err(|_| DocFault::NoMemory)?;
     }
     Ok(architectures)
@@ -49,48 +60,60 @@ fn architectures_in(alloc: Global, path: &str, values: &[Value]) -> Result<Vec<A
 #[tactic(auto, unfolding(crate::specs::Shape::optional_faults, crate::specs::Shape::list_faults, crate::specs::FilterParts::list_as))]
 pub(crate) fn architectures_of(
     alloc: Global,
-    path: Path,
-    value: &Value,
+    path: &str,
+    name: &str,
+    value: Value,
 ) -> Result<Vec<Arch>, DocFault>
     ensures { GivesAs (λ architectures. architectures.items) result (unless_faulty
-        (optional_faults (list_faults (word_faults is_arch)) path (view value.now))
-        (list_as string_in (view value.now))) }
+        (optional_faults (list_faults (word_faults is_arch)) (below path.now name.now) (view value))
+        (list_as string_in (view value))) }
 {
     match value {
         Value::Null => Ok(Vec::new(alloc)),
-        Value::Array(values) => architectures_in(alloc, path.as_str(), values.as_slice()),
-        _ => Err(DocFault::WrongShape(path)),
+        Value::Array(values) => architectures_in(alloc, path, name, values),
+        _ => Err(DocFault::WrongShape(Path::of_member(alloc, path, name)?)),
     }
 }
 
 // The flag at a position of a list.
 #[tactic(auto, unfolding(crate::specs::Shape::word_faults))]
-fn flag_of(alloc: Global, path: &str, position: usize, value: &Value) -> Result<ScmpFlag, DocFault>
+fn flag_of(
+    alloc: Global,
+    path: &str,
+    name: &str,
+    position: usize,
+    value: Value,
+) -> Result<ScmpFlag, DocFault>
     ensures { Gives result (unless_faulty
-        (word_faults is_flag (below path.now (decimal position)) (view value.now))
-        (string_in (view value.now))) }
+        (word_faults is_flag (below (below path.now name.now) (decimal position)) (view value))
+        (string_in (view value))) }
 {
     match value {
         Value::String(text) => match ScmpFlag::read(alloc, text.as_str()) {
             Ok(flag) => Ok(flag),
             Err(WordFault::NotAWord) => {
-                Err(DocFault::UnknownWord(Path::of_item(alloc, path, position)?))
+                Err(DocFault::UnknownWord(Path::of_item(alloc, path, name, position)?))
             }
             Err(WordFault::NoMemory) => Err(DocFault::NoMemory),
         },
-        _ => Err(DocFault::WrongShape(Path::of_item(alloc, path, position)?)),
+        _ => Err(DocFault::WrongShape(Path::of_item(alloc, path, name, position)?)),
     }
 }
 
 // The flags of a list.
-fn flags_in(alloc: Global, path: &str, values: &[Value]) -> Result<Vec<ScmpFlag>, DocFault>
+fn flags_in(
+    alloc: Global,
+    path: &str,
+    name: &str,
+    values: Vec<Value>,
+) -> Result<Vec<ScmpFlag>, DocFault>
     ensures { GivesAs (λ flags. flags.items) result (unless_faulty
-        (items_faults (word_faults is_flag) path.now 0 (items_view values.now))
-        (items_as string_in (items_view values.now))) }
+        (items_faults (word_faults is_flag) (below path.now name.now) 0 (items_view values.items))
+        (items_as string_in (items_view values.items))) }
 {
-    let mut flags = Vec::new(alloc);
-    for (position, value) in values.iter().enumerate() {
-        let flag = flag_of(alloc, path, position, value)?;
+    let mut flags = Vec::with_capacity(alloc, values.len())?;
+    for value in values {
+        let flag = flag_of(alloc, path, name, flags.len(), value)?;
         flags.push(flag).map_err(|_| DocFault::NoMemory)?;
     }
     Ok(flags)
@@ -98,14 +121,19 @@ fn flags_in(alloc: Global, path: &str, values: &[Value]) -> Result<Vec<ScmpFlag>
 
 /// A list of flags, or null.
 #[tactic(auto, unfolding(crate::specs::Shape::optional_faults, crate::specs::Shape::list_faults, crate::specs::FilterParts::list_as))]
-pub(crate) fn flags_of(alloc: Global, path: Path, value: &Value) -> Result<Vec<ScmpFlag>, DocFault>
+pub(crate) fn flags_of(
+    alloc: Global,
+    path: &str,
+    name: &str,
+    value: Value,
+) -> Result<Vec<ScmpFlag>, DocFault>
     ensures { GivesAs (λ flags. flags.items) result (unless_faulty
-        (optional_faults (list_faults (word_faults is_flag)) path (view value.now))
-        (list_as string_in (view value.now))) }
+        (optional_faults (list_faults (word_faults is_flag)) (below path.now name.now) (view value))
+        (list_as string_in (view value))) }
 {
     match value {
         Value::Null => Ok(Vec::new(alloc)),
-        Value::Array(values) => flags_in(alloc, path.as_str(), values.as_slice()),
-        _ => Err(DocFault::WrongShape(path)),
+        Value::Array(values) => flags_in(alloc, path, name, values),
+        _ => Err(DocFault::WrongShape(Path::of_member(alloc, path, name)?)),
     }
 }

@@ -11,20 +11,16 @@ mod document;
 mod entry;
 mod fault;
 mod filter;
-mod filter_json;
-#[cfg(test)]
-mod filter_tests;
+mod filter_text;
 mod filter_words;
 mod hash;
 pub mod law;
 mod profile;
 mod sets;
-#[cfg(test)]
-mod tests;
 mod value;
 
 pub use canonical::print;
-pub use document::read;
+pub use document::{Document, read, read_with_text};
 pub use fault::{DocFault, Path, fault_text};
 pub use hash::digest;
 pub use profile::Profile;

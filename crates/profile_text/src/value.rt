@@ -23,67 +23,82 @@ fn u64_of(number: &Number) -> Option<u64>
 
 /// A number.
 #[tactic(auto, unfolding(crate::specs::FilterShape::number_faults))]
-pub(crate) fn number_of(path: Path, value: &Value) -> Result<u64, DocFault>
-    ensures { Gives result (unless_faulty (number_faults path (view value.now)) (number_in (view value.now))) }
+pub(crate) fn number_of(
+    alloc: Global,
+    path: &str,
+    name: &str,
+    value: &Value,
+) -> Result<u64, DocFault>
+    ensures { Gives result (unless_faulty (number_faults (below path.now name.now) (view value.now)) (number_in (view value.now))) }
 {
     match value {
         Value::Number(number) => match u64_of(number) {
             Some(number) => Ok(number),
-            None => Err(DocFault::BadNumber(path)),
+            None => Err(DocFault::BadNumber(Path::of_member(alloc, path, name)?)),
         },
-        _ => Err(DocFault::WrongShape(path)),
+        _ => Err(DocFault::WrongShape(Path::of_member(alloc, path, name)?)),
     }
 }
 
 /// A number or null.
 #[tactic(auto, unfolding(crate::specs::Shape::optional_faults, crate::specs::FilterShape::number_faults))]
-pub(crate) fn optional_number_of(path: Path, value: &Value) -> Result<Option<u64>, DocFault>
+pub(crate) fn optional_number_of(
+    alloc: Global,
+    path: &str,
+    name: &str,
+    value: &Value,
+) -> Result<Option<u64>, DocFault>
     ensures { Gives result (unless_faulty
-        (optional_faults number_faults path (view value.now))
+        (optional_faults number_faults (below path.now name.now) (view value.now))
         (whole_number (view value.now))) }
 {
     match value {
         Value::Null => Ok(None),
-        _ => Ok(Some(number_of(path, value)?)),
+        _ => Ok(Some(number_of(alloc, path, name, value)?)),
     }
 }
 
 // The action of a name.
 #[tactic(auto, unfolding(crate::specs::FilterShape::action_faults, crate::specs::Shape::word_faults))]
-fn action_named(path: Path, name: &str) -> Result<ActionWord, DocFault>
-    ensures { Gives result (unless_faulty (action_faults path (string name.now)) (action_in (string name.now))) }
+fn action_named(alloc: Global, path: &str, name: &str, word: &str) -> Result<ActionWord, DocFault>
+    ensures { Gives result (unless_faulty (action_faults (below path.now name.now) (string word.now)) (action_in (string word.now))) }
 {
-    if name == "SCMP_ACT_NOTIFY" {
-        return Err(DocFault::NotInProfile(path));
+    if word == "SCMP_ACT_NOTIFY" {
+        return Err(DocFault::NotInProfile(Path::of_member(alloc, path, name)?));
     }
-    match ActionWord::from_word(name) {
-        Some(word) => Ok(word),
-        None => Err(DocFault::UnknownWord(path)),
+    match ActionWord::from_word(word) {
+        Some(action) => Ok(action),
+        None => Err(DocFault::UnknownWord(Path::of_member(alloc, path, name)?)),
     }
 }
 
 /// An action.
 #[tactic(auto, unfolding(crate::specs::FilterShape::action_faults, crate::specs::Shape::word_faults))]
-pub(crate) fn action_of(path: Path, value: &Value) -> Result<ActionWord, DocFault>
-    ensures { Gives result (unless_faulty (action_faults path (view value.now)) (action_in (view value.now))) }
+pub(crate) fn action_of(
+    alloc: Global,
+    path: &str,
+    name: &str,
+    value: &Value,
+) -> Result<ActionWord, DocFault>
+    ensures { Gives result (unless_faulty (action_faults (below path.now name.now) (view value.now)) (action_in (view value.now))) }
 {
     match value {
-        Value::String(name) => action_named(path, name.as_str()),
-        _ => Err(DocFault::WrongShape(path)),
+        Value::String(word) => action_named(alloc, path, name, word.as_str()),
+        _ => Err(DocFault::WrongShape(Path::of_member(alloc, path, name)?)),
     }
 }
 
 /// An operator.
 #[tactic(auto, unfolding(crate::specs::Shape::word_faults))]
-pub(crate) fn op_of(path: Path, value: &Value) -> Result<Op, DocFault>
-    ensures { Gives result (unless_faulty (op_faults path (view value.now)) (op_in (view value.now))) }
+pub(crate) fn op_of(alloc: Global, path: &str, name: &str, value: &Value) -> Result<Op, DocFault>
+    ensures { Gives result (unless_faulty (op_faults (below path.now name.now) (view value.now)) (op_in (view value.now))) }
 {
     match value {
-        Value::String(name) => match Op::from_word(name.as_str()) {
+        Value::String(word) => match Op::from_word(word.as_str()) {
             Some(op) => Ok(op),
-            None => Err(DocFault::UnknownWord(path)),
+            None => Err(DocFault::UnknownWord(Path::of_member(alloc, path, name)?)),
         },
-        _ => Err(DocFault::WrongShape(path)),
+        _ => Err(DocFault::WrongShape(Path::of_member(alloc, path, name)?)),
     }
 }
 
@@ -92,15 +107,16 @@ pub(crate) fn op_of(path: Path, value: &Value) -> Result<Op, DocFault>
 pub(crate) fn text_of(
     alloc: Global,
     path: &str,
+    name: &str,
     position: usize,
-    value: &Value,
+    value: Value,
 ) -> Result<String, DocFault>
     ensures { GivesAs string_bytes result (unless_faulty
-        (text_faults (below path.now (decimal position)) (view value.now))
-        (string_in (view value.now))) }
+        (text_faults (below (below path.now name.now) (decimal position)) (view value))
+        (string_in (view value))) }
 {
     match value {
-        Value::String(text) => Ok(String::from_str(alloc, text.as_str())?),
-        _ => Err(DocFault::WrongShape(Path::of_item(alloc, path, position)?)),
+        Value::String(text) => Ok(text),
+        _ => Err(DocFault::WrongShape(Path::of_item(alloc, path, name, position)?)),
     }
 }

@@ -13,7 +13,7 @@ use crate::fault::FilterFault;
 use std::alloc::Global;
 use std::collections::BTreeMap;
 
-// Refuses the first name that an earlier entry has under another action. Each name is looked up once in an ordered map.
+// Refuses the first name that an earlier entry has under another action. Each name is put once into an ordered map.
 pub(crate) fn refuse_two_actions(alloc: Global, entries: &[Entry]) -> Result<(), FilterFault>
     ensures answers { Answers (first_fault (all_name_checks [] entries.now)) tt result }
     ensures one_action { OnOk result (HasOneAction entries.now) }
@@ -56,17 +56,15 @@ fn learn_name<'a>(
     ensures differs { IfErr result (λ e. e ≢ FilterFault.NoMemory
         → (e ≡ FilterFault.TwoActions name.now) × DiffersFrom (action_under actions.old name.now) action) }
 {
-    match actions.get(name.as_str()) {
-        Some(known) => {
+    match actions.insert(name.as_str(), action) {
+        Ok(Some(known)) => {
             if known.is_same(action) {
                 Ok(())
             } else {
                 Err(FilterFault::TwoActions(name.copy(alloc)?))
             }
         }
-        None => match actions.insert(name.as_str(), action) {
-            Ok(_) => Ok(()),
-            Err(_) => Err(FilterFault::NoMemory),
-        },
+        Ok(None) => Ok(()),
+        Err(_) => Err(FilterFault::NoMemory),
     }
 }

@@ -26,6 +26,6 @@ returns c = λ h lawful shows.
     let added = c.in_ok-revision.ensures.added (tables_of h) shows c.in_ok-last.last (subst (λ q. IsLast (tables_of h) q c.in_ok-last.last) (sym c.in_ok-name.ensures) last) in
     submit_allowed h lawful c.args.caller.now c.in-Some.author c.args.name.now c.in_ok-name.name c.args.document.now c.in_ok-reading.reading c.in-Some-text.text c.digest-digest.result
     c.in_ok-author.author c.in_ok-last.last c.in_ok-revision.revision c.decide_submit.result c.add_revision.new.self
-    c.in-Some.is (c.in_ok-reading.ensures.read ∙ ap reading_of c.as_slice.ensures.value) (sym c.in_ok-text.ensures ∙ c.in-Some-text.is)
+    c.in-Some.is (c.in_ok-reading.ensures.read ∙ ap reading_of c.as_slice.ensures.value) (sym c.in_ok-reading.ensures.text ∙ c.in-Some-text.is)
     (c.digest-digest.ensures ∙ ap digest_of (c.as_bytes.ensures.value ∙ c.as_str.ensures)) c.in_ok-author.ensures c.in_ok-name.ensures last
     (c.decide_submit.ensures ∙ ap (λ f. first_denial (submit_rules f)) c.submit_facts-facts.ensures) c.in-Ok.is added.0 added.1

@@ -27,16 +27,16 @@ loop-name-init c =
 
 pub returns-in_err-found : goal.returns-in_err-found
 returns-in_err-found c =
-    let p = err_from_is_err_and c.from_residual-in_err-found.result c.from_residual-in_err-found.ensures.1 in
+    let p = err_from_is_err_and c.from_residual.result c.from_residual.ensures.1 in
     let path = c.args.path.now in
-    let told = rw (c.in_ok-member.ensures, c.as_str-name.ensures.value) at c.in_err-found.ensures in
+    let told = rw c.as_str-name.ensures.value at c.in_err-found.ensures in
     rw (p.1, p.2) (member_refused arg_rows path c.in-Some.name.now c.in-Some.value.now c.next.new.self _ _ _ _ (c.loop-name.invariant ∙ ap (left path c.loop-name.found) c.in-Some.ensures.steps) told)
 
 pub loop-name-preserved : goal.loop-name-preserved
 loop-name-preserved c =
     let path = c.args.path.now in
     let found = c.loop-name.found in
-    let told = rw (c.in_ok-member.ensures, c.as_str-name.ensures.value) at c.in_ok-found.ensures in
+    let told = rw c.as_str-name.ensures.value at c.in_ok-found.ensures in
     let more = member_read arg_rows path c.in-Some.name.now c.in-Some.value.now c.next.new.self (arg_found_with (string_bytes c.in-Some.name.now) (view c.in-Some.value.now) found) _ _ _ (c.loop-name.invariant ∙ ap (left path found) c.in-Some.ensures.steps) told in
     more.0 ∙ ap (λ f. left path f c.next.new.self) more.1
 

@@ -1,5 +1,6 @@
-use Rattle.profile_text.proofs.TextFacts.{text_is}
+use Rattle.profile_text.proofs.Writing.{text_is}
 use Rattle.profile_text.proofs.canonical.print.Goals as goal
 
 pub returns : goal.returns
-returns c = text_is _ c.args.profile.now _ c.in_ok-value.ensures c.in_ok-text.ensures.text
+returns c =
+    text_is c.args.profile.now c.new-out.ensures.tokens c.in_ok-write_profile.ensures c.written.ensures

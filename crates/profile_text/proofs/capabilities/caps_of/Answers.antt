@@ -1,3 +1,4 @@
+use Rattle.std.specs.Prelude.{codes}
 use Rattle.std.proofs.Common.{◌∙◌, ◌+◌, refl, ap, sym, drop, decimal}
 use Rattle.std.proofs.lemmas.Result.{err_from_is_err_and}
 use Rattle.std.specs.Int.Bits.{or_zero_r}
@@ -14,7 +15,7 @@ use Rattle.profile_text.proofs.capabilities.caps_of.Goals as goal
 pub returns-in_err-cap_of : goal.returns-in_err-cap_of
 returns-in_err-cap_of c =
     let p = err_from_is_err_and c.from_residual.result c.from_residual.ensures.1 in
-    let path = c.args.path.now in
+    let path = (below (codes "/capabilities") c.args.name.now) in
     let i = c.loop-position.position in
     let d = view c.index-values-position.result in
     let first = word_faults is_cap_name (below path (decimal i)) d in
@@ -24,7 +25,7 @@ returns-in_err-cap_of c =
 
 pub loop-position-preserved : goal.loop-position-preserved
 loop-position-preserved c =
-    let path = c.args.path.now in
+    let path = (below (codes "/capabilities") c.args.name.now) in
     let i = c.loop-position.position in
     let v = c.index-values-position.result in
     let first = word_faults is_cap_name (below path (decimal i)) (view v) in
@@ -38,6 +39,6 @@ loop-position-preserved c =
 
 pub returns : goal.returns
 returns c =
-    let faults = c.loop-position.invariant.faults ∙ items_end (word_faults is_cap_name) c.args.path.now c.args.values.now c.loop-position.position c.loop-position-test.false in
+    let faults = c.loop-position.invariant.faults ∙ items_end (word_faults is_cap_name) (below (codes "/capabilities") c.args.name.now) c.args.values.now c.loop-position.position c.loop-position-test.false in
     let caps = c.loop-position.invariant.caps ∙ ap (bit_or c.loop-position.caps) (caps_end c.args.values.now c.loop-position.position c.loop-position-test.false) ∙ or_zero_r c.loop-position.caps in
     rw (faults, caps) refl

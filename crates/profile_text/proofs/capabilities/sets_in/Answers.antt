@@ -22,13 +22,13 @@ loop-name-init c =
 
 pub returns-in_err-sets : goal.returns-in_err-sets
 returns-in_err-sets c =
-    let p = err_from_is_err_and c.from_residual-in_err-sets.result c.from_residual-in_err-sets.ensures.1 in
+    let p = err_from_is_err_and c.from_residual.result c.from_residual.ensures.1 in
     let path = codes "/capabilities" in
     let name = string_bytes c.in-Some.name.now in
     let d = view c.in-Some.value.now in
     let first = row_faults (option_map caps_row (set_named name)) (below path name) d in
     let rest = members_faults caps_rows path (members_view c.next.new.self) in
-    let told = rw (c.from_name.ensures, c.in_ok-path.ensures, c.as_str-name.ensures.value) at c.in_err-sets.ensures in
+    let told = rw (c.from_name.ensures, c.as_str-name.ensures.value) at c.in_err-sets.ensures in
     let more = c.loop-name.invariant.faults ∙ ap (λ es. members_faults caps_rows path (members_view es)) c.in-Some.ensures.steps ∙ caps_members_more path c.in-Some.name.now c.in-Some.value.now c.next.new.self in
     rw (p.1, p.2) (caps_err path (members_view c.args.members.now.entries) first rest (sets_with (set_named name) d c.loop-name.sets) _ more told)
 
@@ -39,7 +39,7 @@ loop-name-preserved c =
     let d = view c.in-Some.value.now in
     let first = row_faults (option_map caps_row (set_named name)) (below path name) d in
     let rest = members_faults caps_rows path (members_view c.next.new.self) in
-    let told = rw (c.from_name.ensures, c.in_ok-path.ensures, c.as_str-name.ensures.value) at c.in_ok-sets.ensures in
+    let told = rw (c.from_name.ensures, c.as_str-name.ensures.value) at c.in_ok-sets.ensures in
     let parts = ok_parts first (sets_with (set_named name) d c.loop-name.sets) _ told in
     let more = ap (λ es. members_faults caps_rows path (members_view es)) c.in-Some.ensures.steps ∙ caps_members_more path c.in-Some.name.now c.in-Some.value.now c.next.new.self in
     record {

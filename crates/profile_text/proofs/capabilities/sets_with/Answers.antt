@@ -1,6 +1,8 @@
+use Rattle.std.specs.Prelude.{codes}
 use Rattle.serde_json.specs.View.{view}
+use Rattle.profile_text.specs.Shape.{below}
 use Rattle.profile_text.proofs.WalkFacts.{sets_with_ok}
 use Rattle.profile_text.proofs.capabilities.sets_with.Goals as goal
 
 pub returns-in_ok-caps-in-Some : goal.returns-in_ok-caps-in-Some
-returns-in_ok-caps-in-Some c = rw (c.in-Some.is, c.with.ensures) (sets_with_ok c.args.path c.in-Some.set (view c.args.value.now) c.args.sets _ (rw c.as_str.ensures at c.in_ok-caps-in-Some.ensures))
+returns-in_ok-caps-in-Some c = rw (c.in-Some.is, c.with.ensures) (sets_with_ok (below (codes "/capabilities") c.args.name.now) c.in-Some.set (view c.args.value.now) c.args.sets _ c.in_ok-caps-in-Some.ensures)

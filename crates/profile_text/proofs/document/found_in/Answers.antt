@@ -20,20 +20,20 @@ left found es = unless_faulty (members_faults document_rows [] (members_view es)
 
 pub loop-name-init : goal.loop-name-init
 loop-name-init c =
-    let start : c.into_iter-name-iterator.result ≡ c.args.members.now.entries = search rules in
-    let all = members_view c.args.members.now.entries in
+    let start : c.into_iter-name-iterator.result ≡ c.args.members.entries = search rules in
+    let all = members_view c.args.members.entries in
     ap (unless_faulty (members_faults document_rows [] all)) (found_filled all) ∙ ap (left nothing_found) (sym start)
 
 pub returns-in_err-found : goal.returns-in_err-found
 returns-in_err-found c =
     let p = err_from_is_err_and c.from_residual.result c.from_residual.ensures.1 in
     let told = rw c.as_str-name.ensures.value at c.in_err-found.ensures in
-    rw (p.1, p.2) (member_refused document_rows [] c.in-Some.name.now c.in-Some.value.now c.next.new.self _ _ _ _ (c.loop-name.invariant ∙ ap (left c.loop-name.found) c.in-Some.ensures.steps) told)
+    rw (p.1, p.2) (member_refused document_rows [] c.in-Some.name c.in-Some.value c.next.new.self _ _ _ _ (c.loop-name.invariant ∙ ap (left c.loop-name.found) c.in-Some.ensures.steps) told)
 
 pub loop-name-preserved : goal.loop-name-preserved
 loop-name-preserved c =
     let told = rw c.as_str-name.ensures.value at c.in_ok-found.ensures in
-    let more = member_read document_rows [] c.in-Some.name.now c.in-Some.value.now c.next.new.self (found_with (string_bytes c.in-Some.name.now) (view c.in-Some.value.now) c.loop-name.found) _ _ _ (c.loop-name.invariant ∙ ap (left c.loop-name.found) c.in-Some.ensures.steps) told in
+    let more = member_read document_rows [] c.in-Some.name c.in-Some.value c.next.new.self (found_with (string_bytes c.in-Some.name) (view c.in-Some.value) c.loop-name.found) _ _ _ (c.loop-name.invariant ∙ ap (left c.loop-name.found) c.in-Some.ensures.steps) told in
     more.0 ∙ ap (λ f. left f c.next.new.self) more.1
 
 pub returns : goal.returns

@@ -7,11 +7,11 @@ use Rattle.profile_text.proofs.document.parts_in.Goals as goal
 pub returns-in_err-sets : goal.returns-in_err-sets
 returns-in_err-sets c =
     let p = err_from_is_err_and c.from_residual.result c.from_residual.ensures.1 in
-    rw (p.1, p.2) (document_err (members_view c.args.members.now.entries) _ c.in_err-sets.ensures)
+    rw (p.1, p.2) (document_err (members_view c.args.members.entries) _ c.in_err-sets.ensures)
 
 pub returns-in-Some : goal.returns-in-Some
-returns-in-Some c = document_found (members_view c.args.members.now.entries) _ _ c.in_ok-sets.ensures c.in-Some.is
+returns-in-Some c = document_found (members_view c.args.members.entries) _ _ c.in_ok-sets.ensures c.in-Some.is
 
 pub returns-in_ok-new-in-None : goal.returns-in_ok-new-in-None
 returns-in_ok-new-in-None c =
-    inr (rw c.in_ok-new-in-None.ensures (document_missing (members_view c.args.members.now.entries) _ c.in_ok-sets.ensures c.in-None.is))
+    inr (rw c.in_ok-new-in-None.ensures (document_missing (members_view c.args.members.entries) _ c.in_ok-sets.ensures c.in-None.is))

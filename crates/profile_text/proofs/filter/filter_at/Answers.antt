@@ -10,11 +10,11 @@ use Rattle.profile_text.proofs.filter.filter_at.Goals as goal
 pub returns-in_err-architectures : goal.returns-in_err-architectures
 returns-in_err-architectures c =
     let p = err_from_is_err_and c.from_residual.result c.from_residual.ensures.1 in
-    rw (p.1, p.2) (object_refused seccomp_rows (codes "/seccomp") (members_view c.args.members.now.entries) _ _ _ c.in_err-architectures.ensures)
+    rw (p.1, p.2) (object_refused seccomp_rows (codes "/seccomp") (members_view c.args.members.entries) _ _ _ c.in_err-architectures.ensures)
 
 pub returns-in-Some : goal.returns-in-Some
-returns-in-Some c = filter_read (codes "/seccomp") (members_view c.args.members.now.entries) (filter_seen c.in_ok-architectures.field-0) _ c.in_ok-architectures.ensures c.in-Some.is
+returns-in-Some c = filter_read (codes "/seccomp") (members_view c.args.members.entries) (filter_seen c.in_ok-architectures.field-0) _ c.in_ok-architectures.ensures c.in-Some.is
 
 pub returns-in_ok-new-in-None : goal.returns-in_ok-new-in-None
 returns-in_ok-new-in-None c =
-    inr (rw c.in_ok-new-in-None.ensures (filter_without_default (codes "/seccomp") (members_view c.args.members.now.entries) (filter_seen c.in_ok-architectures.field-0) c.in_ok-architectures.ensures c.in-None.is))
+    inr (rw c.in_ok-new-in-None.ensures (filter_without_default (codes "/seccomp") (members_view c.args.members.entries) (filter_seen c.in_ok-architectures.field-0) c.in_ok-architectures.ensures c.in-None.is))

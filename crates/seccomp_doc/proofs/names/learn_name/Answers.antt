@@ -4,12 +4,18 @@ use Rattle.seccomp_doc.specs.declared.fault.FilterFault.TheVariants.{TwoActions}
 use Rattle.seccomp_doc.specs.Names.{DiffersFrom, action_under}
 use Rattle.seccomp_doc.proofs.names.learn_name.Goals as goal
 
-pub returns-in_ok-copy-in-Some-clause-differs : goal.returns-in_ok-copy-in-Some-clause-differs
-returns-in_ok-copy-in-Some-clause-differs c =
-    let here : Some c.in-Some.known.now ≡ action_under c.args.actions.now c.args.name.now = c.in-Some.ensures.value ∙ ap (action_under c.args.actions.now) c.as_str.ensures.text in
-    λ _. (ap (λ name. TwoActions name) c.in_ok-copy-in-Some.ensures, subst (λ o. DiffersFrom o c.args.action) here (sym c.if-is_same.ensures))
+pub returns-then-is_same-clause-learned : goal.returns-then-is_same-clause-learned
+returns-then-is_same-clause-learned c = λ q.
+    btree_map_updates_str c.as_str.result.now c.args.actions.now c.insert.new.self _ c.in-Ok-Some.ensures.updates q
+    ∙ ap (λ name. cond (bytes_eq name q) (Some c.args.action) (action_under c.args.actions.now q)) c.as_str.ensures.text
 
-pub returns-in-Ok-clause-learned : goal.returns-in-Ok-clause-learned
-returns-in-Ok-clause-learned c = λ q.
-    btree_map_updates_str c.as_str-in-None.result.now c.args.actions.now c.insert.new.self _ c.in-Ok.ensures.updates q
-    ∙ ap (λ name. cond (bytes_eq name q) (Some c.args.action) (action_under c.args.actions.now q)) c.as_str-in-None.ensures.text
+pub returns-in_ok-copy-in-Ok-Some-clause-differs : goal.returns-in_ok-copy-in-Ok-Some-clause-differs
+returns-in_ok-copy-in-Ok-Some-clause-differs c =
+    let here : Some c.in-Ok-Some.known ≡ action_under c.args.actions.now c.args.name.now =
+    sym c.in-Ok-Some.field-0-is ∙ c.in-Ok-Some.ensures.old ∙ ap (action_under c.args.actions.now) c.as_str.ensures.text in
+    λ _. (ap (λ name. TwoActions name) c.in_ok-copy-in-Ok-Some.ensures, subst (λ o. DiffersFrom o c.args.action) here (sym c.if-is_same.ensures))
+
+pub returns-in-Ok-None-clause-learned : goal.returns-in-Ok-None-clause-learned
+returns-in-Ok-None-clause-learned c = λ q.
+    btree_map_updates_str c.as_str.result.now c.args.actions.now c.insert.new.self _ c.in-Ok-None.ensures.updates q
+    ∙ ap (λ name. cond (bytes_eq name q) (Some c.args.action) (action_under c.args.actions.now q)) c.as_str.ensures.text

@@ -1,12 +1,12 @@
 use Rattle.std.proofs.Common.{inr}
 use Rattle.profile_text.proofs.ReadFacts.{too_long, value_is, value_none}
-use Rattle.profile_text.proofs.document.read.Goals as goal
+use Rattle.profile_text.proofs.document.read_with_text.Goals as goal
 
 pub returns-then-bytes-gt-MOST_BYTES-clause-reading : goal.returns-then-bytes-gt-MOST_BYTES-clause-reading
 returns-then-bytes-gt-MOST_BYTES-clause-reading c = inr (too_long c.args.bytes.now c.if-bytes-gt-MOST_BYTES.true)
 
 pub returns-in-Ok-clause-reading : goal.returns-in-Ok-clause-reading
-returns-in-Ok-clause-reading c = rw (value_is c.args.bytes.now _ c.if-bytes-gt-MOST_BYTES.false c.in-Ok.ensures.ok.0 c.in-Ok.ensures.ok.1) c.profile_of.ensures
+returns-in-Ok-clause-reading c = rw (value_is c.args.bytes.now _ c.if-bytes-gt-MOST_BYTES.false c.in-Ok.ensures.ok.0 c.in-Ok.ensures.ok.1) c.document_of.ensures.reading
 
 pub returns-else-is_memory-clause-reading : goal.returns-else-is_memory-clause-reading
 returns-else-is_memory-clause-reading c = inr (value_none c.args.bytes.now c.if-bytes-gt-MOST_BYTES.false (λ text. c.in-Err.ensures.err (λ memory. let yes = c.is_memory.ensures.1 memory in let no = c.if-is_memory.false in cc) text))

@@ -1,0 +1,11 @@
+use Rattle.std.specs.Prelude.{codes}
+use Rattle.serde_json.specs.Data.{no_members}
+use Rattle.profile_text.specs.Text.{seccomp_data}
+use Rattle.profile_text.proofs.Writing.{last, member_first, after_last, wrote}
+use Rattle.profile_text.proofs.canonical.write_profile.Goals as goal
+
+pub returns : goal.returns
+returns c =
+    rw (member_first (codes "seccomp") (seccomp_data c.args.profile.now.filter) no_members)
+    (after_last _ _ _ (wrote c.in_ok-begin_object.ensures) (after_last _ _ _ (wrote c.in_ok-key.ensures) (after_last _ _ _ c.in_ok-write_caps.ensures
+    (after_last _ _ _ c.in_ok-write_seccomp.ensures (last _ c.end_object.ensures)))))

@@ -1,0 +1,7 @@
+use Rattle.serde_json.specs.Data.{string}
+use Rattle.cap_sets.specs.Capability.{names_of}
+use Rattle.profile_text.proofs.Writing.{Leaves}
+use Rattle.profile_text.proofs.canonical.write_set.Given as goal
+
+abbrev pub invariant-loop-name : goal.invariant-loop-name
+invariant-loop-name l = Leaves string (names_of l.fn.caps) l.name-iterator l.initial.out l.out
