@@ -8,8 +8,6 @@ mod compare;
 mod entry;
 mod mask;
 mod range;
-#[cfg(test)]
-mod tests;
 
 pub use compare::implies;
 pub use entry::entry_implies;

@@ -34,12 +34,3 @@ pub use revisions::{
 pub use standing_votes::{standing, tally};
 pub use users::{put_user, user_by_name, user_by_token};
 pub use votes::{Ballot, put_vote};
-
-#[cfg(test)]
-mod file_tests;
-#[cfg(test)]
-mod list_tests;
-#[cfg(test)]
-mod memory_tests;
-#[cfg(test)]
-mod tests;

@@ -1,7 +1,7 @@
 //! What the findings between two documents take.
 //!
 //! `widening_figures BASE NEW TIMES` reads two documents and asks so often for the findings between them. How many there are is
-//! printed, and to standard error how many microseconds a call took at most. Without words BASE is `base.json`, NEW is
+//! printed, and to standard error how many microseconds each call took. Without words BASE is `base.json`, NEW is
 //! `new.json`, and TIMES is 1. With 0 TIMES the documents are read alone.
 #![tactic(auto)]
 

@@ -1,11 +1,11 @@
 // Implications worked out by hand, and all implications between comparisons with the least and the greatest words.
 
-use crate::{entry_implies, implies};
 use seccomp_doc::{
     ActionWord, ArgParts, Compare, EntryParts, Filter, FilterFault, FilterParts, Op,
 };
 use std::alloc::{AllocError, Global};
 use std::test::Fail;
+use widening::{entry_implies, implies};
 
 const MAX: u64 = 18446744073709551615;
 

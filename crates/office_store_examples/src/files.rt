@@ -3,39 +3,16 @@
 ghost use Rattle.sqlite.specs.Held.{state};
 ghost use Rattle.office_store.specs.Shown.{IsIdle};
 
-use crate::tests::{
-    add, adopt, adopted_of, checked, found_office, hold, is_held, profile, put, user, word,
+use crate::shared::{add, found_office, profile, user, word};
+use office_store::{
+    baseline, check_office, held, put_baseline, put_hold, put_user, revision, user_by_name,
 };
-use crate::{revision, user_by_name};
-use office_tables::{RevisionRow, StoreFault, UserRow};
-use review_policy::{ProfileName, State, Word};
+use review_policy::State;
 use sqlite::{Alter, Connection};
 use std::alloc::Global;
 use std::fs;
 use std::process::Abort;
 use std::test::Fail;
-
-fn named<S: Alter>(
-    alloc: Global,
-    conn: &mut Connection<S>,
-    name: &Word,
-) -> Result<Option<UserRow>, StoreFault>
-    requires { IsIdle (state S.Store conn.old) }
-    ensures { IsIdle (state S.Store conn.new) }
-{
-    user_by_name(alloc, conn, name)
-}
-
-fn first_of<S: Alter>(
-    alloc: Global,
-    conn: &mut Connection<S>,
-    name: &ProfileName,
-) -> Result<Option<RevisionRow>, StoreFault>
-    requires { IsIdle (state S.Store conn.old) }
-    ensures { IsIdle (state S.Store conn.new) }
-{
-    revision(alloc, conn, name, 1)
-}
 
 // A user, a revision, a baseline and a hold are in the office, each column as it was written.
 fn assert_written<S: Alter>(
@@ -46,33 +23,39 @@ fn assert_written<S: Alter>(
     requires { IsIdle (state S.Store conn.old) }
     ensures { IsIdle (state S.Store conn.new) }
 {
-    let ann = named(alloc, conn, &word(alloc, "ann")?)?.ok_or("ann")?;
+    let ann = user_by_name(alloc, conn, &word(alloc, "ann")?)?.ok_or("ann")?;
     assert_eq!(rt; ann.name.as_str(), "ann");
     assert_eq!(rt; ann.team.as_str(), "blue");
     assert_eq!(rt; ann.roles.bits(), 2);
     assert_eq!(rt; ann.digest, [7; 32]);
     let web = profile(alloc, "blue", "web")?;
-    let first = first_of(alloc, conn, &web)?.ok_or("a revision")?;
+    let first = revision(alloc, conn, &web, 1)?.ok_or("a revision")?;
     assert_eq!(rt; first.number, 1);
     assert_eq!(rt; first.author.as_str(), "ann");
     assert_eq!(rt; first.state, State::Open);
     assert_eq!(rt; first.body.as_str(), "{}");
     assert_eq!(rt; first.digest, [7; 32]);
-    assert_eq!(rt; adopted_of(alloc, conn, &web.team), Ok(1));
-    assert_eq!(rt; is_held(conn, &web), Ok(true));
+    assert_eq!(rt;
+        baseline(alloc, conn, &web.team)?
+            .ok_or("a baseline")?
+            .number,
+        1
+    );
+    assert_eq!(rt; held(conn, &web), Ok(true));
     Ok(())
 }
 
-fn write_all<S: Alter>(rt: &impl Abort, alloc: Global, conn: &mut Connection<S>) -> Result<(), Fail>
+fn write_all<S: Alter>(alloc: Global, conn: &mut Connection<S>) -> Result<(), Fail>
     requires { IsIdle (state S.Store conn.old) }
     ensures { IsIdle (state S.Store conn.new) }
 {
     let web = profile(alloc, "blue", "web")?;
-    assert_eq!(rt; found_office(alloc, conn), Ok(()));
-    assert_eq!(rt; put(conn, &user(alloc, "ann", 2, 7)?), Ok(()));
-    assert_eq!(rt; add(alloc, conn, &web), Ok(1));
-    assert_eq!(rt; adopt(conn, &web, 1), Ok(()));
-    assert_eq!(rt; hold(conn, &web), Ok(()));
+    let ann = user(alloc, "ann", 2, 7)?;
+    found_office(alloc, conn)?;
+    put_user(conn, &ann)?;
+    add(alloc, conn, &web, "ann")?;
+    put_baseline(conn, &web, 1)?;
+    put_hold(conn, &web)?;
     Ok(())
 }
 
@@ -84,11 +67,11 @@ fn what_was_written_is_in_the_file_after_it_was_closed(rt: HostRuntime) -> Resul
     let _ = fs::remove_dir_all(&rt, folder);
     fs::create_dir(&rt, folder)?;
     let mut conn = Connection::open(&rt, path)?;
-    write_all(&rt, alloc, &mut conn)?;
+    write_all(alloc, &mut conn)?;
     assert_written(&rt, alloc, &mut conn)?;
     conn.close()?;
     let mut conn = Connection::open(&rt, path)?;
-    assert_eq!(rt; checked(&mut conn), Ok(1 << 21));
+    assert_eq!(rt; check_office(&mut conn)?.bits(), 1 << 21);
     assert_written(&rt, alloc, &mut conn)?;
     conn.close()?;
     fs::remove_dir_all(&rt, folder)?;
