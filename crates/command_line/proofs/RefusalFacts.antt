@@ -1,14 +1,11 @@
 -- Words that ask for no command.
-use Rattle.std.proofs.Common.{◌≡◌, ◌≢◌, ◌⊎◌, inl, inr, ℕ, List, Option, Some, None, ap, sym, ◌∙◌, slice_index, arith, refl}
+use Rattle.std.proofs.Common.{◌≡◌, ◌≢◌, inl, inr, List, Option, Some, None, ap, sym, ◌∙◌, slice_index, arith, refl}
 use Rattle.std.specs.Prelude.{codes}
-use Rattle.clap.specs.Words.{HasKind, IsAmong, Kinds, Row, Text, first_of, kind_of}
+use Rattle.clap.specs.Words.{HasKind, Kinds, Row, Text, first_of, kind_of}
 use Rattle.clap.specs.declared.error.Error.{Error}
-use Rattle.clap.specs.declared.error.kind.ErrorKind.{ErrorKind}
-use Rattle.command_line.specs.declared.command.Command.{Command}
 use Rattle.command_line.specs.declared.command.Command.TheVariants.{Trial, Check, Execve}
 use Rattle.command_line.specs.declared.fault.WordsFault.{WordsFault}
-use Rattle.command_line.specs.declared.fault.WordsFault.TheVariants.{Help, Refused, NoMemory}
-use Rattle.command_line.specs.Meaning.{AsksFor}
+use Rattle.command_line.specs.declared.fault.WordsFault.TheVariants.{Help, Version, Refused, NoMemory}
 use Rattle.command_line.specs.Refusals.{IsRefused, IsTold, NoneAskedFor}
 
 -- two texts that begin with other characters are two
@@ -41,6 +38,8 @@ pub refused_as_told : (kinds : Kinds) (found : Option (Text × List Row)) (error
     → HasKind kinds error → IsTold (kind_of error) fault → IsRefused kinds found fault
 refused_as_told kinds found error (Help text) (inl memory) told = cc
 refused_as_told kinds found error (Help text) (inr among) told = rw told at among
-refused_as_told kinds found error (Refused text) (inl memory) told = absurd (told.1 memory)
-refused_as_told kinds found error (Refused text) (inr among) told = inl (kind_of error, among, told.0)
+refused_as_told kinds found error (Version text) (inl memory) told = cc
+refused_as_told kinds found error (Version text) (inr among) told = rw told at among
+refused_as_told kinds found error (Refused text) (inl memory) told = absurd (told.2 memory)
+refused_as_told kinds found error (Refused text) (inr among) told = inl (kind_of error, among, told.0, told.1)
 refused_as_told kinds found error NoMemory has told = tt

@@ -1,7 +1,7 @@
 -- The commands of the program, as clap reads them.
 use Rattle.std.specs.Prelude.{codes}
 use Rattle.clap.specs.Words.{App, new_app, with_rule, with_subcommand}
-use Rattle.command_line.specs.Parts.{flag_rule, needed_rule, option_rule}
+use Rattle.command_line.specs.Parts.{flag_rule, needed_rule, option_rule, with_version}
 
 -- `check FILE`
 abbrev pub check_app : App
@@ -17,6 +17,6 @@ abbrev pub execve_app : App
 execve_app = with_rule (with_rule execve_flags_app (option_rule (codes "file-permitted")))
     (option_rule (codes "file-inheritable"))
 
--- `office`, with its commands
+-- `office`, with its version and its commands
 unfoldable pub office_app : App
-office_app = with_subcommand (with_subcommand (new_app (codes "office")) check_app.top) execve_app.top
+office_app = with_subcommand (with_subcommand (with_version (new_app (codes "office"))) check_app.top) execve_app.top

@@ -1,7 +1,11 @@
 -- What commands are made of, as clap reads it.
 use Rattle.std.specs.Prelude.{ℕ, List, Some, true}
-use Rattle.clap.specs.Words.{Rule, new_rule}
+use Rattle.clap.specs.Words.{App, Rule, new_rule}
 use Rattle.clap.specs.declared.builder.action.ArgAction.TheVariants.{SetTrue}
+
+-- the command with `--version`
+abbrev pub with_version : App → App
+with_version app = record app { top = record app.top { has_version = true } }
 
 -- a value that has to be there, by its place
 abbrev pub needed_rule : List ℕ → Rule

@@ -1,23 +1,25 @@
 -- Words that ask for no command.
-use Rattle.std.specs.Prelude.{◌≡◌, ◌≢◌, ◌⊎◌, ℕ, Option, Some, None, List}
+use Rattle.std.specs.Prelude.{◌≡◌, ◌≢◌, ◌⊎◌, ℕ, Option, List}
 use Rattle.clap.specs.Words.{IsAmong, Kinds, Row, Text}
 use Rattle.clap.specs.declared.error.kind.ErrorKind.{ErrorKind}
-use Rattle.clap.specs.declared.error.kind.ErrorKind.TheVariants.{DisplayHelp, OutOfMemory}
+use Rattle.clap.specs.declared.error.kind.ErrorKind.TheVariants.{DisplayHelp, DisplayVersion, OutOfMemory}
 use Rattle.command_line.specs.declared.command.Command.{Command}
 use Rattle.command_line.specs.declared.fault.WordsFault.{WordsFault}
-use Rattle.command_line.specs.declared.fault.WordsFault.TheVariants.{Help, Refused, NoMemory}
+use Rattle.command_line.specs.declared.fault.WordsFault.TheVariants.{Help, Version, Refused, NoMemory}
 use Rattle.command_line.specs.Meaning.{AsksFor, IsCommand}
 
 -- the status that the program ends with
 abbrev pub status_of : WordsFault → ℕ
 status_of (Help text) = 0
+status_of (Version text) = 0
 status_of (Refused text) = 2
 status_of NoMemory = 1
 
 -- what is told of an error of clap's by its kind; want of memory may stand in place of its text
 abbrev pub IsTold : ErrorKind → WordsFault → Type 0
 IsTold kind (Help text) = kind ≡ DisplayHelp
-IsTold kind (Refused text) = (kind ≢ DisplayHelp) × (kind ≢ OutOfMemory)
+IsTold kind (Version text) = kind ≡ DisplayVersion
+IsTold kind (Refused text) = (kind ≢ DisplayHelp) × (kind ≢ DisplayVersion) × (kind ≢ OutOfMemory)
 IsTold kind NoMemory = Unit {0}
 
 -- the subcommand of this name, with these rows of values, asks for no command
@@ -32,12 +34,17 @@ NamesNoCommand found = (command : Command) → ¬ IsCommand found command
 abbrev pub AsksForHelp : Kinds → Type 0
 AsksForHelp kinds = IsAmong DisplayHelp kinds
 
+-- the version is among clap's answers to the words
+abbrev pub AsksForVersion : Kinds → Type 0
+AsksForVersion kinds = IsAmong DisplayVersion kinds
+
 -- a mistake is among clap's answers to the words
 abbrev pub HasMistake : Kinds → Type 0
-HasMistake kinds = (kind : ErrorKind) × IsAmong kind kinds × (kind ≢ DisplayHelp)
+HasMistake kinds = (kind : ErrorKind) × IsAmong kind kinds × (kind ≢ DisplayHelp) × (kind ≢ DisplayVersion)
 
--- the words ask for help, or for no command; or memory was wanted
+-- the words ask for help, for the version, or for no command; or memory was wanted
 abbrev pub IsRefused : Kinds → Option (Text × List Row) → WordsFault → Type 0
 IsRefused kinds found (Help text) = AsksForHelp kinds
+IsRefused kinds found (Version text) = AsksForVersion kinds
 IsRefused kinds found (Refused text) = HasMistake kinds ⊎ NamesNoCommand found
 IsRefused kinds found NoMemory = Unit {0}

@@ -15,8 +15,10 @@ const ABOUT: &str = "Reads a document and prints its canonical text";
 
 const EXAMPLES: &str =
     "The canonical text is the one that the office stores, hashes and shows: JSON without spaces, all
-five capability sets, members in byte order. What is no document is refused by its first fault,
-on standard error as `office: FAULT`, with status 1.
+five capability sets, members in byte order.
+
+Statuses: 0, it prints the canonical text; 1, what FILE has is no document, or the command failed, which
+standard error says as `office: WORDS`.
 
 Example:
   office check examples/web.json";

@@ -15,8 +15,11 @@ const ABOUT: &str = "Prints what a process has after execve";
 
 const EXAMPLES: &str =
     "The process has the five capability sets of the document. The file that it executes is plain, unless
-an option gives it capabilities; a set that isn't given is then empty. Where the kernel would refuse
-the call, EPERM is printed, with status 1. The rules are those of capabilities(7).
+an option gives it capabilities; a set that isn't given is then empty. The rules are those of
+capabilities(7).
+
+Statuses: 0, it prints the sets after execve; 1, it prints EPERM, since the kernel would refuse the call,
+or the command was refused or failed, which standard error says as `office: WORDS`.
 
 LIST is names of capabilities joined by commas, as CAP_NET_RAW,CAP_KILL.
 

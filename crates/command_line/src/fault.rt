@@ -10,10 +10,13 @@ pub enum WordsFault {
     /// They ask for help: its text, for standard output.
     #[error("{0}")]
     Help(String),
+    /// They ask for the version: its text, for standard output.
+    #[error("{0}")]
+    Version(String),
     /// They are refused: what `clap` says of them, for standard error.
     #[error("{0}")]
     Refused(String),
-    /// Memory was refused.
+    /// Memory was refused. No contract can say when: it may stand in place of any answer.
     #[error("memory")]
     NoMemory,
 }
@@ -23,12 +26,12 @@ impl WordsFault {
     ghost use Rattle.clap.specs.Words.{kind_of};
     ghost use Rattle.command_line.specs.Refusals.{IsTold, status_of};
 
-    /// The status that the program ends with: 0 after help, 2 after words that are refused, 1 for want of memory.
+    /// The status that the program ends with: 0 after help and the version, 2 after words that are refused, 1 for want of memory.
     pub fn status(&self) -> u8
         ensures { result ≡ status_of self.now }
     {
         match self {
-            WordsFault::Help(_) => 0,
+            WordsFault::Help(_) | WordsFault::Version(_) => 0,
             WordsFault::Refused(_) => 2,
             WordsFault::NoMemory => 1,
         }
@@ -42,6 +45,7 @@ impl WordsFault {
             (ErrorKind::OutOfMemory, _) => WordsFault::NoMemory,
             (_, Err(_)) => WordsFault::NoMemory,
             (ErrorKind::DisplayHelp, Ok(text)) => WordsFault::Help(text),
+            (ErrorKind::DisplayVersion, Ok(text)) => WordsFault::Version(text),
             (_, Ok(text)) => WordsFault::Refused(text),
         }
     }

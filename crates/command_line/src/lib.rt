@@ -14,6 +14,3 @@ mod words;
 pub use command::{Command, ExecveWords};
 pub use fault::WordsFault;
 pub use words::read_words;
-
-#[cfg(test)]
-mod tests;

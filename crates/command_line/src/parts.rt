@@ -3,7 +3,7 @@
 ghost use Rattle.std.specs.Prelude.{◌≡◌, IfOk, false};
 ghost use Rattle.clap.specs.declared.builder.command.Command.TheViews.{out-Command as fields_of};
 ghost use Rattle.clap.specs.Words.{app_of, rule_of, shape_of, with_rule, with_subcommand};
-ghost use Rattle.command_line.specs.Parts.{flag_rule, needed_rule, option_rule};
+ghost use Rattle.command_line.specs.Parts.{flag_rule, needed_rule, option_rule, with_version};
 
 use clap::{Arg, ArgAction, Command};
 use std::alloc::{AllocError, Global};
@@ -44,6 +44,13 @@ pub(crate) fn described<'a>(command: Command<'a>, about: &'a str, examples: &'a 
     ensures globals { (fields_of result).has_globals ≡ (fields_of command.entry).has_globals }
 {
     command.about(about).after_help(examples)
+}
+
+/// The command, which `--version` asks for this version.
+pub(crate) fn versioned<'a>(command: Command<'a>, version: &'a str) -> Command<'a>
+    ensures { app_of result ≡ with_version (app_of command.entry) }
+{
+    command.version(version)
 }
 
 /// The command with one more argument.

@@ -10,15 +10,21 @@ use crate::check::{check_command, check_of};
 use crate::command::Command;
 use crate::execve::{execve_command, execve_of};
 use crate::fault::WordsFault;
-use crate::parts::{described, with_command};
+use crate::parts::{described, versioned, with_command};
 use clap::ArgMatches;
 use std::alloc::{AllocError, Global};
+
+// The version of the program: that of the newest heading of CHANGELOG.md, which the stored run of `office_examples` compares.
+const VERSION: &str = "0.1.0";
 
 const ABOUT: &str = "A review office for container sandbox profiles";
 
 const EXAMPLES: &str =
     "Without a command it is the trial desk: it answers the request lines of standard input, one answer
 to a line, with an office in memory.
+
+Statuses: 0, it was done; 1, it was refused or failed, which standard error says as `office: WORDS`;
+2, the words are no command line.
 
 Examples:
   office check examples/web.json
@@ -31,7 +37,7 @@ fn office_command<'a>(alloc: Global) -> Result<clap::Command<'a>, AllocError>
     ensures { IfOk result (λ c. app_of c ≡ office_app) }
 {
     let office = clap::Command::new(alloc, "office").bin_name("office")?;
-    let office = described(office, ABOUT, EXAMPLES);
+    let office = versioned(described(office, ABOUT, EXAMPLES), VERSION);
     let office = with_command(office, check_command(alloc)?)?;
     with_command(office, execve_command(alloc)?)
 }
@@ -61,7 +67,8 @@ fn command_of<'w>(name: &str, given: &ArgMatches<'w>) -> Option<Command<'w>>
 ///
 /// # Errors
 ///
-/// Help or a refusal, each where `clap` gives it; `NoMemory` only where memory was refused.
+/// Help, the version or a refusal, each where `clap` gives it. `NoMemory` may stand in place of any answer: no contract can
+/// say that memory was refused.
 pub fn read_words<'w>(alloc: Global, words: &'w [String]) -> Result<Command<'w>, WordsFault>
     ensures command { IfOk result (IsCommand (subcommand_of office_app (map string_bytes words.entry.now))) }
     ensures accepted { IfOk result (λ _. fault_of office_app (map string_bytes words.entry.now) ≡ []) }

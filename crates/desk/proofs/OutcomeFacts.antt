@@ -4,8 +4,7 @@ use Rattle.std.proofs.KnownBytes.{Appends-nil, Appends-trans}
 use Rattle.std.specs.Io.KnownBytes.{Appends}
 use Rattle.counted_io.specs.Steps.{AppendsPart}
 use Rattle.office_desk.specs.declared.office.Office.{Office}
-use Rattle.office_desk.specs.History.{History}
-use Rattle.office_desk.specs.Verdict.{Measures}
+use Rattle.office_policy.specs.History.{History}
 use Rattle.office_desk.specs.Handled.{IsOffice}
 use Rattle.request_lines.specs.Answers.{line_of}
 use Rattle.request_lines.specs.Bad.{bad_line}
@@ -14,17 +13,16 @@ use Rattle.desk.specs.declared.outcome.Outcome.TheVariants.{Bad, NoMemory, Answe
 use Rattle.desk.specs.Outcomes.{IsOutcome, history_after_line, told, AreOutcomes, history_after_lines, transcript}
 use Rattle.desk.specs.Stands.{IsHandled, AreHandled, AreAnswered, AreCutShort}
 
-module _ (m : Measures) where
-  outcomes_more : (h : History) (lines : List (List ℕ)) (os : List Outcome) (line : List ℕ) (o : Outcome) → AreOutcomes m h lines os
-      → IsOutcome m (history_after_lines m h os) line o → AreOutcomes m h (lines ++ line ∷ []) (os ++ o ∷ [])
-  outcomes_more h [] [] line o all is = (is, tt)
-  outcomes_more h (l ∷ lines) (x ∷ os) line o all is = (all.0, outcomes_more (history_after_line m h x) lines os line o all.1 is)
-  outcomes_more h [] (x ∷ os) line o all is = absurd all
-  outcomes_more h (l ∷ lines) [] line o all is = absurd all
+outcomes_more : (h : History) (lines : List (List ℕ)) (os : List Outcome) (line : List ℕ) (o : Outcome) → AreOutcomes h lines os
+    → IsOutcome (history_after_lines h os) line o → AreOutcomes h (lines ++ line ∷ []) (os ++ o ∷ [])
+outcomes_more h [] [] line o all is = (is, tt)
+outcomes_more h (l ∷ lines) (x ∷ os) line o all is = (all.0, outcomes_more (history_after_line h x) lines os line o all.1 is)
+outcomes_more h [] (x ∷ os) line o all is = absurd all
+outcomes_more h (l ∷ lines) [] line o all is = absurd all
 
-  after_more : (h : History) (os : List Outcome) (o : Outcome) → history_after_lines m h (os ++ o ∷ []) ≡ history_after_line m (history_after_lines m h os) o
-  after_more h [] o = refl
-  after_more h (x ∷ os) o = after_more (history_after_line m h x) os o
+after_more : (h : History) (os : List Outcome) (o : Outcome) → history_after_lines h (os ++ o ∷ []) ≡ history_after_line (history_after_lines h os) o
+after_more h [] o = refl
+after_more h (x ∷ os) o = after_more (history_after_line h x) os o
 
 transcript_more : (os : List Outcome) (o : Outcome) → transcript (os ++ o ∷ []) ≡ transcript os ++ told o
 transcript_more [] o = append-nil (told o)
@@ -40,12 +38,12 @@ told_some (Answered request answer) = omega (arith, length-append {A = ℕ})
 handled_more : (old mid new : Office) (lines : List (List ℕ)) (os : List Outcome) (line : List ℕ) (o : Outcome) → AreHandled old mid lines os → IsHandled mid new line o
     → AreHandled old new (lines ++ line ∷ []) (os ++ o ∷ [])
 handled_more old mid new lines os line o s more = record {
-  policy = λ m h is. outcomes_more m h lines os line o (s.policy m h is) (more.policy m (history_after_lines m h os) (s.office m h is));
-  office = λ m h is. subst (λ (x : History). IsOffice m x new) (sym (after_more m h os o)) (more.office m (history_after_lines m h os) (s.office m h is));
+  policy = λ h is. outcomes_more h lines os line o (s.policy h is) (more.policy (history_after_lines h os) (s.office h is));
+  office = λ h is. subst (λ (x : History). IsOffice x new) (sym (after_more h os o)) (more.office (history_after_lines h os) (s.office h is));
 }
 
 pub answered_none : (o : Office) (w : Option (List ℕ)) → AreAnswered o o w w []
-answered_none o w = record { outcomes = []; handled = record { policy = λ m h is. tt; office = λ m h is. is }; written = Appends-nil w }
+answered_none o w = record { outcomes = []; handled = record { policy = λ h is. tt; office = λ h is. is }; written = Appends-nil w }
 
 module _ (old mid new : Office) (before between after : Option (List ℕ)) (lines : List (List ℕ)) (line : List ℕ) (o : Outcome) (so_far : AreAnswered old mid before between lines) (more : IsHandled mid new line o) where
   pub answered_more : Appends between after (told o) → AreAnswered old new before after (lines ++ line ∷ [])

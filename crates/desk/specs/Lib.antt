@@ -1,4 +1,3 @@
-pub mod Runs
 pub mod Outcomes
 pub mod Parts
 pub mod Stands

@@ -2,9 +2,8 @@
 use Rattle.std.specs.Prelude.{◌≡◌, ℕ, List, [], ◌∷◌, ◌++◌, Err}
 use Rattle.review_policy.specs.declared.answer.Answer.TheVariants.{Fault}
 use Rattle.review_policy.specs.declared.answer.Fault.TheVariants.{Memory}
-use Rattle.office_desk.specs.History.{History}
-use Rattle.office_desk.specs.Verdict.{Measures}
-use Rattle.office_desk.specs.Handled.{IsAnswer, history_after}
+use Rattle.office_policy.specs.History.{History}
+use Rattle.office_policy.specs.Runs.{IsAnswer, history_after}
 use Rattle.request_lines.specs.Answers.{line_of}
 use Rattle.request_lines.specs.Bad.{bad_line}
 use Rattle.request_lines.specs.Requests.{asked, Asks}
@@ -12,16 +11,16 @@ use Rattle.desk.specs.declared.outcome.Outcome.{Outcome}
 use Rattle.desk.specs.declared.outcome.Outcome.TheVariants.{Bad, NoMemory, Answered}
 
 -- this may come of the line: it is no request, there was no memory to read it, or the request that it asks has this answer
-abbrev pub IsOutcome : Measures → History → List ℕ → Outcome → Type 0
-IsOutcome m h line (Bad fault) = asked line ≡ Err fault
-IsOutcome m h line NoMemory = Unit {0}
-IsOutcome m h line (Answered request answer) = Asks line request × IsAnswer m h request answer
+abbrev pub IsOutcome : History → List ℕ → Outcome → Type 0
+IsOutcome h line (Bad fault) = asked line ≡ Err fault
+IsOutcome h line NoMemory = Unit {0}
+IsOutcome h line (Answered request answer) = Asks line request × IsAnswer h request answer
 
 -- the history after it: only a request that is carried out adds an event
-abbrev pub history_after_line : Measures → History → Outcome → History
-history_after_line m h (Bad fault) = h
-history_after_line m h NoMemory = h
-history_after_line m h (Answered request answer) = history_after m h request answer
+abbrev pub history_after_line : History → Outcome → History
+history_after_line h (Bad fault) = h
+history_after_line h NoMemory = h
+history_after_line h (Answered request answer) = history_after h request answer
 
 -- the line that tells it
 abbrev pub told : Outcome → List ℕ
@@ -30,16 +29,16 @@ told NoMemory = line_of (Fault Memory)
 told (Answered request answer) = line_of answer
 
 -- there is one outcome to each line, on the history that the lines before it left
-abbrev pub AreOutcomes : Measures → History → List (List ℕ) → List Outcome → Type 0
-AreOutcomes m h [] [] = Unit {0}
-AreOutcomes m h (line ∷ lines) (outcome ∷ outcomes) = IsOutcome m h line outcome × AreOutcomes m (history_after_line m h outcome) lines outcomes
-AreOutcomes m h [] (outcome ∷ outcomes) = ⊥
-AreOutcomes m h (line ∷ lines) [] = ⊥
+abbrev pub AreOutcomes : History → List (List ℕ) → List Outcome → Type 0
+AreOutcomes h [] [] = Unit {0}
+AreOutcomes h (line ∷ lines) (outcome ∷ outcomes) = IsOutcome h line outcome × AreOutcomes (history_after_line h outcome) lines outcomes
+AreOutcomes h [] (outcome ∷ outcomes) = ⊥
+AreOutcomes h (line ∷ lines) [] = ⊥
 
 -- the history after all of them
-abbrev pub history_after_lines : Measures → History → List Outcome → History
-history_after_lines m h [] = h
-history_after_lines m h (outcome ∷ outcomes) = history_after_lines m (history_after_line m h outcome) outcomes
+abbrev pub history_after_lines : History → List Outcome → History
+history_after_lines h [] = h
+history_after_lines h (outcome ∷ outcomes) = history_after_lines (history_after_line h outcome) outcomes
 
 -- the transcript: the lines that tell them, one after the other
 abbrev pub transcript : List Outcome → List ℕ

@@ -2,8 +2,7 @@
 use Rattle.std.specs.Prelude.{◌≡◌, ℕ, zero, suc, ◌<◌, ◌≤◌, List, [], ◌∷◌, ◌++◌, Option, IfSome, length, take}
 use Rattle.std.specs.Io.KnownBytes.{Keeps, Appends, Consumes}
 use Rattle.office_desk.specs.declared.office.Office.{Office}
-use Rattle.office_desk.specs.History.{History}
-use Rattle.office_desk.specs.Verdict.{Measures}
+use Rattle.office_policy.specs.History.{History}
 use Rattle.office_desk.specs.Handled.{IsOffice}
 use Rattle.request_lines.specs.Lines.{lines_of}
 use Rattle.desk.specs.declared.outcome.Outcome.{Outcome}
@@ -14,13 +13,13 @@ use Rattle.desk.specs.declared.fault.DeskFault.TheVariants.{Read, Write, TooMany
 
 -- the line was handled, and this is what came of it
 pub record IsHandled (old new : Office) (line : List ℕ) (outcome : Outcome) : Type 0 where
-  pub policy : (m : Measures) (h : History) → IsOffice m h old → IsOutcome m h line outcome
-  pub office : (m : Measures) (h : History) → IsOffice m h old → IsOffice m (history_after_line m h outcome) new
+  pub policy : (h : History) → IsOffice h old → IsOutcome h line outcome
+  pub office : (h : History) → IsOffice h old → IsOffice (history_after_line h outcome) new
 
 -- the lines were handled one after the other, and these are what came of them
 pub record AreHandled (old new : Office) (lines : List (List ℕ)) (outcomes : List Outcome) : Type 0 where
-  pub policy : (m : Measures) (h : History) → IsOffice m h old → AreOutcomes m h lines outcomes
-  pub office : (m : Measures) (h : History) → IsOffice m h old → IsOffice m (history_after_lines m h outcomes) new
+  pub policy : (h : History) → IsOffice h old → AreOutcomes h lines outcomes
+  pub office : (h : History) → IsOffice h old → IsOffice (history_after_lines h outcomes) new
 
 -- the lines were handled, and just their transcript was written
 pub record AreAnswered (old new : Office) (before after : Option (List ℕ)) (lines : List (List ℕ)) : Type 0 where

@@ -1,8 +1,7 @@
 //! What comes of a line.
 
 ghost use Rattle.std.specs.Prelude.{◌≡◌};
-ghost use Rattle.office_desk.specs.History.{History};
-ghost use Rattle.office_desk.specs.Verdict.{Measures};
+ghost use Rattle.office_policy.specs.History.{History};
 ghost use Rattle.office_desk.specs.Handled.{IsOffice};
 ghost use Rattle.request_lines.specs.Answers.{line_of};
 
@@ -30,9 +29,9 @@ impl Outcome {
 
     /// Handles a line, given without its line feed.
     pub fn of_line(office: &mut Office, alloc: Global, line: &[u8]) -> Outcome
-        ensures policy { (m : Measures) (h : History) → IsOffice m h office.old → IsOutcome m h line.now result }
-        ensures office { (m : Measures) (h : History) → IsOffice m h office.old →
-            IsOffice m (history_after_line m h result) office.new }
+        ensures policy { (h : History) → IsOffice h office.old → IsOutcome h line.now result }
+        ensures office { (h : History) → IsOffice h office.old →
+            IsOffice (history_after_line h result) office.new }
     {
         if line.len() > MAX_LINE {
             return Outcome::Bad(BadLine::TooLong);

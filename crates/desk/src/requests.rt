@@ -2,10 +2,9 @@
 
 ghost use Rattle.std.specs.Prelude.{◌≡◌, true, IfOk, OnErr};
 ghost use Rattle.std.specs.List.{list_all};
-ghost use Rattle.office_desk.specs.History.{History};
-ghost use Rattle.office_desk.specs.Verdict.{Measures};
+ghost use Rattle.office_policy.specs.History.{History};
 ghost use Rattle.office_desk.specs.Handled.{is_served, IsOffice};
-ghost use Rattle.desk.specs.Runs.{Took, history_after_all};
+ghost use Rattle.office_policy.specs.Runs.{Took, history_after_all};
 
 use office_desk::Office;
 use review_policy::{Answer, Request};
@@ -22,10 +21,10 @@ pub fn run(
     requests: &[Request],
 ) -> Result<Vec<Answer>, AllocError>
     requires { list_all (λ request. is_served request.ask) requests.now ≡ true }
-    ensures answers { IfOk result (λ answers. (m : Measures) (h : History) → IsOffice m h office.old →
-        Took m h requests.now answers.items) }
-    ensures office { IfOk result (λ answers. (m : Measures) (h : History) → IsOffice m h office.old →
-        IsOffice m (history_after_all m h requests.now answers.items) office.new) }
+    ensures answers { IfOk result (λ answers. (h : History) → IsOffice h office.old →
+        Took h requests.now answers.items) }
+    ensures office { IfOk result (λ answers. (h : History) → IsOffice h office.old →
+        IsOffice (history_after_all h requests.now answers.items) office.new) }
     ensures none { OnErr result (office.new ≡ office.old) }
 {
     let mut answers = Vec::with_capacity(alloc, requests.len())?;

@@ -19,29 +19,33 @@ use Rattle.office_tables.specs.Changes.{with_user}
 use Rattle.office_tables.specs.Reads.{IsUserShowing}
 use Rattle.memory_store.specs.declared.store.MemoryStore.{MemoryStore}
 use Rattle.memory_store.specs.Shows.{Shows}
-use Rattle.office_desk.specs.History.{enrolled, History}
-use Rattle.office_desk.specs.Users.{user_of, user_showing}
-use Rattle.office_desk.specs.Revisions.{revision_of}
-use Rattle.office_desk.specs.Facts.{enrol_facts, enrol_facts_by, read_facts}
-use Rattle.office_desk.specs.Verdict.{Measures, Verdict, accepted, denied, rules_of, done_of, fault_of, judged, of_revision, verdict_of, verdict}
-use Rattle.office_desk.specs.Lawful.{IsLawful}
-use Rattle.office_desk.specs.TablesOf.{tables_of}
+use Rattle.office_policy.specs.History.{enrolled, History}
+use Rattle.office_policy.specs.Users.{user_of, user_showing}
+use Rattle.office_policy.specs.Revisions.{revision_of}
+use Rattle.office_policy.specs.Facts.{enrol_facts, read_facts}
+use Rattle.office_policy.specs.Verdict.{Verdict, accepted, denied, rules_of, done_of, fault_of, judged, of_revision, verdict_of, verdict}
+use Rattle.office_policy.specs.Formed.{HasForms}
+use Rattle.office_policy.specs.Lawful.{IsLawful}
+use Rattle.review_policy.specs.Words.{is_token}
+use Rattle.office_policy.specs.TablesOf.{tables_of}
 use Rattle.office_desk.specs.Told.{IsPassing}
-use Rattle.office_desk.specs.Handled.{CarriesOut, IsOffice, answer_of, event_of, with_event, history_after}
-use Rattle.office_desk.specs.Laws.{AreApart}
-use Rattle.office_desk.proofs.UserFacts.{showing_one, showing_none}
-use Rattle.office_desk.proofs.LawFacts.{lawful_apart, lawful_more}
+use Rattle.office_desk.specs.Handled.{CarriesOut, IsOffice}
+use Rattle.office_policy.specs.Runs.{answer_of, event_of, with_event, history_after}
+use Rattle.office_policy.specs.Laws.{AreApart}
+use Rattle.office_policy.proofs.UserFacts.{showing_one, showing_none}
+use Rattle.office_policy.proofs.LawFacts.{lawful_apart, lawful_more}
+use Rattle.office_policy.proofs.Numbered.{numbered}
 
 -- a refusal is told, and leaves the tables
-pub refused : (m : Measures) (h : History) (caller : Option UserRow) (a : Ask) (d : Denial) (store : MemoryStore) → first_denial (rules_of m h caller a) ≡ Err d
-    → Shows store (tables_of h) → CarriesOut h (verdict_of m h caller a) (Ok (Denied d (fault_of m h a d.rule))) store
-refused m h caller a d store e shows =
-    subst (λ r. CarriesOut h (judged m h caller a r) (Ok (Denied d (fault_of m h a d.rule))) store) (sym e) (refl, shows)
+pub refused : (h : History) (caller : Option UserRow) (a : Ask) (d : Denial) (store : MemoryStore) → first_denial (rules_of h caller a) ≡ Err d
+    → Shows store (tables_of h) → CarriesOut h (verdict_of h caller a) (Ok (Denied d (fault_of h a d.rule))) store
+refused h caller a d store e shows =
+    subst (λ r. CarriesOut h (judged h caller a r) (Ok (Denied d (fault_of h a d.rule))) store) (sym e) (refl, shows)
 
 -- where no rule refuses, what is done is told
-pub allowed : (m : Measures) (h : History) (caller : Option UserRow) (a : Ask) (result : Result Answer StoreFault) (store : MemoryStore) → first_denial (rules_of m h caller a) ≡ Ok tt
-    → CarriesOut h (done_of m h caller a) result store → CarriesOut h (verdict_of m h caller a) result store
-allowed m h caller a result store e done = subst (λ r. CarriesOut h (judged m h caller a r) result store) (sym e) done
+pub allowed : (h : History) (caller : Option UserRow) (a : Ask) (result : Result Answer StoreFault) (store : MemoryStore) → first_denial (rules_of h caller a) ≡ Ok tt
+    → CarriesOut h (done_of h caller a) result store → CarriesOut h (verdict_of h caller a) result store
+allowed h caller a result store e done = subst (λ r. CarriesOut h (judged h caller a r) result store) (sym e) done
 
 -- want of memory passes
 pub memory_passes : (f : StoreFault) → f ≡ NoMemory → IsPassing f
@@ -58,12 +62,12 @@ shower_is h apart digest None is = showing_none h digest is
 shower_is h apart digest (Some u) is = showing_one h apart digest u is.0 is.1
 
 -- what was decided of an enrolment is what its rules say
-pub enrol_decided : (m : Measures) (h : History) → IsLawful m h → (caller known shower : Option UserRow) (user team digest : List ℕ) (decided : Result ⊤ Denial)
-    → known ≡ user_of h user → IsUserShowing (tables_of h) digest shower → decided ≡ first_denial (enrol_rules (enrol_facts_by caller known shower user team))
-    → first_denial (enrol_rules (enrol_facts h caller user team digest)) ≡ decided
-enrol_decided m h lawful caller known shower user team digest decided is_known is_shower decides =
-    ap (λ u. first_denial (enrol_rules (enrol_facts_by caller u (user_showing h digest) user team))) (sym is_known)
-    ∙ ap (λ s. first_denial (enrol_rules (enrol_facts_by caller known s user team))) (shower_is h (lawful_apart m h lawful) digest shower is_shower)
+pub enrol_decided : (h : History) → IsLawful h → (caller known shower : Option UserRow) (user team digest : List ℕ) (decided : Result ⊤ Denial)
+    → known ≡ user_of h user → IsUserShowing (tables_of h) digest shower → decided ≡ first_denial (enrol_rules (enrol_facts caller known shower user team))
+    → first_denial (enrol_rules (enrol_facts caller (user_of h user) (user_showing h digest) user team)) ≡ decided
+enrol_decided h lawful caller known shower user team digest decided is_known is_shower decides =
+    ap (λ u. first_denial (enrol_rules (enrol_facts caller u (user_showing h digest) user team))) (sym is_known)
+    ∙ ap (λ s. first_denial (enrol_rules (enrol_facts caller known s user team))) (shower_is h (lawful_apart h lawful) digest shower is_shower)
     ∙ sym decides
 
 -- a user's new row is that of the enrolment
@@ -87,32 +91,33 @@ show_decided h caller p n found missing decided is told decides =
     ∙ ap (λ b. first_denial (read_rules (read_facts caller p.team b))) (sym (none_told missing found told)) ∙ sym decides
 
 -- a revision that is there is shown
-pub show_done : (m : Measures) (h : History) (caller : Option UserRow) (p : ProfileName) (n : ℕ) (r : RevisionRow) (store : MemoryStore) → Some r ≡ revision_of h p n → Shows store (tables_of h)
-    → CarriesOut h (done_of m h caller (ask.Show p n)) (Ok (Done (reply.Shown r.digest r.body r.state))) store
-show_done m h caller p n r store is shows =
+pub show_done : (h : History) (caller : Option UserRow) (p : ProfileName) (n : ℕ) (r : RevisionRow) (store : MemoryStore) → Some r ≡ revision_of h p n → Shows store (tables_of h)
+    → CarriesOut h (done_of h caller (ask.Show p n)) (Ok (Done (reply.Shown r.digest r.body r.state))) store
+show_done h caller p n r store is shows =
     subst (λ row. CarriesOut h (of_revision row (λ r. accepted (reply.Shown r.digest r.body r.state) None)) (Ok (Done (reply.Shown r.digest r.body r.state))) store) is (refl, shows)
 
 -- a request's verdict is that of its caller and what it asks
-pub carried : (m : Measures) (h : History) → IsLawful m h → (r : Request) (caller : Option UserRow) (token : List ℕ) (a : Ask) (result : Result Answer StoreFault) (store : MemoryStore)
+pub carried : (h : History) → IsLawful h → (r : Request) (caller : Option UserRow) (token : List ℕ) (a : Ask) (result : Result Answer StoreFault) (store : MemoryStore)
     → token ≡ digest_of r.token → IsUserShowing (tables_of h) token caller → r.ask ≡ a
-    → CarriesOut h (verdict_of m h caller a) result store → CarriesOut h (verdict m h r) result store
-carried m h lawful r caller token a result store is_token is_caller is_ask done =
-    let shower : user_showing h (digest_of r.token) ≡ caller = ap (user_showing h) (sym is_token) ∙ shower_is h (lawful_apart m h lawful) token caller is_caller in
-    subst (λ u. CarriesOut h (verdict_of m h u r.ask) result store) (sym shower)
-    (subst (λ x. CarriesOut h (verdict_of m h caller x) result store) (sym is_ask) done)
+    → CarriesOut h (verdict_of h caller a) result store → CarriesOut h (verdict h r) result store
+carried h lawful r caller token a result store is_token is_caller is_ask done =
+    let shower : user_showing h (digest_of r.token) ≡ caller = ap (user_showing h) (sym is_token) ∙ shower_is h (lawful_apart h lawful) token caller is_caller in
+    subst (λ u. CarriesOut h (verdict_of h u r.ask) result store) (sym shower)
+    (subst (λ x. CarriesOut h (verdict_of h caller x) result store) (sym is_ask) done)
 
-told_after : (m : Measures) (h : History) (r : Request) (v : Verdict) → history_after m h r (answer_of v) ≡ with_event (event_of (verdict m h r)) h
-told_after m h r (accepted reply event) = refl
-told_after m h r (denied denial fault) = refl
+told_after : (h : History) (r : Request) (v : Verdict) → history_after h r (answer_of v) ≡ with_event (event_of (verdict h r)) h
+told_after h r (accepted reply event) = refl
+told_after h r (denied denial fault) = refl
 
-lawful_after : (m : Measures) (h : History) (r : Request) (v : Verdict) → verdict m h r ≡ v → IsLawful m h → IsLawful m (with_event (event_of v) h)
-lawful_after m h r (accepted reply None) is lawful = lawful
-lawful_after m h r (accepted reply (Some e)) is lawful = lawful_more m h e lawful (record { request = r; reply = reply; allowed = is })
-lawful_after m h r (denied denial fault) is lawful = lawful
+lawful_after : (h : History) (r : Request) (v : Verdict) → is_token r.token ≡ true → HasForms r.ask → verdict h r ≡ v → IsLawful h → IsLawful (with_event (event_of v) h)
+lawful_after h r (accepted reply None) token forms is lawful = lawful
+lawful_after h r (accepted reply (Some e)) token forms is lawful =
+    lawful_more h e lawful (record { request = r; formed = record { token = token; forms = forms; number = numbered h lawful r reply e is }; reply = reply; allowed = is })
+lawful_after h r (denied denial fault) token forms is lawful = lawful
 
 -- the office after an answer that tells the verdict
-pub handled : (m : Measures) (h : History) (r : Request) (answer : Answer) (store : MemoryStore) → IsLawful m h → answer ≡ answer_of (verdict m h r)
-    → Shows store (tables_of (with_event (event_of (verdict m h r)) h)) → IsOffice m (history_after m h r answer) (record { store = store })
-handled m h r answer store lawful is shows =
-    subst (λ k. IsOffice m k (record { store = store })) (sym (ap (history_after m h r) is ∙ told_after m h r (verdict m h r)))
-    (record { lawful = lawful_after m h r (verdict m h r) refl lawful; tables = shows })
+pub handled : (h : History) (r : Request) (answer : Answer) (store : MemoryStore) → is_token r.token ≡ true → HasForms r.ask → IsLawful h → answer ≡ answer_of (verdict h r)
+    → Shows store (tables_of (with_event (event_of (verdict h r)) h)) → IsOffice (history_after h r answer) (record { store = store })
+handled h r answer store token forms lawful is shows =
+    subst (λ k. IsOffice k (record { store = store })) (sym (ap (history_after h r) is ∙ told_after h r (verdict h r)))
+    (record { lawful = lawful_after h r (verdict h r) token forms refl lawful; tables = shows })

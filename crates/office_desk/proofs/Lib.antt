@@ -1,10 +1,3 @@
-pub mod RuleFacts
-pub mod UserFacts
-pub mod LawFacts
-pub mod RevisionFacts
-pub mod StateFacts
 pub mod CarryFacts
 pub mod SubmitFacts
-pub mod Histories
-pub mod Judged
-pub mod ListingFacts
+pub mod Alike

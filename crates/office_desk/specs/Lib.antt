@@ -1,15 +1,3 @@
-pub mod History
-pub mod Users
-pub mod Revisions
-pub mod Votes
-pub mod Holds
-pub mod Documents
-pub mod Baseline
-pub mod Listing
-pub mod Facts
-pub mod Verdict
-pub mod Lawful
-pub mod TablesOf
 pub mod Told
 pub mod Handled
 pub mod Laws

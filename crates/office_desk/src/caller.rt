@@ -2,8 +2,8 @@
 
 ghost use Rattle.std.specs.Prelude.{◌≡◌, is_some, not, ◌&&◌, ◌||◌, bytes_eq};
 ghost use Rattle.office_tables.specs.Lists.{holds_role};
-ghost use Rattle.office_desk.specs.Users.{is_named, is_of_team};
-ghost use Rattle.office_desk.specs.Facts.{is_elsewhere, is_another, sees_every_team};
+ghost use Rattle.office_policy.specs.Users.{is_named, is_of_team};
+ghost use Rattle.office_policy.specs.Facts.{is_elsewhere, is_another, sees_every_team};
 
 use office_tables::UserRow;
 use review_policy::{Role, Word};

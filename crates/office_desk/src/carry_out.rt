@@ -2,10 +2,10 @@
 
 ghost use Rattle.std.specs.Prelude.{◌≡◌, true};
 ghost use Rattle.memory_store.specs.Shows.{Shows};
-ghost use Rattle.office_desk.specs.History.{History};
-ghost use Rattle.office_desk.specs.Verdict.{Measures, verdict};
-ghost use Rattle.office_desk.specs.Lawful.{IsLawful};
-ghost use Rattle.office_desk.specs.TablesOf.{tables_of};
+ghost use Rattle.office_policy.specs.History.{History};
+ghost use Rattle.office_policy.specs.Verdict.{verdict};
+ghost use Rattle.office_policy.specs.Lawful.{IsLawful};
+ghost use Rattle.office_policy.specs.TablesOf.{tables_of};
 ghost use Rattle.office_desk.specs.Handled.{is_served, CarriesOut};
 
 use crate::enrol::enrol;
@@ -24,8 +24,8 @@ pub(crate) fn carry_out(
     request: &Request,
 ) -> Result<Answer, StoreFault>
     requires { is_served request.now.ask ≡ true }
-    ensures { (m : Measures) (h : History) → IsLawful m h → Shows store.old (tables_of h) →
-        CarriesOut h (verdict m h request.now) result store.new }
+    ensures { (h : History) → IsLawful h → Shows store.old (tables_of h) →
+        CarriesOut h (verdict h request.now) result store.new }
 {
     let token = digest(request.token.as_str().as_bytes());
     let caller = store.user_by_token(alloc, &token)?;

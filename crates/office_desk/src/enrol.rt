@@ -3,11 +3,11 @@
 ghost use Rattle.std.specs.Prelude.{◌≡◌};
 ghost use Rattle.review_policy.specs.declared.ask.Ask.TheVariants as ask;
 ghost use Rattle.memory_store.specs.Shows.{Shows};
-ghost use Rattle.office_desk.specs.History.{History};
-ghost use Rattle.office_desk.specs.Facts.{enrol_facts_by};
-ghost use Rattle.office_desk.specs.Verdict.{Measures, verdict_of};
-ghost use Rattle.office_desk.specs.Lawful.{IsLawful};
-ghost use Rattle.office_desk.specs.TablesOf.{tables_of};
+ghost use Rattle.office_policy.specs.History.{History};
+ghost use Rattle.office_policy.specs.Facts.{enrol_facts};
+ghost use Rattle.office_policy.specs.Verdict.{verdict_of};
+ghost use Rattle.office_policy.specs.Lawful.{IsLawful};
+ghost use Rattle.office_policy.specs.TablesOf.{tables_of};
 ghost use Rattle.office_desk.specs.Handled.{CarriesOut};
 
 use crate::caller::{holds_role, is_another, is_elsewhere, is_named};
@@ -24,7 +24,7 @@ fn enrol_facts(
     user: &Word,
     team: &Word,
 ) -> EnrolFacts
-    ensures { result ≡ enrol_facts_by caller.now known.now shower.now user.now team.now }
+    ensures { result ≡ enrol_facts caller.now known.now shower.now user.now team.now }
 {
     EnrolFacts {
         caller_unknown: caller.is_none(),
@@ -45,8 +45,8 @@ pub(crate) fn enrol(
     roles: Roles,
     digest: &[u8; 32],
 ) -> Result<Answer, StoreFault>
-    ensures { (m : Measures) (h : History) → IsLawful m h → Shows store.old (tables_of h) →
-        CarriesOut h (verdict_of m h caller.now (ask.Enrol user.now team.now roles digest.now)) result store.new }
+    ensures { (h : History) → IsLawful h → Shows store.old (tables_of h) →
+        CarriesOut h (verdict_of h caller.now (ask.Enrol user.now team.now roles digest.now)) result store.new }
 {
     let known = store.user_by_name(alloc, user)?;
     let shower = store.user_by_token(alloc, digest)?;

@@ -1,63 +1,13 @@
-//! Laws of histories. Each is a function without a parameter whose contract is the law; it does nothing.
+//! Laws of the tables. Each is a function without a parameter whose contract is the law; it does nothing.
 
-ghost use Rattle.std.specs.Prelude.{◌≡◌, ◌∷◌, List, ℕ};
-ghost use Rattle.review_policy.specs.declared.ask.ProfileName.{ProfileName};
-ghost use Rattle.review_policy.specs.declared.ask.Request.{Request};
 ghost use Rattle.office_tables.specs.Tables.{Tables};
 ghost use Rattle.memory_store.specs.declared.store.MemoryStore.{MemoryStore};
 ghost use Rattle.memory_store.specs.Shows.{Shows};
-ghost use Rattle.office_desk.specs.History.{Event, History};
-ghost use Rattle.office_desk.specs.Verdict.{Measures};
-ghost use Rattle.office_desk.specs.Lawful.{IsLawful};
-ghost use Rattle.office_desk.specs.TablesOf.{tables_of};
-ghost use Rattle.office_desk.specs.Laws.{AreAlike, AreApart, KeepsTeams, KeepsSubmissions, NumbersRun, OpenIsLast, OneIssued, IsJudged, ListsInOrder, ListsAll};
+ghost use Rattle.office_policy.specs.History.{History};
+ghost use Rattle.office_policy.specs.TablesOf.{tables_of};
+ghost use Rattle.office_desk.specs.Laws.{AreAlike};
 
 /// A history determines the tables: what a store shows as its tables has the same at every key.
 pub fn tables_are_determined()
     ensures { (s : MemoryStore) (t : Tables) (h : History) → Shows s (tables_of h) → Shows s t → AreAlike t (tables_of h) }
-{}
-
-/// No two users show one digest.
-pub fn digests_are_apart()
-    ensures { (m : Measures) (h : History) → IsLawful m h → AreApart h }
-{}
-
-/// A user's team never changes.
-pub fn teams_are_kept()
-    ensures { (m : Measures) (h : History) (e : Event) → IsLawful m (e ∷ h) → KeepsTeams h e }
-{}
-
-/// A revision's author and text never change.
-pub fn texts_are_kept()
-    ensures { (h : History) (e : Event) → KeepsSubmissions h e }
-{}
-
-/// The revisions of a profile are numbered from 1 without a gap.
-pub fn numbers_run()
-    ensures { (h : History) (p : ProfileName) → NumbersRun h p }
-{}
-
-/// At most one revision of a profile is open: its last.
-pub fn one_revision_is_open()
-    ensures { (h : History) (p : ProfileName) → OpenIsLast h p }
-{}
-
-/// At most one revision of a profile is issued.
-pub fn one_revision_is_issued()
-    ensures { (h : History) (p : ProfileName) → OneIssued h p }
-{}
-
-/// Each request is refused by a rule, or carried out: no verdict is the one that stands where its rules leave nothing to do.
-pub fn every_request_is_judged()
-    ensures { (m : Measures) (h : History) (request : Request) → IsJudged m h request }
-{}
-
-/// The profiles of a team are listed in byte order of their names, each once.
-pub fn profiles_are_listed_in_order()
-    ensures { (h : History) (team : List ℕ) → ListsInOrder h team }
-{}
-
-/// Just those profiles of a team are listed that have a revision.
-pub fn each_profile_is_listed()
-    ensures { (h : History) (team : List ℕ) → ListsAll h team }
 {}

@@ -4,6 +4,7 @@
 mod caller;
 mod carry_out;
 mod enrol;
+mod forms;
 pub mod laws;
 mod office;
 mod show;

@@ -4,6 +4,7 @@ ghost use Rattle.std.specs.Prelude.{◌≡◌};
 ghost use Rattle.office_desk.specs.Told.{told_of};
 
 use crate::carry_out::carry_out;
+use crate::forms::{founding_forms, request_forms};
 use cap_sets::Caps;
 use memory_store::MemoryStore;
 use office_tables::StoreFault;
@@ -18,9 +19,9 @@ pub struct Office {
 
 impl Office {
     ghost use Rattle.std.specs.Prelude.{◌≡◌, [], ◌∷◌, true, IfOk, IfErr};
-    ghost use Rattle.office_desk.specs.History.{History, founded};
-    ghost use Rattle.office_desk.specs.Verdict.{Measures};
-    ghost use Rattle.office_desk.specs.Handled.{is_served, IsOffice, IsAnswer, history_after};
+    ghost use Rattle.office_policy.specs.History.{History, founded};
+    ghost use Rattle.office_desk.specs.Handled.{is_served, IsOffice};
+    ghost use Rattle.office_policy.specs.Runs.{IsAnswer, history_after};
 
     /// A new office, with its first user, who is a registrar and shows the token of this digest, and with the listed
     /// capabilities: a document that holds one of them needs two approvals.
@@ -33,9 +34,10 @@ impl Office {
         digest: [u8; 32],
         listed: Caps,
     ) -> Result<Office, StoreFault>
-        ensures founded { IfOk result (λ office. (m : Measures) → IsOffice m (founded name team digest listed ∷ []) office) }
+        ensures founded { IfOk result (λ office. IsOffice (founded name team digest listed ∷ []) office) }
         ensures fault { IfErr result (λ fault. fault ≡ StoreFault.NoMemory) }
     {
+        founding_forms(&name, &team, &digest, listed);
         let store = MemoryStore::found(alloc, name, team, digest, listed)?;
         Ok(Office { store })
     }
@@ -45,9 +47,10 @@ impl Office {
     /// A [`Fault`] says that memory was wanted, and that nothing changed.
     pub fn handle(&mut self, alloc: Global, request: &Request) -> Answer
         requires { is_served request.now.ask ≡ true }
-        ensures answer { (m : Measures) (h : History) → IsOffice m h self.old → IsAnswer m h request.now result }
-        ensures office { (m : Measures) (h : History) → IsOffice m h self.old → IsOffice m (history_after m h request.now result) self.new }
+        ensures answer { (h : History) → IsOffice h self.old → IsAnswer h request.now result }
+        ensures office { (h : History) → IsOffice h self.old → IsOffice (history_after h request.now result) self.new }
     {
+        request_forms(request);
         match carry_out(&mut self.store, alloc, request) {
             Ok(answer) => answer,
             Err(fault) => Answer::Fault(told(fault)),

@@ -4,11 +4,11 @@ ghost use Rattle.std.specs.Prelude.{◌≡◌, ◌||◌};
 ghost use Rattle.review_policy.specs.declared.ask.Ask.TheVariants as ask;
 ghost use Rattle.memory_store.specs.Shows.{Shows};
 ghost use Rattle.office_tables.specs.Lists.{holds_role};
-ghost use Rattle.office_desk.specs.History.{History};
-ghost use Rattle.office_desk.specs.Users.{is_of_team};
-ghost use Rattle.office_desk.specs.Facts.{read_facts, sees_every_team};
-ghost use Rattle.office_desk.specs.Verdict.{Measures, verdict_of};
-ghost use Rattle.office_desk.specs.TablesOf.{tables_of};
+ghost use Rattle.office_policy.specs.History.{History};
+ghost use Rattle.office_policy.specs.Users.{is_of_team};
+ghost use Rattle.office_policy.specs.Facts.{read_facts, sees_every_team};
+ghost use Rattle.office_policy.specs.Verdict.{verdict_of};
+ghost use Rattle.office_policy.specs.TablesOf.{tables_of};
 ghost use Rattle.office_desk.specs.Handled.{CarriesOut};
 
 use crate::caller::{holds_role, is_of_team, sees_every_team};
@@ -51,8 +51,8 @@ pub(crate) fn show(
     name: &ProfileName,
     revision: u32,
 ) -> Result<Answer, StoreFault>
-    ensures { (m : Measures) (h : History) → Shows store.now (tables_of h) →
-        CarriesOut h (verdict_of m h caller.now (ask.Show name.now revision)) result store.now }
+    ensures { (h : History) → Shows store.now (tables_of h) →
+        CarriesOut h (verdict_of h caller.now (ask.Show name.now revision)) result store.now }
 {
     let found = store.revision(alloc, name, revision)?;
     let facts = read_facts(caller, &name.team, found.is_none());

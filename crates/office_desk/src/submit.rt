@@ -4,12 +4,12 @@ ghost use Rattle.std.specs.Prelude.{◌≡◌, IfOk, IfErr};
 ghost use Rattle.review_policy.specs.declared.ask.Ask.TheVariants as ask;
 ghost use Rattle.profile_text.specs.Reading.{reading_of};
 ghost use Rattle.memory_store.specs.Shows.{Shows};
-ghost use Rattle.office_desk.specs.History.{History};
-ghost use Rattle.office_desk.specs.Facts.{canonical, is_text_of, submit_facts_by};
-ghost use Rattle.office_desk.specs.Revisions.{if_open, number_of};
-ghost use Rattle.office_desk.specs.Verdict.{Measures, fault_told, verdict_of};
-ghost use Rattle.office_desk.specs.Lawful.{IsLawful};
-ghost use Rattle.office_desk.specs.TablesOf.{tables_of};
+ghost use Rattle.office_policy.specs.History.{History};
+ghost use Rattle.office_policy.specs.Facts.{canonical, is_text_of, submit_facts};
+ghost use Rattle.office_policy.specs.Revisions.{if_open, number_of};
+ghost use Rattle.office_policy.specs.Verdict.{fault_told, verdict_of};
+ghost use Rattle.office_policy.specs.Lawful.{IsLawful};
+ghost use Rattle.office_policy.specs.TablesOf.{tables_of};
 ghost use Rattle.office_desk.specs.Handled.{CarriesOut};
 
 use crate::caller::{holds_role, is_of_team};
@@ -86,7 +86,7 @@ fn submit_facts(
     last: &Option<RevisionRow>,
 ) -> SubmitFacts
     requires { text.now ≡ canonical reading.now }
-    ensures { result ≡ submit_facts_by caller.now team.now reading.now last.now (number_of last.now) }
+    ensures { result ≡ submit_facts caller.now team.now reading.now last.now (number_of last.now) }
 {
     SubmitFacts {
         caller_unknown: caller.is_none(),
@@ -116,8 +116,8 @@ pub(crate) fn submit(
     name: &ProfileName,
     document: &Vec<u8>,
 ) -> Result<Answer, StoreFault>
-    ensures { (m : Measures) (h : History) → IsLawful m h → Shows store.old (tables_of h) →
-        CarriesOut h (verdict_of m h caller.now (ask.Submit name.now document.now)) result store.new }
+    ensures { (h : History) → IsLawful h → Shows store.old (tables_of h) →
+        CarriesOut h (verdict_of h caller.now (ask.Submit name.now document.now)) result store.new }
 {
     let reading = reading(alloc, document.as_slice())?;
     let text = canonical(alloc, &reading)?;

@@ -2,12 +2,7 @@
 //! ask for.
 #![tactic(auto)]
 
-mod run;
-#[cfg(test)]
-mod tests;
-mod trial;
-
-use crate::run::run_words;
+use office_commands::run_words;
 use std::io::ErrorKind;
 use std::process::ExitCode;
 use std::{env, io};

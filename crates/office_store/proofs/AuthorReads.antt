@@ -1,9 +1,9 @@
 -- What the reads of authors find.
-use Rattle.std.proofs.Common.{◌≡◌, ◌≢◌, ℕ, ℤ, pos, List, [], ◌∷◌, codes, map, None, Some, Ok, Err, Result, Option, IfOk, IfErr, Bool, true, false, Less, Equal, refl, sym, ap, subst, ◌∙◌}
+use Rattle.std.proofs.Common.{◌≡◌, ◌≢◌, ℕ, ℤ, List, [], ◌∷◌, codes, map, None, Some, Ok, Err, Result, Option, IfOk, IfErr, Bool, true, false, Less, Equal, refl, sym, ap, subst, ◌∙◌}
 use Rattle.std.specs.Prelude.{◌&&◌, ◌↔◌, bytes_eq, is_some, filter}
 use Rattle.std.specs.List.{list_all}
 use Rattle.std.proofs.lemmas.Slice.Eq.{bytes_eq-Decides}
-use Rattle.sqlite.specs.declared.types.Value.TheVariants.{Text, Int}
+use Rattle.sqlite.specs.declared.types.Value.TheVariants.{Text}
 use Rattle.sqlite.specs.Order.{Row}
 use Rattle.sqlite.specs.Term.{Term, col, holds}
 use Rattle.sqlite.specs.Query.{inner, end}
@@ -52,12 +52,12 @@ by_author = column_is 1 0 ∷ column_is 2 1 ∷ column_is 4 2 ∷ []
 abbrev pub author_params : ProfileName → List ℕ → Row
 author_params p name = Text p.team ∷ Text p.profile ∷ Text name ∷ []
 
-by_means : Means office_schema REVISION_BY.now (Select (record { lets = []; body = plain_query (col 1 3 ∷ []) by_author 4 }) (codes "number" ∷ []))
+by_means : Means office_schema REVISION_BY.now (Select (record { lets = []; body = plain_query (col 1 4 ∷ []) by_author 4 }) (codes "author" ∷ []))
 unfolding understood everything
 by_means = record { is = refl; plain = (refl, refl); unlisted = refl }
 
-abbrev number_shown : Revision → Row
-number_shown e = Int (pos e.1.number) ∷ []
+abbrev author_row : Revision → Row
+author_row e = name_row e.1.author
 
 abbrev is_by : ProfileName → List ℕ → Revision → Bool
 is_by p name e = (is_profile p e.0) && bytes_eq name e.1.author
@@ -79,9 +79,6 @@ authors_mean = record { is = refl; plain = (refl, refl); unlisted = refl }
 
 abbrev author_of : Revision → List ℕ
 author_of e = e.1.author
-
-abbrev author_row : Revision → Row
-author_row e = name_row e.1.author
 
 abbrev is_of : ProfileName → Revision → Bool
 is_of p e = is_profile p e.0
@@ -112,7 +109,7 @@ module _ (old new : State) (t : Tables) (shows : Shows old t) where
   abbrev IsRowBy : ProfileName → List ℕ → Option Row → Type 0
   IsRowBy p name row = is_some row ≡ true ↔ IsAuthor t p name
 
-  row_by : (p : ProfileName) (name : List ℕ) (r : Result (Option Row) StoreFault) → IfOk r (IsFound (is_by p name) number_shown shows.office.revisions.entries) → IfOk r (IsRowBy p name)
+  row_by : (p : ProfileName) (name : List ℕ) (r : Result (Option Row) StoreFault) → IfOk r (IsFound (is_by p name) author_row shows.office.revisions.entries) → IfOk r (IsRowBy p name)
   row_by p name (Ok (Some row)) it =
       let both = both_true (is_profile p it.0.0) (bytes_eq name it.0.1.author) it.2 in
       ((λ e. subst (IsAuthor t p) (sym ((bytes_eq-Decides name it.0.1.author).0 both.1)) (makes_author p it.0 it.1 both.0)), (λ author. refl))
@@ -151,7 +148,7 @@ module _ (old new : State) (t : Tables) (shows : Shows old t) where
       }
 
   pub by_crash : (p : ProfileName) (name : List ℕ) → Survives old new (CommitsShowing REVISION_BY.now (author_params p name) old) → Survives old new (λ _. ⊥)
-  by_crash p name = list_crash _ REVISION_BY.now (author_params p name) (codes "number" ∷ []) by_means old new t shows
+  by_crash p name = list_crash _ REVISION_BY.now (author_params p name) (codes "author" ∷ []) by_means old new t shows
 
   pub authors_crash : (p : ProfileName) → Survives old new (CommitsShowing AUTHORS_OF.now (profile_params p) old) → Survives old new (λ _. ⊥)
   authors_crash p = list_crash _ AUTHORS_OF.now (profile_params p) (codes "author" ∷ []) authors_mean old new t shows
@@ -160,12 +157,12 @@ module _ (old new : State) (t : Tables) (shows : Shows old t) where
     pub reads_by : (p : ProfileName) (name : List ℕ) (r : Result (Option Row) StoreFault) → FindsRow REVISION_BY.now (author_params p name) old new r → IsReadOf new t (IsRowBy p name) r
     reads_by p name r h =
         let o = shows.office in
-        let it = finds_some revision_row number_shown (is_by p name) (col 1 3 ∷ []) by_author office_schema REVISION_BY.now (author_params p name) 4 (codes "number" ∷ []) by_means (by_tested p name) (λ k. refl)
+        let it = finds_some revision_row author_row (is_by p name) (col 1 4 ∷ []) by_author office_schema REVISION_BY.now (author_params p name) 4 (codes "author" ∷ []) by_means (by_tested p name) (λ k. refl)
         old new o.schema shows.settled idle o.revisions.entries o.revisions.kept r h in
         record {
           found = row_by p name r it.0;
           formed = it.1;
-          shown = first_shows _ REVISION_BY.now (author_params p name) (codes "number" ∷ []) by_means old new t shows idle r h;
+          shown = first_shows _ REVISION_BY.now (author_params p name) (codes "author" ∷ []) by_means old new t shows idle r h;
           same = still_shows old new t shows it.2;
         }
 

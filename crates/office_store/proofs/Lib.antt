@@ -14,6 +14,7 @@ pub mod ListReads
 pub mod AuthorReads
 pub mod ListingReads
 pub mod VoteReads
+pub mod Indexing
 pub mod FoundingSteps
 pub mod FormReads
 pub mod Numbers
@@ -22,3 +23,4 @@ pub mod Queries
 pub mod OfficeRow
 pub mod Told
 pub mod ToldLists
+pub mod Reopened

@@ -10,7 +10,7 @@ use Rattle.office_store.specs.declared.form.TheConstants.{OFFICE_ROW}
 use Rattle.office_store.specs.declared.holds.TheConstants.{HOLD_OF}
 use Rattle.office_store.specs.declared.listing.TheConstants.{REVISIONS_OF}
 use Rattle.office_store.specs.declared.office.TheConstants.{LISTED}
-use Rattle.office_store.specs.declared.revisions.TheConstants.{REVISION_AT, ISSUED_OF, LAST_OF}
+use Rattle.office_store.specs.declared.revisions.TheConstants.{REVISION_AT, ISSUED_OF, LAST_OF, REVISION_OF}
 use Rattle.office_store.specs.declared.standing_votes.TheConstants.{VOTES_ON}
 use Rattle.office_store.specs.declared.users.TheConstants.{USER_BY_NAME, USER_BY_TOKEN}
 
@@ -65,3 +65,7 @@ revisions_of = is_query REVISIONS_OF.now _ (record { is = refl; bare = λ schema
 pub votes_on : IsQuery VOTES_ON.now
 unfolding everything first returning
 votes_on = is_query VOTES_ON.now _ (record { is = refl; bare = λ schema base. refl })
+
+pub revision_of : IsQuery REVISION_OF.now
+unfolding everything first returning
+revision_of = is_query REVISION_OF.now _ (record { is = refl; bare = λ schema base. refl })

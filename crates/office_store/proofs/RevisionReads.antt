@@ -1,6 +1,6 @@
 -- What the reads of revisions find.
 use Rattle.std.proofs.Common.{◌≡◌, ◌≢◌, ◌<◌, ℕ, pos, map, List, [], ◌∷◌, codes, None, Some, Ok, Err, Result, Option, IfOk, OnOk, Bool, true, false, refl, sym, ap, subst, ◌∙◌, arith}
-use Rattle.std.specs.Prelude.{◌&&◌, ◌==◌, option_map, find}
+use Rattle.std.specs.Prelude.{◌&&◌, ◌==◌, ◌↔◌, option_map, is_some, find}
 use Rattle.std.proofs.lemmas.Bool.Decides.{nat_tests}
 use Rattle.std.specs.declared.cmp.Ordering.{Ordering}
 use Rattle.std.specs.declared.cmp.Ordering.TheVariants.{Less, Equal, Greater}
@@ -30,10 +30,10 @@ use Rattle.office_rows.proofs.Plain.{plain_query, Means}
 use Rattle.office_rows.proofs.Stored.{find_own}
 use Rattle.office_rows.proofs.Finding.{IsFound, finds_some, found_own, no_commit, commits_none}
 use Rattle.office_rows.proofs.Ordered.{first_query, IsFirstRow, finds_first}
-use Rattle.office_store.specs.declared.revisions.TheConstants.{REVISION_AT, ISSUED_OF, LAST_OF}
+use Rattle.office_store.specs.declared.revisions.TheConstants.{REVISION_AT, ISSUED_OF, LAST_OF, REVISION_OF}
 use Rattle.office_store.specs.Schema.{office_schema}
 use Rattle.office_store.specs.Entries.{Revision, same_revision, revision_key, revision_row, revision_columns, IsRevision, state_number}
-use Rattle.office_store.specs.Reads.{IsIssuedRow, IsLastRow}
+use Rattle.office_store.specs.Reads.{IsIssuedRow, IsLastRow, HasRevision}
 use Rattle.office_store.specs.Shown.{Shows, ShowsIfOpen}
 use Rattle.office_store.proofs.Kept.{still_shows, answered_shows, map_of_map, some_shown}
 use Rattle.office_store.proofs.Profiles.{profile_params, revision_params, at_profile, profile_tested, at_revision, revision_tested, in_state_of, is_in_state, state_tested, revisions_decide, profiles_decide, both_true, same_profile, same_state}
@@ -58,6 +58,10 @@ greatest = (col 1 3, record { collation = Binary; descending = true }) ∷ []
 last_means : Means office_schema LAST_OF.now (Select (record { lets = []; body = first_query shown_columns at_profile 4 greatest }) names)
 unfolding understood everything
 last_means = record { is = refl; plain = (refl, refl); unlisted = refl }
+
+any_means : Means office_schema REVISION_OF.now (Select (record { lets = []; body = plain_query (col 1 3 ∷ []) at_profile 4 }) (codes "number" ∷ []))
+unfolding understood everything
+any_means = record { is = refl; plain = (refl, refl); unlisted = refl }
 
 abbrev number_of : Revision → Row
 number_of e = Int (pos e.1.number) ∷ []
@@ -184,6 +188,30 @@ module _ (old new : State) (t : Tables) (shows : Shows old t) where
 
     pub last_crash : (p : ProfileName) → Survives old new (CommitsShowing LAST_OF.now (profile_params p) old) → Survives old new (λ _. ⊥)
     last_crash p = commits_none _ office_schema LAST_OF.now (profile_params p) last_means old new shows.office.schema shows.settled idle
+
+    any_row : (p : ProfileName) (r : Result (Option Row) StoreFault) → IfOk r (IsFound (is_of p) number_of shows.office.revisions.entries) → IfOk r (λ row. is_some row ≡ true ↔ HasRevision t p)
+    any_row p (Ok (Some row)) it = (
+      (λ _. record { number = it.0.1.number; revision = it.0.1; there = subst (λ q. t.revisions q it.0.1.number ≡ Some it.0.1) (sym (same_profile p it.0.0 it.2)) (found_at it.0 it.1) }),
+      (λ _. refl),
+    )
+    any_row p (Ok None) none = (
+      (λ e. absurd cc),
+      (λ has.
+          let it = stands p has.number has.revision has.there in
+          absurd (none it.entry it.has ((profiles_decide p it.entry.0).1 (ap (λ (k : ProfileName × ℕ). k.0) it.key)))),
+    )
+    any_row p (Err f) it = it
+
+    pub reads_any : (p : ProfileName) (r : Result (Option Row) StoreFault) → FindsRow REVISION_OF.now (profile_params p) old new r
+        → IfOk r (λ row. is_some row ≡ true ↔ HasRevision t p) × (r ≢ Err NotAnOffice) × ShowsIfOpen new t × OnOk r (Shows new t)
+    reads_any p r h =
+        let o = shows.office in
+        let it = finds_some revision_row number_of (is_of p) (col 1 3 ∷ []) at_profile office_schema REVISION_OF.now (profile_params p) 4 (codes "number" ∷ []) any_means (profile_tested p) (λ k. refl)
+        old new o.schema shows.settled idle o.revisions.entries o.revisions.kept r h in
+        (any_row p r it.0, it.1, still_shows old new t shows it.2, answered_shows old new t shows it.2 r it.3)
+
+    pub any_crash : (p : ProfileName) → Survives old new (CommitsShowing REVISION_OF.now (profile_params p) old) → Survives old new (λ _. ⊥)
+    any_crash p = commits_none _ office_schema REVISION_OF.now (profile_params p) any_means old new shows.office.schema shows.settled idle
 
 pub same_columns : (r s : RevisionRow) → revision_columns r ≡ revision_columns s → r ≡ s
 same_columns r s same =

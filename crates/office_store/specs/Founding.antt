@@ -6,7 +6,7 @@ use Rattle.sqlite.specs.Schema.{Schema}
 use Rattle.sqlite.specs.State.{State}
 use Rattle.sqlite_schema.specs.Names.{table_named}
 use Rattle.office_rows.specs.Statements.{Statement}
-use Rattle.office_store.specs.declared.schema.TheConstants.{CREATE_OFFICE, CREATE_USERS, CREATE_REVISIONS, CREATE_VOTES, CREATE_BASELINES, CREATE_HOLDS}
+use Rattle.office_store.specs.declared.schema.TheConstants.{CREATE_OFFICE, CREATE_USERS, CREATE_REVISIONS, CREATE_VOTES, CREATE_BASELINES, CREATE_HOLDS, CREATE_BY_STATE, CREATE_BY_AUTHOR, CREATE_LISTED}
 use Rattle.office_store.specs.declared.founding.TheConstants.{INSERT_OFFICE}
 use Rattle.office_store.specs.declared.users.TheConstants.{INSERT_USER}
 use Rattle.office_store.specs.Schema.{no_schema}
@@ -25,7 +25,7 @@ IsForeign schema = (has_table schema ≡ false) × (schema ≢ no_schema)
 abbrev pub IsAsItWas : State → State → Type 0
 IsAsItWas old new = IsTrue new.is_open → (new.now ≡ old.now) × (new.committed ≡ old.committed)
 
--- the tables, the row of the office and that of its first user, of these values
+-- the tables, the indexes, the row of the office and that of its first user, of these values
 abbrev pub founding : Row → Row → Row → List Statement
 founding none office user =
     statement CREATE_OFFICE.now none
@@ -34,6 +34,9 @@ founding none office user =
     ∷ statement CREATE_VOTES.now none
     ∷ statement CREATE_BASELINES.now none
     ∷ statement CREATE_HOLDS.now none
+    ∷ statement CREATE_BY_STATE.now none
+    ∷ statement CREATE_BY_AUTHOR.now none
+    ∷ statement CREATE_LISTED.now none
     ∷ statement INSERT_OFFICE.now office
     ∷ statement INSERT_USER.now user
     ∷ []

@@ -11,3 +11,4 @@ pub mod Adding
 pub mod Adopted
 pub mod Lists
 pub mod Founding
+pub mod Reopening

@@ -32,6 +32,12 @@ abbrev pub IsLastRow : Tables → ProfileName → Option Row → Type 0
 IsLastRow t p None = IsLast t p None
 IsLastRow t p (Some row) = (r : RevisionRow) × IsLast t p (Some r) × (row ≡ revision_columns r)
 
+-- a revision of the profile
+pub record HasRevision (t : Tables) (p : ProfileName) : Type 0 where
+  pub number : ℕ
+  pub revision : RevisionRow
+  pub there : t.revisions p number ≡ Some revision
+
 -- the number after that of the last revision
 abbrev pub IsNextNumber : Tables → ProfileName → ℕ → Type 0
 IsNextNumber t p n = (last : Option RevisionRow) × IsLast t p last × (n ≡ next_number last)

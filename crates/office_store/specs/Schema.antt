@@ -1,4 +1,4 @@
--- The six tables of an office, as SQL reads them.
+-- The six tables of an office and their indexes, as SQL reads them.
 use Rattle.std.specs.Prelude.{ℕ, true, false, List, [], ◌∷◌, map, Option, None, Some, codes}
 use Rattle.sqlite.specs.Collation.TheVariants.{Binary}
 use Rattle.sqlite.specs.declared.types.Value.TheVariants.{Null}
@@ -6,9 +6,10 @@ use Rattle.sqlite.specs.Table.{Table}
 use Rattle.sqlite.specs.Schema.{Schema}
 use Rattle.sqlite.specs.Kind.{Kind}
 use Rattle.sqlite.specs.Kind.TheVariants.{Integer, Text, Blob}
-use Rattle.sqlite.specs.Change.{created}
+use Rattle.sqlite.specs.Change.{created, indexed}
 use Rattle.sqlite_value.specs.Keys.{plain}
 use Rattle.sqlite_schema.specs.declared.schema.Column.{Column}
+use Rattle.sqlite_schema.specs.declared.schema.Index.{Index}
 
 -- a column of a STRICT table that is NOT NULL
 abbrev pub column : List ℕ → Kind → Column
@@ -62,7 +63,24 @@ holds_table tree = table (codes "holds") tree (column (codes "team") Text ∷ co
 abbrev pub no_schema : Schema
 no_schema = record { tables = []; indexes = []; views = [] }
 
--- as the six texts make it, one after the other
-abbrev pub office_schema : Schema
-office_schema =
+-- as the texts of the six tables make it, one after the other
+abbrev pub tables_schema : Schema
+tables_schema =
     created (created (created (created (created (created no_schema (office_table 0)) (users_table 0)) (revisions_table 0)) (votes_table 0)) (baselines_table 0)) (holds_table 0)
+
+-- an index of these columns of the revisions, each in rising order
+abbrev pub revisions_index : List ℕ → List ℕ → Index
+revisions_index name columns = record { name = name; tree = 0; table = 4; columns = columns; order = plain; is_unique = false }
+
+abbrev pub by_state : Index
+by_state = revisions_index (codes "revisions_by_state") (1 ∷ 2 ∷ 5 ∷ [])
+
+abbrev pub by_author : Index
+by_author = revisions_index (codes "revisions_by_author") (1 ∷ 2 ∷ 4 ∷ [])
+
+abbrev pub listed_index : Index
+listed_index = revisions_index (codes "revisions_listed") (1 ∷ 2 ∷ 3 ∷ 5 ∷ [])
+
+-- with the three indexes, one after the other
+abbrev pub office_schema : Schema
+office_schema = indexed (indexed (indexed tables_schema (revisions_table 4) by_state) (revisions_table 4) by_author) (revisions_table 4) listed_index

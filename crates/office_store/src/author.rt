@@ -21,7 +21,7 @@ use sqlite::{Alter, Connection, Row};
 use std::alloc::Global;
 
 pub(crate) const REVISION_BY: &str =
-    "SELECT number FROM revisions WHERE team = ?1 AND profile = ?2 AND author = ?3";
+    "SELECT author FROM revisions WHERE team = ?1 AND profile = ?2 AND author = ?3";
 
 pub(crate) const AUTHORS_OF: &str =
     "SELECT DISTINCT author FROM revisions WHERE team = ?1 AND profile = ?2 ORDER BY author";

@@ -17,7 +17,8 @@ ghost use Rattle.office_store.specs.Shown.{IsIdle, Shows, AreOffice, LeavesOnly}
 use crate::column::bytes_of;
 use crate::fault::FoundingFault;
 use crate::schema::{
-    CREATE_BASELINES, CREATE_HOLDS, CREATE_OFFICE, CREATE_REVISIONS, CREATE_USERS, CREATE_VOTES,
+    CREATE_BASELINES, CREATE_BY_AUTHOR, CREATE_BY_STATE, CREATE_HOLDS, CREATE_LISTED,
+    CREATE_OFFICE, CREATE_REVISIONS, CREATE_USERS, CREATE_VOTES,
 };
 use crate::users::INSERT_USER;
 use cap_sets::Caps;
@@ -66,7 +67,7 @@ fn bits_of(listed: Caps) -> i64
     listed.bits() as i64
 }
 
-// Makes the tables, the row of the office and that of its first user in one transaction.
+// Makes the tables, their indexes, the row of the office and that of its first user in one transaction.
 fn run_founding<'a, S: Alter>(
     conn: &mut Connection<S>,
     none: &'a [ValueRef<'a>],
@@ -107,6 +108,18 @@ fn run_founding<'a, S: Alter>(
             },
             Statement {
                 sql: CREATE_HOLDS,
+                params: none,
+            },
+            Statement {
+                sql: CREATE_BY_STATE,
+                params: none,
+            },
+            Statement {
+                sql: CREATE_BY_AUTHOR,
+                params: none,
+            },
+            Statement {
+                sql: CREATE_LISTED,
                 params: none,
             },
             Statement {
@@ -154,7 +167,7 @@ fn make_office<S: Alter>(
     }
 }
 
-/// Founds an office in an empty store: its six tables, the listed capabilities, and its first user, who is a registrar.
+/// Founds an office in an empty store: its six tables with their indexes, the listed capabilities, and its first user, who is a registrar.
 ///
 /// A crash leaves the store as it was or the founded office, and after `Ok` the founded office.
 ///

@@ -12,6 +12,7 @@ pub mod founding;
 pub mod holds;
 pub mod listing;
 pub mod office;
+pub mod reopening;
 pub mod revisions;
 pub mod schema;
 pub mod standing_votes;
@@ -27,7 +28,9 @@ pub use founding::found;
 pub use holds::{delete_hold, held, put_hold};
 pub use listing::revisions_of;
 pub use office::listed;
-pub use revisions::{add_revision, issued, last, revision, set_issued, set_withdrawn};
+pub use revisions::{
+    add_revision, has_revision, issued, last, revision, set_issued, set_withdrawn,
+};
 pub use standing_votes::{standing, tally};
 pub use users::{put_user, user_by_name, user_by_token};
 pub use votes::{Ballot, put_vote};

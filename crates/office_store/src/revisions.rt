@@ -1,12 +1,12 @@
 //! The table of revisions.
 
-ghost use Rattle.std.specs.Prelude.{◌≡◌, ◌≢◌, Err, IfOk, IfErr, option_map};
+ghost use Rattle.std.specs.Prelude.{◌≡◌, ◌≢◌, ◌↔◌, true, is_some, Err, IfOk, IfErr, option_map};
 ghost use Rattle.sqlite.specs.Held.{state};
 ghost use Rattle.sqlite.specs.State.{HasCleanDisk};
 ghost use Rattle.review_policy.specs.declared.ask.ProfileName.{ProfileName as Name};
 ghost use Rattle.office_rows.specs.Faults.{FindsRow};
 ghost use Rattle.office_rows.specs.Statements.{IsCause};
-ghost use Rattle.office_rows.specs.Told.{IsOfRow, IsTold, TellsRow, TellsOne};
+ghost use Rattle.office_rows.specs.Told.{IsOfRow, IsTold, TellsRow, TellsOne, TellsWhether};
 ghost use Rattle.office_tables.specs.Tables.{Tables};
 ghost use Rattle.office_tables.specs.Changes.{with_issued, with_withdrawn};
 ghost use Rattle.office_tables.specs.Reads.{IsLast};
@@ -15,14 +15,14 @@ ghost use Rattle.office_store.specs.Adding.{IsAfter, TellsNext, FailsToAdd};
 ghost use Rattle.office_store.specs.Calls.{IsRead, IsWrite, Into};
 ghost use Rattle.office_store.specs.Entries.{revision_columns, IsRevision, IsRevisionForm};
 ghost use Rattle.office_store.specs.Keys.{profile_params, revision_params};
-ghost use Rattle.office_store.specs.Reads.{IsIssued, IsIssuedRow, IsLastRow, IsNextNumber, Adds, Submits};
+ghost use Rattle.office_store.specs.Reads.{IsIssued, IsIssuedRow, IsLastRow, HasRevision, IsNextNumber, Adds, Submits};
 ghost use Rattle.office_store.specs.Shown.{IsIdle, ShowsIfOpen};
 ghost use Rattle.office_store.specs.Writes.{adding_revision, issuing, withdrawing};
 
 use crate::bind::{of_number, of_profile, of_revision};
 use crate::column::{digest_at, number_at, state_at, text_at, word_at};
 use crate::write::{write_one, write_two};
-use office_rows::first_row;
+use office_rows::{first_row, is_there};
 use office_tables::{RevisionRow, StoreFault};
 use review_policy::{ProfileName, State, Text, Word};
 use sqlite::{Alter, Connection, Row};
@@ -36,6 +36,9 @@ pub(crate) const ISSUED_OF: &str =
 
 pub(crate) const LAST_OF: &str =
     "SELECT number, author, state, body, digest FROM revisions WHERE team = ?1 AND profile = ?2 ORDER BY number DESC LIMIT 1";
+
+pub(crate) const REVISION_OF: &str =
+    "SELECT number FROM revisions WHERE team = ?1 AND profile = ?2";
 
 pub(crate) const CLOSE_OPEN: &str =
     "UPDATE revisions SET state = 1 WHERE team = ?1 AND profile = ?2 AND state = 0";
@@ -118,6 +121,30 @@ fn last_row<S: Alter>(
     ensures row { HasCleanDisk (state S.Store conn.new) → FindsRow LAST_OF.now (profile_params profile.now) (state S.Store conn.old) (state S.Store conn.new) result }
 {
     first_row(conn, LAST_OF, &of_profile(profile))
+}
+
+// The row of a revision of a profile.
+fn row_of<S: Alter>(
+    conn: &mut Connection<S>,
+    profile: &ProfileName,
+) -> Result<Option<Row>, StoreFault>
+    requires { IsIdle (state S.Store conn.old) }
+    ensures read { IsRead (state S.Store conn.old) (state S.Store conn.new) result (λ t row. is_some row ≡ true ↔ HasRevision t profile.now) }
+    ensures row { HasCleanDisk (state S.Store conn.new) → FindsRow REVISION_OF.now (profile_params profile.now) (state S.Store conn.old) (state S.Store conn.new) result }
+{
+    first_row(conn, REVISION_OF, &of_profile(profile))
+}
+
+/// Whether a profile has a revision.
+pub fn has_revision<S: Alter>(
+    conn: &mut Connection<S>,
+    profile: &ProfileName,
+) -> Result<bool, StoreFault>
+    requires { IsIdle (state S.Store conn.old) }
+    ensures read { IsRead (state S.Store conn.old) (state S.Store conn.new) result (λ t has_one. has_one ≡ true ↔ HasRevision t profile.now) }
+    ensures told { HasCleanDisk (state S.Store conn.new) → TellsRow REVISION_OF.now (profile_params profile.now) (state S.Store conn.old) (state S.Store conn.new) TellsWhether result }
+{
+    is_there(row_of(conn, profile))
 }
 
 /// A revision of a profile by its number.

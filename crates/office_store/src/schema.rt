@@ -1,4 +1,4 @@
-//! The tables as SQL has them.
+//! The tables and indexes as SQL has them.
 
 /// The office itself: one row, with the number of the schema and a bit for each listed capability.
 pub const CREATE_OFFICE: &str =
@@ -23,3 +23,15 @@ pub const CREATE_BASELINES: &str =
 /// The profiles that are held.
 pub const CREATE_HOLDS: &str =
     "CREATE TABLE holds (team TEXT NOT NULL, profile TEXT NOT NULL, PRIMARY KEY (team, profile)) STRICT";
+
+/// Finds the open and the issued revision of a profile.
+pub const CREATE_BY_STATE: &str =
+    "CREATE INDEX revisions_by_state ON revisions (team, profile, state)";
+
+/// Finds the authors of a profile.
+pub const CREATE_BY_AUTHOR: &str =
+    "CREATE INDEX revisions_by_author ON revisions (team, profile, author)";
+
+/// Has all that a list of a team's revisions shows, so that no body is read.
+pub const CREATE_LISTED: &str =
+    "CREATE INDEX revisions_listed ON revisions (team, profile, number, state)";

@@ -9,8 +9,8 @@ use Rattle.profile_text.specs.declared.profile.Profile.{Profile}
 use Rattle.profile_text.specs.Text.{text_of}
 use Rattle.profile_commands.specs.declared.execution.Execution.{Execution}
 use Rattle.profile_commands.specs.declared.execution.Execution.TheVariants.{ByRoot, OfFile}
-use Rattle.profile_commands.specs.declared.outcome.Outcome.{Outcome}
-use Rattle.profile_commands.specs.declared.outcome.Outcome.TheVariants.{Done, Denied}
+use Rattle.profile_commands.specs.declared.execve.Outcome.{Outcome}
+use Rattle.profile_commands.specs.declared.execve.Outcome.TheVariants.{Done, Denied}
 use Rattle.profile_commands.specs.Executions.{IsDone, IsExecuted, IsOutcome}
 use Rattle.profile_commands.specs.Refusal.{IsChecked, IsReadAs}
 

@@ -1,5 +1,5 @@
 -- What the bytes of a file read as.
-use Rattle.std.proofs.Common.{◌≡◌, ◌∙◌, ℕ, ◌+◌, ◌<◌, ◌≤◌, ◌⊎◌, List, [], ◌++◌, Option, None, Some, IfSome, Result, Ok, Err, length, length-append, append-nil, take, refl, sym, ap, arith, inl, inr, lt-ltb}
+use Rattle.std.proofs.Common.{◌≡◌, ◌∙◌, ℕ, ◌<◌, List, [], ◌++◌, Option, None, Some, IfSome, Ok, Err, length, length-append, append-nil, refl, sym, ap, arith, inl, inr, lt-ltb}
 use Rattle.std.proofs.lemmas.List.{take-append-le}
 use Rattle.std.specs.Io.KnownBytes.{Consumes, IsAtEnd}
 use Rattle.std.proofs.lemmas.Bool.{cases_lt}
@@ -7,10 +7,10 @@ use Rattle.counted_io.specs.declared.step.ReadStep.{ReadStep}
 use Rattle.counted_io.specs.declared.step.ReadStep.TheVariants.{Bytes, End, Interrupted, Failed}
 use Rattle.counted_io.specs.Steps.{StepConsumes}
 use Rattle.profile_text.specs.declared.fault.DocFault.{DocFault}
-use Rattle.profile_text.specs.declared.fault.DocFault.TheVariants.{TooLong, NoMemory}
+use Rattle.profile_text.specs.declared.fault.DocFault.TheVariants.{TooLong}
 use Rattle.profile_text.specs.declared.profile.Profile.{Profile}
 use Rattle.profile_text.specs.Reading.{Gives, reading_of, most_bytes}
-use Rattle.profile_commands.specs.declared.fault.CommandFault.{CommandFault}
+use Rattle.profile_commands.specs.declared.fault.FileFault.{FileFault}
 use Rattle.profile_commands.specs.Refusal.{IsReadAs, IsRefusalOf, RefusesAs}
 
 -- what was consumed stands at the front of a longer buffer too
@@ -50,13 +50,13 @@ read_as None bytes profile same reads = tt
 read_as (Some all) bytes profile same reads = same ∙ reads
 
 -- the fault of the bytes is told as it must be, and is that of the file
-refuses_as : (all bytes : List ℕ) (fault : DocFault) (refusal : CommandFault) → reading_of all ≡ reading_of bytes
+refuses_as : (all bytes : List ℕ) (fault : DocFault) (refusal : FileFault) → reading_of all ≡ reading_of bytes
     → Gives {X = Profile} (Err fault) (reading_of bytes) → IsRefusalOf fault refusal → RefusesAs all refusal
 refuses_as all bytes fault refusal same gives (inl (memory, told)) = rw told tt
 refuses_as all bytes fault refusal same (inl memory) (inr (other, told)) = absurd (other memory)
 refuses_as all bytes fault refusal same (inr reads) (inr (other, told)) = rw told (same ∙ reads)
 
-pub refused_as : (old : Option (List ℕ)) (bytes : List ℕ) (fault : DocFault) (refusal : CommandFault)
+pub refused_as : (old : Option (List ℕ)) (bytes : List ℕ) (fault : DocFault) (refusal : FileFault)
     → IfSome old (λ all. reading_of all ≡ reading_of bytes) → Gives {X = Profile} (Err fault) (reading_of bytes) → IsRefusalOf fault refusal
     → IfSome old (λ all. IsReadAs all (Err refusal))
 refused_as None bytes fault refusal same gives told = tt

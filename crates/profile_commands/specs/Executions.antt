@@ -1,7 +1,6 @@
 -- How a process executes its file, by the words of `execve`, and what comes of it: capabilities(7), "Transformation of
 -- capabilities during execve()".
 use Rattle.std.specs.Prelude.{◌≡◌, ℕ, Bool, ◌||◌, List, Option, Some, None, is_some, option_map, Result, Ok, Err, string_bytes, if◌then◌else◌}
-use Rattle.cap_sets.specs.declared.exec.File.{File}
 use Rattle.cap_sets.specs.declared.exec.File.TheVariants.{Plain, WithCaps}
 use Rattle.cap_sets.specs.declared.state.CapState.{CapState}
 use Rattle.cap_sets.specs.Execve.{IsAfter, IsAfterRoot, IsDenied}
@@ -10,10 +9,11 @@ use Rattle.profile_text.specs.declared.profile.Profile.{Profile}
 use Rattle.profile_text.specs.Reading.{reading_of}
 use Rattle.profile_commands.specs.declared.execution.Execution.{Execution}
 use Rattle.profile_commands.specs.declared.execution.Execution.TheVariants.{ByRoot, OfFile}
-use Rattle.profile_commands.specs.declared.fault.CommandFault.{CommandFault}
-use Rattle.profile_commands.specs.declared.fault.CommandFault.TheVariants.{RootTakesNoFile, UnknownCapability}
-use Rattle.profile_commands.specs.declared.outcome.Outcome.{Outcome}
-use Rattle.profile_commands.specs.declared.outcome.Outcome.TheVariants.{Done, Denied}
+use Rattle.profile_commands.specs.declared.execution.ExecutionFault.{ExecutionFault}
+use Rattle.profile_commands.specs.declared.execution.ExecutionFault.TheVariants.{RootTakesNoFile, UnknownCapability}
+use Rattle.profile_commands.specs.declared.fault.FileFault.{FileFault}
+use Rattle.profile_commands.specs.declared.execve.Outcome.{Outcome}
+use Rattle.profile_commands.specs.declared.execve.Outcome.TheVariants.{Done, Denied}
 use Rattle.profile_commands.specs.Lists.{set_listed}
 use Rattle.profile_commands.specs.Refusal.{RefusesAs}
 use Rattle.profile_commands.specs.Texts.{state_text}
@@ -28,13 +28,13 @@ set_given None = Some 0
 set_given (Some list) = set_listed list
 
 -- the file with these two sets and this bit, where each set is one
-abbrev pub file_given : Option ℕ → Option ℕ → Bool → Result Execution CommandFault
+abbrev pub file_given : Option ℕ → Option ℕ → Bool → Result Execution ExecutionFault
 file_given (Some permitted) (Some inheritable) effective = Ok (OfFile (WithCaps permitted inheritable effective))
 file_given (Some permitted) None effective = Err UnknownCapability
 file_given None inheritable effective = Err UnknownCapability
 
 -- the execution that the words describe: root takes no file, and with no option of the file it is plain
-abbrev pub execution_of : ExecveWords → Result Execution CommandFault
+abbrev pub execution_of : ExecveWords → Result Execution ExecutionFault
 execution_of words =
     if takes_file words
     then (if words.root then Err RootTakesNoFile
@@ -54,6 +54,6 @@ IsOutcome (OfFile file) before Denied = IsDenied before file
 IsOutcome (OfFile file) before outcome = (after : CapState) × IsAfter before file after × IsDone after outcome
 
 -- what comes of it in a process that has the sets of what the bytes read as
-abbrev pub IsExecuted : Execution → List ℕ → Result Outcome CommandFault → Type 0
+abbrev pub IsExecuted : Execution → List ℕ → Result Outcome FileFault → Type 0
 IsExecuted execution bytes (Ok outcome) = (profile : Profile) × (reading_of bytes ≡ Ok profile) × IsOutcome execution profile.caps outcome
 IsExecuted execution bytes (Err fault) = RefusesAs bytes fault

@@ -1,26 +1,26 @@
 //! The document in a file.
 
-ghost use Rattle.std.specs.Prelude.{◌≡◌, ◌+◌, ◌^◌, ◌<◌, ◌≤◌, IfErr, IfSome};
-ghost use Rattle.profile_commands.specs.Refusal.{IsReadAs};
+ghost use Rattle.std.specs.Prelude.{◌^◌, ◌≤◌, IfSome};
+ghost use Rattle.profile_commands.specs.Refusal.{AgreesWithReads, IsReadAs};
 
-use crate::fault::CommandFault;
+use crate::fault::FileFault;
 use crate::file_bytes::{Unread, file_bytes};
 use counted_io::Counted;
 use profile_text::{Profile, read};
 use std::alloc::Global;
 use std::io::Read;
 
-impl From<Unread> for CommandFault {
+impl From<Unread> for FileFault {
     ghost use Rattle.std.specs.Prelude.{◌≡◌};
     ghost use Rattle.profile_commands.specs.Refusal.{refusal_of_unread};
 
     ghost from_gives = { λ unread refusal. refusal ≡ refusal_of_unread unread };
 
-    fn from(unread: Unread) -> CommandFault {
+    fn from(unread: Unread) -> FileFault {
         match unread {
-            Unread::Failed => CommandFault::Read,
-            Unread::TooManyReads => CommandFault::TooManyReads,
-            Unread::NoMemory => CommandFault::NoMemory,
+            Unread::Failed => FileFault::Read,
+            Unread::TooManyReads => FileFault::TooManyReads,
+            Unread::NoMemory => FileFault::NoMemory,
         }
     }
 }
@@ -31,16 +31,11 @@ impl From<Unread> for CommandFault {
 ///
 /// `Read`, `TooManyReads` after 600,000 calls of read, `Document` with the first fault of what is no document, or
 /// `NoMemory`.
-pub fn read_document<R: Read>(
-    alloc: Global,
-    reader: &mut Counted<R>,
-) -> Result<Profile, CommandFault>
+pub fn read_document<R: Read>(alloc: Global, reader: &mut Counted<R>) -> Result<Profile, FileFault>
     requires calls { reader.old.calls ≤ 2 ^ 62 }
     requires faults { reader.old.faults ≤ 2 ^ 62 }
     ensures document { IfSome (R.remaining reader.old.inner) (λ bytes. IsReadAs bytes result) }
-    ensures read { IfErr result (λ fault. fault ≡ CommandFault.Read → reader.old.faults < reader.new.faults) }
-    ensures too_many { IfErr result (λ fault. fault ≡ CommandFault.TooManyReads →
-        (reader.new.calls ≡ reader.old.calls + 600000) × (reader.new.faults ≡ reader.old.faults)) }
+    ensures reads { AgreesWithReads reader.old.calls reader.new.calls reader.old.faults reader.new.faults result }
 {
     let bytes = file_bytes(alloc, reader)?;
     let profile = read(alloc, &bytes)?;

@@ -3,10 +3,10 @@
 ghost use Rattle.std.specs.Prelude.{◌≡◌, option_map};
 ghost use Rattle.profile_commands.specs.Executions.{execution_of, set_given, takes_file};
 
-use crate::fault::CommandFault;
 use crate::list::set_listed;
 use cap_sets::{Caps, File};
 use command_line::ExecveWords;
+use thiserror::Error;
 
 /// How a process executes its file.
 #[derive(Clone, Copy, Debug)]
@@ -15,6 +15,17 @@ pub enum Execution {
     ByRoot,
     /// No user id of it is root's, and the file is this one.
     OfFile(File),
+}
+
+/// Why the words of `execve` describe no execution.
+#[derive(Clone, Copy, Debug, Drop, PartialEq, Eq, Error)]
+pub enum ExecutionFault {
+    /// `--root` stands beside an option of the file: root's case is that of a plain file.
+    #[error("root-takes-no-file")]
+    RootTakesNoFile,
+    /// A part of a LIST is no name of a capability.
+    #[error("unknown-capability")]
+    UnknownCapability,
 }
 
 // Whether an option gives the file capabilities.
@@ -39,7 +50,7 @@ fn set_given(list: Option<&str>) -> Option<Caps>
 /// # Errors
 ///
 /// `RootTakesNoFile`, and then `UnknownCapability`.
-pub fn execution_of(words: &ExecveWords<'_>) -> Result<Execution, CommandFault>
+pub fn execution_of(words: &ExecveWords<'_>) -> Result<Execution, ExecutionFault>
     ensures { result ≡ execution_of words.now }
 {
     if !takes_file(words) {
@@ -50,7 +61,7 @@ pub fn execution_of(words: &ExecveWords<'_>) -> Result<Execution, CommandFault>
         });
     }
     if words.root {
-        return Err(CommandFault::RootTakesNoFile);
+        return Err(ExecutionFault::RootTakesNoFile);
     }
     match (
         set_given(words.file_permitted),
@@ -61,6 +72,6 @@ pub fn execution_of(words: &ExecveWords<'_>) -> Result<Execution, CommandFault>
             inheritable,
             effective: words.file_effective,
         })),
-        _ => Err(CommandFault::UnknownCapability),
+        _ => Err(ExecutionFault::UnknownCapability),
     }
 }

@@ -1,55 +1,46 @@
-//! Why a command is refused.
+//! Why a command on a document in a file gave nothing.
 
 use profile_text::DocFault;
 use std::alloc::AllocError;
 use thiserror::Error;
 
-/// Why a command is refused, with the words that the program says on standard error.
+/// Why a command on a document in a file gave nothing, with the words that the program says on standard error.
 #[derive(Debug, Drop, Error)]
-pub enum CommandFault {
-    /// `--root` stands beside an option of the file: root's case is that of a plain file.
-    #[error("root-takes-no-file")]
-    RootTakesNoFile,
-    /// A part of a LIST is no name of a capability.
-    #[error("unknown-capability")]
-    UnknownCapability,
-    /// A file can't be opened or read, or standard input can't be read.
+pub enum FileFault {
+    /// The reader failed.
     #[error("read")]
     Read,
     /// The reader was called as often as is allowed, without an end or a fault.
     #[error("too-many-reads")]
     TooManyReads,
-    /// The bytes of the file are no document.
+    /// The bytes of the file are no document: the first fault that they have, which is never want of memory.
     #[error("{0}")]
     Document(DocFault),
-    /// Standard output can't be written.
-    #[error("write")]
-    Write,
-    /// Memory was refused.
+    /// Memory was refused. No contract can say when: it may stand in place of any answer.
     #[error("memory")]
     NoMemory,
 }
 
-impl From<AllocError> for CommandFault {
+impl From<AllocError> for FileFault {
     ghost use Rattle.std.specs.Prelude.{◌≡◌};
-    ghost use Rattle.profile_commands.specs.declared.fault.CommandFault.TheVariants.{NoMemory};
+    ghost use Rattle.profile_commands.specs.declared.fault.FileFault.TheVariants.{NoMemory};
 
     ghost from_gives = { λ _ fault. fault ≡ NoMemory };
 
-    fn from(_error: AllocError) -> CommandFault {
-        CommandFault::NoMemory
+    fn from(_error: AllocError) -> FileFault {
+        FileFault::NoMemory
     }
 }
 
-impl From<DocFault> for CommandFault {
+impl From<DocFault> for FileFault {
     ghost use Rattle.profile_commands.specs.Refusal.{IsRefusalOf};
 
     ghost from_gives = { IsRefusalOf };
 
-    fn from(fault: DocFault) -> CommandFault {
+    fn from(fault: DocFault) -> FileFault {
         match fault {
-            DocFault::NoMemory => CommandFault::NoMemory,
-            fault => CommandFault::Document(fault),
+            DocFault::NoMemory => FileFault::NoMemory,
+            fault => FileFault::Document(fault),
         }
     }
 }

@@ -1,10 +1,10 @@
 //! The bytes of a file.
 
-ghost use Rattle.std.specs.Prelude.{◌≡◌, ◌+◌, ◌^◌, ◌<◌, ◌≤◌, length, IfOk, IfErr};
+ghost use Rattle.std.specs.Prelude.{◌≡◌, ◌+◌, ◌^◌, ◌<◌, ◌≤◌, length, IfOk};
 ghost use Rattle.std.specs.Io.KnownBytes.{Consumes, IsAtEnd};
 ghost use Rattle.counted_io.specs.Counts.{one_more};
 ghost use Rattle.counted_io.specs.Steps.{StepConsumes, StepFaults};
-ghost use Rattle.profile_commands.specs.Refusal.{IsWithin};
+ghost use Rattle.profile_commands.specs.Refusal.{IsWithin, ReadsAgree};
 
 use counted_io::{Counted, ReadStep, read_step};
 use std::alloc::{AllocError, Global};
@@ -72,9 +72,7 @@ pub(crate) fn file_bytes<R: Read>(alloc: Global, reader: &mut Counted<R>) -> Res
     ensures bytes { IfOk result (λ bytes. Consumes (R.remaining reader.old.inner) (R.remaining reader.new.inner) bytes.items) }
     ensures most { IfOk result (λ bytes. length bytes.items ≤ 262145) }
     ensures end { IfOk result (λ bytes. length bytes.items < 262145 → IsAtEnd (R.remaining reader.new.inner)) }
-    ensures failed { IfErr result (λ unread. unread ≡ Unread.Failed → reader.old.faults < reader.new.faults) }
-    ensures too_many { IfErr result (λ unread. unread ≡ Unread.TooManyReads →
-        (reader.new.calls ≡ reader.old.calls + 600000) × (reader.new.faults ≡ reader.old.faults)) }
+    ensures reads { ReadsAgree reader.old.calls reader.new.calls reader.old.faults reader.new.faults result }
     ensures calls { reader.new.calls ≤ reader.old.calls + 600000 }
 {
     let mut bytes = Vec::new(alloc);

@@ -1,5 +1,5 @@
 use Rattle.std.proofs.Common.{◌≡◌, ◌∙◌, ap, ◌+◌, le_trans, take}
-use Rattle.desk.specs.Runs.{history_after_all}
+use Rattle.office_policy.specs.Runs.{history_after_all}
 use Rattle.desk.proofs.RunFacts.{served_at, took_next, after_next}
 use Rattle.desk.proofs.requests.run.Goals as goal
 
@@ -10,14 +10,14 @@ loop-request-preserved c =
     record {
       room = le_trans c.loop-request.invariant.room c.in_ok-push.ensures.capacity;
       count = c.in_ok-push.ensures.len ∙ ap (λ n. n + 1) c.loop-request.invariant.count;
-      answers = λ m h is.
-          let before = c.loop-request.invariant.office m h is in
-          rw c.in_ok-push.ensures.items (took_next m h requests i c.request-item.result c.loop-request.answers.items c.handle-answer.result c.loop-request-test.true c.request-item.is (c.loop-request.invariant.answers m h is)
-          (c.handle-answer.ensures.answer m (history_after_all m h (take i requests) c.loop-request.answers.items) before));
-      office = λ m h is.
-          let before = c.loop-request.invariant.office m h is in
-          rw (c.in_ok-push.ensures.items, after_next m h requests i c.request-item.result c.loop-request.answers.items c.handle-answer.result c.loop-request-test.true c.request-item.is (c.loop-request.invariant.answers m h is))
-          (c.handle-answer.ensures.office m (history_after_all m h (take i requests) c.loop-request.answers.items) before);
+      answers = λ h is.
+          let before = c.loop-request.invariant.office h is in
+          rw c.in_ok-push.ensures.items (took_next h requests i c.request-item.result c.loop-request.answers.items c.handle-answer.result c.loop-request-test.true c.request-item.is (c.loop-request.invariant.answers h is)
+          (c.handle-answer.ensures.answer (history_after_all h (take i requests) c.loop-request.answers.items) before));
+      office = λ h is.
+          let before = c.loop-request.invariant.office h is in
+          rw (c.in_ok-push.ensures.items, after_next h requests i c.request-item.result c.loop-request.answers.items c.handle-answer.result c.loop-request-test.true c.request-item.is (c.loop-request.invariant.answers h is))
+          (c.handle-answer.ensures.office (history_after_all h (take i requests) c.loop-request.answers.items) before);
     }
 
 pub handle-answer-requires : goal.handle-answer-requires

@@ -1,4 +1,4 @@
-use Rattle.office_desk.proofs.Histories.{alike}
+use Rattle.office_desk.proofs.Alike.{alike}
 use Rattle.office_desk.proofs.laws.tables_are_determined.Goals as goal
 
 pub returns : goal.returns

@@ -1,0 +1,53 @@
+//! The trial desk.
+
+use crate::fault::CommandFault;
+use cap_sets::Caps;
+use counted_io::Counted;
+use desk::desk;
+use office_desk::Office;
+use office_tables::StoreFault;
+use profile_text::digest;
+use review_policy::{Word, WordFault};
+use std::alloc::Global;
+use std::io::{Read, Write};
+
+// The office was not founded, for want of memory.
+#[derive(Clone, Copy, Debug, PartialEq, Eq)]
+struct NotFounded;
+
+impl From<StoreFault> for NotFounded {
+    fn from(_fault: StoreFault) -> NotFounded {
+        NotFounded
+    }
+}
+
+impl From<WordFault> for NotFounded {
+    fn from(_fault: WordFault) -> NotFounded {
+        NotFounded
+    }
+}
+
+// The office that the trial desk begins with: its first user is root of the team office, a registrar with the token
+// abc, and its one listed capability is CAP_SYS_ADMIN.
+fn trial_office(alloc: Global) -> Result<Office, NotFounded> {
+    let name = Word::new(alloc, "root")?;
+    let team = Word::new(alloc, "office")?;
+    let listed = Caps::from_name("CAP_SYS_ADMIN").unwrap_or(Caps::empty());
+    let office = Office::found(alloc, name, team, digest(b"abc"), listed)?;
+    Ok(office)
+}
+
+/// Answers the lines of a reader at the trial desk.
+pub(crate) fn serve_trial<R: Read, W: Write>(
+    alloc: Global,
+    input: &mut R,
+    output: &mut W,
+) -> Result<(), CommandFault> {
+    let Ok(mut office) = trial_office(alloc) else {
+        return Err(CommandFault::NoMemory);
+    };
+    let mut reader = Counted::new(input);
+    let mut writer = Counted::new(output);
+    desk(&mut office, alloc, &mut reader, &mut writer)?;
+    Ok(())
+}

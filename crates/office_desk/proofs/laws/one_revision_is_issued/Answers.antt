@@ -1,5 +1,0 @@
-use Rattle.office_desk.proofs.Histories.{one_issued}
-use Rattle.office_desk.proofs.laws.one_revision_is_issued.Goals as goal
-
-pub returns : goal.returns
-returns c = one_issued

@@ -1,5 +1,0 @@
-use Rattle.office_desk.proofs.Histories.{open_last}
-use Rattle.office_desk.proofs.laws.one_revision_is_open.Goals as goal
-
-pub returns : goal.returns
-returns c = open_last

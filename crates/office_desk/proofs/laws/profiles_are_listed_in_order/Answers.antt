@@ -1,5 +1,0 @@
-use Rattle.office_desk.proofs.ListingFacts.{in_order}
-use Rattle.office_desk.proofs.laws.profiles_are_listed_in_order.Goals as goal
-
-pub returns : goal.returns
-returns c = in_order

@@ -1,5 +1,0 @@
-use Rattle.office_desk.proofs.Histories.{submissions_kept}
-use Rattle.office_desk.proofs.laws.texts_are_kept.Goals as goal
-
-pub returns : goal.returns
-returns c = submissions_kept

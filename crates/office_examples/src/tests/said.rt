@@ -1,0 +1,53 @@
+// What the program says.
+
+use crate::tests::shelf::{Shelf, Then};
+use office_commands::run_words;
+use std::alloc::{AllocError, Global};
+use std::fs::Files;
+use std::process::Abort;
+use std::test::Fail;
+
+// The status that it ends with, and what it wrote.
+#[derive(Drop)]
+pub struct Said {
+    pub status: u8,
+    pub output: Vec<u8>,
+    pub errors: Vec<u8>,
+}
+
+// The words, a name of the program's file before them.
+pub fn words_of(alloc: Global, texts: &[&str]) -> Result<Vec<String>, AllocError> {
+    let mut words = Vec::new(alloc);
+    words.push(String::from_str(alloc, "./out/office_program")?)?;
+    for text in texts {
+        words.push(String::from_str(alloc, text)?)?;
+    }
+    Ok(words)
+}
+
+// What it says to the words over these files, with an empty input.
+pub fn said_over<F: Files>(files: &F, alloc: Global, texts: &[&str]) -> Result<Said, Fail> {
+    let words = words_of(alloc, texts)?;
+    let mut input: &[u8] = b"";
+    let mut output = Vec::new(alloc);
+    let mut errors = Vec::new(alloc);
+    let status = run_words(files, alloc, &words, &mut input, &mut output, &mut errors);
+    Ok(Said {
+        status,
+        output,
+        errors,
+    })
+}
+
+// What it says to the words where web.json has these bytes.
+pub fn said_of(alloc: Global, bytes: &[u8], texts: &[&str]) -> Result<Said, Fail> {
+    let then = Then::Ends;
+    said_over(&Shelf { bytes, then }, alloc, texts)
+}
+
+// It ended with this status, and wrote just these texts.
+pub fn assert_said(rt: &impl Abort, said: &Said, status: u8, output: &str, errors: &str) {
+    assert_eq!(rt; said.errors.as_slice(), errors.as_bytes());
+    assert_eq!(rt; said.output.as_slice(), output.as_bytes());
+    assert_eq!(rt; said.status, status);
+}

@@ -1,0 +1,95 @@
+-- Each request is refused by a rule, or carried out.
+use Rattle.std.proofs.Common.{◌≡◌, ◌≢◌, ◌≤◌, ℕ, suc, List, [], ◌∷◌, Bool, true, false, Some, None, Option, Ok, Err, refl, ap, arith}
+use Rattle.std.specs.Prelude.{Result, is_none, is_err}
+use Rattle.review_policy.specs.declared.ask.ProfileName.{ProfileName}
+use Rattle.review_policy.specs.declared.ask.Ask.{Ask}
+use Rattle.review_policy.specs.declared.ask.Ask.TheVariants as ask
+use Rattle.review_policy.specs.declared.ask.Request.{Request}
+use Rattle.review_policy.specs.declared.answer.Reply.TheVariants as reply
+use Rattle.review_policy.specs.declared.denial.Denial.{Denial}
+use Rattle.review_policy.specs.declared.denial.Rule.{Rule}
+use Rattle.review_policy.specs.declared.denial.Rule.TheVariants.{NoRevision}
+use Rattle.review_policy.specs.Rules.{submit_rules, issue_rules, read_rules, fetch_rules, first_from, first_denial}
+use Rattle.profile_text.specs.declared.profile.Profile.{Profile}
+use Rattle.profile_text.specs.declared.fault.DocFault.{DocFault}
+use Rattle.profile_text.specs.Reading.{reading_of}
+use Rattle.profile_text.specs.Digest.{digest_of}
+use Rattle.office_tables.specs.declared.row.UserRow.{UserRow}
+use Rattle.office_tables.specs.declared.row.RevisionRow.{RevisionRow}
+use Rattle.office_policy.specs.History.{issued, History}
+use Rattle.office_policy.specs.Users.{user_showing, name_of}
+use Rattle.office_policy.specs.Revisions.{revision_of, revision_count, last_revision, issued_revision, is_author, state_in}
+use Rattle.office_policy.specs.Votes.{tally_at}
+use Rattle.office_policy.specs.Holds.{is_held}
+use Rattle.office_policy.specs.Need.{need_at}
+use Rattle.office_policy.specs.Sheets.{sheet_of}
+use Rattle.review_sheet.specs.Sheet.{sheet_text}
+use Rattle.office_policy.specs.Facts.{submit_facts, issue_facts, read_facts, fetch_facts}
+use Rattle.office_policy.specs.Verdict.{Verdict, accepted, denied, unreached, of_revision, new_revision, verdict_of, judged, rules_of, done_of, fault_of}
+use Rattle.office_policy.specs.Laws.{IsJudged}
+use Rattle.office_policy.proofs.RuleFacts.{none_refuses}
+
+-- a refusal has a number from that of the first rule on
+numbered : (n : ℕ) (rules : List (Rule × Bool)) (d : Denial) → first_from n rules ≡ Err d → n ≤ d.number
+numbered n [] d e = absurd (cc)
+numbered n ((rule, false) ∷ rules) d e = let more = numbered (suc n) rules d e in omega arith
+numbered n ((rule, true) ∷ rules) d e =
+    let same : ◌≡◌ {A = Denial} (record { number = n; rule = rule }) d = cc in
+    let here : n ≡ d.number = ap (λ x. x.number) same in
+    omega arith
+
+-- so it isn't what stands for none
+refused_told : (d : Denial) (fault : Option (List ℕ)) → 1 ≤ d.number → denied d fault ≢ unreached
+refused_told d fault above e =
+    let same : d ≡ record { number = 0; rule = NoRevision } = cc in
+    let here : d.number ≡ 0 = ap (λ x. x.number) same in
+    absurd (omega arith)
+
+-- a document that reads becomes a revision
+read_done : (h : History) (caller : Option UserRow) (p : ProfileName) (reading : Result Profile DocFault) → is_err reading ≡ false → new_revision h caller p reading ≢ unreached
+read_done h caller p (Ok profile) read e = cc
+read_done h caller p (Err f) read e = cc
+
+-- what is done with a revision that is there
+there_done : (r : Option RevisionRow) (done : RevisionRow → Verdict) → is_none r ≡ false → ((row : RevisionRow) → done row ≢ unreached) → of_revision r done ≢ unreached
+there_done None done there each e = cc
+there_done (Some row) done there each e = each row e
+
+with_state : (r : Option RevisionRow) → is_none (state_in r) ≡ false → is_none r ≡ false
+with_state None there = there
+with_state (Some row) there = refl
+
+-- what is done where no rule refuses
+allowed_done : (h : History) (caller : Option UserRow) (a : Ask) → first_denial (rules_of h caller a) ≡ Ok tt → done_of h caller a ≢ unreached
+allowed_done h caller (ask.Enrol user team roles digest) none e = cc
+allowed_done h caller (ask.Submit p document) none e =
+    read_done h caller p (reading_of document.items) (none_refuses 1 (submit_rules (submit_facts caller p.team (reading_of document.items) (last_revision h p) (revision_count h p))) none).1.1.1.0 e
+allowed_done h caller (ask.Vote p n digest approve) none e = cc
+allowed_done h caller (ask.Issue p n) none e =
+    there_done (revision_of h p n) (λ r. accepted (reply.Issued r.digest) (Some (issued (name_of caller) p n)))
+    (with_state (revision_of h p n) (none_refuses 1 (issue_rules (issue_facts caller (revision_of h p n) (is_author h p (name_of caller)) (tally_at h p n) (need_at h p n) (is_held h p))) none).1.1.0) (λ row same. cc) e
+allowed_done h caller (ask.Withdraw p n) none e = cc
+allowed_done h caller (ask.Adopt p n) none e = cc
+allowed_done h caller (ask.Show p n) none e =
+    there_done (revision_of h p n) (λ r. accepted (reply.Shown r.digest r.body r.state) None)
+    (none_refuses 1 (read_rules (read_facts caller p.team (is_none (revision_of h p n)))) none).1.1.1.0 (λ row same. cc) e
+allowed_done h caller (ask.Sheet p n) none e =
+    there_done (revision_of h p n) (λ r. accepted (reply.Sheet (sheet_text (sheet_of h p r))) None)
+    (none_refuses 1 (read_rules (read_facts caller p.team (is_none (revision_of h p n)))) none).1.1.1.0 (λ row same. cc) e
+allowed_done h caller (ask.List team) none e = cc
+allowed_done h caller (ask.Fetch p) none e =
+    there_done (issued_revision h p) (λ r. accepted (reply.Fetched r.digest r.body r.number) None)
+    (none_refuses 1 (fetch_rules (fetch_facts caller p.team (issued_revision h p) (is_held h p))) none).1.1.1.0 (λ row same. cc) e
+allowed_done h caller (ask.Hold p) none e = cc
+allowed_done h caller (ask.Release p) none e = cc
+
+-- the verdict on what is asked
+verdict_told : (h : History) (caller : Option UserRow) (a : Ask) → verdict_of h caller a ≢ unreached
+verdict_told h caller a =
+    elim (first_denial (rules_of h caller a)) as (λ r. first_denial (rules_of h caller a) ≡ r → judged h caller a r ≢ unreached) [
+      | Ok u ↦ λ none. allowed_done h caller a none
+      | Err d ↦ λ first. refused_told d (fault_of h a d.rule) (numbered 1 (rules_of h caller a) d first)
+    ] refl
+
+pub all_judged : (h : History) (request : Request) → IsJudged h request
+all_judged h request = verdict_told h (user_showing h (digest_of request.token)) request.ask

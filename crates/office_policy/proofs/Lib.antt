@@ -1,0 +1,15 @@
+pub mod RuleFacts
+pub mod NameFacts
+pub mod UserFacts
+pub mod LawFacts
+pub mod RevisionFacts
+pub mod StateFacts
+pub mod Histories
+pub mod Judged
+pub mod ListingFacts
+pub mod Numbered
+pub mod GivenOut
+pub mod CastFacts
+pub mod TextFacts
+pub mod DutyFacts
+pub mod TeamFacts

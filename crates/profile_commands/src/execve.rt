@@ -1,0 +1,68 @@
+//! The command `execve`.
+
+ghost use Rattle.std.specs.Prelude.{◌^◌, ◌≤◌, IfOk, IfSome};
+ghost use Rattle.profile_commands.specs.Executions.{IsDone, IsExecuted, IsOutcome};
+ghost use Rattle.profile_commands.specs.Refusal.{AgreesWithReads};
+
+use crate::document::read_document;
+use crate::execution::Execution;
+use crate::fault::FileFault;
+use crate::text::state_text;
+use cap_sets::{CapState, execve, execve_root};
+use counted_io::Counted;
+use std::alloc::{AllocError, Global};
+use std::io::Read;
+
+/// What comes of execve.
+#[derive(Debug, Drop)]
+pub enum Outcome {
+    /// The five lines of the state after it.
+    Done(String),
+    /// The kernel refuses it with EPERM.
+    Denied,
+}
+
+// The outcome of a state after execve.
+fn done(alloc: Global, after: &CapState) -> Result<Outcome, AllocError>
+    ensures { IfOk result (IsDone after.now) }
+{
+    let text = state_text(alloc, after)?;
+    Ok(Outcome::Done(text))
+}
+
+// What comes of execve in a process of this state.
+fn outcome_of(
+    alloc: Global,
+    execution: &Execution,
+    before: &CapState,
+) -> Result<Outcome, AllocError>
+    ensures { IfOk result (IsOutcome execution.now before.now) }
+{
+    match execution {
+        Execution::ByRoot => done(alloc, &execve_root(before)),
+        Execution::OfFile(file) => match execve(before, *file) {
+            Ok(after) => done(alloc, &after),
+            Err(_) => Ok(Outcome::Denied),
+        },
+    }
+}
+
+/// What comes of execve in a process that has the sets of the document in a file.
+///
+/// # Errors
+///
+/// Those of `read_document`.
+pub fn execve_document<R: Read>(
+    alloc: Global,
+    execution: &Execution,
+    reader: &mut Counted<R>,
+) -> Result<Outcome, FileFault>
+    requires calls { reader.old.calls ≤ 2 ^ 62 }
+    requires faults { reader.old.faults ≤ 2 ^ 62 }
+    ensures executed { IfSome (R.remaining reader.old.inner) (λ bytes. IsExecuted execution.now bytes result) }
+    ensures reads { AgreesWithReads reader.old.calls reader.new.calls reader.old.faults reader.new.faults result }
+{
+    let profile = read_document(alloc, reader)?;
+    let outcome = outcome_of(alloc, execution, &profile.caps)?;
+    Ok(outcome)
+}

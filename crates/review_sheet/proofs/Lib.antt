@@ -1,0 +1,5 @@
+mod BareSheet
+mod Adding
+mod AfterFacts
+mod CapFacts
+mod LineFacts

@@ -1,0 +1,63 @@
+//! The lines of the capability sets.
+
+ghost use Rattle.std.specs.Prelude.{◌≡◌, OnOk};
+ghost use Rattle.cap_sets.specs.Execve.{IsAfter};
+ghost use Rattle.review_sheet.specs.Layout.{AddsLines};
+ghost use Rattle.review_sheet.specs.Sets.{caps_lines, plain_lines, root_lines, state_lines};
+
+use crate::layout::push_set;
+use cap_sets::{CapState, File, execve, execve_root};
+use std::alloc::AllocError;
+
+/// Adds the sets of a document, and then those after execve.
+#[tactic(auto, unfolding(crate::specs::Sets::caps_lines))]
+pub(crate) fn push_caps(text: &mut String, state: &CapState) -> Result<(), AllocError>
+    ensures { OnOk result (AddsLines text.old text.new (caps_lines state.now)) }
+{
+    push_state(text, state)?;
+    push_plain(text, &after_plain(state))?;
+    push_root(text, &execve_root(state))?;
+    Ok(())
+}
+
+// Adds the five sets.
+fn push_state(text: &mut String, state: &CapState) -> Result<(), AllocError>
+    ensures { OnOk result (AddsLines text.old text.new (state_lines state.now)) }
+{
+    push_set(text, "effective", state.effective)?;
+    push_set(text, "permitted", state.permitted)?;
+    push_set(text, "inheritable", state.inheritable)?;
+    push_set(text, "bounding", state.bounding)?;
+    push_set(text, "ambient", state.ambient)?;
+    Ok(())
+}
+
+// The state after execve of a plain file, which is never denied.
+fn after_plain(state: &CapState) -> CapState
+    ensures { IsAfter state.now File.Plain result }
+{
+    match execve(state, File::Plain) {
+        Ok(after) => after,
+        Err(_) => unreachable!(),
+    }
+}
+
+// Adds three of the sets after execve of a plain file.
+fn push_plain(text: &mut String, after: &CapState) -> Result<(), AllocError>
+    ensures { OnOk result (AddsLines text.old text.new (plain_lines after.now)) }
+{
+    push_set(text, "plain permitted", after.permitted)?;
+    push_set(text, "plain effective", after.effective)?;
+    push_set(text, "plain ambient", after.ambient)?;
+    Ok(())
+}
+
+// Adds the same three after execve by root.
+fn push_root(text: &mut String, after: &CapState) -> Result<(), AllocError>
+    ensures { OnOk result (AddsLines text.old text.new (root_lines after.now)) }
+{
+    push_set(text, "root permitted", after.permitted)?;
+    push_set(text, "root effective", after.effective)?;
+    push_set(text, "root ambient", after.ambient)?;
+    Ok(())
+}
