@@ -1,23 +1,21 @@
 //! The command `check`.
 
 ghost use Rattle.std.specs.Prelude.{◌≡◌, ◌+◌, ◌^◌, ◌<◌, ◌≤◌, ◌++◌, ◌∷◌, [], IfErr, IfOk, IfSome, string_bytes};
-ghost use Rattle.profile_text.specs.Text.{text_of};
 ghost use Rattle.profile_commands.specs.Refusal.{IsChecked};
 
 use crate::document::read_document;
 use crate::fault::CommandFault;
 use counted_io::Counted;
-use profile_text::{Profile, print};
 use std::alloc::{AllocError, Global};
 use std::io::Read;
 
-// The canonical text of a profile, and a line feed.
-fn text_line(alloc: Global, profile: &Profile) -> Result<String, AllocError>
-    ensures { IfOk result (λ text. string_bytes text ≡ text_of profile.now ++ 10 ∷ []) }
+// A text and a line feed.
+fn line_of(text: String) -> Result<String, AllocError>
+    ensures { IfOk result (λ line. string_bytes line ≡ string_bytes text ++ 10 ∷ []) }
 {
-    let mut text = print(alloc, profile)?;
-    text.push('\n')?;
-    Ok(text)
+    let mut line = text;
+    line.push('\n')?;
+    Ok(line)
 }
 
 /// The canonical text of the document in a file, and a line feed.
@@ -33,7 +31,7 @@ pub fn check<R: Read>(alloc: Global, reader: &mut Counted<R>) -> Result<String, 
     ensures too_many { IfErr result (λ fault. fault ≡ CommandFault.TooManyReads →
         (reader.new.calls ≡ reader.old.calls + 600000) × (reader.new.faults ≡ reader.old.faults)) }
 {
-    let profile = read_document(alloc, reader)?;
-    let text = text_line(alloc, &profile)?;
+    let document = read_document(alloc, reader)?;
+    let text = line_of(document.text)?;
     Ok(text)
 }

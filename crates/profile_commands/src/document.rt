@@ -1,12 +1,13 @@
 //! The document in a file.
 
-ghost use Rattle.std.specs.Prelude.{◌≡◌, ◌+◌, ◌^◌, ◌<◌, ◌≤◌, IfErr, IfSome};
+ghost use Rattle.std.specs.Prelude.{◌≡◌, ◌+◌, ◌^◌, ◌<◌, ◌≤◌, IfErr, IfOk, IfSome};
+ghost use Rattle.profile_text.specs.Reading.{HasItsText};
 ghost use Rattle.profile_commands.specs.Refusal.{IsReadAs};
 
 use crate::fault::CommandFault;
 use crate::file_bytes::{Unread, file_bytes};
 use counted_io::Counted;
-use profile_text::{Profile, read};
+use profile_text::{Document, read_with_text};
 use std::alloc::Global;
 use std::io::Read;
 
@@ -25,7 +26,7 @@ impl From<Unread> for CommandFault {
     }
 }
 
-/// Reads the document in a file.
+/// Reads the document in a file: its profile, and its canonical text.
 ///
 /// # Errors
 ///
@@ -34,15 +35,16 @@ impl From<Unread> for CommandFault {
 pub fn read_document<R: Read>(
     alloc: Global,
     reader: &mut Counted<R>,
-) -> Result<Profile, CommandFault>
+) -> Result<Document, CommandFault>
     requires calls { reader.old.calls ≤ 2 ^ 62 }
     requires faults { reader.old.faults ≤ 2 ^ 62 }
     ensures document { IfSome (R.remaining reader.old.inner) (λ bytes. IsReadAs bytes result) }
+    ensures text { IfOk result HasItsText }
     ensures read { IfErr result (λ fault. fault ≡ CommandFault.Read → reader.old.faults < reader.new.faults) }
     ensures too_many { IfErr result (λ fault. fault ≡ CommandFault.TooManyReads →
         (reader.new.calls ≡ reader.old.calls + 600000) × (reader.new.faults ≡ reader.old.faults)) }
 {
     let bytes = file_bytes(alloc, reader)?;
-    let profile = read(alloc, &bytes)?;
-    Ok(profile)
+    let document = read_with_text(alloc, &bytes)?;
+    Ok(document)
 }

@@ -63,7 +63,7 @@ pub fn execve_document<R: Read>(
     ensures too_many { IfErr result (λ fault. fault ≡ CommandFault.TooManyReads →
         (reader.new.calls ≡ reader.old.calls + 600000) × (reader.new.faults ≡ reader.old.faults)) }
 {
-    let profile = read_document(alloc, reader)?;
-    let outcome = outcome_of(alloc, execution, &profile.caps)?;
+    let document = read_document(alloc, reader)?;
+    let outcome = outcome_of(alloc, execution, &document.profile.caps)?;
     Ok(outcome)
 }
