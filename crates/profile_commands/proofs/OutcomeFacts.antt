@@ -5,7 +5,7 @@ use Rattle.std.specs.declared.alloc.Global.{Global}
 use Rattle.cap_sets.specs.declared.exec.File.{File}
 use Rattle.cap_sets.specs.declared.state.CapState.{CapState}
 use Rattle.cap_sets.specs.Execve.{IsAfter, IsAfterRoot}
-use Rattle.profile_text.specs.declared.profile.Profile.{Profile}
+use Rattle.profile_text.specs.declared.document.Document.{Document}
 use Rattle.profile_text.specs.Text.{text_of}
 use Rattle.profile_commands.specs.declared.execution.Execution.{Execution}
 use Rattle.profile_commands.specs.declared.execution.Execution.TheVariants.{ByRoot, OfFile}
@@ -26,13 +26,13 @@ of_file before after file (Ok Denied) is done = absurd done
 of_file before after file (Err e) is done = tt
 
 -- what comes of execve in a process that has the sets of what was read
-pub executed_as : (old : Option (List ℕ)) (execution : Execution) (profile : Profile) (outcome : Outcome)
-    → IfSome old (λ bytes. IsReadAs bytes (Ok profile)) → IsOutcome execution profile.caps outcome → IfSome old (λ bytes. IsExecuted execution bytes (Ok outcome))
-executed_as None execution profile outcome reads is = tt
-executed_as (Some bytes) execution profile outcome reads is = (profile, reads, is)
+pub executed_as : (old : Option (List ℕ)) (execution : Execution) (document : Document) (outcome : Outcome)
+    → IfSome old (λ bytes. IsReadAs bytes (Ok document)) → IsOutcome execution document.profile.caps outcome → IfSome old (λ bytes. IsExecuted execution bytes (Ok outcome))
+executed_as None execution document outcome reads is = tt
+executed_as (Some bytes) execution document outcome reads is = (document.profile, reads, is)
 
 -- the canonical text of what was read
-pub checked_as : (old : Option (List ℕ)) (profile : Profile) (text : String Global) → IfSome old (λ bytes. IsReadAs bytes (Ok profile))
-    → string_bytes text ≡ text_of profile ++ 10 ∷ [] → IfSome old (λ bytes. IsChecked bytes (Ok text))
-checked_as None profile text reads is = tt
-checked_as (Some bytes) profile text reads is = (profile, reads, is)
+pub checked_as : (old : Option (List ℕ)) (document : Document) (text : String Global) → IfSome old (λ bytes. IsReadAs bytes (Ok document))
+    → string_bytes text ≡ text_of document.profile ++ 10 ∷ [] → IfSome old (λ bytes. IsChecked bytes (Ok text))
+checked_as None document text reads is = tt
+checked_as (Some bytes) document text reads is = (document.profile, reads, is)

@@ -6,6 +6,7 @@ use Rattle.std.proofs.lemmas.Bool.{cases_lt}
 use Rattle.counted_io.specs.declared.step.ReadStep.{ReadStep}
 use Rattle.counted_io.specs.declared.step.ReadStep.TheVariants.{Bytes, End, Interrupted, Failed}
 use Rattle.counted_io.specs.Steps.{StepConsumes}
+use Rattle.profile_text.specs.declared.document.Document.{Document}
 use Rattle.profile_text.specs.declared.fault.DocFault.{DocFault}
 use Rattle.profile_text.specs.declared.fault.DocFault.TheVariants.{TooLong}
 use Rattle.profile_text.specs.declared.profile.Profile.{Profile}
@@ -43,11 +44,11 @@ read_whole None new bytes consumed end = tt
 read_whole (Some all) None bytes consumed end = absurd consumed
 read_whole (Some all) (Some rest) bytes consumed end = same_reading all bytes rest consumed end
 
--- the profile that was read of the bytes is that of the file
-pub read_as : (old : Option (List ℕ)) (bytes : List ℕ) (profile : Profile) → IfSome old (λ all. reading_of all ≡ reading_of bytes)
-    → reading_of bytes ≡ Ok profile → IfSome old (λ all. IsReadAs all (Ok profile))
-read_as None bytes profile same reads = tt
-read_as (Some all) bytes profile same reads = same ∙ reads
+-- the document that was read of the bytes is that of the file
+pub read_as : (old : Option (List ℕ)) (bytes : List ℕ) (document : Document) → IfSome old (λ all. reading_of all ≡ reading_of bytes)
+    → reading_of bytes ≡ Ok document.profile → IfSome old (λ all. IsReadAs all (Ok document))
+read_as None bytes document same reads = tt
+read_as (Some all) bytes document same reads = same ∙ reads
 
 -- the fault of the bytes is told as it must be, and is that of the file
 refuses_as : (all bytes : List ℕ) (fault : DocFault) (refusal : FileFault) → reading_of all ≡ reading_of bytes

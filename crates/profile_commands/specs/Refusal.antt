@@ -3,6 +3,7 @@ use Rattle.std.specs.Prelude.{◌≡◌, ◌≢◌, ◌⊎◌, ◌+◌, ◌<◌,
 use Rattle.std.specs.declared.alloc.Global.{Global}
 use Rattle.counted_io.specs.declared.step.ReadStep.{ReadStep}
 use Rattle.counted_io.specs.declared.step.ReadStep.TheVariants.{Bytes}
+use Rattle.profile_text.specs.declared.document.Document.{Document as ReadDocument}
 use Rattle.profile_text.specs.declared.fault.DocFault.{DocFault}
 use Rattle.profile_text.specs.declared.fault.DocFault.TheVariants as faults
 use Rattle.profile_text.specs.declared.profile.Profile.{Profile}
@@ -49,8 +50,8 @@ RefusesAs bytes (Document fault) = reading_of bytes ≡ Err fault
 RefusesAs bytes _ = Unit {0}
 
 -- the profile is what the bytes read as, or the fault is theirs; the reader or memory may have failed in place of both
-abbrev pub IsReadAs : List ℕ → Result Profile FileFault → Type 0
-IsReadAs bytes (Ok profile) = reading_of bytes ≡ Ok profile
+abbrev pub IsReadAs : List ℕ → Result ReadDocument FileFault → Type 0
+IsReadAs bytes (Ok document) = reading_of bytes ≡ Ok document.profile
 IsReadAs bytes (Err fault) = RefusesAs bytes fault
 
 -- the text is the canonical one of what the bytes read as, with a line feed

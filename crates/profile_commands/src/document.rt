@@ -1,12 +1,13 @@
 //! The document in a file.
 
-ghost use Rattle.std.specs.Prelude.{◌^◌, ◌≤◌, IfSome};
+ghost use Rattle.std.specs.Prelude.{◌^◌, ◌≤◌, IfOk, IfSome};
+ghost use Rattle.profile_text.specs.Reading.{HasItsText};
 ghost use Rattle.profile_commands.specs.Refusal.{AgreesWithReads, IsReadAs};
 
 use crate::fault::FileFault;
 use crate::file_bytes::{Unread, file_bytes};
 use counted_io::Counted;
-use profile_text::{Profile, read};
+use profile_text::{Document, read_with_text};
 use std::alloc::Global;
 use std::io::Read;
 
@@ -25,19 +26,20 @@ impl From<Unread> for FileFault {
     }
 }
 
-/// Reads the document in a file.
+/// Reads the document in a file: its profile, and its canonical text.
 ///
 /// # Errors
 ///
 /// `Read`, `TooManyReads` after 600,000 calls of read, `Document` with the first fault of what is no document, or
 /// `NoMemory`.
-pub fn read_document<R: Read>(alloc: Global, reader: &mut Counted<R>) -> Result<Profile, FileFault>
+pub fn read_document<R: Read>(alloc: Global, reader: &mut Counted<R>) -> Result<Document, FileFault>
     requires calls { reader.old.calls ≤ 2 ^ 62 }
     requires faults { reader.old.faults ≤ 2 ^ 62 }
     ensures document { IfSome (R.remaining reader.old.inner) (λ bytes. IsReadAs bytes result) }
+    ensures text { IfOk result HasItsText }
     ensures reads { AgreesWithReads reader.old.calls reader.new.calls reader.old.faults reader.new.faults result }
 {
     let bytes = file_bytes(alloc, reader)?;
-    let profile = read(alloc, &bytes)?;
-    Ok(profile)
+    let document = read_with_text(alloc, &bytes)?;
+    Ok(document)
 }

@@ -62,7 +62,7 @@ pub fn execve_document<R: Read>(
     ensures executed { IfSome (R.remaining reader.old.inner) (λ bytes. IsExecuted execution.now bytes result) }
     ensures reads { AgreesWithReads reader.old.calls reader.new.calls reader.old.faults reader.new.faults result }
 {
-    let profile = read_document(alloc, reader)?;
-    let outcome = outcome_of(alloc, execution, &profile.caps)?;
+    let document = read_document(alloc, reader)?;
+    let outcome = outcome_of(alloc, execution, &document.profile.caps)?;
     Ok(outcome)
 }

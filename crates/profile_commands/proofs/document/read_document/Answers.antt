@@ -5,10 +5,10 @@ use Rattle.profile_commands.proofs.document.read_document.Goals as goal
 pub returns-clause-document : goal.returns-clause-document
 returns-clause-document g c =
     let whole = read_whole _ _ _ c.in_ok-bytes.ensures.bytes c.in_ok-bytes.ensures.end in
-    read_as _ _ c.in_ok-profile.profile whole (rw c.deref.ensures.value at c.in_ok-profile.ensures.reading)
+    read_as _ _ c.in_ok-document.document whole (rw c.deref.ensures.value at c.in_ok-document.ensures.reading)
 
-pub returns-in_err-profile-clause-document : goal.returns-in_err-profile-clause-document
-returns-in_err-profile-clause-document g c =
-    let refused = err_from_is_err_and c.from_residual-in_err-profile.result c.from_residual-in_err-profile.ensures.1 in
+pub returns-in_err-document-clause-document : goal.returns-in_err-document-clause-document
+returns-in_err-document-clause-document g c =
+    let refused = err_from_is_err_and c.from_residual-in_err-document.result c.from_residual-in_err-document.ensures.1 in
     let whole = read_whole _ _ _ c.in_ok-bytes.ensures.bytes c.in_ok-bytes.ensures.end in
-    rw refused.1 (refused_as _ _ c.in_err-profile.field-0.0 _ whole (rw c.deref.ensures.value at c.in_err-profile.ensures.reading) refused.2)
+    rw refused.1 (refused_as _ _ c.in_err-document.field-0.0 _ whole (rw c.deref.ensures.value at c.in_err-document.ensures.reading) refused.2)

@@ -1,0 +1,30 @@
+// What a document says.
+
+use profile_text::{Document, fault_text, read_with_text};
+use std::alloc::Global;
+use std::test::Fail;
+
+/// The canonical text without a capability and without a filter.
+pub(crate) const NOTHING: &str =
+    r#"{"capabilities":{"ambient":[],"bounding":[],"effective":[],"inheritable":[],"permitted":[]}}"#;
+
+/// The canonical text of what a document reads as, or the text of its fault.
+pub(crate) fn told(alloc: Global, document: &[u8]) -> Result<String, Fail> {
+    match read_with_text(alloc, document) {
+        Ok(Document { text, .. }) => Ok(text),
+        Err(fault) => Ok(fault_text(alloc, &fault)?),
+    }
+}
+
+/// The same of a document of no capabilities and this filter.
+pub(crate) fn told_of(alloc: Global, filter: &str) -> Result<String, Fail> {
+    let document = format!(in alloc; r#"{{"capabilities":{{}},"seccomp":{filter}}}"#)?;
+    told(alloc, document.as_bytes())
+}
+
+/// The canonical text of no capabilities and a filter of this text.
+pub(crate) fn canonical(alloc: Global, filter: &str) -> Result<String, Fail> {
+    let capabilities =
+        r#"{"ambient":[],"bounding":[],"effective":[],"inheritable":[],"permitted":[]}"#;
+    Ok(format!(in alloc; r#"{{"capabilities":{capabilities},"seccomp":{filter}}}"#)?)
+}
