@@ -1,0 +1,5 @@
+pub mod Inserts
+pub mod RouterLaw
+pub mod Split
+pub mod Walks
+pub mod WordText
