@@ -103,6 +103,7 @@ pub fn check_office<S: Alter>(conn: &mut Connection<S>) -> Result<Caps, StoreFau
     ensures read { has_tables (state S.Store conn.old).now.schema ≡ true → IsRead (state S.Store conn.old) (state S.Store conn.new) result (λ t listed. listed ≡ t.listed) }
     ensures foreign { has_tables (state S.Store conn.old).now.schema ≡ false → (result ≡ Err StoreFault.NotAnOffice) × (conn.new ≡ conn.old) }
     ensures form { HasCleanDisk (state S.Store conn.new) → IfOk result (HasForm (state S.Store conn.old) (state S.Store conn.new)) }
+    ensures idle { IsIdle (state S.Store conn.new) }
 {
     if !has_tables(conn.schema()) {
         return Err(StoreFault::NotAnOffice);

@@ -22,3 +22,6 @@ pub returns-clause-form : goal.returns-clause-form
 returns-clause-form g c clean =
     let tables : has_tables (state g.S.Store c.args.conn.now).now.schema ≡ true = search rules in
     has_form (state g.S.Store c.args.conn.now) (state g.S.Store c.office_form.new.conn) c.office_form.result c.form_of.result tables (c.office_form.ensures.row clean) c.form_of.ensures.told c.form_of.ensures.below
+
+pub returns-clause-idle : goal.returns-clause-idle
+returns-clause-idle g c = c.office_form.ensures.read.leaves.idle
