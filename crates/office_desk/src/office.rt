@@ -44,7 +44,7 @@ impl Office {
 
     /// Carries a request out where every rule of the policy allows it, and else names the first rule that refuses it.
     ///
-    /// A [`Fault`] says that memory was wanted, and that nothing changed.
+    /// A [`Fault`] says that nothing changed.
     pub fn handle(&mut self, alloc: Global, request: &Request) -> Answer
         requires { is_served request.now.ask ≡ true }
         ensures answer { (h : History) → IsOffice h self.old → IsAnswer h request.now result }

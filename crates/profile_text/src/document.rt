@@ -133,7 +133,7 @@ fn document_of(alloc: Global, value: Value) -> Result<Document, DocFault>
 ///
 /// # Errors
 ///
-/// Each fault of `DocFault`; `NoMemory` only where memory was refused, and never for `TooLong`.
+/// Each fault of `DocFault`; `NoMemory` is answered for want of memory, and never for `TooLong`.
 pub fn read_with_text(alloc: Global, bytes: &[u8]) -> Result<Document, DocFault>
     ensures reading { GivesAs (λ document. document.profile) result (reading_of bytes.now) }
     ensures text { IfOk result HasItsText }
@@ -158,7 +158,7 @@ pub fn read_with_text(alloc: Global, bytes: &[u8]) -> Result<Document, DocFault>
 ///
 /// # Errors
 ///
-/// Each fault of `DocFault`; `NoMemory` only where memory was refused, and never for `TooLong`.
+/// Each fault of `DocFault`; `NoMemory` is answered for want of memory, and never for `TooLong`.
 pub fn read(alloc: Global, bytes: &[u8]) -> Result<Profile, DocFault>
     ensures reading { Gives result (reading_of bytes.now) }
     ensures too_long { most_bytes < length bytes.now → result ≡ Err DocFault.TooLong }

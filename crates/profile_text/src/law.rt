@@ -25,8 +25,7 @@ pub fn canonical_texts_keep_the_reading()
     ensures { (bytes : List ℕ) (p : Profile) → reading_of bytes ≡ Ok p → reading_of (text_of p) ≡ Ok p }
 {}
 
-/// Want of memory is never what bytes read as, and neither is it a fault of their filter: where a reader answers so, memory
-/// was refused.
+/// Want of memory is never what bytes read as, and neither is it a fault of their filter.
 pub fn want_of_memory_is_no_reading()
     ensures alone { (bytes : List ℕ) → reading_of bytes ≢ Err DocFault.NoMemory }
     ensures of_a_filter { (bytes : List ℕ) → reading_of bytes ≢ Err (DocFault.Filter FilterFault.NoMemory) }
