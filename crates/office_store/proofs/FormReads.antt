@@ -70,8 +70,5 @@ module _ (old new : State) (t : Tables) (shows : Shows old t) (idle : old.in_tra
       let it = finds _ office_schema OFFICE_ROW.now [] form_means old new shows.office.schema shows.settled idle (IsFormRow t) form_found form_none r h in
       (it.0, it.1, still_shows old new t shows it.2, answered_shows old new t shows it.2 r it.3)
 
-  pub form_crash : Survives old new (CommitsShowing OFFICE_ROW.now [] old) → Survives old new (λ _. ⊥)
-  form_crash = commits_none _ office_schema OFFICE_ROW.now [] form_means old new shows.office.schema shows.settled idle
-
   pub shown_has_tables : has_tables old.now.schema ≡ true
   shown_has_tables = ap has_tables shows.office.schema ∙ office_has_tables

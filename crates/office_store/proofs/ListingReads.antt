@@ -170,9 +170,6 @@ module _ (old new : State) (t : Tables) (shows : Shows old t) where
             record { profile = formed.profile.profile; number = formed.number }));
       }
 
-  pub listed_crash : (team : List ℕ) → Survives old new (CommitsShowing REVISIONS_OF.now (Text team ∷ []) old) → Survives old new (λ _. ⊥)
-  listed_crash team = list_crash _ REVISIONS_OF.now (Text team ∷ []) names listed_mean old new t shows
-
   pub reads_listed : (idle : old.in_transaction ≡ false) {X : Type 0} (items : X → List Row) (team : List ℕ) (r : Result X StoreFault) → IfOk r (λ x. Shown REVISIONS_OF.now (Text team ∷ []) old new (items x))
       → IfErr r (IsFaultOf REVISIONS_OF.now (Text team ∷ []) old new) → IsReadOf new t (λ x. AreListedRows t team (items x)) r
   reads_listed idle items team =

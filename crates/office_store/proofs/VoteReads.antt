@@ -277,9 +277,6 @@ module _ (old new : State) (t : Tables) (shows : Shows old t) where
             record { voter = formed.voter; roles = roles_formed (t.users e.0.voter) (found_formed old new t shows e.0.voter) }));
       }
 
-  pub votes_crash : (p : ProfileName) (n : ℕ) → Survives old new (CommitsShowing VOTES_ON.now (revision_params p n) old) → Survives old new (λ _. ⊥)
-  votes_crash p n = list_crash _ VOTES_ON.now (revision_params p n) names votes_mean old new t shows
-
   pub reads_votes : (idle : old.in_transaction ≡ false) {X : Type 0} (items : X → List Row) (p : ProfileName) (n : ℕ) (r : Result X StoreFault) → IfOk r (λ x. Shown VOTES_ON.now (revision_params p n) old new (items x))
       → IfErr r (IsFaultOf VOTES_ON.now (revision_params p n) old new) → IsReadOf new t (λ x. AreVoteRows t p n (items x)) r
   reads_votes idle items p n =
