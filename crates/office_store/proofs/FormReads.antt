@@ -5,7 +5,7 @@ use Rattle.sqlite.specs.Order.{Row}
 use Rattle.sqlite.specs.Term.{Term, col}
 use Rattle.sqlite.specs.Command.TheVariants.{Select}
 use Rattle.sqlite.specs.Program.{overlay}
-use Rattle.sqlite.specs.State.{State, QueriesRow, Shown, Survives, CommitsShowing}
+use Rattle.sqlite.specs.State.{State, QueriesRow, Shown}
 use Rattle.sqlite.proofs.Callers.{first_as, reads_as}
 use Rattle.sqlite_tied.specs.Compute.{everything}
 use Rattle.sqlite.specs.Listing.{understood}
@@ -19,7 +19,7 @@ use Rattle.office_rows.specs.Faults.{FindsRow}
 use Rattle.office_rows.proofs.Plain.{plain_query, Means}
 use Rattle.office_rows.proofs.Reading.{answered_kept}
 use Rattle.office_rows.proofs.Rowids.{has_permuted}
-use Rattle.office_rows.proofs.Finding.{finds, commits_none}
+use Rattle.office_rows.proofs.Finding.{finds}
 use Rattle.office_store.specs.declared.form.TheConstants.{OFFICE_ROW}
 use Rattle.office_store.specs.Schema.{office_schema}
 use Rattle.office_store.specs.Form.{has_tables, form_row}

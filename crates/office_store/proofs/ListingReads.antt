@@ -12,7 +12,7 @@ use Rattle.sqlite.specs.Term.{Term, col, holds}
 use Rattle.sqlite.specs.Query.{inner, end}
 use Rattle.sqlite.specs.Command.TheVariants.{Select}
 use Rattle.sqlite.specs.Collation.TheVariants.{Binary}
-use Rattle.sqlite.specs.State.{State, Survives, CommitsShowing, Shown}
+use Rattle.sqlite.specs.State.{State, Shown}
 use Rattle.sqlite.specs.Listing.{understood}
 use Rattle.sqlite_tied.specs.Compute.{everything}
 use Rattle.sqlite_value.specs.declared.keys.Key.{Key}
@@ -43,7 +43,7 @@ use Rattle.office_store.specs.Shown.{Shows}
 use Rattle.office_store.proofs.Columns.{column_is, text_is, one_is}
 use Rattle.office_store.proofs.Profiles.{revisions_decide, same_state}
 use Rattle.office_store.proofs.RevisionReads.{is_at, stands, found_at}
-use Rattle.office_store.proofs.ListReads.{IsReadOf, list_read, list_crash, same_name, all_pairs, ascending_where}
+use Rattle.office_store.proofs.ListReads.{IsReadOf, list_read, same_name, all_pairs, ascending_where}
 
 abbrev shown_columns : List Term
 shown_columns = col 1 2 ∷ col 1 3 ∷ col 1 5 ∷ []

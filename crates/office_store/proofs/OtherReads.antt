@@ -8,7 +8,7 @@ use Rattle.sqlite.specs.Order.{Row}
 use Rattle.sqlite_value.specs.Order.{column}
 use Rattle.sqlite.specs.Term.{col}
 use Rattle.sqlite.specs.Command.TheVariants.{Select}
-use Rattle.sqlite.specs.State.{State, Survives, CommitsShowing}
+use Rattle.sqlite.specs.State.{State}
 use Rattle.sqlite_tied.specs.Compute.{everything}
 use Rattle.sqlite.specs.Listing.{understood}
 use Rattle.sqlite_rules.specs.Lists.{Has}
@@ -20,7 +20,7 @@ use Rattle.office_tables.specs.Tables.{Tables, Baseline, is_profile}
 use Rattle.office_rows.specs.Entries.{Keeps}
 use Rattle.office_rows.specs.Faults.{FindsRow}
 use Rattle.office_rows.proofs.Plain.{plain_query, Means}
-use Rattle.office_rows.proofs.Finding.{IsFound, finds_some, found_own, no_commit}
+use Rattle.office_rows.proofs.Finding.{IsFound, finds_some, found_own}
 use Rattle.office_store.specs.declared.baselines.TheConstants.{BASELINE_OF}
 use Rattle.office_store.specs.declared.holds.TheConstants.{HOLD_OF}
 use Rattle.office_store.specs.declared.office.TheConstants.{LISTED}

@@ -7,7 +7,7 @@ use Rattle.sqlite.specs.declared.types.Value.TheVariants.{Text, Blob}
 use Rattle.sqlite.specs.Order.{Row}
 use Rattle.sqlite.specs.Term.{Term, col, holds}
 use Rattle.sqlite.specs.Command.TheVariants.{Select}
-use Rattle.sqlite.specs.State.{State, Survives, CommitsShowing}
+use Rattle.sqlite.specs.State.{State}
 use Rattle.sqlite_tied.specs.Compute.{everything}
 use Rattle.sqlite.specs.Listing.{understood}
 use Rattle.sqlite_rules.proofs.ListLemmas.{all_has, has_found}
@@ -19,7 +19,7 @@ use Rattle.office_rows.specs.Entries.{row_of}
 use Rattle.office_rows.specs.Faults.{FindsRow}
 use Rattle.office_rows.proofs.Plain.{plain_query, Means}
 use Rattle.office_rows.proofs.Stored.{find_own}
-use Rattle.office_rows.proofs.Finding.{IsFound, finds_some, found_own, no_commit}
+use Rattle.office_rows.proofs.Finding.{IsFound, finds_some, found_own}
 use Rattle.office_store.specs.declared.users.TheConstants.{USER_BY_NAME, USER_BY_TOKEN}
 use Rattle.office_store.specs.Schema.{office_schema}
 use Rattle.office_store.specs.Entries.{is_named, user_row, IsUser}

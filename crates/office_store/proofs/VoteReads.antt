@@ -12,7 +12,7 @@ use Rattle.sqlite.specs.Term.{Term, Env, lit, col, op2, eval, eval_all, holds}
 use Rattle.sqlite.specs.Query.{Join, inner, left, end, matches}
 use Rattle.sqlite.specs.Command.TheVariants.{Select}
 use Rattle.sqlite.specs.Collation.TheVariants.{Binary}
-use Rattle.sqlite.specs.State.{State, Survives, CommitsShowing, Shown}
+use Rattle.sqlite.specs.State.{State, Shown}
 use Rattle.sqlite.specs.Listing.{understood}
 use Rattle.sqlite_tied.specs.Compute.{everything}
 use Rattle.sqlite_sql.specs.declared.ops.BinaryOp.TheVariants.{Compare, Coalesce}
@@ -46,7 +46,7 @@ use Rattle.office_store.proofs.Columns.{text_is, number_is, one_is, three_are}
 use Rattle.office_store.proofs.Kept.{some_shown}
 use Rattle.office_store.proofs.Profiles.{revision_params, at_revision, both_true}
 use Rattle.office_store.proofs.UserReads.{found_formed}
-use Rattle.office_store.proofs.ListReads.{IsReadOf, list_read, list_crash, text_order, same_name, all_pairs, ascending_where}
+use Rattle.office_store.proofs.ListReads.{IsReadOf, list_read, text_order, same_name, all_pairs, ascending_where}
 
 -- ---- entries with keys of their own, in any order
 

@@ -1,4 +1,4 @@
-use Rattle.std.proofs.Common.{Ok, rules, ◌≡◌, refl, ap, ◌∙◌}
+use Rattle.std.proofs.Common.{Ok, rules, refl, ap, ◌∙◌}
 use Rattle.sqlite.specs.Held.{state}
 use Rattle.office_tables.specs.Lists.{tally_of}
 use Rattle.office_store.proofs.ToldLists.{tally_told, tallies_failed}
