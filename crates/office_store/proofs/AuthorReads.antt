@@ -10,7 +10,7 @@ use Rattle.sqlite.specs.Query.{inner, end}
 use Rattle.sqlite.specs.Command.TheVariants.{Select}
 use Rattle.sqlite.specs.Collation.{Collation}
 use Rattle.sqlite.specs.Collation.TheVariants.{Binary}
-use Rattle.sqlite.specs.State.{State, Survives, CommitsShowing, Shown}
+use Rattle.sqlite.specs.State.{State, Shown}
 use Rattle.sqlite.specs.Listing.{understood}
 use Rattle.sqlite_tied.specs.Compute.{everything}
 use Rattle.sqlite_value.specs.declared.keys.Key.{Key}
@@ -42,7 +42,7 @@ use Rattle.office_store.proofs.Columns.{column_is, text_is, two_are, three_are}
 use Rattle.office_store.proofs.Kept.{still_shows}
 use Rattle.office_store.proofs.Profiles.{profile_params, at_profile, both_true, same_profile, profiles_decide}
 use Rattle.office_store.proofs.RevisionReads.{stands, found_at}
-use Rattle.office_store.proofs.ListReads.{IsReadOf, list_read, first_shows, list_crash, text_order, same_name, all_pairs}
+use Rattle.office_store.proofs.ListReads.{IsReadOf, list_read, first_shows, text_order, same_name, all_pairs}
 
 -- ---- one revision by a name
 
@@ -146,12 +146,6 @@ module _ (old new : State) (t : Tables) (shows : Shows old t) where
         formed = all-map (λ name. is_word name ≡ true) author_of it.from
             (all_weaker (Has (filter (is_of p) entries)) (λ e. is_word e.1.author ≡ true) (λ e h. (all_has IsRevision entries e shows.office.revisions.formed (has_filtered (is_of p) entries e h).0).author) it.from it.each);
       }
-
-  pub by_crash : (p : ProfileName) (name : List ℕ) → Survives old new (CommitsShowing REVISION_BY.now (author_params p name) old) → Survives old new (λ _. ⊥)
-  by_crash p name = list_crash _ REVISION_BY.now (author_params p name) (codes "author" ∷ []) by_means old new t shows
-
-  pub authors_crash : (p : ProfileName) → Survives old new (CommitsShowing AUTHORS_OF.now (profile_params p) old) → Survives old new (λ _. ⊥)
-  authors_crash p = list_crash _ AUTHORS_OF.now (profile_params p) (codes "author" ∷ []) authors_mean old new t shows
 
   module _ (idle : old.in_transaction ≡ false) where
     pub reads_by : (p : ProfileName) (name : List ℕ) (r : Result (Option Row) StoreFault) → FindsRow REVISION_BY.now (author_params p name) old new r → IsReadOf new t (IsRowBy p name) r

@@ -5,7 +5,7 @@ use Rattle.sqlite.specs.Order.{Row}
 use Rattle.sqlite.specs.Term.{Term, col}
 use Rattle.sqlite.specs.Command.TheVariants.{Select}
 use Rattle.sqlite.specs.Program.{overlay}
-use Rattle.sqlite.specs.State.{State, QueriesRow, Shown, Survives, CommitsShowing}
+use Rattle.sqlite.specs.State.{State, QueriesRow, Shown}
 use Rattle.sqlite.proofs.Callers.{first_as, reads_as}
 use Rattle.sqlite_tied.specs.Compute.{everything}
 use Rattle.sqlite.specs.Listing.{understood}
@@ -19,7 +19,7 @@ use Rattle.office_rows.specs.Faults.{FindsRow}
 use Rattle.office_rows.proofs.Plain.{plain_query, Means}
 use Rattle.office_rows.proofs.Reading.{answered_kept}
 use Rattle.office_rows.proofs.Rowids.{has_permuted}
-use Rattle.office_rows.proofs.Finding.{finds, commits_none}
+use Rattle.office_rows.proofs.Finding.{finds}
 use Rattle.office_store.specs.declared.form.TheConstants.{OFFICE_ROW}
 use Rattle.office_store.specs.Schema.{office_schema}
 use Rattle.office_store.specs.Form.{has_tables, form_row}
@@ -69,9 +69,6 @@ module _ (old new : State) (t : Tables) (shows : Shows old t) (idle : old.in_tra
   reads_form r h =
       let it = finds _ office_schema OFFICE_ROW.now [] form_means old new shows.office.schema shows.settled idle (IsFormRow t) form_found form_none r h in
       (it.0, it.1, still_shows old new t shows it.2, answered_shows old new t shows it.2 r it.3)
-
-  pub form_crash : Survives old new (CommitsShowing OFFICE_ROW.now [] old) → Survives old new (λ _. ⊥)
-  form_crash = commits_none _ office_schema OFFICE_ROW.now [] form_means old new shows.office.schema shows.settled idle
 
   pub shown_has_tables : has_tables old.now.schema ≡ true
   shown_has_tables = ap has_tables shows.office.schema ∙ office_has_tables

@@ -13,7 +13,7 @@ use Rattle.sqlite.specs.Order.{Row}
 use Rattle.sqlite.specs.Query.{Query, IsAnswer}
 use Rattle.sqlite.specs.Program.{overlay}
 use Rattle.sqlite.specs.Command.TheVariants.{Select}
-use Rattle.sqlite.specs.State.{State, IsUnchanged, Shown, Survives, CommitsShowing}
+use Rattle.sqlite.specs.State.{State, IsUnchanged, Shown}
 use Rattle.sqlite_value.specs.Order.{value_cmp}
 use Rattle.sqlite_value.proofs.OrderLemmas.{value_cmp-Text, then-Equal}
 use Rattle.sqlite_trees.specs.Tree.{IsAscending}
@@ -26,7 +26,7 @@ use Rattle.office_tables.specs.declared.fault.StoreFault.TheVariants.{NotAnOffic
 use Rattle.office_rows.specs.Faults.{FindsRow}
 use Rattle.office_rows.specs.Rows.{IsFaultOf}
 use Rattle.office_rows.proofs.Plain.{Means}
-use Rattle.office_rows.proofs.Asked.{shown_same, shown_answer, fault_kept, found_same, none_committed}
+use Rattle.office_rows.proofs.Asked.{shown_same, shown_answer, fault_kept, found_same}
 use Rattle.office_store.specs.Schema.{office_schema}
 use Rattle.office_store.specs.Shown.{Shows, ShowsIfOpen}
 use Rattle.office_store.proofs.Kept.{still_shows}
@@ -52,9 +52,6 @@ either_way new t (Err f) shows fault = fault
 
 module _ (q : Query) (sql : List ℕ) (params : Row) (names : List (List ℕ)) (means : Means office_schema sql (Select (record { lets = []; body = q }) names))
     (old new : State) (t : Tables) (shows : Shows old t) where
-  pub list_crash : Survives old new (CommitsShowing sql params old) → Survives old new (λ _. ⊥)
-  list_crash = none_committed q office_schema sql params names means old new shows.office.schema
-
   module _ (idle : old.in_transaction ≡ false) where
     -- a query of all its rows
     pub list_read : {X : Type 0} (items : X → List Row) (R : List Row → Type 0) → ((rows : List Row) → IsAnswer q (overlay old.now.trees []) params rows → R rows)

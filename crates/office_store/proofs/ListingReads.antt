@@ -12,7 +12,7 @@ use Rattle.sqlite.specs.Term.{Term, col, holds}
 use Rattle.sqlite.specs.Query.{inner, end}
 use Rattle.sqlite.specs.Command.TheVariants.{Select}
 use Rattle.sqlite.specs.Collation.TheVariants.{Binary}
-use Rattle.sqlite.specs.State.{State, Survives, CommitsShowing, Shown}
+use Rattle.sqlite.specs.State.{State, Shown}
 use Rattle.sqlite.specs.Listing.{understood}
 use Rattle.sqlite_tied.specs.Compute.{everything}
 use Rattle.sqlite_value.specs.declared.keys.Key.{Key}
@@ -43,7 +43,7 @@ use Rattle.office_store.specs.Shown.{Shows}
 use Rattle.office_store.proofs.Columns.{column_is, text_is, one_is}
 use Rattle.office_store.proofs.Profiles.{revisions_decide, same_state}
 use Rattle.office_store.proofs.RevisionReads.{is_at, stands, found_at}
-use Rattle.office_store.proofs.ListReads.{IsReadOf, list_read, list_crash, same_name, all_pairs, ascending_where}
+use Rattle.office_store.proofs.ListReads.{IsReadOf, list_read, same_name, all_pairs, ascending_where}
 
 abbrev shown_columns : List Term
 shown_columns = col 1 2 ∷ col 1 3 ∷ col 1 5 ∷ []
@@ -169,9 +169,6 @@ module _ (old new : State) (t : Tables) (shows : Shows old t) where
             let formed = all_has IsRevision entries e shows.office.revisions.formed (has_filtered (is_of team) entries e (has_permuted it.from (filter (is_of team) entries) e back h)).0 in
             record { profile = formed.profile.profile; number = formed.number }));
       }
-
-  pub listed_crash : (team : List ℕ) → Survives old new (CommitsShowing REVISIONS_OF.now (Text team ∷ []) old) → Survives old new (λ _. ⊥)
-  listed_crash team = list_crash _ REVISIONS_OF.now (Text team ∷ []) names listed_mean old new t shows
 
   pub reads_listed : (idle : old.in_transaction ≡ false) {X : Type 0} (items : X → List Row) (team : List ℕ) (r : Result X StoreFault) → IfOk r (λ x. Shown REVISIONS_OF.now (Text team ∷ []) old new (items x))
       → IfErr r (IsFaultOf REVISIONS_OF.now (Text team ∷ []) old new) → IsReadOf new t (λ x. AreListedRows t team (items x)) r

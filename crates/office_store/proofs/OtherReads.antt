@@ -8,7 +8,7 @@ use Rattle.sqlite.specs.Order.{Row}
 use Rattle.sqlite_value.specs.Order.{column}
 use Rattle.sqlite.specs.Term.{col}
 use Rattle.sqlite.specs.Command.TheVariants.{Select}
-use Rattle.sqlite.specs.State.{State, Survives, CommitsShowing}
+use Rattle.sqlite.specs.State.{State}
 use Rattle.sqlite_tied.specs.Compute.{everything}
 use Rattle.sqlite.specs.Listing.{understood}
 use Rattle.sqlite_rules.specs.Lists.{Has}
@@ -20,7 +20,7 @@ use Rattle.office_tables.specs.Tables.{Tables, Baseline, is_profile}
 use Rattle.office_rows.specs.Entries.{Keeps}
 use Rattle.office_rows.specs.Faults.{FindsRow}
 use Rattle.office_rows.proofs.Plain.{plain_query, Means}
-use Rattle.office_rows.proofs.Finding.{IsFound, finds_some, found_own, no_commit}
+use Rattle.office_rows.proofs.Finding.{IsFound, finds_some, found_own}
 use Rattle.office_store.specs.declared.baselines.TheConstants.{BASELINE_OF}
 use Rattle.office_store.specs.declared.holds.TheConstants.{HOLD_OF}
 use Rattle.office_store.specs.declared.office.TheConstants.{LISTED}
@@ -86,11 +86,6 @@ module _ (old new : State) (t : Tables) (shows : Shows old t) where
         sym (map_of_map adopted_row baseline_of _) ∙ ap (option_map adopted_row) (sym (o.baselines_are team)) in
         (subst (λ x. IfOk r (λ row. row ≡ x)) same found, it.1, still_shows old new t shows it.2, answered_shows old new t shows it.2 r it.3)
 
-    pub baseline_crash : (team : List ℕ) → Survives old new (CommitsShowing BASELINE_OF.now (Text team ∷ []) old) → Survives old new (λ _. ⊥)
-    baseline_crash team =
-        no_commit baseline_row shown_baseline (baseline_at team) (col 1 2 ∷ col 1 3 ∷ []) (column_is 1 0 ∷ []) office_schema BASELINE_OF.now (Text team ∷ []) 8 (codes "profile" ∷ codes "number" ∷ []) baseline_means (baseline_tested team) (λ k. refl)
-        old new shows.office.schema shows.settled idle
-
     pub reads_hold : (p : ProfileName) (r : Result (Option Row) StoreFault) → FindsRow HOLD_OF.now (profile_params p) old new r
         → IfOk r (λ row. is_some row ≡ t.holds p) × (r ≢ Err NotAnOffice) × ShowsIfOpen new t × OnOk r (Shows new t)
     reads_hold p r h =
@@ -103,11 +98,6 @@ module _ (old new : State) (t : Tables) (shows : Shows old t) where
         held : (r : Result (Option Row) StoreFault) → IfOk r (λ row. row ≡ option_map hold_row (find (is_profile p) shows.office.holds.entries)) → IfOk r (λ row. is_some row ≡ t.holds p)
         held (Ok row) is = ap is_some is ∙ some_mapped hold_row _ ∙ sym (shows.office.holds_are p)
         held (Err f) is = is
-
-    pub hold_crash : (p : ProfileName) → Survives old new (CommitsShowing HOLD_OF.now (profile_params p) old) → Survives old new (λ _. ⊥)
-    hold_crash p =
-        no_commit hold_row hold_row (is_profile p) (col 1 1 ∷ col 1 2 ∷ []) at_profile office_schema HOLD_OF.now (profile_params p) 10 (codes "team" ∷ codes "profile" ∷ []) hold_means (hold_tested p) (λ k. refl)
-        old new shows.office.schema shows.settled idle
 
     abbrev pub one_office : Keeps office_columns (old.now.trees 0) (t.listed ∷ [])
     one_office = record { kept = (pos 1, t.listed) ∷ []; rows_are = shows.office.office; apart = (tt, tt); same = IsPermutation-refl (t.listed ∷ []) }
@@ -126,10 +116,6 @@ module _ (old new : State) (t : Tables) (shows : Shows old t) where
         let o = shows.office in
         let it = finds_some office_columns shown_listed any (col 1 3 ∷ []) [] office_schema LISTED.now [] 0 (codes "listed" ∷ []) listed_means (λ k. refl) (λ k. refl) old new o.schema shows.settled idle (t.listed ∷ []) one_office r h in
         (listed_row r it.0, it.1, still_shows old new t shows it.2, answered_shows old new t shows it.2 r it.3)
-
-    pub listed_crash : Survives old new (CommitsShowing LISTED.now [] old) → Survives old new (λ _. ⊥)
-    listed_crash =
-        no_commit office_columns shown_listed any (col 1 3 ∷ []) [] office_schema LISTED.now [] 0 (codes "listed" ∷ []) listed_means (λ k. refl) (λ k. refl) old new shows.office.schema shows.settled idle
 
 pub same_adopted : (a b : Baseline) → adopted_row a ≡ adopted_row b → a ≡ b
 same_adopted a b same =

@@ -14,7 +14,7 @@ use Rattle.sqlite.specs.declared.types.Value.TheVariants.{Int}
 use Rattle.sqlite.specs.Order.{Row}
 use Rattle.sqlite.specs.Term.{Term, col}
 use Rattle.sqlite.specs.Command.TheVariants.{Select}
-use Rattle.sqlite.specs.State.{State, Survives, CommitsShowing}
+use Rattle.sqlite.specs.State.{State}
 use Rattle.sqlite_tied.specs.Compute.{everything}
 use Rattle.sqlite.specs.Listing.{understood}
 use Rattle.sqlite_rules.specs.Lists.{Has}
@@ -28,7 +28,7 @@ use Rattle.office_tables.specs.Tables.{Tables, is_profile}
 use Rattle.office_rows.specs.Faults.{FindsRow}
 use Rattle.office_rows.proofs.Plain.{plain_query, Means}
 use Rattle.office_rows.proofs.Stored.{find_own}
-use Rattle.office_rows.proofs.Finding.{IsFound, finds_some, found_own, no_commit, commits_none}
+use Rattle.office_rows.proofs.Finding.{IsFound, finds_some, found_own}
 use Rattle.office_rows.proofs.Ordered.{first_query, IsFirstRow, finds_first}
 use Rattle.office_store.specs.declared.revisions.TheConstants.{REVISION_AT, ISSUED_OF, LAST_OF, REVISION_OF}
 use Rattle.office_store.specs.Schema.{office_schema}
@@ -132,11 +132,6 @@ module _ (old new : State) (t : Tables) (shows : Shows old t) where
         sym (map_of_map revision_columns row_of_entry _) ∙ ap (option_map revision_columns) (sym (o.revisions_are p n)) in
         (subst (λ x. IfOk r (λ row. row ≡ x)) same found, it.1, still_shows old new t shows it.2, answered_shows old new t shows it.2 r it.3)
 
-    pub revision_crash : (p : ProfileName) (n : ℕ) → Survives old new (CommitsShowing REVISION_AT.now (revision_params p n) old) → Survives old new (λ _. ⊥)
-    revision_crash p n =
-        no_commit revision_row shown (is_at (p, n)) shown_columns at_revision office_schema REVISION_AT.now (revision_params p n) 4 names revision_means (revision_tested p n) (λ k. refl)
-        old new shows.office.schema shows.settled idle
-
     issued_row : (p : ProfileName) (r : Result (Option Row) StoreFault) → IfOk r (IsFound (is_in_state p Issued) shown shows.office.revisions.entries) → IfOk r (IsIssuedRow t p)
     issued_row p (Ok (Some row)) it =
         let both = both_true (is_profile p it.0.0) (state_number Issued == state_number it.0.1.state) it.2 in
@@ -155,11 +150,6 @@ module _ (old new : State) (t : Tables) (shows : Shows old t) where
         let it = finds_some revision_row shown (is_in_state p Issued) shown_columns (in_state_of Issued) office_schema ISSUED_OF.now (profile_params p) 4 names issued_means (state_tested p Issued) (λ k. refl)
         old new o.schema shows.settled idle o.revisions.entries o.revisions.kept r h in
         (issued_row p r it.0, it.1, still_shows old new t shows it.2, answered_shows old new t shows it.2 r it.3)
-
-    pub issued_crash : (p : ProfileName) → Survives old new (CommitsShowing ISSUED_OF.now (profile_params p) old) → Survives old new (λ _. ⊥)
-    issued_crash p =
-        no_commit revision_row shown (is_in_state p Issued) shown_columns (in_state_of Issued) office_schema ISSUED_OF.now (profile_params p) 4 names issued_means (state_tested p Issued) (λ k. refl)
-        old new shows.office.schema shows.settled idle
 
     abbrev IsFirstOf : ProfileName → Option Row → Type 0
     IsFirstOf p = IsFirstRow revision_row shown number_of (is_of p) shown_columns at_profile greatest (profile_params p) shows.office.revisions.entries
@@ -186,9 +176,6 @@ module _ (old new : State) (t : Tables) (shows : Shows old t) where
         office_schema LAST_OF.now 4 names last_means old new o.schema shows.settled idle o.revisions.entries o.revisions.kept r h in
         (last_shown p r it.0, it.1, still_shows old new t shows it.2, answered_shows old new t shows it.2 r it.3)
 
-    pub last_crash : (p : ProfileName) → Survives old new (CommitsShowing LAST_OF.now (profile_params p) old) → Survives old new (λ _. ⊥)
-    last_crash p = commits_none _ office_schema LAST_OF.now (profile_params p) last_means old new shows.office.schema shows.settled idle
-
     any_row : (p : ProfileName) (r : Result (Option Row) StoreFault) → IfOk r (IsFound (is_of p) number_of shows.office.revisions.entries) → IfOk r (λ row. is_some row ≡ true ↔ HasRevision t p)
     any_row p (Ok (Some row)) it = (
       (λ _. record { number = it.0.1.number; revision = it.0.1; there = subst (λ q. t.revisions q it.0.1.number ≡ Some it.0.1) (sym (same_profile p it.0.0 it.2)) (found_at it.0 it.1) }),
@@ -209,9 +196,6 @@ module _ (old new : State) (t : Tables) (shows : Shows old t) where
         let it = finds_some revision_row number_of (is_of p) (col 1 3 ∷ []) at_profile office_schema REVISION_OF.now (profile_params p) 4 (codes "number" ∷ []) any_means (profile_tested p) (λ k. refl)
         old new o.schema shows.settled idle o.revisions.entries o.revisions.kept r h in
         (any_row p r it.0, it.1, still_shows old new t shows it.2, answered_shows old new t shows it.2 r it.3)
-
-    pub any_crash : (p : ProfileName) → Survives old new (CommitsShowing REVISION_OF.now (profile_params p) old) → Survives old new (λ _. ⊥)
-    any_crash p = commits_none _ office_schema REVISION_OF.now (profile_params p) any_means old new shows.office.schema shows.settled idle
 
 pub same_columns : (r s : RevisionRow) → revision_columns r ≡ revision_columns s → r ≡ s
 same_columns r s same =

@@ -1,5 +1,5 @@
 -- What is read of all rows that a query found.
-use Rattle.std.proofs.Common.{inl, inr, ◌≡◌, ◌≢◌, ℕ, ◌<◌, ◌≤◌, ◌+◌, List, [], ◌∷◌, ◌++◌, map, take, get_or, length, Result, Ok, Err, IfOk, IfErr, true, arith, sym, ap, ◌∙◌, subst}
+use Rattle.std.proofs.Common.{inl, inr, ◌≡◌, ◌≢◌, ℕ, ◌<◌, ◌≤◌, ◌+◌, List, [], ◌∷◌, ◌++◌, map, take, get_or, length, Result, Ok, Err, IfOk, IfErr, true, arith, refl, sym, ap, ◌∙◌, subst}
 use Rattle.std.specs.List.{AllByRecursion}
 use Rattle.std.proofs.lemmas.List.{take_more, take_all, map-append}
 use Rattle.sqlite.specs.Order.{Row}
@@ -8,11 +8,14 @@ use Rattle.office_tables.specs.Tables.{Tables}
 use Rattle.office_tables.specs.declared.fault.StoreFault.{StoreFault}
 use Rattle.office_tables.specs.declared.fault.StoreFault.TheVariants.{NotAnOffice}
 use Rattle.office_rows.specs.Rows.{IsFaultOf}
-use Rattle.office_rows.specs.Told.{IsOfRow, IsTold, TellsAll, FindsRows, map_ok}
+use Rattle.office_rows.specs.Told.{IsOfRow, IsUnread, IsTold, TellsAll, FindsRows, map_ok}
 use Rattle.office_tables.specs.declared.listed.ListedRevision.{ListedRevision}
 use Rattle.review_policy.specs.declared.revision.State.{State as State_}
 use Rattle.office_store.specs.Entries.{state_number}
-use Rattle.office_store.specs.Lists.{name_row, listed_row}
+use Rattle.review_policy.specs.declared.revision.VoteRow.{VoteRow}
+use Rattle.office_tables.specs.declared.listed.Tally.{Tally}
+use Rattle.office_tables.specs.Lists.{tally_of}
+use Rattle.office_store.specs.Lists.{name_row, listed_row, first_of, voter_of, Cast, cast_row, IsCastForm, TellsVotes, TellsTally}
 use Rattle.office_store.specs.Shown.{Shows}
 use Rattle.office_store.specs.Calls.{IsRead}
 use Rattle.office_store.proofs.Calls.{read_told}
@@ -102,3 +105,49 @@ same_listed_row a b same =
     let numbers : state_number a.state ≡ state_number b.state = cc in
     let state = numbered_as a.state b.state numbers in
     λ i. record { profile = profile i; number = number i; state = state i }
+
+-- ---- votes, one for each row
+
+pub one_more_named : (rows : List Row) (i : ℕ) (row : Row) (votes : List VoteRow) (vote : VoteRow) → i < length rows → row ≡ get_or rows i row → first_of row ≡ voter_of vote
+    → map first_of (take i rows) ≡ map voter_of votes → map first_of (take (i + 1) rows) ≡ map voter_of (votes ++ vote ∷ [])
+one_more_named rows i row votes vote below at is so_far =
+    ap (map first_of) (take_more rows i row below) ∙ map-append first_of (take i rows) (get_or rows i row ∷ [])
+    ∙ (λ k. so_far k ++ (ap first_of (sym at) ∙ is) k ∷ []) ∙ sym (map-append voter_of votes (vote ∷ []))
+
+pub all_named : (rows : List Row) (i : ℕ) (votes : List VoteRow) → length rows ≤ i → map first_of (take i rows) ≡ map voter_of votes → map first_of rows ≡ map voter_of votes
+all_named rows i votes past so_far = sym (ap (map first_of) (take_all i rows past)) ∙ so_far
+
+pub votes_failed : {V W : Type 0} (rows_of : V → List Row) (items_of : W → List VoteRow) (found : Result V StoreFault) (r : Result W StoreFault) (f : StoreFault) → found ≡ Err f → r ≡ Err f
+    → IsTold TellsVotes (map_ok found rows_of) (map_ok r items_of)
+votes_failed {V} {W} rows_of items_of found r f is same =
+    subst (λ (o : Result V StoreFault). IsTold TellsVotes (map_ok o rows_of) (map_ok r items_of)) (sym is) (ap (λ (o : Result W StoreFault). map_ok o items_of) same)
+
+pub votes_told : {V W : Type 0} (rows_of : V → List Row) (items_of : W → List VoteRow) (found : Result V StoreFault) (v : V) → found ≡ Ok v → (rows : List Row) → rows ≡ rows_of v → (r : Result W StoreFault)
+    → IfOk r (λ w. map first_of rows ≡ map voter_of (items_of w)) → ((cast : List Cast) → rows ≡ map cast_row cast → AllByRecursion IsCastForm cast → r ≢ Err NotAnOffice) → IfErr r IsOfRow
+    → IsTold TellsVotes (map_ok found rows_of) (map_ok r items_of)
+votes_told {V} {W} rows_of items_of found v is rows are r read formed cause =
+    subst (λ (o : Result V StoreFault). IsTold TellsVotes (map_ok o rows_of) (map_ok r items_of)) (sym is)
+    (subst (λ (l : List Row). TellsVotes l (map_ok r items_of)) are (each r read formed cause))
+  where
+    each : (r : Result W StoreFault) → IfOk r (λ w. map first_of rows ≡ map voter_of (items_of w)) → ((cast : List Cast) → rows ≡ map cast_row cast → AllByRecursion IsCastForm cast → r ≢ Err NotAnOffice) → IfErr r IsOfRow
+        → TellsVotes rows (map_ok r items_of)
+    each (Ok w) read formed cause = read
+    each (Err f) read formed cause = elim cause [ inl memory ↦ inl memory | inr named ↦ inr (named, λ xs all is. formed xs is all (ap Err named)) ]
+
+abbrev pub TalliesAs : Result (List VoteRow) StoreFault → Result Tally StoreFault → Type 0
+TalliesAs (Ok votes) (Ok tally) = tally ≡ tally_of votes
+TalliesAs (Err f) (Err e) = e ≡ f
+TalliesAs _ _ = ⊥
+
+pub tally_told : (rows : Result (List Row) StoreFault) (votes : Result (List VoteRow) StoreFault) (r : Result Tally StoreFault) → IsTold TellsVotes rows votes → TalliesAs votes r → IsTold TellsTally rows r
+tally_told (Ok rows) (Ok votes) (Ok tally) told is = (votes, told, is)
+tally_told (Ok rows) (Ok votes) (Err f) told is = absurd is
+tally_told (Ok rows) (Err f) (Ok tally) told is = absurd is
+tally_told (Ok rows) (Err f) (Err e) told is = subst (IsUnread (map cast_row) (AllByRecursion IsCastForm) rows) (sym is) told
+tally_told (Err e) (Ok votes) r told is = absurd cc
+tally_told (Err e) (Err f) (Ok tally) told is = absurd is
+tally_told (Err e) (Err f) (Err d) told is = let same : f ≡ e = cc in ap Err (is ∙ same)
+
+pub tallies_failed : {W : Type 0} (items_of : W → List VoteRow) (votes : Result W StoreFault) (r : Result Tally StoreFault) (f : StoreFault) → votes ≡ Err f → r ≡ Err f → TalliesAs (map_ok votes items_of) r
+tallies_failed {W} items_of votes r f is same =
+    subst (λ (o : Result W StoreFault). TalliesAs (map_ok o items_of) r) (sym is) (subst (λ (o : Result Tally StoreFault). TalliesAs (Err f) o) (sym same) refl)

@@ -7,7 +7,7 @@ use Rattle.sqlite.specs.declared.types.Value.TheVariants.{Text, Blob}
 use Rattle.sqlite.specs.Order.{Row}
 use Rattle.sqlite.specs.Term.{Term, col, holds}
 use Rattle.sqlite.specs.Command.TheVariants.{Select}
-use Rattle.sqlite.specs.State.{State, Survives, CommitsShowing}
+use Rattle.sqlite.specs.State.{State}
 use Rattle.sqlite_tied.specs.Compute.{everything}
 use Rattle.sqlite.specs.Listing.{understood}
 use Rattle.sqlite_rules.proofs.ListLemmas.{all_has, has_found}
@@ -19,7 +19,7 @@ use Rattle.office_rows.specs.Entries.{row_of}
 use Rattle.office_rows.specs.Faults.{FindsRow}
 use Rattle.office_rows.proofs.Plain.{plain_query, Means}
 use Rattle.office_rows.proofs.Stored.{find_own}
-use Rattle.office_rows.proofs.Finding.{IsFound, finds_some, found_own, no_commit}
+use Rattle.office_rows.proofs.Finding.{IsFound, finds_some, found_own}
 use Rattle.office_store.specs.declared.users.TheConstants.{USER_BY_NAME, USER_BY_TOKEN}
 use Rattle.office_store.specs.Schema.{office_schema}
 use Rattle.office_store.specs.Entries.{is_named, user_row, IsUser}
@@ -68,11 +68,6 @@ module _ (old new : State) (t : Tables) (shows : Shows old t) where
         let found = found_own user_row user_row is_named IsUser (old.now.trees 1) o.users name r it.0 in
         (subst (λ u. IfOk r (λ row. row ≡ option_map user_row u)) (sym (o.users_are name)) found, it.1, still_shows old new t shows it.2, answered_shows old new t shows it.2 r it.3)
 
-    pub named_crash : (name : List ℕ) → Survives old new (CommitsShowing USER_BY_NAME.now (Text name ∷ []) old) → Survives old new (λ _. ⊥)
-    named_crash name =
-        no_commit user_row user_row (is_named name) all_columns (column_is 1 0 ∷ []) office_schema USER_BY_NAME.now (Text name ∷ []) 1 names by_name_means (named_tested name) (λ k. refl)
-        old new shows.office.schema shows.settled idle
-
     row_shows : (digest : List ℕ) (r : Result (Option Row) StoreFault) → IfOk r (IsFound (shows_digest digest) user_row shows.office.users.entries) → IfOk r (IsRowShowing t digest)
     row_shows digest (Ok (Some row)) it =
         let at = shows.office.users_are it.0.name ∙ find_own is_named shows.office.users.entries shows.office.users.own_keys it.0.name it.0 it.1 ((bytes_eq-Decides it.0.name it.0.name).1 refl) in
@@ -88,11 +83,6 @@ module _ (old new : State) (t : Tables) (shows : Shows old t) where
         let it = finds_some user_row user_row (shows_digest digest) all_columns (column_is 4 0 ∷ []) office_schema USER_BY_TOKEN.now (Blob digest ∷ []) 1 names by_token_means (token_tested digest) (λ k. refl)
         old new o.schema shows.settled idle o.users.entries o.users.kept r h in
         (row_shows digest r it.0, it.1, still_shows old new t shows it.2, answered_shows old new t shows it.2 r it.3)
-
-    pub showing_crash : (digest : List ℕ) → Survives old new (CommitsShowing USER_BY_TOKEN.now (Blob digest ∷ []) old) → Survives old new (λ _. ⊥)
-    showing_crash digest =
-        no_commit user_row user_row (shows_digest digest) all_columns (column_is 4 0 ∷ []) office_schema USER_BY_TOKEN.now (Blob digest ∷ []) 1 names by_token_means (token_tested digest) (λ k. refl)
-        old new shows.office.schema shows.settled idle
 
 pub same_user : (u v : UserRow) → user_row u ≡ user_row v → u ≡ v
 same_user u v same =

@@ -12,7 +12,7 @@ use Rattle.sqlite.specs.Term.{Term, Env, lit, col, op2, eval, eval_all, holds}
 use Rattle.sqlite.specs.Query.{Join, inner, left, end, matches}
 use Rattle.sqlite.specs.Command.TheVariants.{Select}
 use Rattle.sqlite.specs.Collation.TheVariants.{Binary}
-use Rattle.sqlite.specs.State.{State, Survives, CommitsShowing, Shown}
+use Rattle.sqlite.specs.State.{State, Shown}
 use Rattle.sqlite.specs.Listing.{understood}
 use Rattle.sqlite_tied.specs.Compute.{everything}
 use Rattle.sqlite_sql.specs.declared.ops.BinaryOp.TheVariants.{Compare, Coalesce}
@@ -46,7 +46,7 @@ use Rattle.office_store.proofs.Columns.{text_is, number_is, one_is, three_are}
 use Rattle.office_store.proofs.Kept.{some_shown}
 use Rattle.office_store.proofs.Profiles.{revision_params, at_revision, both_true}
 use Rattle.office_store.proofs.UserReads.{found_formed}
-use Rattle.office_store.proofs.ListReads.{IsReadOf, list_read, list_crash, text_order, same_name, all_pairs, ascending_where}
+use Rattle.office_store.proofs.ListReads.{IsReadOf, list_read, text_order, same_name, all_pairs, ascending_where}
 
 -- ---- entries with keys of their own, in any order
 
@@ -276,9 +276,6 @@ module _ (old new : State) (t : Tables) (shows : Shows old t) where
             let formed = all_has IsVote entries e shows.office.votes.formed (has_filtered (is_on p n) entries e (has_permuted it.from passed e back h)).0 in
             record { voter = formed.voter; roles = roles_formed (t.users e.0.voter) (found_formed old new t shows e.0.voter) }));
       }
-
-  pub votes_crash : (p : ProfileName) (n : ℕ) → Survives old new (CommitsShowing VOTES_ON.now (revision_params p n) old) → Survives old new (λ _. ⊥)
-  votes_crash p n = list_crash _ VOTES_ON.now (revision_params p n) names votes_mean old new t shows
 
   pub reads_votes : (idle : old.in_transaction ≡ false) {X : Type 0} (items : X → List Row) (p : ProfileName) (n : ℕ) (r : Result X StoreFault) → IfOk r (λ x. Shown VOTES_ON.now (revision_params p n) old new (items x))
       → IfErr r (IsFaultOf VOTES_ON.now (revision_params p n) old new) → IsReadOf new t (λ x. AreVoteRows t p n (items x)) r

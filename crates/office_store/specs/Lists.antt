@@ -1,15 +1,20 @@
 -- What the reads of several rows show.
-use Rattle.std.specs.Prelude.{◌≡◌, ◌<◌, ◌^◌, ℕ, pos, true, List, [], ◌∷◌, map, Option, Some, None}
+use Rattle.std.specs.Prelude.{◌≡◌, ◌<◌, ◌^◌, ℕ, pos, true, List, [], ◌∷◌, map, Option, Some, None, Result, Ok, Err}
 use Rattle.std.specs.List.{AllByRecursion}
 use Rattle.sqlite.specs.declared.types.Value.TheVariants.{Int, Text}
 use Rattle.sqlite.specs.Order.{Row}
+use Rattle.sqlite_value.specs.Order.{column}
+use Rattle.sqlite_value.specs.declared.value.Value.{Value}
 use Rattle.review_policy.specs.Words.{is_word}
 use Rattle.review_policy.specs.declared.ask.ProfileName.{ProfileName}
 use Rattle.review_policy.specs.declared.revision.VoteRow.{VoteRow}
 use Rattle.office_tables.specs.declared.row.UserRow.{UserRow}
 use Rattle.office_tables.specs.declared.listed.ListedRevision.{ListedRevision}
 use Rattle.office_tables.specs.Tables.{Tables, Vote}
-use Rattle.office_tables.specs.Lists.{AreAuthors, AreRevisionsOf, AreStanding, standing_vote}
+use Rattle.office_tables.specs.Lists.{AreAuthors, AreRevisionsOf, AreStanding, standing_vote, tally_of}
+use Rattle.office_tables.specs.declared.fault.StoreFault.{StoreFault}
+use Rattle.office_tables.specs.declared.listed.Tally.{Tally}
+use Rattle.office_rows.specs.Told.{IsUnread}
 use Rattle.office_store.specs.Entries.{state_number, bit}
 
 -- ---- authors
@@ -72,3 +77,19 @@ pub record AreVoteRows (t : Tables) (p : ProfileName) (number : ℕ) (rows : Lis
   pub rows_are : rows ≡ map cast_row cast
   pub standing : AreStanding t p number (map standing_of cast)
   pub formed : AllByRecursion IsCastForm cast
+
+abbrev pub voter_of : VoteRow → Value
+voter_of v = Text v.voter
+
+abbrev pub first_of : Row → Value
+first_of row = column row 0
+
+-- a vote is told of each row, of the voter that it names
+abbrev pub TellsVotes : List Row → Result (List VoteRow) StoreFault → Type 0
+TellsVotes rows (Ok votes) = map first_of rows ≡ map voter_of votes
+TellsVotes rows (Err f) = IsUnread (map cast_row) (AllByRecursion IsCastForm) rows f
+
+-- the tally is told of such votes
+abbrev pub TellsTally : List Row → Result Tally StoreFault → Type 0
+TellsTally rows (Ok tally) = (votes : List VoteRow) × TellsVotes rows (Ok votes) × (tally ≡ tally_of votes)
+TellsTally rows (Err f) = IsUnread (map cast_row) (AllByRecursion IsCastForm) rows f

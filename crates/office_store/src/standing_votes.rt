@@ -1,14 +1,17 @@
 //! The standing votes on a revision, and how many of them approve and reject.
 
-ghost use Rattle.std.specs.Prelude.{◌≡◌, ◌≢◌, ◌<◌, ◌&&◌, not, Bool, List, Err, IfOk, length, map};
+ghost use Rattle.std.specs.Prelude.{◌≡◌, ◌≢◌, ◌<◌, ◌&&◌, not, Bool, List, Err, IfOk, IfErr, length, map};
 ghost use Rattle.std.specs.List.{AllByRecursion};
 ghost use Rattle.sqlite.specs.Held.{state};
+ghost use Rattle.sqlite.specs.State.{HasCleanDisk};
 ghost use Rattle.sqlite.specs.declared.types.Value.TheVariants.{Int};
 ghost use Rattle.sqlite_value.specs.Order.{column};
 ghost use Rattle.office_tables.specs.Lists.{AreStanding, IsTally, tally_of};
+ghost use Rattle.office_rows.specs.Told.{IsOfRow, FindsRows, TellsRows, map_ok};
 ghost use Rattle.office_store.specs.Calls.{IsRead};
 ghost use Rattle.office_store.specs.Entries.{bit};
-ghost use Rattle.office_store.specs.Lists.{Cast, cast_row, standing_of, IsCastForm, AreVoteRows};
+ghost use Rattle.office_store.specs.Lists.{Cast, cast_row, standing_of, IsCastForm, AreVoteRows, first_of, voter_of, TellsVotes, TellsTally};
+ghost use Rattle.office_store.specs.Keys.{revision_params};
 ghost use Rattle.office_store.specs.Shown.{IsIdle};
 
 use crate::bind::of_number;
@@ -31,6 +34,7 @@ fn vote_rows<S: Alter>(
 ) -> Result<Vec<Row>, StoreFault>
     requires { IsIdle (state S.Store conn.old) }
     ensures read { IsRead (state S.Store conn.old) (state S.Store conn.new) result (λ t rows. AreVoteRows t profile.now number rows.items) }
+    ensures rows { HasCleanDisk (state S.Store conn.new) → FindsRows VOTES_ON.now (revision_params profile.now number) (state S.Store conn.old) (state S.Store conn.new) (map_ok result (λ rows. rows.items)) }
 {
     all_rows(conn, VOTES_ON, &of_number(profile, number))
 }
@@ -39,6 +43,7 @@ fn vote_rows<S: Alter>(
 fn flag_at(row: &Row, at: usize) -> Result<bool, StoreFault>
     ensures flag { (flag : Bool) → column row.now at ≡ Int (bit flag) → IfOk result (λ read. read ≡ flag) }
     ensures formed { (flag : Bool) → at < length row.now → column row.now at ≡ Int (bit flag) → result ≢ Err StoreFault.NotAnOffice }
+    ensures cause { IfErr result IsOfRow }
 {
     row.get(at).map_err(fault_of)
 }
@@ -47,6 +52,8 @@ fn flag_at(row: &Row, at: usize) -> Result<bool, StoreFault>
 fn read_vote(alloc: Global, row: &Row) -> Result<VoteRow, StoreFault>
     ensures vote { (cast : Cast) → row.now ≡ cast_row cast → IfOk result (λ vote. vote ≡ standing_of cast) }
     ensures formed { (cast : Cast) → row.now ≡ cast_row cast → IsCastForm cast → result ≢ Err StoreFault.NotAnOffice }
+    ensures voter { IfOk result (λ vote. first_of row.now ≡ voter_of vote) }
+    ensures cause { IfErr result IsOfRow }
 {
     let voter = word_at(alloc, row, 0)?;
     let approve = flag_at(row, 1)?;
@@ -65,6 +72,8 @@ fn read_vote(alloc: Global, row: &Row) -> Result<VoteRow, StoreFault>
 fn read_votes(alloc: Global, rows: &[Row]) -> Result<Vec<VoteRow>, StoreFault>
     ensures votes { (cast : List Cast) → rows.now ≡ map cast_row cast → IfOk result (λ votes. votes.items ≡ map standing_of cast) }
     ensures formed { (cast : List Cast) → rows.now ≡ map cast_row cast → AllByRecursion IsCastForm cast → result ≢ Err StoreFault.NotAnOffice }
+    ensures voters { IfOk result (λ votes. map first_of rows.now ≡ map voter_of votes.items) }
+    ensures cause { IfErr result IsOfRow }
 {
     let mut votes = Vec::new(alloc);
     for row in rows {
@@ -84,6 +93,7 @@ pub fn standing<S: Alter>(
 ) -> Result<Vec<VoteRow>, StoreFault>
     requires { IsIdle (state S.Store conn.old) }
     ensures read { IsRead (state S.Store conn.old) (state S.Store conn.new) result (λ t votes. AreStanding t profile.now number votes.items) }
+    ensures told { HasCleanDisk (state S.Store conn.new) → TellsRows VOTES_ON.now (revision_params profile.now number) (state S.Store conn.old) (state S.Store conn.new) TellsVotes (map_ok result (λ votes. votes.items)) }
 {
     let rows = vote_rows(conn, profile, number)?;
     read_votes(alloc, rows.as_slice())
@@ -151,6 +161,7 @@ pub fn tally<S: Alter>(
 ) -> Result<Tally, StoreFault>
     requires { IsIdle (state S.Store conn.old) }
     ensures read { IsRead (state S.Store conn.old) (state S.Store conn.new) result (λ t tally. IsTally t profile.now number tally) }
+    ensures told { HasCleanDisk (state S.Store conn.new) → TellsRows VOTES_ON.now (revision_params profile.now number) (state S.Store conn.old) (state S.Store conn.new) TellsTally result }
 {
     let votes = standing(alloc, conn, profile, number)?;
     Ok(count(votes.as_slice()))

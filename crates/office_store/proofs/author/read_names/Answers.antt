@@ -2,7 +2,6 @@ use Rattle.std.proofs.Common.{rules, ◌≡◌, ◌+◌, Err, [], ◌∷◌, ◌
 use Rattle.sqlite_rules.proofs.ListLemmas.{all_has}
 use Rattle.office_tables.specs.declared.fault.StoreFault.TheVariants.{NotAnOffice}
 use Rattle.std.proofs.Common.{ℕ, List, map, take}
-use Rattle.sqlite.specs.Order.{Row}
 use Rattle.office_store.specs.Lists.{name_row, IsWord}
 use Rattle.office_store.proofs.ListReads.{shows_at}
 use Rattle.office_store.proofs.ToldLists.{one_more_read, all_read}

@@ -3,7 +3,6 @@ use Rattle.std.proofs.Common.{rules, ◌≡◌, ◌+◌, Err, [], ◌∷◌, ◌
 use Rattle.sqlite_rules.proofs.ListLemmas.{all_has}
 use Rattle.office_tables.specs.declared.fault.StoreFault.TheVariants.{NotAnOffice}
 use Rattle.std.proofs.Common.{List, map, take}
-use Rattle.sqlite.specs.Order.{Row}
 use Rattle.office_store.specs.Lists.{listed_row, IsListedForm}
 use Rattle.office_store.proofs.ListReads.{shows_at}
 use Rattle.office_store.proofs.ToldLists.{one_more_read, all_read}

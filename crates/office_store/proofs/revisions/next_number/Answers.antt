@@ -1,4 +1,4 @@
-use Rattle.std.proofs.Common.{rules, ◌≡◌, Some, None, Ok, Err, sym, subst, refl}
+use Rattle.std.proofs.Common.{rules, Some, None, Ok, sym, subst, refl}
 use Rattle.sqlite.specs.Held.{state}
 use Rattle.office_store.specs.declared.revisions.TheConstants.{LAST_OF}
 use Rattle.office_store.specs.Keys.{profile_params}
