@@ -1,9 +1,14 @@
 // The reads of several rows, over memory.
 
+ghost use Rattle.sqlite.specs.Held.{state};
+ghost use Rattle.office_store.specs.Shown.{IsIdle};
+
 use crate::shared::{add, office, profile, user, word};
 use office_store::{Ballot, authors, is_author, put_user, put_vote, revisions_of, standing, tally};
-use office_tables::Tally;
-use review_policy::State;
+use office_tables::{StoreFault, UserRow};
+use review_policy::{ProfileName, State};
+use sqlite::{Alter, Connection};
+use std::alloc::Global;
 use std::test::Fail;
 
 #[test]
@@ -52,9 +57,19 @@ fn the_revisions_of_a_team_stand_by_profile_and_number(rt: HostRuntime) -> Resul
     Ok(())
 }
 
-// The approvals, those with security and the rejections.
-fn told(tally: Tally) -> (u64, u64, u64) {
-    (tally.approvals, tally.secure, tally.rejections)
+// The approvals, those with security and the rejections of the first revision, once a user is enrolled anew.
+fn told_with<S: Alter>(
+    alloc: Global,
+    conn: &mut Connection<S>,
+    name: &ProfileName,
+    voter: &UserRow,
+) -> Result<(u64, u64, u64), StoreFault>
+    requires { IsIdle (state S.Store conn.old) }
+    ensures { IsIdle (state S.Store conn.new) }
+{
+    put_user(conn, voter)?;
+    let tally = tally(alloc, conn, name, 1)?;
+    Ok((tally.approvals, tally.secure, tally.rejections))
 }
 
 #[test]
@@ -64,29 +79,32 @@ fn a_vote_counts_by_the_present_roles_of_its_voter(rt: HostRuntime) -> Result<()
     let web = profile(alloc, "blue", "web")?;
     let sue = user(alloc, "sue", 12, 3)?;
     let ray = user(alloc, "ray", 4, 2)?;
-    put_user(&mut conn, &sue)?;
-    put_user(&mut conn, &ray)?;
-    for (voter, approves, security) in [
-        (&sue.name, false, true),
-        (&sue.name, true, true),
-        (&ray.name, false, false),
-    ] {
-        put_vote(&mut conn, &web, 1, voter, Ballot { approves, security })?;
-    }
-    for (name, bits, byte, wanted) in [
-        ("sue", 12, 3, (1, 1, 1)),
-        ("sue", 4, 3, (1, 0, 1)),
-        ("sue", 8, 3, (0, 0, 1)),
-        ("ray", 0, 2, (0, 0, 0)),
-        ("sue", 12, 3, (1, 1, 0)),
-    ] {
-        put_user(&mut conn, &user(alloc, name, bits, byte)?)?;
-        assert_eq!(rt;
-            told(tally(alloc, &mut conn, &web, 1)?),
-            wanted,
-            "{name} {bits}"
-        );
-    }
+    let secure = Ballot {
+        approves: true,
+        security: true,
+    };
+    let rejects = Ballot {
+        approves: false,
+        security: false,
+    };
+    put_vote(&mut conn, &web, 1, &sue.name, rejects)?;
+    put_vote(&mut conn, &web, 1, &sue.name, secure)?;
+    put_vote(&mut conn, &web, 1, &ray.name, rejects)?;
+    assert_eq!(rt; told_with(alloc, &mut conn, &web, &ray), Ok((0, 0, 1)));
+    assert_eq!(rt; told_with(alloc, &mut conn, &web, &sue), Ok((1, 1, 1)));
+    let no_security = user(alloc, "sue", 4, 3)?;
+    assert_eq!(rt;
+        told_with(alloc, &mut conn, &web, &no_security),
+        Ok((1, 0, 1))
+    );
+    let no_reviewer = user(alloc, "sue", 8, 3)?;
+    assert_eq!(rt;
+        told_with(alloc, &mut conn, &web, &no_reviewer),
+        Ok((0, 0, 1))
+    );
+    let no_roles = user(alloc, "ray", 0, 2)?;
+    assert_eq!(rt; told_with(alloc, &mut conn, &web, &no_roles), Ok((0, 0, 0)));
+    assert_eq!(rt; told_with(alloc, &mut conn, &web, &sue), Ok((1, 1, 0)));
     let votes = standing(alloc, &mut conn, &web, 1)?;
     let wanted = [("ray", false, false, false), ("sue", true, true, true)];
     assert_eq!(rt; votes.len(), 2);
