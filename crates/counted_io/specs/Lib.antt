@@ -1,2 +1,4 @@
 pub mod Counts
+pub mod Some
 pub mod Steps
+pub mod UpTo

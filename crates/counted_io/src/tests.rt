@@ -1,4 +1,7 @@
-use crate::{Counted, ReadStep, WriteFailed, is_interrupted, read_step, write_whole};
+use crate::{
+    Counted, ReadStep, SomeRead, Unread, WriteFailed, is_interrupted, read_some, read_step,
+    read_up_to, write_whole,
+};
 use std::alloc::{AllocError, Global};
 use std::io;
 use std::io::{ErrorKind, Read, Write};
@@ -153,5 +156,105 @@ fn only_an_interruption_is_one(rt: HostRuntime) {
 fn a_failed_write_has_the_word_write(rt: HostRuntime) -> Result<(), AllocError> {
     let text = format!(in rt.alloc(); "{}", WriteFailed)?;
     assert_eq!(rt; text.as_str(), "write");
+    Ok(())
+}
+
+#[test]
+fn some_bytes_are_read_past_an_interruption(rt: HostRuntime) {
+    let mut reader = Counted::new(Halting { calls: 0 });
+    let mut buffer = [0u8; 8];
+    assert_eq!(rt; read_some(&mut reader, &mut buffer, 9), SomeRead::Bytes(1));
+    assert_eq!(rt; buffer[0], b'a');
+    assert_eq!(rt; reader.calls(), 2);
+    assert_eq!(rt; SomeRead::Bytes(1).count(), 1);
+    assert_eq!(rt; read_some(&mut reader, &mut buffer, 9), SomeRead::Failed);
+    assert_eq!(rt; SomeRead::Failed.count(), 0);
+    assert_eq!(rt; read_some(&mut reader, &mut buffer, 9), SomeRead::End);
+    assert_eq!(rt; reader.calls(), 4);
+    assert_eq!(rt; reader.faults(), 1);
+}
+
+// A reader that is interrupted at each call.
+#[derive(Drop)]
+struct Interrupted;
+
+impl Read for Interrupted {
+    fn read(&mut self, _buf: &mut [u8]) -> io::Result<usize> {
+        Err(io::Error::from(ErrorKind::Interrupted))
+    }
+}
+
+#[test]
+fn a_reader_that_is_always_interrupted_is_called_as_often_as_is_allowed(rt: HostRuntime) {
+    let mut reader = Counted::new(Interrupted);
+    let mut buffer = [0u8; 8];
+    assert_eq!(rt;
+        read_some(&mut reader, &mut buffer, 5),
+        SomeRead::TooManyReads
+    );
+    assert_eq!(rt; reader.calls(), 5);
+    assert_eq!(rt; reader.faults(), 0);
+    assert_eq!(rt;
+        read_some(&mut reader, &mut buffer, 5),
+        SomeRead::TooManyReads
+    );
+    assert_eq!(rt; reader.calls(), 5);
+}
+
+// A reader that gives its text three bytes a call.
+#[derive(Drop)]
+struct Slow<'a> {
+    text: &'a [u8],
+}
+
+impl Read for Slow<'_> {
+    fn read(&mut self, buf: &mut [u8]) -> io::Result<usize> {
+        let count = self.text.len().min(buf.len()).min(3);
+        buf[..count].copy_from_slice(&self.text[..count]);
+        self.text = &self.text[count..];
+        Ok(count)
+    }
+}
+
+#[test]
+fn all_is_read_up_to_a_number_of_bytes(rt: HostRuntime) -> Result<(), Unread> {
+    for (most, read, calls) in [
+        (0, b"".as_slice(), 0),
+        (3, b"pro".as_slice(), 1),
+        (6, b"profil".as_slice(), 2),
+        (7, b"profile".as_slice(), 3),
+        (8, b"profile".as_slice(), 4),
+    ] {
+        let mut reader = Counted::new(Slow { text: b"profile" });
+        let bytes = read_up_to(rt.alloc(), &mut reader, most, 4)?;
+        assert_eq!(rt; bytes.as_slice(), read);
+        assert_eq!(rt; reader.calls(), calls);
+    }
+    Ok(())
+}
+
+#[test]
+fn bytes_are_not_read_where_a_call_fails_or_there_are_too_many(rt: HostRuntime) {
+    let mut reader = Counted::new(Slow { text: b"profile" });
+    let read = read_up_to(rt.alloc(), &mut reader, 8, 3);
+    assert!(rt; matches!(read, Err(Unread::TooManyReads)));
+    assert_eq!(rt; reader.calls(), 3);
+    let mut reader = Counted::new(Halting { calls: 0 });
+    let read = read_up_to(rt.alloc(), &mut reader, 8, 9);
+    assert!(rt; matches!(read, Err(Unread::Failed)));
+    assert_eq!(rt; reader.calls(), 3);
+    assert_eq!(rt; reader.faults(), 1);
+}
+
+#[test]
+fn each_cause_of_unread_bytes_has_its_word(rt: HostRuntime) -> Result<(), AllocError> {
+    for (why, word) in [
+        (Unread::Failed, "read"),
+        (Unread::TooManyReads, "too-many-reads"),
+        (Unread::NoMemory, "memory"),
+    ] {
+        let text = format!(in rt.alloc(); "{why}")?;
+        assert_eq!(rt; text.as_str(), word);
+    }
     Ok(())
 }

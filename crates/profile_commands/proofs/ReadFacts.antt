@@ -1,11 +1,7 @@
 -- What the bytes of a file read as.
 use Rattle.std.proofs.Common.{◌≡◌, ◌∙◌, ℕ, ◌<◌, List, [], ◌++◌, Option, None, Some, IfSome, Ok, Err, length, length-append, append-nil, refl, sym, ap, arith, inl, inr, lt-ltb}
-use Rattle.std.proofs.lemmas.List.{take-append-le}
 use Rattle.std.specs.Io.KnownBytes.{Consumes, IsAtEnd}
 use Rattle.std.proofs.lemmas.Bool.{cases_lt}
-use Rattle.counted_io.specs.declared.step.ReadStep.{ReadStep}
-use Rattle.counted_io.specs.declared.step.ReadStep.TheVariants.{Bytes, End, Interrupted, Failed}
-use Rattle.counted_io.specs.Steps.{StepConsumes}
 use Rattle.profile_text.specs.declared.document.Document.{Document}
 use Rattle.profile_text.specs.declared.fault.DocFault.{DocFault}
 use Rattle.profile_text.specs.declared.fault.DocFault.TheVariants.{TooLong}
@@ -13,14 +9,6 @@ use Rattle.profile_text.specs.declared.profile.Profile.{Profile}
 use Rattle.profile_text.specs.Reading.{Gives, reading_of, most_bytes}
 use Rattle.profile_commands.specs.declared.fault.FileFault.{FileFault}
 use Rattle.profile_commands.specs.Refusal.{IsReadAs, IsRefusalOf, RefusesAs}
-
--- what was consumed stands at the front of a longer buffer too
-pub step_widened : (old new : Option (List ℕ)) (step : ReadStep) (part rest : List ℕ) → StepConsumes old new step part → StepConsumes old new step (part ++ rest)
-step_widened old new (Bytes n) part rest (some, fits, bytes) =
-    (some, omega (arith, length-append part rest), rw (take-append-le n part rest fits) bytes)
-step_widened old new End part rest step = step
-step_widened old new Interrupted part rest step = step
-step_widened old new Failed part rest step = step
 
 -- bytes that are too many are no document
 too_long : (bytes : List ℕ) → most_bytes < length bytes → reading_of bytes ≡ Err TooLong

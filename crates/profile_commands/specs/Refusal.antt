@@ -1,8 +1,8 @@
 -- What a command says of the bytes of a file, and why it says nothing of them.
-use Rattle.std.specs.Prelude.{◌≡◌, ◌≢◌, ◌⊎◌, ◌+◌, ◌<◌, ◌≤◌, ℕ, List, [], ◌∷◌, ◌++◌, Result, Ok, Err, String, string_bytes}
+use Rattle.std.specs.Prelude.{◌≡◌, ◌≢◌, ◌⊎◌, ◌+◌, ◌<◌, ℕ, List, [], ◌∷◌, ◌++◌, Result, Ok, Err, String, string_bytes}
 use Rattle.std.specs.declared.alloc.Global.{Global}
-use Rattle.counted_io.specs.declared.step.ReadStep.{ReadStep}
-use Rattle.counted_io.specs.declared.step.ReadStep.TheVariants.{Bytes}
+use Rattle.counted_io.specs.declared.up_to.Unread.{Unread}
+use Rattle.counted_io.specs.declared.up_to.Unread.TheVariants as unread
 use Rattle.profile_text.specs.declared.document.Document.{Document as ReadDocument}
 use Rattle.profile_text.specs.declared.fault.DocFault.{DocFault}
 use Rattle.profile_text.specs.declared.fault.DocFault.TheVariants as faults
@@ -11,13 +11,6 @@ use Rattle.profile_text.specs.Reading.{reading_of}
 use Rattle.profile_text.specs.Text.{text_of}
 use Rattle.profile_commands.specs.declared.fault.FileFault.{FileFault}
 use Rattle.profile_commands.specs.declared.fault.FileFault.TheVariants.{Read, TooManyReads, Document, NoMemory}
-use Rattle.profile_commands.specs.declared.file_bytes.Unread.{Unread}
-use Rattle.profile_commands.specs.declared.file_bytes.Unread.TheVariants as unread
-
--- no more than this many bytes were read
-abbrev pub IsWithin : ℕ → ReadStep → Type 0
-IsWithin most (Bytes n) = n ≤ most
-IsWithin most _ = Unit {0}
 
 -- a fault of a document is told as it is, but want of memory is no fault of it
 abbrev pub IsRefusalOf : DocFault → FileFault → Type 0

@@ -5,8 +5,8 @@ ghost use Rattle.profile_text.specs.Reading.{HasItsText};
 ghost use Rattle.profile_commands.specs.Refusal.{AgreesWithReads, IsReadAs};
 
 use crate::fault::FileFault;
-use crate::file_bytes::{Unread, file_bytes};
-use counted_io::Counted;
+use crate::file_bytes::file_bytes;
+use counted_io::{Counted, Unread};
 use profile_text::{Document, read_with_text};
 use std::alloc::Global;
 use std::io::Read;

@@ -1,0 +1,4 @@
+pub mod BufferFacts
+pub mod HandedFacts
+pub mod HeldFacts
+pub mod LineFacts

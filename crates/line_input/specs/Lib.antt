@@ -1,0 +1,5 @@
+pub mod Filled
+pub mod Found
+pub mod Handed
+pub mod Held
+pub mod Lines
