@@ -1,17 +1,19 @@
 -- One more line is handled, and its answer is written, or cut short.
-use Rattle.std.proofs.Common.{◌≡◌, ◌∙◌, ℕ, ◌+◌, ◌<◌, List, [], ◌∷◌, ◌++◌, Option, length, take, refl, sym, ap, subst, arith, append-nil, append_assoc, length-append}
+use Rattle.std.proofs.Common.{◌≡◌, ◌∙◌, ℕ, ◌<◌, List, [], ◌∷◌, ◌++◌, Option, length, take, refl, sym, ap, subst, arith, append-nil, append_assoc, length-append}
 use Rattle.std.proofs.KnownBytes.{Appends-nil, Appends-trans}
 use Rattle.std.specs.Io.KnownBytes.{Appends}
 use Rattle.counted_io.specs.Steps.{AppendsPart}
-use Rattle.office_desk.specs.declared.office.Office.{Office}
+use Rattle.sqlite.specs.State.{State}
 use Rattle.office_policy.specs.History.{History}
-use Rattle.office_desk.specs.Handled.{IsOffice}
+use Rattle.office_desk.specs.Offices.{IsOffice}
 use Rattle.request_lines.specs.Answers.{line_of}
 use Rattle.request_lines.specs.Bad.{bad_line}
 use Rattle.desk.specs.declared.outcome.Outcome.{Outcome}
 use Rattle.desk.specs.declared.outcome.Outcome.TheVariants.{Bad, NoMemory, Answered}
 use Rattle.desk.specs.Outcomes.{IsOutcome, history_after_line, told, AreOutcomes, history_after_lines, transcript}
+use Rattle.desk.specs.Left.{LeftAfterLines}
 use Rattle.desk.specs.Stands.{IsHandled, AreHandled, AreAnswered, AreCutShort}
+use Rattle.desk.proofs.LeftFacts.{left_more_lines, left_by_more}
 
 outcomes_more : (h : History) (lines : List (List ℕ)) (os : List Outcome) (line : List ℕ) (o : Outcome) → AreOutcomes h lines os
     → IsOutcome (history_after_lines h os) line o → AreOutcomes h (lines ++ line ∷ []) (os ++ o ∷ [])
@@ -35,17 +37,27 @@ told_some (Bad fault) = omega (arith, length-append {A = ℕ})
 told_some NoMemory = omega (arith, length-append {A = ℕ})
 told_some (Answered request answer) = omega (arith, length-append {A = ℕ})
 
-handled_more : (old mid new : Office) (lines : List (List ℕ)) (os : List Outcome) (line : List ℕ) (o : Outcome) → AreHandled old mid lines os → IsHandled mid new line o
-    → AreHandled old new (lines ++ line ∷ []) (os ++ o ∷ [])
+pub handled_more : (old mid new : State) (lines : List (List ℕ)) (os : List Outcome) (line : List ℕ) (o : Outcome)
+    → AreHandled old mid lines os → IsHandled mid new line o → AreHandled old new (lines ++ line ∷ []) (os ++ o ∷ [])
 handled_more old mid new lines os line o s more = record {
-  policy = λ h is. outcomes_more h lines os line o (s.policy h is) (more.policy (history_after_lines h os) (s.office h is));
-  office = λ h is. subst (λ (x : History). IsOffice x new) (sym (after_more h os o)) (more.office (history_after_lines h os) (s.office h is));
+  clean = λ clean. s.clean (more.clean clean);
+  policy = λ h office clean.
+      outcomes_more h lines os line o (s.policy h office (more.clean clean)) (more.policy (history_after_lines h os) (s.office h office) clean);
+  office = λ h office. subst (λ (x : History). IsOffice x new) (sym (after_more h os o)) (more.office (history_after_lines h os) (s.office h office));
+  crash = λ h office clean trees may.
+      let left = more.crash (history_after_lines h os) (s.office h office) clean trees may in
+      let before = s.crash h office (more.clean clean) in
+      left_more_lines old.may_leave h os o trees (left_by_more mid.may_leave (LeftAfterLines old.may_leave h os) (history_after_lines h os) o before trees left);
 }
 
-pub answered_none : (o : Office) (w : Option (List ℕ)) → AreAnswered o o w w []
-answered_none o w = record { outcomes = []; handled = record { policy = λ h is. tt; office = λ h is. is }; written = Appends-nil w }
+pub none_handled : (s : State) → AreHandled s s [] []
+none_handled s = record { clean = λ clean. clean; policy = λ h office clean. tt; office = λ h office. office; crash = λ h office clean trees may. may }
 
-module _ (old mid new : Office) (before between after : Option (List ℕ)) (lines : List (List ℕ)) (line : List ℕ) (o : Outcome) (so_far : AreAnswered old mid before between lines) (more : IsHandled mid new line o) where
+pub answered_none : (s : State) (w : Option (List ℕ)) → AreAnswered s s w w []
+answered_none s w = record { outcomes = []; handled = none_handled s; written = Appends-nil w }
+
+module _ (old mid new : State) (before between after : Option (List ℕ)) (lines : List (List ℕ)) (line : List ℕ) (o : Outcome)
+    (so_far : AreAnswered old mid before between lines) (more : IsHandled mid new line o) where
   pub answered_more : Appends between after (told o) → AreAnswered old new before after (lines ++ line ∷ [])
   answered_more writes = record {
     outcomes = so_far.outcomes ++ o ∷ [];

@@ -1,132 +1,198 @@
--- How far the answering of some bytes has come, and what stands where it stopped.
-use Rattle.std.proofs.Common.{◌≡◌, ◌∙◌, ℕ, zero, suc, ◌+◌, ◌<◌, ◌≤◌, List, [], ◌∷◌, ◌++◌, Option, Some, None, IfSome, Result, Ok, Err, length, take, refl, sym, ap, subst, arith, append_assoc, append-nil, length-append, add-one}
-use Rattle.std.proofs.lemmas.List.{take-append-le}
-use Rattle.std.proofs.KnownBytes.{Consumes-whole}
-use Rattle.std.specs.Prelude.{⊤, IfErr, IsErrAnd}
-use Rattle.std.specs.Io.KnownBytes.{Appends, Consumes, IsAtEnd}
-use Rattle.office_desk.specs.declared.office.Office.{Office}
-use Rattle.request_lines.specs.Lines.{lines_of}
+-- How far the answering of a stream has come, and what stands where it stops.
+use Rattle.std.proofs.Common.{◌≡◌, ◌∙◌, ℕ, zero, suc, ◌+◌, ◌<◌, ◌≤◌, List, [], ◌∷◌, ◌++◌, Option, Some}
+use Rattle.std.proofs.Common.{None, IfSome, Result, Ok, Err, length, take, refl, sym, ap, subst, arith, length-append, add-one}
+use Rattle.std.specs.Prelude.{⊤, OnOk, IfErr, IsErrAnd}
+use Rattle.std.specs.Io.KnownBytes.{IsAtEnd}
+use Rattle.sqlite.specs.State.{State}
+use Rattle.line_input.specs.Handed.{Handed, KeepsHanded, HandsOut}
+use Rattle.line_input.specs.Held.{Held, Holds, HasLine, size}
+use Rattle.line_input.specs.Lines.{first_line, lines_of, NoFeed}
+use Rattle.line_input.proofs.HandedFacts.{all_handed, last_held, next_held}
+use Rattle.line_input.proofs.HeldFacts.{holds_no_feed}
 use Rattle.desk.specs.declared.fault.DeskFault.{DeskFault}
 use Rattle.desk.specs.declared.fault.DeskFault.TheVariants.{Read, Write, TooManyReads, NoMemory}
 use Rattle.desk.specs.declared.outcome.Outcome.{Outcome}
-use Rattle.desk.specs.declared.serve.Untold.{Untold}
-use Rattle.desk.specs.declared.serve.Untold.TheVariants as untold
-use Rattle.desk.specs.Written.{IsWritten}
 use Rattle.desk.specs.Outcomes.{told}
-use Rattle.desk.specs.Parts.{IsCut}
-use Rattle.desk.specs.Stands.{IsHandled, AreAnswered, AreCutShort, StopsWriting, StandsAfter, IsUnfinished}
-use Rattle.desk.proofs.OutcomeFacts.{answered_none, answered_more, cut_short, cut_before}
-use Rattle.desk.proofs.PartFacts.{lines_of-whole}
+use Rattle.desk.specs.Stands.{IsHandled, HasHandled, AreAnswered, AreCutShort, StopsWriting, StandsAfter, IsUnfinished}
+use Rattle.desk.specs.declared.serve.Untold.{Untold}
+use Rattle.desk.specs.Written.{IsWritten, IsServed}
+use Rattle.desk.proofs.OutcomeFacts.{answered_none, answered_more, cut_short, cut_before, none_handled, handled_more}
 
--- the lines before the rest are answered
-pub record Progress (old now : Office) (before current : Option (List ℕ)) (bytes rest : List ℕ) (number : ℕ) : Type 0 where
-  pub done : List (List ℕ)
-  pub split : lines_of bytes ≡ done ++ lines_of rest
-  pub count : number ≡ length done
-  pub answered : AreAnswered old now before current done
+-- the lines that were handed out are answered
+pub record Progress (old now : State) (held : Held) (unread rest before current : Option (List ℕ)) (number : ℕ) : Type 0 where
+  pub lines : List (List ℕ)
+  pub handed : Handed held unread rest lines
+  pub count : number ≡ length lines
+  pub answered : AreAnswered old now before current lines
 
-pub progress_none : (o : Office) (w : Option (List ℕ)) (bytes : List ℕ) → Progress o o w w bytes bytes 0
-progress_none o w bytes = record { done = []; split = refl; count = refl; answered = answered_none o w }
+pub progress_none : (s : State) (held : Held) (stream w : Option (List ℕ)) → ((any : Option (List ℕ)) → Handed held any any [])
+    → Progress s s held stream stream w w 0
+progress_none s held stream w none = record { lines = []; handed = none stream; count = refl; answered = answered_none s w }
 
-no_lines : (rest : List ℕ) → length rest ≡ 0 → lines_of rest ≡ []
-no_lines [] none = refl
-no_lines (b ∷ rest) none = absurd (omega arith)
-
-pub progress_all : (old now : Office) (before current : Option (List ℕ)) (bytes rest : List ℕ) (number : ℕ) → Progress old now before current bytes rest number → length rest ≡ 0
-    → (number ≡ length (lines_of bytes)) × AreAnswered old now before current (lines_of bytes)
-progress_all old now before current bytes rest number p none =
-    let all : lines_of bytes ≡ p.done = p.split ∙ ap (λ ls. p.done ++ ls) (no_lines rest none) ∙ append-nil p.done in
-    rw all (p.count, p.answered)
+-- more is read, and nothing else happens
+pub progress_read : (old now : State) (held next : Held) (unread was rest before current : Option (List ℕ)) (number : ℕ)
+    → Progress old now held unread was before current number
+    → KeepsHanded held next was rest → Progress old now next unread rest before current number
+progress_read old now held next unread was rest before current number p keeps =
+    record { lines = p.lines; handed = keeps unread p.lines p.handed; count = p.count; answered = p.answered }
 
 -- the front of a list up to and with one more item
 front : (done others : List (List ℕ)) (first : List ℕ) → take (suc (length done)) (done ++ first ∷ others) ≡ done ++ first ∷ []
 front [] others first = refl
 front (l ∷ done) others first = ap (λ ls. l ∷ ls) (front done others first)
 
-pub unwritten_as : (before after : Option (List ℕ)) (text : List ℕ) (e d : Untold) → e ≡ d → IsWritten before after text (Err e) → IsWritten before after text (Err d)
+pub none_has : (s : State) → HasHandled s s
+none_has s = record { lines = []; outcomes = []; handled = none_handled s }
+
+pub unwritten_as : (before after : Option (List ℕ)) (text : List ℕ) (e d : Untold) → e ≡ d → IsWritten before after text (Err e)
+    → IsWritten before after text (Err d)
 unwritten_as before after text e d same w = subst (λ (x : Untold). IsWritten before after text (Err x)) same w
 
-module _ (old mid new : Office) (before between after : Option (List ℕ)) (bytes rest first others : List ℕ) (number : ℕ) (p : Progress old mid before between bytes rest number) (next : lines_of rest ≡ first ∷ lines_of others) where
-  all_is : lines_of bytes ≡ p.done ++ first ∷ lines_of others
-  all_is = p.split ∙ ap (λ ls. p.done ++ ls) next
+-- what an exit of `?` passes on
+pub passed_on : (r : Result ⊤ DeskFault) (e : DeskFault) → IsErrAnd r (λ x. x ≡ e) → r ≡ Err e
+passed_on (Ok x) e is = absurd is
+passed_on (Err x) e is = ap Err is
 
-  up_to : take (number + 1) (lines_of bytes) ≡ p.done ++ first ∷ []
-  up_to = rw (all_is, p.count, add-one) (front p.done (lines_of others) first)
+-- the first line that is held is handled, and this is written for it
+abbrev pub ServesFirst : (mid new : State) → Held → (between after : Option (List ℕ)) → ℕ → Result ⊤ DeskFault → Type 0
+ServesFirst mid new held between after number result =
+    (bytes : List ℕ) → Holds held bytes → (o : Outcome) × IsHandled mid new (first_line bytes) o × IsServed between after (told o) number result
 
-  within : number + 1 ≤ length (lines_of bytes)
-  within = omega (arith, ap length all_is, length-append p.done (first ∷ lines_of others), p.count)
+-- ---- where the reading stops
 
-  pub progress_more : (told : (o : Outcome) × IsHandled mid new first o × IsWritten between after (told o) (Ok tt)) → Progress old new before after bytes others (number + 1)
-  progress_more (o, more, writes) = record {
-    done = p.done ++ first ∷ [];
-    split = p.split ∙ ap (λ ls. p.done ++ ls) next ∙ sym (append_assoc p.done (first ∷ []) (lines_of others));
-    count = ap (λ n. n + 1) p.count ∙ sym (length-append p.done (first ∷ []));
-    answered = answered_more old mid new before between after p.done first o p.answered more writes;
+module _ (old now : State) (held : Held) (unread rest before current : Option (List ℕ)) (number : ℕ)
+    (p : Progress old now held unread rest before current number) where
+  pub some_handled : HasHandled old now
+  some_handled = record { lines = p.lines; outcomes = p.answered.outcomes; handled = p.answered.handled }
+
+  pub all_answered : size held ≡ 0 → IsAtEnd rest → IfSome unread (λ input. AreAnswered old now before current (lines_of input))
+  all_answered none end = with_all unread (all_handed held unread rest p.lines p.handed none end)
+    where
+      with_all : (u : Option (List ℕ)) → IfSome u (λ input. lines_of input ≡ p.lines) → IfSome u (λ input. AreAnswered old now before current (lines_of input))
+      with_all None all = tt
+      with_all (Some input) all = subst (λ (ls : List (List ℕ)). AreAnswered old now before current ls) (sym all) p.answered
+
+  -- what is held is a part of a line, of which nothing is handled
+  pub unfinished : NoFeed held.bytes → IsUnfinished old now unread rest before current (number + 1)
+  unfinished none = record {
+    bytes = p.handed.whole ++ p.handed.rest;
+    whole = p.handed.whole;
+    unfinished = p.handed.rest;
+    read = p.handed.read;
+    cut = record { parts = refl; ended = p.handed.ended; no_feed = holds_no_feed held p.handed.rest p.handed.holds none };
+    number = add-one number ∙ ap suc (p.count ∙ ap length p.handed.lines_are);
+    answered = subst (λ (ls : List (List ℕ)). AreAnswered old now before current ls) p.handed.lines_are p.answered;
   }
 
-  pub progress_cut : (told : (o : Outcome) × IsHandled mid new first o × IsWritten between after (told o) (Err untold.Write)) → StopsWriting old new before after (lines_of bytes) (Write (number + 1))
-  progress_cut (o, more, part) =
-      let cut : (count : ℕ) × AreCutShort old new before after (p.done ++ first ∷ []) count = cut_short old mid new before between after p.done first o p.answered more part in
-      (omega arith, within, cut.0, rw up_to cut.1)
+  -- what is held is the next line of the stream
+  abbrev pub IsNext : Type 0
+  IsNext = IfSome unread (λ input. (more : List (List ℕ)) × (lines_of input ≡ p.lines ++ first_line p.handed.rest ∷ more))
 
-  pub progress_untold : (told : (o : Outcome) × IsHandled mid new first o × IsWritten between after (told o) (Err untold.NoMemory)) → StopsWriting old new before after (lines_of bytes) (NoMemory (number + 1))
-  progress_untold (o, more, same) = (omega arith, within, rw (up_to, same) (cut_before old mid new before between after p.done first o p.answered more))
+  pub next_whole : HasLine held.bytes → IsNext
+  next_whole has = next_held held unread rest p.lines p.handed has
 
--- ---- what an exit of `?` passes on
+  pub next_last : NoFeed held.bytes → 0 < size held → IsAtEnd rest → IsNext
+  next_last none some end = with_last unread (last_held held unread rest p.lines p.handed none some end)
+    where
+      with_last : (u : Option (List ℕ)) → IfSome u (λ input. lines_of input ≡ p.lines ++ first_line p.handed.rest ∷ [])
+          → IfSome u (λ input. (more : List (List ℕ)) × (lines_of input ≡ p.lines ++ first_line p.handed.rest ∷ more))
+      with_last None all = tt
+      with_last (Some input) all = ([], all)
 
-pub passed_on : {T E : Type 0} (r : Result T E) (e : E) (P : E → Type 0) → IsErrAnd r (λ x. x ≡ e) → P e → IfErr r P
-passed_on (Ok x) e P is p = absurd is
-passed_on (Err x) e P is p = subst P (sym is) p
+-- ---- the line that is held
 
--- ---- lines of more than what was read
+module _ (old mid new : State) (held : Held) (unread rest before between after : Option (List ℕ)) (number : ℕ)
+    (p : Progress old mid held unread rest before between number) where
+  abbrev line : List ℕ
+  line = first_line p.handed.rest
 
-longer : (old new : Office) (before after : Option (List ℕ)) (lines more : List (List ℕ)) (e : DeskFault) → StopsWriting old new before after lines e → StopsWriting old new before after (lines ++ more) e
-longer old new before after lines more (Write line) s = (s.0, omega (arith, s.1, length-append lines more), s.2, rw (take-append-le line lines more s.1) s.3)
-longer old new before after lines more (NoMemory line) s = (s.0, omega (arith, s.1, length-append lines more), rw (take-append-le line lines more s.1) s.2)
-longer old new before after lines more (Read line) s = s
-longer old new before after lines more (TooManyReads line) s = s
+  pub served_handled : (result : Result ⊤ DeskFault) → ServesFirst mid new held between after (number + 1) result → HasHandled old new
+  served_handled result serves =
+      let so = serves p.handed.rest p.handed.holds in
+      record {
+        lines = p.lines ++ line ∷ [];
+        outcomes = p.answered.outcomes ++ so.0 ∷ [];
+        handled = handled_more old mid new p.lines p.answered.outcomes line so.0 p.answered.handled so.1;
+      }
 
-if_longer : (old new : Office) (unread before after : Option (List ℕ)) (lines : List (List ℕ)) (e : DeskFault) → IfSome unread (λ input. (more : List (List ℕ)) × (lines_of input ≡ lines ++ more))
-    → StopsWriting old new before after lines e → IfSome unread (λ input. StopsWriting old new before after (lines_of input) e)
-if_longer old new None before after lines e all s = tt
-if_longer old new (Some input) before after lines e all s = subst (λ (ls : List (List ℕ)). StopsWriting old new before after ls e) (sym all.1) (longer old new before after lines all.0 e s)
+  -- its number is not 0
+  pub served_later : (result : Result ⊤ DeskFault) → ServesFirst mid new held between after (number + 1) result → result ≡ Err (NoMemory 0) → ⊥
+  served_later result serves is =
+      let none : ServesFirst mid new held between after (number + 1) (Err (NoMemory 0)) =
+      subst (λ (r : Result ⊤ DeskFault). ServesFirst mid new held between after (number + 1) r) is serves in
+      omega (arith, (none p.handed.rest p.handed.holds).2.0)
 
-cut_lines : (unread rest : Option (List ℕ)) (bytes whole unfinished : List ℕ) → Consumes unread rest bytes → IsCut bytes whole unfinished
-    → IfSome unread (λ input. (more : List (List ℕ)) × (lines_of input ≡ lines_of whole ++ more))
-cut_lines None rest bytes whole unfinished read cut = tt
-cut_lines (Some input) None bytes whole unfinished read cut = absurd read
-cut_lines (Some input) (Some left) bytes whole unfinished read cut = (
-  lines_of (unfinished ++ left),
-  ap lines_of (read ∙ ap (λ bs. bs ++ left) cut.parts ∙ append_assoc whole unfinished left) ∙ lines_of-whole whole (unfinished ++ left) cut.ended,
-)
+  served_whole : ServesFirst mid new held between after (number + 1) (Ok tt) → AreAnswered old new before after (p.lines ++ line ∷ [])
+  served_whole serves =
+      let so = serves p.handed.rest p.handed.holds in
+      answered_more old mid new before between after p.lines line so.0 p.answered so.1 so.2
 
-module _ (old new : Office) (unread rest before after : Option (List ℕ)) where
-  stands : (lines : List (List ℕ)) → IfSome unread (λ input. (more : List (List ℕ)) × (lines_of input ≡ lines ++ more)) → (e : DeskFault) → StopsWriting old new before after lines e
-      → StandsAfter old new unread rest before after e
-  stands lines all (Write line) s = if_longer old new unread before after lines (Write line) all s
-  stands lines all (NoMemory zero) s = absurd (omega (arith, s.0))
-  stands lines all (NoMemory (suc k)) s = if_longer old new unread before after lines (NoMemory (suc k)) all s
-  stands lines all (Read line) s = absurd s
-  stands lines all (TooManyReads line) s = absurd s
-
-  -- the lines of all that there was
-  pub stands_at_end : (bytes : List ℕ) → Consumes unread rest bytes → IsAtEnd rest → (e : DeskFault) → StopsWriting old new before after (lines_of bytes) e → StandsAfter old new unread rest before after e
-  stands_at_end bytes read end e s =
-      stands (lines_of bytes) (Consumes-whole unread rest bytes (λ input. (more : List (List ℕ)) × (lines_of input ≡ lines_of bytes ++ more)) read end ([], sym (append-nil (lines_of bytes)))) e s
-
-  -- the whole lines of what was read
-  pub stands_cut : (bytes whole unfinished : List ℕ) → Consumes unread rest bytes → IsCut bytes whole unfinished → (e : DeskFault) → StopsWriting old new before after (lines_of whole) e
-      → StandsAfter old new unread rest before after e
-  stands_cut bytes whole unfinished read cut e s = stands (lines_of whole) (cut_lines unread rest bytes whole unfinished read cut) e s
-
-  pub unfinished_at : (bytes whole unfinished : List ℕ) (number : ℕ) → Consumes unread rest bytes → IsCut bytes whole unfinished → number ≡ length (lines_of whole)
-      → AreAnswered old new before after (lines_of whole) → IsUnfinished old new unread rest before after (number + 1)
-  unfinished_at bytes whole unfinished number read cut count answered = record {
-    bytes = bytes;
-    whole = whole;
-    unfinished = unfinished;
-    read = read;
-    cut = cut;
-    number = add-one number ∙ ap suc count;
-    answered = answered;
+  pub progress_more : (next : Held) → HandsOut held next → ServesFirst mid new held between after (number + 1) (Ok tt)
+      → Progress old new next unread rest before after (number + 1)
+  progress_more next hands serves = record {
+    lines = p.lines ++ line ∷ [];
+    handed = hands unread rest p.lines p.handed;
+    count = ap (λ n. n + 1) p.count ∙ sym (length-append p.lines (line ∷ []));
+    answered = served_whole serves;
   }
+
+  pub last_answered : (result : Result ⊤ DeskFault) → NoFeed held.bytes → 0 < size held → IsAtEnd rest
+      → ServesFirst mid new held between after (number + 1) result
+      → OnOk result (IfSome unread (λ input. AreAnswered old new before after (lines_of input)))
+  last_answered (Err e) none some end serves = tt
+  last_answered (Ok u) none some end serves = with_last unread (last_held held unread rest p.lines p.handed none some end)
+    where
+      with_last : (u : Option (List ℕ)) → IfSome u (λ input. lines_of input ≡ p.lines ++ first_line p.handed.rest ∷ [])
+          → IfSome u (λ input. AreAnswered old new before after (lines_of input))
+      with_last None all = tt
+      with_last (Some input) all = subst (λ (ls : List (List ℕ)). AreAnswered old new before after ls) (sym all) (served_whole serves)
+
+  module _ (input : List ℕ) (more : List (List ℕ)) (all : lines_of input ≡ p.lines ++ first_line p.handed.rest ∷ more) where
+    within : number + 1 ≤ length (lines_of input)
+    within = omega (arith, ap length all, length-append p.lines (first_line p.handed.rest ∷ more), p.count)
+
+    up_to : take (number + 1) (lines_of input) ≡ p.lines ++ line ∷ []
+    up_to =
+        ap (λ n. take n (lines_of input)) (add-one number ∙ ap suc p.count) ∙ ap (λ ls. take (suc (length p.lines)) ls) all
+        ∙ front p.lines more (first_line p.handed.rest)
+
+    stops : (e : DeskFault) (o : Outcome) → IsHandled mid new line o → IsServed between after (told o) (number + 1) (Err e)
+        → StopsWriting old new before after (lines_of input) e
+    stops (Write n) o handled served =
+        let cut : (count : ℕ) × AreCutShort old new before after (p.lines ++ line ∷ []) count =
+        cut_short old mid new before between after p.lines line o p.answered handled served.1 in
+        rw (served.0) (omega arith, within, cut.0, rw up_to cut.1)
+    stops (NoMemory n) o handled served =
+        rw (served.0) (omega arith, within, rw (up_to, served.1) (cut_before old mid new before between after p.lines line o p.answered handled))
+    stops (Read n) o handled served = absurd served
+    stops (TooManyReads n) o handled served = absurd served
+
+  stops_in : (u : Option (List ℕ)) → IfSome u (λ input. (more : List (List ℕ)) × (lines_of input ≡ p.lines ++ first_line p.handed.rest ∷ more))
+      → (e : DeskFault) (o : Outcome) → IsHandled mid new line o → IsServed between after (told o) (number + 1) (Err e)
+      → IfSome u (λ input. StopsWriting old new before after (lines_of input) e)
+  stops_in None next e o handled served = tt
+  stops_in (Some input) next e o handled served = stops input next.0 next.1 e o handled served
+
+  -- its answer was not written whole
+  pub stands_served : IsNext old mid held unread rest before between number p → (e : DeskFault)
+      → ServesFirst mid new held between after (number + 1) (Err e) → StandsAfter old new unread rest before after e
+  stands_served next e serves = let so = serves p.handed.rest p.handed.holds in stands e so.0 so.1 so.2
+    where
+      stands : (e : DeskFault) (o : Outcome) → IsHandled mid new line o → IsServed between after (told o) (number + 1) (Err e)
+          → StandsAfter old new unread rest before after e
+      stands (Write n) o handled served = stops_in unread next (Write n) o handled served
+      stands (NoMemory zero) o handled served = absurd (omega (arith, served.0))
+      stands (NoMemory (suc k)) o handled served = stops_in unread next (NoMemory (suc k)) o handled served
+      stands (Read n) o handled served = absurd served
+      stands (TooManyReads n) o handled served = absurd served
+
+  pub stands_passed : IsNext old mid held unread rest before between number p → (result : Result ⊤ DeskFault) (e : DeskFault) → result ≡ Err e
+      → ServesFirst mid new held between after (number + 1) (Err e)
+      → IfErr result (StandsAfter old new unread rest before after)
+  stands_passed next result e is serves =
+      subst (λ (r : Result ⊤ DeskFault). IfErr r (StandsAfter old new unread rest before after)) (sym is) (stands_served next e serves)
+
+  pub stands_last : IsNext old mid held unread rest before between number p → (result : Result ⊤ DeskFault)
+      → ServesFirst mid new held between after (number + 1) result → IfErr result (StandsAfter old new unread rest before after)
+  stands_last next (Ok u) serves = tt
+  stands_last next (Err e) serves = stands_served next e serves

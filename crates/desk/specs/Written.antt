@@ -3,6 +3,8 @@ use Rattle.std.specs.Prelude.{◌≡◌, ℕ, List, Option, ⊤, Result, Ok, Err
 use Rattle.std.specs.Io.KnownBytes.{Appends}
 use Rattle.counted_io.specs.Counts.{one_more}
 use Rattle.counted_io.specs.Steps.{AppendsPart}
+use Rattle.desk.specs.declared.fault.DeskFault.{DeskFault}
+use Rattle.desk.specs.declared.fault.DeskFault.TheVariants as fault
 use Rattle.desk.specs.declared.serve.Untold.{Untold}
 use Rattle.desk.specs.declared.serve.Untold.TheVariants.{NoMemory, Write}
 
@@ -17,3 +19,19 @@ abbrev pub CountsUntold : ℕ → ℕ → Result ⊤ Untold → Type 0
 CountsUntold old new (Ok u) = new ≡ old
 CountsUntold old new (Err Write) = new ≡ one_more old
 CountsUntold old new (Err NoMemory) = new ≡ old
+
+-- the line that tells a line of the input is written, or the fault has the number of that line and says what is
+abbrev pub IsServed : Option (List ℕ) → Option (List ℕ) → List ℕ → ℕ → Result ⊤ DeskFault → Type 0
+IsServed before after text number (Ok u) = Appends before after text
+IsServed before after text number (Err (fault.Write line)) = (line ≡ number) × AppendsPart before after text
+IsServed before after text number (Err (fault.NoMemory line)) = (line ≡ number) × (after ≡ before)
+IsServed before after text number (Err (fault.Read line)) = ⊥
+IsServed before after text number (Err (fault.TooManyReads line)) = ⊥
+
+-- only where the writer failed is there one fault more
+abbrev pub CountsServed : ℕ → ℕ → Result ⊤ DeskFault → Type 0
+CountsServed old new (Ok u) = new ≡ old
+CountsServed old new (Err (fault.Write line)) = new ≡ one_more old
+CountsServed old new (Err (fault.NoMemory line)) = new ≡ old
+CountsServed old new (Err (fault.Read line)) = ⊥
+CountsServed old new (Err (fault.TooManyReads line)) = ⊥

@@ -2,17 +2,14 @@
 #![tactic(auto)]
 
 mod fault;
-mod input;
 mod outcome;
 mod requests;
 mod serve;
-mod whole_lines;
 
 pub use fault::DeskFault;
-pub use input::MAX_READS;
-pub use outcome::{MAX_LINE, Outcome};
+pub use outcome::Outcome;
 pub use requests::run;
-pub use serve::desk;
+pub use serve::{MAX_READS, desk};
 
 #[cfg(test)]
 mod tests;

@@ -1,17 +1,16 @@
 //! What comes of a line.
 
-ghost use Rattle.std.specs.Prelude.{◌≡◌};
-ghost use Rattle.office_policy.specs.History.{History};
-ghost use Rattle.office_desk.specs.Handled.{IsOffice};
-ghost use Rattle.request_lines.specs.Answers.{line_of};
+ghost use Rattle.std.specs.Prelude.{List, ℕ};
+ghost use Rattle.sqlite.specs.Held.{state};
+ghost use Rattle.line_input.specs.Held.{Holds};
+ghost use Rattle.line_input.specs.Lines.{first_line};
 
+use line_input::{Lines, MAX_LINE};
 use office_desk::Office;
 use request_lines::{BadLine, LineFault, read_line};
 use review_policy::{Answer, Request};
+use sqlite::Alter;
 use std::alloc::Global;
-
-/// The greatest length of a line in bytes, without its line feed.
-pub const MAX_LINE: usize = 300_000;
 
 /// What came of a line.
 #[derive(Debug, Drop)]
@@ -25,13 +24,11 @@ pub enum Outcome {
 }
 
 impl Outcome {
-    ghost use Rattle.desk.specs.Outcomes.{IsOutcome, history_after_line};
+    ghost use Rattle.desk.specs.Stands.{IsHandled};
 
     /// Handles a line, given without its line feed.
-    pub fn of_line(office: &mut Office, alloc: Global, line: &[u8]) -> Outcome
-        ensures policy { (h : History) → IsOffice h office.old → IsOutcome h line.now result }
-        ensures office { (h : History) → IsOffice h office.old →
-            IsOffice (history_after_line h result) office.new }
+    pub fn of_line<S: Alter>(office: &mut Office<S>, alloc: Global, line: &[u8]) -> Outcome
+        ensures { IsHandled (state S.Store office.old) (state S.Store office.new) line.now result }
     {
         if line.len() > MAX_LINE {
             return Outcome::Bad(BadLine::TooLong);
@@ -44,6 +41,19 @@ impl Outcome {
             Err(LineFault::NotJson) => Outcome::Bad(BadLine::NotJson),
             Err(LineFault::NotARequest) => Outcome::Bad(BadLine::NotARequest),
             Err(LineFault::NoMemory) => Outcome::NoMemory,
+        }
+    }
+    // Handles the first line that is held.
+    pub(crate) fn of_first<S: Alter>(
+        office: &mut Office<S>,
+        alloc: Global,
+        lines: &Lines,
+    ) -> Outcome
+        ensures { (bytes : List ℕ) → Holds lines.now bytes → IsHandled (state S.Store office.old) (state S.Store office.new) (first_line bytes) result }
+    {
+        match lines.line() {
+            Ok(line) => Outcome::of_line(office, alloc, line),
+            Err(_) => Outcome::Bad(BadLine::TooLong),
         }
     }
 }

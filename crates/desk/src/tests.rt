@@ -5,7 +5,9 @@ use office_desk::Office;
 use profile_text::digest;
 use request_lines::answer_text;
 use review_policy::{Ask, ProfileName, Request, Role, Roles, Token, Word};
+use sqlite::{Connection, MemStore};
 use std::alloc::Global;
+use std::cell::Cell;
 use std::io;
 use std::io::{ErrorKind, Read, Write};
 use std::test::Fail;
@@ -55,13 +57,16 @@ const FIRST_PATH: [&str; 5] = [ENROL_ANN, SUBMIT, SHOW, SHOW_BY_ROOT, SHOW_BY_NO
 
 const FIRST_ANSWERS: [&str; 5] = [DONE, SUBMITTED, SHOWN, ROLE_MISSING, CALLER_UNKNOWN];
 
-// An office in which root of the team office may enrol users, by the token abc.
-fn trial_office(alloc: Global) -> Result<Office, Fail> {
+// An office in memory in which root of the team office may enrol users, by the token abc.
+fn trial_office(alloc: Global) -> Result<Office<MemStore>, Fail> {
     let name = Word::new(alloc, "root")?;
     let team = Word::new(alloc, "office")?;
     let listed = Caps::from_name("CAP_SYS_ADMIN").ok_or("a capability")?;
-    let office = Office::found(alloc, name, team, digest(b"abc"), listed)?;
-    Ok(office)
+    let conn = Connection::open_in_memory(alloc)?;
+    match Office::found(conn, &name, &team, &digest(b"abc"), listed) {
+        Ok(office) => Ok(office),
+        Err((fault, _)) => Err(Fail::from(fault)),
+    }
 }
 
 // The texts, one after the other.
@@ -74,7 +79,7 @@ fn joined(alloc: Global, texts: &[&str]) -> Result<Vec<u8>, Fail> {
 }
 
 // What is written for an input that is read whole and written whole.
-fn answers_to(alloc: Global, office: &mut Office, input: &[u8]) -> Result<Vec<u8>, Fail> {
+fn answers_to(alloc: Global, office: &mut Office<MemStore>, input: &[u8]) -> Result<Vec<u8>, Fail> {
     let mut reader = Counted::new(input);
     let mut writer = Counted::new(Vec::new(alloc));
     desk(office, alloc, &mut reader, &mut writer)?;
@@ -141,6 +146,51 @@ impl Write for Narrow {
         self.held.extend_from_slice(&buf[..count])?;
         self.room -= count;
         Ok(count)
+    }
+
+    fn flush(&mut self) -> io::Result<()> {
+        Ok(())
+    }
+}
+
+// A reader that gives a byte a call, and fails where another number of answers was written than it gave lines.
+#[derive(Drop)]
+struct InStep<'a> {
+    rest: &'a [u8],
+    lines: usize,
+    answers: &'a Cell<usize>,
+}
+
+impl Read for InStep<'_> {
+    fn read(&mut self, buf: &mut [u8]) -> io::Result<usize> {
+        if self.answers.get() != self.lines {
+            return Err(io::Error::from(ErrorKind::BrokenPipe));
+        }
+        if self.rest.is_empty() || buf.is_empty() {
+            return Ok(0);
+        }
+        buf[0] = self.rest[0];
+        if self.rest[0] == b'\n' {
+            self.lines = self.lines.saturating_add(1);
+        }
+        self.rest = &self.rest[1..];
+        Ok(1)
+    }
+}
+
+// A writer that counts the answers that it was given.
+#[derive(Drop)]
+struct Counting<'a> {
+    held: Vec<u8>,
+    answers: &'a Cell<usize>,
+}
+
+impl Write for Counting<'_> {
+    fn write(&mut self, buf: &[u8]) -> io::Result<usize> {
+        self.held.extend_from_slice(buf)?;
+        let more = buf.iter().filter(|b| **b == b'\n').count();
+        self.answers.set(self.answers.get().saturating_add(more));
+        Ok(buf.len())
     }
 
     fn flush(&mut self) -> io::Result<()> {
@@ -234,6 +284,27 @@ fn a_stream_in_single_bytes_has_the_same_answers(rt: HostRuntime) -> Result<(), 
     let wanted = joined(alloc, &[DONE, SUBMITTED])?;
     assert_eq!(rt; writer.into_inner().as_slice(), wanted.as_slice());
     assert_eq!(rt; reader.faults(), 0);
+    Ok(())
+}
+
+#[test]
+fn each_line_is_answered_before_the_reader_is_called_again(rt: HostRuntime) -> Result<(), Fail> {
+    let alloc = rt.alloc();
+    let mut office = trial_office(alloc)?;
+    let input = joined(alloc, &FIRST_PATH)?;
+    let answers = Cell::new(0);
+    let mut reader = Counted::new(InStep {
+        rest: &input,
+        lines: 0,
+        answers: &answers,
+    });
+    let mut writer = Counted::new(Counting {
+        held: Vec::new(alloc),
+        answers: &answers,
+    });
+    desk(&mut office, alloc, &mut reader, &mut writer)?;
+    let wanted = joined(alloc, &FIRST_ANSWERS)?;
+    assert_eq!(rt; writer.into_inner().held.as_slice(), wanted.as_slice());
     Ok(())
 }
 

@@ -5,18 +5,18 @@ use cap_sets::Caps;
 use counted_io::Counted;
 use desk::desk;
 use office_desk::Office;
-use office_tables::StoreFault;
 use profile_text::digest;
 use review_policy::{Word, WordFault};
-use std::alloc::Global;
+use sqlite::{Connection, MemStore};
+use std::alloc::{AllocError, Global};
 use std::io::{Read, Write};
 
 // The office was not founded, for want of memory.
 #[derive(Clone, Copy, Debug, PartialEq, Eq)]
 struct NotFounded;
 
-impl From<StoreFault> for NotFounded {
-    fn from(_fault: StoreFault) -> NotFounded {
+impl From<AllocError> for NotFounded {
+    fn from(_error: AllocError) -> NotFounded {
         NotFounded
     }
 }
@@ -27,14 +27,17 @@ impl From<WordFault> for NotFounded {
     }
 }
 
-// The office that the trial desk begins with: its first user is root of the team office, a registrar with the token
-// abc, and its one listed capability is CAP_SYS_ADMIN.
-fn trial_office(alloc: Global) -> Result<Office, NotFounded> {
+// The office that the trial desk begins with, in memory: its first user is root of the team office, a registrar with the
+// token abc, and its one listed capability is CAP_SYS_ADMIN.
+fn trial_office(alloc: Global) -> Result<Office<MemStore>, NotFounded> {
     let name = Word::new(alloc, "root")?;
     let team = Word::new(alloc, "office")?;
     let listed = Caps::from_name("CAP_SYS_ADMIN").unwrap_or(Caps::empty());
-    let office = Office::found(alloc, name, team, digest(b"abc"), listed)?;
-    Ok(office)
+    let conn = Connection::open_in_memory(alloc)?;
+    match Office::found(conn, &name, &team, &digest(b"abc"), listed) {
+        Ok(office) => Ok(office),
+        Err(_) => Err(NotFounded),
+    }
 }
 
 /// Answers the lines of a reader at the trial desk.

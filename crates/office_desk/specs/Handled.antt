@@ -1,33 +1,50 @@
--- What a request leaves of an office, and what it is told.
-use Rattle.std.specs.Prelude.{◌≡◌, Bool, true, false, Result, Ok, Err}
-use Rattle.review_policy.specs.declared.ask.Ask.{Ask}
-use Rattle.review_policy.specs.declared.ask.Ask.TheVariants as ask
+-- What a request leaves of an office, and what it is answered.
+use Rattle.std.specs.Prelude.{◌≡◌, IsTrue}
+use Rattle.sqlite.specs.State.{State, HasCleanDisk}
+use Rattle.review_policy.specs.declared.ask.Request.{Request}
 use Rattle.review_policy.specs.declared.answer.Answer.{Answer}
-use Rattle.office_tables.specs.declared.fault.StoreFault.{StoreFault}
-use Rattle.memory_store.specs.declared.store.MemoryStore.{MemoryStore}
-use Rattle.memory_store.specs.Shows.{Shows}
+use Rattle.review_policy.specs.declared.answer.Answer.TheVariants.{Done, Denied, Fault}
+use Rattle.office_rows.specs.Queries.{IsAsItWas}
+use Rattle.office_store.specs.Shown.{IsIdle, Shows, LeavesOnly, MayLeave}
 use Rattle.office_policy.specs.History.{History}
-use Rattle.office_policy.specs.Verdict.{Verdict}
-use Rattle.office_policy.specs.Lawful.{IsLawful}
+use Rattle.office_policy.specs.Verdict.{verdict}
 use Rattle.office_policy.specs.TablesOf.{tables_of}
-use Rattle.office_policy.specs.Runs.{answer_of, event_of, with_event}
-use Rattle.office_desk.specs.declared.office.Office.{Office}
-use Rattle.office_desk.specs.Told.{IsPassing}
+use Rattle.office_policy.specs.Runs.{IsAnswer, history_after}
+use Rattle.office_desk.specs.Offices.{IsOffice}
+use Rattle.office_desk.specs.Carries.{AreWithEvent}
 
--- the kinds of request that are served
-abbrev pub is_served : Ask → Bool
-is_served (ask.Enrol user team roles digest) = true
-is_served (ask.Submit p document) = true
-is_served (ask.Show p n) = true
-is_served _ = false
+-- this holds where nothing was carried out
+abbrev pub UnlessDone : Answer → Type 0 → Type 0
+UnlessDone (Done reply) P = Unit {0}
+UnlessDone (Denied denial fault) P = P
+UnlessDone (Fault fault) P = P
 
--- The office has the tables of a lawful history. While only three kinds of request are served, that is one without votes,
--- adoptions and holds.
-pub record IsOffice (h : History) (o : Office) : Type 0 where
-  pub lawful : IsLawful h
-  pub tables : Shows o.store (tables_of h)
+-- this holds where no fault was answered
+abbrev pub UnlessFaulty : Answer → Type 0 → Type 0
+UnlessFaulty (Done reply) P = P
+UnlessFaulty (Denied denial fault) P = P
+UnlessFaulty (Fault fault) P = Unit {0}
 
--- the answer tells the verdict and the store shows the tables with its event; a passing fault leaves the tables
-abbrev pub CarriesOut : History → Verdict → Result Answer StoreFault → MemoryStore → Type 0
-CarriesOut h v (Ok a) store = (a ≡ answer_of v) × Shows store (tables_of (with_event (event_of v) h))
-CarriesOut h v (Err f) store = IsPassing f × Shows store (tables_of h)
+-- an open connection shows the tables of the history, and a crash leaves these and no others
+pub record Stands (h : History) (s : State) : Type 0 where
+  pub shows : Shows s (tables_of h)
+  pub leaves : LeavesOnly s (tables_of h)
+
+-- a request was handled, and answered by this
+pub record IsHandled (old new : State) (request : Request) (told : Answer) : Type 0 where
+  -- no transaction is open
+  pub idle : IsIdle new
+  -- a disk that is clean was clean before
+  pub clean : HasCleanDisk new → HasCleanDisk old
+  -- a connection that is open was open before
+  pub shut : HasCleanDisk new → IsTrue new.is_open → IsTrue old.is_open
+  -- the answer is that of the verdict, or a fault of memory, of the disk or of room on it
+  pub answer : (h : History) → IsOffice h old → HasCleanDisk new → IsAnswer h request told
+  -- the office is of the history with the event of what was carried out
+  pub office : (h : History) → IsOffice h old → IsOffice (history_after h request told) new
+  -- and stands so where no fault was answered
+  pub stands : (h : History) → IsOffice h old → HasCleanDisk new → UnlessFaulty told (Stands (history_after h request told) new)
+  -- after a denial or a fault any connection has what it had, whatever that is
+  pub same : old.now ≡ old.committed → HasCleanDisk new → UnlessDone told (IsAsItWas old new)
+  -- a crash may leave what it could leave before, or the tables with the event of the verdict, where it has one
+  pub crash : (h : History) → IsOffice h old → MayLeave old new (AreWithEvent h (verdict h request))

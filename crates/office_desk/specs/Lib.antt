@@ -1,3 +1,8 @@
+pub mod Offices
 pub mod Told
+pub mod Carries
+pub mod AtOnce
 pub mod Handled
-pub mod Laws
+pub mod Compared
+pub mod Issuing
+pub mod Looked

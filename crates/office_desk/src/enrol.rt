@@ -1,71 +1,112 @@
 // Enrolments.
 
-ghost use Rattle.std.specs.Prelude.{◌≡◌};
+ghost use Rattle.std.specs.Prelude.{◌≡◌, Some, IfOk};
+ghost use Rattle.sqlite.specs.Held.{state};
 ghost use Rattle.review_policy.specs.declared.ask.Ask.TheVariants as ask;
-ghost use Rattle.memory_store.specs.Shows.{Shows};
-ghost use Rattle.office_policy.specs.History.{History};
-ghost use Rattle.office_policy.specs.Facts.{enrol_facts};
+ghost use Rattle.office_store.specs.Calls.{IsRead};
+ghost use Rattle.office_store.specs.Shown.{IsIdle};
+ghost use Rattle.office_policy.specs.Users.{user_of, user_showing};
+ghost use Rattle.office_policy.specs.Facts.{enrol_facts, is_elsewhere, is_another};
 ghost use Rattle.office_policy.specs.Verdict.{verdict_of};
-ghost use Rattle.office_policy.specs.Lawful.{IsLawful};
-ghost use Rattle.office_policy.specs.TablesOf.{tables_of};
-ghost use Rattle.office_desk.specs.Handled.{CarriesOut};
+ghost use Rattle.office_history.specs.LooksBack.{LooksBack};
+ghost use Rattle.office_desk.specs.Carries.{CarriesOut};
 
-use crate::caller::{holds_role, is_another, is_elsewhere, is_named};
-use memory_store::MemoryStore;
+use crate::refusal::Refusal;
+use office_store::{put_user, user_by_name, user_by_token};
 use office_tables::{StoreFault, UserRow};
-use review_policy::{Answer, EnrolFacts, Reply, Role, Roles, Word, decide_enrol};
-use std::alloc::Global;
+use review_policy::{EnrolFacts, Reply, Role, Roles, Word, decide_enrol};
+use sqlite::{Alter, Connection};
+use std::alloc::{AllocError, Global};
+
+// Whether a user is there and of another team.
+fn is_elsewhere(user: &Option<UserRow>, team: &Word) -> bool
+    ensures { result ≡ is_elsewhere user.now team.now }
+{
+    match user {
+        Some(user) => !user.team.is(team),
+        None => false,
+    }
+}
+
+// Whether a user is there and has another name.
+fn is_another(user: &Option<UserRow>, name: &Word) -> bool
+    ensures { result ≡ is_another user.now name.now }
+{
+    match user {
+        Some(user) => !user.name.is(name),
+        None => false,
+    }
+}
 
 // What the rules ask, of the user that has the name and the one that shows the digest.
 fn enrol_facts(
-    caller: &Option<UserRow>,
+    caller: &UserRow,
     known: &Option<UserRow>,
     shower: &Option<UserRow>,
     user: &Word,
     team: &Word,
 ) -> EnrolFacts
-    ensures { result ≡ enrol_facts caller.now known.now shower.now user.now team.now }
+    ensures { result ≡ enrol_facts (Some caller.now) known.now shower.now user.now team.now }
 {
     EnrolFacts {
-        caller_unknown: caller.is_none(),
-        role_missing: !holds_role(caller, Role::Registrar),
-        own_row: is_named(caller, user),
+        caller_unknown: false,
+        role_missing: !caller.roles.has(Role::Registrar),
+        own_row: caller.name.is(user),
         team_fixed: is_elsewhere(known, team),
         token_taken: is_another(shower, user),
     }
 }
 
-// Enrols a user, or gives an enrolled one these roles and this token.
-pub(crate) fn enrol(
-    store: &mut MemoryStore,
+// The user that has the name, and the one that shows the digest.
+fn users_of<S: Alter>(
     alloc: Global,
-    caller: &Option<UserRow>,
+    conn: &mut Connection<S>,
+    user: &Word,
+    digest: &[u8; 32],
+) -> Result<(Option<UserRow>, Option<UserRow>), StoreFault>
+    requires { IsIdle (state S.Store conn.old) }
+    ensures { IsRead (state S.Store conn.old) (state S.Store conn.new) result (LooksBack (λ h. (user_of h user.now, user_showing h digest.now))) }
+{
+    let known = user_by_name(alloc, conn, user)?;
+    let shower = user_by_token(alloc, conn, digest)?;
+    Ok((known, shower))
+}
+
+// The row of a user who is enrolled.
+fn row_of(
+    alloc: Global,
     user: &Word,
     team: &Word,
     roles: Roles,
     digest: &[u8; 32],
-) -> Result<Answer, StoreFault>
-    ensures { (h : History) → IsLawful h → Shows store.old (tables_of h) →
-        CarriesOut h (verdict_of h caller.now (ask.Enrol user.now team.now roles digest.now)) result store.new }
+) -> Result<UserRow, AllocError>
+    ensures { IfOk result (λ row. row ≡ record { name = user.now; team = team.now; roles = roles; digest = digest.now }) }
 {
-    let known = store.user_by_name(alloc, user)?;
-    let shower = store.user_by_token(alloc, digest)?;
-    let facts = enrol_facts(caller, &known, &shower, user, team);
-    match decide_enrol(&facts) {
-        Ok(()) => {}
-        Err(denial) => {
-            return Ok(Answer::Denied {
-                denial,
-                fault: None,
-            });
-        }
-    }
-    let row = UserRow {
+    Ok(UserRow {
         name: user.copy(alloc)?,
         team: team.copy(alloc)?,
         roles,
         digest: *digest,
-    };
-    store.put_user(row)?;
-    Ok(Answer::Done(Reply::Enrolled))
+    })
+}
+
+// Enrols a user, or gives an enrolled one these roles and this token.
+pub(crate) fn enrol<S: Alter>(
+    alloc: Global,
+    conn: &mut Connection<S>,
+    caller: &UserRow,
+    user: &Word,
+    team: &Word,
+    roles: Roles,
+    digest: &[u8; 32],
+) -> Result<Reply, Refusal>
+    requires { IsIdle (state S.Store conn.old) }
+    ensures { CarriesOut (state S.Store conn.old) (state S.Store conn.new) result (λ h. verdict_of h (Some caller.now) (ask.Enrol user.now team.now roles digest.now)) }
+{
+    decide_enrol(&enrol_facts(caller, &None, &None, user, team))?;
+    let (known, shower) = users_of(alloc, conn, user, digest)?;
+    decide_enrol(&enrol_facts(caller, &known, &shower, user, team))?;
+    let row = row_of(alloc, user, team, roles, digest)?;
+    put_user(conn, &row)?;
+    Ok(Reply::Enrolled)
 }

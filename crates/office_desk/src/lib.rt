@@ -1,16 +1,28 @@
 //! Requests against the tables of an office: what the policy allows is carried out, and nothing else.
 #![tactic(auto)]
 
+mod adopt;
+mod answer;
+mod authored;
+mod baseline;
 mod caller;
 mod carry_out;
 mod enrol;
+mod fetch;
 mod forms;
-pub mod laws;
+mod hold;
+mod issue;
+mod list;
+mod need;
 mod office;
+mod reading;
+mod refusal;
+pub mod reopening;
+mod rows;
+mod sheet;
 mod show;
 mod submit;
+mod vote;
+mod withdraw;
 
 pub use office::Office;
-
-#[cfg(test)]
-mod tests;

@@ -1,71 +1,125 @@
 //! The office: it carries out what the policy allows, and nothing else.
 
 ghost use Rattle.std.specs.Prelude.{◌≡◌};
-ghost use Rattle.office_desk.specs.Told.{told_of};
 
+use crate::answer::answer_to;
 use crate::carry_out::carry_out;
 use crate::forms::{founding_forms, request_forms};
 use cap_sets::Caps;
-use memory_store::MemoryStore;
+use office_store::{FoundingFault, check_office, found};
 use office_tables::StoreFault;
-use review_policy::{Answer, Fault, Request, Word};
+use review_policy::{Answer, Request, Word};
+use sqlite::{Alter, Connection};
 use std::alloc::Global;
+use std::marker::Model;
 
-/// An office.
+/// An office over a connection that has no transaction open and no limit on steps. Contracts see it as that connection.
 #[derive(Drop)]
-pub struct Office {
-    store: MemoryStore,
+pub struct Office<S: Alter> {
+    conn: Connection<S>,
 }
 
-impl Office {
-    ghost use Rattle.std.specs.Prelude.{◌≡◌, [], ◌∷◌, true, IfOk, IfErr};
-    ghost use Rattle.office_policy.specs.History.{History, founded};
-    ghost use Rattle.office_desk.specs.Handled.{is_served, IsOffice};
-    ghost use Rattle.office_policy.specs.Runs.{IsAnswer, history_after};
+impl<S: Alter> Model for Office<S> {
+    ghost use Rattle.sqlite.specs.Held.{Held, held_code, state};
+    ghost use Rattle.office_store.specs.Shown.{IsIdle};
 
-    /// A new office, with its first user, who is a registrar and shows the token of this digest, and with the listed
-    /// capabilities: a document that holds one of them needs two approvals.
+    ghost Value = { Held S };
+
+    ghost coded = { held_code S.code };
+
+    ghost view = { λ office. office.conn };
+
+    ghost invariant = { λ office. IsIdle (state S.Store office.conn) };
+}
+
+impl<S: Alter> Office<S> {
+    ghost use Rattle.std.specs.Prelude.{◌≡◌, ◌≢◌, ◌↔◌, ℕ, [], ◌∷◌, IsTrue, IfOk, IfErr, OnOk};
+    ghost use Rattle.sqlite.specs.Held.{state};
+    ghost use Rattle.sqlite.specs.State.{HasCleanDisk};
+    ghost use Rattle.office_rows.specs.Queries.{IsAsItWas};
+    ghost use Rattle.office_store.specs.Form.{HasForm};
+    ghost use Rattle.office_store.specs.Founding.{has_table, IsForeign};
+    ghost use Rattle.office_store.specs.Schema.{no_schema};
+    ghost use Rattle.office_store.specs.Shown.{IsIdle, Shows, AreOffice, LeavesNoMore, MayLeave};
+    ghost use Rattle.office_policy.specs.History.{History, founded};
+    ghost use Rattle.office_policy.specs.Lawful.{IsLawful};
+    ghost use Rattle.office_policy.specs.TablesOf.{tables_of};
+    ghost use Rattle.office_desk.specs.Offices.{IsOffice};
+    ghost use Rattle.office_desk.specs.Handled.{Stands, IsHandled};
+
+    /// Founds an office in an empty store, with its first user, who is a registrar and shows the token of this digest, and
+    /// with the listed capabilities: a document that holds one of them needs two approvals.
     ///
-    /// Where there is no memory it answers [`StoreFault::NoMemory`].
+    /// A crash leaves the store as it was or the founded office, and after `Ok` the founded office.
+    ///
+    /// # Errors
+    ///
+    /// `AlreadyFounded` where one of an office's tables is there; `NotAnOffice` where none of them is and something else
+    /// is; else the fault of the store. The connection is handed back, with what it had where it is still open.
     pub fn found(
-        alloc: Global,
-        name: Word,
-        team: Word,
-        digest: [u8; 32],
+        conn: Connection<S>,
+        name: &Word,
+        team: &Word,
+        digest: &[u8; 32],
         listed: Caps,
-    ) -> Result<Office, StoreFault>
-        ensures founded { IfOk result (λ office. IsOffice (founded name team digest listed ∷ []) office) }
-        ensures fault { IfErr result (λ fault. fault ≡ StoreFault.NoMemory) }
+    ) -> Result<Office<S>, (FoundingFault, Connection<S>)>
+        requires { IsIdle (state S.Store conn) }
+        ensures founded { IfOk result (λ office. IsOffice (founded name.now team.now digest.now listed ∷ []) (state S.Store office)) }
+        ensures stands { IfOk result (λ office. HasCleanDisk (state S.Store office) → Stands (founded name.now team.now digest.now listed ∷ []) (state S.Store office)) }
+        ensures empty { OnOk result ((state S.Store conn).now.schema ≡ no_schema) }
+        ensures already { IfErr result (λ refusal. refusal.0 ≡ FoundingFault.AlreadyFounded ↔ IsTrue (has_table (state S.Store conn).now.schema)) }
+        ensures foreign { IfErr result (λ refusal. HasCleanDisk (state S.Store refusal.1) → refusal.0 ≡ FoundingFault.Store StoreFault.NotAnOffice ↔ IsForeign (state S.Store conn).now.schema) }
+        ensures same { (state S.Store conn).now ≡ (state S.Store conn).committed → IfErr result (λ refusal. HasCleanDisk (state S.Store refusal.1) → IsAsItWas (state S.Store conn) (state S.Store refusal.1)) }
+        ensures idle { IfErr result (λ refusal. IsIdle (state S.Store refusal.1)) }
+        ensures crash { IfErr result (λ refusal. MayLeave (state S.Store conn) (state S.Store refusal.1) (λ trees. AreOffice trees (tables_of (founded name.now team.now digest.now listed ∷ [])))) }
     {
-        founding_forms(&name, &team, &digest, listed);
-        let store = MemoryStore::found(alloc, name, team, digest, listed)?;
-        Ok(Office { store })
+        let mut conn = conn;
+        founding_forms(name, team, digest, listed);
+        match found(&mut conn, name, team, digest, listed) {
+            Ok(()) => Ok(Office { conn }),
+            Err(fault) => Err((fault, conn)),
+        }
+    }
+
+    /// The office that a store has: it has the six tables, each with its columns, and its office's row has its form.
+    ///
+    /// # Errors
+    ///
+    /// `NotAnOffice` where it isn't one; else the fault of the store. The connection is handed back, with what it had where
+    /// it is still open.
+    pub fn over(conn: Connection<S>) -> Result<Office<S>, (StoreFault, Connection<S>)>
+        requires { IsIdle (state S.Store conn) }
+        ensures form { IfOk result (λ office. HasCleanDisk (state S.Store office) → (listed : ℕ) × HasForm (state S.Store conn) (state S.Store office) listed) }
+        ensures office { (h : History) → IsLawful h → Shows (state S.Store conn) (tables_of h) → IfOk result (λ office. IsOffice h (state S.Store office)) }
+        ensures known { (h : History) → IsLawful h → Shows (state S.Store conn) (tables_of h) → IfErr result (λ refusal. HasCleanDisk (state S.Store refusal.1) → refusal.0 ≢ StoreFault.NotAnOffice) }
+        ensures same { (state S.Store conn).now ≡ (state S.Store conn).committed → IfErr result (λ refusal. HasCleanDisk (state S.Store refusal.1) → IsAsItWas (state S.Store conn) (state S.Store refusal.1)) }
+        ensures idle { IfErr result (λ refusal. IsIdle (state S.Store refusal.1)) }
+        ensures opened { IfOk result (λ office. LeavesNoMore (state S.Store conn) (state S.Store office)) }
+        ensures refused { IfErr result (λ refusal. LeavesNoMore (state S.Store conn) (state S.Store refusal.1)) }
+    {
+        let mut conn = conn;
+        match check_office(&mut conn) {
+            Ok(_) => Ok(Office { conn }),
+            Err(fault) => Err((fault, conn)),
+        }
     }
 
     /// Carries a request out where every rule of the policy allows it, and else names the first rule that refuses it.
     ///
-    /// A [`Fault`] says that nothing changed.
+    /// A [`Fault`](review_policy::Fault) says that nothing changed.
     pub fn handle(&mut self, alloc: Global, request: &Request) -> Answer
-        requires { is_served request.now.ask ≡ true }
-        ensures answer { (h : History) → IsOffice h self.old → IsAnswer h request.now result }
-        ensures office { (h : History) → IsOffice h self.old → IsOffice (history_after h request.now result) self.new }
+        ensures { IsHandled (state S.Store self.old) (state S.Store self.new) request.now result }
     {
         request_forms(request);
-        match carry_out(&mut self.store, alloc, request) {
-            Ok(answer) => answer,
-            Err(fault) => Answer::Fault(told(fault)),
-        }
+        answer_to(carry_out(alloc, &mut self.conn, request))
     }
-}
 
-// What is told of a fault of the store.
-fn told(fault: StoreFault) -> Fault
-    ensures { result ≡ told_of fault }
-{
-    match fault {
-        StoreFault::NoMemory => Fault::Memory,
-        StoreFault::Disk => Fault::Disk,
-        StoreFault::Full => Fault::Full,
-        StoreFault::NotAnOffice => Fault::NotAnOffice,
+    /// The connection, as the last call left it.
+    pub fn into_connection(self) -> Connection<S>
+        ensures connection { result ≡ self }
+        ensures idle { IsIdle (state S.Store result) }
+    {
+        let Office { conn } = self;
+        conn
     }
 }

@@ -1,63 +1,61 @@
 // Documents that are handed in.
 
-ghost use Rattle.std.specs.Prelude.{◌≡◌, IfOk, IfErr};
+ghost use Rattle.std.specs.Prelude.{◌≡◌, Some, false, not, IfOk, IfErr};
+ghost use Rattle.sqlite.specs.Held.{state};
 ghost use Rattle.review_policy.specs.declared.ask.Ask.TheVariants as ask;
 ghost use Rattle.profile_text.specs.Reading.{reading_of};
-ghost use Rattle.memory_store.specs.Shows.{Shows};
-ghost use Rattle.office_policy.specs.History.{History};
-ghost use Rattle.office_policy.specs.Facts.{canonical, is_text_of, submit_facts};
+ghost use Rattle.office_tables.specs.Lists.{holds_role};
+ghost use Rattle.office_store.specs.Shown.{IsIdle};
+ghost use Rattle.office_policy.specs.Users.{is_of_team};
 ghost use Rattle.office_policy.specs.Revisions.{if_open, number_of};
-ghost use Rattle.office_policy.specs.Verdict.{fault_told, verdict_of};
-ghost use Rattle.office_policy.specs.Lawful.{IsLawful};
-ghost use Rattle.office_policy.specs.TablesOf.{tables_of};
-ghost use Rattle.office_desk.specs.Handled.{CarriesOut};
+ghost use Rattle.office_policy.specs.Facts.{canonical, is_text_of};
+ghost use Rattle.office_policy.specs.Verdict.{verdict_of};
+ghost use Rattle.office_desk.specs.AtOnce.{IsRefusedAtOnce};
+ghost use Rattle.office_desk.specs.Carries.{CarriesOut};
 
-use crate::caller::{holds_role, is_of_team};
-use memory_store::MemoryStore;
+use crate::refusal::Refusal;
+use office_store::{add_revision, last};
 use office_tables::{RevisionRow, StoreFault, UserRow};
-use profile_text::{DocFault, Document, Profile, digest, fault_text, read_with_text};
-use review_policy::{
-    Answer, ProfileName, Reply, Role, Rule, State, SubmitFacts, Text, Word, decide_submit,
-};
-use std::alloc::{AllocError, Global};
+use profile_text::{DocFault, digest, fault_text, read_with_text};
+use review_policy::{ProfileName, Reply, Role, State, SubmitFacts, Text, Word, decide_submit};
+use sqlite::{Alter, Connection};
+use std::alloc::Global;
 
-// What the bytes read as, or why they don't, and the canonical text, where they read.
-fn reading(
-    alloc: Global,
-    document: &[u8],
-) -> Result<(Result<Profile, DocFault>, Option<Text>), StoreFault>
-    ensures read { IfOk result (λ found. found.0 ≡ reading_of document.now) }
-    ensures text { IfOk result (λ found. found.1 ≡ canonical found.0) }
-    ensures fault { IfErr result (λ fault. fault ≡ StoreFault.NoMemory) }
+// What the rules ask of a caller and a team; whether the document doesn't read; whether its text is the open one; and how
+// many revisions there are.
+fn submit_facts(
+    caller: &UserRow,
+    team: &Word,
+    document: bool,
+    same_as_open: bool,
+    revisions: u32,
+) -> SubmitFacts
+    ensures { result ≡ record {
+      caller_unknown = false;
+      role_missing = not (holds_role (Some caller.now) Role.Author);
+      other_team = not (is_of_team (Some caller.now) team.now);
+      document = document;
+      same_as_open = same_as_open;
+      revisions = revisions;
+    } }
 {
-    match read_with_text(alloc, document) {
-        Ok(Document { profile, text }) => Ok((Ok(profile), Some(Text::new(text)))),
-        Err(DocFault::NoMemory) => Err(StoreFault::NoMemory),
-        Err(fault) => Ok((Err(fault), None)),
-    }
-}
-
-// What a refusal tells besides its rule.
-fn fault_told(
-    alloc: Global,
-    rule: Rule,
-    reading: &Result<Profile, DocFault>,
-) -> Result<Option<Text>, AllocError>
-    ensures { IfOk result (λ text. text ≡ fault_told rule reading.now) }
-{
-    match (rule, reading) {
-        (Rule::Document, Err(fault)) => Ok(Some(Text::new(fault_text(alloc, fault)?))),
-        _ => Ok(None),
+    SubmitFacts {
+        caller_unknown: false,
+        role_missing: !caller.roles.has(Role::Author),
+        other_team: !caller.team.is(team),
+        document,
+        same_as_open,
+        revisions,
     }
 }
 
 // Whether the text is that of the last revision, and this one is open.
-fn is_text_of_open(text: &Option<Text>, last: &Option<RevisionRow>) -> bool
-    ensures { result ≡ is_text_of text.now (if_open last.now) }
+fn is_open_text(text: &Text, last: &Option<RevisionRow>) -> bool
+    ensures { result ≡ is_text_of (Some text.now) (if_open last.now) }
 {
-    match (text, last) {
-        (Some(text), Some(row)) => row.state == State::Open && text.is(&row.body),
-        _ => false,
+    match last {
+        Some(row) => row.state == State::Open && text.is(&row.body),
+        None => false,
     }
 }
 
@@ -71,63 +69,51 @@ fn number_of(revision: &Option<RevisionRow>) -> u32
     }
 }
 
-// What the rules ask, of the document with its canonical text and of the last revision.
-fn submit_facts(
-    caller: &Option<UserRow>,
-    team: &Word,
-    reading: &Result<Profile, DocFault>,
-    text: &Option<Text>,
-    last: &Option<RevisionRow>,
-) -> SubmitFacts
-    requires { text.now ≡ canonical reading.now }
-    ensures { result ≡ submit_facts caller.now team.now reading.now last.now (number_of last.now) }
+// The canonical text of the document, where the caller may hand in one of this team, and it reads; else the refusal, which
+// tells of a document that doesn't read why.
+fn handed_in(
+    alloc: Global,
+    caller: &UserRow,
+    name: &ProfileName,
+    document: &Vec<u8>,
+) -> Result<Text, Refusal>
+    ensures text { IfOk result (λ text. canonical (reading_of document.now.items) ≡ Some text) }
+    ensures refused { IfErr result (λ refusal. IsRefusedAtOnce refusal (λ h. verdict_of h (Some caller.now) (ask.Submit name.now document.now))) }
 {
-    SubmitFacts {
-        caller_unknown: caller.is_none(),
-        role_missing: !holds_role(caller, Role::Author),
-        other_team: !is_of_team(caller, team),
-        document: reading.is_err(),
-        same_as_open: is_text_of_open(text, last),
-        revisions: number_of(last),
+    decide_submit(&submit_facts(caller, &name.team, false, false, 0))?;
+    match read_with_text(alloc, document.as_slice()) {
+        Ok(document) => Ok(Text::new(document.text)),
+        Err(DocFault::NoMemory) => Err(Refusal::Fault(StoreFault::NoMemory)),
+        Err(fault) => {
+            let text = Text::new(fault_text(alloc, &fault)?);
+            match decide_submit(&submit_facts(caller, &name.team, true, false, 0)) {
+                Ok(()) => unreachable!(),
+                Err(denial) => Err(Refusal::Denied {
+                    denial,
+                    fault: Some(text),
+                }),
+            }
+        }
     }
-}
-
-// A name of its own for the same profile.
-fn copy_name(alloc: Global, name: &ProfileName) -> Result<ProfileName, AllocError>
-    ensures { IfOk result (λ copy. copy ≡ name.now) }
-{
-    Ok(ProfileName {
-        team: name.team.copy(alloc)?,
-        profile: name.profile.copy(alloc)?,
-    })
 }
 
 // Reads a document, and makes its canonical text the next revision of the profile.
-pub(crate) fn submit(
-    store: &mut MemoryStore,
+pub(crate) fn submit<S: Alter>(
     alloc: Global,
-    caller: &Option<UserRow>,
+    conn: &mut Connection<S>,
+    caller: &UserRow,
     name: &ProfileName,
     document: &Vec<u8>,
-) -> Result<Answer, StoreFault>
-    ensures { (h : History) → IsLawful h → Shows store.old (tables_of h) →
-        CarriesOut h (verdict_of h caller.now (ask.Submit name.now document.now)) result store.new }
+) -> Result<Reply, Refusal>
+    requires { IsIdle (state S.Store conn.old) }
+    ensures { CarriesOut (state S.Store conn.old) (state S.Store conn.new) result (λ h. verdict_of h (Some caller.now) (ask.Submit name.now document.now)) }
 {
-    let (reading, text) = reading(alloc, document.as_slice())?;
-    let last = store.last(alloc, name)?;
-    let facts = submit_facts(caller, &name.team, &reading, &text, &last);
-    match decide_submit(&facts) {
-        Ok(()) => {}
-        Err(denial) => {
-            let fault = fault_told(alloc, denial.rule, &reading)?;
-            return Ok(Answer::Denied { denial, fault });
-        }
-    }
-    let Some(author) = caller else { unreachable!() };
-    let Some(text) = text else { unreachable!() };
+    let text = handed_in(alloc, caller, name, document)?;
+    let last = last(alloc, conn, name)?;
+    let same_as_open = is_open_text(&text, &last);
+    decide_submit(&submit_facts(caller, &name.team, false, same_as_open, number_of(&last)))?;
     let digest = digest(text.as_str().as_bytes());
-    let name = copy_name(alloc, name)?;
-    let author = author.name.copy(alloc)?;
-    let revision = store.add_revision(name, author, text, digest)?;
-    Ok(Answer::Done(Reply::Submitted { digest, revision }))
+    let author = caller.name.copy(alloc)?;
+    let revision = add_revision(alloc, conn, name, author, text, digest)?;
+    Ok(Reply::Submitted { digest, revision })
 }

@@ -21,13 +21,13 @@ kind_word Fetch = codes "fetch"
 kind_word Hold = codes "hold"
 kind_word Release = codes "release"
 
--- the kinds that the desk serves
-abbrev pub served : List Kind
-served = Enrol ∷ Submit ∷ Show ∷ []
+-- every kind
+abbrev pub all_kinds : List Kind
+all_kinds = Enrol ∷ Submit ∷ Vote ∷ Issue ∷ Withdraw ∷ Adopt ∷ Show ∷ Sheet ∷ kinds.List ∷ Fetch ∷ Hold ∷ Release ∷ []
 
--- the kind of this word, among those that are served
+-- the kind of this word, if there is one
 abbrev pub kind_of : List ℕ → Option Kind
-kind_of text = find (λ kind. bytes_eq text (kind_word kind)) served
+kind_of text = find (λ kind. bytes_eq text (kind_word kind)) all_kinds
 
 -- the members of a line of each kind, besides `ask` and `token`
 abbrev pub members_of : Kind → List (List ℕ)

@@ -84,7 +84,7 @@ has_no_other kind (number n) = false
 has_no_other kind (string s) = false
 has_no_other kind (array ds) = false
 
--- the served kind that `ask` names
+-- the kind that `ask` names
 unfoldable pub kind_at : Data → Option Kind
 kind_at d = option_and_then kind_of (text_at (codes "ask") d)
 

@@ -1,7 +1,8 @@
 //! The kinds of request, and the members that a line of each kind has.
 
-ghost use Rattle.std.specs.Prelude.{◌≡◌};
-ghost use Rattle.request_lines.specs.Kinds.{kind_of, has_member, has_own_member};
+ghost use Rattle.std.specs.Prelude.{◌≡◌, Some, IfSome};
+ghost use Rattle.request_lines.specs.Kinds.{kind_of, kind_word, has_member, has_own_member};
+ghost use Rattle.request_lines.specs.declared.kind.Kind.{Kind};
 
 /// The kinds of request.
 #[derive(Clone, Copy, Debug, PartialEq, Eq)]
@@ -21,16 +22,36 @@ pub enum Kind {
 }
 
 impl Kind {
-    /// The kind of this word, among those that the desk serves.
+    /// The kind of this word; `None` where it is no kind's.
     pub fn from_word(text: &str) -> Option<Kind>
-        ensures { result ≡ kind_of text.now }
+        ensures value { result ≡ kind_of text.now }
+        ensures found { IfSome result (λ kind. kind_word kind ≡ text.now) }
+        ensures known { (kind : Kind) → kind_word kind ≡ text.now → result ≡ Some kind }
     {
         if text == "enrol" {
             Some(Kind::Enrol)
         } else if text == "submit" {
             Some(Kind::Submit)
+        } else if text == "vote" {
+            Some(Kind::Vote)
+        } else if text == "issue" {
+            Some(Kind::Issue)
+        } else if text == "withdraw" {
+            Some(Kind::Withdraw)
+        } else if text == "adopt" {
+            Some(Kind::Adopt)
         } else if text == "show" {
             Some(Kind::Show)
+        } else if text == "sheet" {
+            Some(Kind::Sheet)
+        } else if text == "list" {
+            Some(Kind::List)
+        } else if text == "fetch" {
+            Some(Kind::Fetch)
+        } else if text == "hold" {
+            Some(Kind::Hold)
+        } else if text == "release" {
+            Some(Kind::Release)
         } else {
             None
         }

@@ -1,4 +1,6 @@
-use crate::{BadLine, Kind, LineFault, answer_text, line, read_line, split_line};
+mod kinds;
+
+use crate::{BadLine, LineFault, answer_text, line, read_line, split_line};
 use hex::FromHex;
 use review_policy::{
     Answer, Ask, Denial, Fault, ListedProfile, Listing, Need, Reply, Rule, State, Text, Word,
@@ -159,7 +161,7 @@ fn a_line_that_is_not_a_request(rt: HostRuntime) -> Result<(), AllocError> {
         "[]",
         "{}",
         "{\"ask\":\"list\"}",
-        "{\"ask\":\"list\",\"token\":\"abc\",\"team\":\"blue\"}",
+        "{\"ask\":\"audit\",\"token\":\"abc\",\"team\":\"blue\"}",
         "{\"ask\":\"Show\",\"token\":\"abc\"}",
     ] {
         assert_eq!(rt; fault_of(rt.alloc(), line), "not-a-request", "{line}");
@@ -215,17 +217,6 @@ fn the_last_of_a_repeated_member_counts_and_spaces_may_stand(
         assert_eq!(rt; fault_of(rt.alloc(), text.as_str()), "", "{rest}");
     }
     Ok(())
-}
-
-#[test]
-fn kinds_are_known_by_their_words(rt: HostRuntime) {
-    assert_eq!(rt; Kind::from_word("enrol"), Some(Kind::Enrol));
-    assert_eq!(rt; Kind::from_word("submit"), Some(Kind::Submit));
-    assert_eq!(rt; Kind::from_word("show"), Some(Kind::Show));
-    assert_eq!(rt; Kind::from_word("fetch"), None);
-    assert!(rt; Kind::Vote.has_member("vote"));
-    assert!(rt; Kind::List.has_member("token"));
-    assert!(rt; !Kind::List.has_member("profile"));
 }
 
 #[test]
@@ -379,7 +370,7 @@ fn a_list_tells_each_profile(rt: HostRuntime) -> Result<(), Fail> {
 }
 
 #[test]
-fn denials_and_faults_are_told_with_their_words(rt: HostRuntime) -> Result<(), Fail> {
+fn a_refused_document_is_told_with_its_fault(rt: HostRuntime) -> Result<(), Fail> {
     let denial = Denial {
         number: 4,
         rule: Rule::Document,
@@ -396,61 +387,72 @@ fn denials_and_faults_are_told_with_their_words(rt: HostRuntime) -> Result<(), F
         text.as_str(),
         "{\"answer\":\"denied\",\"fault\":\"ambient-outside 10\",\"rule\":4,\"word\":\"document\"}\n"
     );
-    let denial = Denial {
-        number: 7,
-        rule: Rule::ApprovalsShort {
+    Ok(())
+}
+
+#[test]
+fn denials_are_told_with_their_words(rt: HostRuntime) -> Result<(), AllocError> {
+    let (none, one) = (
+        Rule::ApprovalsShort {
             got: 0,
             need: Need::One,
         },
-    };
-    let text = line(
-        rt.alloc(),
-        &Answer::Denied {
-            denial,
-            fault: None,
-        },
-    )?;
-    assert_eq!(rt;
-        text.as_str(),
-        "{\"answer\":\"denied\",\"got\":0,\"need\":1,\"rule\":7,\"word\":\"approvals-short\"}\n"
-    );
-    let denial = Denial {
-        number: 7,
-        rule: Rule::ApprovalsShort {
+        Rule::ApprovalsShort {
             got: 1,
             need: Need::TwoWithSecurity,
         },
-    };
-    let text = line(
-        rt.alloc(),
-        &Answer::Denied {
-            denial,
-            fault: None,
-        },
-    )?;
-    assert_eq!(rt;
-        text.as_str(),
-        "{\"answer\":\"denied\",\"got\":1,\"need\":2,\"rule\":7,\"word\":\"approvals-short\"}\n"
     );
-    let denial = Denial {
-        number: 1,
-        rule: Rule::CallerUnknown,
-    };
-    let text = answer_text(
-        rt.alloc(),
-        &Answer::Denied {
-            denial,
-            fault: None,
-        },
-    )?;
-    assert_eq!(rt;
-        text.as_str(),
-        "{\"answer\":\"denied\",\"rule\":1,\"word\":\"caller-unknown\"}"
-    );
-    let text = line(rt.alloc(), &Answer::Fault(Fault::NotAnOffice))?;
-    assert_eq!(rt;
-        text.as_str(),
-        "{\"answer\":\"fault\",\"word\":\"not-an-office\"}\n"
-    );
+    for (number, rule, expected) in [
+        (
+            1,
+            Rule::CallerUnknown,
+            "{\"answer\":\"denied\",\"rule\":1,\"word\":\"caller-unknown\"}",
+        ),
+        (
+            7,
+            none,
+            "{\"answer\":\"denied\",\"got\":0,\"need\":1,\"rule\":7,\"word\":\"approvals-short\"}",
+        ),
+        (
+            7,
+            one,
+            "{\"answer\":\"denied\",\"got\":1,\"need\":2,\"rule\":7,\"word\":\"approvals-short\"}",
+        ),
+        (
+            5,
+            Rule::Held,
+            "{\"answer\":\"denied\",\"rule\":5,\"word\":\"held\"}",
+        ),
+    ] {
+        let denial = Denial { number, rule };
+        let text = answer_text(
+            rt.alloc(),
+            &Answer::Denied {
+                denial,
+                fault: None,
+            },
+        )?;
+        assert_eq!(rt; text.as_str(), expected);
+    }
+    Ok(())
+}
+
+#[test]
+fn faults_are_told_with_their_words(rt: HostRuntime) -> Result<(), AllocError> {
+    for (fault, expected) in [
+        (
+            Fault::Memory,
+            "{\"answer\":\"fault\",\"word\":\"memory\"}\n",
+        ),
+        (Fault::Disk, "{\"answer\":\"fault\",\"word\":\"disk\"}\n"),
+        (Fault::Full, "{\"answer\":\"fault\",\"word\":\"full\"}\n"),
+        (
+            Fault::NotAnOffice,
+            "{\"answer\":\"fault\",\"word\":\"not-an-office\"}\n",
+        ),
+    ] {
+        let text = line(rt.alloc(), &Answer::Fault(fault))?;
+        assert_eq!(rt; text.as_str(), expected);
+    }
     Ok(())
 }

@@ -1,21 +1,34 @@
-use Rattle.std.proofs.Common.{◌∙◌, ap}
-use Rattle.review_policy.specs.declared.ask.Ask.TheVariants as ask
+use Rattle.std.proofs.Common.{◌∙◌, Some, None, sym, ap}
+use Rattle.sqlite.specs.Held.{state}
+use Rattle.review_policy.specs.declared.denial.Rule.TheVariants.{CallerUnknown}
 use Rattle.profile_text.specs.Digest.{digest_of}
-use Rattle.office_policy.specs.TablesOf.{tables_of}
-use Rattle.office_desk.proofs.CarryFacts.{carried}
+use Rattle.office_policy.specs.Verdict.{verdict_of, verdict}
+use Rattle.office_policy.specs.Lawful.{IsLawful}
+use Rattle.office_desk.specs.declared.refusal.Refusal.TheVariants as refusals
+use Rattle.office_desk.specs.Carries.{Knows}
+use Rattle.office_desk.proofs.Carrying.{left, read_fails, refused_after, then_carries_for}
+use Rattle.office_desk.proofs.Handling.{known, called, stranger}
 use Rattle.office_desk.proofs.carry_out.carry_out.Goals as goal
 
-pub returns-in-Enrol : goal.returns-in-Enrol
-returns-in-Enrol c = λ h lawful shows.
-    carried h lawful c.args.request.now c.in_ok-caller.caller c.digest-token.result (ask.Enrol c.in-Enrol.user c.in-Enrol.team c.in-Enrol.roles c.in-Enrol.digest) c.enrol.result c.enrol.new.store
-    (c.digest-token.ensures ∙ ap digest_of (c.as_bytes.ensures.value ∙ c.as_str.ensures.text)) (c.in_ok-caller.ensures.found (tables_of h) shows) c.in-Enrol.is (c.enrol.ensures h lawful shows)
+pub returns-in_err-caller-clause-carried : goal.returns-in_err-caller-clause-carried
+returns-in_err-caller-clause-carried g c =
+    left _ _ _ _ (refusals.Fault c.in_err-caller.field-0.0) c.from_residual.ensures.1
+    (read_fails _ (state g.S.Store c.args.conn.now) (state g.S.Store c.user_by_token.new.conn) _ c.in_err-caller.field-0.0 c.in_err-caller.ensures.read)
 
-pub returns-in-Submit : goal.returns-in-Submit
-returns-in-Submit c = λ h lawful shows.
-    carried h lawful c.args.request.now c.in_ok-caller.caller c.digest-token.result (ask.Submit c.in-Submit.name c.in-Submit.document) c.submit.result c.submit.new.store
-    (c.digest-token.ensures ∙ ap digest_of (c.as_bytes.ensures.value ∙ c.as_str.ensures.text)) (c.in_ok-caller.ensures.found (tables_of h) shows) c.in-Submit.is (c.submit.ensures h lawful shows)
+pub returns-in_default-clause-carried : goal.returns-in_default-clause-carried
+returns-in_default-clause-carried g c =
+    refused_after _ (state g.S.Store c.args.conn.now) (state g.S.Store c.user_by_token.new.conn) _ c.in_ok-caller.field-0 c.in_ok-caller.ensures.read (record { number = 1; rule = CallerUnknown }) None
+    (λ h lawful is. sym (called h lawful c.args.request.now c.digest-token.result c.in_ok-caller.field-0 (c.digest-token.ensures ∙ ap digest_of (c.as_bytes.ensures.value ∙ c.as_str.ensures.text)) is)
+    ∙ ap (λ u. verdict_of h u c.args.request.now.ask) c.in_default.is ∙ stranger h c.args.request.now.ask)
 
-pub returns-in-Show : goal.returns-in-Show
-returns-in-Show c = λ h lawful shows.
-    carried h lawful c.args.request.now c.in_ok-caller.caller c.digest-token.result (ask.Show c.in-Show.name c.in-Show.revision) c.show.result c.args.store.now
-    (c.digest-token.ensures ∙ ap digest_of (c.as_bytes.ensures.value ∙ c.as_str.ensures.text)) (c.in_ok-caller.ensures.found (tables_of h) shows) c.in-Show.is (c.show.ensures h shows)
+pub returns-clause-carried : goal.returns-clause-carried
+returns-clause-carried g c =
+    then_carries_for IsLawful (Knows c.in-Some.caller) (λ h. verdict h c.args.request.now) (λ h. verdict_of h (Some c.in-Some.caller) c.args.request.now.ask) (state g.S.Store c.args.conn.now) (state g.S.Store c.user_by_token.new.conn)
+    (state g.S.Store c.carry_out_for.new.conn) _ c.in_ok-caller.field-0 c.in_ok-caller.ensures.read c.carry_out_for.result
+    (λ h lawful is. known h lawful c.digest-token.result c.in_ok-caller.field-0 c.in-Some.caller c.in-Some.is is)
+    (λ h lawful is. ap (λ u. verdict_of h u c.args.request.now.ask) (sym c.in-Some.is)
+    ∙ called h lawful c.args.request.now c.digest-token.result c.in_ok-caller.field-0 (c.digest-token.ensures ∙ ap digest_of (c.as_bytes.ensures.value ∙ c.as_str.ensures.text)) is)
+    c.carry_out_for.ensures
+
+pub returns-clause-settled : goal.returns-clause-settled
+returns-clause-settled g c = c.carry_out_for.ensures.settled c.in_ok-caller.ensures.read.leaves.settled

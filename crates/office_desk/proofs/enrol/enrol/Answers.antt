@@ -1,31 +1,55 @@
-use Rattle.std.proofs.Common.{◌∙◌, ap, refl, Ok}
-use Rattle.std.proofs.lemmas.Result.{err_from_is_err_and}
-use Rattle.review_policy.specs.declared.answer.Answer.TheVariants.{Done}
+use Rattle.std.proofs.Common.{◌∙◌, None, refl, sym, ap}
+use Rattle.sqlite.specs.Held.{state}
 use Rattle.review_policy.specs.declared.answer.Reply.TheVariants.{Enrolled}
-use Rattle.review_policy.specs.declared.ask.Ask.TheVariants as ask
 use Rattle.review_policy.specs.Rules.{first_denial, enrol_rules}
-use Rattle.office_policy.specs.Users.{name_of}
-use Rattle.office_policy.specs.TablesOf.{tables_of}
-use Rattle.office_desk.proofs.CarryFacts.{refused, allowed, enrol_decided, enrol_done, memory_passes}
+use Rattle.office_tables.specs.declared.fault.StoreFault.TheVariants.{NoMemory}
+use Rattle.office_desk.specs.declared.refusal.Refusal.TheVariants as refusals
+use Rattle.office_desk.proofs.Carrying.{left, refused_at_once, read_fails, fails_after, refused_after, written, write_fails}
+use Rattle.office_desk.proofs.Enrolments.{refused_early, refused, adds}
 use Rattle.office_desk.proofs.enrol.enrol.Goals as goal
 
-pub returns-in-Err : goal.returns-in-Err
-returns-in-Err c = λ h lawful shows.
-    refused h c.args.caller.now (ask.Enrol c.args.user.now c.args.team.now c.args.roles c.args.digest.now) c.in-Err.denial c.args.store.now
-    (enrol_decided h lawful c.args.caller.now c.in_ok-known.known c.in_ok-shower.shower c.args.user.now c.args.team.now c.args.digest.now c.decide_enrol.result
-    (c.in_ok-known.ensures.found (tables_of h) shows) (c.in_ok-shower.ensures.found (tables_of h) shows)
-    (c.decide_enrol.ensures ∙ ap (λ f. first_denial (enrol_rules f)) c.enrol_facts-facts.ensures) ∙ c.in-Err.is)
-    shows
+pub returns-in_err-decide_enrol : goal.returns-in_err-decide_enrol
+returns-in_err-decide_enrol g c =
+    left _ _ _ _ (refusals.Denied c.in_err-decide_enrol.field-0.0 None) c.from_residual.ensures.1
+    (refused_at_once _ (state g.S.Store c.args.conn.now) c.in_err-decide_enrol.field-0.0 None c.requires
+    (λ h lawful. refused_early h c.args.caller.now c.args.user.now c.args.team.now c.args.roles c.args.digest.now
+    c.in_err-decide_enrol.field-0.0 (ap (λ f. first_denial (enrol_rules f)) (sym c.enrol_facts.ensures) ∙ sym c.in_err-decide_enrol.ensures)))
+
+pub returns-in_err-known : goal.returns-in_err-known
+returns-in_err-known g c =
+    left _ _ _ _ (refusals.Fault c.in_err-known.field-0.0) c.from_residual-in_err-known.ensures.1
+    (read_fails _ (state g.S.Store c.args.conn.now) (state g.S.Store c.users_of.new.conn) _ c.in_err-known.field-0.0 c.in_err-known.ensures)
+
+pub returns-in_err-decide_enrol-2 : goal.returns-in_err-decide_enrol-2
+returns-in_err-decide_enrol-2 g c =
+    left _ _ _ _ (refusals.Denied c.in_err-decide_enrol-2.field-0.0 None) c.from_residual-in_err-decide_enrol-2.ensures.1
+    (refused_after _ (state g.S.Store c.args.conn.now) (state g.S.Store c.users_of.new.conn) _
+    (c.in_ok-known.known, c.in_ok-known.shower) c.in_ok-known.ensures c.in_err-decide_enrol-2.field-0.0 None
+    (λ h lawful is. refused h c.args.caller.now c.args.user.now c.args.team.now c.args.roles c.args.digest.now
+    (c.in_ok-known.known, c.in_ok-known.shower) (is h lawful refl) c.in_err-decide_enrol-2.field-0.0
+    (ap (λ f. first_denial (enrol_rules f)) (sym c.enrol_facts-2.ensures) ∙ sym c.in_err-decide_enrol-2.ensures)))
+
+pub returns-in_err-row : goal.returns-in_err-row
+returns-in_err-row g c =
+    left _ _ _ _ (refusals.Fault NoMemory) c.from_residual-in_err-row.ensures.1
+    (fails_after _ (state g.S.Store c.args.conn.now) (state g.S.Store c.users_of.new.conn) _
+    (c.in_ok-known.known, c.in_ok-known.shower) c.in_ok-known.ensures NoMemory (λ same. cc))
 
 pub returns-in_err-put_user : goal.returns-in_err-put_user
-returns-in_err-put_user c = λ h lawful shows.
-    let p = err_from_is_err_and c.from_residual-in_err-put_user.result c.from_residual-in_err-put_user.ensures.1 in
-    rw (p.1, p.2) (memory_passes c.in_err-put_user.field-0.0 c.in_err-put_user.ensures.fault, c.in_err-put_user.ensures.kept (tables_of h) shows)
+returns-in_err-put_user g c =
+    left _ _ _ _ (refusals.Fault c.in_err-put_user.field-0.0) c.from_residual-in_err-put_user.ensures.1
+    (write_fails _ (state g.S.Store c.args.conn.now) (state g.S.Store c.users_of.new.conn) (state g.S.Store c.put_user.new.conn) _
+    (c.in_ok-known.known, c.in_ok-known.shower) c.in_ok-known.ensures Enrolled _
+    (λ h lawful is. adds h c.args.caller.now c.args.user.now c.args.team.now c.args.roles c.args.digest.now
+    (c.in_ok-known.known, c.in_ok-known.shower) (is h lawful refl) c.in_ok-row.row c.in_ok-row.ensures
+    (ap (λ f. first_denial (enrol_rules f)) (sym c.enrol_facts-2.ensures) ∙ sym c.in_ok-decide_enrol-2.ensures))
+    c.in_err-put_user.field-0.0 c.in_err-put_user.ensures.write)
 
 pub returns : goal.returns
-returns c = λ h lawful shows.
-    allowed h c.args.caller.now (ask.Enrol c.args.user.now c.args.team.now c.args.roles c.args.digest.now) (Ok (Done Enrolled)) c.put_user.new.self
-    (enrol_decided h lawful c.args.caller.now c.in_ok-known.known c.in_ok-shower.shower c.args.user.now c.args.team.now c.args.digest.now c.decide_enrol.result
-    (c.in_ok-known.ensures.found (tables_of h) shows) (c.in_ok-shower.ensures.found (tables_of h) shows)
-    (c.decide_enrol.ensures ∙ ap (λ f. first_denial (enrol_rules f)) c.enrol_facts-facts.ensures) ∙ c.in-Ok.is)
-    (refl, enrol_done h (name_of c.args.caller.now) c.args.user.now c.args.team.now c.in_ok-copy.field-0 c.in_ok-copy-2.field-0 c.args.roles c.args.digest.now c.put_user.new.self c.in_ok-copy.ensures c.in_ok-copy-2.ensures (c.in_ok-put_user.ensures.put (tables_of h) shows))
+returns g c =
+    written _ (state g.S.Store c.args.conn.now) (state g.S.Store c.users_of.new.conn) (state g.S.Store c.put_user.new.conn) _
+    (c.in_ok-known.known, c.in_ok-known.shower) c.in_ok-known.ensures Enrolled _
+    (λ h lawful is. adds h c.args.caller.now c.args.user.now c.args.team.now c.args.roles c.args.digest.now
+    (c.in_ok-known.known, c.in_ok-known.shower) (is h lawful refl) c.in_ok-row.row c.in_ok-row.ensures
+    (ap (λ f. first_denial (enrol_rules f)) (sym c.enrol_facts-2.ensures) ∙ sym c.in_ok-decide_enrol-2.ensures))
+    c.in_ok-put_user.field-0 c.in_ok-put_user.ensures.write

@@ -1,7 +1,11 @@
-use Rattle.office_desk.proofs.CarryFacts.{handled}
+use Rattle.std.proofs.Common.{subst}
+use Rattle.sqlite.specs.Held.{state}
+use Rattle.office_desk.specs.Handled.{IsHandled}
+use Rattle.office_desk.proofs.Handling.{handled}
 use Rattle.office_desk.proofs.office.Office.handle.Goals as goal
 
-pub returns-in-Ok-clause-office : goal.returns-in-Ok-clause-office
-returns-in-Ok-clause-office c = λ h office.
-    let told = c.in-Ok.ensures h office.lawful office.tables in
-    handled h c.args.request.now c.in-Ok.answer c.carry_out.new.store c.request_forms.ensures.token c.request_forms.ensures.ask office.lawful told.0 told.1
+pub returns : goal.returns
+returns g c =
+    subst (λ old. IsHandled (state g.S.Store old) (state g.S.Store c.carry_out.new.conn) c.args.request.now c.answer_to.result) c.self.view_is
+    (handled (state g.S.Store c.self.inside.conn) (state g.S.Store c.carry_out.new.conn) c.args.request.now c.request_forms.ensures.token c.request_forms.ensures.ask
+    c.carry_out.result c.answer_to.result c.answer_to.ensures c.carry_out.ensures.carried c.carry_out.ensures.open c.carry_out.ensures.settled)

@@ -1,2 +1,0 @@
-pub mod UserLemmas
-pub mod RevisionLemmas

@@ -1,3 +1,0 @@
-pub mod Users
-pub mod Revisions
-pub mod Shows

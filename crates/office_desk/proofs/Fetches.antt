@@ -1,0 +1,54 @@
+-- What fetches are decided by.
+use Rattle.std.proofs.Common.{◌≡◌, ◌∙◌, ℕ, List, Bool, true, false, not, Option, Some, None, Err, refl, sym, ap}
+use Rattle.std.specs.Prelude.{is_some, is_none}
+use Rattle.review_policy.specs.declared.ask.Ask.TheVariants as ask
+use Rattle.review_policy.specs.declared.ask.ProfileName.{ProfileName}
+use Rattle.review_policy.specs.declared.answer.Reply.TheVariants.{Fetched}
+use Rattle.review_policy.specs.declared.denial.Denial.{Denial}
+use Rattle.review_policy.specs.declared.facts.FetchFacts.{FetchFacts}
+use Rattle.review_policy.specs.declared.role.Role.TheVariants.{Machine}
+use Rattle.review_policy.specs.Rules.{first_denial, fetch_rules}
+use Rattle.office_tables.specs.declared.row.UserRow.{UserRow}
+use Rattle.office_tables.specs.declared.row.RevisionRow.{RevisionRow}
+use Rattle.office_tables.specs.Lists.{holds_role}
+use Rattle.office_policy.specs.History.{History}
+use Rattle.office_policy.specs.Users.{is_of_team}
+use Rattle.office_policy.specs.Facts.{fetch_facts}
+use Rattle.office_policy.specs.Verdict.{accepted, of_revision, done_of}
+use Rattle.office_desk.specs.Looked.{issued_at}
+use Rattle.office_desk.proofs.Deciding.{Kind}
+
+pub fetching : (caller : UserRow) (p : ProfileName)
+    → Kind (Some caller) (ask.Fetch p) (issued_at p) (λ x. fetch_rules (fetch_facts (Some caller) p.team x.0 x.1))
+fetching caller p = record { plain = λ h rule. refl; asked = λ h. refl }
+
+by_caller : (missing other nothing held : Bool) (d : Denial)
+    → first_denial (fetch_rules (record { caller_unknown = false; role_missing = missing; other_team = other; nothing_issued = false; held = false })) ≡ Err d
+    → first_denial (fetch_rules (record { caller_unknown = false; role_missing = missing; other_team = other; nothing_issued = nothing; held = held })) ≡ Err d
+by_caller true other nothing held d e = e
+by_caller false true nothing held d e = e
+by_caller false false nothing held d e = absurd cc
+
+-- a caller whose roles or team refuse is refused whatever is issued
+pub fetch_early : (caller : UserRow) (p : ProfileName) (d : Denial)
+    → first_denial (fetch_rules (record (fetch_facts (Some caller) p.team None false) { nothing_issued = false })) ≡ Err d
+    → (x : Option RevisionRow × Bool) → first_denial (fetch_rules (fetch_facts (Some caller) p.team x.0 x.1)) ≡ Err d
+fetch_early caller p d e x = by_caller (not (holds_role (Some caller) Machine)) (not (is_of_team (Some caller) p.team)) (is_none x.0) x.1 d e
+
+none_told : (found : Option RevisionRow) (nothing : Bool) → is_some found ≡ not nothing → is_none found ≡ nothing
+none_told None true told = refl
+none_told None false told = absurd cc
+none_told (Some r) true told = absurd cc
+none_told (Some r) false told = refl
+
+-- what was asked is of what was found
+pub facts_are : (caller : UserRow) (team : List ℕ) (found : Option RevisionRow) (held nothing : Bool) (facts : FetchFacts) → is_some found ≡ not nothing
+    → facts ≡ record (fetch_facts (Some caller) team None held) { nothing_issued = nothing } → fetch_facts (Some caller) team found held ≡ facts
+facts_are caller team found held nothing facts told is =
+    ap (λ b. record (fetch_facts (Some caller) team None held) { nothing_issued = b }) (none_told found nothing told) ∙ sym is
+
+-- the issued revision is told
+pub fetch_done : (caller : UserRow) (p : ProfileName) (x : Option RevisionRow × Bool) (r : RevisionRow) → x.0 ≡ Some r → (h : History) → x ≡ issued_at p h
+    → done_of h (Some caller) (ask.Fetch p) ≡ accepted (Fetched r.digest r.body r.number) None
+fetch_done caller p x r is h same =
+    ap (λ found. of_revision found (λ r. accepted (Fetched r.digest r.body r.number) None)) (sym (ap (λ y. y.0) same) ∙ is)

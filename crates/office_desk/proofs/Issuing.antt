@@ -1,0 +1,123 @@
+-- How an issue meets its verdict.
+use Rattle.std.proofs.Common.{◌≡◌, ◌∙◌, ◌↔◌, ℕ, List, Bool, true, false, not, Option, Some, None, Ok, Err, take, drop, refl, sym, ap, subst}
+use Rattle.review_policy.specs.declared.ask.Ask.TheVariants as ask
+use Rattle.review_policy.specs.declared.ask.ProfileName.{ProfileName}
+use Rattle.review_policy.specs.declared.answer.Reply.TheVariants as reply
+use Rattle.review_policy.specs.declared.denial.Denial.{Denial}
+use Rattle.review_policy.specs.declared.denial.Need.{Need}
+use Rattle.review_policy.specs.declared.denial.Need.TheVariants.{One}
+use Rattle.review_policy.specs.declared.facts.IssueFacts.{IssueFacts}
+use Rattle.review_policy.specs.declared.revision.State.TheVariants.{Open}
+use Rattle.review_policy.specs.Rules.{first_denial, issue_rules, is_open}
+use Rattle.office_tables.specs.declared.row.UserRow.{UserRow}
+use Rattle.office_tables.specs.declared.row.RevisionRow.{RevisionRow}
+use Rattle.office_tables.specs.declared.listed.Tally.{Tally}
+use Rattle.office_tables.specs.Tables.{Tables}
+use Rattle.office_tables.specs.Changes.{with_issued}
+use Rattle.office_tables.specs.Lists.{IsAuthor, IsTally}
+use Rattle.office_store.specs.Calls.{Into}
+use Rattle.office_policy.specs.History.{History, issued}
+use Rattle.office_policy.specs.Revisions.{revision_of, is_author, state_in}
+use Rattle.office_policy.specs.Votes.{tally_at}
+use Rattle.office_policy.specs.Holds.{is_held}
+use Rattle.office_policy.specs.Baseline.{document_or_closed}
+use Rattle.office_policy.specs.Documents.{document_of}
+use Rattle.office_policy.specs.Need.{need_against, need_of_row, need_at}
+use Rattle.office_policy.specs.Facts.{issue_facts}
+use Rattle.office_policy.specs.Verdict.{accepted, denied, of_revision, verdict_of}
+use Rattle.office_policy.proofs.RuleFacts.{none_refuses}
+use Rattle.office_policy.proofs.VoterFacts.{tally_is}
+use Rattle.office_history.specs.LooksBack.{LooksBack}
+use Rattle.office_history.proofs.EventFacts.{issued_tables}
+use Rattle.office_history.proofs.LookUps.{author_is}
+use Rattle.office_desk.specs.declared.baseline.Comparison.{Comparison}
+use Rattle.office_desk.specs.declared.issue.Looked.{Looked}
+use Rattle.office_desk.specs.Compared.{compared_at}
+use Rattle.office_desk.specs.Issuing.{looked_at, one_approval}
+use Rattle.office_desk.proofs.Carrying.{Adds}
+use Rattle.office_desk.proofs.Early.{refused_early}
+use Rattle.office_desk.proofs.Handling.{denied_is, allowed_is}
+
+-- ---- what is looked up
+
+pub looked_found : (p : ProfileName) (n : ℕ) (name : List ℕ) (row : Option RevisionRow) (author : Bool) (tally : Tally) (held : Bool) (t : Tables)
+    → row ≡ t.revisions p n → ((author ≡ true) ↔ IsAuthor t p name) → IsTally t p n tally → held ≡ t.holds p
+    → LooksBack (λ h. looked_at h p n name) t (record { revision = row; by_author = author; tally = tally; held = held })
+looked_found p n name row author tally held t is_row is_by is_tally is_hold h lawful is =
+    let row_is : row ≡ revision_of h p n = is_row ∙ ap (λ u. u.revisions p n) is in
+    let author_told : author ≡ is_author h p name = author_is h p name author (subst (λ u. (author ≡ true) ↔ IsAuthor u p name) is is_by) in
+    let tally_told : tally ≡ tally_at h p n = tally_is h p n tally (subst (λ u. IsTally u p n tally) is is_tally) in
+    let held_is : held ≡ is_held h p = is_hold ∙ ap (λ u. u.holds p) is in
+    λ i. record { revision = row_is i; by_author = author_told i; tally = tally_told i; held = held_is i }
+
+-- ---- the verdict
+
+-- what the rules ask, by what was looked up and the need
+abbrev pub facts_by : UserRow → Looked → Need → IssueFacts
+facts_by caller l need = issue_facts (Some caller) l.revision l.by_author l.tally need l.held
+
+-- and before the approvals
+abbrev pub facts_early : UserRow → Looked → IssueFacts
+facts_early caller l = issue_facts (Some caller) l.revision l.by_author (one_approval l.tally.rejections) One false
+
+abbrev pub facts_of_caller : UserRow → IssueFacts
+facts_of_caller caller = record (issue_facts (Some caller) None false (one_approval 0) One false) { state = Some Open }
+
+is_so : (b : Bool) → not b ≡ false → b ≡ true
+is_so true e = refl
+is_so false e = absurd cc
+
+module _ (h : History) (caller : UserRow) (p : ProfileName) (n : ℕ) where
+  -- a caller without the role is refused whatever the revision
+  pub caller_refused : (d : Denial) → first_denial (issue_rules (facts_of_caller caller)) ≡ Err d
+      → verdict_of h (Some caller) (ask.Issue p n) ≡ denied d None
+  caller_refused d e =
+      let all = issue_rules (facts_by caller (looked_at h p n caller.name) (need_at h p n)) in
+      denied_is h (Some caller) (ask.Issue p n) d (refused_early (take 2 all) (drop 2 (issue_rules (facts_of_caller caller))) (drop 2 all) d refl e)
+
+  module _ (l : Looked) (is : l ≡ looked_at h p n caller.name) where
+    denied_by : (d : Denial) → first_denial (issue_rules (facts_by caller l (need_at h p n))) ≡ Err d
+        → verdict_of h (Some caller) (ask.Issue p n) ≡ denied d None
+    denied_by d e =
+        denied_is h (Some caller) (ask.Issue p n) d
+        (subst (λ k. first_denial (issue_rules (facts_by caller k (need_at h p n))) ≡ Err d) is e)
+
+    -- what refuses whatever is needed
+    pub refused_early_on : (d : Denial) → first_denial (issue_rules (facts_early caller l)) ≡ Err d
+        → verdict_of h (Some caller) (ask.Issue p n) ≡ denied d None
+    refused_early_on d e =
+        let all = issue_rules (facts_by caller l (need_at h p n)) in
+        denied_by d (refused_early (take 6 all) (drop 6 (issue_rules (facts_early caller l))) (drop 6 all) d refl e)
+
+    -- the need of the revision
+    module _ (r : RevisionRow) (there : l.revision ≡ Some r) (c : Comparison) (is_compared : c ≡ compared_at h p.team) (need : Need)
+        (is_need : need ≡ need_against c.listed (document_or_closed c.adopted) (document_of r.body)) where
+      row_is : revision_of h p n ≡ Some r
+      row_is = sym (ap (λ k. k.revision) is) ∙ there
+
+      need_is : need ≡ need_at h p n
+      need_is =
+          is_need ∙ ap (λ k. need_against k.listed (document_or_closed k.adopted) (document_of r.body)) is_compared
+          ∙ ap (need_of_row h p.team) (sym row_is)
+
+      pub refused_by_need : (d : Denial) → first_denial (issue_rules (facts_by caller l need)) ≡ Err d
+          → verdict_of h (Some caller) (ask.Issue p n) ≡ denied d None
+      refused_by_need d e = denied_by d (subst (λ k. first_denial (issue_rules (facts_by caller l k)) ≡ Err d) need_is e)
+
+      -- an issue that is allowed adds its event
+      pub issue_adds : first_denial (issue_rules (facts_by caller l need)) ≡ Ok tt
+          → Adds h (verdict_of h (Some caller) (ask.Issue p n)) (reply.Issued r.digest) (Into (with_issued p n))
+      issue_adds e =
+          let none = none_refuses 1 (issue_rules (facts_by caller l need)) e in
+          let still_open : is_open (state_in (revision_of h p n)) ≡ true =
+          subst (λ k. is_open (state_in k.revision) ≡ true) is (is_so (is_open (state_in l.revision)) none.1.1.1.1.0) in
+          let allowed : first_denial (issue_rules (facts_by caller l (need_at h p n))) ≡ Ok tt =
+          subst (λ k. first_denial (issue_rules (facts_by caller l k)) ≡ Ok tt) need_is e in
+          record {
+            event = issued caller.name p n;
+            is =
+                allowed_is h (Some caller) (ask.Issue p n)
+                (subst (λ k. first_denial (issue_rules (facts_by caller k (need_at h p n))) ≡ Ok tt) is allowed)
+                ∙ ap (λ o. of_revision o (λ r. accepted (reply.Issued r.digest) (Some (issued caller.name p n)))) row_is;
+            makes = sym (issued_tables h caller.name p n still_open);
+          }

@@ -1,0 +1,126 @@
+-- How a document that is handed in meets its verdict.
+use Rattle.std.proofs.Common.{◌≡◌, ◌∙◌, ℕ, suc, List, ◌∷◌, Bool, false, not, Option, Some, None, Err, Ok, refl, sym, ap, subst, Vec, Global}
+use Rattle.std.specs.Prelude.{Result, ⊤}
+use Rattle.sqlite.specs.State.{State}
+use Rattle.review_policy.specs.declared.ask.ProfileName.{ProfileName}
+use Rattle.review_policy.specs.declared.ask.Ask.TheVariants as ask
+use Rattle.review_policy.specs.declared.answer.Reply.TheVariants.{Submitted}
+use Rattle.review_policy.specs.declared.denial.Denial.{Denial}
+use Rattle.review_policy.specs.declared.denial.Rule.{Rule}
+use Rattle.review_policy.specs.declared.denial.Rule.TheVariants.{Document}
+use Rattle.review_policy.specs.declared.facts.SubmitFacts.{SubmitFacts}
+use Rattle.review_policy.specs.declared.role.Role.TheVariants.{Author}
+use Rattle.review_policy.specs.Rules.{first_denial, submit_rules}
+use Rattle.profile_text.specs.declared.profile.Profile.{Profile}
+use Rattle.profile_text.specs.declared.fault.DocFault.{DocFault}
+use Rattle.profile_text.specs.Digest.{digest_of}
+use Rattle.profile_text.specs.Reading.{reading_of}
+use Rattle.profile_text.specs.Text.{text_of}
+use Rattle.office_tables.specs.declared.fault.StoreFault.TheVariants.{NoMemory, NotAnOffice}
+use Rattle.office_tables.specs.declared.row.UserRow.{UserRow}
+use Rattle.office_tables.specs.declared.row.RevisionRow.{RevisionRow}
+use Rattle.office_tables.specs.Lists.{holds_role}
+use Rattle.office_tables.specs.Reads.{IsLast}
+use Rattle.office_store.specs.Reads.{Submits}
+use Rattle.office_store.specs.Shown.{IsIdle}
+use Rattle.office_policy.specs.History.{History, submitted}
+use Rattle.office_policy.specs.Users.{is_of_team}
+use Rattle.office_policy.specs.Revisions.{revision_count, last_revision, if_open, number_of}
+use Rattle.office_policy.specs.Facts.{canonical, is_text_of, submit_facts}
+use Rattle.office_policy.specs.Verdict.{Verdict, accepted, denied, fault_told, new_revision, verdict_of}
+use Rattle.office_policy.specs.Lawful.{IsLawful}
+use Rattle.office_policy.specs.TablesOf.{tables_of}
+use Rattle.office_history.proofs.Submissions.{last_found, last_number, submits}
+use Rattle.office_desk.specs.declared.refusal.Refusal.{Refusal}
+use Rattle.office_desk.specs.declared.refusal.Refusal.TheVariants as refusals
+use Rattle.office_desk.specs.AtOnce.{IsRefusedAtOnce}
+use Rattle.office_desk.specs.Carries.{CarriesOut}
+use Rattle.office_desk.proofs.Carrying.{Adds, refused_at_once, failed_at_once}
+use Rattle.office_desk.proofs.Handling.{denied_is, allowed_is}
+
+-- what is asked of a document that reads: of its caller and team, whether its text is the open one, and how many revisions
+-- there are
+abbrev facts_on : UserRow → List ℕ → (same : Bool) → (revisions : ℕ) → SubmitFacts
+facts_on caller team same revisions = record {
+  caller_unknown = false;
+  role_missing = not (holds_role (Some caller) Author);
+  other_team = not (is_of_team (Some caller) team);
+  document = false;
+  same_as_open = same;
+  revisions = revisions;
+}
+
+-- and what the rules say, by its text and the last revision
+abbrev decision_on : UserRow → List ℕ → (text : List ℕ) → Option RevisionRow → Result ⊤ Denial
+decision_on caller team text last = first_denial (submit_rules (facts_on caller team (is_text_of (Some text) (if_open last)) (number_of last)))
+
+-- a document with a canonical text reads
+reads : (reading : Result Profile DocFault) (text : List ℕ) → canonical reading ≡ Some text
+    → (profile : Profile) × (reading ≡ Ok profile) × (text_of profile ≡ text)
+reads (Ok profile) text e = (profile, refl, cc)
+reads (Err f) text e = absurd cc
+
+-- a document that reads has no fault to tell
+read_untold : (rule : Rule) (profile : Profile) → fault_told rule (Ok profile) ≡ None
+read_untold Document profile = refl
+read_untold _ profile = refl
+
+-- what was asked is what its rules say
+pub asked : (caller : UserRow) (team text : List ℕ) (last : Option RevisionRow) (facts : SubmitFacts) (same : Bool) (revisions : ℕ) (told : Result ⊤ Denial)
+    → facts ≡ facts_on caller team same revisions → same ≡ is_text_of (Some text) (if_open last) → revisions ≡ number_of last
+    → told ≡ first_denial (submit_rules facts) → decision_on caller team text last ≡ told
+asked caller team text last facts same revisions told facts_are same_is revisions_are is =
+    (λ i. first_denial (submit_rules (facts_on caller team (sym same_is i) (sym revisions_are i))))
+    ∙ ap (λ f. first_denial (submit_rules f)) (sym facts_are) ∙ sym is
+
+-- a refusal at once is carried out
+pub turned_away : (judge : History → Verdict) (s : State) (refusal : Refusal) → IsIdle s → IsRefusedAtOnce refusal judge
+    → CarriesOut s s (Err refusal) judge
+turned_away judge s (refusals.Denied denial fault) idle is = refused_at_once judge s denial fault idle (λ h lawful. is h)
+turned_away judge s (refusals.Fault fault) idle is =
+    failed_at_once judge s fault idle (λ same. let never : NoMemory ≡ NotAnOffice = sym is ∙ same in cc)
+
+module _ (h : History) (caller : UserRow) (p : ProfileName) (document : Vec ℕ Global) where
+  -- the rules, by what the document reads as
+  abbrev decided : Result Profile DocFault → Result ⊤ Denial
+  decided reading = first_denial (submit_rules (submit_facts (Some caller) p.team reading (last_revision h p) (revision_count h p)))
+
+  module _ (text : List ℕ) (is_text : canonical (reading_of document.items) ≡ Some text)
+      (last : Option RevisionRow) (is_last : IsLast (tables_of h) p last) where
+    abbrev profile : Profile
+    profile = (reads (reading_of document.items) text is_text).0
+
+    is_read : reading_of document.items ≡ Ok profile
+    is_read = (reads (reading_of document.items) text is_text).1
+
+    is_its : text_of profile ≡ text
+    is_its = (reads (reading_of document.items) text is_text).2
+
+    decided_on : decided (reading_of document.items) ≡ decision_on caller p.team text last
+    decided_on =
+        ap decided is_read
+        ∙ (λ i. first_denial (submit_rules (facts_on caller p.team
+        (is_text_of (Some (is_its i)) (if_open (sym (last_found h p last is_last) i))) (sym (last_number h p last is_last) i))))
+
+    -- what the last revision refuses
+    pub refused : (d : Denial) → decision_on caller p.team text last ≡ Err d
+        → verdict_of h (Some caller) (ask.Submit p document) ≡ denied d None
+    refused d e =
+        denied_is h (Some caller) (ask.Submit p document) d (decided_on ∙ e)
+        ∙ ap (λ r. denied d (fault_told d.rule r)) is_read ∙ ap (denied d) (read_untold d.rule profile)
+
+    -- a submission that is allowed adds its event
+    pub adds : IsLawful h → (author digest : List ℕ) → author ≡ caller.name → digest ≡ digest_of text
+        → decision_on caller p.team text last ≡ Ok tt
+        → Adds h (verdict_of h (Some caller) (ask.Submit p document)) (Submitted digest (suc (revision_count h p))) (Submits p author text digest)
+    adds lawful author digest is_author is_digest e = record {
+      event = submitted caller.name p text;
+      is =
+          allowed_is h (Some caller) (ask.Submit p document) (decided_on ∙ e) ∙ ap (new_revision h (Some caller) p) is_read
+          ∙ ap (λ (t : List ℕ). accepted (Submitted (digest_of t) (suc (revision_count h p))) (Some (submitted caller.name p t))) is_its
+          ∙ ap (λ d. accepted (Submitted d (suc (revision_count h p))) (Some (submitted caller.name p text))) (sym is_digest);
+      makes =
+          subst (λ a. Submits p a text digest (tables_of h) (tables_of (submitted caller.name p text ∷ h))) (sym is_author)
+          (subst (λ d. Submits p caller.name text d (tables_of h) (tables_of (submitted caller.name p text ∷ h))) (sym is_digest)
+          (submits h lawful caller.name p text));
+    }

@@ -1,0 +1,23 @@
+use Rattle.std.proofs.Common.{rules, ◌≡◌, Err}
+use Rattle.sqlite.specs.Held.{state}
+use Rattle.office_desk.proofs.Carrying.{read_both, second_fails}
+use Rattle.office_desk.proofs.Compared.{adopted_found}
+use Rattle.office_desk.proofs.baseline.adopted_revision.Goals as goal
+
+pub returns-in_err-found : goal.returns-in_err-found
+returns-in_err-found g c =
+    let old = state g.S.Store c.args.conn.now in
+    let mid = state g.S.Store c.baseline.new.conn in
+    let new = state g.S.Store c.revision.new.conn in
+    let e : c.from_residual-in_err-found.result ≡ Err c.in_err-found.field-0.0 = search rules in
+    rw e (second_fails old mid new _ _ _ c.in_ok-adopted.ensures.read _ _ c.in_err-found.ensures.read)
+
+pub returns : goal.returns
+returns g c =
+    let old = state g.S.Store c.args.conn.now in
+    let mid = state g.S.Store c.baseline.new.conn in
+    let new = state g.S.Store c.revision.new.conn in
+    read_both old mid new _ _ _ c.in_ok-adopted.ensures.read _ _ _
+    (adopted_found c.args.team.now c.in_ok-adopted.field-0 c.in-Some.adopted c.in_ok-copy.field-0 c.in_ok-found.found c.standing.result
+    c.in-Some.is c.in_ok-copy.ensures c.standing.ensures)
+    c.in_ok-found.ensures.read

@@ -1,0 +1,56 @@
+use Rattle.std.proofs.Common.{◌∙◌, None, refl, sym, ap}
+use Rattle.sqlite.specs.Held.{state}
+use Rattle.review_policy.specs.declared.answer.Reply.TheVariants as reply
+use Rattle.review_policy.specs.Rules.{first_denial, release_rules}
+use Rattle.office_tables.specs.Changes.{without_hold}
+use Rattle.office_policy.specs.History.{released}
+use Rattle.office_history.proofs.EventFacts.{released_tables}
+use Rattle.office_desk.specs.declared.refusal.Refusal.TheVariants as refusals
+use Rattle.office_desk.proofs.Carrying.{left, read_fails}
+use Rattle.office_desk.proofs.Deciding.{refuses_at_once, refuses, writes, fails_to_write}
+use Rattle.office_desk.proofs.Holds.{releasing, release_early}
+use Rattle.office_desk.proofs.hold.release.Goals as goal
+
+pub returns-in_err-decide_release : goal.returns-in_err-decide_release
+returns-in_err-decide_release g c =
+    left _ _ _ _ (refusals.Denied c.in_err-decide_release.field-0.0 None) c.from_residual.ensures.1
+    (refuses_at_once (λ h lawful. lawful) (releasing c.args.caller.now c.args.name.now)
+    (state g.S.Store c.args.conn.now) c.in_err-decide_release.field-0.0 c.requires
+    (release_early c.args.caller.now c.in_err-decide_release.field-0.0
+    (ap (λ f. first_denial (release_rules f)) (sym c.release_facts.ensures) ∙ sym c.in_err-decide_release.ensures)))
+
+pub returns-in_err-no_profile : goal.returns-in_err-no_profile
+returns-in_err-no_profile g c =
+    left _ _ _ _ (refusals.Fault c.in_err-no_profile.field-0.0) c.from_residual-in_err-no_profile.ensures.1
+    (read_fails _ (state g.S.Store c.args.conn.now) (state g.S.Store c.look_at.new.conn) _ c.in_err-no_profile.field-0.0 c.in_err-no_profile.ensures)
+
+pub returns-in_err-decide_release-2 : goal.returns-in_err-decide_release-2
+returns-in_err-decide_release-2 g c =
+    left _ _ _ _ (refusals.Denied c.in_err-decide_release-2.field-0.0 None) c.from_residual-in_err-decide_release-2.ensures.1
+    (refuses (λ h lawful. lawful) (releasing c.args.caller.now c.args.name.now)
+    (state g.S.Store c.args.conn.now) (state g.S.Store c.look_at.new.conn)
+    (c.in_ok-no_profile.no_profile, c.in_ok-no_profile.is_held) c.in_ok-no_profile.ensures c.in_err-decide_release-2.field-0.0
+    (ap (λ f. first_denial (release_rules f)) (sym c.release_facts-2.ensures) ∙ sym c.in_err-decide_release-2.ensures))
+
+pub returns-in_err-delete_hold : goal.returns-in_err-delete_hold
+returns-in_err-delete_hold g c =
+    left _ _ _ _ (refusals.Fault c.in_err-delete_hold.field-0.0) c.from_residual-in_err-delete_hold.ensures.1
+    (fails_to_write (λ h lawful. lawful) (releasing c.args.caller.now c.args.name.now)
+    (state g.S.Store c.args.conn.now) (state g.S.Store c.look_at.new.conn)
+    (c.in_ok-no_profile.no_profile, c.in_ok-no_profile.is_held) c.in_ok-no_profile.ensures
+    (ap (λ f. first_denial (release_rules f)) (sym c.release_facts-2.ensures) ∙ sym c.in_ok-decide_release-2.ensures)
+    reply.Released (state g.S.Store c.delete_hold.new.conn)
+    (released c.args.caller.now.name c.args.name.now) (λ h. refl) (without_hold c.args.name.now)
+    (λ h lawful. released_tables h c.args.caller.now.name c.args.name.now)
+    c.in_err-delete_hold.field-0.0 c.in_err-delete_hold.ensures.write)
+
+pub returns : goal.returns
+returns g c =
+    writes (λ h lawful. lawful) (releasing c.args.caller.now c.args.name.now)
+    (state g.S.Store c.args.conn.now) (state g.S.Store c.look_at.new.conn)
+    (c.in_ok-no_profile.no_profile, c.in_ok-no_profile.is_held) c.in_ok-no_profile.ensures
+    (ap (λ f. first_denial (release_rules f)) (sym c.release_facts-2.ensures) ∙ sym c.in_ok-decide_release-2.ensures)
+    reply.Released (state g.S.Store c.delete_hold.new.conn)
+    (released c.args.caller.now.name c.args.name.now) (λ h. refl) (without_hold c.args.name.now)
+    (λ h lawful. released_tables h c.args.caller.now.name c.args.name.now)
+    c.in_ok-delete_hold.field-0 c.in_ok-delete_hold.ensures.write

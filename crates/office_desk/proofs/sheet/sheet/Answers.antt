@@ -1,0 +1,76 @@
+use Rattle.std.proofs.Common.{◌∙◌, None, sym, ap, refl}
+use Rattle.sqlite.specs.Held.{state}
+use Rattle.review_policy.specs.declared.answer.Reply.TheVariants.{Sheet}
+use Rattle.review_policy.specs.Rules.{first_denial, read_rules}
+use Rattle.office_tables.specs.declared.fault.StoreFault.TheVariants.{NoMemory}
+use Rattle.office_desk.specs.declared.refusal.Refusal.TheVariants as refusals
+use Rattle.office_desk.proofs.Carrying.{left, refused_at_once, read_fails, second_fails, fails_after, refused_after, told_after}
+use Rattle.office_desk.proofs.Compared.{read_pair}
+use Rattle.office_desk.proofs.Sheets.{sheet_refused_early, sheet_refused, sheet_told}
+use Rattle.office_desk.proofs.sheet.sheet.Goals as goal
+
+pub returns-in_err-decide_read : goal.returns-in_err-decide_read
+returns-in_err-decide_read g c =
+    let d = c.in_err-decide_read.field-0.0 in
+    left _ _ _ _ (refusals.Denied d None) c.from_residual.ensures.1
+    (refused_at_once _ (state g.S.Store c.args.conn.now) d None c.requires
+    (λ h lawful. sheet_refused_early h c.args.caller.now c.args.name.now c.args.number d
+    (ap (λ f. first_denial (read_rules f)) (sym c.read_facts.ensures) ∙ sym c.in_err-decide_read.ensures)))
+
+pub returns-in_err-found : goal.returns-in_err-found
+returns-in_err-found g c =
+    left _ _ _ _ (refusals.Fault c.in_err-found.field-0.0) c.from_residual-in_err-found.ensures.1
+    (read_fails _ (state g.S.Store c.args.conn.now) (state g.S.Store c.revision.new.conn) _ c.in_err-found.field-0.0 c.in_err-found.ensures.read)
+
+pub returns-in_err-decide_read-2 : goal.returns-in_err-decide_read-2
+returns-in_err-decide_read-2 g c =
+    let d = c.in_err-decide_read-2.field-0.0 in
+    left _ _ _ _ (refusals.Denied d None) c.from_residual-in_err-decide_read-2.ensures.1
+    (refused_after _ (state g.S.Store c.args.conn.now) (state g.S.Store c.revision.new.conn) _ c.in_ok-found.found c.in_ok-found.ensures.read d None
+    (λ h lawful is. sheet_refused h c.args.caller.now c.args.name.now c.args.number c.in_ok-found.found c.is_none.result is c.is_none.ensures d
+    (ap (λ f. first_denial (read_rules f)) (sym c.read_facts-2.ensures) ∙ sym c.in_err-decide_read-2.ensures)))
+
+pub returns-in_err-votes : goal.returns-in_err-votes
+returns-in_err-votes g c =
+    let old = state g.S.Store c.args.conn.now in
+    let mid = state g.S.Store c.revision.new.conn in
+    let new = state g.S.Store c.votes_on.new.conn in
+    let fault = c.in_err-votes.field-0.0 in
+    left _ _ _ _ (refusals.Fault fault) c.from_residual-in_err-votes.ensures.1
+    (read_fails _ old new (λ t (x : Unit {0}). Unit {0}) fault
+    (second_fails old mid new _ _ c.in_ok-found.found c.in_ok-found.ensures.read _ fault c.in_err-votes.ensures.read))
+
+pub returns-in_err-compared : goal.returns-in_err-compared
+returns-in_err-compared g c =
+    let old = state g.S.Store c.args.conn.now in
+    let one = state g.S.Store c.revision.new.conn in
+    let two = state g.S.Store c.votes_on.new.conn in
+    let new = state g.S.Store c.compared_with.new.conn in
+    let both = read_pair old one two _ _ c.in_ok-found.found c.in_ok-votes.votes c.in_ok-found.ensures.read c.in_ok-votes.ensures.read in
+    let fault = c.in_err-compared.field-0.0 in
+    left _ _ _ _ (refusals.Fault fault) c.from_residual-in_err-compared.ensures.1
+    (read_fails _ old new (λ t (x : Unit {0}). Unit {0}) fault (second_fails old two new _ _ _ both _ fault c.in_err-compared.ensures))
+
+pub returns-in_err-sheet : goal.returns-in_err-sheet
+returns-in_err-sheet g c =
+    let old = state g.S.Store c.args.conn.now in
+    let one = state g.S.Store c.revision.new.conn in
+    let two = state g.S.Store c.votes_on.new.conn in
+    let new = state g.S.Store c.compared_with.new.conn in
+    let both = read_pair old one two _ _ c.in_ok-found.found c.in_ok-votes.votes c.in_ok-found.ensures.read c.in_ok-votes.ensures.read in
+    let all = read_pair old two new _ _ _ c.in_ok-compared.compared both c.in_ok-compared.ensures in
+    left _ _ _ _ (refusals.Fault NoMemory) c.from_residual-in_err-sheet.ensures.1 (fails_after _ old new _ _ all NoMemory (λ same. cc))
+
+pub returns : goal.returns
+returns g c =
+    let old = state g.S.Store c.args.conn.now in
+    let one = state g.S.Store c.revision.new.conn in
+    let two = state g.S.Store c.votes_on.new.conn in
+    let new = state g.S.Store c.compared_with.new.conn in
+    let both = read_pair old one two _ _ c.in_ok-found.found c.in_ok-votes.votes c.in_ok-found.ensures.read c.in_ok-votes.ensures.read in
+    let all = read_pair old two new _ _ _ c.in_ok-compared.compared both c.in_ok-compared.ensures in
+    told_after _ old new _ _ all (Sheet c.in_ok-sheet.sheet)
+    (λ h lawful looks. sheet_told h c.args.caller.now c.args.name.now c.args.number c.in_ok-found.found c.is_none.result looks.0.0 c.is_none.ensures
+    c.in-Some.row c.in_ok-votes.votes.items c.in_ok-compared.compared c.in_ok-sheet.sheet c.in-Some.is
+    (looks.0.1 h lawful refl) (looks.1 h lawful refl) c.in_ok-sheet.ensures
+    (ap (λ f. first_denial (read_rules f)) (sym c.read_facts-2.ensures) ∙ sym c.in_ok-decide_read-2.ensures))

@@ -1,0 +1,19 @@
+-- What the rules of a request ask of the tables, by looking back.
+use Rattle.std.specs.Prelude.{◌==◌, ℕ, List, Bool, Option}
+use Rattle.review_policy.specs.declared.ask.ProfileName.{ProfileName}
+use Rattle.office_tables.specs.declared.row.RevisionRow.{RevisionRow}
+use Rattle.office_policy.specs.History.{History}
+use Rattle.office_policy.specs.Revisions.{revision_of, revision_count, issued_revision, is_author}
+use Rattle.office_policy.specs.Holds.{is_held}
+
+-- a revision, and whether a user is an author of its profile
+abbrev pub authored_at : ProfileName → ℕ → List ℕ → History → Option RevisionRow × Bool
+authored_at p n name h = (revision_of h p n, is_author h p name)
+
+-- the issued revision of a profile, and whether that is held
+abbrev pub issued_at : ProfileName → History → Option RevisionRow × Bool
+issued_at p h = (issued_revision h p, is_held h p)
+
+-- whether a profile has no revision, and whether it is held
+abbrev pub hold_at : ProfileName → History → Bool × Bool
+hold_at p h = (revision_count h p == 0, is_held h p)

@@ -1,0 +1,29 @@
+// Revisions, with whether a user is an author of their profile.
+
+ghost use Rattle.sqlite.specs.Held.{state};
+ghost use Rattle.office_store.specs.Calls.{IsRead};
+ghost use Rattle.office_store.specs.Shown.{IsIdle};
+ghost use Rattle.office_history.specs.LooksBack.{LooksBack};
+ghost use Rattle.office_desk.specs.Looked.{authored_at};
+
+use office_store::{is_author, revision};
+use office_tables::{RevisionRow, StoreFault};
+use review_policy::{ProfileName, Word};
+use sqlite::{Alter, Connection};
+use std::alloc::Global;
+
+// A revision of a profile, and whether a user of that name is an author of the profile.
+pub(crate) fn authored<S: Alter>(
+    alloc: Global,
+    conn: &mut Connection<S>,
+    name: &ProfileName,
+    number: u32,
+    user: &Word,
+) -> Result<(Option<RevisionRow>, bool), StoreFault>
+    requires { IsIdle (state S.Store conn.old) }
+    ensures { IsRead (state S.Store conn.old) (state S.Store conn.new) result (λ t found. LooksBack (authored_at name.now number user.now) t found) }
+{
+    let found = revision(alloc, conn, name, number)?;
+    let is_author = is_author(conn, name, user)?;
+    Ok((found, is_author))
+}

@@ -1,0 +1,89 @@
+// Holds of profiles, and their release.
+
+ghost use Rattle.std.specs.Prelude.{◌≡◌, Some};
+ghost use Rattle.sqlite.specs.Held.{state};
+ghost use Rattle.review_policy.specs.declared.ask.Ask.TheVariants as ask;
+ghost use Rattle.office_store.specs.Calls.{IsRead};
+ghost use Rattle.office_store.specs.Shown.{IsIdle};
+ghost use Rattle.office_policy.specs.Facts.{hold_facts, release_facts};
+ghost use Rattle.office_policy.specs.Verdict.{verdict_of};
+ghost use Rattle.office_history.specs.LooksBack.{LooksBack};
+ghost use Rattle.office_desk.specs.Looked.{hold_at};
+ghost use Rattle.office_desk.specs.Carries.{CarriesOut};
+
+use crate::refusal::Refusal;
+use office_store::{delete_hold, has_revision, held, put_hold};
+use office_tables::{StoreFault, UserRow};
+use review_policy::{
+    HoldFacts, ProfileName, ReleaseFacts, Reply, Role, decide_hold, decide_release,
+};
+use sqlite::{Alter, Connection};
+
+// What the rules ask of a caller who holds a profile.
+fn hold_facts(caller: &UserRow, no_profile: bool, held: bool) -> HoldFacts
+    ensures { result ≡ hold_facts (Some caller.now) no_profile held }
+{
+    HoldFacts {
+        caller_unknown: false,
+        role_missing: !caller.roles.has(Role::Security),
+        no_profile,
+        already_held: held,
+    }
+}
+
+// What the rules ask of a caller who releases one.
+fn release_facts(caller: &UserRow, no_profile: bool, held: bool) -> ReleaseFacts
+    ensures { result ≡ release_facts (Some caller.now) no_profile held }
+{
+    ReleaseFacts {
+        caller_unknown: false,
+        role_missing: !caller.roles.has(Role::Security),
+        no_profile,
+        not_held: !held,
+    }
+}
+
+// Whether a profile has no revision, and whether it is held.
+fn look_at<S: Alter>(
+    conn: &mut Connection<S>,
+    name: &ProfileName,
+) -> Result<(bool, bool), StoreFault>
+    requires { IsIdle (state S.Store conn.old) }
+    ensures { IsRead (state S.Store conn.old) (state S.Store conn.new) result (λ t found. LooksBack (hold_at name.now) t found) }
+{
+    let is_there = has_revision(conn, name)?;
+    let is_held = held(conn, name)?;
+    Ok((!is_there, is_held))
+}
+
+// Holds a profile.
+pub(crate) fn hold<S: Alter>(
+    conn: &mut Connection<S>,
+    caller: &UserRow,
+    name: &ProfileName,
+) -> Result<Reply, Refusal>
+    requires { IsIdle (state S.Store conn.old) }
+    ensures { CarriesOut (state S.Store conn.old) (state S.Store conn.new) result (λ h. verdict_of h (Some caller.now) (ask.Hold name.now)) }
+{
+    decide_hold(&hold_facts(caller, false, false))?;
+    let (no_profile, is_held) = look_at(conn, name)?;
+    decide_hold(&hold_facts(caller, no_profile, is_held))?;
+    put_hold(conn, name)?;
+    Ok(Reply::Held)
+}
+
+// Ends the hold of a profile.
+pub(crate) fn release<S: Alter>(
+    conn: &mut Connection<S>,
+    caller: &UserRow,
+    name: &ProfileName,
+) -> Result<Reply, Refusal>
+    requires { IsIdle (state S.Store conn.old) }
+    ensures { CarriesOut (state S.Store conn.old) (state S.Store conn.new) result (λ h. verdict_of h (Some caller.now) (ask.Release name.now)) }
+{
+    decide_release(&release_facts(caller, false, true))?;
+    let (no_profile, is_held) = look_at(conn, name)?;
+    decide_release(&release_facts(caller, no_profile, is_held))?;
+    delete_hold(conn, name)?;
+    Ok(Reply::Released)
+}

@@ -1,0 +1,121 @@
+// Revisions that are issued.
+
+ghost use Rattle.std.specs.Prelude.{◌≡◌, Some, None, false};
+ghost use Rattle.sqlite.specs.Held.{state};
+ghost use Rattle.review_policy.specs.declared.ask.Ask.TheVariants as ask;
+ghost use Rattle.review_policy.specs.declared.denial.Need.TheVariants as needs;
+ghost use Rattle.review_policy.specs.declared.revision.State.TheVariants as states;
+ghost use Rattle.office_store.specs.Shown.{IsIdle};
+ghost use Rattle.office_store.specs.Calls.{IsRead};
+ghost use Rattle.office_policy.specs.Facts.{issue_facts};
+ghost use Rattle.office_policy.specs.Verdict.{verdict_of};
+ghost use Rattle.office_history.specs.LooksBack.{LooksBack};
+ghost use Rattle.office_desk.specs.Carries.{CarriesOut};
+ghost use Rattle.office_desk.specs.Issuing.{looked_at, one_approval};
+
+use crate::baseline::{compared_with, need_of};
+use crate::refusal::Refusal;
+use crate::rows::state_in;
+use office_store::{held, is_author, revision, set_issued, tally};
+use office_tables::{RevisionRow, StoreFault, Tally, UserRow};
+use review_policy::{IssueFacts, Need, ProfileName, Reply, Role, State, decide_issue};
+use sqlite::{Alter, Connection};
+use std::alloc::Global;
+
+// What the rules ask of a revision, its profile and the caller, besides the need.
+#[derive(Drop)]
+struct Looked {
+    revision: Option<RevisionRow>,
+    by_author: bool,
+    tally: Tally,
+    held: bool,
+}
+
+// What is looked up of a revision, its profile and the caller.
+fn look_up<S: Alter>(
+    alloc: Global,
+    conn: &mut Connection<S>,
+    caller: &UserRow,
+    name: &ProfileName,
+    number: u32,
+) -> Result<Looked, StoreFault>
+    requires { IsIdle (state S.Store conn.old) }
+    ensures { IsRead (state S.Store conn.old) (state S.Store conn.new) result (LooksBack (λ h. looked_at h name.now number caller.now.name)) }
+{
+    let revision = revision(alloc, conn, name, number)?;
+    let by_author = is_author(conn, name, &caller.name)?;
+    let tally = tally(alloc, conn, name, number)?;
+    let held = held(conn, name)?;
+    Ok(Looked {
+        revision,
+        by_author,
+        tally,
+        held,
+    })
+}
+
+// What the rules ask of a caller, where all that they ask besides lets every request through.
+fn facts_of_caller(caller: &UserRow) -> IssueFacts
+    ensures { result ≡ record (issue_facts (Some caller.now) None false (one_approval 0) needs.One false) { state = Some states.Open } }
+{
+    IssueFacts {
+        caller_unknown: false,
+        role_missing: !caller.roles.has(Role::Issuer),
+        state: Some(State::Open),
+        author_issues: false,
+        rejections: 0,
+        approvals: 1,
+        secure: 0,
+        need: Need::One,
+        held: false,
+    }
+}
+
+// What the rules ask before the approvals.
+fn facts_before_need(caller: &UserRow, looked: &Looked) -> IssueFacts
+    ensures { result ≡ issue_facts (Some caller.now) looked.now.revision looked.now.by_author (one_approval looked.now.tally.rejections) needs.One false }
+{
+    IssueFacts {
+        state: state_in(&looked.revision),
+        author_issues: looked.by_author,
+        rejections: looked.tally.rejections,
+        ..facts_of_caller(caller)
+    }
+}
+
+// All that the rules ask.
+fn all_facts(caller: &UserRow, looked: &Looked, need: Need) -> IssueFacts
+    ensures { result ≡ issue_facts (Some caller.now) looked.now.revision looked.now.by_author looked.now.tally need looked.now.held }
+{
+    IssueFacts {
+        approvals: looked.tally.approvals,
+        secure: looked.tally.secure,
+        need,
+        held: looked.held,
+        ..facts_before_need(caller, looked)
+    }
+}
+
+// Issues a revision. Its need is worked out where nothing else refuses it.
+pub(crate) fn issue<S: Alter>(
+    alloc: Global,
+    conn: &mut Connection<S>,
+    caller: &UserRow,
+    name: &ProfileName,
+    number: u32,
+) -> Result<Reply, Refusal>
+    requires { IsIdle (state S.Store conn.old) }
+    ensures { CarriesOut (state S.Store conn.old) (state S.Store conn.new) result (λ h. verdict_of h (Some caller.now) (ask.Issue name.now number)) }
+{
+    decide_issue(&facts_of_caller(caller))?;
+    let looked = look_up(alloc, conn, caller, name, number)?;
+    decide_issue(&facts_before_need(caller, &looked))?;
+    let Some(row) = &looked.revision else {
+        unreachable!()
+    };
+    let compared = compared_with(alloc, conn, &name.team)?;
+    let need = need_of(alloc, &compared, &row.body)?;
+    decide_issue(&all_facts(caller, &looked, need))?;
+    set_issued(conn, name, number)?;
+    Ok(Reply::Issued { digest: row.digest })
+}

@@ -1,0 +1,52 @@
+// Why a request isn't carried out.
+
+ghost use Rattle.std.specs.Prelude.{◌≡◌};
+
+use office_tables::StoreFault;
+use review_policy::{Denial, Text};
+use std::alloc::AllocError;
+
+// Why a request isn't carried out: the first rule that refuses it, for a document that doesn't read with its fault; or a
+// fault of the store.
+#[derive(Debug, Drop)]
+pub(crate) enum Refusal {
+    Denied { denial: Denial, fault: Option<Text> },
+    Fault(StoreFault),
+}
+
+impl From<Denial> for Refusal {
+    ghost use Rattle.std.specs.Prelude.{◌≡◌, None};
+    ghost use Rattle.office_desk.specs.declared.refusal.Refusal.TheVariants.{Denied};
+
+    ghost from_gives = { λ denial refusal. refusal ≡ Denied denial None };
+
+    fn from(denial: Denial) -> Refusal {
+        Refusal::Denied {
+            denial,
+            fault: None,
+        }
+    }
+}
+
+impl From<StoreFault> for Refusal {
+    ghost use Rattle.std.specs.Prelude.{◌≡◌};
+    ghost use Rattle.office_desk.specs.declared.refusal.Refusal.TheVariants.{Fault};
+
+    ghost from_gives = { λ fault refusal. refusal ≡ Fault fault };
+
+    fn from(fault: StoreFault) -> Refusal {
+        Refusal::Fault(fault)
+    }
+}
+
+impl From<AllocError> for Refusal {
+    ghost use Rattle.std.specs.Prelude.{◌≡◌};
+    ghost use Rattle.office_tables.specs.declared.fault.StoreFault.TheVariants.{NoMemory};
+    ghost use Rattle.office_desk.specs.declared.refusal.Refusal.TheVariants.{Fault};
+
+    ghost from_gives = { λ _ refusal. refusal ≡ Fault NoMemory };
+
+    fn from(_error: AllocError) -> Refusal {
+        Refusal::Fault(StoreFault::NoMemory)
+    }
+}

@@ -1,0 +1,10 @@
+pub mod EventFacts
+pub mod Submissions
+pub mod Issues
+pub mod LookUps
+pub mod IssuedFacts
+pub mod Rising
+pub mod StandingFacts
+pub mod Rows
+pub mod Groups
+pub mod ListingFacts
