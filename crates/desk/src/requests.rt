@@ -31,8 +31,10 @@ pub fn run<S: Alter>(
     requests: &[Request],
 ) -> Result<Vec<Answer>, AllocError>
     ensures ran { IfOk result (λ answers. HaveRun (state S.Store office.old) (state S.Store office.new) requests.now answers.items) }
-    ensures left { IfOk result (λ answers. (h : History) → IsOffice h (state S.Store office.old) → LeavesOnly (state S.Store office.old) (tables_of h) → HasCleanDisk (state S.Store office.new)
-        → (trees : Trees) → (state S.Store office.new).may_leave trees → AreLeft (history_after_all h requests.now answers.items) requests.now answers.items trees) }
+    ensures left { IfOk result (λ answers. (h : History) → IsOffice h (state S.Store office.old) → LeavesOnly (state S.Store office.old) (tables_of h)
+        → HasCleanDisk (state S.Store office.new)
+        → (trees : Trees) → (state S.Store office.new).may_leave trees
+        → AreLeft (history_after_all h requests.now answers.items) requests.now answers.items trees) }
     ensures none { OnErr result (office.new ≡ office.old) }
 {
     let mut answers = Vec::with_capacity(alloc, requests.len())?;

@@ -99,7 +99,8 @@ pub fn desk<S: Alter, R: Read, W: Write>(
     requires write_faults { writer.old.faults ≤ 2 ^ 62 }
     ensures answered { OnOk result (IfSome (R.remaining reader.old.inner) (λ input.
         AreAnswered (state S.Store office.old) (state S.Store office.new) (W.contents writer.old.inner) (W.contents writer.new.inner) (lines_of input))) }
-    ensures stopped { IfErr result (StandsAfter (state S.Store office.old) (state S.Store office.new) (R.remaining reader.old.inner) (R.remaining reader.new.inner)
+    ensures stopped { IfErr result (StandsAfter (state S.Store office.old) (state S.Store office.new) (R.remaining reader.old.inner)
+        (R.remaining reader.new.inner)
         (W.contents writer.old.inner) (W.contents writer.new.inner)) }
     ensures handled { HasHandled (state S.Store office.old) (state S.Store office.new) }
     ensures nothing { result ≡ Err (DeskFault.NoMemory 0) → office.new ≡ office.old }

@@ -31,7 +31,8 @@ module _ {Of : History → Type 0} (lawful : (h : History) → Of h → IsLawful
   denied_at : (h : History) (d : Denial) → first_denial (rules (look h)) ≡ Err d → verdict_of h caller a ≡ denied d None
   denied_at h d e = denied_is h caller a d (ap first_denial (kind.asked h) ∙ e) ∙ ap (denied d) (kind.plain h d.rule)
 
-  allowed_at : (h : History) → first_denial (rules (look h)) ≡ Ok tt → verdict_of h caller a ≡ done_of h caller a
+  -- what is done where no rule refuses
+  pub allowed_at : (h : History) → first_denial (rules (look h)) ≡ Ok tt → verdict_of h caller a ≡ done_of h caller a
   allowed_at h e = allowed_is h caller a (ap first_denial (kind.asked h) ∙ e)
 
   -- a rule refuses it whatever is found

@@ -13,6 +13,5 @@ pub mod Withdrawals
 pub mod Adoptions
 pub mod Fetches
 pub mod Holds
-pub mod Voters
 pub mod Sheets
 pub mod Submissions

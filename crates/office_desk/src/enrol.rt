@@ -101,7 +101,8 @@ pub(crate) fn enrol<S: Alter>(
     digest: &[u8; 32],
 ) -> Result<Reply, Refusal>
     requires { IsIdle (state S.Store conn.old) }
-    ensures { CarriesOut (state S.Store conn.old) (state S.Store conn.new) result (λ h. verdict_of h (Some caller.now) (ask.Enrol user.now team.now roles digest.now)) }
+    ensures { CarriesOut (state S.Store conn.old) (state S.Store conn.new) result
+        (λ h. verdict_of h (Some caller.now) (ask.Enrol user.now team.now roles digest.now)) }
 {
     decide_enrol(&enrol_facts(caller, &None, &None, user, team))?;
     let (known, shower) = users_of(alloc, conn, user, digest)?;

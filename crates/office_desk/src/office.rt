@@ -65,13 +65,17 @@ impl<S: Alter> Office<S> {
     ) -> Result<Office<S>, (FoundingFault, Connection<S>)>
         requires { IsIdle (state S.Store conn) }
         ensures founded { IfOk result (λ office. IsOffice (founded name.now team.now digest.now listed ∷ []) (state S.Store office)) }
-        ensures stands { IfOk result (λ office. HasCleanDisk (state S.Store office) → Stands (founded name.now team.now digest.now listed ∷ []) (state S.Store office)) }
+        ensures stands { IfOk result (λ office. HasCleanDisk (state S.Store office)
+            → Stands (founded name.now team.now digest.now listed ∷ []) (state S.Store office)) }
         ensures empty { OnOk result ((state S.Store conn).now.schema ≡ no_schema) }
         ensures already { IfErr result (λ refusal. refusal.0 ≡ FoundingFault.AlreadyFounded ↔ IsTrue (has_table (state S.Store conn).now.schema)) }
-        ensures foreign { IfErr result (λ refusal. HasCleanDisk (state S.Store refusal.1) → refusal.0 ≡ FoundingFault.Store StoreFault.NotAnOffice ↔ IsForeign (state S.Store conn).now.schema) }
-        ensures same { (state S.Store conn).now ≡ (state S.Store conn).committed → IfErr result (λ refusal. HasCleanDisk (state S.Store refusal.1) → IsAsItWas (state S.Store conn) (state S.Store refusal.1)) }
+        ensures foreign { IfErr result (λ refusal. HasCleanDisk (state S.Store refusal.1)
+            → refusal.0 ≡ FoundingFault.Store StoreFault.NotAnOffice ↔ IsForeign (state S.Store conn).now.schema) }
+        ensures same { (state S.Store conn).now ≡ (state S.Store conn).committed
+            → IfErr result (λ refusal. HasCleanDisk (state S.Store refusal.1) → IsAsItWas (state S.Store conn) (state S.Store refusal.1)) }
         ensures idle { IfErr result (λ refusal. IsIdle (state S.Store refusal.1)) }
-        ensures crash { IfErr result (λ refusal. MayLeave (state S.Store conn) (state S.Store refusal.1) (λ trees. AreOffice trees (tables_of (founded name.now team.now digest.now listed ∷ [])))) }
+        ensures crash { IfErr result (λ refusal. MayLeave (state S.Store conn) (state S.Store refusal.1)
+            (λ trees. AreOffice trees (tables_of (founded name.now team.now digest.now listed ∷ [])))) }
     {
         let mut conn = conn;
         founding_forms(name, team, digest, listed);
@@ -89,10 +93,14 @@ impl<S: Alter> Office<S> {
     /// it is still open.
     pub fn over(conn: Connection<S>) -> Result<Office<S>, (StoreFault, Connection<S>)>
         requires { IsIdle (state S.Store conn) }
-        ensures form { IfOk result (λ office. HasCleanDisk (state S.Store office) → (listed : ℕ) × HasForm (state S.Store conn) (state S.Store office) listed) }
-        ensures office { (h : History) → IsLawful h → Shows (state S.Store conn) (tables_of h) → IfOk result (λ office. IsOffice h (state S.Store office)) }
-        ensures known { (h : History) → IsLawful h → Shows (state S.Store conn) (tables_of h) → IfErr result (λ refusal. HasCleanDisk (state S.Store refusal.1) → refusal.0 ≢ StoreFault.NotAnOffice) }
-        ensures same { (state S.Store conn).now ≡ (state S.Store conn).committed → IfErr result (λ refusal. HasCleanDisk (state S.Store refusal.1) → IsAsItWas (state S.Store conn) (state S.Store refusal.1)) }
+        ensures form { IfOk result (λ office. HasCleanDisk (state S.Store office)
+            → (listed : ℕ) × HasForm (state S.Store conn) (state S.Store office) listed) }
+        ensures office { (h : History) → IsLawful h → Shows (state S.Store conn) (tables_of h)
+            → IfOk result (λ office. IsOffice h (state S.Store office)) }
+        ensures known { (h : History) → IsLawful h → Shows (state S.Store conn) (tables_of h)
+            → IfErr result (λ refusal. HasCleanDisk (state S.Store refusal.1) → refusal.0 ≢ StoreFault.NotAnOffice) }
+        ensures same { (state S.Store conn).now ≡ (state S.Store conn).committed
+            → IfErr result (λ refusal. HasCleanDisk (state S.Store refusal.1) → IsAsItWas (state S.Store conn) (state S.Store refusal.1)) }
         ensures idle { IfErr result (λ refusal. IsIdle (state S.Store refusal.1)) }
         ensures opened { IfOk result (λ office. LeavesNoMore (state S.Store conn) (state S.Store office)) }
         ensures refused { IfErr result (λ refusal. LeavesNoMore (state S.Store conn) (state S.Store refusal.1)) }

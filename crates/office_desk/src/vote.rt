@@ -57,7 +57,8 @@ pub(crate) fn vote<S: Alter>(
     approves: bool,
 ) -> Result<Reply, Refusal>
     requires { IsIdle (state S.Store conn.old) }
-    ensures { CarriesFor (Knows caller.now) (state S.Store conn.old) (state S.Store conn.new) result (λ h. verdict_of h (Some caller.now) (ask.Vote name.now number digest.now approves)) }
+    ensures { CarriesFor (Knows caller.now) (state S.Store conn.old) (state S.Store conn.new) result
+        (λ h. verdict_of h (Some caller.now) (ask.Vote name.now number digest.now approves)) }
 {
     decide_vote(&vote_facts(caller, Some(State::Open), false, false))?;
     let (found, is_author) = authored(alloc, conn, name, number, &caller.name)?;

@@ -14,31 +14,8 @@ use Rattle.office_policy.specs.Revisions.{Submission, issues, withdraws, is_repl
 use Rattle.office_policy.specs.Revisions.{state_in, last_issue, if_issued, issued_revision}
 use Rattle.office_policy.specs.TablesOf.{tables_of}
 use Rattle.office_policy.proofs.StateFacts.{row_at}
-use Rattle.office_policy.proofs.Histories.{issued_by}
-
--- the newest issue names a revision that was issued and not since replaced
-newest_issue : (h : History) (p : ProfileName) (n : ℕ) → list_any (issues p n) h ≡ true → is_replaced h p n ≡ false → last_issue h p ≡ Some n
-newest_issue [] p n was last = absurd (cc)
-newest_issue (issued c q m ∷ h) p n was last =
-    by_issue (is_profile p q) (n == m) (list_any (issues p n) h) (is_replaced h p n) (newest_issue h p n) refl was last
-  where
-    by_issue : (b x a r : Bool) → (a ≡ true → r ≡ false → last_issue h p ≡ Some n) → (n == m) ≡ x
-        → ((b && x) || a) ≡ true → ((b && a) || r) ≡ false → cond b (Some m) (last_issue h p) ≡ Some n
-    by_issue true x true r before named was last = absurd (cc)
-    by_issue true true false r before named was last = ap Some (sym (eqb-true n m named))
-    by_issue true false false r before named was last = absurd (cc)
-    by_issue false x a r before named was last = before was last
-newest_issue (_ ∷ h) p n was last = newest_issue h p n was last
-
--- the number of a revision that is issued now is that of the newest issue
-newest : (h : History) (p : ProfileName) (n : ℕ) → is_issued (state_in (revision_of h p n)) ≡ true → last_issue h p ≡ Some n
-newest h p n is = by_submission (submission_of h p n) is
-  where
-    by_submission : (s : Option Submission) → is_issued (state_in (option_map (row_at h p n (revision_count h p)) s)) ≡ true → last_issue h p ≡ Some n
-    by_submission None e = absurd (cc)
-    by_submission (Some s) e =
-        let parts = issued_by (list_any (withdraws p n) h) (list_any (issues p n) h) (is_replaced h p n) (nat_lt n (revision_count h p)) e in
-        newest_issue h p n parts.0 parts.1
+use Rattle.office_policy.proofs.Histories.{newest}
+use Rattle.office_policy.proofs.GivenOut.{issued_state}
 
 -- a revision that is issued now is the issued one
 pub issued_at : (h : History) (p : ProfileName) (n : ℕ) (r : RevisionRow) → revision_of h p n ≡ Some r → is_issued (Some r.state) ≡ true
@@ -46,13 +23,6 @@ pub issued_at : (h : History) (p : ProfileName) (n : ℕ) (r : RevisionRow) → 
 issued_at h p n r there is =
     let number : last_issue h p ≡ Some n = newest h p n (ap (λ o. is_issued (state_in o)) there ∙ is) in
     ap (λ o. if_issued (option_and_then (revision_of h p) o)) number ∙ ap if_issued there ∙ rw is refl
-
-pub issued_state : (state : State) → is_issued (Some state) ≡ true → state ≡ Issued
-issued_state Open is = absurd (cc)
-issued_state Closed is = absurd (cc)
-issued_state Issued is = refl
-issued_state Replaced is = absurd (cc)
-issued_state Withdrawn is = absurd (cc)
 
 -- the number of a revision is that which it was asked for under
 numbered : (h : History) (p : ProfileName) (n : ℕ) (r : RevisionRow) → revision_of h p n ≡ Some r → r.number ≡ n

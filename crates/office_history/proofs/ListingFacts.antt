@@ -19,7 +19,7 @@ use Rattle.office_policy.specs.TablesOf.{tables_of}
 use Rattle.office_policy.proofs.RevisionFacts.{some_within}
 use Rattle.office_policy.proofs.StateFacts.{row_at}
 use Rattle.office_policy.proofs.Histories.{numbers}
-use Rattle.office_policy.proofs.ListingFacts.{in_order, all_listed}
+use Rattle.office_policy.proofs.ListingFacts.{listing_names, in_order, all_listed}
 use Rattle.office_history.specs.Grouped.{profiles_in}
 use Rattle.office_history.proofs.Rising.{IsRising, rising_pairs, pairs_rising, same_rising, NameBelow, names_rising}
 use Rattle.office_history.proofs.Rows.{RowBelow, rows_apart, IsRow, rows_of, rows_have, have_rows, rows_rising}
@@ -64,22 +64,18 @@ module _ (h : History) (team : List ℕ) where
   abbrev issue : List ℕ → ℕ
   issue name = number_of (issued_revision h (p_of name))
 
-  listing_names : (xs : List (List ℕ)) → listed_names (map (λ name. listed_profile h (record { team = team; profile = name })) xs) ≡ xs
-  listing_names [] = refl
-  listing_names (name ∷ xs) = ap (λ others. name ∷ others) (listing_names xs)
-
   profiles_rising : IsRising NameBelow (profiles_of h team)
-  profiles_rising = subst (IsRising NameBelow) (listing_names (profiles_of h team)) (names_rising (listed_names (listing_of h team)) (in_order h team))
+  profiles_rising = subst (IsRising NameBelow) (listing_names h team (profiles_of h team)) (names_rising (listed_names (listing_of h team)) (in_order h team))
 
   profile_has : (name : List ℕ) → Has (profiles_of h team) name → 1 ≤ count name
   profile_has name is =
-      let among = subst (λ xs. Has xs name) (sym (listing_names (profiles_of h team))) is in
+      let among = subst (λ xs. Has xs name) (sym (listing_names h team (profiles_of h team))) is in
       omega (arith, (all_listed h team name).0 (in_has (listed_names (listing_of h team)) name among))
 
   has_profile : (name : List ℕ) → 1 ≤ count name → Has (profiles_of h team) name
   has_profile name some =
       let among = (all_listed h team name).1 (omega (arith, some)) in
-      subst (λ xs. Has xs name) (listing_names (profiles_of h team)) (has_in (listed_names (listing_of h team)) name among)
+      subst (λ xs. Has xs name) (listing_names h team (profiles_of h team)) (has_in (listed_names (listing_of h team)) name among)
 
   -- ---- the revisions of the tables
 

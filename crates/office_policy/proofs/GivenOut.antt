@@ -95,7 +95,7 @@ issued_digest h r p n digest e asks is = by_submission (submission_of h p n) ref
         let same : digest_of s.text ≡ digest = cc in
         record { submission = s; submitted = found; of_its_text = sym same }
 
-issued_state : (state : State) → is_issued (Some state) ≡ true → state ≡ Issued
+pub issued_state : (state : State) → is_issued (Some state) ≡ true → state ≡ Issued
 issued_state Open is = absurd (cc)
 issued_state Closed is = absurd (cc)
 issued_state Issued is = refl

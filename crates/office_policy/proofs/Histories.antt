@@ -115,7 +115,8 @@ issued_by false true false c e = (refl, refl)
 issued_by false false r true e = absurd (cc)
 issued_by false false r false e = absurd (cc)
 
-newest : (h : History) (p : ProfileName) (n : ℕ) → is_issued (state_in (revision_of h p n)) ≡ true → last_issue h p ≡ Some n
+-- the number of a revision that is issued now is that of the newest issue
+pub newest : (h : History) (p : ProfileName) (n : ℕ) → is_issued (state_in (revision_of h p n)) ≡ true → last_issue h p ≡ Some n
 newest h p n is = by_submission (submission_of h p n) is
   where
     by_submission : (s : Option Submission) → is_issued (state_in (option_map (row_at h p n (revision_count h p)) s)) ≡ true → last_issue h p ≡ Some n

@@ -24,7 +24,7 @@ profiles_ordered (submitted c q t ∷ h) team =
 profiles_ordered (_ ∷ h) team = profiles_ordered h team
 
 -- a listing has the names of the profiles
-listing_names : (h : History) (team : List ℕ) (names : List (List ℕ)) → listed_names (map (λ name. listed_profile h (record { team = team; profile = name })) names) ≡ names
+pub listing_names : (h : History) (team : List ℕ) (names : List (List ℕ)) → listed_names (map (λ name. listed_profile h (record { team = team; profile = name })) names) ≡ names
 listing_names h team [] = refl
 listing_names h team (name ∷ names) = ap (λ others. name ∷ others) (listing_names h team names)
 

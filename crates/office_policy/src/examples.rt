@@ -133,7 +133,8 @@ pub fn examples_of_adoption()
     ensures no_security { decision first_issued rev (ask.Adopt web 1) ≡ refused 2 rule.RoleMissing }
     ensures nothing_adopted { baseline_of first_issued blue ≡ closed_profile }
     ensures adopted_document { (bytes : List ℕ) → baseline_of (adopts 1 ∷ issues 1 ∷ submitted ann web bytes ∷ office) blue ≡ document_of bytes }
-    ensures replaced_document { (bytes : List ℕ) → baseline_of (issues 2 ∷ submits ann ∷ adopts 1 ∷ issues 1 ∷ submitted ann web bytes ∷ office) blue
+    ensures replaced_document { (bytes : List ℕ)
+        → baseline_of (issues 2 ∷ submits ann ∷ adopts 1 ∷ issues 1 ∷ submitted ann web bytes ∷ office) blue
         ≡ document_of bytes }
     ensures of_another_team { baseline_of second_approved red ≡ closed_profile }
     ensures last_adopted { (bytes : List ℕ) → baseline_of (adopts 2 ∷ issues 2 ∷ submitted ann web bytes ∷ adopts 1 ∷ first_issued) blue
@@ -146,9 +147,11 @@ pub fn examples_of_adoption()
 pub fn examples_of_the_need()
     ensures against_the_adopted { (old new : List ℕ) → need_at (submitted ann web new ∷ adopts 1 ∷ issues 1 ∷ submitted ann web old ∷ office) web 2
         ≡ need_against listed (document_of old) (document_of new) }
-    ensures against_the_closed { (old new : List ℕ) → need_at (withdraws 1 ∷ submitted ann web new ∷ adopts 1 ∷ issues 1 ∷ submitted ann web old ∷ office) web 2
+    ensures against_the_closed { (old new : List ℕ)
+        → need_at (withdraws 1 ∷ submitted ann web new ∷ adopts 1 ∷ issues 1 ∷ submitted ann web old ∷ office) web 2
         ≡ need_against listed closed_profile (document_of new) }
-    ensures against_what_is_adopted_later { (old new : List ℕ) → need_at (adopts 1 ∷ issues 1 ∷ submitted ann web new ∷ submitted ann web old ∷ office) web 2
+    ensures against_what_is_adopted_later { (old new : List ℕ)
+        → need_at (adopts 1 ∷ issues 1 ∷ submitted ann web new ∷ submitted ann web old ∷ office) web 2
         ≡ need_against listed (document_of old) (document_of new) }
     ensures listed_at_the_founding { listed_of second_withdrawn ≡ 2097152 }
     ensures one_is_short { issue second_approved TwoWithSecurity 2 ≡ refused 7 (rule.ApprovalsShort 1 TwoWithSecurity) }
@@ -201,7 +204,8 @@ pub fn examples_of_enrolments()
     ensures no_registrar { decision office sue (ask.Enrol ann blue 0 (1 ∷ [])) ≡ refused 2 rule.RoleMissing }
     ensures roles_are_replaced { user_of (enrolled root ben blue 2 (2 ∷ []) ∷ office) ben
         ≡ Some (record { name = ben; team = blue; roles = 2; digest = 2 ∷ [] }) }
-    ensures role_before_document { first_denial (submit_rules (submit_facts (user_of (enrolled root ann blue 0 (1 ∷ []) ∷ office) ann) blue (Err TooLong) None 0))
+    ensures role_before_document { first_denial
+        (submit_rules (submit_facts (user_of (enrolled root ann blue 0 (1 ∷ []) ∷ office) ann) blue (Err TooLong) None 0))
         ≡ refused 2 rule.RoleMissing }
     ensures team_before_document { first_denial (submit_rules (submit_facts (user_of office ann) red (Err TooLong) None 0))
         ≡ refused 3 rule.OtherTeam }

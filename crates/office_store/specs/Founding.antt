@@ -1,10 +1,11 @@
 -- A store before an office is founded in it, and the statements that found one.
-use Rattle.std.specs.Prelude.{◌≡◌, ◌≢◌, Bool, false, List, [], ◌∷◌, codes, is_some, IsTrue}
+use Rattle.std.specs.Prelude.{◌≡◌, ◌≢◌, Bool, false, ℕ, List, [], ◌∷◌, codes, is_some}
 use Rattle.std.specs.List.{list_any}
 use Rattle.sqlite.specs.Order.{Row}
 use Rattle.sqlite.specs.Schema.{Schema}
-use Rattle.sqlite.specs.State.{State}
 use Rattle.sqlite_schema.specs.Names.{table_named}
+use Rattle.office_tables.specs.Tables.{Tables}
+use Rattle.office_tables.specs.Changes.{founded_tables}
 use Rattle.office_rows.specs.Statements.{Statement}
 use Rattle.office_store.specs.declared.schema.TheConstants.{CREATE_OFFICE, CREATE_USERS, CREATE_REVISIONS, CREATE_VOTES, CREATE_BASELINES, CREATE_HOLDS, CREATE_BY_STATE, CREATE_BY_AUTHOR, CREATE_LISTED}
 use Rattle.office_store.specs.declared.founding.TheConstants.{INSERT_OFFICE}
@@ -21,9 +22,9 @@ has_table schema =
 abbrev pub IsForeign : Schema → Type 0
 IsForeign schema = (has_table schema ≡ false) × (schema ≢ no_schema)
 
--- the connection shows what it showed, unless a fault of the disk has shut it
-abbrev pub IsAsItWas : State → State → Type 0
-IsAsItWas old new = IsTrue new.is_open → (new.now ≡ old.now) × (new.committed ≡ old.committed)
+-- the tables of a new office: its first user, who is a registrar, and its listed capabilities
+abbrev pub new_office : List ℕ → List ℕ → List ℕ → ℕ → Tables
+new_office name team digest listed = founded_tables (record { name = name; team = team; roles = 1; digest = digest }) listed
 
 -- the tables, the indexes, the row of the office and that of its first user, of these values
 abbrev pub founding : Row → Row → Row → List Statement

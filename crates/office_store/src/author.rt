@@ -34,7 +34,8 @@ fn revision_by<S: Alter>(
 ) -> Result<Option<Row>, StoreFault>
     requires { IsIdle (state S.Store conn.old) }
     ensures read { IsRead (state S.Store conn.old) (state S.Store conn.new) result (λ t row. is_some row ≡ true ↔ IsAuthor t profile.now author.now) }
-    ensures row { HasCleanDisk (state S.Store conn.new) → FindsRow REVISION_BY.now (author_params profile.now author.now) (state S.Store conn.old) (state S.Store conn.new) result }
+    ensures row { HasCleanDisk (state S.Store conn.new)
+        → FindsRow REVISION_BY.now (author_params profile.now author.now) (state S.Store conn.old) (state S.Store conn.new) result }
 {
     first_row(conn, REVISION_BY, &of_author(profile, author))
 }
@@ -47,7 +48,8 @@ pub fn is_author<S: Alter>(
 ) -> Result<bool, StoreFault>
     requires { IsIdle (state S.Store conn.old) }
     ensures read { IsRead (state S.Store conn.old) (state S.Store conn.new) result (λ t is_author. is_author ≡ true ↔ IsAuthor t profile.now author.now) }
-    ensures told { HasCleanDisk (state S.Store conn.new) → TellsRow REVISION_BY.now (author_params profile.now author.now) (state S.Store conn.old) (state S.Store conn.new) TellsWhether result }
+    ensures told { HasCleanDisk (state S.Store conn.new)
+        → TellsRow REVISION_BY.now (author_params profile.now author.now) (state S.Store conn.old) (state S.Store conn.new) TellsWhether result }
 {
     is_there(revision_by(conn, profile, author))
 }
@@ -59,7 +61,8 @@ fn author_rows<S: Alter>(
 ) -> Result<Vec<Row>, StoreFault>
     requires { IsIdle (state S.Store conn.old) }
     ensures read { IsRead (state S.Store conn.old) (state S.Store conn.new) result (λ t rows. AreAuthorRows t profile.now rows.items) }
-    ensures rows { HasCleanDisk (state S.Store conn.new) → FindsRows AUTHORS_OF.now (profile_params profile.now) (state S.Store conn.old) (state S.Store conn.new) (map_ok result (λ rows. rows.items)) }
+    ensures rows { HasCleanDisk (state S.Store conn.new)
+        → FindsRows AUTHORS_OF.now (profile_params profile.now) (state S.Store conn.old) (state S.Store conn.new) (map_ok result (λ rows. rows.items)) }
 {
     all_rows(conn, AUTHORS_OF, &of_profile(profile))
 }
@@ -106,7 +109,9 @@ pub fn authors<S: Alter>(
 ) -> Result<Vec<Word>, StoreFault>
     requires { IsIdle (state S.Store conn.old) }
     ensures read { IsRead (state S.Store conn.old) (state S.Store conn.new) result (λ t names. AreAuthors t profile.now names.items) }
-    ensures told { HasCleanDisk (state S.Store conn.new) → TellsRows AUTHORS_OF.now (profile_params profile.now) (state S.Store conn.old) (state S.Store conn.new) (TellsAll name_row IsWord) (map_ok result (λ names. names.items)) }
+    ensures told { HasCleanDisk (state S.Store conn.new)
+        → TellsRows AUTHORS_OF.now (profile_params profile.now) (state S.Store conn.old) (state S.Store conn.new) (TellsAll name_row IsWord)
+        (map_ok result (λ names. names.items)) }
 {
     names_of(alloc, author_rows(conn, profile))
 }

@@ -18,7 +18,8 @@ use std::alloc::Global;
 /// The text of a column.
 pub(crate) fn text_at(row: &Row, at: usize) -> Result<String, StoreFault>
     ensures text { IfOk result (λ text. (at < length row.now) × (column row.now at ≡ SqlText (string_bytes text))) }
-    ensures formed { (text : List ℕ) → at < length row.now → column row.now at ≡ SqlText text → IsUtf8 text → result ≢ Err StoreFault.NotAnOffice }
+    ensures formed { (text : List ℕ) → at < length row.now → column row.now at ≡ SqlText text → IsUtf8 text
+        → result ≢ Err StoreFault.NotAnOffice }
     ensures cause { IfErr result IsOfRow }
 {
     row.get(at).map_err(fault_of)
@@ -28,7 +29,8 @@ pub(crate) fn text_at(row: &Row, at: usize) -> Result<String, StoreFault>
 #[tactic(auto, using(crate::proofs::Columns::word_is_utf8))]
 pub(crate) fn word_at(alloc: Global, row: &Row, at: usize) -> Result<Word, StoreFault>
     ensures word { IfOk result (λ word. (at < length row.now) × (column row.now at ≡ SqlText word)) }
-    ensures formed { (word : List ℕ) → at < length row.now → column row.now at ≡ SqlText word → is_word word ≡ true → result ≢ Err StoreFault.NotAnOffice }
+    ensures formed { (word : List ℕ) → at < length row.now → column row.now at ≡ SqlText word → is_word word ≡ true
+        → result ≢ Err StoreFault.NotAnOffice }
     ensures cause { IfErr result IsOfRow }
 {
     let text = text_at(row, at)?;
@@ -42,7 +44,8 @@ pub(crate) fn word_at(alloc: Global, row: &Row, at: usize) -> Result<Word, Store
 /// The number of a column.
 pub(crate) fn number_at(row: &Row, at: usize) -> Result<u32, StoreFault>
     ensures number { IfOk result (λ number. (at < length row.now) × (column row.now at ≡ Int (pos number))) }
-    ensures formed { (number : ℕ) → at < length row.now → column row.now at ≡ Int (pos number) → number < 2 ^ 32 → result ≢ Err StoreFault.NotAnOffice }
+    ensures formed { (number : ℕ) → at < length row.now → column row.now at ≡ Int (pos number) → number < 2 ^ 32
+        → result ≢ Err StoreFault.NotAnOffice }
     ensures cause { IfErr result IsOfRow }
 {
     row.get(at).map_err(fault_of)
@@ -72,7 +75,8 @@ pub(crate) fn caps_at(row: &Row, at: usize) -> Result<Caps, StoreFault>
 /// The digest of a column.
 pub(crate) fn digest_at(row: &Row, at: usize) -> Result<[u8; 32], StoreFault>
     ensures digest { IfOk result (λ digest. (at < length row.now) × (column row.now at ≡ Blob digest)) }
-    ensures formed { (digest : List ℕ) → at < length row.now → column row.now at ≡ Blob digest → length digest ≡ 32 → result ≢ Err StoreFault.NotAnOffice }
+    ensures formed { (digest : List ℕ) → at < length row.now → column row.now at ≡ Blob digest → length digest ≡ 32
+        → result ≢ Err StoreFault.NotAnOffice }
     ensures cause { IfErr result IsOfRow }
 {
     let bytes: Vec<u8> = row.get(at).map_err(fault_of)?;
@@ -109,7 +113,8 @@ pub(crate) fn roles_at(row: &Row, at: usize) -> Result<Roles, StoreFault>
 /// The state of a column.
 pub(crate) fn state_at(row: &Row, at: usize) -> Result<State, StoreFault>
     ensures state { IfOk result (λ state. (at < length row.now) × (column row.now at ≡ Int (pos (state_number state)))) }
-    ensures formed { (state : StateValue) → at < length row.now → column row.now at ≡ Int (pos (state_number state)) → result ≢ Err StoreFault.NotAnOffice }
+    ensures formed { (state : StateValue) → at < length row.now → column row.now at ≡ Int (pos (state_number state))
+        → result ≢ Err StoreFault.NotAnOffice }
     ensures cause { IfErr result IsOfRow }
 {
     match number_at(row, at)? {

@@ -6,11 +6,9 @@ ghost use Rattle.sqlite.specs.Held.{state};
 ghost use Rattle.sqlite.specs.State.{HasCleanDisk, Survives, Shows as Sees};
 ghost use Rattle.sqlite.specs.Values.{bound};
 ghost use Rattle.sqlite_schema.specs.Names.{table_named};
-ghost use Rattle.office_tables.specs.declared.row.UserRow.{UserRow};
-ghost use Rattle.office_tables.specs.Tables.{Tables};
-ghost use Rattle.office_tables.specs.Changes.{founded_tables};
+ghost use Rattle.office_rows.specs.Queries.{IsAsItWas};
 ghost use Rattle.office_rows.specs.Statements.{begun, RanAll, FailedIn};
-ghost use Rattle.office_store.specs.Founding.{has_table, IsForeign, IsAsItWas, founding};
+ghost use Rattle.office_store.specs.Founding.{has_table, IsForeign, new_office, founding};
 ghost use Rattle.office_store.specs.Schema.{no_schema};
 ghost use Rattle.office_store.specs.Shown.{IsIdle, Shows, AreOffice, LeavesOnly};
 
@@ -75,13 +73,19 @@ fn run_founding<'a, S: Alter>(
     user: &'a [ValueRef<'a>],
 ) -> Result<(), Error>
     requires { conn.old.in_transaction ≡ false }
-    ensures all { HasCleanDisk (state S.Store conn.new) → OnOk result (RanAll S.Store (founding (bound none.now) (bound office.now) (bound user.now)) (begun conn.old) (state S.Store conn.new).now
+    ensures all { HasCleanDisk (state S.Store conn.new)
+        → OnOk result (RanAll S.Store (founding (bound none.now) (bound office.now) (bound user.now)) (begun conn.old) (state S.Store conn.new).now
         × Sees (state S.Store conn.old) (state S.Store conn.new) (state S.Store conn.new).now (state S.Store conn.new).now false) }
-    ensures none { HasCleanDisk (state S.Store conn.new) → IsTrue (state S.Store conn.new).is_open → OnErr result ((state S.Store conn.new).now ≡ (state S.Store conn.old).committed × (state S.Store conn.new).committed ≡ (state S.Store conn.old).committed) }
-    ensures cause { HasCleanDisk (state S.Store conn.new) → IfErr result (FailedIn S.Store (founding (bound none.now) (bound office.now) (bound user.now)) (begun conn.old)) }
+    ensures none { HasCleanDisk (state S.Store conn.new) → IsTrue (state S.Store conn.new).is_open
+        → OnErr result ((state S.Store conn.new).now ≡ (state S.Store conn.old).committed
+        × (state S.Store conn.new).committed ≡ (state S.Store conn.old).committed) }
+    ensures cause { HasCleanDisk (state S.Store conn.new)
+        → IfErr result (FailedIn S.Store (founding (bound none.now) (bound office.now) (bound user.now)) (begun conn.old)) }
     ensures mode { conn.new.in_transaction ≡ false }
     ensures clean { HasCleanDisk (state S.Store conn.new) → HasCleanDisk (state S.Store conn.old) }
-    ensures crash { Survives (state S.Store conn.old) (state S.Store conn.new) (λ trees. (db : Database) × RanAll S.Store (founding (bound none.now) (bound office.now) (bound user.now)) (begun conn.old) db × (trees ≡ db.trees)) }
+    ensures crash { Survives (state S.Store conn.old) (state S.Store conn.new)
+        (λ trees. (db : Database) × RanAll S.Store (founding (bound none.now) (bound office.now) (bound user.now)) (begun conn.old) db
+        × (trees ≡ db.trees)) }
 {
     run_all(
         conn,
@@ -144,13 +148,15 @@ fn make_office<S: Alter>(
 ) -> Result<(), StoreFault>
     requires idle { IsIdle (state S.Store conn.old) }
     requires empty { (state S.Store conn.old).now.schema ≡ no_schema }
-    ensures founded { HasCleanDisk (state S.Store conn.new) → OnOk result (Shows (state S.Store conn.new) (founded_tables (record { name = name.now; team = team.now; roles = 1; digest = digest.now }) listed)) }
-    ensures kept { HasCleanDisk (state S.Store conn.new) → OnOk result (LeavesOnly (state S.Store conn.new) (founded_tables (record { name = name.now; team = team.now; roles = 1; digest = digest.now }) listed)) }
+    ensures founded { HasCleanDisk (state S.Store conn.new) → OnOk result (Shows (state S.Store conn.new) (new_office name.now team.now digest.now listed)) }
+    ensures kept { HasCleanDisk (state S.Store conn.new)
+        → OnOk result (LeavesOnly (state S.Store conn.new) (new_office name.now team.now digest.now listed)) }
     ensures formed { HasCleanDisk (state S.Store conn.new) → result ≢ Err StoreFault.NotAnOffice }
-    ensures same { (state S.Store conn.old).now ≡ (state S.Store conn.old).committed → HasCleanDisk (state S.Store conn.new) → OnErr result (IsAsItWas (state S.Store conn.old) (state S.Store conn.new)) }
+    ensures same { (state S.Store conn.old).now ≡ (state S.Store conn.old).committed → HasCleanDisk (state S.Store conn.new)
+        → OnErr result (IsAsItWas (state S.Store conn.old) (state S.Store conn.new)) }
     ensures idle { IsIdle (state S.Store conn.new) }
     ensures clean { HasCleanDisk (state S.Store conn.new) → HasCleanDisk (state S.Store conn.old) }
-    ensures crash { Survives (state S.Store conn.old) (state S.Store conn.new) (λ trees. AreOffice trees (founded_tables (record { name = name.now; team = team.now; roles = 1; digest = digest.now }) listed)) }
+    ensures crash { Survives (state S.Store conn.old) (state S.Store conn.new) (λ trees. AreOffice trees (new_office name.now team.now digest.now listed)) }
 {
     let name = name.as_str();
     let team = team.as_str();
@@ -183,15 +189,18 @@ pub fn found<S: Alter>(
     listed: Caps,
 ) -> Result<(), FoundingFault>
     requires { IsIdle (state S.Store conn.old) }
-    ensures founded { HasCleanDisk (state S.Store conn.new) → OnOk result (Shows (state S.Store conn.new) (founded_tables (record { name = name.now; team = team.now; roles = 1; digest = digest.now }) listed)) }
-    ensures kept { HasCleanDisk (state S.Store conn.new) → OnOk result (LeavesOnly (state S.Store conn.new) (founded_tables (record { name = name.now; team = team.now; roles = 1; digest = digest.now }) listed)) }
+    ensures founded { HasCleanDisk (state S.Store conn.new) → OnOk result (Shows (state S.Store conn.new) (new_office name.now team.now digest.now listed)) }
+    ensures kept { HasCleanDisk (state S.Store conn.new)
+        → OnOk result (LeavesOnly (state S.Store conn.new) (new_office name.now team.now digest.now listed)) }
     ensures already { result ≡ Err FoundingFault.AlreadyFounded ↔ IsTrue (has_table (state S.Store conn.old).now.schema) }
-    ensures foreign { HasCleanDisk (state S.Store conn.new) → result ≡ Err (FoundingFault.Store StoreFault.NotAnOffice) ↔ IsForeign (state S.Store conn.old).now.schema }
+    ensures foreign { HasCleanDisk (state S.Store conn.new)
+        → result ≡ Err (FoundingFault.Store StoreFault.NotAnOffice) ↔ IsForeign (state S.Store conn.old).now.schema }
     ensures empty { OnOk result ((state S.Store conn.old).now.schema ≡ no_schema) }
-    ensures same { (state S.Store conn.old).now ≡ (state S.Store conn.old).committed → HasCleanDisk (state S.Store conn.new) → OnErr result (IsAsItWas (state S.Store conn.old) (state S.Store conn.new)) }
+    ensures same { (state S.Store conn.old).now ≡ (state S.Store conn.old).committed → HasCleanDisk (state S.Store conn.new)
+        → OnErr result (IsAsItWas (state S.Store conn.old) (state S.Store conn.new)) }
     ensures idle { IsIdle (state S.Store conn.new) }
     ensures clean { HasCleanDisk (state S.Store conn.new) → HasCleanDisk (state S.Store conn.old) }
-    ensures crash { Survives (state S.Store conn.old) (state S.Store conn.new) (λ trees. AreOffice trees (founded_tables (record { name = name.now; team = team.now; roles = 1; digest = digest.now }) listed)) }
+    ensures crash { Survives (state S.Store conn.old) (state S.Store conn.new) (λ trees. AreOffice trees (new_office name.now team.now digest.now listed)) }
 {
     if has_table(conn.schema()) {
         return Err(FoundingFault::AlreadyFounded);

@@ -58,7 +58,8 @@ pub(crate) const INSERT_REVISION: &str =
 // The revision that a row stands for.
 fn read_revision(alloc: Global, row: &Row) -> Result<RevisionRow, StoreFault>
     ensures revision { IfOk result (λ revision. row.now ≡ revision_columns revision) }
-    ensures formed { (profile : Name) (revision : Revision) → IsRevision (profile, revision) → row.now ≡ revision_columns revision → result ≢ Err StoreFault.NotAnOffice }
+    ensures formed { (profile : Name) (revision : Revision) → IsRevision (profile, revision) → row.now ≡ revision_columns revision
+        → result ≢ Err StoreFault.NotAnOffice }
     ensures cause { IfErr result IsOfRow }
 {
     if row.column_count() != 5 {
@@ -93,8 +94,10 @@ fn row_at<S: Alter>(
     number: u32,
 ) -> Result<Option<Row>, StoreFault>
     requires { IsIdle (state S.Store conn.old) }
-    ensures read { IsRead (state S.Store conn.old) (state S.Store conn.new) result (λ t row. row ≡ option_map revision_columns (t.revisions profile.now number)) }
-    ensures row { HasCleanDisk (state S.Store conn.new) → FindsRow REVISION_AT.now (revision_params profile.now number) (state S.Store conn.old) (state S.Store conn.new) result }
+    ensures read { IsRead (state S.Store conn.old) (state S.Store conn.new) result
+        (λ t row. row ≡ option_map revision_columns (t.revisions profile.now number)) }
+    ensures row { HasCleanDisk (state S.Store conn.new)
+        → FindsRow REVISION_AT.now (revision_params profile.now number) (state S.Store conn.old) (state S.Store conn.new) result }
 {
     first_row(conn, REVISION_AT, &of_number(profile, number))
 }
@@ -106,7 +109,8 @@ fn issued_row<S: Alter>(
 ) -> Result<Option<Row>, StoreFault>
     requires { IsIdle (state S.Store conn.old) }
     ensures read { IsRead (state S.Store conn.old) (state S.Store conn.new) result (λ t row. IsIssuedRow t profile.now row) }
-    ensures row { HasCleanDisk (state S.Store conn.new) → FindsRow ISSUED_OF.now (profile_params profile.now) (state S.Store conn.old) (state S.Store conn.new) result }
+    ensures row { HasCleanDisk (state S.Store conn.new)
+        → FindsRow ISSUED_OF.now (profile_params profile.now) (state S.Store conn.old) (state S.Store conn.new) result }
 {
     first_row(conn, ISSUED_OF, &of_profile(profile))
 }
@@ -118,7 +122,8 @@ fn last_row<S: Alter>(
 ) -> Result<Option<Row>, StoreFault>
     requires { IsIdle (state S.Store conn.old) }
     ensures read { IsRead (state S.Store conn.old) (state S.Store conn.new) result (λ t row. IsLastRow t profile.now row) }
-    ensures row { HasCleanDisk (state S.Store conn.new) → FindsRow LAST_OF.now (profile_params profile.now) (state S.Store conn.old) (state S.Store conn.new) result }
+    ensures row { HasCleanDisk (state S.Store conn.new)
+        → FindsRow LAST_OF.now (profile_params profile.now) (state S.Store conn.old) (state S.Store conn.new) result }
 {
     first_row(conn, LAST_OF, &of_profile(profile))
 }
@@ -130,7 +135,8 @@ fn row_of<S: Alter>(
 ) -> Result<Option<Row>, StoreFault>
     requires { IsIdle (state S.Store conn.old) }
     ensures read { IsRead (state S.Store conn.old) (state S.Store conn.new) result (λ t row. is_some row ≡ true ↔ HasRevision t profile.now) }
-    ensures row { HasCleanDisk (state S.Store conn.new) → FindsRow REVISION_OF.now (profile_params profile.now) (state S.Store conn.old) (state S.Store conn.new) result }
+    ensures row { HasCleanDisk (state S.Store conn.new)
+        → FindsRow REVISION_OF.now (profile_params profile.now) (state S.Store conn.old) (state S.Store conn.new) result }
 {
     first_row(conn, REVISION_OF, &of_profile(profile))
 }
@@ -142,7 +148,8 @@ pub fn has_revision<S: Alter>(
 ) -> Result<bool, StoreFault>
     requires { IsIdle (state S.Store conn.old) }
     ensures read { IsRead (state S.Store conn.old) (state S.Store conn.new) result (λ t found. found ≡ true ↔ HasRevision t profile.now) }
-    ensures told { HasCleanDisk (state S.Store conn.new) → TellsRow REVISION_OF.now (profile_params profile.now) (state S.Store conn.old) (state S.Store conn.new) TellsWhether result }
+    ensures told { HasCleanDisk (state S.Store conn.new)
+        → TellsRow REVISION_OF.now (profile_params profile.now) (state S.Store conn.old) (state S.Store conn.new) TellsWhether result }
 {
     is_there(row_of(conn, profile))
 }
@@ -156,7 +163,9 @@ pub fn revision<S: Alter>(
 ) -> Result<Option<RevisionRow>, StoreFault>
     requires { IsIdle (state S.Store conn.old) }
     ensures read { IsRead (state S.Store conn.old) (state S.Store conn.new) result (λ t revision. revision ≡ t.revisions profile.now number) }
-    ensures told { HasCleanDisk (state S.Store conn.new) → TellsRow REVISION_AT.now (revision_params profile.now number) (state S.Store conn.old) (state S.Store conn.new) (TellsOne revision_columns IsRevisionForm) result }
+    ensures told { HasCleanDisk (state S.Store conn.new)
+        → TellsRow REVISION_AT.now (revision_params profile.now number) (state S.Store conn.old) (state S.Store conn.new)
+        (TellsOne revision_columns IsRevisionForm) result }
 {
     revision_of(alloc, row_at(conn, profile, number))
 }
@@ -169,7 +178,9 @@ pub fn issued<S: Alter>(
 ) -> Result<Option<RevisionRow>, StoreFault>
     requires { IsIdle (state S.Store conn.old) }
     ensures read { IsRead (state S.Store conn.old) (state S.Store conn.new) result (λ t revision. IsIssued t profile.now revision) }
-    ensures told { HasCleanDisk (state S.Store conn.new) → TellsRow ISSUED_OF.now (profile_params profile.now) (state S.Store conn.old) (state S.Store conn.new) (TellsOne revision_columns IsRevisionForm) result }
+    ensures told { HasCleanDisk (state S.Store conn.new)
+        → TellsRow ISSUED_OF.now (profile_params profile.now) (state S.Store conn.old) (state S.Store conn.new)
+        (TellsOne revision_columns IsRevisionForm) result }
 {
     revision_of(alloc, issued_row(conn, profile))
 }
@@ -182,7 +193,9 @@ pub fn last<S: Alter>(
 ) -> Result<Option<RevisionRow>, StoreFault>
     requires { IsIdle (state S.Store conn.old) }
     ensures read { IsRead (state S.Store conn.old) (state S.Store conn.new) result (λ t revision. IsLast t profile.now revision) }
-    ensures told { HasCleanDisk (state S.Store conn.new) → TellsRow LAST_OF.now (profile_params profile.now) (state S.Store conn.old) (state S.Store conn.new) (TellsOne revision_columns IsRevisionForm) result }
+    ensures told { HasCleanDisk (state S.Store conn.new)
+        → TellsRow LAST_OF.now (profile_params profile.now) (state S.Store conn.old) (state S.Store conn.new)
+        (TellsOne revision_columns IsRevisionForm) result }
 {
     revision_of(alloc, last_row(conn, profile))
 }
@@ -224,7 +237,8 @@ fn next_number<S: Alter>(
 ) -> Result<u32, StoreFault>
     requires { IsIdle (state S.Store conn.old) }
     ensures read { IsRead (state S.Store conn.old) (state S.Store conn.new) result (λ t number. IsNextNumber t profile.now number) }
-    ensures told { HasCleanDisk (state S.Store conn.new) → TellsRow LAST_OF.now (profile_params profile.now) (state S.Store conn.old) (state S.Store conn.new) TellsNext result }
+    ensures told { HasCleanDisk (state S.Store conn.new)
+        → TellsRow LAST_OF.now (profile_params profile.now) (state S.Store conn.old) (state S.Store conn.new) TellsNext result }
 {
     match last(alloc, conn, profile)? {
         Some(revision) => number_after(revision.number),
@@ -244,7 +258,8 @@ pub fn add_revision<S: Alter>(
 ) -> Result<u32, StoreFault>
     requires { IsIdle (state S.Store conn.old) }
     ensures write { IsWrite (state S.Store conn.old) (state S.Store conn.new) result (Submits profile.now author body digest) }
-    ensures number { (t : Tables) → ShowsIfOpen (state S.Store conn.old) t → HasCleanDisk (state S.Store conn.new) → IfOk result (IsNextNumber t profile.now) }
+    ensures number { (t : Tables) → ShowsIfOpen (state S.Store conn.old) t → HasCleanDisk (state S.Store conn.new)
+        → IfOk result (IsNextNumber t profile.now) }
     ensures cause { HasCleanDisk (state S.Store conn.new) → IfErr result (FailsToAdd S.Store profile.now author body digest conn.old conn.new) }
 {
     let number = next_number(alloc, conn, profile)?;

@@ -34,7 +34,9 @@ fn vote_rows<S: Alter>(
 ) -> Result<Vec<Row>, StoreFault>
     requires { IsIdle (state S.Store conn.old) }
     ensures read { IsRead (state S.Store conn.old) (state S.Store conn.new) result (λ t rows. AreVoteRows t profile.now number rows.items) }
-    ensures rows { HasCleanDisk (state S.Store conn.new) → FindsRows VOTES_ON.now (revision_params profile.now number) (state S.Store conn.old) (state S.Store conn.new) (map_ok result (λ rows. rows.items)) }
+    ensures rows { HasCleanDisk (state S.Store conn.new)
+        → FindsRows VOTES_ON.now (revision_params profile.now number) (state S.Store conn.old) (state S.Store conn.new)
+        (map_ok result (λ rows. rows.items)) }
 {
     all_rows(conn, VOTES_ON, &of_number(profile, number))
 }
@@ -93,7 +95,9 @@ pub fn standing<S: Alter>(
 ) -> Result<Vec<VoteRow>, StoreFault>
     requires { IsIdle (state S.Store conn.old) }
     ensures read { IsRead (state S.Store conn.old) (state S.Store conn.new) result (λ t votes. AreStanding t profile.now number votes.items) }
-    ensures told { HasCleanDisk (state S.Store conn.new) → TellsRows VOTES_ON.now (revision_params profile.now number) (state S.Store conn.old) (state S.Store conn.new) TellsVotes (map_ok result (λ votes. votes.items)) }
+    ensures told { HasCleanDisk (state S.Store conn.new)
+        → TellsRows VOTES_ON.now (revision_params profile.now number) (state S.Store conn.old) (state S.Store conn.new) TellsVotes
+        (map_ok result (λ votes. votes.items)) }
 {
     let rows = vote_rows(conn, profile, number)?;
     read_votes(alloc, rows.as_slice())
@@ -161,7 +165,8 @@ pub fn tally<S: Alter>(
 ) -> Result<Tally, StoreFault>
     requires { IsIdle (state S.Store conn.old) }
     ensures read { IsRead (state S.Store conn.old) (state S.Store conn.new) result (λ t tally. IsTally t profile.now number tally) }
-    ensures told { HasCleanDisk (state S.Store conn.new) → TellsRows VOTES_ON.now (revision_params profile.now number) (state S.Store conn.old) (state S.Store conn.new) TellsTally result }
+    ensures told { HasCleanDisk (state S.Store conn.new)
+        → TellsRows VOTES_ON.now (revision_params profile.now number) (state S.Store conn.old) (state S.Store conn.new) TellsTally result }
 {
     let votes = standing(alloc, conn, profile, number)?;
     Ok(count(votes.as_slice()))

@@ -69,7 +69,8 @@ fn user_of(
 fn row_named<S: Alter>(conn: &mut Connection<S>, name: &Word) -> Result<Option<Row>, StoreFault>
     requires { IsIdle (state S.Store conn.old) }
     ensures read { IsRead (state S.Store conn.old) (state S.Store conn.new) result (λ t row. row ≡ option_map user_row (t.users name.now)) }
-    ensures row { HasCleanDisk (state S.Store conn.new) → FindsRow USER_BY_NAME.now (SqlText name.now ∷ []) (state S.Store conn.old) (state S.Store conn.new) result }
+    ensures row { HasCleanDisk (state S.Store conn.new)
+        → FindsRow USER_BY_NAME.now (SqlText name.now ∷ []) (state S.Store conn.old) (state S.Store conn.new) result }
 {
     first_row(conn, USER_BY_NAME, &of_word(name))
 }
@@ -81,7 +82,8 @@ fn row_showing<S: Alter>(
 ) -> Result<Option<Row>, StoreFault>
     requires { IsIdle (state S.Store conn.old) }
     ensures read { IsRead (state S.Store conn.old) (state S.Store conn.new) result (λ t row. IsRowShowing t digest.now row) }
-    ensures row { HasCleanDisk (state S.Store conn.new) → FindsRow USER_BY_TOKEN.now (Blob digest.now ∷ []) (state S.Store conn.old) (state S.Store conn.new) result }
+    ensures row { HasCleanDisk (state S.Store conn.new)
+        → FindsRow USER_BY_TOKEN.now (Blob digest.now ∷ []) (state S.Store conn.old) (state S.Store conn.new) result }
 {
     first_row(conn, USER_BY_TOKEN, &of_digest(digest))
 }
@@ -94,7 +96,8 @@ pub fn user_by_name<S: Alter>(
 ) -> Result<Option<UserRow>, StoreFault>
     requires { IsIdle (state S.Store conn.old) }
     ensures read { IsRead (state S.Store conn.old) (state S.Store conn.new) result (λ t user. user ≡ t.users name.now) }
-    ensures told { HasCleanDisk (state S.Store conn.new) → TellsRow USER_BY_NAME.now (SqlText name.now ∷ []) (state S.Store conn.old) (state S.Store conn.new) (TellsOne user_row IsUser) result }
+    ensures told { HasCleanDisk (state S.Store conn.new)
+        → TellsRow USER_BY_NAME.now (SqlText name.now ∷ []) (state S.Store conn.old) (state S.Store conn.new) (TellsOne user_row IsUser) result }
 {
     user_of(alloc, row_named(conn, name))
 }
@@ -107,7 +110,8 @@ pub fn user_by_token<S: Alter>(
 ) -> Result<Option<UserRow>, StoreFault>
     requires { IsIdle (state S.Store conn.old) }
     ensures read { IsRead (state S.Store conn.old) (state S.Store conn.new) result (λ t user. IsUserShowing t digest.now user) }
-    ensures told { HasCleanDisk (state S.Store conn.new) → TellsRow USER_BY_TOKEN.now (Blob digest.now ∷ []) (state S.Store conn.old) (state S.Store conn.new) (TellsOne user_row IsUser) result }
+    ensures told { HasCleanDisk (state S.Store conn.new)
+        → TellsRow USER_BY_TOKEN.now (Blob digest.now ∷ []) (state S.Store conn.old) (state S.Store conn.new) (TellsOne user_row IsUser) result }
 {
     user_of(alloc, row_showing(conn, digest))
 }

@@ -1,3 +1,2 @@
-pub mod SplitFacts
 pub mod AnswerFacts
 pub mod RequestFacts

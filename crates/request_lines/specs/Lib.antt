@@ -1,4 +1,3 @@
-pub mod Lines
 pub mod Bad
 pub mod Answers
 pub mod Kinds

@@ -9,14 +9,12 @@ pub mod fault;
 pub mod kind;
 mod member;
 pub mod request;
-pub mod split;
 
 pub use answer::{answer_text, line};
 pub use bad::BadLine;
 pub use fault::LineFault;
 pub use kind::Kind;
 pub use request::read_line;
-pub use split::split_line;
 
 #[cfg(test)]
 mod tests;

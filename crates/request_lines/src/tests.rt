@@ -1,6 +1,6 @@
 mod kinds;
 
-use crate::{BadLine, LineFault, answer_text, line, read_line, split_line};
+use crate::{BadLine, LineFault, answer_text, line, read_line};
 use hex::FromHex;
 use review_policy::{
     Answer, Ask, Denial, Fault, ListedProfile, Listing, Need, Reply, Rule, State, Text, Word,
@@ -217,19 +217,6 @@ fn the_last_of_a_repeated_member_counts_and_spaces_may_stand(
         assert_eq!(rt; fault_of(rt.alloc(), text.as_str()), "", "{rest}");
     }
     Ok(())
-}
-
-#[test]
-fn lines_end_at_line_feeds_alone(rt: HostRuntime) {
-    let (first, rest) = split_line(b"a\r\n\nlast");
-    assert_eq!(rt; first, b"a\r".as_slice());
-    assert!(rt; !rest.is_empty());
-    let (empty, rest) = split_line(rest);
-    assert!(rt; empty.is_empty());
-    assert!(rt; !rest.is_empty());
-    let (last, rest) = split_line(rest);
-    assert_eq!(rt; last, b"last".as_slice());
-    assert!(rt; rest.is_empty());
 }
 
 #[test]

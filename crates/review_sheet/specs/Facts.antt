@@ -1,8 +1,5 @@
 -- What a review sheet shows of a revision, as plain values.
-use Rattle.std.specs.Prelude.{◌≡◌, ℕ, List, Option, AllPairs}
-use Rattle.std.specs.Cmp.Lexicographic.{slice_cmp}
-use Rattle.std.specs.Ordering.{nat_cmp}
-use Rattle.std.specs.declared.cmp.Ordering.TheVariants.{Less}
+use Rattle.std.specs.Prelude.{ℕ, List, Option}
 use Rattle.profile_text.specs.declared.profile.Profile.{Profile}
 use Rattle.review_policy.specs.declared.revision.State.{State}
 use Rattle.review_policy.specs.declared.revision.VoteRow.{VoteRow}
@@ -21,7 +18,3 @@ pub record SheetValue : Type 0 where
   pub shown : Profile
   pub listed : ℕ
   pub votes : List VoteRow
-
--- the votes stand by voter in byte order, each voter once
-abbrev pub AreByVoter : List VoteRow → Type 0
-AreByVoter votes = AllPairs (λ (a b : VoteRow). slice_cmp nat_cmp a.voter b.voter ≡ Less) votes

@@ -2,7 +2,6 @@
 
 ghost use Rattle.std.specs.Prelude.{◌≡◌, ◌++◌, OnOk, IfOk, codes, string_bytes};
 ghost use Rattle.hex.specs.Hex.{encode_lower};
-ghost use Rattle.review_sheet.specs.Facts.{AreByVoter};
 ghost use Rattle.review_sheet.specs.Layout.{Adds, AddsLines, ended};
 ghost use Rattle.review_sheet.specs.Sheet.{baseline_text, head_lines, sheet_text};
 
@@ -25,7 +24,6 @@ use widening::findings;
 ///
 /// Memory was refused.
 pub fn sheet(alloc: Global, facts: &SheetFacts<'_>) -> Result<String, AllocError>
-    requires { AreByVoter facts.now.votes }
     ensures { IfOk result (λ text. string_bytes text ≡ sheet_text facts.now) }
 {
     let found = findings(alloc, facts.base, facts.shown)?;

@@ -1,8 +1,5 @@
 // What the tests share.
 
-ghost use Rattle.std.specs.Prelude.{◌≡◌, IfOk};
-ghost use Rattle.review_sheet.specs.Facts.{AreByVoter};
-
 use cap_sets::Caps;
 use profile_text::{Profile, digest, print, read};
 use review_policy::{State, VoteRow, Word};
@@ -22,9 +19,7 @@ fn vote(
     approve: bool,
     security: bool,
     counts: bool,
-) -> Result<VoteRow, Fail>
-    ensures { IfOk result (λ vote. vote.voter ≡ voter.now) }
-{
+) -> Result<VoteRow, Fail> {
     let voter = Word::new(alloc, voter)?;
     Ok(VoteRow {
         voter,
@@ -39,9 +34,7 @@ pub(crate) fn rev_and_sue(
     alloc: Global,
     rev: (bool, bool, bool),
     sue: (bool, bool, bool),
-) -> Result<Vec<VoteRow>, Fail>
-    ensures { IfOk result (λ votes. AreByVoter votes.items) }
-{
+) -> Result<Vec<VoteRow>, Fail> {
     let rev = vote(alloc, "rev", rev.0, rev.1, rev.2)?;
     let sue = vote(alloc, "sue", sue.0, sue.1, sue.2)?;
     let votes = vec![in alloc; rev, sue]?;
@@ -56,9 +49,7 @@ pub(crate) fn sheet_of(
     shown: &Profile,
     listed: Caps,
     votes: Vec<VoteRow>,
-) -> Result<String, Fail>
-    requires { AreByVoter votes.items }
-{
+) -> Result<String, Fail> {
     let team = Word::new(alloc, "blue")?;
     let profile = Word::new(alloc, "web")?;
     let text = print(alloc, shown)?;

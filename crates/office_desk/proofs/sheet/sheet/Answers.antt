@@ -1,21 +1,26 @@
-use Rattle.std.proofs.Common.{◌∙◌, None, sym, ap, refl}
+use Rattle.std.proofs.Common.{◌∙◌, Some, None, sym, ap, refl}
+use Rattle.std.specs.Prelude.{is_none}
 use Rattle.sqlite.specs.Held.{state}
 use Rattle.review_policy.specs.declared.answer.Reply.TheVariants.{Sheet}
 use Rattle.review_policy.specs.Rules.{first_denial, read_rules}
 use Rattle.office_tables.specs.declared.fault.StoreFault.TheVariants.{NoMemory}
+use Rattle.office_policy.specs.Facts.{read_facts}
 use Rattle.office_desk.specs.declared.refusal.Refusal.TheVariants as refusals
-use Rattle.office_desk.proofs.Carrying.{left, refused_at_once, read_fails, second_fails, fails_after, refused_after, told_after}
+use Rattle.office_history.proofs.StandingFacts.{standing_is}
+use Rattle.office_desk.proofs.Carrying.{left, read_fails, second_fails, fails_after, told_after}
 use Rattle.office_desk.proofs.Compared.{read_pair}
-use Rattle.office_desk.proofs.Sheets.{sheet_refused_early, sheet_refused, sheet_told}
+use Rattle.office_desk.proofs.Deciding.{refuses_at_once, refuses, allowed_at}
+use Rattle.office_desk.proofs.LookedBack.{one_revision}
+use Rattle.office_desk.proofs.Readings.{showing_sheet, read_early, none_told}
+use Rattle.office_desk.proofs.Sheets.{sheet_told}
 use Rattle.office_desk.proofs.sheet.sheet.Goals as goal
 
 pub returns-in_err-decide_read : goal.returns-in_err-decide_read
 returns-in_err-decide_read g c =
     let d = c.in_err-decide_read.field-0.0 in
     left _ _ _ _ (refusals.Denied d None) c.from_residual.ensures.1
-    (refused_at_once _ (state g.S.Store c.args.conn.now) d None c.requires
-    (λ h lawful. sheet_refused_early h c.args.caller.now c.args.name.now c.args.number d
-    (ap (λ f. first_denial (read_rules f)) (sym c.read_facts.ensures) ∙ sym c.in_err-decide_read.ensures)))
+    (refuses_at_once (λ h lawful. lawful) (showing_sheet c.args.caller.now c.args.name.now c.args.number) (state g.S.Store c.args.conn.now) d c.requires
+    (read_early c.args.caller.now c.args.name.now d (ap (λ f. first_denial (read_rules f)) (sym c.read_facts.ensures) ∙ sym c.in_err-decide_read.ensures)))
 
 pub returns-in_err-found : goal.returns-in_err-found
 returns-in_err-found g c =
@@ -24,17 +29,22 @@ returns-in_err-found g c =
 
 pub returns-in_err-decide_read-2 : goal.returns-in_err-decide_read-2
 returns-in_err-decide_read-2 g c =
+    let old = state g.S.Store c.args.conn.now in
+    let new = state g.S.Store c.revision.new.conn in
+    let found = c.in_ok-found.found in
     let d = c.in_err-decide_read-2.field-0.0 in
     left _ _ _ _ (refusals.Denied d None) c.from_residual-in_err-decide_read-2.ensures.1
-    (refused_after _ (state g.S.Store c.args.conn.now) (state g.S.Store c.revision.new.conn) _ c.in_ok-found.found c.in_ok-found.ensures.read d None
-    (λ h lawful is. sheet_refused h c.args.caller.now c.args.name.now c.args.number c.in_ok-found.found c.is_none.result is c.is_none.ensures d
-    (ap (λ f. first_denial (read_rules f)) (sym c.read_facts-2.ensures) ∙ sym c.in_err-decide_read-2.ensures)))
+    (refuses (λ h lawful. lawful) (showing_sheet c.args.caller.now c.args.name.now c.args.number) old new found
+    (one_revision old new c.args.name.now c.args.number found c.in_ok-found.ensures.read) d
+    (ap (λ f. first_denial (read_rules f))
+    (sym (c.read_facts-2.ensures ∙ ap (read_facts (Some c.args.caller.now) c.args.name.now.team) (none_told c.is_none.result found c.is_none.ensures)))
+    ∙ sym c.in_err-decide_read-2.ensures))
 
 pub returns-in_err-votes : goal.returns-in_err-votes
 returns-in_err-votes g c =
     let old = state g.S.Store c.args.conn.now in
     let mid = state g.S.Store c.revision.new.conn in
-    let new = state g.S.Store c.votes_on.new.conn in
+    let new = state g.S.Store c.standing.new.conn in
     let fault = c.in_err-votes.field-0.0 in
     left _ _ _ _ (refusals.Fault fault) c.from_residual-in_err-votes.ensures.1
     (read_fails _ old new (λ t (x : Unit {0}). Unit {0}) fault
@@ -44,7 +54,7 @@ pub returns-in_err-compared : goal.returns-in_err-compared
 returns-in_err-compared g c =
     let old = state g.S.Store c.args.conn.now in
     let one = state g.S.Store c.revision.new.conn in
-    let two = state g.S.Store c.votes_on.new.conn in
+    let two = state g.S.Store c.standing.new.conn in
     let new = state g.S.Store c.compared_with.new.conn in
     let both = read_pair old one two _ _ c.in_ok-found.found c.in_ok-votes.votes c.in_ok-found.ensures.read c.in_ok-votes.ensures.read in
     let fault = c.in_err-compared.field-0.0 in
@@ -55,7 +65,7 @@ pub returns-in_err-sheet : goal.returns-in_err-sheet
 returns-in_err-sheet g c =
     let old = state g.S.Store c.args.conn.now in
     let one = state g.S.Store c.revision.new.conn in
-    let two = state g.S.Store c.votes_on.new.conn in
+    let two = state g.S.Store c.standing.new.conn in
     let new = state g.S.Store c.compared_with.new.conn in
     let both = read_pair old one two _ _ c.in_ok-found.found c.in_ok-votes.votes c.in_ok-found.ensures.read c.in_ok-votes.ensures.read in
     let all = read_pair old two new _ _ _ c.in_ok-compared.compared both c.in_ok-compared.ensures in
@@ -65,12 +75,17 @@ pub returns : goal.returns
 returns g c =
     let old = state g.S.Store c.args.conn.now in
     let one = state g.S.Store c.revision.new.conn in
-    let two = state g.S.Store c.votes_on.new.conn in
+    let two = state g.S.Store c.standing.new.conn in
     let new = state g.S.Store c.compared_with.new.conn in
     let both = read_pair old one two _ _ c.in_ok-found.found c.in_ok-votes.votes c.in_ok-found.ensures.read c.in_ok-votes.ensures.read in
     let all = read_pair old two new _ _ _ c.in_ok-compared.compared both c.in_ok-compared.ensures in
+    let found = c.in_ok-found.found in
     told_after _ old new _ _ all (Sheet c.in_ok-sheet.sheet)
-    (λ h lawful looks. sheet_told h c.args.caller.now c.args.name.now c.args.number c.in_ok-found.found c.is_none.result looks.0.0 c.is_none.ensures
-    c.in-Some.row c.in_ok-votes.votes.items c.in_ok-compared.compared c.in_ok-sheet.sheet c.in-Some.is
-    (looks.0.1 h lawful refl) (looks.1 h lawful refl) c.in_ok-sheet.ensures
-    (ap (λ f. first_denial (read_rules f)) (sym c.read_facts-2.ensures) ∙ sym c.in_ok-decide_read-2.ensures))
+    (λ h lawful looks.
+    allowed_at (λ h lawful. lawful) (showing_sheet c.args.caller.now c.args.name.now c.args.number) h
+    (ap (λ f. first_denial (read_rules f))
+    (sym (c.read_facts-2.ensures ∙ ap (read_facts (Some c.args.caller.now) c.args.name.now.team)
+    (none_told c.is_none.result found c.is_none.ensures ∙ ap is_none looks.0.0)))
+    ∙ sym c.in_ok-decide_read-2.ensures)
+    ∙ sheet_told h (Some c.args.caller.now) c.args.name.now c.args.number c.in-Some.row c.in_ok-votes.votes.items c.in_ok-compared.compared c.in_ok-sheet.sheet
+    (sym looks.0.0 ∙ c.in-Some.is) (standing_is h c.args.name.now _ c.in_ok-votes.votes.items looks.0.1) (looks.1 h lawful refl) c.in_ok-sheet.ensures)
