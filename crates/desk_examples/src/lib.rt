@@ -1,0 +1,18 @@
+//! The desk, tried by its public calls: conversations, streams that come in pieces, stop or fail, want of memory, and lists
+//! of requests.
+#![tactic(auto)]
+
+#[cfg(test)]
+mod conversations;
+#[cfg(test)]
+mod memory;
+#[cfg(test)]
+mod offices;
+#[cfg(test)]
+mod requests;
+#[cfg(test)]
+mod stops;
+#[cfg(test)]
+mod streams;
+#[cfg(test)]
+mod texts;
