@@ -1,8 +1,10 @@
 -- What the getters of clap say of the rows of a parse.
-use Rattle.std.proofs.Common.{◌≡◌, ◌∙◌, Bool, true, false, Option, Some, None, refl, sym, ap, subst}
+use Rattle.std.proofs.Common.{◌≡◌, ◌∙◌, Bool, true, false, List, map, Option, Some, None, option_map, refl, sym, ap, subst}
 use Rattle.std.specs.Prelude.{IfNone, codes}
-use Rattle.clap.specs.Words.{Text, first_of, first_value, one_of, one_text, rows_of, is_simple, is_simple_and_free}
-use Rattle.clap.proofs.WalkLemmas.{first_value-rows, one_text-rows}
+use Rattle.std.specs.Borrow.{Bor}
+use Rattle.clap.specs.Words.{Text, all_of, first_of, first_value, matched_of, one_of, one_text, raw_values, rows_of}
+use Rattle.clap.specs.Words.{is_simple, is_simple_and_free}
+use Rattle.clap.proofs.WalkLemmas.{first_value-rows, one_text-rows, raw_values-rows}
 use Rattle.clap.specs.declared.parser.matches.Found.{Found}
 use Rattle.command_line.specs.Commands.{office_app}
 use Rattle.command_line.specs.Meaning.{IsFlag}
@@ -10,6 +12,12 @@ use Rattle.command_line.specs.Meaning.{IsFlag}
 -- `get_str`
 pub text_is : (f : Found) (id : Text) (r : Option Text) → r ≡ first_value f id → first_of id (rows_of f) ≡ r
 text_is f id r e = sym (e ∙ first_value-rows f id)
+
+-- `get_strs`
+pub texts_are : (f : Found) (id : Text) (r : Option (Bor (List (Bor Text))))
+    → option_map (λ s. map (λ v. v.now) s.now) r ≡ option_map raw_values (matched_of f id)
+    → all_of id (rows_of f) ≡ option_map (λ s. map (λ v. v.now) s.now) r
+texts_are f id r e = sym (e ∙ raw_values-rows f id)
 
 -- `get_flag`
 flag_at : (o : Option Text) (b : Bool) → (o ≡ None → b ≡ false) → (o ≡ Some (codes "true") → b ≡ true)

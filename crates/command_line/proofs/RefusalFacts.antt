@@ -1,16 +1,21 @@
 -- Words that ask for no command.
-use Rattle.std.proofs.Common.{◌≡◌, ◌≢◌, inl, inr, List, Option, Some, None, ap, sym, ◌∙◌, slice_index, arith, refl}
+use Rattle.std.proofs.Common.{◌≡◌, ◌≢◌, inl, inr, List, Option, Some, None, true, false, sym, ◌∙◌, bytes_eq, refl}
+use Rattle.std.proofs.lemmas.Slice.Eq.{bytes_eq-Decides}
 use Rattle.std.specs.Prelude.{codes}
 use Rattle.clap.specs.Words.{HasKind, Kinds, Row, Text, first_of, kind_of}
 use Rattle.clap.specs.declared.error.Error.{Error}
-use Rattle.command_line.specs.declared.command.Command.TheVariants.{Trial, Check, Execve}
+use Rattle.command_line.specs.declared.command.Command.TheVariants.{Trial, Check, Execve, Init, Desk, Compare}
 use Rattle.command_line.specs.declared.fault.WordsFault.{WordsFault}
 use Rattle.command_line.specs.declared.fault.WordsFault.TheVariants.{Help, Version, Refused, NoMemory}
+use Rattle.command_line.specs.declared.command.InitWords.{InitWords}
+use Rattle.command_line.specs.Meaning.{HasCompareValues, HasInitValues}
 use Rattle.command_line.specs.Refusals.{IsRefused, IsTold, NoneAskedFor}
 
--- two texts that begin with other characters are two
-apart : (a b : Text) → slice_index a 0 ≡ 99 → slice_index b 0 ≡ 101 → a ≢ b
-apart a b first second same = let e : slice_index a 0 ≡ slice_index b 0 = ap (λ t. slice_index t 0) same in absurd (omega arith)
+-- two texts that don't compare equal are two
+apart : (a b : Text) → bytes_eq a b ≡ false → a ≢ b
+apart a b different same =
+    let equal : true ≡ false = sym ((bytes_eq-Decides a b).1 same) ∙ different in
+    cc
 
 none≢some : {X : Type 0} (x : X) → None ≡ Some x → ⊥
 none≢some x e = cc
@@ -19,19 +24,60 @@ none≢some x e = cc
 pub no_check : (rows : List Row) → first_of (codes "file") rows ≡ None → NoneAskedFor (codes "check") rows
 no_check rows none Trial asked = asked
 no_check rows none (Check file) asked = none≢some _ (sym none ∙ asked.1)
-no_check rows none (Execve words) asked = apart _ _ refl refl asked.0
+no_check rows none (Execve words) asked = apart _ _ refl asked.0
+no_check rows none (Init words) asked = apart _ _ refl asked.0
+no_check rows none (Desk database) asked = apart _ _ refl asked.0
+no_check rows none (Compare base new) asked = apart _ _ refl asked.0
 
 -- `execve` without FILE asks for nothing
 pub no_execve : (rows : List Row) → first_of (codes "file") rows ≡ None → NoneAskedFor (codes "execve") rows
 no_execve rows none Trial asked = asked
-no_execve rows none (Check file) asked = apart _ _ refl refl (sym asked.0)
+no_execve rows none (Check file) asked = apart _ _ refl asked.0
 no_execve rows none (Execve words) asked = none≢some _ (sym none ∙ asked.1.file)
+no_execve rows none (Init words) asked = apart _ _ refl asked.0
+no_execve rows none (Desk database) asked = apart _ _ refl asked.0
+no_execve rows none (Compare base new) asked = apart _ _ refl asked.0
+
+-- `desk` without DB asks for nothing
+pub no_desk : (rows : List Row) → first_of (codes "database") rows ≡ None → NoneAskedFor (codes "desk") rows
+no_desk rows none Trial asked = asked
+no_desk rows none (Check file) asked = apart _ _ refl asked.0
+no_desk rows none (Execve words) asked = apart _ _ refl asked.0
+no_desk rows none (Init words) asked = apart _ _ refl asked.0
+no_desk rows none (Desk database) asked = none≢some _ (sym none ∙ asked.1)
+no_desk rows none (Compare base new) asked = apart _ _ refl asked.0
+
+-- `init` asks for nothing where a value that it needs isn't there
+pub no_init : (rows : List Row) → ((words : InitWords) → ¬ HasInitValues rows words) → NoneAskedFor (codes "init") rows
+no_init rows lacks Trial asked = asked
+no_init rows lacks (Check file) asked = apart _ _ refl asked.0
+no_init rows lacks (Execve words) asked = apart _ _ refl asked.0
+no_init rows lacks (Init words) asked = lacks words asked.1
+no_init rows lacks (Desk database) asked = apart _ _ refl asked.0
+no_init rows lacks (Compare base new) asked = apart _ _ refl asked.0
+
+-- `compare` asks for nothing where a value that it needs isn't there
+pub no_compare : (rows : List Row) → ((base new : Text) → ¬ HasCompareValues rows base new) → NoneAskedFor (codes "compare") rows
+no_compare rows lacks Trial asked = asked
+no_compare rows lacks (Check file) asked = apart _ _ refl asked.0
+no_compare rows lacks (Execve words) asked = apart _ _ refl asked.0
+no_compare rows lacks (Init words) asked = apart _ _ refl asked.0
+no_compare rows lacks (Desk database) asked = apart _ _ refl asked.0
+no_compare rows lacks (Compare base new) asked = lacks base.now new.now asked.1
 
 -- another name asks for nothing
-pub no_other : (name : Text) (rows : List Row) → name ≢ codes "check" → name ≢ codes "execve" → NoneAskedFor name rows
-no_other name rows not_check not_execve Trial asked = asked
-no_other name rows not_check not_execve (Check file) asked = not_check asked.0
-no_other name rows not_check not_execve (Execve words) asked = not_execve asked.0
+pub no_other : (name : Text) (rows : List Row) → name ≢ codes "check" → name ≢ codes "execve" → name ≢ codes "compare"
+    → name ≢ codes "init" → name ≢ codes "desk" → NoneAskedFor name rows
+no_other name rows not_check not_execve not_compare not_init not_desk Trial asked = asked
+no_other name rows not_check not_execve not_compare not_init not_desk (Check file) asked = not_check asked.0
+no_other name rows not_check not_execve not_compare not_init not_desk (Execve words) asked = not_execve asked.0
+no_other name rows not_check not_execve not_compare not_init not_desk (Init words) asked = not_init asked.0
+no_other name rows not_check not_execve not_compare not_init not_desk (Desk database) asked = not_desk asked.0
+no_other name rows not_check not_execve not_compare not_init not_desk (Compare base new) asked = not_compare asked.0
+
+-- a value that isn't there is none
+pub lacks_value : (r : Option Text) (t : Text) → r ≡ None → ¬ (r ≡ Some t)
+lacks_value r t none there = none≢some t (sym none ∙ there)
 
 -- what is told of an error of one of these kinds is told as it must be
 pub refused_as_told : (kinds : Kinds) (found : Option (Text × List Row)) (error : Error) (fault : WordsFault)

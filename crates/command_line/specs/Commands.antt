@@ -1,7 +1,7 @@
 -- The commands of the program, as clap reads them.
 use Rattle.std.specs.Prelude.{codes}
 use Rattle.clap.specs.Words.{App, new_app, with_rule, with_subcommand}
-use Rattle.command_line.specs.Parts.{flag_rule, needed_rule, option_rule, with_version}
+use Rattle.command_line.specs.Parts.{flag_rule, needed_rule, option_rule, several_rule, with_version}
 
 -- `check FILE`
 abbrev pub check_app : App
@@ -17,6 +17,32 @@ abbrev pub execve_app : App
 execve_app = with_rule (with_rule execve_flags_app (option_rule (codes "file-permitted")))
     (option_rule (codes "file-inheritable"))
 
--- `office`, with its version and its commands
+-- `init DB NAME TEAM`
+abbrev pub init_user_app : App
+init_user_app = with_rule (with_rule (with_rule (new_app (codes "init"))
+    (needed_rule (codes "database"))) (needed_rule (codes "name"))) (needed_rule (codes "team"))
+
+-- the same with `DIGEST [CAP]...`
+abbrev pub init_app : App
+init_app = with_rule (with_rule init_user_app (needed_rule (codes "digest"))) (several_rule (codes "capability"))
+
+-- `desk DB`
+abbrev pub desk_app : App
+desk_app = with_rule (new_app (codes "desk")) (needed_rule (codes "database"))
+
+-- `compare BASE NEW`
+abbrev pub compare_app : App
+compare_app = with_rule (with_rule (new_app (codes "compare")) (needed_rule (codes "base"))) (needed_rule (codes "new"))
+
+-- `office`, with its version and the commands on one document
+abbrev pub one_document_app : App
+one_document_app =
+    with_subcommand (with_subcommand (with_version (new_app (codes "office"))) check_app.top) execve_app.top
+
+-- the same with the command on two documents
+abbrev pub documents_app : App
+documents_app = with_subcommand one_document_app compare_app.top
+
+-- the same with the commands on an office in a file
 unfoldable pub office_app : App
-office_app = with_subcommand (with_subcommand (with_version (new_app (codes "office"))) check_app.top) execve_app.top
+office_app = with_subcommand (with_subcommand documents_app init_app.top) desk_app.top

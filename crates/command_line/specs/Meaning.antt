@@ -1,9 +1,10 @@
 -- What the words of a command line ask for, by the command that clap finds in them and the values that it gives.
-use Rattle.std.specs.Prelude.{◌≡◌, Bool, false, Option, Some, None, List, codes, option_map}
-use Rattle.clap.specs.Words.{Row, Text, first_of, one_of}
+use Rattle.std.specs.Prelude.{◌≡◌, Bool, false, Option, Some, None, List, [], codes, map, option_map, unwrap_or}
+use Rattle.clap.specs.Words.{Row, Text, all_of, first_of, one_of}
 use Rattle.command_line.specs.declared.command.Command.{Command}
-use Rattle.command_line.specs.declared.command.Command.TheVariants.{Trial, Check, Execve}
+use Rattle.command_line.specs.declared.command.Command.TheVariants.{Trial, Check, Execve, Init, Desk, Compare}
 use Rattle.command_line.specs.declared.command.ExecveWords.{ExecveWords}
+use Rattle.command_line.specs.declared.command.InitWords.{InitWords}
 use Rattle.std.specs.Prelude.{true}
 
 -- the flag of this text is set
@@ -19,11 +20,27 @@ pub record HasValues (rows : List Row) (words : ExecveWords) : Type 0 where
   pub file_inheritable : first_of (codes "file-inheritable") rows ≡ option_map (λ s. s.now) words.file_inheritable
   pub file_effective : IsFlag (one_of (codes "file-effective") rows) words.file_effective
 
+-- each value of init is the one that the rows give for it, the capabilities all that they give, in order
+pub record HasInitValues (rows : List Row) (words : InitWords) : Type 0 where
+  pub database : first_of (codes "database") rows ≡ Some words.database.now
+  pub name : first_of (codes "name") rows ≡ Some words.name.now
+  pub team : first_of (codes "team") rows ≡ Some words.team.now
+  pub digest : first_of (codes "digest") rows ≡ Some words.digest.now
+  pub capabilities : map (λ s. s.now) words.capabilities.items ≡ unwrap_or (all_of (codes "capability") rows) []
+
+-- each value of compare is the one that the rows give for it
+pub record HasCompareValues (rows : List Row) (base_file new_file : Text) : Type 0 where
+  pub base : first_of (codes "base") rows ≡ Some base_file
+  pub new : first_of (codes "new") rows ≡ Some new_file
+
 -- the subcommand of this name, with these rows of values, asks for the command
 abbrev pub AsksFor : Text → List Row → Command → Type 0
 AsksFor name rows Trial = ⊥
 AsksFor name rows (Check file) = (name ≡ codes "check") × (first_of (codes "file") rows ≡ Some file.now)
 AsksFor name rows (Execve words) = (name ≡ codes "execve") × HasValues rows words
+AsksFor name rows (Init words) = (name ≡ codes "init") × HasInitValues rows words
+AsksFor name rows (Desk database) = (name ≡ codes "desk") × (first_of (codes "database") rows ≡ Some database.now)
+AsksFor name rows (Compare base new) = (name ≡ codes "compare") × HasCompareValues rows base.now new.now
 
 -- the command is what the subcommand that was found asks for; without one it is the trial desk
 abbrev pub IsCommand : Option (Text × List Row) → Command → Type 0

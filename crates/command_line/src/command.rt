@@ -1,7 +1,7 @@
 //! What the words of a command line ask for.
 
 /// What the words of a command line ask the program for, with the values as they were written.
-#[derive(Clone, Copy, Debug)]
+#[derive(Debug, Drop)]
 pub enum Command<'w> {
     /// No word: the trial desk.
     Trial,
@@ -9,6 +9,12 @@ pub enum Command<'w> {
     Check { file: &'w str },
     /// `execve FILE`: what a process with the sets of a document has after execve.
     Execve(ExecveWords<'w>),
+    /// `init DB NAME TEAM DIGEST [CAP]...`: a new office in a file.
+    Init(InitWords<'w>),
+    /// `desk DB`: the office in a file, over standard input and output.
+    Desk { database: &'w str },
+    /// `compare BASE NEW`: what the document in one file permits more than that in another.
+    Compare { base: &'w str, new: &'w str },
 }
 
 /// The values of `execve`.
@@ -24,4 +30,19 @@ pub struct ExecveWords<'w> {
     pub file_inheritable: Option<&'w str>,
     /// Whether there is `--file-effective`.
     pub file_effective: bool,
+}
+
+/// The values of `init`.
+#[derive(Debug, Drop)]
+pub struct InitWords<'w> {
+    /// DB, the file of the office.
+    pub database: &'w str,
+    /// NAME, of the first user.
+    pub name: &'w str,
+    /// TEAM, the team of the first user.
+    pub team: &'w str,
+    /// DIGEST, of the first user's token.
+    pub digest: &'w str,
+    /// Each CAP, in the order of the words.
+    pub capabilities: Vec<&'w str>,
 }

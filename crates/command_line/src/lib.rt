@@ -6,11 +6,14 @@
 
 mod check;
 mod command;
+mod compare;
+mod desk;
 mod execve;
 mod fault;
+mod init;
 mod parts;
 mod words;
 
-pub use command::{Command, ExecveWords};
+pub use command::{Command, ExecveWords, InitWords};
 pub use fault::WordsFault;
 pub use words::read_words;

@@ -3,7 +3,7 @@
 ghost use Rattle.std.specs.Prelude.{◌≡◌, IfOk, false};
 ghost use Rattle.clap.specs.declared.builder.command.Command.TheViews.{out-Command as fields_of};
 ghost use Rattle.clap.specs.Words.{app_of, rule_of, shape_of, with_rule, with_subcommand};
-ghost use Rattle.command_line.specs.Parts.{flag_rule, needed_rule, option_rule, with_version};
+ghost use Rattle.command_line.specs.Parts.{flag_rule, needed_rule, option_rule, several_rule, with_version};
 
 use clap::{Arg, ArgAction, Command};
 use std::alloc::{AllocError, Global};
@@ -15,6 +15,17 @@ pub(crate) fn needed<'a>(alloc: Global, id: &'a str, shown: &'a str, help: &'a s
 {
     Arg::new(alloc, id)
         .required(true)
+        .value_name(shown)
+        .help(help)
+}
+
+/// Values by their places, as many as there are.
+pub(crate) fn several<'a>(alloc: Global, id: &'a str, shown: &'a str, help: &'a str) -> Arg<'a>
+    ensures rule { rule_of result ≡ several_rule id.entry.now }
+    ensures local { result.global ≡ false }
+{
+    Arg::new(alloc, id)
+        .action(ArgAction::Append)
         .value_name(shown)
         .help(help)
 }

@@ -2,14 +2,17 @@
 
 ghost use Rattle.std.specs.Prelude.{◌≡◌, [], IfOk, IfErr, IfSome, IfNone, map, string_bytes};
 ghost use Rattle.clap.specs.Words.{FailsBy, app_of, fault_of, found_of, rows_of, subcommand_of, subcommand_rows_of};
-ghost use Rattle.command_line.specs.Commands.{office_app};
+ghost use Rattle.command_line.specs.Commands.{documents_app, office_app, one_document_app};
 ghost use Rattle.command_line.specs.Meaning.{AsksFor, IsCommand};
 ghost use Rattle.command_line.specs.Refusals.{IsRefused, NamesNoCommand, NoneAskedFor};
 
 use crate::check::{check_command, check_of};
 use crate::command::Command;
+use crate::compare::{compare_command, compare_of};
+use crate::desk::{desk_command, desk_of};
 use crate::execve::{execve_command, execve_of};
 use crate::fault::WordsFault;
+use crate::init::{init_command, init_of};
 use crate::parts::{described, versioned, with_command};
 use clap::ArgMatches;
 use std::alloc::{AllocError, Global};
@@ -24,22 +27,41 @@ const EXAMPLES: &str =
 to a line, with an office in memory.
 
 Statuses: 0, it was done; 1, it was refused or failed, which standard error says as `office: WORDS`;
-2, the words are no command line.
+2, the words are no command line. `compare` has statuses of its own.
 
 Examples:
   office check examples/web.json
   office execve examples/web.json --file-permitted CAP_NET_RAW --file-effective
+  office init team.db root office $(printf abc | sha256sum | cut -c 1-64) CAP_SYS_ADMIN
+  office desk team.db < requests.jsonl
   office < examples/first-path.jsonl";
+
+// The program and its commands on one document.
+fn one_document_command<'a>(alloc: Global) -> Result<clap::Command<'a>, AllocError>
+    ensures { IfOk result (λ c. app_of c ≡ one_document_app) }
+{
+    let office = clap::Command::new(alloc, "office").bin_name("office")?;
+    let office = versioned(described(office, ABOUT, EXAMPLES), VERSION);
+    let office = with_command(office, check_command(alloc)?)?;
+    with_command(office, execve_command(alloc)?)
+}
+
+// The program and its commands on documents.
+fn documents_command<'a>(alloc: Global) -> Result<clap::Command<'a>, AllocError>
+    ensures { IfOk result (λ c. app_of c ≡ documents_app) }
+{
+    let office = one_document_command(alloc)?;
+    with_command(office, compare_command(alloc)?)
+}
 
 // The program and its commands.
 #[tactic(auto, unfolding(crate::specs::Commands::office_app))]
 fn office_command<'a>(alloc: Global) -> Result<clap::Command<'a>, AllocError>
     ensures { IfOk result (λ c. app_of c ≡ office_app) }
 {
-    let office = clap::Command::new(alloc, "office").bin_name("office")?;
-    let office = versioned(described(office, ABOUT, EXAMPLES), VERSION);
-    let office = with_command(office, check_command(alloc)?)?;
-    with_command(office, execve_command(alloc)?)
+    let office = documents_command(alloc)?;
+    let office = with_command(office, init_command(alloc)?)?;
+    with_command(office, desk_command(alloc)?)
 }
 
 // What `clap` makes of the words.
@@ -52,14 +74,21 @@ fn matches_of<'w>(alloc: Global, words: &'w [String]) -> Result<ArgMatches<'w>, 
 }
 
 // What the command of this name asks for with these values; none without what it needs.
-fn command_of<'w>(name: &str, given: &ArgMatches<'w>) -> Option<Command<'w>>
-    ensures command { IfSome result (AsksFor name.now (rows_of (found_of given.now))) }
-    ensures none { IfNone result (NoneAskedFor name.now (rows_of (found_of given.now))) }
+fn command_of<'w>(
+    alloc: Global,
+    name: &str,
+    given: &ArgMatches<'w>,
+) -> Result<Option<Command<'w>>, AllocError>
+    ensures command { IfOk result (λ asked. IfSome asked (AsksFor name.now (rows_of (found_of given.now)))) }
+    ensures none { IfOk result (λ asked. IfNone asked (NoneAskedFor name.now (rows_of (found_of given.now)))) }
 {
     match name {
-        "check" => check_of(given),
-        "execve" => execve_of(given),
-        _ => None,
+        "check" => Ok(check_of(given)),
+        "execve" => Ok(execve_of(given)),
+        "compare" => Ok(compare_of(given)),
+        "init" => init_of(alloc, given),
+        "desk" => Ok(desk_of(given)),
+        _ => Ok(None),
     }
 }
 
@@ -82,7 +111,7 @@ pub fn read_words<'w>(alloc: Global, words: &'w [String]) -> Result<Command<'w>,
     let Some((name, given)) = matches.subcommand() else {
         return Ok(Command::Trial);
     };
-    match command_of(name, given) {
+    match command_of(alloc, name, given)? {
         Some(command) => Ok(command),
         None => {
             let text = String::from_str(alloc, "error: a value is missing\n")?;

@@ -1,7 +1,10 @@
 //! Why a command is refused or failed.
 
 use desk::DeskFault;
-use profile_commands::{ExecutionFault, FileFault};
+use founding_words::FoundingWordsFault;
+use office_store::FoundingFault;
+use office_tables::StoreFault;
+use profile_commands::{ComparedFault, ExecutionFault, FileFault};
 use thiserror::Error;
 
 /// Why a command is refused or failed, with the words that the program says on standard error.
@@ -16,6 +19,21 @@ pub enum CommandFault {
     /// The document in a file gave nothing.
     #[error("{0}")]
     File(#[from] FileFault),
+    /// Two documents weren't compared.
+    #[error("{0}")]
+    Compared(#[from] ComparedFault),
+    /// The words of `init` describe no founding.
+    #[error("{0}")]
+    FoundingWords(#[from] FoundingWordsFault),
+    /// No office was founded.
+    #[error("{0}")]
+    Founding(#[from] FoundingFault),
+    /// What stands at a path can't be opened, or is no office.
+    #[error("{0}")]
+    Store(#[from] StoreFault),
+    /// An office can't be closed.
+    #[error("disk")]
+    Close,
     /// The desk stopped.
     #[error("{0}")]
     Desk(#[from] DeskFault),

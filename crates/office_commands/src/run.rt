@@ -4,11 +4,16 @@ ghost use Rattle.std.specs.Prelude.{◌≡◌, IfErr, IfOk, OnOk};
 ghost use Rattle.std.specs.Io.KnownBytes.{Appends};
 ghost use Rattle.counted_io.specs.Counts.{one_more};
 
+use crate::comparing::compare_files;
+use crate::databases::Databases;
 use crate::fault::CommandFault;
+use crate::founding::found_at;
+use crate::stored::serve_stored;
 use crate::trial::serve_trial;
 use command_line::{Command, ExecveWords, WordsFault, read_words};
 use counted_io::{Counted, write_whole};
 use profile_commands::{Outcome, check_document, execution_of, execve_document};
+use sqlite::{Alter, Connection};
 use std::alloc::Global;
 use std::fs;
 use std::fs::Files;
@@ -84,9 +89,31 @@ fn run_execve<F: Files, O: Write>(
     }
 }
 
-// Carries a command out, and says with which status that ends the program.
-fn run<F: Files, I: Read, O: Write>(
+// `compare`.
+fn run_compare<F: Files, O: Write>(
     files: &F,
+    alloc: Global,
+    base: &str,
+    new: &str,
+    output: &mut O,
+) -> Result<u8, CommandFault> {
+    let text = compare_files(files, alloc, base, new)?;
+    print(&mut Counted::new(output), text.as_str())?;
+    Ok(if text.is_empty() { 0 } else { 1 })
+}
+
+// The status that the program ends with where the command is refused or fails.
+fn failed_status(command: &Command<'_>) -> u8 {
+    match command {
+        Command::Compare { .. } => 2,
+        _ => 1,
+    }
+}
+
+// Carries a command out, and says with which status that ends the program.
+fn run<F: Files, S: Alter + Drop, D: Databases<Database = Connection<S>>, I: Read, O: Write>(
+    files: &F,
+    databases: &D,
     alloc: Global,
     command: Command<'_>,
     input: &mut I,
@@ -99,6 +126,16 @@ fn run<F: Files, I: Read, O: Write>(
         }
         Command::Check { file } => run_check(files, alloc, file, output),
         Command::Execve(words) => run_execve(files, alloc, &words, output),
+        Command::Init(words) => {
+            found_at(databases, alloc, &words)?;
+            print(&mut Counted::new(output), "founded\n")?;
+            Ok(0)
+        }
+        Command::Desk { database } => {
+            serve_stored(files, databases, alloc, database, input, output)?;
+            Ok(0)
+        }
+        Command::Compare { base, new } => run_compare(files, alloc, base, new, output),
     }
 }
 
@@ -120,24 +157,36 @@ fn tell<O: Write, E: Write>(
 }
 
 /// Carries out what the words of a command line ask for, the first of them being the program's name. Gives the status
-/// that the program ends with: 0, or 1 where the command was refused or failed, or 2 where the words were refused.
-pub fn run_words<F: Files, I: Read, O: Write, E: Write>(
+/// that the program ends with: 0, or 1 where the command was refused or failed, or 2 where the words were refused. That of
+/// `compare` is 1 where it printed findings, and 2 where it was refused or failed.
+pub fn run_words<
+    F: Files,
+    S: Alter + Drop,
+    D: Databases<Database = Connection<S>>,
+    I: Read,
+    O: Write,
+    E: Write,
+>(
     files: &F,
+    databases: &D,
     alloc: Global,
     words: &[String],
     input: &mut I,
     output: &mut O,
     errors: &mut E,
 ) -> u8 {
-    let status = match read_words(alloc, words) {
-        Ok(command) => run(files, alloc, command, input, output),
-        Err(fault) => tell(alloc, &fault, output, errors),
+    let (status, failed) = match read_words(alloc, words) {
+        Ok(command) => {
+            let failed = failed_status(&command);
+            (run(files, databases, alloc, command, input, output), failed)
+        }
+        Err(fault) => (tell(alloc, &fault, output, errors), 1),
     };
     match status {
         Ok(status) => status,
         Err(fault) => {
             refuse(alloc, errors, &fault);
-            1
+            failed
         }
     }
 }

@@ -1,9 +1,8 @@
 //! The trial desk.
 
 use crate::fault::CommandFault;
+use crate::lines::answer_lines;
 use cap_sets::Caps;
-use counted_io::Counted;
-use desk::desk;
 use office_desk::Office;
 use profile_text::digest;
 use review_policy::{Word, WordFault};
@@ -49,8 +48,5 @@ pub(crate) fn serve_trial<R: Read, W: Write>(
     let Ok(mut office) = trial_office(alloc) else {
         return Err(CommandFault::NoMemory);
     };
-    let mut reader = Counted::new(input);
-    let mut writer = Counted::new(output);
-    desk(&mut office, alloc, &mut reader, &mut writer)?;
-    Ok(())
+    answer_lines(&mut office, alloc, input, output)
 }

@@ -27,6 +27,7 @@ fn main(rt: HostRuntime) -> ExitCode {
     let status = match words_given(&rt) {
         Ok(words) => run_words(
             &rt,
+            &rt,
             rt.alloc(),
             &words,
             &mut rt.reader(),

@@ -1,7 +1,8 @@
-//! The commands on a document in a file: `check` and `execve`.
+//! The commands on documents in files: `check`, `execve` and `compare`.
 #![tactic(auto)]
 
 mod check;
+mod compare;
 mod document;
 mod execution;
 mod execve;
@@ -11,6 +12,7 @@ mod list;
 mod text;
 
 pub use check::check_document;
+pub use compare::{ComparedFault, compare_documents};
 pub use document::read_document;
 pub use execution::{Execution, ExecutionFault, execution_of};
 pub use execve::{Outcome, execve_document};

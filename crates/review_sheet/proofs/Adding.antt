@@ -61,9 +61,9 @@ pub list_begun : (start mid end first : List ℕ) (items rest : List (List ℕ))
 list_begun start mid end first items rest begins one others =
     others ∙ ap (λ t. t ++ spaced rest) one ∙ append_assoc start first (spaced rest) ∙ ap (λ is. start ++ items_text is) (sym begins)
 
--- the line of a capability, in two parts
-pub capability_line : (start mid end set name : List ℕ) → mid ≡ start ++ (codes "  capability " ++ (set ++ codes " ")) → end ≡ mid ++ ended name
-    → end ≡ start ++ ended (codes "  capability " ++ set ++ codes " " ++ name)
-capability_line start mid end set name one others =
-    others ∙ ap (λ t. t ++ ended name) one ∙ append_assoc start (codes "  capability " ++ (set ++ codes " ")) (ended name)
+-- the words of a capability, in two parts
+pub capability_words : (start mid end set name : List ℕ) → mid ≡ start ++ (codes "capability " ++ (set ++ codes " ")) → end ≡ mid ++ ended name
+    → end ≡ start ++ ended (codes "capability " ++ set ++ codes " " ++ name)
+capability_words start mid end set name one others =
+    others ∙ ap (λ t. t ++ ended name) one ∙ append_assoc start (codes "capability " ++ (set ++ codes " ")) (ended name)
     ∙ ap (λ t. start ++ t) (simp append_assoc refl)

@@ -4,7 +4,6 @@ use Rattle.std.specs.Prelude.{◌||◌, ◌&&◌, bytes_eq, count_by, fold, not}
 use Rattle.std.proofs.lemmas.List.{length-map, reverse-append}
 use Rattle.review_policy.specs.declared.revision.VoteRow.{VoteRow}
 use Rattle.widening.specs.declared.finding.Finding.{Finding}
-use Rattle.widening.specs.declared.finding.Finding.TheVariants.{Cap, NoSeccomp, AnyArch, Arch, Flag, Call, Default}
 use Rattle.widening.specs.Findings.{findings_of}
 use Rattle.review_sheet.specs.Facts.{SheetValue}
 use Rattle.review_sheet.specs.Filters.{seccomp_lines}
@@ -56,13 +55,7 @@ need_part s = record {
 -- ---- indented lines
 
 finding_indented : (f : Finding) → is_indented (finding_line f) ≡ true
-finding_indented (Cap set number) = refl
-finding_indented NoSeccomp = refl
-finding_indented AnyArch = refl
-finding_indented (Arch text) = refl
-finding_indented (Flag text) = refl
-finding_indented (Call name) = refl
-finding_indented Default = refl
+finding_indented f = refl
 
 vote_indented : (v : VoteRow) → is_indented (vote_line v) ≡ true
 vote_indented v = refl

@@ -10,19 +10,27 @@ use Rattle.review_policy.specs.declared.denial.Need.TheVariants.{One, TwoWithSec
 use Rattle.review_policy.specs.declared.revision.VoteRow.{VoteRow}
 use Rattle.widening.specs.declared.finding.Finding.{Finding}
 use Rattle.widening.specs.declared.finding.Finding.TheVariants.{Cap, NoSeccomp, AnyArch, Arch, Flag, Call, Default}
-use Rattle.review_sheet.specs.Layout.{items_text}
+use Rattle.review_sheet.specs.Layout.{items_text, joined}
 
 -- ---- findings
 
--- a finding; a capability by the name of the one member of its set
+-- the words of a finding; a capability by the name of the one member of its set
+abbrev pub finding_text : Finding → List ℕ
+finding_text (Cap set number) = codes "capability " ++ set_name set ++ codes " " ++ items_text (names_of (single number))
+finding_text NoSeccomp = codes "no-seccomp"
+finding_text AnyArch = codes "architecture any"
+finding_text (Arch text) = codes "architecture " ++ text
+finding_text (Flag text) = codes "flag " ++ text
+finding_text (Call name) = codes "call " ++ name
+finding_text Default = codes "default"
+
+-- findings alone, a line each
+abbrev pub findings_text : List Finding → List ℕ
+findings_text found = joined (map finding_text found)
+
+-- the line of a finding on a sheet
 abbrev pub finding_line : Finding → List ℕ
-finding_line (Cap set number) = codes "  capability " ++ set_name set ++ codes " " ++ items_text (names_of (single number))
-finding_line NoSeccomp = codes "  no-seccomp"
-finding_line AnyArch = codes "  architecture any"
-finding_line (Arch text) = codes "  architecture " ++ text
-finding_line (Flag text) = codes "  flag " ++ text
-finding_line (Call name) = codes "  call " ++ name
-finding_line Default = codes "  default"
+finding_line finding = codes "  " ++ finding_text finding
 
 unfoldable pub findings_lines : List Finding → List (List ℕ)
 findings_lines found = (codes "findings: " ++ decimal (length found)) ∷ map finding_line found

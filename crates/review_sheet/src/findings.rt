@@ -1,20 +1,35 @@
-//! The lines of the findings, of the listed capabilities and of the need.
+//! The words of the findings, and the lines of the findings, of the listed capabilities and of the need.
 
-ghost use Rattle.std.specs.Prelude.{◌≡◌, ◌++◌, ◌∷◌, ◌==◌, [], not, OnOk, codes, map};
+ghost use Rattle.std.specs.Prelude.{◌≡◌, ◌++◌, ◌∷◌, ◌==◌, [], not, IfOk, OnOk, codes, map, string_bytes};
 ghost use Rattle.std.specs.Int.RustNames.{bit_and};
 ghost use Rattle.cap_sets.specs.Capability.{names_of, single};
 ghost use Rattle.profile_text.specs.Sets.{set_name};
 ghost use Rattle.review_policy.specs.Rules.{need_of};
 ghost use Rattle.review_sheet.specs.Layout.{Adds, AddsLines, ended};
-ghost use Rattle.review_sheet.specs.Review.{all_sets, finding_line, findings_lines, need_text};
+ghost use Rattle.review_sheet.specs.Review.{all_sets, finding_line, finding_text, findings_lines, findings_text, need_text};
 ghost use Rattle.review_sheet.specs.Sets.{set_line};
 ghost use Rattle.widening.specs.declared.finding.Finding.TheVariants as finding;
 
 use crate::layout::{push_count, push_line, push_names_line, push_set};
 use cap_sets::{CapState, Caps};
 use review_policy::{Need, need};
-use std::alloc::AllocError;
+use std::alloc::{AllocError, Global};
 use widening::{CapSet, Finding};
+
+/// The words of findings, each ended by a line feed, in order: their lines on a sheet without the two spaces in front.
+///
+/// # Errors
+///
+/// Memory was refused.
+pub fn findings_text(alloc: Global, found: &[Finding]) -> Result<String, AllocError>
+    ensures { IfOk result (λ text. string_bytes text ≡ findings_text found.now) }
+{
+    let mut text = String::new(alloc);
+    for finding in found {
+        push_finding(&mut text, finding)?;
+    }
+    Ok(text)
+}
 
 /// Adds the findings.
 pub(crate) fn push_findings(text: &mut String, found: &[Finding]) -> Result<(), AllocError>
@@ -30,23 +45,31 @@ fn push_each(text: &mut String, found: &[Finding]) -> Result<(), AllocError>
     ensures { OnOk result (AddsLines text.old text.new (map finding_line found.now)) }
 {
     for finding in found {
-        push_finding(text, finding)?;
+        push_indented(text, finding)?;
     }
     Ok(())
 }
 
-// Adds a finding.
-fn push_finding(text: &mut String, finding: &Finding) -> Result<(), AllocError>
+// Adds the line of a finding.
+fn push_indented(text: &mut String, finding: &Finding) -> Result<(), AllocError>
     ensures { OnOk result (Adds text.old text.new (ended (finding_line finding.now))) }
+{
+    text.push_str("  ")?;
+    push_finding(text, finding)
+}
+
+// Adds the words of a finding, and a line feed.
+fn push_finding(text: &mut String, finding: &Finding) -> Result<(), AllocError>
+    ensures { OnOk result (Adds text.old text.new (ended (finding_text finding.now))) }
 {
     match finding {
         Finding::Cap(set, number) => push_capability(text, *set, *number),
-        Finding::NoSeccomp => text.push_str("  no-seccomp\n"),
-        Finding::AnyArch => text.push_str("  architecture any\n"),
-        Finding::Arch(arch) => push_line(text, "  architecture ", arch.as_str()),
-        Finding::Flag(flag) => push_line(text, "  flag ", flag.as_str()),
-        Finding::Call(call) => push_line(text, "  call ", call.as_str()),
-        Finding::Default => text.push_str("  default\n"),
+        Finding::NoSeccomp => text.push_str("no-seccomp\n"),
+        Finding::AnyArch => text.push_str("architecture any\n"),
+        Finding::Arch(arch) => push_line(text, "architecture ", arch.as_str()),
+        Finding::Flag(flag) => push_line(text, "flag ", flag.as_str()),
+        Finding::Call(call) => push_line(text, "call ", call.as_str()),
+        Finding::Default => text.push_str("default\n"),
     }
 }
 
@@ -63,12 +86,12 @@ fn capability(number: u8) -> Caps
     }
 }
 
-// Adds a capability of a set.
+// Adds the words of a capability of a set, and a line feed.
 fn push_capability(text: &mut String, set: CapSet, number: u8) -> Result<(), AllocError>
-    ensures { OnOk result (Adds text.old text.new (ended (finding_line (finding.Cap set number)))) }
+    ensures { OnOk result (Adds text.old text.new (ended (finding_text (finding.Cap set number)))) }
 {
     let name = set.name();
-    write!(text, "  capability {name} ")?;
+    write!(text, "capability {name} ")?;
     push_names_line(text, capability(number))?;
     Ok(())
 }

@@ -14,6 +14,7 @@ mod sheet_text;
 mod votes;
 
 pub use facts::SheetFacts;
+pub use findings::findings_text;
 pub use laws::{
     a_sheet_of_a_profile_without_a_filter, approvals_and_rejections_are_the_votes_that_say_so,
     each_line_ends_with_a_line_feed, findings_and_need_are_those_of_the_comparison_and_the_policy,

@@ -1,9 +1,12 @@
 // What the program says.
 
+use crate::tests::databases::{Closing, InMemory};
 use crate::tests::shelf::{Shelf, Then};
-use office_commands::run_words;
+use office_commands::{Databases, run_words};
+use sqlite::{Alter, Connection};
 use std::alloc::{AllocError, Global};
 use std::fs::Files;
+use std::io::Read;
 use std::process::Abort;
 use std::test::Fail;
 
@@ -25,18 +28,38 @@ pub fn words_of(alloc: Global, texts: &[&str]) -> Result<Vec<String>, AllocError
     Ok(words)
 }
 
-// What it says to the words over these files, with an empty input.
-pub fn said_over<F: Files>(files: &F, alloc: Global, texts: &[&str]) -> Result<Said, Fail> {
+// What it says to the words over these files, databases and input.
+pub fn said_with<F: Files, S: Alter + Drop, D: Databases<Database = Connection<S>>, I: Read>(
+    files: &F,
+    databases: &D,
+    alloc: Global,
+    texts: &[&str],
+    input: &mut I,
+) -> Result<Said, Fail> {
     let words = words_of(alloc, texts)?;
-    let mut input: &[u8] = b"";
     let mut output = Vec::new(alloc);
     let mut errors = Vec::new(alloc);
-    let status = run_words(files, alloc, &words, &mut input, &mut output, &mut errors);
+    let status = run_words(
+        files,
+        databases,
+        alloc,
+        &words,
+        input,
+        &mut output,
+        &mut errors,
+    );
     Ok(Said {
         status,
         output,
         errors,
     })
+}
+
+// What it says to the words over these files, with an empty input.
+pub fn said_over<F: Files>(files: &F, alloc: Global, texts: &[&str]) -> Result<Said, Fail> {
+    let closing = Closing::Done;
+    let databases = InMemory { alloc, closing };
+    said_with(files, &databases, alloc, texts, &mut b"".as_slice())
 }
 
 // What it says to the words where web.json has these bytes.

@@ -1,3 +1,4 @@
+use crate::tests::databases::{Closing, InMemory};
 use crate::tests::said::{assert_said, said_of, words_of};
 use crate::tests::shelf::{PATH, Shelf, Then};
 use office_commands::run_words;
@@ -71,7 +72,17 @@ fn without_words_it_is_the_trial_desk(rt: HostRuntime) -> Result<(), Fail> {
         br#"{"ask":"show","token":"abc","team":"blue","profile":"web","revision":1}"#;
     let mut output = Vec::new(alloc);
     let mut errors = Vec::new(alloc);
-    let status = run_words(&shelf, alloc, &words, &mut input, &mut output, &mut errors);
+    let closing = Closing::Done;
+    let databases = InMemory { alloc, closing };
+    let status = run_words(
+        &shelf,
+        &databases,
+        alloc,
+        &words,
+        &mut input,
+        &mut output,
+        &mut errors,
+    );
     assert_eq!(rt; status, 0);
     let wanted: &[u8] = br#"{"answer":"denied","rule":2,"word":"role-missing"}
 "#;
@@ -96,7 +107,17 @@ fn an_output_that_fails_is_told(rt: HostRuntime) -> Result<(), Fail> {
         let words = words_of(alloc, texts)?;
         let mut input: &[u8] = b"";
         let mut errors = Vec::new(alloc);
-        let status = run_words(&shelf, alloc, &words, &mut input, &mut Closed, &mut errors);
+        let closing = Closing::Done;
+        let databases = InMemory { alloc, closing };
+        let status = run_words(
+            &shelf,
+            &databases,
+            alloc,
+            &words,
+            &mut input,
+            &mut Closed,
+            &mut errors,
+        );
         assert_eq!(rt; status, 1);
         let wanted: &[u8] = b"office: write\n";
         assert_eq!(rt; errors.as_slice(), wanted);

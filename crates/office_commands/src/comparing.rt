@@ -1,0 +1,46 @@
+//! `compare`: what one document permits more than another.
+
+use crate::fault::CommandFault;
+use counted_io::Counted;
+use profile_commands::compare_documents;
+use std::alloc::Global;
+use std::fs::Files;
+use std::io::{ErrorKind, Read};
+use std::{fs, io};
+
+// A file, or what stands for one that can't be opened: a reader that fails.
+#[derive(Drop)]
+enum Source<T: Drop> {
+    Opened(T),
+    Unopened,
+}
+
+impl<T: Read + Drop> Read for Source<T> {
+    fn read(&mut self, buf: &mut [u8]) -> io::Result<usize> {
+        match self {
+            Source::Opened(file) => file.read(buf),
+            Source::Unopened => Err(io::Error::from(ErrorKind::NotFound)),
+        }
+    }
+}
+
+// The file at this path, for reading.
+fn reader_at<F: Files>(files: &F, path: &str) -> Source<F::File> {
+    match fs::open(files, path) {
+        Ok(file) => Source::Opened(file),
+        Err(_) => Source::Unopened,
+    }
+}
+
+/// What the document in the file `new` permits more than that in `base`, a line for each finding.
+pub(crate) fn compare_files<F: Files>(
+    files: &F,
+    alloc: Global,
+    base: &str,
+    new: &str,
+) -> Result<String, CommandFault> {
+    let mut base = Counted::new(reader_at(files, base));
+    let mut new = Counted::new(reader_at(files, new));
+    let text = compare_documents(alloc, &mut base, &mut new)?;
+    Ok(text)
+}

@@ -1,0 +1,80 @@
+//! Opening what stands at a path, and closing an office.
+
+ghost use Rattle.std.specs.Prelude.{◌≡◌, IfErr, IfOk};
+ghost use Rattle.sqlite.specs.Held.{state};
+ghost use Rattle.office_store.specs.Shown.{IsIdle};
+ghost use Rattle.office_commands.specs.Openings.{fault_of_opening};
+
+use crate::databases::Databases;
+use crate::fault::CommandFault;
+use office_desk::Office;
+use office_rows::fault_of;
+use office_tables::StoreFault;
+use sqlite::{Alter, Connection, Error, ErrorCode};
+use std::fs;
+use std::fs::Files;
+
+// Why what stands at a path isn't opened.
+fn fault_of_opening(error: Error) -> StoreFault
+    ensures { result ≡ fault_of_opening error }
+{
+    match error {
+        Error::SqliteFailure(ErrorCode::NotADatabase) => StoreFault::NotAnOffice,
+        error => fault_of(error),
+    }
+}
+
+/// Whether something stands at a path.
+///
+/// # Errors
+///
+/// `Disk` where that can't be told.
+pub(crate) fn is_there<F: Files>(files: &F, path: &str) -> Result<bool, StoreFault>
+    ensures { IfErr result (λ fault. fault ≡ StoreFault.Disk) }
+{
+    match fs::exists(files, path) {
+        Ok(is_there) => Ok(is_there),
+        Err(_) => Err(StoreFault::Disk),
+    }
+}
+
+/// Opens the database at a path, and makes an empty one where nothing is there.
+///
+/// # Errors
+///
+/// `NotAnOffice` where what is there is no database; `Disk` also where another connection has it open.
+pub(crate) fn open<S: Alter + Drop, D: Databases<Database = Connection<S>>>(
+    databases: &D,
+    path: &str,
+) -> Result<Connection<S>, StoreFault>
+    ensures idle { IfOk result (λ conn. IsIdle (state S.Store conn)) }
+{
+    match databases.open(path) {
+        Ok(mut conn) => {
+            conn.set_step_limit(None);
+            if conn.is_autocommit() {
+                Ok(conn)
+            } else {
+                Err(StoreFault::Disk)
+            }
+        }
+        Err(error) => Err(fault_of_opening(error)),
+    }
+}
+
+/// Closes an office, so that all of it stands in one file.
+///
+/// # Errors
+///
+/// `Close`. What was answered then stands in the file and its log.
+pub(crate) fn close<S: Alter, D: Databases<Database = Connection<S>>>(
+    databases: &D,
+    office: Office<S>,
+) -> Result<(), CommandFault>
+    ensures { IfErr result (λ fault. fault ≡ CommandFault.Close) }
+{
+    match databases.close(office.into_connection()) {
+        Ok(()) => Ok(()),
+        Err(_) => Err(CommandFault::Close),
+    }
+}

@@ -1,0 +1,110 @@
+//! The command `compare`.
+
+ghost use Rattle.std.specs.Prelude.{◌≡◌, ◌^◌, ◌≤◌, IfErr, IfOk, IfSome, string_bytes};
+ghost use Rattle.review_sheet.specs.Review.{findings_text};
+ghost use Rattle.widening.specs.Findings.{findings_of};
+ghost use Rattle.profile_commands.specs.Comparing.{AgreesWithBase, AgreesWithNew, IsBase, IsCompared, IsNew, HidesNoMemory};
+
+use crate::document::read_document;
+use crate::fault::FileFault;
+use counted_io::Counted;
+use profile_text::Profile;
+use review_sheet::findings_text;
+use std::alloc::{AllocError, Global};
+use std::io::Read;
+use thiserror::Error;
+use widening::findings;
+
+/// Why two documents weren't compared, with the words that the program says on standard error.
+#[derive(Debug, Drop, Error)]
+pub enum ComparedFault {
+    /// BASE wasn't read, or is no document: why, which is never want of memory.
+    #[error("base: {0}")]
+    Base(FileFault),
+    /// NEW wasn't read, or is no document: why, which is never want of memory.
+    #[error("new: {0}")]
+    New(FileFault),
+    /// Memory was refused. No contract can say when: it may stand in place of any answer.
+    #[error("memory")]
+    NoMemory,
+}
+
+impl From<AllocError> for ComparedFault {
+    ghost use Rattle.std.specs.Prelude.{◌≡◌};
+    ghost use Rattle.profile_commands.specs.declared.compare.ComparedFault.TheVariants.{NoMemory};
+
+    ghost from_gives = { λ _ fault. fault ≡ NoMemory };
+
+    fn from(_error: AllocError) -> ComparedFault {
+        ComparedFault::NoMemory
+    }
+}
+
+impl ComparedFault {
+    ghost use Rattle.profile_commands.specs.Comparing.{IsToldOfBase, IsToldOfNew};
+
+    // What is told where BASE wasn't read.
+    fn of_base(fault: FileFault) -> ComparedFault
+        ensures { IsToldOfBase fault result }
+    {
+        match fault {
+            FileFault::NoMemory => ComparedFault::NoMemory,
+            fault => ComparedFault::Base(fault),
+        }
+    }
+
+    // What is told where NEW wasn't read.
+    fn of_new(fault: FileFault) -> ComparedFault
+        ensures { IsToldOfNew fault result }
+    {
+        match fault {
+            FileFault::NoMemory => ComparedFault::NoMemory,
+            fault => ComparedFault::New(fault),
+        }
+    }
+}
+
+// The words of what one profile permits more than another, a line each.
+fn compared_text(alloc: Global, base: &Profile, new: &Profile) -> Result<String, AllocError>
+    ensures { IfOk result (λ text. string_bytes text ≡ findings_text (findings_of base.now new.now)) }
+{
+    let found = findings(alloc, base, new)?;
+    findings_text(alloc, found.as_slice())
+}
+
+/// What the document in NEW permits more than that in BASE: a line for each finding, in order, in the words of a review
+/// sheet. The text is empty where nothing is more permissive.
+///
+/// BASE is read first, and NEW isn't where BASE is refused.
+///
+/// # Errors
+///
+/// Those of `read_document`, each told of the document that it is of, but `NoMemory` of neither.
+pub fn compare_documents<R: Read, S: Read>(
+    alloc: Global,
+    base: &mut Counted<R>,
+    new: &mut Counted<S>,
+) -> Result<String, ComparedFault>
+    requires base_calls { base.old.calls ≤ 2 ^ 62 }
+    requires base_faults { base.old.faults ≤ 2 ^ 62 }
+    requires new_calls { new.old.calls ≤ 2 ^ 62 }
+    requires new_faults { new.old.faults ≤ 2 ^ 62 }
+    ensures base { IfSome (R.remaining base.old.inner) (λ bytes. IsBase bytes result) }
+    ensures new { IfSome (S.remaining new.old.inner) (λ bytes. IsNew bytes result) }
+    ensures compared { IfSome (R.remaining base.old.inner) (λ old. IfSome (S.remaining new.old.inner)
+        (λ shown. IfOk result (IsCompared old shown))) }
+    ensures memory { IfErr result HidesNoMemory }
+    ensures base_reads { AgreesWithBase base.old.calls base.new.calls base.old.faults base.new.faults result }
+    ensures new_reads { AgreesWithNew new.old.calls new.new.calls new.old.faults new.new.faults result }
+{
+    let base_document = match read_document(alloc, base) {
+        Ok(document) => document,
+        Err(fault) => return Err(ComparedFault::of_base(fault)),
+    };
+    let new_document = match read_document(alloc, new) {
+        Ok(document) => document,
+        Err(fault) => return Err(ComparedFault::of_new(fault)),
+    };
+    let text = compared_text(alloc, &base_document.profile, &new_document.profile)?;
+    Ok(text)
+}
