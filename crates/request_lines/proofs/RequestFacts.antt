@@ -23,9 +23,19 @@ use Rattle.request_lines.specs.declared.fault.LineFault.TheVariants.{NotJson, No
 use Rattle.request_lines.specs.Faults.{Gives, Reads}
 use Rattle.request_lines.specs.Members.{◌>>=◌, roles_of}
 use Rattle.request_lines.specs.Plain.{PlainRequest, plain}
-use Rattle.request_lines.specs.Requests.{asked, request_at, request_in, request_of, or_not_a_request}
+use Rattle.request_lines.specs.Requests.{asked, request_at, request_in, request_of, or_not_a_request, value_of}
 
 -- ---- the value of a line
+
+pub value_is : (bytes : List ℕ) (d : Data) → IsUtf8 bytes → read bytes ≡ Some d → value_of bytes ≡ Some d
+value_is bytes d text e = rw (is_utf8-from_IsUtf8 bytes text) e
+
+pub value_is_none : (bytes : List ℕ) → (IsUtf8 bytes → read bytes ≡ None) → value_of bytes ≡ None
+value_is_none bytes h =
+    elim (cases_Bool (is_utf8 bytes)) as (λ _. cond (is_utf8 bytes) (read bytes) None ≡ None) [
+      | inl text ↦ rw text (h (IsUtf8-from_is_utf8 bytes text))
+      | inr wrong ↦ rw wrong refl
+    ]
 
 pub line_is : (line : List ℕ) (d : Data) → IsUtf8 line → read line ≡ Some d → request_in line ≡ or_not_a_request (request_at d)
 unfolding request_in

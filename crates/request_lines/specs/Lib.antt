@@ -4,4 +4,5 @@ pub mod Kinds
 pub mod Plain
 pub mod Members
 pub mod Requests
+pub mod Bodies
 pub mod Faults

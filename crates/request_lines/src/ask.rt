@@ -33,7 +33,7 @@ pub(crate) fn ask_of(alloc: Global, kind: Kind, value: &Value) -> Result<Ask, Li
 }
 
 #[tactic(auto, unfolding(crate::specs::Requests::enrol_at))]
-fn enrol_of(alloc: Global, value: &Value) -> Result<Ask, LineFault>
+pub(crate) fn enrol_of(alloc: Global, value: &Value) -> Result<Ask, LineFault>
     ensures { Gives plain_ask result (enrol_at (view value.now)) }
 {
     let user = word_of(alloc, value, "user")?;

@@ -1,7 +1,11 @@
 //! The answers to lines that are no requests.
 
-ghost use Rattle.std.specs.Prelude.{◌≡◌};
-ghost use Rattle.request_lines.specs.Bad.{bad_word, bad_line};
+ghost use Rattle.std.specs.Prelude.{◌≡◌, IfOk, string_bytes};
+ghost use Rattle.serde_json.specs.View.{view};
+ghost use Rattle.request_lines.specs.Bad.{bad_data, bad_text, bad_word, bad_line};
+
+use serde_json::{Value, json};
+use std::alloc::{AllocError, Global};
 
 /// Why a line is no request.
 #[derive(Clone, Copy, Debug, PartialEq, Eq)]
@@ -12,6 +16,27 @@ pub enum BadLine {
     NotJson,
     /// It is JSON, and not of the form of a request.
     NotARequest,
+}
+
+// The answer that names a word as bad.
+fn bad_value(alloc: Global, word: &str) -> Result<Value, AllocError>
+    ensures { IfOk result (λ v. view v ≡ bad_data word.now) }
+{
+    json!(in alloc; {"answer": "bad", "word": word})
+}
+
+/// The text of the answer that names a word as bad: JSON with no space, its members in byte order.
+///
+/// # Errors
+///
+/// Memory was refused.
+#[tactic(auto, unfolding(crate::specs::Bad::bad_text))]
+pub fn bad_text(alloc: Global, word: &str) -> Result<String, AllocError>
+    ensures { IfOk result (λ text. string_bytes text ≡ bad_text word.now) }
+{
+    let value = bad_value(alloc, word)?;
+    let text = value.to_string(alloc)?;
+    Ok(text)
 }
 
 impl BadLine {

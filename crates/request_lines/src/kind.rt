@@ -64,8 +64,8 @@ impl Kind {
         name == "ask" || name == "token" || self.has_own_member(name)
     }
 
-    // The same, apart from the members that every line has.
-    fn has_own_member(self, name: &str) -> bool
+    /// The same, apart from the members that every line has.
+    pub(crate) fn has_own_member(self, name: &str) -> bool
         ensures { result ≡ has_own_member self name.now }
     {
         match self {

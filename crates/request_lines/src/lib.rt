@@ -4,6 +4,7 @@
 pub mod answer;
 mod ask;
 pub mod bad;
+mod body;
 mod denial;
 pub mod fault;
 pub mod kind;
@@ -11,7 +12,8 @@ mod member;
 pub mod request;
 
 pub use answer::{answer_text, line};
-pub use bad::BadLine;
+pub use bad::{BadLine, bad_text};
+pub use body::{read_enrol, read_vote};
 pub use fault::LineFault;
 pub use kind::Kind;
 pub use request::read_line;
