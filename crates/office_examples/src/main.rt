@@ -12,11 +12,17 @@ mod tests;
 use crate::said::said_to;
 use crate::shown::shown_in;
 use anyhow::{Result, bail};
-use std::io;
+use std::{fs, io};
+
+// The office that the documents found, as an earlier run left it.
+const FOUNDED: [&str; 2] = ["team.db", "team.db-wal"];
 
 fn main(rt: HostRuntime) -> Result<()> {
     let text = io::read_to_string(rt.alloc(), rt.reader())?;
     let all = shown_in(rt.alloc(), text.as_str())?;
+    for path in FOUNDED {
+        let _ = fs::remove_file(&rt, path);
+    }
     let mut status = 0u8;
     let mut differ = 0usize;
     for shown in &all {
