@@ -18,7 +18,8 @@ fn filters_are_read_and_printed_again(rt: HostRuntime) -> Result<(), Fail> {
     let text =
         r#"{"capabilities":{"ambient":[],"bounding":[],"effective":["CAP_CHOWN","CAP_KILL"],"inheritable":[],"permitted":["CAP_CHOWN","CAP_KILL"]},"seccomp":{"defaultAction":"SCMP_ACT_KILL_THREAD","syscalls":[{"action":"SCMP_ACT_ERRNO","errnoRet":1,"names":["clone3"]}]}}"#;
     for document in [
-        r#"{"seccomp":{"defaultAction":"SCMP_ACT_KILL","syscalls":[{"names":["clone3"],"action":"SCMP_ACT_ERRNO","args":null}]},"capabilities":{"effective":["CAP_KILL","CAP_CHOWN","CAP_KILL"],"permitted":["CAP_CHOWN","CAP_KILL"]}}"#,
+        r#"{"seccomp":{"defaultAction":"SCMP_ACT_KILL","syscalls":[{"names":["clone3"],"action":"SCMP_ACT_ERRNO","args":null}]},
+            "capabilities":{"effective":["CAP_KILL","CAP_CHOWN","CAP_KILL"],"permitted":["CAP_CHOWN","CAP_KILL"]}}"#,
         text,
     ] {
         assert_eq!(rt;
@@ -132,7 +133,8 @@ fn the_first_fault_of_a_filter_is_told(rt: HostRuntime) -> Result<(), Fail> {
             "bad-call-name",
         ),
         (
-            r#"{"defaultAction":"SCMP_ACT_LOG","syscalls":[{"action":"SCMP_ACT_ALLOW","names":["clone3"]},{"action":"SCMP_ACT_ERRNO","errnoRet":38,"names":["clone3"]}]}"#,
+            r#"{"defaultAction":"SCMP_ACT_LOG","syscalls":[{"action":"SCMP_ACT_ALLOW","names":["clone3"]},
+                {"action":"SCMP_ACT_ERRNO","errnoRet":38,"names":["clone3"]}]}"#,
             "two-actions clone3",
         ),
     ] {
@@ -146,7 +148,8 @@ fn an_absent_error_number_is_1(rt: HostRuntime) -> Result<(), Fail> {
     let alloc = rt.alloc();
     let text = told_of(
         alloc,
-        r#"{"defaultAction":"SCMP_ACT_ERRNO","syscalls":[{"action":"SCMP_ACT_ERRNO","names":["clone3"]},{"action":"SCMP_ACT_ERRNO","errnoRet":1,"names":["clone3"]}]}"#,
+        r#"{"defaultAction":"SCMP_ACT_ERRNO","syscalls":[{"action":"SCMP_ACT_ERRNO","names":["clone3"]},
+            {"action":"SCMP_ACT_ERRNO","errnoRet":1,"names":["clone3"]}]}"#,
     )?;
     let filter =
         r#"{"defaultAction":"SCMP_ACT_ERRNO","defaultErrnoRet":1,"syscalls":[{"action":"SCMP_ACT_ERRNO","errnoRet":1,"names":["clone3"]},{"action":"SCMP_ACT_ERRNO","errnoRet":1,"names":["clone3"]}]}"#;
@@ -189,7 +192,8 @@ fn the_walk_comes_before_the_sets_and_these_before_the_filter(rt: HostRuntime) -
 #[test]
 fn no_fault_but_memory_is_told_of_a_filter(rt: HostRuntime) -> Result<(), Fail> {
     let document =
-        r#"{"capabilities":{},"seccomp":{"architectures":["SCMP_ARCH_X86"],"defaultAction":"SCMP_ACT_LOG","flags":["SECCOMP_FILTER_FLAG_LOG"],"syscalls":[{"action":"SCMP_ACT_ALLOW","args":[{"index":0,"op":"SCMP_CMP_EQ","value":1}],"names":["read"]}]}}"#;
+        r#"{"capabilities":{},"seccomp":{"architectures":["SCMP_ARCH_X86"],"defaultAction":"SCMP_ACT_LOG",
+        "flags":["SECCOMP_FILTER_FLAG_LOG"],"syscalls":[{"action":"SCMP_ACT_ALLOW","args":[{"index":0,"op":"SCMP_CMP_EQ","value":1}],"names":["read"]}]}}"#;
     let kept = match read(rt.alloc(), document.as_bytes()) {
         Ok(profile) => profile.filter.is_some(),
         Err(fault) => matches!(&fault, DocFault::NoMemory),
@@ -208,7 +212,8 @@ fn the_first_name_of_two_actions_is_told(rt: HostRuntime) -> Result<(), Fail> {
             "two-actions c",
         ),
         (
-            r#"{"action":"SCMP_ACT_ALLOW","names":["a"]},{"action":"SCMP_ACT_LOG","names":["b"]},{"action":"SCMP_ACT_ALLOW","names":["a","a","b"]},{"action":"SCMP_ACT_LOG","names":["a"]}"#,
+            r#"{"action":"SCMP_ACT_ALLOW","names":["a"]},{"action":"SCMP_ACT_LOG","names":["b"]},
+                {"action":"SCMP_ACT_ALLOW","names":["a","a","b"]},{"action":"SCMP_ACT_LOG","names":["a"]}"#,
             "two-actions b",
         ),
         (
