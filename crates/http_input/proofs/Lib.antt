@@ -1,0 +1,2 @@
+pub mod HeadFacts
+pub mod HearFacts
