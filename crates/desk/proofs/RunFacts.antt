@@ -43,7 +43,7 @@ none_last (Done reply ∷ told) a P none p = absurd none
 none_last (Denied denial fault ∷ told) a P none p = none_last told a P none p
 none_last (Fault fault ∷ told) a P none p = none_last told a P none p
 
-run_more : (old mid new : State) (rs : List Request) (told : List Answer) (r : Request) (a : Answer) → HaveRun old mid rs told → IsHandled mid new r a
+pub run_more : (old mid new : State) (rs : List Request) (told : List Answer) (r : Request) (a : Answer) → HaveRun old mid rs told → IsHandled mid new r a
     → HaveRun old new (rs ++ r ∷ []) (told ++ a ∷ [])
 run_more old mid new rs told r a ran step = record {
   count = omega (arith, ran.count, length-append rs (r ∷ []), length-append told (a ∷ []));

@@ -1,0 +1,71 @@
+//! What came of an exchange.
+
+ghost use Rattle.std.specs.Prelude.{◌≡◌, ◌≤◌, ◌<◌, ◌-◌, ◌^◌};
+ghost use Rattle.sqlite.specs.Held.{state};
+ghost use Rattle.office_desk.specs.Handled.{IsHandled};
+
+use crate::fault::HttpFault;
+use counted_io::Counted;
+use http_answers::status_of;
+use http_input::{Refusal, Unheard, hear};
+use http_message::Status;
+use office_desk::Office;
+use review_policy::{Answer, Request};
+use sqlite::Alter;
+use std::alloc::Global;
+use std::io::Read;
+
+/// What came of an exchange.
+#[derive(Debug, Drop)]
+pub enum Outcome {
+    /// What came is no request.
+    Refused(Refusal),
+    /// There was no memory to read it.
+    NoMemory,
+    /// The request that it asks was answered.
+    Answered { request: Request, answer: Answer },
+}
+
+impl Outcome {
+    ghost use Rattle.desk_http.specs.Outcomes.{told_status};
+    ghost use Rattle.desk_http.specs.Served.{HasOutcome, ReadCounts};
+
+    // Hears the request that a stream begins with, and handles it.
+    pub(crate) fn of_stream<S: Alter, R: Read>(
+        office: &mut Office<S>,
+        alloc: Global,
+        reader: &mut Counted<R>,
+        most_calls: u64,
+    ) -> Result<Outcome, HttpFault>
+        requires countable { most_calls < 2 ^ 64 - 1 }
+        requires calls { reader.old.calls ≤ most_calls }
+        ensures outcome { HasOutcome (office.new ≡ office.old) (IsHandled (state S.Store office.old) (state S.Store office.new))
+            (R.remaining reader.old.inner) (R.remaining reader.new.inner)
+            result }
+        ensures read { ReadCounts reader.old.calls reader.new.calls most_calls reader.old.faults reader.new.faults result }
+        ensures calls { reader.new.calls ≤ most_calls }
+    {
+        match hear(alloc, reader, most_calls) {
+            Ok(request) => {
+                let answer = office.handle(alloc, &request);
+                Ok(Outcome::Answered { request, answer })
+            }
+            Err(Unheard::Refused(refusal)) => Ok(Outcome::Refused(refusal)),
+            Err(Unheard::NoMemory) => Ok(Outcome::NoMemory),
+            Err(Unheard::Ended) => Err(HttpFault::Ended),
+            Err(Unheard::Failed) => Err(HttpFault::Read),
+            Err(Unheard::TooManyReads) => Err(HttpFault::TooManyReads),
+        }
+    }
+
+    // The status of the response that tells it.
+    pub(crate) fn status(&self) -> Status
+        ensures { result ≡ told_status self.now }
+    {
+        match self {
+            Outcome::Refused(refusal) => refusal.status(),
+            Outcome::NoMemory => Status::ServiceUnavailable,
+            Outcome::Answered { request: _, answer } => status_of(answer),
+        }
+    }
+}
