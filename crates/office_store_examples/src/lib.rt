@@ -14,3 +14,5 @@ mod memory;
 mod rows;
 #[cfg(test)]
 mod shared;
+#[cfg(test)]
+mod store;

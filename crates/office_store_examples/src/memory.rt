@@ -2,7 +2,8 @@
 // refusal each call is made.
 
 use crate::shared::{add, found_office};
-use office_store::{FoundingFault, put_user, revision, user_by_name};
+use crate::store::Store;
+use office_store::FoundingFault;
 use office_tables::{RevisionRow, StoreFault, UserRow};
 use review_policy::{ProfileName, Role, Roles, State, Word};
 use sqlite::Connection;
@@ -38,13 +39,13 @@ type Told<T, U> = (Result<T, StoreFault>, Result<Option<U>, StoreFault>);
 
 // Puts ann with the one role in the place of ann with none, and reads her row.
 fn put_again(alloc: Global) -> Result<Told<(), UserRow>, StoreFault> {
-    let mut conn = Connection::open_in_memory(alloc)?;
-    founded(found_office(alloc, &mut conn))?;
+    let mut store = Store::new(Connection::open_in_memory(alloc)?);
+    founded(found_office(alloc, &mut store))?;
     let before = ann(alloc, Roles::empty(), 7)?;
     let after = ann(alloc, Roles::empty().with(Role::Reviewer), 8)?;
-    put_user(&mut conn, &before)?;
-    let answer = put_user(&mut conn, &after);
-    Ok((answer, user_by_name(alloc, &mut conn, &before.name)))
+    store.put_user(&before)?;
+    let answer = store.put_user(&after);
+    Ok((answer, store.user_by_name(alloc, &before.name)))
 }
 
 #[test]
@@ -59,15 +60,15 @@ fn a_user_is_put_or_stays_as_before(rt: HostRuntime) {
 
 // Adds a second revision of a profile, and reads its first.
 fn add_again(alloc: Global) -> Result<Told<u32, RevisionRow>, StoreFault> {
-    let mut conn = Connection::open_in_memory(alloc)?;
-    founded(found_office(alloc, &mut conn))?;
+    let mut store = Store::new(Connection::open_in_memory(alloc)?);
+    founded(found_office(alloc, &mut store))?;
     let web = ProfileName {
         team: word(alloc, "blue")?,
         profile: word(alloc, "web")?,
     };
-    add(alloc, &mut conn, &web, "ann")?;
-    let answer = add(alloc, &mut conn, &web, "ann");
-    Ok((answer, revision(alloc, &mut conn, &web, 1)))
+    add(alloc, &mut store, &web, "ann")?;
+    let answer = add(alloc, &mut store, &web, "ann");
+    Ok((answer, store.revision(alloc, &web, 1)))
 }
 
 #[test]

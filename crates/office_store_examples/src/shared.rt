@@ -1,42 +1,34 @@
 // What the tests share: a new office in memory, and values for its calls.
 
-ghost use Rattle.std.specs.Prelude.{IfOk};
-ghost use Rattle.sqlite.specs.Held.{state};
-ghost use Rattle.sqlite.specs.Steps.{over_memory};
-ghost use Rattle.office_store.specs.Shown.{IsIdle};
-
+use crate::store::Store;
 use cap_sets::Caps;
-use office_store::{FoundingFault, add_revision, found};
+use office_store::FoundingFault;
 use office_tables::{StoreFault, UserRow};
 use review_policy::{ProfileName, Roles, Text, Word};
 use sqlite::{Alter, Connection, MemStore};
 use std::alloc::Global;
+use std::process::Abort;
 use std::test::Fail;
 
 /// Founds an office whose first user is root of the team ops, with the one listed capability CAP_SYS_ADMIN.
 pub(crate) fn found_office<S: Alter>(
     alloc: Global,
-    conn: &mut Connection<S>,
-) -> Result<(), FoundingFault>
-    requires { IsIdle (state S.Store conn.old) }
-    ensures { IsIdle (state S.Store conn.new) }
-{
+    store: &mut Store<S>,
+) -> Result<(), FoundingFault> {
     let (Ok(name), Ok(team)) = (Word::new(alloc, "root"), Word::new(alloc, "ops")) else {
         return Err(FoundingFault::Store(StoreFault::NoMemory));
     };
     let Some(listed) = Caps::from_name("CAP_SYS_ADMIN") else {
         return Err(FoundingFault::Store(StoreFault::NotAnOffice));
     };
-    found(conn, &name, &team, &[1; 32], listed)
+    store.found(&name, &team, &[1; 32], listed)
 }
 
 /// A new office in memory.
-pub(crate) fn office(alloc: Global) -> Result<Connection<MemStore>, Fail>
-    ensures { IfOk result (λ conn. IsIdle (state over_memory conn)) }
-{
-    let mut conn = Connection::open_in_memory(alloc)?;
-    found_office(alloc, &mut conn)?;
-    Ok(conn)
+pub(crate) fn office(alloc: Global) -> Result<Store<MemStore>, Fail> {
+    let mut store = Store::new(Connection::open_in_memory(alloc)?);
+    found_office(alloc, &mut store)?;
+    Ok(store)
 }
 
 pub(crate) fn word(alloc: Global, text: &str) -> Result<Word, Fail> {
@@ -63,15 +55,26 @@ pub(crate) fn user(alloc: Global, name: &str, bits: u8, byte: u8) -> Result<User
 /// Adds a revision by this author, and answers its number.
 pub(crate) fn add<S: Alter>(
     alloc: Global,
-    conn: &mut Connection<S>,
+    store: &mut Store<S>,
     name: &ProfileName,
     author: &str,
-) -> Result<u32, StoreFault>
-    requires { IsIdle (state S.Store conn.old) }
-    ensures { IsIdle (state S.Store conn.new) }
-{
+) -> Result<u32, StoreFault> {
     let (Ok(author), Ok(body)) = (Word::new(alloc, author), String::from_str(alloc, "{}")) else {
         return Err(StoreFault::NoMemory);
     };
-    add_revision(alloc, conn, name, author, Text::new(body), [7; 32])
+    store.add_revision(alloc, name, author, Text::new(body), [7; 32])
+}
+
+/// Adds a revision by each of these authors in turn: they have these numbers.
+pub(crate) fn assert_added(
+    rt: &impl Abort,
+    alloc: Global,
+    store: &mut Store<MemStore>,
+    name: &ProfileName,
+    added: &[(&str, u32)],
+) -> Result<(), Fail> {
+    for (author, number) in added {
+        assert_eq!(rt; add(alloc, store, name, author), Ok(*number), "{author}");
+    }
+    Ok(())
 }
