@@ -10,10 +10,10 @@
 mod call;
 mod fill;
 mod sample;
+mod store;
 mod timed;
 
 use anyhow::{Context, Result, bail};
-use office_store::check_office;
 use sqlite::Connection;
 use std::time::Instant;
 use std::{env, fs};
@@ -40,19 +40,12 @@ fn run(rt: &HostRuntime, path: &str, sizes: &Sizes) -> Result<()> {
     let body = sample::body(rt.alloc(), sizes.size)?;
     fill_timed(rt, path, sizes, body.as_str())?;
     let start = Instant::now(rt)?;
-    let mut conn = Connection::open(rt, path)?;
+    let conn = Connection::open(rt, path)?;
     eprintln!(rt;
         "to open it: {} microseconds",
         start.elapsed(rt)?.as_micros()
     )?;
-    let listed = check_office(&mut conn)?;
-    println!(rt;
-        "{} users, revisions and votes; listed capabilities {:#x}",
-        sizes.count,
-        listed.bits()
-    )?;
-    timed::time_calls(rt, &mut conn, sizes.count, body.as_str())?;
-    conn.close()?;
+    timed::time_office(rt, conn, sizes.count, body.as_str())?.close()?;
     Ok(())
 }
 

@@ -5,6 +5,7 @@ ghost use Rattle.office_store.specs.Shown.{IsIdle};
 
 use crate::call::{READS, Read, WRITES, Write};
 use crate::sample;
+use crate::store::Store;
 use anyhow::Result;
 use review_policy::ProfileName;
 use sqlite::{Alter, Connection};
@@ -37,20 +38,17 @@ fn spread(index: u32, count: u32) -> u32 {
 // Makes a read so often, and answers how often it found something.
 fn read_all<S: Alter>(
     alloc: Global,
-    conn: &mut Connection<S>,
+    store: &mut Store<S>,
     read: Read,
     profiles: Profiles,
     count: u32,
     times: u32,
-) -> Result<u32>
-    requires { IsIdle (state S.Store conn.old) }
-    ensures { IsIdle (state S.Store conn.new) }
-{
+) -> Result<u32> {
     let mut found = 0u32;
     for index in 0..times {
         let user = spread(index, count);
         let profile = profile_of(alloc, profiles, user)?;
-        if read.make(alloc, conn, &profile, user)? {
+        if read.make(alloc, store, &profile, user)? {
             found = found.wrapping_add(1);
         }
     }
@@ -60,20 +58,17 @@ fn read_all<S: Alter>(
 // Makes a write so often.
 fn write_all<S: Alter>(
     alloc: Global,
-    conn: &mut Connection<S>,
+    store: &mut Store<S>,
     write: Write,
     profiles: Profiles,
     count: u32,
     times: u32,
     body: &str,
-) -> Result<()>
-    requires { IsIdle (state S.Store conn.old) }
-    ensures { IsIdle (state S.Store conn.new) }
-{
+) -> Result<()> {
     for index in 0..times {
         let user = spread(index, count);
         let profile = profile_of(alloc, profiles, user)?;
-        write.make(alloc, conn, &profile, user, body)?;
+        write.make(alloc, store, &profile, user, body)?;
     }
     Ok(())
 }
@@ -86,17 +81,14 @@ fn microseconds_each(time: Duration, times: u32) -> u128 {
 // Makes a read about these profiles, and prints what it took.
 fn time_read<S: Alter>(
     rt: &HostRuntime,
-    conn: &mut Connection<S>,
+    store: &mut Store<S>,
     read: Read,
     profiles: Profiles,
     count: u32,
-) -> Result<()>
-    requires { IsIdle (state S.Store conn.old) }
-    ensures { IsIdle (state S.Store conn.new) }
-{
+) -> Result<()> {
     let times = count.min(MOST_TIMES);
     let start = Instant::now(rt)?;
-    let found = read_all(rt.alloc(), conn, read, profiles, count, times)?;
+    let found = read_all(rt.alloc(), store, read, profiles, count, times)?;
     let time = start.elapsed(rt)?;
     println!(rt; "{profiles:?} {read:?}: {found} of {times}")?;
     eprintln!(rt;
@@ -109,18 +101,15 @@ fn time_read<S: Alter>(
 // Makes a write about these profiles, and prints what it took.
 fn time_write<S: Alter>(
     rt: &HostRuntime,
-    conn: &mut Connection<S>,
+    store: &mut Store<S>,
     write: Write,
     profiles: Profiles,
     count: u32,
     body: &str,
-) -> Result<()>
-    requires { IsIdle (state S.Store conn.old) }
-    ensures { IsIdle (state S.Store conn.new) }
-{
+) -> Result<()> {
     let times = count.min(MOST_TIMES);
     let start = Instant::now(rt)?;
-    write_all(rt.alloc(), conn, write, profiles, count, times, body)?;
+    write_all(rt.alloc(), store, write, profiles, count, times, body)?;
     let time = start.elapsed(rt)?;
     eprintln!(rt;
         "{profiles:?} {write:?}: {} microseconds",
@@ -132,32 +121,46 @@ fn time_write<S: Alter>(
 // Makes each call about these profiles.
 fn time_about<S: Alter>(
     rt: &HostRuntime,
-    conn: &mut Connection<S>,
+    store: &mut Store<S>,
     profiles: Profiles,
     count: u32,
     body: &str,
-) -> Result<()>
-    requires { IsIdle (state S.Store conn.old) }
-    ensures { IsIdle (state S.Store conn.new) }
-{
+) -> Result<()> {
     for read in READS {
-        time_read(rt, conn, read, profiles, count)?;
+        time_read(rt, store, read, profiles, count)?;
     }
     for write in WRITES {
-        time_write(rt, conn, write, profiles, count, body)?;
+        time_write(rt, store, write, profiles, count, body)?;
     }
     Ok(())
 }
 
-/// Makes each call on an office of so many users, about short profiles and then about the long one, and prints what it took.
-pub fn time_calls<S: Alter>(
+// Makes each call on an office of so many users, about short profiles and then about the long one, and prints what it took.
+fn time_calls<S: Alter>(
     rt: &HostRuntime,
-    conn: &mut Connection<S>,
+    store: &mut Store<S>,
     count: u32,
     body: &str,
-) -> Result<()>
-    requires { IsIdle (state S.Store conn.old) }
+) -> Result<()> {
+    time_about(rt, store, Profiles::Short, count, "{}")?;
+    time_about(rt, store, Profiles::Long, count, body)
+}
+
+/// Prints what an office of so many users has listed and what each call took, and hands its connection back.
+pub fn time_office<S: Alter + Drop>(
+    rt: &HostRuntime,
+    conn: Connection<S>,
+    count: u32,
+    body: &str,
+) -> Result<Connection<S>>
+    requires { IsIdle (state S.Store conn) }
 {
-    time_about(rt, conn, Profiles::Short, count, "{}")?;
-    time_about(rt, conn, Profiles::Long, count, body)
+    let mut store = Store::new(conn);
+    let listed = store.check_office()?;
+    println!(rt;
+        "{count} users, revisions and votes; listed capabilities {:#x}",
+        listed.bits()
+    )?;
+    time_calls(rt, &mut store, count, body)?;
+    Ok(store.into_connection())
 }
