@@ -4,6 +4,7 @@ use seccomp_doc::{
     ActionWord, ArgParts, Compare, EntryParts, Filter, FilterFault, FilterParts, Op,
 };
 use std::alloc::{AllocError, Global};
+use std::process::Abort;
 use std::test::Fail;
 use widening::{entry_implies, implies};
 
@@ -37,39 +38,43 @@ fn masked(mask: u64, datum: u64) -> Compare {
     }
 }
 
+// A comparison: its operator, its value and its second value.
+type Row = (Op, u64, u64);
+
+fn comparison((op, value, value_two): Row) -> Compare {
+    Compare {
+        index: 0,
+        op,
+        value,
+        value_two,
+    }
+}
+
+// The first comparison of each row implies the second, or doesn't.
+fn assert_implies(rt: &impl Abort, rows: &[(Row, Row, bool)]) {
+    for (c, d, wanted) in rows {
+        let (c, d) = (comparison(*c), comparison(*d));
+        assert_eq!(rt; implies(c, d), *wanted, "{c:?} {d:?}");
+    }
+}
+
 #[test]
 fn ranges_imply_what_holds_them(rt: HostRuntime) {
-    let rows = [
-        (
-            simple(Op::GreaterThan, 5),
-            simple(Op::GreaterOrEqual, 7),
-            false,
-        ),
-        (
-            simple(Op::GreaterThan, 6),
-            simple(Op::GreaterOrEqual, 7),
-            true,
-        ),
-        (simple(Op::Equal, 8), simple(Op::LessOrEqual, 8), true),
-        (
-            simple(Op::LessOrEqual, 9),
-            simple(Op::LessOrEqual, 8),
-            false,
-        ),
-        (simple(Op::LessOrEqual, 8), simple(Op::Equal, 8), false),
-        (simple(Op::LessOrEqual, 4), simple(Op::NotEqual, 5), true),
-        (simple(Op::LessOrEqual, 5), simple(Op::NotEqual, 5), false),
-        (simple(Op::NotEqual, 0), simple(Op::GreaterOrEqual, 1), true),
-        (
-            simple(Op::NotEqual, 1),
-            simple(Op::GreaterOrEqual, 1),
-            false,
-        ),
-        (simple(Op::NotEqual, MAX), simple(Op::LessThan, MAX), true),
-    ];
-    for (c, d, wanted) in rows {
-        assert_eq!(rt; implies(c, d), wanted, "{c:?} {d:?}");
-    }
+    assert_implies(
+        &rt,
+        &[
+            ((Op::GreaterThan, 5, 0), (Op::GreaterOrEqual, 7, 0), false),
+            ((Op::GreaterThan, 6, 0), (Op::GreaterOrEqual, 7, 0), true),
+            ((Op::Equal, 8, 0), (Op::LessOrEqual, 8, 0), true),
+            ((Op::LessOrEqual, 9, 0), (Op::LessOrEqual, 8, 0), false),
+            ((Op::LessOrEqual, 8, 0), (Op::Equal, 8, 0), false),
+            ((Op::LessOrEqual, 4, 0), (Op::NotEqual, 5, 0), true),
+            ((Op::LessOrEqual, 5, 0), (Op::NotEqual, 5, 0), false),
+            ((Op::NotEqual, 0, 0), (Op::GreaterOrEqual, 1, 0), true),
+            ((Op::NotEqual, 1, 0), (Op::GreaterOrEqual, 1, 0), false),
+            ((Op::NotEqual, MAX, 0), (Op::LessThan, MAX, 0), true),
+        ],
+    );
 }
 
 #[test]
@@ -92,23 +97,24 @@ fn masks_imply_and_are_implied(rt: HostRuntime) {
     // All bits but the lowest three, and the flags of clone(2) that make a namespace.
     let high = 18446744073709551608;
     let namespaces = 2114060288;
-    let rows = [
-        (simple(Op::Equal, 12), masked(3, 0), true),
-        (masked(7, 5), masked(3, 1), true),
-        (masked(3, 1), masked(7, 5), false),
-        (simple(Op::NotEqual, 3), masked(0, 9), true),
-        (simple(Op::LessOrEqual, 7), masked(high, 0), true),
-        (simple(Op::LessOrEqual, 8), masked(high, 0), false),
-        (masked(high, 8), simple(Op::GreaterOrEqual, 8), true),
-        (masked(high, 8), simple(Op::LessOrEqual, 15), true),
-        (masked(high, 8), simple(Op::LessOrEqual, 14), false),
-        (simple(Op::Equal, 0), masked(namespaces, 0), true),
-        (masked(namespaces, 0), simple(Op::Equal, 0), false),
-        (masked(namespaces, 0), simple(Op::NotEqual, 131072), true),
-    ];
-    for (c, d, wanted) in rows {
-        assert_eq!(rt; implies(c, d), wanted, "{c:?} {d:?}");
-    }
+    let mask = Op::MaskedEqual;
+    assert_implies(
+        &rt,
+        &[
+            ((Op::Equal, 12, 0), (mask, 3, 0), true),
+            ((mask, 7, 5), (mask, 3, 1), true),
+            ((mask, 3, 1), (mask, 7, 5), false),
+            ((Op::NotEqual, 3, 0), (mask, 0, 9), true),
+            ((Op::LessOrEqual, 7, 0), (mask, high, 0), true),
+            ((Op::LessOrEqual, 8, 0), (mask, high, 0), false),
+            ((mask, high, 8), (Op::GreaterOrEqual, 8, 0), true),
+            ((mask, high, 8), (Op::LessOrEqual, 15, 0), true),
+            ((mask, high, 8), (Op::LessOrEqual, 14, 0), false),
+            ((Op::Equal, 0, 0), (mask, namespaces, 0), true),
+            ((mask, namespaces, 0), (Op::Equal, 0, 0), false),
+            ((mask, namespaces, 0), (Op::NotEqual, 131072, 0), true),
+        ],
+    );
 }
 
 #[test]

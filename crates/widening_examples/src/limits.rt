@@ -1,7 +1,7 @@
 // Findings between filters at the limits: 2,048 entries, 1,024 names an entry, six comparisons an entry. No more can be
 // reached, since a filter above a limit is refused.
 
-use crate::tests::{filter, filtered, told};
+use crate::tests::{assert_told, filter, filtered};
 use profile_text::Profile;
 use seccomp_doc::{ActionWord, ArgParts, EntryParts, FilterFault, Op};
 use std::alloc::Global;
@@ -116,8 +116,8 @@ fn a_name_that_an_entry_has_often_is_found_once(rt: HostRuntime) -> Result<(), F
     let alloc = rt.alloc();
     let none = profile(alloc, Vec::new(alloc))?;
     let often = profile(alloc, entry_named_alike(alloc, 1024)?)?;
-    assert_eq!(rt; told(alloc, &none, &often)?.as_str(), "call call_1000;");
-    assert_eq!(rt; told(alloc, &often, &often)?.as_str(), "");
+    assert_told(&rt, alloc, &none, &often, "call call_1000;")?;
+    assert_told(&rt, alloc, &often, &often, "")?;
     Ok(())
 }
 
@@ -143,8 +143,8 @@ fn the_last_of_six_comparisons_counts(rt: HostRuntime) -> Result<(), Fail> {
     for count in [1, 2, 6] {
         let base = profile(alloc, entry_compared(alloc, count, 7)?)?;
         let new = profile(alloc, entry_compared(alloc, count, 8)?)?;
-        assert_eq!(rt; told(alloc, &base, &base)?.as_str(), "");
-        assert_eq!(rt; told(alloc, &base, &new)?.as_str(), "call call_1000;");
+        assert_told(&rt, alloc, &base, &base, "")?;
+        assert_told(&rt, alloc, &base, &new, "call call_1000;")?;
         assert!(rt; is_wider(&base, &new));
     }
     Ok(())
@@ -173,8 +173,8 @@ fn the_last_of_many_entries_of_a_name_counts(rt: HostRuntime) -> Result<(), Fail
     for count in [2, 65, 2048] {
         let base = one_name_compared(alloc, count, 0)?;
         let new = one_name_compared(alloc, count, 1)?;
-        assert_eq!(rt; told(alloc, &base, &base)?.as_str(), "");
-        assert_eq!(rt; told(alloc, &base, &new)?.as_str(), "call call_1000;");
+        assert_told(&rt, alloc, &base, &base, "")?;
+        assert_told(&rt, alloc, &base, &new, "call call_1000;")?;
     }
     Ok(())
 }

@@ -6,6 +6,7 @@ use seccomp_doc::{
     ActionWord, Arch, ArgParts, EntryParts, Filter, FilterFault, FilterParts, Op, ScmpFlag,
 };
 use std::alloc::{AllocError, Global};
+use std::process::Abort;
 use std::test::Fail;
 use widening::{Finding, findings, is_wider};
 
@@ -115,31 +116,66 @@ pub(crate) fn told(alloc: Global, base: &Profile, new: &Profile) -> Result<Strin
     Ok(text)
 }
 
+// The findings of a new profile are told so.
+pub(crate) fn assert_told(
+    rt: &impl Abort,
+    alloc: Global,
+    base: &Profile,
+    new: &Profile,
+    text: &str,
+) -> Result<(), Fail> {
+    assert_eq!(rt; told(alloc, base, new)?.as_str(), text);
+    Ok(())
+}
+
+// They are, and the new profile is wider just where there are some.
+fn assert_wider(
+    rt: &impl Abort,
+    alloc: Global,
+    base: &Profile,
+    new: &Profile,
+    text: &str,
+) -> Result<(), Fail> {
+    assert_told(rt, alloc, base, new, text)?;
+    assert_eq!(rt; is_wider(base, new), !text.is_empty(), "{text}");
+    Ok(())
+}
+
 #[test]
 fn the_closed_profile_and_a_profile_without_a_filter(rt: HostRuntime) -> Result<(), Fail> {
     let alloc = rt.alloc();
     let closed = Profile::closed(alloc);
     let open = Profile::new(no_caps(), None);
-    assert_eq!(rt; told(alloc, &closed, &open)?.as_str(), "no-seccomp;");
-    assert!(rt; is_wider(&closed, &open));
+    assert_wider(&rt, alloc, &closed, &open, "no-seccomp;")?;
     let killing = filtered(filter(alloc, ActionWord::KillProcess, Vec::new(alloc))?);
-    assert_eq!(rt; told(alloc, &closed, &killing)?.as_str(), "");
-    assert!(rt; !is_wider(&closed, &killing));
-    assert_eq!(rt; told(alloc, &open, &closed)?.as_str(), "");
+    assert_wider(&rt, alloc, &closed, &killing, "")?;
+    assert_wider(&rt, alloc, &open, &closed, "")?;
     Ok(())
+}
+
+// The same of two profiles that allow this call, each under its comparisons.
+fn assert_wider_of(
+    rt: &impl Abort,
+    alloc: Global,
+    name: &str,
+    base: &[ArgParts],
+    new: &[ArgParts],
+    text: &str,
+) -> Result<(), Fail> {
+    let base = allowing(alloc, name, base)?;
+    let new = allowing(alloc, name, new)?;
+    assert_wider(rt, alloc, &base, &new, text)
 }
 
 #[test]
 fn a_range_of_arguments_within_another(rt: HostRuntime) -> Result<(), Fail> {
     let alloc = rt.alloc();
-    let base = allowing(alloc, "personality", &[arg(Op::LessOrEqual, 8, 0)])?;
-    let narrower = allowing(alloc, "personality", &[arg(Op::Equal, 8, 0)])?;
-    let wider = allowing(alloc, "personality", &[arg(Op::LessOrEqual, 9, 0)])?;
-    assert_eq!(rt; told(alloc, &base, &narrower)?.as_str(), "");
-    assert_eq!(rt; told(alloc, &base, &wider)?.as_str(), "call personality;");
-    assert!(rt; !is_wider(&base, &narrower));
-    assert!(rt; is_wider(&base, &wider));
-    Ok(())
+    let name = "personality";
+    let base = [arg(Op::LessOrEqual, 8, 0)];
+    let narrower = [arg(Op::Equal, 8, 0)];
+    let wider = [arg(Op::LessOrEqual, 9, 0)];
+    assert_wider_of(&rt, alloc, name, &base, &narrower, "")?;
+    assert_wider_of(&rt, alloc, name, &base, &wider, "call personality;")
 }
 
 #[test]
@@ -150,85 +186,83 @@ fn a_comparison_of_the_second_argument(rt: HostRuntime) -> Result<(), Fail> {
         ..arg(Op::LessOrEqual, 8, 0)
     };
     let other_argument = arg(Op::LessOrEqual, 8, 0);
-    let base = allowing(alloc, "fcntl", &[commands])?;
-    let same = allowing(alloc, "fcntl", &[commands])?;
-    let other = allowing(alloc, "fcntl", &[other_argument])?;
-    assert_eq!(rt; told(alloc, &base, &same)?.as_str(), "");
-    assert_eq!(rt; told(alloc, &base, &other)?.as_str(), "call fcntl;");
-    Ok(())
+    assert_wider_of(&rt, alloc, "fcntl", &[commands], &[commands], "")?;
+    assert_wider_of(
+        &rt,
+        alloc,
+        "fcntl",
+        &[commands],
+        &[other_argument],
+        "call fcntl;",
+    )
 }
 
 #[test]
 fn an_interval_that_admits_nothing_is_no_finding(rt: HostRuntime) -> Result<(), Fail> {
     let alloc = rt.alloc();
-    let base = allowing(alloc, "personality", &[arg(Op::Equal, 5, 0)])?;
-    let nothing = allowing(alloc, "personality", &[arg(Op::LessThan, 0, 0)])?;
-    assert_eq!(rt; told(alloc, &base, &nothing)?.as_str(), "");
-    assert_eq!(rt; told(alloc, &nothing, &base)?.as_str(), "call personality;");
-    assert!(rt; !is_wider(&base, &nothing));
-    Ok(())
+    let name = "personality";
+    let base = [arg(Op::Equal, 5, 0)];
+    let nothing = [arg(Op::LessThan, 0, 0)];
+    assert_wider_of(&rt, alloc, name, &base, &nothing, "")?;
+    assert_wider_of(&rt, alloc, name, &nothing, &base, "call personality;")
+}
+
+// The profile with no capability, the default of errno 1 and these entries, each of calls that are allowed under a
+// comparison.
+fn naming(alloc: Global, rows: &[(&[&str], Op, u64)]) -> Result<Profile, Fail> {
+    let mut entries = Vec::new(alloc);
+    for (names, op, value) in rows {
+        entries.push(named(alloc, names, arg(*op, *value, 0))?)?;
+    }
+    Ok(filtered(filter(alloc, ActionWord::Errno, entries)?))
 }
 
 // All names of several entries count, and so do all entries of a name.
 #[test]
 fn names_in_several_entries(rt: HostRuntime) -> Result<(), Fail> {
     let alloc = rt.alloc();
-    let base = filtered(filter(
+    let base = naming(
         alloc,
-        ActionWord::Errno,
-        vec![in alloc;
-            named(alloc, &["read", "write"], arg(Op::LessOrEqual, 4, 0))?,
-            named(alloc, &["write", "close"], arg(Op::GreaterOrEqual, 100, 0))?,
-            named(alloc, &["read"], arg(Op::Equal, 50, 0))?,
-        ]?,
-    )?);
-    let new = filtered(filter(
+        &[
+            (&["read", "write"], Op::LessOrEqual, 4),
+            (&["write", "close"], Op::GreaterOrEqual, 100),
+            (&["read"], Op::Equal, 50),
+        ],
+    )?;
+    let new = naming(
         alloc,
-        ActionWord::Errno,
-        vec![in alloc;
-            named(alloc, &["read", "write"], arg(Op::LessOrEqual, 4, 0))?,
-            named(alloc, &["read", "close"], arg(Op::Equal, 50, 0))?,
-            named(alloc, &["write"], arg(Op::GreaterOrEqual, 120, 0))?,
-            named(alloc, &["open"], arg(Op::Equal, 0, 0))?,
-        ]?,
-    )?);
-    assert_eq!(rt; told(alloc, &base, &new)?.as_str(), "call close;call open;");
-    assert!(rt; is_wider(&base, &new));
-    Ok(())
+        &[
+            (&["read", "write"], Op::LessOrEqual, 4),
+            (&["read", "close"], Op::Equal, 50),
+            (&["write"], Op::GreaterOrEqual, 120),
+            (&["open"], Op::Equal, 0),
+        ],
+    )?;
+    assert_wider(&rt, alloc, &base, &new, "call close;call open;")
 }
 
 #[test]
 fn a_mask_of_arguments(rt: HostRuntime) -> Result<(), Fail> {
     let alloc = rt.alloc();
-    let base = allowing(alloc, "clone", &[arg(Op::MaskedEqual, 2114060288, 0)])?;
-    let one = allowing(alloc, "clone", &[arg(Op::Equal, 17, 0)])?;
-    let all = allowing(alloc, "clone", &[])?;
+    let base = [arg(Op::MaskedEqual, 2114060288, 0)];
+    let one = [arg(Op::Equal, 17, 0)];
+    assert_wider_of(&rt, alloc, "clone", &base, &one, "")?;
+    assert_wider_of(&rt, alloc, "clone", &base, &[], "call clone;")?;
+    let base = allowing(alloc, "clone", &base)?;
     let none = filtered(filter(alloc, ActionWord::Errno, Vec::new(alloc))?);
-    assert_eq!(rt; told(alloc, &base, &one)?.as_str(), "");
-    assert_eq!(rt; told(alloc, &base, &all)?.as_str(), "call clone;");
-    assert_eq!(rt; told(alloc, &base, &none)?.as_str(), "");
-    Ok(())
+    assert_wider(&rt, alloc, &base, &none, "")
 }
 
 #[test]
 fn what_a_range_in_two_parts_permits_is_found(rt: HostRuntime) -> Result<(), Fail> {
     let alloc = rt.alloc();
-    let low = entry(
-        alloc,
-        "ioctl",
-        ActionWord::Allow,
-        &[arg(Op::LessOrEqual, 4, 0)],
-    )?;
-    let high = entry(
-        alloc,
-        "ioctl",
-        ActionWord::Allow,
-        &[arg(Op::GreaterOrEqual, 5, 0)],
-    )?;
-    let base = filtered(filter(alloc, ActionWord::Errno, vec![in alloc; low, high]?)?);
+    let parts = [
+        (["ioctl"].as_slice(), Op::LessOrEqual, 4),
+        (["ioctl"].as_slice(), Op::GreaterOrEqual, 5),
+    ];
+    let base = naming(alloc, &parts)?;
     let all = allowing(alloc, "ioctl", &[])?;
-    assert_eq!(rt; told(alloc, &base, &all)?.as_str(), "call ioctl;");
-    Ok(())
+    assert_wider(&rt, alloc, &base, &all, "call ioctl;")
 }
 
 #[test]
@@ -237,23 +271,24 @@ fn a_name_that_only_the_baseline_restricts(rt: HostRuntime) -> Result<(), Fail> 
     let refused = entry(alloc, "mount", ActionWord::Errno, &[])?;
     let base = filtered(filter(alloc, ActionWord::Allow, vec![in alloc; refused]?)?);
     let new = filtered(filter(alloc, ActionWord::Allow, Vec::new(alloc))?);
-    assert_eq!(rt; told(alloc, &base, &new)?.as_str(), "call mount;");
-    assert!(rt; is_wider(&base, &new));
-    assert_eq!(rt; told(alloc, &new, &base)?.as_str(), "");
+    assert_wider(&rt, alloc, &base, &new, "call mount;")?;
+    assert_wider(&rt, alloc, &new, &base, "")?;
     Ok(())
+}
+
+// The profile of one entry of clone3, which fails with this errno.
+fn failing(alloc: Global, errno: u64) -> Result<Profile, Fail> {
+    let mut entry = entry(alloc, "clone3", ActionWord::Errno, &[])?;
+    entry.errno = Some(errno);
+    Ok(filtered(filter(alloc, ActionWord::Errno, vec![in alloc; entry]?)?))
 }
 
 #[test]
 fn another_errno_is_no_finding(rt: HostRuntime) -> Result<(), Fail> {
     let alloc = rt.alloc();
-    let mut one = entry(alloc, "clone3", ActionWord::Errno, &[])?;
-    one.errno = Some(1);
-    let mut other = entry(alloc, "clone3", ActionWord::Errno, &[])?;
-    other.errno = Some(38);
-    let base = filtered(filter(alloc, ActionWord::Errno, vec![in alloc; one]?)?);
-    let new = filtered(filter(alloc, ActionWord::Errno, vec![in alloc; other]?)?);
-    assert_eq!(rt; told(alloc, &base, &new)?.as_str(), "");
-    Ok(())
+    let base = failing(alloc, 1)?;
+    let new = failing(alloc, 38)?;
+    assert_wider(&rt, alloc, &base, &new, "")
 }
 
 // The filter with these architectures and one flag.
@@ -299,48 +334,53 @@ fn architectures_and_flags_by_their_names(rt: HostRuntime) -> Result<(), Fail> {
     ];
     let more = listing(alloc, errno, &names, TSYNC, Vec::new(alloc))?;
     let none = listing(alloc, errno, &[], LOG, Vec::new(alloc))?;
-    assert_eq!(rt;
-        told(alloc, &one, &more)?.as_str(),
-        "SCMP_ARCH_ARM;SCMP_ARCH_X86;SECCOMP_FILTER_FLAG_TSYNC;"
-    );
-    assert_eq!(rt; told(alloc, &one, &none)?.as_str(), "any;");
-    assert_eq!(rt; told(alloc, &none, &one)?.as_str(), "SCMP_ARCH_X86_64;");
+    assert_wider(
+        &rt,
+        alloc,
+        &one,
+        &more,
+        "SCMP_ARCH_ARM;SCMP_ARCH_X86;SECCOMP_FILTER_FLAG_TSYNC;",
+    )?;
+    assert_wider(&rt, alloc, &one, &none, "any;")?;
+    assert_wider(&rt, alloc, &none, &one, "SCMP_ARCH_X86_64;")?;
     Ok(())
+}
+
+// A profile that permits little.
+fn least(alloc: Global) -> Result<Profile, Fail> {
+    let kept = entry(alloc, "read", ActionWord::Errno, &[])?;
+    let entries = vec![in alloc; kept]?;
+    listing(
+        alloc,
+        ActionWord::Errno,
+        &["SCMP_ARCH_X86_64"],
+        LOG,
+        entries,
+    )
+}
+
+// One that permits more of each kind.
+fn most(alloc: Global) -> Result<Profile, Fail> {
+    let write = entry(alloc, "write", ActionWord::Allow, &[])?;
+    let close = entry(alloc, "close", ActionWord::Allow, &[])?;
+    let entries = vec![in alloc; write, close]?;
+    let open = listing(alloc, ActionWord::Log, &["SCMP_ARCH_X86"], TSYNC, entries)?;
+    let Profile { caps: _, filter } = open;
+    Ok(Profile::new(some_caps()?, filter))
+}
+
+fn some_caps() -> Result<CapState, Fail> {
+    let chown = Caps::from_bits(1).ok_or("bits")?;
+    let both = Caps::from_bits(5).ok_or("bits")?;
+    Ok(CapState::new(chown, both, chown, both, Caps::empty())?)
 }
 
 #[test]
 fn all_kinds_in_their_order(rt: HostRuntime) -> Result<(), Fail> {
     let alloc = rt.alloc();
-    let kept = entry(alloc, "read", ActionWord::Errno, &[])?;
-    let base = listing(
-        alloc,
-        ActionWord::Errno,
-        &["SCMP_ARCH_X86_64"],
-        LOG,
-        vec![in alloc; kept]?,
-    )?;
-    let write = entry(alloc, "write", ActionWord::Allow, &[])?;
-    let close = entry(alloc, "close", ActionWord::Allow, &[])?;
-    let open = listing(
-        alloc,
-        ActionWord::Log,
-        &["SCMP_ARCH_X86"],
-        TSYNC,
-        vec![in alloc; write, close]?,
-    )?;
-    let chown = Caps::from_bits(1).ok_or("bits")?;
-    let both = Caps::from_bits(5).ok_or("bits")?;
-    let none = Caps::empty();
-    let caps = CapState::new(chown, both, chown, both, none)?;
-    let Profile {
-        caps: _,
-        filter: open,
-    } = open;
-    let new = Profile::new(caps, open);
-    assert_eq!(rt;
-        told(alloc, &base, &new)?.as_str(),
-        "effective 0;permitted 0;permitted 2;inheritable 0;bounding 0;bounding 2;\
-        SCMP_ARCH_X86;SECCOMP_FILTER_FLAG_TSYNC;call close;call read;call write;default;"
-    );
-    Ok(())
+    let base = least(alloc)?;
+    let new = most(alloc)?;
+    let text = "effective 0;permitted 0;permitted 2;inheritable 0;bounding 0;bounding 2;\
+        SCMP_ARCH_X86;SECCOMP_FILTER_FLAG_TSYNC;call close;call read;call write;default;";
+    assert_wider(&rt, alloc, &base, &new, text)
 }
