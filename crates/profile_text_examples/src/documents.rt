@@ -1,6 +1,6 @@
 // Documents and texts written by hand, and a digest of FIPS 180-4.
 
-use crate::told::{NOTHING, told};
+use crate::told::{NOTHING, assert_told, told};
 use cap_sets::{CapFault, CapState, Caps};
 use profile_text::{CapSet, DocFault, Profile, digest, fault_text, print, read};
 use seccomp_doc::{Action, Filter};
@@ -46,11 +46,7 @@ fn the_first_fault_of_the_walk_is_told(rt: HostRuntime) -> Result<(), Fail> {
             "unknown-member /\u{ffff}",
         ),
     ] {
-        assert_eq!(rt;
-            told(alloc, document.as_bytes())?.as_str(),
-            text,
-            "{document}"
-        );
+        assert_told(&rt, alloc, document, text)?;
     }
     Ok(())
 }
@@ -77,11 +73,7 @@ fn null_is_absent_only_where_a_member_is_optional(rt: HostRuntime) -> Result<(),
             "wrong-shape /capabilities/ambient/0",
         ),
     ] {
-        assert_eq!(rt;
-            told(alloc, document.as_bytes())?.as_str(),
-            text,
-            "{document}"
-        );
+        assert_told(&rt, alloc, document, text)?;
     }
     Ok(())
 }
@@ -103,11 +95,7 @@ fn unlawful_sets_are_told_after_the_walk(rt: HostRuntime) -> Result<(), Fail> {
             "unknown-member /zzz",
         ),
     ] {
-        assert_eq!(rt;
-            told(alloc, document.as_bytes())?.as_str(),
-            text,
-            "{document}"
-        );
+        assert_told(&rt, alloc, document, text)?;
     }
     Ok(())
 }
@@ -140,13 +128,9 @@ fn canonical_texts_are_compact_and_in_order(rt: HostRuntime) -> Result<(), Fail>
         "{\"capabilities\":0,\"capabilities\":{\"effective\":[\"CAP_\\u004bILL\",\"CAP_CHOWN\"],\"permitted\":[\"CAP_KILL\",\"CAP_CHOWN\"]}}",
         text,
     ] {
-        assert_eq!(rt;
-            told(alloc, document.as_bytes())?.as_str(),
-            text,
-            "{document}"
-        );
+        assert_told(&rt, alloc, document, text)?;
     }
-    assert_eq!(rt; told(alloc, br#"{"capabilities":{}}"#)?.as_str(), NOTHING);
+    assert_told(&rt, alloc, r#"{"capabilities":{}}"#, NOTHING)?;
     assert_eq!(rt; NOTHING.len(), 92);
     Ok(())
 }

@@ -1,6 +1,6 @@
 // Documents with filters: documents and texts written by hand.
 
-use crate::told::{canonical, told, told_of};
+use crate::told::{assert_kept, assert_told, assert_told_of, canonical};
 use profile_text::{DocFault, read};
 use std::alloc::Global;
 use std::test::Fail;
@@ -22,19 +22,11 @@ fn filters_are_read_and_printed_again(rt: HostRuntime) -> Result<(), Fail> {
             "capabilities":{"effective":["CAP_KILL","CAP_CHOWN","CAP_KILL"],"permitted":["CAP_CHOWN","CAP_KILL"]}}"#,
         text,
     ] {
-        assert_eq!(rt;
-            told(alloc, document.as_bytes())?.as_str(),
-            text,
-            "{document}"
-        );
+        assert_told(&rt, alloc, document, text)?;
     }
     let filter =
         r#"{"architectures":["SCMP_ARCH_X86_64","SCMP_ARCH_X86_64"],"defaultAction":"SCMP_ACT_TRACE","defaultErrnoRet":65535,"flags":["SECCOMP_FILTER_FLAG_LOG"],"syscalls":[{"action":"SCMP_ACT_ALLOW","args":[{"index":5,"op":"SCMP_CMP_MASKED_EQ","value":2114060288,"valueTwo":0},{"index":0,"op":"SCMP_CMP_NE","value":18446744073709551615}],"names":["clone","clone"]}]}"#;
-    assert_eq!(rt;
-        told_of(alloc, filter)?.as_str(),
-        canonical(alloc, filter)?.as_str()
-    );
-    Ok(())
+    assert_kept(&rt, alloc, filter)
 }
 
 #[test]
@@ -63,8 +55,7 @@ fn numbers_have_64_bits(rt: HostRuntime) -> Result<(), Fail> {
             "index-twice",
         ),
     ] {
-        let filter = with_arg(alloc, arg)?;
-        assert_eq!(rt; told_of(alloc, filter.as_str())?.as_str(), text, "{arg}");
+        assert_told_of(&rt, alloc, with_arg(alloc, arg)?.as_str(), text)?;
     }
     Ok(())
 }
@@ -138,7 +129,7 @@ fn the_first_fault_of_a_filter_is_told(rt: HostRuntime) -> Result<(), Fail> {
             "two-actions clone3",
         ),
     ] {
-        assert_eq!(rt; told_of(alloc, filter)?.as_str(), text, "{filter}");
+        assert_told_of(&rt, alloc, filter, text)?;
     }
     Ok(())
 }
@@ -146,15 +137,12 @@ fn the_first_fault_of_a_filter_is_told(rt: HostRuntime) -> Result<(), Fail> {
 #[test]
 fn an_absent_error_number_is_1(rt: HostRuntime) -> Result<(), Fail> {
     let alloc = rt.alloc();
-    let text = told_of(
-        alloc,
+    let short =
         r#"{"defaultAction":"SCMP_ACT_ERRNO","syscalls":[{"action":"SCMP_ACT_ERRNO","names":["clone3"]},
-            {"action":"SCMP_ACT_ERRNO","errnoRet":1,"names":["clone3"]}]}"#,
-    )?;
-    let filter =
+            {"action":"SCMP_ACT_ERRNO","errnoRet":1,"names":["clone3"]}]}"#;
+    let whole =
         r#"{"defaultAction":"SCMP_ACT_ERRNO","defaultErrnoRet":1,"syscalls":[{"action":"SCMP_ACT_ERRNO","errnoRet":1,"names":["clone3"]},{"action":"SCMP_ACT_ERRNO","errnoRet":1,"names":["clone3"]}]}"#;
-    assert_eq!(rt; text.as_str(), canonical(alloc, filter)?.as_str());
-    Ok(())
+    assert_told_of(&rt, alloc, short, canonical(alloc, whole)?.as_str())
 }
 
 #[test]
@@ -178,11 +166,7 @@ fn the_walk_comes_before_the_sets_and_these_before_the_filter(rt: HostRuntime) -
             "wrong-shape /capabilities",
         ),
     ] {
-        assert_eq!(rt;
-            told(alloc, document.as_bytes())?.as_str(),
-            text,
-            "{document}"
-        );
+        assert_told(&rt, alloc, document, text)?;
     }
     Ok(())
 }
@@ -224,11 +208,7 @@ fn the_first_name_of_two_actions_is_told(rt: HostRuntime) -> Result<(), Fail> {
         let filter = format!(in alloc;
             r#"{{"defaultAction":"SCMP_ACT_LOG","syscalls":[{entries}]}}"#
         )?;
-        assert_eq!(rt;
-            told_of(alloc, filter.as_str())?.as_str(),
-            text,
-            "{entries}"
-        );
+        assert_told_of(&rt, alloc, filter.as_str(), text)?;
     }
     Ok(())
 }

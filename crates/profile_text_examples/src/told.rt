@@ -2,6 +2,7 @@
 
 use profile_text::{Document, fault_text, read_with_text};
 use std::alloc::Global;
+use std::process::Abort;
 use std::test::Fail;
 
 /// The canonical text without a capability and without a filter.
@@ -27,4 +28,35 @@ pub(crate) fn canonical(alloc: Global, filter: &str) -> Result<String, Fail> {
     let capabilities =
         r#"{"ambient":[],"bounding":[],"effective":[],"inheritable":[],"permitted":[]}"#;
     Ok(format!(in alloc; r#"{{"capabilities":{capabilities},"seccomp":{filter}}}"#)?)
+}
+
+/// This is what a document says.
+pub(crate) fn assert_told(
+    rt: &impl Abort,
+    alloc: Global,
+    document: &str,
+    text: &str,
+) -> Result<(), Fail> {
+    assert_eq!(rt;
+        told(alloc, document.as_bytes())?.as_str(),
+        text,
+        "{document}"
+    );
+    Ok(())
+}
+
+/// This is what a document of no capabilities and this filter says.
+pub(crate) fn assert_told_of(
+    rt: &impl Abort,
+    alloc: Global,
+    filter: &str,
+    text: &str,
+) -> Result<(), Fail> {
+    assert_eq!(rt; told_of(alloc, filter)?.as_str(), text, "{filter}");
+    Ok(())
+}
+
+/// What a document of no capabilities and this filter says is canonical with this very filter.
+pub(crate) fn assert_kept(rt: &impl Abort, alloc: Global, filter: &str) -> Result<(), Fail> {
+    assert_told_of(rt, alloc, filter, canonical(alloc, filter)?.as_str())
 }
