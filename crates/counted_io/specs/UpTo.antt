@@ -1,5 +1,6 @@
--- What reading up to a number of bytes does to the counts of a reader.
-use Rattle.std.specs.Prelude.{◌≡◌, ◌≤◌, ℕ, Result, Ok, Err}
+-- What reading up to a number of bytes does to a reader.
+use Rattle.std.specs.Prelude.{◌≡◌, ◌<◌, ◌≤◌, ℕ, List, length, Option, Result, Ok, Err}
+use Rattle.std.specs.Io.KnownBytes.{Consumes}
 use Rattle.counted_io.specs.declared.some.SomeRead.{SomeRead}
 use Rattle.counted_io.specs.declared.some.SomeRead.TheVariants.{Bytes}
 use Rattle.counted_io.specs.declared.up_to.Unread.{Unread}
@@ -17,3 +18,9 @@ UpToCounts calls calls_after most faults faults_after (Ok bytes) = faults_after 
 UpToCounts calls calls_after most faults faults_after (Err Failed) = faults_after ≡ one_more faults
 UpToCounts calls calls_after most faults faults_after (Err TooManyReads) = (calls_after ≡ most) × (faults_after ≡ faults)
 UpToCounts calls calls_after most faults faults_after (Err NoMemory) = faults_after ≡ faults
+
+-- fewer bytes than that were consumed; of want of memory nothing is said
+abbrev pub ReadsPart : Option (List ℕ) → Option (List ℕ) → ℕ → Unread → Type 0
+ReadsPart old new most Failed = (bytes : List ℕ) × Consumes old new bytes × (length bytes < most)
+ReadsPart old new most TooManyReads = (bytes : List ℕ) × Consumes old new bytes × (length bytes < most)
+ReadsPart old new most NoMemory = Unit {0}

@@ -1,9 +1,9 @@
 //! Reading up to a number of bytes.
 
-ghost use Rattle.std.specs.Prelude.{◌-◌, ◌^◌, ◌<◌, ◌≤◌, length, IfOk};
+ghost use Rattle.std.specs.Prelude.{◌-◌, ◌^◌, ◌<◌, ◌≤◌, length, IfErr, IfOk};
 ghost use Rattle.std.specs.Io.KnownBytes.{Consumes, IsAtEnd};
 ghost use Rattle.counted_io.specs.Some.{ReadsSome, SomeFaults, SomeCalls};
-ghost use Rattle.counted_io.specs.UpTo.{IsWithin, UpToCounts};
+ghost use Rattle.counted_io.specs.UpTo.{IsWithin, ReadsPart, UpToCounts};
 
 use crate::counted::Counted;
 use crate::some::{SomeRead, read_some};
@@ -75,6 +75,7 @@ pub fn read_up_to<R: Read>(
     ensures bytes { IfOk result (λ bytes. Consumes (R.remaining reader.old.inner) (R.remaining reader.new.inner) bytes.items) }
     ensures most { IfOk result (λ bytes. length bytes.items ≤ most) }
     ensures end { IfOk result (λ bytes. length bytes.items < most → IsAtEnd (R.remaining reader.new.inner)) }
+    ensures part { IfErr result (ReadsPart (R.remaining reader.old.inner) (R.remaining reader.new.inner) most) }
     ensures counts { UpToCounts reader.old.calls reader.new.calls most_calls reader.old.faults reader.new.faults result }
     ensures calls { reader.new.calls ≤ most_calls }
 {

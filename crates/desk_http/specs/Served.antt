@@ -27,15 +27,15 @@ IsTold before after outcome result = IsWritten before after (told outcome) (told
 
 -- where nothing was handled this is `Same`, and where a request was handled with an answer it is `Handled` of these two
 module _ (Same : Type 0) (Handled : Request → Answer → Type 0) where
-  -- what was read of the stream is refused so; or it asks this request, which was handled with this answer; or the stream ended
-  -- too soon, or couldn't be read; of want of memory is only said that nothing was handled
+  -- what was read of the stream is refused so; or it asks this request, which was handled with this answer; or it is too little, and
+  -- the stream ended, or couldn't be read on; of want of memory is only said that nothing was handled
   abbrev pub HasOutcome : Option (List ℕ) → Option (List ℕ) → Result Outcome HttpFault → Type 0
   HasOutcome unread rest (Ok (Refused why)) = HasCome unread rest IsExchange (refused why) × Same
   HasOutcome unread rest (Ok (Answered request answer)) = HasCome unread rest IsExchange (asks (plain request)) × Handled request answer
   HasOutcome unread rest (Ok NoMemory) = Same
   HasOutcome unread rest (Err fault.Ended) = HasCome unread rest IsExchange ended × IsAtEnd rest × Same
-  HasOutcome unread rest (Err fault.Read) = Same
-  HasOutcome unread rest (Err fault.TooManyReads) = Same
+  HasOutcome unread rest (Err fault.Read) = HasCome unread rest IsExchange ended × Same
+  HasOutcome unread rest (Err fault.TooManyReads) = HasCome unread rest IsExchange ended × Same
   HasOutcome unread rest (Err _) = ⊥
 
   -- there is none, and nothing was written; or there is one, and it is told

@@ -1,5 +1,5 @@
 -- What bytes that follow leave as it is.
-use Rattle.std.proofs.Common.{◌≡◌, ◌∙◌, ◌-◌, ◌<◌, ◌≤◌, ℕ, true, false, List, ◌++◌, length, nat_le, slice_index, refl, arith, inl, inr}
+use Rattle.std.proofs.Common.{◌≡◌, ◌∙◌, ◌-◌, ◌<◌, ◌≤◌, ℕ, false, List, ◌++◌, length, nat_le, slice_index, refl, arith, inl, inr}
 use Rattle.std.proofs.lemmas.Bool.{cases_Bool, leb-true}
 use Rattle.std.proofs.lemmas.List.{get_or_append_left, length-append}
 use Rattle.http_head.specs.Ends.{ends_head, HasNoEnd, IsHeadEnd, most_head}

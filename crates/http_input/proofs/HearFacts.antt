@@ -1,9 +1,9 @@
 -- What the parts of a request come to together.
-use Rattle.std.proofs.Common.{◌≡◌, ◌∙◌, ◌<◌, ◌≤◌, ℕ, List, [], ◌++◌, length, take, drop, nat_lt, Option, Some, None, Result, Ok, Err, IsUtf8, inl, inr, refl, sym}
+use Rattle.std.proofs.Common.{◌≡◌, ℕ, List, [], ◌++◌, take, drop, Option, Some, Result, Ok, Err, IsUtf8, inl, inr, refl, sym}
 use Rattle.std.proofs.KnownBytes.{Consumes-nil, Consumes-trans}
 use Rattle.std.proofs.lemmas.Bool.{lt-ltb, le-ltb}
 use Rattle.std.proofs.lemmas.List.{take-append-le, drop-append-le}
-use Rattle.std.specs.Io.KnownBytes.{Consumes, IsAtEnd}
+use Rattle.std.specs.Io.KnownBytes.{Consumes}
 use Rattle.httparse.specs.Grammar.{RequestHead}
 use Rattle.httparse.specs.Spans.{span_bytes}
 use Rattle.review_policy.specs.declared.ask.Request.{Request}
@@ -20,7 +20,7 @@ use Rattle.http_routes.specs.Places.{Place, answer_of, place_of}
 use Rattle.http_routes.specs.declared.refusal.Refusal.{Refusal}
 use Rattle.http_asks.specs.Asks.{asked_of}
 use Rattle.http_input.specs.Exchanges.{Exchange, asks, refused, ended, with_route, IsExchange, IsOfHead}
-use Rattle.http_input.specs.Heard.{HasCome, HasRoute, HasToken, IsBody, IsHeard, IsUnheard, LacksBody, of_line_fault}
+use Rattle.http_input.specs.Heard.{HasCome, HasRoute, HasToken, IsBody, IsHeard, IsUnheard, LacksBody, TooFew, of_line_fault}
 use Rattle.http_input.specs.declared.refusal.Refusal.TheVariants.{Head as OfHead, Route as OfRoute, NotARequest}
 use Rattle.http_input.specs.declared.unheard.Unheard.{Unheard}
 use Rattle.http_input.specs.declared.unheard.Unheard.TheVariants.{Refused, Ended, Failed, TooManyReads, NoMemory}
@@ -83,12 +83,14 @@ module _ (bytes : List ℕ) (head : Head) where
 
       module _ (token : List ℕ) (shows : token_shown ≡ Some token) (after : Option (List ℕ)) where
         -- its body is too short
+        too_few : TooFew before after front head.length → HasCome before after (λ more. IsOfHead bytes (front ++ more)) ended
+        too_few (more, read, short) = (more, read, comes (front ++ more) ended r (rw (routed, shows, lt-ltb _ _ short) refl))
+
         pub body_left : (e : Unheard) → LacksBody before after front head.length e → IsUnheard before after (λ more. IsOfHead bytes (front ++ more)) e
         body_left (Refused why) has = absurd has
-        body_left Ended (more, read, short, at_end) =
-            ((more, read, comes (front ++ more) ended r (rw (routed, shows, lt-ltb _ _ short) refl)), at_end)
-        body_left Failed has = tt
-        body_left TooManyReads has = tt
+        body_left Ended (few, at_end) = (too_few few, at_end)
+        body_left Failed few = too_few few
+        body_left TooManyReads few = too_few few
         body_left NoMemory has = tt
 
         module _ (body : List ℕ) (has : IsBody before after front head.length body) where
@@ -119,8 +121,8 @@ module _ (before mid after : Option (List ℕ)) (bytes : List ℕ) (n : ℕ) (re
   unheard_on : (e : Unheard) → IsUnheard mid after (λ more. IsOfHead (take n bytes) (drop n bytes ++ more)) e → IsUnheard before after IsExchange e
   unheard_on (Refused why) come = come_on (refused why) come
   unheard_on Ended (come, at_end) = (come_on ended come, at_end)
-  unheard_on Failed come = tt
-  unheard_on TooManyReads come = tt
+  unheard_on Failed come = come_on ended come
+  unheard_on TooManyReads come = come_on ended come
   unheard_on NoMemory come = tt
 
   pub heard_on : (result : Result Request Unheard) → IsHeard mid after (λ more. IsOfHead (take n bytes) (drop n bytes ++ more)) result

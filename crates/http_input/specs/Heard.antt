@@ -28,13 +28,13 @@ module _ (before after : Option (List ℕ)) where
   abbrev pub HasCome : Comes → Exchange → Type 0
   HasCome Come exchange = (bytes : List ℕ) × Consumes before after bytes × Come bytes exchange
 
-  -- the bytes that were read are refused so, or the stream ended after them and they are too few; of a reader that fails, of one
-  -- that is called too often, and of want of memory nothing is said
+  -- the bytes that were read are refused so; or they are too few, and the stream ended after them, its reader failed, or was called too
+  -- often; of want of memory nothing is said
   abbrev pub IsUnheard : Comes → Unheard → Type 0
   IsUnheard Come (Refused why) = HasCome Come (refused why)
   IsUnheard Come Ended = HasCome Come ended × IsAtEnd after
-  IsUnheard Come Failed = Unit {0}
-  IsUnheard Come TooManyReads = Unit {0}
+  IsUnheard Come Failed = HasCome Come ended
+  IsUnheard Come TooManyReads = HasCome Come ended
   IsUnheard Come NoMemory = Unit {0}
 
   -- the bytes that were read ask this request, or there is none
@@ -51,12 +51,16 @@ module _ (before after : Option (List ℕ)) where
   abbrev pub IsBody : List ℕ → ℕ → List ℕ → Type 0
   IsBody front size body = (more : List ℕ) × Consumes before after more × (size ≤ length (front ++ more)) × (body ≡ take size (front ++ more))
 
-  -- the stream ended, and they are too few
+  -- there are fewer
+  abbrev pub TooFew : List ℕ → ℕ → Type 0
+  TooFew front size = (more : List ℕ) × Consumes before after more × (length (front ++ more) < size)
+
+  -- and the stream ended, or couldn't be read
   abbrev pub LacksBody : List ℕ → ℕ → Unheard → Type 0
-  LacksBody front size Ended = (more : List ℕ) × Consumes before after more × (length (front ++ more) < size) × IsAtEnd after
+  LacksBody front size Ended = TooFew front size × IsAtEnd after
   LacksBody front size (Refused why) = ⊥
-  LacksBody front size Failed = Unit {0}
-  LacksBody front size TooManyReads = Unit {0}
+  LacksBody front size Failed = TooFew front size
+  LacksBody front size TooManyReads = TooFew front size
   LacksBody front size NoMemory = Unit {0}
 
   -- there is a body, or there is none

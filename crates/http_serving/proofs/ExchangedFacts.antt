@@ -27,8 +27,8 @@ module _ (Same : Type 0) (Handled : Request → Answer → Type 0) (unread rest 
 
   untold : (e : HttpFault) → HasOutcome Same Handled unread rest (Err e) → IsExchanged Same Handled (Err e)
   untold fault.Ended has = (None, has.2, tt)
-  untold fault.Read has = (None, has, tt)
-  untold fault.TooManyReads has = (None, has, tt)
+  untold fault.Read has = (None, has.1, tt)
+  untold fault.TooManyReads has = (None, has.1, tt)
   untold (fault.Write status) has = absurd has
   untold (fault.NoMemory status) has = absurd has
 

@@ -1,5 +1,5 @@
 -- What exchanges leave of an office, and the lines that tell them.
-use Rattle.std.specs.Prelude.{◌≡◌, ◌≤◌, ℕ, zero, suc, List, [], ◌∷◌, ◌++◌, length, codes, decimal, Option, Some, None, Result, Ok, Err}
+use Rattle.std.specs.Prelude.{◌≡◌, ◌<◌, ◌≤◌, ℕ, zero, suc, List, [], ◌∷◌, ◌++◌, length, codes, decimal, Option, Some, None, Result, Ok, Err}
 use Rattle.std.specs.Io.KnownBytes.{Appends}
 use Rattle.sqlite.specs.State.{State}
 use Rattle.review_policy.specs.declared.ask.Request.{Request}
@@ -70,9 +70,9 @@ pub record HaveExchanged (old new : State) (results : List (Result ℕ HttpFault
   pub told : AreTold came results
   pub handled : HaveRun old new (requests_in came) (answers_in came)
 
--- with 0 there were so many, and a line was written for each; with 1 there were some
+-- with 0 there were so many, and a line was written for each; with 1 there was at least one
 abbrev pub AreServed : (old new : State) (before after : Option (List ℕ)) → ℕ → ℕ → Type 0
 AreServed old new before after most zero =
     (results : List (Result ℕ HttpFault)) × HaveExchanged old new results × (length results ≡ most) × Appends before after (lines_of results)
 AreServed old new before after most (suc status) =
-    (results : List (Result ℕ HttpFault)) × HaveExchanged old new results × (length results ≤ most) × (status ≡ 0)
+    (results : List (Result ℕ HttpFault)) × HaveExchanged old new results × (0 < length results) × (length results ≤ most) × (status ≡ 0)

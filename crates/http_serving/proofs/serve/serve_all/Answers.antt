@@ -8,7 +8,7 @@ returns-then-is_err g c =
     let p = c.loop.invariant in
     let step = c.serve_next-served.ensures in
     let count = next_count (state g.S.Store) _ _ _ _ _ _ _ p step in
-    (_, next_exchanged (state g.S.Store) _ _ _ _ _ _ _ p step, omega (arith, count, c.loop-test.true), refl)
+    (_, next_exchanged (state g.S.Store) _ _ _ _ _ _ _ p step, omega (arith, count), omega (arith, count, c.loop-test.true), refl)
 
 pub loop-preserved : goal.loop-preserved
 loop-preserved g c =
