@@ -1,2 +1,3 @@
 pub mod Getters
+pub mod Numbers
 pub mod RefusalFacts

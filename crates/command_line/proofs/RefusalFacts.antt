@@ -4,11 +4,12 @@ use Rattle.std.proofs.lemmas.Slice.Eq.{bytes_eq-Decides}
 use Rattle.std.specs.Prelude.{codes}
 use Rattle.clap.specs.Words.{HasKind, Kinds, Row, Text, first_of, kind_of}
 use Rattle.clap.specs.declared.error.Error.{Error}
-use Rattle.command_line.specs.declared.command.Command.TheVariants.{Trial, Check, Execve, Init, Desk, Compare}
+use Rattle.command_line.specs.declared.command.Command.TheVariants.{Trial, Check, Execve, Init, Desk, Serve, Compare}
 use Rattle.command_line.specs.declared.fault.WordsFault.{WordsFault}
 use Rattle.command_line.specs.declared.fault.WordsFault.TheVariants.{Help, Version, Refused, NoMemory}
 use Rattle.command_line.specs.declared.command.InitWords.{InitWords}
-use Rattle.command_line.specs.Meaning.{HasCompareValues, HasInitValues}
+use Rattle.command_line.specs.declared.command.ServeWords.{ServeWords}
+use Rattle.command_line.specs.Meaning.{HasCompareValues, HasInitValues, HasServeValues}
 use Rattle.command_line.specs.Refusals.{IsRefused, IsTold, NoneAskedFor}
 
 -- two texts that don't compare equal are two
@@ -27,6 +28,7 @@ no_check rows none (Check file) asked = none≢some _ (sym none ∙ asked.1)
 no_check rows none (Execve words) asked = apart _ _ refl asked.0
 no_check rows none (Init words) asked = apart _ _ refl asked.0
 no_check rows none (Desk database) asked = apart _ _ refl asked.0
+no_check rows none (Serve words) asked = apart _ _ refl asked.0
 no_check rows none (Compare base new) asked = apart _ _ refl asked.0
 
 -- `execve` without FILE asks for nothing
@@ -36,6 +38,7 @@ no_execve rows none (Check file) asked = apart _ _ refl asked.0
 no_execve rows none (Execve words) asked = none≢some _ (sym none ∙ asked.1.file)
 no_execve rows none (Init words) asked = apart _ _ refl asked.0
 no_execve rows none (Desk database) asked = apart _ _ refl asked.0
+no_execve rows none (Serve words) asked = apart _ _ refl asked.0
 no_execve rows none (Compare base new) asked = apart _ _ refl asked.0
 
 -- `desk` without DB asks for nothing
@@ -45,6 +48,7 @@ no_desk rows none (Check file) asked = apart _ _ refl asked.0
 no_desk rows none (Execve words) asked = apart _ _ refl asked.0
 no_desk rows none (Init words) asked = apart _ _ refl asked.0
 no_desk rows none (Desk database) asked = none≢some _ (sym none ∙ asked.1)
+no_desk rows none (Serve words) asked = apart _ _ refl asked.0
 no_desk rows none (Compare base new) asked = apart _ _ refl asked.0
 
 -- `init` asks for nothing where a value that it needs isn't there
@@ -54,7 +58,18 @@ no_init rows lacks (Check file) asked = apart _ _ refl asked.0
 no_init rows lacks (Execve words) asked = apart _ _ refl asked.0
 no_init rows lacks (Init words) asked = lacks words asked.1
 no_init rows lacks (Desk database) asked = apart _ _ refl asked.0
+no_init rows lacks (Serve words) asked = apart _ _ refl asked.0
 no_init rows lacks (Compare base new) asked = apart _ _ refl asked.0
+
+-- `serve` asks for nothing where a value that it needs isn't there
+pub no_serve : (rows : List Row) → ((words : ServeWords) → ¬ HasServeValues rows words) → NoneAskedFor (codes "serve") rows
+no_serve rows lacks Trial asked = asked
+no_serve rows lacks (Check file) asked = apart _ _ refl asked.0
+no_serve rows lacks (Execve words) asked = apart _ _ refl asked.0
+no_serve rows lacks (Init words) asked = apart _ _ refl asked.0
+no_serve rows lacks (Desk database) asked = apart _ _ refl asked.0
+no_serve rows lacks (Serve words) asked = lacks words asked.1
+no_serve rows lacks (Compare base new) asked = apart _ _ refl asked.0
 
 -- `compare` asks for nothing where a value that it needs isn't there
 pub no_compare : (rows : List Row) → ((base new : Text) → ¬ HasCompareValues rows base new) → NoneAskedFor (codes "compare") rows
@@ -63,17 +78,19 @@ no_compare rows lacks (Check file) asked = apart _ _ refl asked.0
 no_compare rows lacks (Execve words) asked = apart _ _ refl asked.0
 no_compare rows lacks (Init words) asked = apart _ _ refl asked.0
 no_compare rows lacks (Desk database) asked = apart _ _ refl asked.0
+no_compare rows lacks (Serve words) asked = apart _ _ refl asked.0
 no_compare rows lacks (Compare base new) asked = lacks base.now new.now asked.1
 
 -- another name asks for nothing
 pub no_other : (name : Text) (rows : List Row) → name ≢ codes "check" → name ≢ codes "execve" → name ≢ codes "compare"
-    → name ≢ codes "init" → name ≢ codes "desk" → NoneAskedFor name rows
-no_other name rows not_check not_execve not_compare not_init not_desk Trial asked = asked
-no_other name rows not_check not_execve not_compare not_init not_desk (Check file) asked = not_check asked.0
-no_other name rows not_check not_execve not_compare not_init not_desk (Execve words) asked = not_execve asked.0
-no_other name rows not_check not_execve not_compare not_init not_desk (Init words) asked = not_init asked.0
-no_other name rows not_check not_execve not_compare not_init not_desk (Desk database) asked = not_desk asked.0
-no_other name rows not_check not_execve not_compare not_init not_desk (Compare base new) asked = not_compare asked.0
+    → name ≢ codes "init" → name ≢ codes "desk" → name ≢ codes "serve" → NoneAskedFor name rows
+no_other name rows not_check not_execve not_compare not_init not_desk not_serve Trial asked = asked
+no_other name rows not_check not_execve not_compare not_init not_desk not_serve (Check file) asked = not_check asked.0
+no_other name rows not_check not_execve not_compare not_init not_desk not_serve (Execve words) asked = not_execve asked.0
+no_other name rows not_check not_execve not_compare not_init not_desk not_serve (Init words) asked = not_init asked.0
+no_other name rows not_check not_execve not_compare not_init not_desk not_serve (Desk database) asked = not_desk asked.0
+no_other name rows not_check not_execve not_compare not_init not_desk not_serve (Serve words) asked = not_serve asked.0
+no_other name rows not_check not_execve not_compare not_init not_desk not_serve (Compare base new) asked = not_compare asked.0
 
 -- a value that isn't there is none
 pub lacks_value : (r : Option Text) (t : Text) → r ≡ None → ¬ (r ≡ Some t)

@@ -1,7 +1,7 @@
 -- The commands of the program, as clap reads them.
-use Rattle.std.specs.Prelude.{codes}
+use Rattle.std.specs.Prelude.{[], ◌∷◌, codes, true}
 use Rattle.clap.specs.Words.{App, new_app, with_rule, with_subcommand}
-use Rattle.command_line.specs.Parts.{flag_rule, needed_rule, option_rule, several_rule, with_version}
+use Rattle.command_line.specs.Parts.{flag_rule, needed_rule, number_rule, option_rule, several_rule, with_version}
 
 -- `check FILE`
 abbrev pub check_app : App
@@ -30,6 +30,12 @@ init_app = with_rule (with_rule init_user_app (needed_rule (codes "digest"))) (s
 abbrev pub desk_app : App
 desk_app = with_rule (new_app (codes "desk")) (needed_rule (codes "database"))
 
+-- `serve DB [--port P] --requests N`: P is 0 where it isn't given
+abbrev pub serve_app : App
+serve_app = with_rule (with_rule (with_rule (new_app (codes "serve")) (needed_rule (codes "database")))
+    (record (number_rule (codes "port") 0 65535) { defaults = codes "0" ∷ [] }))
+    (record (number_rule (codes "requests") 1 1000000) { required = true })
+
 -- `compare BASE NEW`
 abbrev pub compare_app : App
 compare_app = with_rule (with_rule (new_app (codes "compare")) (needed_rule (codes "base"))) (needed_rule (codes "new"))
@@ -43,6 +49,10 @@ one_document_app =
 abbrev pub documents_app : App
 documents_app = with_subcommand one_document_app compare_app.top
 
--- the same with the commands on an office in a file
+-- the same with the command that founds an office
+abbrev pub founding_app : App
+founding_app = with_subcommand documents_app init_app.top
+
+-- the same with the commands that answer with an office in a file
 unfoldable pub office_app : App
-office_app = with_subcommand (with_subcommand documents_app init_app.top) desk_app.top
+office_app = with_subcommand (with_subcommand founding_app desk_app.top) serve_app.top

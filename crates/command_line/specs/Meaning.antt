@@ -1,10 +1,12 @@
 -- What the words of a command line ask for, by the command that clap finds in them and the values that it gives.
-use Rattle.std.specs.Prelude.{◌≡◌, Bool, false, Option, Some, None, List, [], codes, map, option_map, unwrap_or}
-use Rattle.clap.specs.Words.{Row, Text, all_of, first_of, one_of}
+use Rattle.std.specs.Prelude.{◌≡◌, ℕ, Bool, false, Option, Some, None, List, [], codes, map, option_map, unwrap_or}
+use Rattle.std.specs.Str.Parse.{digits_value, without_leading_plus}
+use Rattle.clap.specs.Words.{IsUnsignedIn, Row, Text, all_of, first_of, one_of}
 use Rattle.command_line.specs.declared.command.Command.{Command}
-use Rattle.command_line.specs.declared.command.Command.TheVariants.{Trial, Check, Execve, Init, Desk, Compare}
+use Rattle.command_line.specs.declared.command.Command.TheVariants.{Trial, Check, Execve, Init, Desk, Serve, Compare}
 use Rattle.command_line.specs.declared.command.ExecveWords.{ExecveWords}
 use Rattle.command_line.specs.declared.command.InitWords.{InitWords}
+use Rattle.command_line.specs.declared.command.ServeWords.{ServeWords}
 use Rattle.std.specs.Prelude.{true}
 
 -- the flag of this text is set
@@ -28,6 +30,17 @@ pub record HasInitValues (rows : List Row) (words : InitWords) : Type 0 where
   pub digest : first_of (codes "digest") rows ≡ Some words.digest.now
   pub capabilities : map (λ s. s.now) words.capabilities.items ≡ unwrap_or (all_of (codes "capability") rows) []
 
+-- the text is decimal digits, after at most one plus sign, that write n, a number from low to high
+abbrev pub IsNumberIn : ℕ → ℕ → ℕ → Option Text → Type 0
+IsNumberIn low high n None = ⊥
+IsNumberIn low high n (Some text) = IsUnsignedIn low high text × (n ≡ digits_value 10 (without_leading_plus text))
+
+-- each value of serve is the one that the rows give for it, the numbers within their limits
+pub record HasServeValues (rows : List Row) (words : ServeWords) : Type 0 where
+  pub database : first_of (codes "database") rows ≡ Some words.database.now
+  pub port : IsNumberIn 0 65535 words.port (one_of (codes "port") rows)
+  pub requests : IsNumberIn 1 1000000 words.requests (one_of (codes "requests") rows)
+
 -- each value of compare is the one that the rows give for it
 pub record HasCompareValues (rows : List Row) (base_file new_file : Text) : Type 0 where
   pub base : first_of (codes "base") rows ≡ Some base_file
@@ -40,6 +53,7 @@ AsksFor name rows (Check file) = (name ≡ codes "check") × (first_of (codes "f
 AsksFor name rows (Execve words) = (name ≡ codes "execve") × HasValues rows words
 AsksFor name rows (Init words) = (name ≡ codes "init") × HasInitValues rows words
 AsksFor name rows (Desk database) = (name ≡ codes "desk") × (first_of (codes "database") rows ≡ Some database.now)
+AsksFor name rows (Serve words) = (name ≡ codes "serve") × HasServeValues rows words
 AsksFor name rows (Compare base new) = (name ≡ codes "compare") × HasCompareValues rows base.now new.now
 
 -- the command is what the subcommand that was found asks for; without one it is the trial desk

@@ -2,6 +2,7 @@
 use Rattle.std.specs.Prelude.{ℕ, List, Some, true}
 use Rattle.clap.specs.Words.{App, Rule, new_rule}
 use Rattle.clap.specs.declared.builder.action.ArgAction.TheVariants.{Append, SetTrue}
+use Rattle.clap.specs.declared.builder.value_parser.ValueParser.TheVariants.{Unsigned}
 
 -- the command with `--version`
 abbrev pub with_version : App → App
@@ -18,6 +19,10 @@ several_rule id = record (new_rule id) { value_names = 1; action = Some Append }
 -- `--id VALUE`
 abbrev pub option_rule : List ℕ → Rule
 option_rule id = record (new_rule id) { long = Some id; value_names = 1 }
+
+-- `--id NUMBER`, of a number from low to high
+abbrev pub number_rule : List ℕ → ℕ → ℕ → Rule
+number_rule id low high = record (option_rule id) { parser = Some (Unsigned low high) }
 
 -- `--id`
 abbrev pub flag_rule : List ℕ → Rule

@@ -6,7 +6,7 @@ use Rattle.clap.specs.declared.error.kind.ErrorKind.TheVariants.{DisplayHelp, Di
 use Rattle.command_line.specs.declared.command.Command.{Command}
 use Rattle.command_line.specs.declared.fault.WordsFault.{WordsFault}
 use Rattle.command_line.specs.declared.fault.WordsFault.TheVariants.{Help, Version, Refused, NoMemory}
-use Rattle.command_line.specs.Meaning.{AsksFor, IsCommand}
+use Rattle.command_line.specs.Meaning.{AsksFor, IsCommand, IsNumberIn}
 
 -- the status that the program ends with
 abbrev pub status_of : WordsFault → ℕ
@@ -21,6 +21,10 @@ IsTold kind (Help text) = kind ≡ DisplayHelp
 IsTold kind (Version text) = kind ≡ DisplayVersion
 IsTold kind (Refused text) = (kind ≢ DisplayHelp) × (kind ≢ DisplayVersion) × (kind ≢ OutOfMemory)
 IsTold kind NoMemory = Unit {0}
+
+-- the text, if there is one, writes no number from low to high
+abbrev pub NoNumberIn : ℕ → ℕ → Option Text → Type 0
+NoNumberIn low high text = (n : ℕ) → ¬ IsNumberIn low high n text
 
 -- the subcommand of this name, with these rows of values, asks for no command
 abbrev pub NoneAskedFor : Text → List Row → Type 0

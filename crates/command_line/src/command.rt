@@ -13,6 +13,8 @@ pub enum Command<'w> {
     Init(InitWords<'w>),
     /// `desk DB`: the office in a file, over standard input and output.
     Desk { database: &'w str },
+    /// `serve DB [--port P] --requests N`: the office in a file, over HTTP.
+    Serve(ServeWords<'w>),
     /// `compare BASE NEW`: what the document in one file permits more than that in another.
     Compare { base: &'w str, new: &'w str },
 }
@@ -30,6 +32,17 @@ pub struct ExecveWords<'w> {
     pub file_inheritable: Option<&'w str>,
     /// Whether there is `--file-effective`.
     pub file_effective: bool,
+}
+
+/// The values of `serve`.
+#[derive(Clone, Copy, Debug)]
+pub struct ServeWords<'w> {
+    /// DB, the file of the office.
+    pub database: &'w str,
+    /// P, the port; 0 is any free one.
+    pub port: u16,
+    /// N, how many exchanges are served, from 1 to 1,000,000.
+    pub requests: u32,
 }
 
 /// The values of `init`.

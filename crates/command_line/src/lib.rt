@@ -12,8 +12,9 @@ mod execve;
 mod fault;
 mod init;
 mod parts;
+mod serve;
 mod words;
 
-pub use command::{Command, ExecveWords, InitWords};
+pub use command::{Command, ExecveWords, InitWords, ServeWords};
 pub use fault::WordsFault;
 pub use words::read_words;

@@ -3,8 +3,9 @@
 ghost use Rattle.std.specs.Prelude.{◌≡◌, IfOk, false};
 ghost use Rattle.clap.specs.declared.builder.command.Command.TheViews.{out-Command as fields_of};
 ghost use Rattle.clap.specs.Words.{app_of, rule_of, shape_of, with_rule, with_subcommand};
-ghost use Rattle.command_line.specs.Parts.{flag_rule, needed_rule, option_rule, several_rule, with_version};
+ghost use Rattle.command_line.specs.Parts.{flag_rule, needed_rule, number_rule, option_rule, several_rule, with_version};
 
+use clap::builder::ValueParser;
 use clap::{Arg, ArgAction, Command};
 use std::alloc::{AllocError, Global};
 
@@ -36,6 +37,21 @@ pub(crate) fn value_option<'a>(alloc: Global, id: &'a str, shown: &'a str, help:
     ensures local { result.global ≡ false }
 {
     Arg::new(alloc, id).long(id).value_name(shown).help(help)
+}
+
+/// `--id NUMBER`, at most once, of a number from `low` to `high`.
+pub(crate) fn number_option<'a>(
+    alloc: Global,
+    id: &'a str,
+    shown: &'a str,
+    help: &'a str,
+    low: u64,
+    high: u64,
+) -> Arg<'a>
+    ensures rule { rule_of result ≡ number_rule id.entry.now low high }
+    ensures local { result.global ≡ false }
+{
+    value_option(alloc, id, shown, help).value_parser(ValueParser::unsigned(low, high))
 }
 
 /// `--id`, at most once.

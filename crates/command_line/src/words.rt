@@ -2,7 +2,7 @@
 
 ghost use Rattle.std.specs.Prelude.{◌≡◌, [], IfOk, IfErr, IfSome, IfNone, map, string_bytes};
 ghost use Rattle.clap.specs.Words.{FailsBy, app_of, fault_of, found_of, rows_of, subcommand_of, subcommand_rows_of};
-ghost use Rattle.command_line.specs.Commands.{documents_app, office_app, one_document_app};
+ghost use Rattle.command_line.specs.Commands.{documents_app, founding_app, office_app, one_document_app};
 ghost use Rattle.command_line.specs.Meaning.{AsksFor, IsCommand};
 ghost use Rattle.command_line.specs.Refusals.{IsRefused, NamesNoCommand, NoneAskedFor};
 
@@ -14,6 +14,7 @@ use crate::execve::{execve_command, execve_of};
 use crate::fault::WordsFault;
 use crate::init::{init_command, init_of};
 use crate::parts::{described, versioned, with_command};
+use crate::serve::{serve_command, serve_of};
 use clap::ArgMatches;
 use std::alloc::{AllocError, Global};
 
@@ -34,6 +35,7 @@ Examples:
   office execve examples/web.json --file-permitted CAP_NET_RAW --file-effective
   office init team.db root office $(printf abc | sha256sum | cut -c 1-64) CAP_SYS_ADMIN
   office desk team.db < requests.jsonl
+  office serve team.db --port 8080 --requests 1000
   office < examples/first-path.jsonl";
 
 // The program and its commands on one document.
@@ -54,14 +56,22 @@ fn documents_command<'a>(alloc: Global) -> Result<clap::Command<'a>, AllocError>
     with_command(office, compare_command(alloc)?)
 }
 
+// The program, its commands on documents, and the one that founds an office.
+fn founding_command<'a>(alloc: Global) -> Result<clap::Command<'a>, AllocError>
+    ensures { IfOk result (λ c. app_of c ≡ founding_app) }
+{
+    let office = documents_command(alloc)?;
+    with_command(office, init_command(alloc)?)
+}
+
 // The program and its commands.
 #[tactic(auto, unfolding(crate::specs::Commands::office_app))]
 fn office_command<'a>(alloc: Global) -> Result<clap::Command<'a>, AllocError>
     ensures { IfOk result (λ c. app_of c ≡ office_app) }
 {
-    let office = documents_command(alloc)?;
-    let office = with_command(office, init_command(alloc)?)?;
-    with_command(office, desk_command(alloc)?)
+    let office = founding_command(alloc)?;
+    let office = with_command(office, desk_command(alloc)?)?;
+    with_command(office, serve_command(alloc)?)
 }
 
 // What `clap` makes of the words.
@@ -88,6 +98,7 @@ fn command_of<'w>(
         "compare" => Ok(compare_of(given)),
         "init" => init_of(alloc, given),
         "desk" => Ok(desk_of(given)),
+        "serve" => Ok(serve_of(given)),
         _ => Ok(None),
     }
 }

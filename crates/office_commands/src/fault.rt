@@ -37,6 +37,9 @@ pub enum CommandFault {
     /// The desk stopped.
     #[error("{0}")]
     Desk(#[from] DeskFault),
+    /// Nothing listens at the port.
+    #[error("bind")]
+    Bind,
     /// Standard output can't be written.
     #[error("write")]
     Write,

@@ -8,8 +8,10 @@ mod founding;
 mod lines;
 mod opening;
 mod run;
+mod serving;
 mod stored;
 mod trial;
 
 pub use databases::Databases;
 pub use run::run_words;
+pub use serving::Network;

@@ -62,6 +62,30 @@ pub(crate) fn open<S: Alter + Drop, D: Databases<Database = Connection<S>>>(
     }
 }
 
+/// The office at a path.
+///
+/// # Errors
+///
+/// `NotAnOffice` also where nothing is there, and no file is made then.
+pub(crate) fn office_at<F: Files, S: Alter + Drop, D: Databases<Database = Connection<S>>>(
+    files: &F,
+    databases: &D,
+    path: &str,
+) -> Result<Office<S>, CommandFault> {
+    // Opening would make an empty database.
+    if !is_there(files, path)? {
+        return Err(CommandFault::Store(StoreFault::NotAnOffice));
+    }
+    match Office::over(open(databases, path)?) {
+        Ok(office) => Ok(office),
+        Err((fault, conn)) => {
+            // Why it is no office is told, and not whether this closed.
+            let _ = databases.close(conn);
+            Err(CommandFault::Store(fault))
+        }
+    }
+}
+
 /// Closes an office, so that all of it stands in one file.
 ///
 /// # Errors

@@ -8,6 +8,7 @@ use crate::comparing::compare_files;
 use crate::databases::Databases;
 use crate::fault::CommandFault;
 use crate::founding::found_at;
+use crate::serving::{Network, serve_http};
 use crate::stored::serve_stored;
 use crate::trial::serve_trial;
 use command_line::{Command, ExecveWords, WordsFault, read_words};
@@ -111,9 +112,17 @@ fn failed_status(command: &Command<'_>) -> u8 {
 }
 
 // Carries a command out, and says with which status that ends the program.
-fn run<F: Files, S: Alter + Drop, D: Databases<Database = Connection<S>>, I: Read, O: Write>(
+fn run<
+    F: Files,
+    S: Alter + Drop,
+    D: Databases<Database = Connection<S>>,
+    N: Network,
+    I: Read,
+    O: Write,
+>(
     files: &F,
     databases: &D,
+    network: &N,
     alloc: Global,
     command: Command<'_>,
     input: &mut I,
@@ -129,6 +138,10 @@ fn run<F: Files, S: Alter + Drop, D: Databases<Database = Connection<S>>, I: Rea
         Command::Init(words) => {
             found_at(databases, alloc, &words)?;
             print(&mut Counted::new(output), "founded\n")?;
+            Ok(0)
+        }
+        Command::Serve(words) => {
+            serve_http(files, databases, network, alloc, &words, output)?;
             Ok(0)
         }
         Command::Desk { database } => {
@@ -163,12 +176,14 @@ pub fn run_words<
     F: Files,
     S: Alter + Drop,
     D: Databases<Database = Connection<S>>,
+    N: Network,
     I: Read,
     O: Write,
     E: Write,
 >(
     files: &F,
     databases: &D,
+    network: &N,
     alloc: Global,
     words: &[String],
     input: &mut I,
@@ -178,7 +193,10 @@ pub fn run_words<
     let (status, failed) = match read_words(alloc, words) {
         Ok(command) => {
             let failed = failed_status(&command);
-            (run(files, databases, alloc, command, input, output), failed)
+            (
+                run(files, databases, network, alloc, command, input, output),
+                failed,
+            )
         }
         Err(fault) => (tell(alloc, &fault, output, errors), 1),
     };

@@ -22,7 +22,16 @@ fn said_by_office(rt: &HostRuntime, words: &str, input: &str) -> Result<Said> {
     let mut input = input.as_bytes();
     let mut output = Vec::new(alloc);
     let mut errors = Vec::new(alloc);
-    let status = run_words(rt, rt, alloc, &given, &mut input, &mut output, &mut errors);
+    let status = run_words(
+        rt,
+        rt,
+        rt,
+        alloc,
+        &given,
+        &mut input,
+        &mut output,
+        &mut errors,
+    );
     output.extend_from_slice(&errors)?;
     let Ok(text) = String::from_utf8(output) else {
         bail!("office printed bytes that are not UTF-8");

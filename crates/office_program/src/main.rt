@@ -28,6 +28,7 @@ fn main(rt: HostRuntime) -> ExitCode {
         Ok(words) => run_words(
             &rt,
             &rt,
+            &rt,
             rt.alloc(),
             &words,
             &mut rt.reader(),

@@ -2,7 +2,8 @@
 
 use crate::tests::databases::{Closing, InMemory};
 use crate::tests::shelf::{Shelf, Then};
-use office_commands::{Databases, run_words};
+use crate::tests::unplugged::Unplugged;
+use office_commands::{Databases, Network, run_words};
 use sqlite::{Alter, Connection};
 use std::alloc::{AllocError, Global};
 use std::fs::Files;
@@ -28,10 +29,17 @@ pub fn words_of(alloc: Global, texts: &[&str]) -> Result<Vec<String>, AllocError
     Ok(words)
 }
 
-// What it says to the words over these files, databases and input.
-pub fn said_with<F: Files, S: Alter + Drop, D: Databases<Database = Connection<S>>, I: Read>(
+// What it says to the words over these files, databases, network and input.
+pub fn said_on<
+    F: Files,
+    S: Alter + Drop,
+    D: Databases<Database = Connection<S>>,
+    N: Network,
+    I: Read,
+>(
     files: &F,
     databases: &D,
+    network: &N,
     alloc: Global,
     texts: &[&str],
     input: &mut I,
@@ -42,6 +50,7 @@ pub fn said_with<F: Files, S: Alter + Drop, D: Databases<Database = Connection<S
     let status = run_words(
         files,
         databases,
+        network,
         alloc,
         &words,
         input,
@@ -53,6 +62,17 @@ pub fn said_with<F: Files, S: Alter + Drop, D: Databases<Database = Connection<S
         output,
         errors,
     })
+}
+
+// The same where nothing can be bound.
+pub fn said_with<F: Files, S: Alter + Drop, D: Databases<Database = Connection<S>>, I: Read>(
+    files: &F,
+    databases: &D,
+    alloc: Global,
+    texts: &[&str],
+    input: &mut I,
+) -> Result<Said, Fail> {
+    said_on(files, databases, &Unplugged, alloc, texts, input)
 }
 
 // What it says to the words over these files, with an empty input.

@@ -1,6 +1,7 @@
 use crate::tests::databases::{Closing, InMemory};
 use crate::tests::said::{assert_said, said_of, words_of};
 use crate::tests::shelf::{PATH, Shelf, Then};
+use crate::tests::unplugged::Unplugged;
 use office_commands::run_words;
 use std::io;
 use std::io::{ErrorKind, Write};
@@ -77,6 +78,7 @@ fn without_words_it_is_the_trial_desk(rt: HostRuntime) -> Result<(), Fail> {
     let status = run_words(
         &shelf,
         &databases,
+        &Unplugged,
         alloc,
         &words,
         &mut input,
@@ -112,6 +114,7 @@ fn an_output_that_fails_is_told(rt: HostRuntime) -> Result<(), Fail> {
         let status = run_words(
             &shelf,
             &databases,
+            &Unplugged,
             alloc,
             &words,
             &mut input,

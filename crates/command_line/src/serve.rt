@@ -1,0 +1,87 @@
+//! The command `serve`.
+
+ghost use Rattle.std.specs.Prelude.{◌≡◌, ℕ, IfOk, IfSome, IfNone, false, codes};
+ghost use Rattle.clap.specs.declared.builder.command.Command.TheViews.{out-Command as fields_of};
+ghost use Rattle.clap.specs.Words.{app_of, found_of, one_of, rows_of};
+ghost use Rattle.command_line.specs.Commands.{serve_app};
+ghost use Rattle.command_line.specs.Meaning.{AsksFor, IsNumberIn};
+ghost use Rattle.command_line.specs.Refusals.{NoNumberIn, NoneAskedFor};
+
+use crate::command::{Command, ServeWords};
+use crate::parts::{described, needed, number_option, with_arg};
+use clap::ArgMatches;
+use std::alloc::{AllocError, Global};
+
+// The most exchanges that one run serves.
+const MOST_REQUESTS: u32 = 1_000_000;
+
+const ABOUT: &str = "Answers HTTP requests with the office in a file";
+
+const EXAMPLES: &str =
+    "It listens on 127.0.0.1, serves N exchanges, and ends. At port 0 the system picks a free port.
+
+It prints `listening 127.0.0.1:PORT` first, and then a line for each exchange: the status of its answer,
+or `fault WORD` where it failed.
+
+Statuses: 0, N exchanges are over; 1, it was refused or failed, which standard error says as
+`office: WORDS`.
+
+Example:
+  office serve team.db --port 8080 --requests 1000";
+
+/// `serve DB [--port P] --requests N`.
+pub(crate) fn serve_command<'a>(alloc: Global) -> Result<clap::Command<'a>, AllocError>
+    ensures app { IfOk result (λ c. app_of c ≡ serve_app) }
+    ensures globals { IfOk result (λ c. (fields_of c).has_globals ≡ false) }
+{
+    let serve = described(clap::Command::new(alloc, "serve"), ABOUT, EXAMPLES);
+    let database = needed(alloc, "database", "DB", "The file of the office");
+    let serve = with_arg(serve, database)?;
+    let port = number_option(alloc, "port", "P", "The port, from 0 to 65535", 0, 65535);
+    let serve = with_arg(serve, port.default_value("0"))?;
+    let requests = number_option(
+        alloc,
+        "requests",
+        "N",
+        "How many exchanges, from 1 to 1000000",
+        1,
+        u64::from(MOST_REQUESTS),
+    );
+    with_arg(serve, requests.required(true))
+}
+
+// P, or its default.
+fn port_of(given: &ArgMatches<'_>) -> Option<u16>
+    ensures number { IfSome result (λ n. IsNumberIn 0 65535 n (one_of (codes "port") (rows_of (found_of given.now)))) }
+    ensures lacking { IfNone result (NoNumberIn 0 65535 (one_of (codes "port") (rows_of (found_of given.now)))) }
+{
+    given.get_one::<u16>("port")
+}
+
+// N. `clap` takes it within these limits only, and here the value itself is known to lie within them.
+fn requests_of(given: &ArgMatches<'_>) -> Option<u32>
+    ensures number { IfSome result (λ n. IsNumberIn 1 1000000 n (one_of (codes "requests") (rows_of (found_of given.now)))) }
+    ensures lacking { IfNone result (NoNumberIn 1 1000000 (one_of (codes "requests") (rows_of (found_of given.now)))) }
+{
+    let requests = given.get_one::<u32>("requests")?;
+    if 1 <= requests && requests <= MOST_REQUESTS {
+        Some(requests)
+    } else {
+        None
+    }
+}
+
+/// What `serve` asks for with these values; none without DB, P and N, the numbers within their limits.
+pub(crate) fn serve_of<'w>(given: &ArgMatches<'w>) -> Option<Command<'w>>
+    ensures command { IfSome result (AsksFor (codes "serve") (rows_of (found_of given.now))) }
+    ensures lacking { IfNone result (NoneAskedFor (codes "serve") (rows_of (found_of given.now))) }
+{
+    let database = given.get_str("database")?;
+    let port = port_of(given)?;
+    let requests = requests_of(given)?;
+    Some(Command::Serve(ServeWords {
+        database,
+        port,
+        requests,
+    }))
+}

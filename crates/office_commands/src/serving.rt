@@ -1,0 +1,93 @@
+//! `serve`: an office in a file, over HTTP on loopback.
+
+ghost use Rattle.sqlite.specs.Held.{state};
+ghost use Rattle.office_commands.specs.Serving.{HasServed};
+
+use crate::databases::Databases;
+use crate::fault::CommandFault;
+use crate::opening::{close, office_at};
+use command_line::ServeWords;
+use counted_io::{Counted, write_whole};
+use http_serving::serve_all;
+use office_desk::Office;
+use sqlite::{Alter, Connection};
+use std::alloc::Global;
+use std::fs::Files;
+use std::io::Write;
+use std::net::{Ipv4Addr, Net, SocketAddr, TcpListener, TcpStream};
+use std::time::{Clock, Duration};
+
+// How long an exchange may last, in seconds.
+const LONGEST: u64 = 10;
+
+/// What the program has of a network: sockets, and a clock for their deadlines.
+pub trait Network: Net<Stream = TcpStream, Listener = TcpListener> + Clock {}
+
+impl Network for HostRuntime {}
+
+// A listener at a port of loopback, and that port.
+fn bind<N: Network>(network: &N, port: u16) -> Result<(TcpListener, u16), CommandFault> {
+    let address = SocketAddr::from((Ipv4Addr::LOCALHOST, port));
+    let Ok(listener) = TcpListener::bind(network, address) else {
+        return Err(CommandFault::Bind);
+    };
+    let Ok(bound) = listener.local_addr() else {
+        return Err(CommandFault::Bind);
+    };
+    Ok((listener, bound.port()))
+}
+
+// Says at which port it listens, and serves the exchanges.
+fn serve_bound<N: Network, S: Alter, O: Write>(
+    network: &N,
+    office: &mut Office<S>,
+    alloc: Global,
+    words: &ServeWords<'_>,
+    output: &mut O,
+) -> Result<(), CommandFault>
+    ensures { HasServed (state S.Store office.old) (state S.Store office.new) words.now.requests result }
+{
+    let (listener, port) = bind(network, words.port)?;
+    let Ok(listening) = format!(in alloc; "listening {}:{port}\n", Ipv4Addr::LOCALHOST) else {
+        return Err(CommandFault::NoMemory);
+    };
+    if write_whole(&mut Counted::new(&mut *output), listening.as_bytes()).is_err() {
+        return Err(CommandFault::Write);
+    }
+    let longest = Duration::from_secs(LONGEST);
+    match serve_all(
+        network,
+        office,
+        alloc,
+        &listener,
+        words.requests,
+        longest,
+        output,
+    ) {
+        0 => Ok(()),
+        _ => Err(CommandFault::Write),
+    }
+}
+
+/// Serves exchanges with the office at a path, and closes it, also where that failed. Where closing fails too, the first
+/// fault is told. The port is bound last, so that nothing is heard where there is no office.
+pub(crate) fn serve_http<
+    F: Files,
+    S: Alter + Drop,
+    D: Databases<Database = Connection<S>>,
+    N: Network,
+    O: Write,
+>(
+    files: &F,
+    databases: &D,
+    network: &N,
+    alloc: Global,
+    words: &ServeWords<'_>,
+    output: &mut O,
+) -> Result<(), CommandFault> {
+    let mut office = office_at(files, databases, words.database)?;
+    let served = serve_bound(network, &mut office, alloc, words, output);
+    let closed = close(databases, office);
+    served?;
+    closed
+}
