@@ -8,8 +8,6 @@ mod exec;
 mod flags;
 mod names;
 mod state;
-#[cfg(test)]
-mod tests;
 
 pub use caps::Caps;
 pub use exec::{Eperm, File, execve, execve_root};

@@ -1,7 +1,7 @@
 -- Bytes read as a profile exactly where they stand for it.
 use Rattle.std.proofs.Common.{◌≡◌, ◌∙◌, ℕ, ◌<◌, ◌≤◌, ◌⊎◌, inl, inr, List, [], ◌∷◌, ◌++◌, length, Bool, true, false, cond, Option, Some, None, option_map, Result, Ok, Err, refl, sym, ap, subst, le-ltb, ltb-false}
 use Rattle.std.specs.Option.{option_map_or}
-use Rattle.std.specs.Prelude.{codes, nat_lt, unwrap_or}
+use Rattle.std.specs.Prelude.{IfOk, codes, nat_lt, unwrap_or}
 use Rattle.serde_json.specs.Data.{Data, null, boolean, number, string, array, object, Members}
 use Rattle.cap_sets.specs.Lawful.{IsLawful, IsFirstFault}
 use Rattle.cap_sets.specs.declared.state.CapState.{CapState}
@@ -21,7 +21,7 @@ use Rattle.profile_text.specs.Document.{document_rows, document_faults}
 use Rattle.profile_text.specs.FilterParts.{seccomp_in}
 use Rattle.profile_text.specs.FilterReads.{AllMembers, IsA, IsSeccomp, Makes, StandsForFilter}
 use Rattle.profile_text.specs.FilterShape.{seccomp_faults}
-use Rattle.profile_text.specs.Reading.{◌>>=◌, unless_faulty, unless_unlawful, filter_or_fault, caps_or_fault, if_short, profile_of, profile_of_json, json_of, reading_of, most_bytes}
+use Rattle.profile_text.specs.Reading.{GivesAs, ◌>>=◌, unless_faulty, unless_unlawful, filter_or_fault, caps_or_fault, if_short, profile_of, profile_of_json, json_of, reading_of, most_bytes}
 use Rattle.profile_text.specs.Reads.{IsSetMember, IsCapsValue, IsDocumentMember, StandsForSet, StandsForCaps, MembersStandFor, StandsFor, Reads, state_set}
 use Rattle.profile_text.specs.Parts.{found_in, document_parts, parts_of}
 use Rattle.profile_text.specs.Sets.{set_name, set_in, set_of, sets_in, sets_of, no_sets, member_set}
@@ -240,3 +240,9 @@ reads_from bytes p e =
 pub reading_from : (bytes : List ℕ) (p : Profile) → Reads bytes p → reading_of bytes ≡ Ok p
 unfolding reading_of
 reading_from bytes p h = rw (le-ltb most_bytes (length bytes) h.short, h.stands.1) (profile_stood h.stands.0 p h.stands.2 h.text)
+
+-- what a reader gives stands for the bytes
+pub stands_given : {X : Type 0} (seen : X → Profile) (bytes : List ℕ) (given : Result X DocFault) → GivesAs seen given (reading_of bytes)
+    → IfOk given (λ x. Reads bytes (seen x))
+stands_given seen bytes (Ok x) e = reads_from bytes (seen x) e
+stands_given seen bytes (Err fault) e = tt

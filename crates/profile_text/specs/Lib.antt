@@ -14,3 +14,4 @@ pub mod State
 pub mod Reading
 pub mod FilterReads
 pub mod Reads
+pub mod Place

@@ -1,13 +1,16 @@
 // The reader of arguments: the comparisons of an entry.
 
+ghost use Rattle.std.specs.Prelude.{codes};
 ghost use Rattle.serde_json.specs.View.{items_view, members_view, view};
 ghost use Rattle.profile_text.specs.FilterFound.{arg_found, arg_found_with};
 ghost use Rattle.profile_text.specs.FilterParts.{arg_at, arg_in, items_as, list_as};
 ghost use Rattle.profile_text.specs.FilterShape.{arg_faults, arg_rows};
+ghost use Rattle.profile_text.specs.Place.{path_of};
 ghost use Rattle.profile_text.specs.Reading.{Gives, GivesAs, unless_faulty};
 ghost use Rattle.profile_text.specs.Shape.{below, items_faults, list_faults, members_faults, object_faults, optional_faults, row_faults, row_named};
 
 use crate::fault::{DocFault, Path};
+use crate::place::Place;
 use crate::value::{number_of, op_of, optional_number_of};
 use seccomp_doc::{ArgParts, Op};
 use serde_json::{Map, Value};
@@ -25,36 +28,36 @@ pub(crate) struct FoundArg {
 // What was found so far, with one member more.
 fn found_with(
     alloc: Global,
-    path: &str,
+    place: Place,
     found: FoundArg,
     name: &str,
     value: &Value,
 ) -> Result<FoundArg, DocFault>
     ensures { Gives result (unless_faulty
-        (row_faults (row_named arg_rows name.now) (below path.now name.now) (view value.now))
+        (row_faults (row_named arg_rows name.now) (below (path_of place) name.now) (view value.now))
         (arg_found_with name.now (view value.now) found)) }
 {
     if name == "index" {
-        let index = Some(number_of(alloc, path, name, value)?);
+        let index = Some(number_of(alloc, place, name, value)?);
         Ok(FoundArg { index, ..found })
     } else if name == "op" {
-        let op = Some(op_of(alloc, path, name, value)?);
+        let op = Some(op_of(alloc, place, name, value)?);
         Ok(FoundArg { op, ..found })
     } else if name == "value" {
-        let value = Some(number_of(alloc, path, name, value)?);
+        let value = Some(number_of(alloc, place, name, value)?);
         Ok(FoundArg { value, ..found })
     } else if name == "valueTwo" {
-        let value_two = optional_number_of(alloc, path, name, value)?.unwrap_or(0);
+        let value_two = optional_number_of(alloc, place, name, value)?.unwrap_or(0);
         Ok(FoundArg { value_two, ..found })
     } else {
-        Err(DocFault::UnknownMember(Path::of_member(alloc, path, name)?))
+        Err(DocFault::UnknownMember(Path::of_member(alloc, place, name)?))
     }
 }
 
 // What the members give.
-fn found_in(alloc: Global, path: &str, members: &Map<String, Value>) -> Result<FoundArg, DocFault>
+fn found_in(alloc: Global, place: Place, members: &Map<String, Value>) -> Result<FoundArg, DocFault>
     ensures { Gives result (unless_faulty
-        (members_faults arg_rows path.now (members_view members.now.entries))
+        (members_faults arg_rows (path_of place) (members_view members.now.entries))
         (arg_found (members_view members.now.entries))) }
 {
     let mut found = FoundArg {
@@ -65,26 +68,26 @@ fn found_in(alloc: Global, path: &str, members: &Map<String, Value>) -> Result<F
     };
     for (name, value) in members {
         let name = name.as_str();
-        found = found_with(alloc, path, found, name, value)?;
+        found = found_with(alloc, place, found, name, value)?;
     }
     Ok(found)
 }
 
 // The argument of the members, of which the second value isn't required.
-fn arg_at(alloc: Global, path: &str, members: &Map<String, Value>) -> Result<ArgParts, DocFault>
+fn arg_at(alloc: Global, place: Place, members: &Map<String, Value>) -> Result<ArgParts, DocFault>
     ensures { Gives result (unless_faulty
-        (object_faults arg_rows path.now (members_view members.now.entries))
+        (object_faults arg_rows (path_of place) (members_view members.now.entries))
         (arg_at (members_view members.now.entries))) }
 {
-    let found = found_in(alloc, path, members)?;
+    let found = found_in(alloc, place, members)?;
     let Some(index) = found.index else {
-        return Err(DocFault::WrongShape(Path::of_member(alloc, path, "index")?));
+        return Err(DocFault::WrongShape(Path::of_member(alloc, place, "index")?));
     };
     let Some(op) = found.op else {
-        return Err(DocFault::WrongShape(Path::of_member(alloc, path, "op")?));
+        return Err(DocFault::WrongShape(Path::of_member(alloc, place, "op")?));
     };
     let Some(value) = found.value else {
-        return Err(DocFault::WrongShape(Path::of_member(alloc, path, "value")?));
+        return Err(DocFault::WrongShape(Path::of_member(alloc, place, "value")?));
     };
     Ok(ArgParts {
         index,
@@ -96,30 +99,28 @@ fn arg_at(alloc: Global, path: &str, members: &Map<String, Value>) -> Result<Arg
 
 // An argument.
 #[tactic(auto, unfolding(crate::specs::FilterShape::table_faults, crate::specs::FilterParts::arg_in))]
-fn arg_of(alloc: Global, path: &str, value: Value) -> Result<ArgParts, DocFault>
-    ensures { Gives result (unless_faulty (arg_faults path.now (view value)) (arg_in (view value))) }
+fn arg_of(alloc: Global, place: Place, value: Value) -> Result<ArgParts, DocFault>
+    ensures { Gives result (unless_faulty (arg_faults (path_of place) (view value)) (arg_in (view value))) }
 {
     match value {
-        Value::Object(members) => arg_at(alloc, path, &members),
-        _ => Err(DocFault::WrongShape(Path::new(alloc, path)?)),
+        Value::Object(members) => arg_at(alloc, place, &members),
+        _ => Err(DocFault::WrongShape(Path::of(alloc, place)?)),
     }
 }
 
 // The arguments of a list.
-fn args_in(
-    alloc: Global,
-    path: &str,
-    name: &str,
-    values: Vec<Value>,
-) -> Result<Vec<ArgParts>, DocFault>
+fn args_in(alloc: Global, entry: usize, values: Vec<Value>) -> Result<Vec<ArgParts>, DocFault>
     ensures { GivesAs (λ args. args.items) result (unless_faulty
-        (items_faults arg_faults (below path.now name.now) 0 (items_view values.items))
+        (items_faults arg_faults (below (path_of (Place.Entry entry)) (codes "args")) 0 (items_view values.items))
         (items_as arg_in (items_view values.items))) }
 {
     let mut args = Vec::with_capacity(alloc, values.len())?;
     for value in values {
-        let item = Path::of_item(alloc, path, name, args.len())?;
-        let arg = arg_of(alloc, item.as_str(), value)?;
+        let place = Place::Argument {
+            entry,
+            position: args.len(),
+        };
+        let arg = arg_of(alloc, place, value)?;
         args.push(arg).map_err(|_| DocFault::NoMemory)?;
     }
     Ok(args)
@@ -127,19 +128,14 @@ fn args_in(
 
 /// A list of arguments, or null.
 #[tactic(auto, unfolding(crate::specs::Shape::optional_faults, crate::specs::Shape::list_faults, crate::specs::FilterParts::list_as))]
-pub(crate) fn args_of(
-    alloc: Global,
-    path: &str,
-    name: &str,
-    value: Value,
-) -> Result<Vec<ArgParts>, DocFault>
+pub(crate) fn args_of(alloc: Global, entry: usize, value: Value) -> Result<Vec<ArgParts>, DocFault>
     ensures { GivesAs (λ args. args.items) result (unless_faulty
-        (optional_faults (list_faults arg_faults) (below path.now name.now) (view value))
+        (optional_faults (list_faults arg_faults) (below (path_of (Place.Entry entry)) (codes "args")) (view value))
         (list_as arg_in (view value))) }
 {
     match value {
         Value::Null => Ok(Vec::new(alloc)),
-        Value::Array(values) => args_in(alloc, path, name, values),
-        _ => Err(DocFault::WrongShape(Path::of_member(alloc, path, name)?)),
+        Value::Array(values) => args_in(alloc, entry, values),
+        _ => Err(DocFault::WrongShape(Path::of_member(alloc, Place::Entry(entry), "args")?)),
     }
 }

@@ -8,6 +8,7 @@ ghost use Rattle.profile_text.specs.Sets.{cap_of, caps_of, set_of, sets_in, sets
 ghost use Rattle.profile_text.specs.Shape.{below, items_faults, object_faults, row_faults, word_faults};
 
 use crate::fault::{DocFault, Path};
+use crate::place::Place;
 use crate::sets::{CapSet, Sets};
 use cap_sets::Caps;
 use serde_json::{Map, Value};
@@ -25,12 +26,12 @@ fn cap_of(alloc: Global, name: &str, position: usize, value: &Value) -> Result<C
             Some(caps) => Ok(caps),
             None => Err(DocFault::UnknownWord(Path::of_item(
                 alloc,
-                "/capabilities",
+                Place::Capabilities,
                 name,
                 position,
             )?)),
         },
-        _ => Err(DocFault::WrongShape(Path::of_item(alloc, "/capabilities", name, position)?)),
+        _ => Err(DocFault::WrongShape(Path::of_item(alloc, Place::Capabilities, name, position)?)),
     }
 }
 
@@ -55,7 +56,7 @@ fn set_of(alloc: Global, name: &str, value: &Value) -> Result<Caps, DocFault>
     match value {
         Value::Null => Ok(Caps::empty()),
         Value::Array(values) => caps_of(alloc, name, values.as_slice()),
-        _ => Err(DocFault::WrongShape(Path::of_member(alloc, "/capabilities", name)?)),
+        _ => Err(DocFault::WrongShape(Path::of_member(alloc, Place::Capabilities, name)?)),
     }
 }
 
@@ -76,7 +77,7 @@ fn sets_with(
             let caps = set_of(alloc, name, value)?;
             Ok(sets.with(set, caps))
         }
-        None => Err(DocFault::UnknownMember(Path::of_member(alloc, "/capabilities", name)?)),
+        None => Err(DocFault::UnknownMember(Path::of_member(alloc, Place::Capabilities, name)?)),
     }
 }
 
@@ -103,6 +104,6 @@ pub(crate) fn capabilities_of(alloc: Global, value: &Value) -> Result<Sets, DocF
 {
     match value {
         Value::Object(members) => sets_in(alloc, members),
-        _ => Err(DocFault::WrongShape(Path::new(alloc, "/capabilities")?)),
+        _ => Err(DocFault::WrongShape(Path::of(alloc, Place::Capabilities)?)),
     }
 }

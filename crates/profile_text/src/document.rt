@@ -4,6 +4,7 @@ ghost use Rattle.std.specs.Prelude.{◌≡◌, ◌<◌, [], length, Err, IfOk};
 ghost use Rattle.serde_json.specs.View.{members_view, view};
 ghost use Rattle.profile_text.specs.Document.{document_faults, document_rows};
 ghost use Rattle.profile_text.specs.Reading.{Gives, GivesAs, HasItsText, if_short, most_bytes, profile_of, reading_of, unless_faulty};
+ghost use Rattle.profile_text.specs.Reads.{Reads};
 ghost use Rattle.profile_text.specs.Parts.{document_parts, found_in, found_with, parts_of};
 ghost use Rattle.profile_text.specs.Shape.{below, members_faults, object_faults, row_faults, row_named};
 
@@ -11,6 +12,7 @@ use crate::canonical::print;
 use crate::capabilities::capabilities_of;
 use crate::fault::{DocFault, Path};
 use crate::filter::{filter_of, seccomp_of};
+use crate::place::Place;
 use crate::profile::Profile;
 use crate::sets::Sets;
 use seccomp_doc::FilterParts;
@@ -56,7 +58,7 @@ fn found_with(alloc: Global, found: Found, name: &str, value: Value) -> Result<F
         let filter = seccomp_of(alloc, value)?;
         Ok(Found { filter, ..found })
     } else {
-        Err(DocFault::UnknownMember(Path::of_member(alloc, "", name)?))
+        Err(DocFault::UnknownMember(Path::of_member(alloc, Place::Document, name)?))
     }
 }
 
@@ -86,7 +88,7 @@ fn parts_in(alloc: Global, members: Map<String, Value>) -> Result<Parts, DocFaul
     let Found { sets, filter } = found_in(alloc, members)?;
     match sets {
         Some(sets) => Ok(Parts { sets, filter }),
-        None => Err(DocFault::WrongShape(Path::new(alloc, "/capabilities")?)),
+        None => Err(DocFault::WrongShape(Path::of(alloc, Place::Capabilities)?)),
     }
 }
 
@@ -136,6 +138,7 @@ fn document_of(alloc: Global, value: Value) -> Result<Document, DocFault>
 /// Each fault of `DocFault`; `NoMemory` is answered for want of memory, and never for `TooLong`.
 pub fn read_with_text(alloc: Global, bytes: &[u8]) -> Result<Document, DocFault>
     ensures reading { GivesAs (λ document. document.profile) result (reading_of bytes.now) }
+    ensures stands { IfOk result (λ document. Reads bytes.now document.profile) }
     ensures text { IfOk result HasItsText }
     ensures too_long { most_bytes < length bytes.now → result ≡ Err DocFault.TooLong }
 {
@@ -161,6 +164,7 @@ pub fn read_with_text(alloc: Global, bytes: &[u8]) -> Result<Document, DocFault>
 /// Each fault of `DocFault`; `NoMemory` is answered for want of memory, and never for `TooLong`.
 pub fn read(alloc: Global, bytes: &[u8]) -> Result<Profile, DocFault>
     ensures reading { Gives result (reading_of bytes.now) }
+    ensures stands { IfOk result (Reads bytes.now) }
     ensures too_long { most_bytes < length bytes.now → result ≡ Err DocFault.TooLong }
 {
     match read_with_text(alloc, bytes) {

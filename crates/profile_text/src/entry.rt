@@ -1,15 +1,17 @@
 // The reader of entries.
 
-ghost use Rattle.std.specs.Prelude.{map, string_bytes};
+ghost use Rattle.std.specs.Prelude.{codes, map, string_bytes};
 ghost use Rattle.serde_json.specs.View.{items_view, members_view, view};
 ghost use Rattle.profile_text.specs.FilterFound.{entry_found, entry_found_with, entry_seen};
 ghost use Rattle.profile_text.specs.FilterParts.{entry_at, entry_in, items_as, list_as, string_in};
 ghost use Rattle.profile_text.specs.FilterShape.{entry_faults, entry_rows, text_faults};
+ghost use Rattle.profile_text.specs.Place.{path_of};
 ghost use Rattle.profile_text.specs.Reading.{Gives, GivesAs, unless_faulty};
 ghost use Rattle.profile_text.specs.Shape.{below, items_faults, list_faults, members_faults, object_faults, optional_faults, row_faults, row_named};
 
 use crate::argument::args_of;
 use crate::fault::{DocFault, Path};
+use crate::place::Place;
 use crate::value::{action_of, optional_number_of, text_of};
 use seccomp_doc::{ActionWord, ArgParts, EntryParts};
 use serde_json::{Map, Value};
@@ -18,17 +20,17 @@ use std::alloc::Global;
 // The texts of a list.
 fn names_in(
     alloc: Global,
-    path: &str,
+    place: Place,
     name: &str,
     values: Vec<Value>,
 ) -> Result<Vec<String>, DocFault>
     ensures { GivesAs (λ names. map string_bytes names.items) result (unless_faulty
-        (items_faults text_faults (below path.now name.now) 0 (items_view values.items))
+        (items_faults text_faults (below (path_of place) name.now) 0 (items_view values.items))
         (items_as string_in (items_view values.items))) }
 {
     let mut names = Vec::with_capacity(alloc, values.len())?;
     for value in values {
-        let text = text_of(alloc, path, name, names.len(), value)?;
+        let text = text_of(alloc, place, name, names.len(), value)?;
         names.push(text).map_err(|_| DocFault::NoMemory)?;
     }
     Ok(names)
@@ -36,14 +38,14 @@ fn names_in(
 
 // A list of texts.
 #[tactic(auto, unfolding(crate::specs::Shape::list_faults, crate::specs::FilterParts::list_as))]
-fn names_of(alloc: Global, path: &str, name: &str, value: Value) -> Result<Vec<String>, DocFault>
+fn names_of(alloc: Global, place: Place, name: &str, value: Value) -> Result<Vec<String>, DocFault>
     ensures { GivesAs (λ names. map string_bytes names.items) result (unless_faulty
-        (list_faults text_faults (below path.now name.now) (view value))
+        (list_faults text_faults (below (path_of place) name.now) (view value))
         (list_as string_in (view value))) }
 {
     match value {
-        Value::Array(values) => names_in(alloc, path, name, values),
-        _ => Err(DocFault::WrongShape(Path::of_member(alloc, path, name)?)),
+        Value::Array(values) => names_in(alloc, place, name, values),
+        _ => Err(DocFault::WrongShape(Path::of_member(alloc, place, name)?)),
     }
 }
 
@@ -59,36 +61,40 @@ pub(crate) struct FoundEntry {
 // What was found so far, with one member more.
 fn found_with(
     alloc: Global,
-    path: &str,
+    entry: usize,
     found: FoundEntry,
     name: &str,
     value: Value,
 ) -> Result<FoundEntry, DocFault>
     ensures { GivesAs entry_seen result (unless_faulty
-        (row_faults (row_named entry_rows name.now) (below path.now name.now) (view value))
+        (row_faults (row_named entry_rows name.now) (below (path_of (Place.Entry entry)) name.now) (view value))
         (entry_found_with name.now (view value) (entry_seen found))) }
 {
     if name == "action" {
-        let word = Some(action_of(alloc, path, name, &value)?);
+        let word = Some(action_of(alloc, Place::Entry(entry), name, &value)?);
         Ok(FoundEntry { word, ..found })
     } else if name == "args" {
-        let args = args_of(alloc, path, name, value)?;
+        let args = args_of(alloc, entry, value)?;
         Ok(FoundEntry { args, ..found })
     } else if name == "errnoRet" {
-        let errno = optional_number_of(alloc, path, name, &value)?;
+        let errno = optional_number_of(alloc, Place::Entry(entry), name, &value)?;
         Ok(FoundEntry { errno, ..found })
     } else if name == "names" {
-        let names = Some(names_of(alloc, path, name, value)?);
+        let names = Some(names_of(alloc, Place::Entry(entry), name, value)?);
         Ok(FoundEntry { names, ..found })
     } else {
-        Err(DocFault::UnknownMember(Path::of_member(alloc, path, name)?))
+        Err(DocFault::UnknownMember(Path::of_member(alloc, Place::Entry(entry), name)?))
     }
 }
 
 // What the members give.
-fn found_in(alloc: Global, path: &str, members: Map<String, Value>) -> Result<FoundEntry, DocFault>
+fn found_in(
+    alloc: Global,
+    entry: usize,
+    members: Map<String, Value>,
+) -> Result<FoundEntry, DocFault>
     ensures { GivesAs entry_seen result (unless_faulty
-        (members_faults entry_rows path.now (members_view members.entries))
+        (members_faults entry_rows (path_of (Place.Entry entry)) (members_view members.entries))
         (entry_found (members_view members.entries))) }
 {
     let mut found = FoundEntry {
@@ -99,15 +105,19 @@ fn found_in(alloc: Global, path: &str, members: Map<String, Value>) -> Result<Fo
     };
     for (name, value) in members {
         let name = name.as_str();
-        found = found_with(alloc, path, found, name, value)?;
+        found = found_with(alloc, entry, found, name, value)?;
     }
     Ok(found)
 }
 
 // The entry of the members, of which the action and the names are required.
-fn entry_at(alloc: Global, path: &str, members: Map<String, Value>) -> Result<EntryParts, DocFault>
+fn entry_at(
+    alloc: Global,
+    entry: usize,
+    members: Map<String, Value>,
+) -> Result<EntryParts, DocFault>
     ensures { Gives result (unless_faulty
-        (object_faults entry_rows path.now (members_view members.entries))
+        (object_faults entry_rows (path_of (Place.Entry entry)) (members_view members.entries))
         (entry_at (members_view members.entries))) }
 {
     let FoundEntry {
@@ -115,12 +125,12 @@ fn entry_at(alloc: Global, path: &str, members: Map<String, Value>) -> Result<En
         args,
         errno,
         names,
-    } = found_in(alloc, path, members)?;
+    } = found_in(alloc, entry, members)?;
     let Some(word) = word else {
-        return Err(DocFault::WrongShape(Path::of_member(alloc, path, "action")?));
+        return Err(DocFault::WrongShape(Path::of_member(alloc, Place::Entry(entry), "action")?));
     };
     let Some(names) = names else {
-        return Err(DocFault::WrongShape(Path::of_member(alloc, path, "names")?));
+        return Err(DocFault::WrongShape(Path::of_member(alloc, Place::Entry(entry), "names")?));
     };
     Ok(EntryParts {
         names,
@@ -132,30 +142,24 @@ fn entry_at(alloc: Global, path: &str, members: Map<String, Value>) -> Result<En
 
 // An entry.
 #[tactic(auto, unfolding(crate::specs::FilterShape::table_faults, crate::specs::FilterParts::entry_in))]
-fn entry_of(alloc: Global, path: &str, value: Value) -> Result<EntryParts, DocFault>
-    ensures { Gives result (unless_faulty (entry_faults path.now (view value)) (entry_in (view value))) }
+fn entry_of(alloc: Global, entry: usize, value: Value) -> Result<EntryParts, DocFault>
+    ensures { Gives result (unless_faulty (entry_faults (path_of (Place.Entry entry)) (view value)) (entry_in (view value))) }
 {
     match value {
-        Value::Object(members) => entry_at(alloc, path, members),
-        _ => Err(DocFault::WrongShape(Path::new(alloc, path)?)),
+        Value::Object(members) => entry_at(alloc, entry, members),
+        _ => Err(DocFault::WrongShape(Path::of(alloc, Place::Entry(entry))?)),
     }
 }
 
 // The entries of a list.
-fn entries_in(
-    alloc: Global,
-    path: &str,
-    name: &str,
-    values: Vec<Value>,
-) -> Result<Vec<EntryParts>, DocFault>
+fn entries_in(alloc: Global, values: Vec<Value>) -> Result<Vec<EntryParts>, DocFault>
     ensures { GivesAs (λ entries. entries.items) result (unless_faulty
-        (items_faults entry_faults (below path.now name.now) 0 (items_view values.items))
+        (items_faults entry_faults (below (codes "/seccomp") (codes "syscalls")) 0 (items_view values.items))
         (items_as entry_in (items_view values.items))) }
 {
     let mut entries = Vec::with_capacity(alloc, values.len())?;
     for value in values {
-        let item = Path::of_item(alloc, path, name, entries.len())?;
-        let entry = entry_of(alloc, item.as_str(), value)?;
+        let entry = entry_of(alloc, entries.len(), value)?;
         entries.push(entry).map_err(|_| DocFault::NoMemory)?;
     }
     Ok(entries)
@@ -163,19 +167,14 @@ fn entries_in(
 
 /// A list of entries, or null.
 #[tactic(auto, unfolding(crate::specs::Shape::optional_faults, crate::specs::Shape::list_faults, crate::specs::FilterParts::list_as))]
-pub(crate) fn entries_of(
-    alloc: Global,
-    path: &str,
-    name: &str,
-    value: Value,
-) -> Result<Vec<EntryParts>, DocFault>
+pub(crate) fn entries_of(alloc: Global, value: Value) -> Result<Vec<EntryParts>, DocFault>
     ensures { GivesAs (λ entries. entries.items) result (unless_faulty
-        (optional_faults (list_faults entry_faults) (below path.now name.now) (view value))
+        (optional_faults (list_faults entry_faults) (below (codes "/seccomp") (codes "syscalls")) (view value))
         (list_as entry_in (view value))) }
 {
     match value {
         Value::Null => Ok(Vec::new(alloc)),
-        Value::Array(values) => entries_in(alloc, path, name, values),
-        _ => Err(DocFault::WrongShape(Path::of_member(alloc, path, name)?)),
+        Value::Array(values) => entries_in(alloc, values),
+        _ => Err(DocFault::WrongShape(Path::of_member(alloc, Place::Filter, "syscalls")?)),
     }
 }

@@ -3,6 +3,7 @@
 ghost use Rattle.std.specs.Prelude.{◌≡◌, IfOk, string_bytes};
 ghost use Rattle.profile_text.specs.FaultText.{fault_text_of};
 
+use crate::place::Place;
 use cap_sets::CapFault;
 use seccomp_doc::FilterFault;
 use std::alloc::{AllocError, Global};
@@ -27,6 +28,7 @@ impl Model for Path {
 
 impl Path {
     ghost use Rattle.std.specs.Prelude.{decimal};
+    ghost use Rattle.profile_text.specs.Place.{path_of};
     ghost use Rattle.profile_text.specs.Shape.{below};
 
     /// The path of this text.
@@ -37,24 +39,32 @@ impl Path {
         Ok(Path { text })
     }
 
-    /// The path of the member of this name, below another path.
-    pub(crate) fn of_member(alloc: Global, path: &str, name: &str) -> Result<Path, AllocError>
-        ensures { IfOk result (λ found. found ≡ below path.now name.now) }
+    /// The path of an object.
+    pub(crate) fn of(alloc: Global, place: Place) -> Result<Path, AllocError>
+        ensures { IfOk result (λ path. path ≡ path_of place) }
     {
-        let text = format!(in alloc; "{path}/{name}")?;
+        let text = format!(in alloc; "{place}")?;
         Ok(Path { text })
     }
 
-    /// The path of the item at this position, in the list that is the member of this name, below another path.
+    /// The path of the member of this name.
+    pub(crate) fn of_member(alloc: Global, place: Place, name: &str) -> Result<Path, AllocError>
+        ensures { IfOk result (λ path. path ≡ below (path_of place) name.now) }
+    {
+        let text = format!(in alloc; "{place}/{name}")?;
+        Ok(Path { text })
+    }
+
+    /// The path of the item at this position, in the list that is the member of this name.
     pub(crate) fn of_item(
         alloc: Global,
-        path: &str,
+        place: Place,
         name: &str,
         position: usize,
     ) -> Result<Path, AllocError>
-        ensures { IfOk result (λ found. found ≡ below (below path.now name.now) (decimal position)) }
+        ensures { IfOk result (λ path. path ≡ below (below (path_of place) name.now) (decimal position)) }
     {
-        let text = format!(in alloc; "{path}/{name}/{position}")?;
+        let text = format!(in alloc; "{place}/{name}/{position}")?;
         Ok(Path { text })
     }
 
@@ -123,17 +133,7 @@ impl fmt::Display for DocFault {
             DocFault::NotInProfile(path) => write!(f, "not-in-profile {}", path.as_str()),
             DocFault::BadNumber(path) => write!(f, "bad-number {}", path.as_str()),
             DocFault::Caps(fault) => write!(f, "{fault}"),
-            DocFault::Filter(fault) => match fault {
-                FilterFault::NoNames => write!(f, "no-names"),
-                FilterFault::BadCallName => write!(f, "bad-call-name"),
-                FilterFault::BadIndex => write!(f, "bad-index"),
-                FilterFault::IndexTwice => write!(f, "index-twice"),
-                FilterFault::ErrnoNotTaken => write!(f, "errno-not-taken"),
-                FilterFault::ErrnoTooLarge => write!(f, "errno-too-large"),
-                FilterFault::TwoActions(name) => write!(f, "two-actions {}", name.as_str()),
-                FilterFault::TooMany => write!(f, "too-many"),
-                FilterFault::NoMemory => write!(f, "memory"),
-            },
+            DocFault::Filter(fault) => write!(f, "{fault}"),
             DocFault::NoMemory => write!(f, "memory"),
             DocFault::TextTooLong => write!(f, "text-too-long"),
         }

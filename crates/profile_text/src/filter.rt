@@ -10,7 +10,8 @@ ghost use Rattle.profile_text.specs.Shape.{below, members_faults, object_faults,
 
 use crate::entry::entries_of;
 use crate::fault::{DocFault, Path};
-use crate::filter_words::{architectures_of, flags_of};
+use crate::filter_words::words_of;
+use crate::place::Place;
 use crate::value::{action_of, optional_number_of};
 use seccomp_doc::{ActionWord, Arch, EntryParts, Filter, FilterFault, FilterParts, ScmpFlag};
 use serde_json::{Map, Value};
@@ -29,40 +30,39 @@ pub(crate) struct FoundFilter {
 // What was found so far, with one member more.
 fn found_with(
     alloc: Global,
-    path: &str,
     found: FoundFilter,
     name: &str,
     value: Value,
 ) -> Result<FoundFilter, DocFault>
     ensures { GivesAs filter_seen result (unless_faulty
-        (row_faults (row_named seccomp_rows name.now) (below path.now name.now) (view value))
+        (row_faults (row_named seccomp_rows name.now) (below (codes "/seccomp") name.now) (view value))
         (filter_found_with name.now (view value) (filter_seen found))) }
 {
     if name == "architectures" {
-        let architectures = architectures_of(alloc, path, name, value)?;
+        let architectures = words_of(alloc, Place::Filter, name, value)?;
         Ok(FoundFilter {
             architectures,
             ..found
         })
     } else if name == "defaultAction" {
-        let default = Some(action_of(alloc, path, name, &value)?);
+        let default = Some(action_of(alloc, Place::Filter, name, &value)?);
         Ok(FoundFilter { default, ..found })
     } else if name == "defaultErrnoRet" {
-        let default_errno = optional_number_of(alloc, path, name, &value)?;
+        let default_errno = optional_number_of(alloc, Place::Filter, name, &value)?;
         Ok(FoundFilter {
             default_errno,
             ..found
         })
     } else if name == "flags" {
-        let flags = flags_of(alloc, path, name, value)?;
+        let flags = words_of(alloc, Place::Filter, name, value)?;
         Ok(FoundFilter { flags, ..found })
     } else if name == "listenerMetadata" || name == "listenerPath" {
-        Err(DocFault::NotInProfile(Path::of_member(alloc, path, name)?))
+        Err(DocFault::NotInProfile(Path::of_member(alloc, Place::Filter, name)?))
     } else if name == "syscalls" {
-        let entries = entries_of(alloc, path, name, value)?;
+        let entries = entries_of(alloc, value)?;
         Ok(FoundFilter { entries, ..found })
     } else {
-        Err(DocFault::UnknownMember(Path::of_member(alloc, path, name)?))
+        Err(DocFault::UnknownMember(Path::of_member(alloc, Place::Filter, name)?))
     }
 }
 
@@ -81,7 +81,7 @@ fn found_in(alloc: Global, members: Map<String, Value>) -> Result<FoundFilter, D
     };
     for (name, value) in members {
         let name = name.as_str();
-        found = found_with(alloc, "/seccomp", found, name, value)?;
+        found = found_with(alloc, found, name, value)?;
     }
     Ok(found)
 }
@@ -107,7 +107,7 @@ fn filter_at(alloc: Global, members: Map<String, Value>) -> Result<FilterParts, 
             flags,
             entries,
         }),
-        None => Err(DocFault::WrongShape(Path::new(alloc, "/seccomp/defaultAction")?)),
+        None => Err(DocFault::WrongShape(Path::of_member(alloc, Place::Filter, "defaultAction")?)),
     }
 }
 
@@ -124,7 +124,7 @@ pub(crate) fn seccomp_of(alloc: Global, value: Value) -> Result<Option<FilterPar
             let parts = filter_at(alloc, members)?;
             Ok(Some(parts))
         }
-        _ => Err(DocFault::WrongShape(Path::new(alloc, "/seccomp")?)),
+        _ => Err(DocFault::WrongShape(Path::of(alloc, Place::Filter)?)),
     }
 }
 

@@ -5,10 +5,12 @@ ghost use Rattle.serde_json.specs.Data.{string};
 ghost use Rattle.serde_json.specs.View.{number_view, view};
 ghost use Rattle.profile_text.specs.FilterParts.{action_in, number_in, op_in, string_in, u64_of, whole_number};
 ghost use Rattle.profile_text.specs.FilterShape.{action_faults, number_faults, op_faults, text_faults};
+ghost use Rattle.profile_text.specs.Place.{path_of};
 ghost use Rattle.profile_text.specs.Reading.{Gives, GivesAs, unless_faulty};
 ghost use Rattle.profile_text.specs.Shape.{below, optional_faults};
 
 use crate::fault::{DocFault, Path};
+use crate::place::Place;
 use seccomp_doc::{ActionWord, Op};
 use serde_json::{Number, Value};
 use std::alloc::Global;
@@ -25,18 +27,18 @@ fn u64_of(number: &Number) -> Option<u64>
 #[tactic(auto, unfolding(crate::specs::FilterShape::number_faults))]
 pub(crate) fn number_of(
     alloc: Global,
-    path: &str,
+    place: Place,
     name: &str,
     value: &Value,
 ) -> Result<u64, DocFault>
-    ensures { Gives result (unless_faulty (number_faults (below path.now name.now) (view value.now)) (number_in (view value.now))) }
+    ensures { Gives result (unless_faulty (number_faults (below (path_of place) name.now) (view value.now)) (number_in (view value.now))) }
 {
     match value {
         Value::Number(number) => match u64_of(number) {
             Some(number) => Ok(number),
-            None => Err(DocFault::BadNumber(Path::of_member(alloc, path, name)?)),
+            None => Err(DocFault::BadNumber(Path::of_member(alloc, place, name)?)),
         },
-        _ => Err(DocFault::WrongShape(Path::of_member(alloc, path, name)?)),
+        _ => Err(DocFault::WrongShape(Path::of_member(alloc, place, name)?)),
     }
 }
 
@@ -44,31 +46,31 @@ pub(crate) fn number_of(
 #[tactic(auto, unfolding(crate::specs::Shape::optional_faults, crate::specs::FilterShape::number_faults))]
 pub(crate) fn optional_number_of(
     alloc: Global,
-    path: &str,
+    place: Place,
     name: &str,
     value: &Value,
 ) -> Result<Option<u64>, DocFault>
     ensures { Gives result (unless_faulty
-        (optional_faults number_faults (below path.now name.now) (view value.now))
+        (optional_faults number_faults (below (path_of place) name.now) (view value.now))
         (whole_number (view value.now))) }
 {
     match value {
         Value::Null => Ok(None),
-        _ => Ok(Some(number_of(alloc, path, name, value)?)),
+        _ => Ok(Some(number_of(alloc, place, name, value)?)),
     }
 }
 
 // The action of a name.
 #[tactic(auto, unfolding(crate::specs::FilterShape::action_faults, crate::specs::Shape::word_faults))]
-fn action_named(alloc: Global, path: &str, name: &str, word: &str) -> Result<ActionWord, DocFault>
-    ensures { Gives result (unless_faulty (action_faults (below path.now name.now) (string word.now)) (action_in (string word.now))) }
+fn action_named(alloc: Global, place: Place, name: &str, word: &str) -> Result<ActionWord, DocFault>
+    ensures { Gives result (unless_faulty (action_faults (below (path_of place) name.now) (string word.now)) (action_in (string word.now))) }
 {
     if word == "SCMP_ACT_NOTIFY" {
-        return Err(DocFault::NotInProfile(Path::of_member(alloc, path, name)?));
+        return Err(DocFault::NotInProfile(Path::of_member(alloc, place, name)?));
     }
     match ActionWord::from_word(word) {
         Some(action) => Ok(action),
-        None => Err(DocFault::UnknownWord(Path::of_member(alloc, path, name)?)),
+        None => Err(DocFault::UnknownWord(Path::of_member(alloc, place, name)?)),
     }
 }
 
@@ -76,29 +78,29 @@ fn action_named(alloc: Global, path: &str, name: &str, word: &str) -> Result<Act
 #[tactic(auto, unfolding(crate::specs::FilterShape::action_faults, crate::specs::Shape::word_faults))]
 pub(crate) fn action_of(
     alloc: Global,
-    path: &str,
+    place: Place,
     name: &str,
     value: &Value,
 ) -> Result<ActionWord, DocFault>
-    ensures { Gives result (unless_faulty (action_faults (below path.now name.now) (view value.now)) (action_in (view value.now))) }
+    ensures { Gives result (unless_faulty (action_faults (below (path_of place) name.now) (view value.now)) (action_in (view value.now))) }
 {
     match value {
-        Value::String(word) => action_named(alloc, path, name, word.as_str()),
-        _ => Err(DocFault::WrongShape(Path::of_member(alloc, path, name)?)),
+        Value::String(word) => action_named(alloc, place, name, word.as_str()),
+        _ => Err(DocFault::WrongShape(Path::of_member(alloc, place, name)?)),
     }
 }
 
 /// An operator.
 #[tactic(auto, unfolding(crate::specs::Shape::word_faults))]
-pub(crate) fn op_of(alloc: Global, path: &str, name: &str, value: &Value) -> Result<Op, DocFault>
-    ensures { Gives result (unless_faulty (op_faults (below path.now name.now) (view value.now)) (op_in (view value.now))) }
+pub(crate) fn op_of(alloc: Global, place: Place, name: &str, value: &Value) -> Result<Op, DocFault>
+    ensures { Gives result (unless_faulty (op_faults (below (path_of place) name.now) (view value.now)) (op_in (view value.now))) }
 {
     match value {
         Value::String(word) => match Op::from_word(word.as_str()) {
             Some(op) => Ok(op),
-            None => Err(DocFault::UnknownWord(Path::of_member(alloc, path, name)?)),
+            None => Err(DocFault::UnknownWord(Path::of_member(alloc, place, name)?)),
         },
-        _ => Err(DocFault::WrongShape(Path::of_member(alloc, path, name)?)),
+        _ => Err(DocFault::WrongShape(Path::of_member(alloc, place, name)?)),
     }
 }
 
@@ -106,17 +108,17 @@ pub(crate) fn op_of(alloc: Global, path: &str, name: &str, value: &Value) -> Res
 #[tactic(auto, unfolding(crate::specs::Shape::word_faults))]
 pub(crate) fn text_of(
     alloc: Global,
-    path: &str,
+    place: Place,
     name: &str,
     position: usize,
     value: Value,
 ) -> Result<String, DocFault>
     ensures { GivesAs string_bytes result (unless_faulty
-        (text_faults (below (below path.now name.now) (decimal position)) (view value))
+        (text_faults (below (below (path_of place) name.now) (decimal position)) (view value))
         (string_in (view value))) }
 {
     match value {
         Value::String(text) => Ok(text),
-        _ => Err(DocFault::WrongShape(Path::of_item(alloc, path, name, position)?)),
+        _ => Err(DocFault::WrongShape(Path::of_item(alloc, place, name, position)?)),
     }
 }

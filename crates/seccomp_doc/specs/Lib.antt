@@ -7,3 +7,4 @@ pub mod Lawful
 pub mod Parts
 pub mod Checks
 pub mod Names
+pub mod FaultText

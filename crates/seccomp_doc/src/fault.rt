@@ -2,37 +2,29 @@
 
 use crate::call_name::CallName;
 use std::alloc::AllocError;
-use thiserror::Error;
+use std::error::Error;
+use std::fmt;
 
 /// Why parts are no filter.
-#[derive(Debug, Drop, Error)]
+#[derive(Debug, Drop)]
 pub enum FilterFault {
     /// An entry has no name.
-    #[error("an entry has no name")]
     NoNames,
     /// A name isn't 1 to 64 of a-z, 0-9 and underscore.
-    #[error("a call's name is not of the form")]
     BadCallName,
     /// An index is above 5.
-    #[error("an argument's index is above 5")]
     BadIndex,
     /// An index stands twice in one entry.
-    #[error("an argument's index stands twice in one entry")]
     IndexTwice,
     /// An error number stands with an action that takes none.
-    #[error("the action takes no error number")]
     ErrnoNotTaken,
     /// An error number is above 65,535.
-    #[error("an error number is above 65535")]
     ErrnoTooLarge,
     /// Two entries have this name under different actions.
-    #[error("{0} has two actions")]
     TwoActions(CallName),
     /// A count is above its limit.
-    #[error("a count is above its limit")]
     TooMany,
     /// Memory was refused.
-    #[error("out of memory")]
     NoMemory,
 }
 
@@ -46,3 +38,27 @@ impl From<AllocError> for FilterFault {
         FilterFault::NoMemory
     }
 }
+
+/// The fault's word, and the call that has two actions, as `two-actions read`.
+impl fmt::Display for FilterFault {
+    ghost use Rattle.std.specs.Prelude.{Some};
+    ghost use Rattle.seccomp_doc.specs.FaultText.{filter_fault_text};
+
+    ghost output = { λ fault. Some (filter_fault_text fault) };
+
+    fn fmt<W: fmt::Write>(&self, f: &mut fmt::Formatter<W>) -> fmt::Result {
+        match self {
+            FilterFault::NoNames => write!(f, "no-names"),
+            FilterFault::BadCallName => write!(f, "bad-call-name"),
+            FilterFault::BadIndex => write!(f, "bad-index"),
+            FilterFault::IndexTwice => write!(f, "index-twice"),
+            FilterFault::ErrnoNotTaken => write!(f, "errno-not-taken"),
+            FilterFault::ErrnoTooLarge => write!(f, "errno-too-large"),
+            FilterFault::TwoActions(name) => write!(f, "two-actions {name}"),
+            FilterFault::TooMany => write!(f, "too-many"),
+            FilterFault::NoMemory => write!(f, "memory"),
+        }
+    }
+}
+
+impl Error for FilterFault {}

@@ -1,59 +1,30 @@
 // Flags.
 
-ghost use Rattle.std.specs.Prelude.{◌≡◌, true};
+ghost use Rattle.std.specs.Prelude.{◌≡◌};
 ghost use Rattle.std.specs.List.{list_all};
-ghost use Rattle.seccomp_doc.specs.Word.{Reads, is_flag, is_flag_byte};
+ghost use Rattle.seccomp_doc.specs.Word.{is_flag_byte};
 
-use crate::word::{WordFault, is_of_length};
-use std::alloc::Global;
-use std::marker::Model;
+use crate::text::{Form, Formed};
+use crate::word::is_of_length;
 
-/// A flag: `SECCOMP_FILTER_FLAG_` and 1 to 32 of A-Z and underscore.
-#[derive(Debug, Drop)]
-pub struct ScmpFlag {
-    text: String,
-}
+/// The form of a flag: `SECCOMP_FILTER_FLAG_` and 1 to 32 of A-Z and underscore.
+#[derive(Clone, Copy, Debug)]
+pub struct FlagForm;
 
-impl Model for ScmpFlag {
-    ghost use Rattle.std.specs.Prelude.{◌≡◌, List, ℕ, true, string_bytes};
+/// A flag.
+pub type ScmpFlag = Formed<FlagForm>;
+
+impl Form for FlagForm {
     ghost use Rattle.seccomp_doc.specs.Word.{is_flag};
 
-    ghost Value = { List ℕ };
+    ghost is_form = { is_flag };
 
-    ghost view = { λ a. string_bytes a.text };
-
-    ghost invariant = { λ a. is_flag (string_bytes a.text) ≡ true };
-}
-
-impl ScmpFlag {
-    /// The flag of this name.
-    pub fn read(alloc: Global, text: &str) -> Result<ScmpFlag, WordFault>
-        ensures { Reads is_flag text.now result }
-    {
-        if !is_a_flag(text) {
-            return Err(WordFault::NotAWord);
+    #[tactic(auto, unfolding(crate::specs::Word::is_flag))]
+    fn is_form(text: &str) -> bool {
+        match text.as_bytes().strip_prefix(b"SECCOMP_FILTER_FLAG_") {
+            Some(rest) => is_of_length(rest, 32) && are_flag_bytes(rest),
+            None => false,
         }
-        Ok(ScmpFlag {
-            text: String::from_str(alloc, text)?,
-        })
-    }
-
-    /// Its name.
-    pub fn as_str(&self) -> &str
-        ensures text { result.now ≡ self.now }
-        ensures form { is_flag self.now ≡ true }
-    {
-        self.text.as_str()
-    }
-}
-
-#[tactic(auto, unfolding(crate::specs::Word::is_flag))]
-fn is_a_flag(text: &str) -> bool
-    ensures { result ≡ is_flag text.now }
-{
-    match text.as_bytes().strip_prefix(b"SECCOMP_FILTER_FLAG_") {
-        Some(rest) => is_of_length(rest, 32) && are_flag_bytes(rest),
-        None => false,
     }
 }
 

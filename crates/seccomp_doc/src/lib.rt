@@ -12,8 +12,7 @@ pub mod flag;
 pub mod laws;
 mod names;
 pub mod parts;
-#[cfg(test)]
-mod tests;
+pub mod text;
 pub mod word;
 
 pub use action::{Action, ActionWord};
@@ -25,4 +24,5 @@ pub use fault::FilterFault;
 pub use filter::{Filter, action_for};
 pub use flag::ScmpFlag;
 pub use parts::{ArgParts, EntryParts, FilterParts};
+pub use text::{Form, Formed};
 pub use word::WordFault;

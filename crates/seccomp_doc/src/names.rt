@@ -61,7 +61,7 @@ fn learn_name<'a>(
             if known.is_same(action) {
                 Ok(())
             } else {
-                Err(FilterFault::TwoActions(name.copy(alloc)?))
+                Err(FilterFault::TwoActions(name.clone()?))
             }
         }
         Ok(None) => Ok(()),

@@ -12,6 +12,6 @@ returns-in_err-sets c =
 pub returns-in-Some : goal.returns-in-Some
 returns-in-Some c = document_found (members_view c.args.members.entries) _ _ c.in_ok-sets.ensures c.in-Some.is
 
-pub returns-in_ok-new-in-None : goal.returns-in_ok-new-in-None
-returns-in_ok-new-in-None c =
-    inr (rw c.in_ok-new-in-None.ensures (document_missing (members_view c.args.members.entries) _ c.in_ok-sets.ensures c.in-None.is))
+pub returns-in_ok-of-in-None : goal.returns-in_ok-of-in-None
+returns-in_ok-of-in-None c =
+    inr (rw c.in_ok-of-in-None.ensures (document_missing (members_view c.args.members.entries) _ c.in_ok-sets.ensures c.in-None.is))

@@ -1,5 +1,7 @@
 use Rattle.std.proofs.Common.{inr}
+use Rattle.profile_text.specs.Reading.{GivesAs, reading_of}
 use Rattle.profile_text.proofs.ReadFacts.{too_long, value_is, value_none}
+use Rattle.profile_text.proofs.ReadsFacts.{stands_given}
 use Rattle.profile_text.proofs.document.read_with_text.Goals as goal
 
 pub returns-then-bytes-gt-MOST_BYTES-clause-reading : goal.returns-then-bytes-gt-MOST_BYTES-clause-reading
@@ -10,3 +12,9 @@ returns-in-Ok-clause-reading c = rw (value_is c.args.bytes.now _ c.if-bytes-gt-M
 
 pub returns-else-is_memory-clause-reading : goal.returns-else-is_memory-clause-reading
 returns-else-is_memory-clause-reading c = inr (value_none c.args.bytes.now c.if-bytes-gt-MOST_BYTES.false (λ text. c.in-Err.ensures.err (λ memory. let yes = c.is_memory.ensures.1 memory in let no = c.if-is_memory.false in cc) text))
+
+pub returns-in-Ok-clause-stands : goal.returns-in-Ok-clause-stands
+returns-in-Ok-clause-stands c =
+    let given : GivesAs (λ document. document.profile) c.document_of.result (reading_of c.args.bytes.now) =
+    rw (value_is c.args.bytes.now _ c.if-bytes-gt-MOST_BYTES.false c.in-Ok.ensures.ok.0 c.in-Ok.ensures.ok.1) c.document_of.ensures.reading in
+    stands_given (λ document. document.profile) c.args.bytes.now c.document_of.result given

@@ -4,6 +4,7 @@ use Rattle.profile_text.specs.FilterParts.{items_as, string_in}
 use Rattle.profile_text.specs.FilterShape.{text_faults}
 use Rattle.profile_text.specs.Reading.{unless_faulty}
 use Rattle.profile_text.specs.Shape.{below, items_faults}
+use Rattle.profile_text.specs.Place.{path_of}
 use Rattle.profile_text.proofs.Steps.{left}
 use Rattle.profile_text.proofs.entry.names_in.Given as goal
 
@@ -12,5 +13,5 @@ invariant-loop-value l =
     (goal.iterator-loop-value).can_next l.value-iterator ×
     (goal.iterator-loop-value).is_finite l.value-iterator ×
     (l.value-iterator.rest.len ≡ length l.value-iterator.rest.items) ×
-    (unless_faulty (items_faults text_faults (below l.path l.name) 0 (items_view l.fn.values.items)) (items_as string_in (items_view l.fn.values.items))
-    ≡ left text_faults string_in (below l.path l.name) l.value-iterator.rest.items (map string_bytes l.names.items))
+    (unless_faulty (items_faults text_faults (below (path_of l.place) l.name) 0 (items_view l.fn.values.items)) (items_as string_in (items_view l.fn.values.items))
+    ≡ left text_faults string_in (below (path_of l.place) l.name) l.value-iterator.rest.items (map string_bytes l.names.items))

@@ -15,6 +15,6 @@ returns-in_err-architectures c =
 pub returns-in-Some : goal.returns-in-Some
 returns-in-Some c = filter_read (codes "/seccomp") (members_view c.args.members.entries) (filter_seen c.in_ok-architectures.field-0) _ c.in_ok-architectures.ensures c.in-Some.is
 
-pub returns-in_ok-new-in-None : goal.returns-in_ok-new-in-None
-returns-in_ok-new-in-None c =
-    inr (rw c.in_ok-new-in-None.ensures (filter_without_default (codes "/seccomp") (members_view c.args.members.entries) (filter_seen c.in_ok-architectures.field-0) c.in_ok-architectures.ensures c.in-None.is))
+pub returns-in_ok-of_member-in-None : goal.returns-in_ok-of_member-in-None
+returns-in_ok-of_member-in-None c =
+    inr (rw c.in_ok-of_member-in-None.ensures (filter_without_default (codes "/seccomp") (members_view c.args.members.entries) (filter_seen c.in_ok-architectures.field-0) c.in_ok-architectures.ensures c.in-None.is))

@@ -11,7 +11,7 @@ use Rattle.profile_text.proofs.filter.found_with.Goals as goal
 
 pub returns-in_ok-default_errno : goal.returns-in_ok-default_errno
 returns-in_ok-default_errno c =
-    let path = below c.args.path.now c.args.name.now in
+    let path = below (codes "/seccomp") c.args.name.now in
     let d = view c.args.value in
     let found = record c.args.found { default_errno = c.in_ok-default_errno.default_errno } in
     let parts = ok_parts (optional_faults number_faults path d) (whole_number d) _ c.in_ok-default_errno.ensures in

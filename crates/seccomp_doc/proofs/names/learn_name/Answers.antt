@@ -9,11 +9,12 @@ returns-then-is_same-clause-learned c = λ q.
     btree_map_updates_str c.as_str.result.now c.args.actions.now c.insert.new.self _ c.in-Ok-Some.ensures.updates q
     ∙ ap (λ name. cond (bytes_eq name q) (Some c.args.action) (action_under c.args.actions.now q)) c.as_str.ensures.text
 
-pub returns-in_ok-copy-in-Ok-Some-clause-differs : goal.returns-in_ok-copy-in-Ok-Some-clause-differs
-returns-in_ok-copy-in-Ok-Some-clause-differs c =
+pub returns-in_ok-clone-in-Ok-Some-clause-differs : goal.returns-in_ok-clone-in-Ok-Some-clause-differs
+returns-in_ok-clone-in-Ok-Some-clause-differs c =
     let here : Some c.in-Ok-Some.known ≡ action_under c.args.actions.now c.args.name.now =
     sym c.in-Ok-Some.field-0-is ∙ c.in-Ok-Some.ensures.old ∙ ap (action_under c.args.actions.now) c.as_str.ensures.text in
-    λ _. (ap (λ name. TwoActions name) c.in_ok-copy-in-Ok-Some.ensures, subst (λ o. DiffersFrom o c.args.action) here (sym c.if-is_same.ensures))
+    let cloned = c.in_ok-clone-in-Ok-Some.ensures.cases in
+    λ _. (ap (λ name. TwoActions name) (sym cloned.3 ∙ cloned.4.0 ∙ cloned.2), subst (λ o. DiffersFrom o c.args.action) here (sym c.if-is_same.ensures))
 
 pub returns-in-Ok-None-clause-learned : goal.returns-in-Ok-None-clause-learned
 returns-in-Ok-None-clause-learned c = λ q.

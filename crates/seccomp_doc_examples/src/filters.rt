@@ -1,12 +1,12 @@
 // Filters, faults and words by examples.
 
-use crate::{
+use seccomp_doc::{
     Action, ActionWord, Arch, ArgParts, CallName, Compare, EntryParts, Filter, FilterFault,
-    FilterParts, Op, ScmpFlag, WordFault, action_for,
+    FilterParts, Form, Formed, Op, ScmpFlag, WordFault, action_for,
 };
 use std::alloc::{AllocError, Global};
+use std::process::Abort;
 use std::test::Fail;
-use std::time::Instant;
 
 const NO_WORDS: [u64; 6] = [0; 6];
 
@@ -86,12 +86,26 @@ fn with_default(
     )
 }
 
+// That parts are refused by this fault.
+fn assert_told(
+    rt: &impl Abort,
+    alloc: Global,
+    made: Result<Filter, FilterFault>,
+    expected: &str,
+) -> Result<(), Fail> {
+    let text = match made {
+        Ok(_) => String::from_str(alloc, "a filter")?,
+        Err(fault) => format!(in alloc; "{fault}")?,
+    };
+    assert_eq!(rt; text.as_str(), expected);
+    Ok(())
+}
+
 #[test]
 fn an_index_twice_in_one_entry_is_refused(rt: HostRuntime) -> Result<(), Fail> {
     let args = [arg(0, Op::Equal, 1), arg(0, Op::Equal, 2)];
     let made = with_args(rt.alloc(), &args);
-    assert!(rt; matches!(&made, Err(FilterFault::IndexTwice)));
-    Ok(())
+    assert_told(&rt, rt.alloc(), made, "index-twice")
 }
 
 #[test]
@@ -131,8 +145,7 @@ fn a_call_under_two_actions_is_refused(rt: HostRuntime) -> Result<(), Fail> {
         &[],
     )?;
     let made = filter_of(alloc, vec![in alloc; one, two]?);
-    assert!(rt; matches!(&made, Err(FilterFault::TwoActions(_))));
-    Ok(())
+    assert_told(&rt, alloc, made, "two-actions clone3")
 }
 
 #[test]
@@ -153,8 +166,7 @@ fn another_errno_is_another_action(rt: HostRuntime) -> Result<(), Fail> {
     let one = entry(alloc, &["clone3"], ActionWord::Errno, Some(1), &[])?;
     let other = entry(alloc, &["clone3"], ActionWord::Errno, Some(38), &[])?;
     let made = filter_of(alloc, vec![in alloc; one, other]?);
-    assert!(rt; matches!(&made, Err(FilterFault::TwoActions(_))));
-    Ok(())
+    assert_told(&rt, alloc, made, "two-actions clone3")
 }
 
 #[test]
@@ -172,46 +184,46 @@ fn a_name_twice_in_one_entry_is_no_fault(rt: HostRuntime) -> Result<(), Fail> {
 }
 
 #[test]
-fn refusals_come_in_their_order(rt: HostRuntime) -> Result<(), Fail> {
-    let alloc = rt.alloc();
-    let none = with_default(alloc, ActionWord::Allow, Some(70000));
-    assert!(rt; matches!(&none, Err(FilterFault::ErrnoNotTaken)));
-    let large = with_default(alloc, ActionWord::Trace, Some(65536));
-    assert!(rt; matches!(&large, Err(FilterFault::ErrnoTooLarge)));
-    let largest = with_default(alloc, ActionWord::Trace, Some(65535))?;
-    assert_eq!(rt; largest.default_action(), Action::Trace(65535));
-
-    let nameless = entry(
-        alloc,
-        &[],
-        ActionWord::Allow,
-        Some(0),
-        &[arg(6, Op::Equal, 0)],
-    )?;
-    let made = filter_of(alloc, list(alloc, nameless)?);
-    assert!(rt; matches!(&made, Err(FilterFault::NoNames)));
-    let misnamed = entry(
-        alloc,
-        &["read", "Read"],
-        ActionWord::Allow,
-        Some(0),
-        &[arg(6, Op::Equal, 0)],
-    )?;
-    let made = filter_of(alloc, list(alloc, misnamed)?);
-    assert!(rt; matches!(&made, Err(FilterFault::BadCallName)));
-    let args = [arg(6, Op::Equal, 0), arg(6, Op::Equal, 0)];
-    let made = with_args(alloc, &args);
-    assert!(rt; matches!(&made, Err(FilterFault::BadIndex)));
-    let errno = entry(
-        alloc,
-        &["read"],
-        ActionWord::Log,
-        Some(70000),
-        &[arg(5, Op::Equal, 0)],
-    )?;
-    let made = filter_of(alloc, list(alloc, errno)?);
-    assert!(rt; matches!(&made, Err(FilterFault::ErrnoNotTaken)));
+fn the_number_of_a_default_is_looked_at_first(rt: HostRuntime) -> Result<(), Fail> {
+    for (word, errno, expected) in [
+        (ActionWord::Allow, 70000, "errno-not-taken"),
+        (ActionWord::Trace, 65536, "errno-too-large"),
+        (ActionWord::Trace, 65535, "a filter"),
+    ] {
+        let made = with_default(rt.alloc(), word, Some(errno));
+        assert_told(&rt, rt.alloc(), made, expected)?;
+    }
     Ok(())
+}
+
+// That a filter of one entry, whose action takes no number, is refused by this fault.
+fn assert_entry_told(
+    rt: &impl Abort,
+    alloc: Global,
+    names: &[&str],
+    args: &[ArgParts],
+    expected: &str,
+) -> Result<(), Fail> {
+    let entry = entry(alloc, names, ActionWord::Log, Some(70000), args)?;
+    let made = filter_of(alloc, list(alloc, entry)?);
+    assert_told(rt, alloc, made, expected)
+}
+
+#[test]
+fn refusals_come_in_their_order(rt: HostRuntime) -> Result<(), Fail> {
+    let beyond = arg(6, Op::Equal, 0);
+    let last = arg(5, Op::Equal, 0);
+    assert_entry_told(&rt, rt.alloc(), &[], &[beyond], "no-names")?;
+    assert_entry_told(
+        &rt,
+        rt.alloc(),
+        &["read", "Read"],
+        &[beyond],
+        "bad-call-name",
+    )?;
+    assert_entry_told(&rt, rt.alloc(), &["read"], &[beyond, beyond], "bad-index")?;
+    assert_entry_told(&rt, rt.alloc(), &["read"], &[last, last], "index-twice")?;
+    assert_entry_told(&rt, rt.alloc(), &["read"], &[last], "errno-not-taken")
 }
 
 #[test]
@@ -342,45 +354,60 @@ fn architectures_and_flags_are_kept_in_order(rt: HostRuntime) -> Result<(), Fail
     Ok(())
 }
 
+// That a text is of the form, or isn't.
+fn assert_form<F: Form>(
+    rt: &impl Abort,
+    text: &str,
+    read: Result<Formed<F>, WordFault>,
+    is_of_the_form: bool,
+) {
+    match read {
+        Ok(formed) => {
+            assert!(rt; is_of_the_form, "{text}");
+            assert_eq!(rt; formed.as_str(), text);
+        }
+        Err(WordFault::NotAWord) => assert!(rt; !is_of_the_form, "{text}"),
+        Err(WordFault::NoMemory) => assert!(rt; false, "{text}"),
+    }
+}
+
 #[test]
-fn names_have_their_forms(rt: HostRuntime) -> Result<(), Fail> {
-    let alloc = rt.alloc();
-    for text in [
-        "SCMP_ARCH_X86_64",
-        "SCMP_ARCH_A",
-        "SCMP_ARCH_ABCDEFGHIJKLMNOPQRSTUVWXYZ012345",
+fn architectures_have_their_form(rt: HostRuntime) {
+    for (text, is_of_the_form) in [
+        ("SCMP_ARCH_X86_64", true),
+        ("SCMP_ARCH_A", true),
+        ("SCMP_ARCH_ABCDEFGHIJKLMNOPQRSTUVWXYZ012345", true),
+        ("x86_64", false),
+        ("SCMP_ARCH_", false),
+        ("SCMP_ARCH_x32", false),
+        ("SCMP_ARCH_ABCDEFGHIJKLMNOPQRSTUVWXYZ0123456", false),
     ] {
-        assert_eq!(rt; Arch::read(alloc, text)?.as_str(), text);
+        assert_form(&rt, text, Arch::read(rt.alloc(), text), is_of_the_form);
     }
-    for text in [
-        "x86_64",
-        "SCMP_ARCH_",
-        "SCMP_ARCH_x32",
-        "SCMP_ARCH_ABCDEFGHIJKLMNOPQRSTUVWXYZ0123456",
+}
+
+#[test]
+fn flags_have_their_form(rt: HostRuntime) {
+    for (text, is_of_the_form) in [
+        ("SECCOMP_FILTER_FLAG_LOG", true),
+        ("LOG", false),
+        ("SECCOMP_FILTER_FLAG_", false),
+        ("SECCOMP_FILTER_FLAG_V2", false),
     ] {
-        assert!(rt;
-            matches!(&Arch::read(alloc, text), Err(WordFault::NotAWord)),
-            "{text}"
-        );
+        assert_form(&rt, text, ScmpFlag::read(rt.alloc(), text), is_of_the_form);
     }
-    assert_eq!(rt;
-        ScmpFlag::read(alloc, "SECCOMP_FILTER_FLAG_LOG")?.as_str(),
-        "SECCOMP_FILTER_FLAG_LOG"
-    );
-    for text in ["LOG", "SECCOMP_FILTER_FLAG_", "SECCOMP_FILTER_FLAG_V2"] {
-        assert!(rt;
-            matches!(&ScmpFlag::read(alloc, text), Err(WordFault::NotAWord)),
-            "{text}"
-        );
+}
+
+#[test]
+fn names_of_calls_have_their_form(rt: HostRuntime) {
+    for (text, is_of_the_form) in [
+        ("clone3", true),
+        ("", false),
+        ("Read", false),
+        ("rt-signal", false),
+    ] {
+        assert_form(&rt, text, CallName::read(rt.alloc(), text), is_of_the_form);
     }
-    assert_eq!(rt; CallName::read(alloc, "clone3")?.as_str(), "clone3");
-    for text in ["", "Read", "rt-signal"] {
-        assert!(rt;
-            matches!(&CallName::read(alloc, text), Err(WordFault::NotAWord)),
-            "{text}"
-        );
-    }
-    Ok(())
 }
 
 #[test]
@@ -457,24 +484,5 @@ fn a_filter_has_at_most_2048_entries(rt: HostRuntime) -> Result<(), Fail> {
     assert_eq!(rt; filter.entries().len(), 2048);
     assert_eq!(rt; action_for(&filter, "call_2047_0", NO_WORDS), Action::Allow);
     let made = filter_of(alloc, many_entries(alloc, 2049, 1)?);
-    assert!(rt; matches!(&made, Err(FilterFault::TooMany)));
-    Ok(())
-}
-
-// The time for twice the entries is to be a little more than twice the time: each line shows a count and its time.
-#[test]
-fn the_time_to_make_a_filter_is_printed(rt: HostRuntime) -> Result<(), Fail> {
-    let alloc = rt.alloc();
-    for count in [512, 1024, 2048] {
-        let entries = many_entries(alloc, count, 8)?;
-        let start = Instant::now(&rt)?;
-        let filter = filter_of(alloc, entries)?;
-        let time = start.elapsed(&rt)?;
-        println!(rt;
-            "{} entries of 9 names: {} microseconds",
-            filter.entries().len(),
-            time.as_micros()
-        )?;
-    }
-    Ok(())
+    assert_told(&rt, alloc, made, "too-many")
 }

@@ -1,4 +1,4 @@
-use crate::{CapState, Caps, Eperm, File, execve, execve_root};
+use cap_sets::{CapState, Caps, Eperm, File, execve, execve_root};
 use std::test::Fail;
 
 /// The set of these bits.

@@ -1,5 +1,5 @@
-use super::exec::caps;
-use crate::{CapFault, CapState};
+use crate::exec::caps;
+use cap_sets::{CapFault, CapState};
 use std::test::Fail;
 
 #[test]

@@ -1,4 +1,4 @@
-use crate::Caps;
+use cap_sets::Caps;
 use std::test::Fail;
 
 // The names of linux/capability.h, each with the bit of its number there.

@@ -1,0 +1,90 @@
+// Texts of a form.
+
+ghost use Rattle.std.specs.Prelude.{◌≡◌, true, if◌then◌else◌, Some, None, string_bytes};
+ghost use Rattle.seccomp_doc.specs.Word.{Reads};
+
+use crate::word::WordFault;
+use std::alloc::Global;
+use std::fmt;
+use std::marker::{Model, PhantomData};
+
+/// A form that a text may have.
+pub trait Form {
+    ghost use Rattle.std.specs.Prelude.{◌≡◌, ℕ, List, Bool};
+
+    /// Whether a text has the form.
+    ghost is_form: { List ℕ → Bool };
+
+    /// Whether a text has the form.
+    fn is_form(text: &str) -> bool
+        ensures { result ≡ is_form text.now };
+}
+
+/// A text of a form, which contracts see as its bytes.
+#[derive(Clone, Debug, Drop)]
+pub struct Formed<F: Form> {
+    text: String,
+    form: PhantomData<F>,
+}
+
+impl<F: Form> Model for Formed<F> {
+    ghost use Rattle.std.specs.Prelude.{◌≡◌, List, ℕ, true, string_bytes};
+
+    ghost Value = { List ℕ };
+
+    ghost view = { λ a. string_bytes a.text };
+
+    ghost invariant = { λ a. F.is_form (string_bytes a.text) ≡ true };
+}
+
+impl<F: Form> Formed<F> {
+    /// The text, where it is of the form.
+    ///
+    /// # Errors
+    ///
+    /// `NotAWord` where it is of another form; `NoMemory` for want of memory.
+    pub fn read(alloc: Global, text: &str) -> Result<Formed<F>, WordFault>
+        ensures { Reads F.is_form text.now result }
+    {
+        if !F::is_form(text) {
+            return Err(WordFault::NotAWord);
+        }
+        Ok(Formed {
+            text: String::from_str(alloc, text)?,
+            form: PhantomData,
+        })
+    }
+
+    // The text itself, where it is of the form. It takes no memory.
+    pub(crate) fn from_string(text: String) -> Option<Formed<F>>
+        ensures { result ≡ (if F.is_form (string_bytes text) then Some (string_bytes text) else None) }
+    {
+        if F::is_form(text.as_str()) {
+            Some(Formed {
+                text,
+                form: PhantomData,
+            })
+        } else {
+            None
+        }
+    }
+
+    /// Its characters.
+    pub fn as_str(&self) -> &str
+        ensures text { result.now ≡ self.now }
+        ensures form { F.is_form self.now ≡ true }
+    {
+        self.text.as_str()
+    }
+}
+
+/// Its characters.
+impl<F: Form> fmt::Display for Formed<F> {
+    ghost use Rattle.std.specs.Prelude.{Some};
+
+    ghost output = { λ text. Some text };
+
+    fn fmt<W: fmt::Write>(&self, f: &mut fmt::Formatter<W>) -> fmt::Result {
+        f.write_str(self.as_str())
+    }
+}
