@@ -12,6 +12,3 @@ pub use some::{SomeRead, read_some};
 pub use step::{ReadStep, read_step};
 pub use up_to::{Unread, read_up_to};
 pub use whole::{WriteFailed, write_whole};
-
-#[cfg(test)]
-mod tests;

@@ -6,6 +6,3 @@ mod responses;
 
 pub use memory::memory_response;
 pub use responses::{refusal, response, status_of};
-
-#[cfg(test)]
-mod tests;

@@ -5,6 +5,3 @@ mod ask;
 mod name;
 
 pub use ask::ask_of;
-
-#[cfg(test)]
-mod tests;

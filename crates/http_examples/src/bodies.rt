@@ -1,7 +1,7 @@
 // Bodies that are refused, and bodies that are not.
 
 use crate::messages::request;
-use crate::offices::{assert_heard, assert_refused, trial_office};
+use crate::offices::{Trial, assert_heard, assert_refused};
 use crate::texts::{ANN, APPROVE_BARE};
 use std::test::Fail;
 
@@ -23,7 +23,7 @@ const WITHOUT_BODY: [&str; 9] = [
 #[test]
 fn a_body_where_none_is_asked_is_refused(rt: HostRuntime) -> Result<(), Fail> {
     let alloc = rt.alloc();
-    let mut office = trial_office(alloc)?;
+    let mut office = Trial::new(alloc)?;
     for line in WITHOUT_BODY.iter() {
         for body in [" ", "\r\n", "{}"] {
             let message = request(alloc, line, "nobody", body)?;
@@ -57,7 +57,7 @@ const NO_ENROLMENT: [&str; 11] = [
 #[test]
 fn a_body_enrols_with_just_its_members(rt: HostRuntime) -> Result<(), Fail> {
     let alloc = rt.alloc();
-    let mut office = trial_office(alloc)?;
+    let mut office = Trial::new(alloc)?;
     for body in NO_ENROLMENT.iter() {
         let message = request(alloc, "POST /users", "abc", body)?;
         assert_refused(
@@ -86,7 +86,7 @@ const NO_VOTE: [&str; 7] = [
 #[test]
 fn a_body_votes_with_just_its_members(rt: HostRuntime) -> Result<(), Fail> {
     let alloc = rt.alloc();
-    let mut office = trial_office(alloc)?;
+    let mut office = Trial::new(alloc)?;
     for body in NO_VOTE.iter() {
         let message = request(alloc, "POST /p/blue/web/1/vote", "nobody", body)?;
         assert_refused(
@@ -104,7 +104,7 @@ fn a_body_votes_with_just_its_members(rt: HostRuntime) -> Result<(), Fail> {
 #[test]
 fn a_submission_has_any_body(rt: HostRuntime) -> Result<(), Fail> {
     let alloc = rt.alloc();
-    let mut office = trial_office(alloc)?;
+    let mut office = Trial::new(alloc)?;
     for body in [b"".as_slice(), b"{", b"\0", b"\xff\xfe\r\n\r\n"] {
         let length = body.len();
         let head = format!(in alloc;

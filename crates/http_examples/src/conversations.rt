@@ -1,7 +1,7 @@
 // Conversations over HTTP alone.
 
 use crate::messages::request;
-use crate::offices::{answer_to, cast_office};
+use crate::offices::{Trial, answer_to};
 use crate::texts::{
     ALREADY_HELD, APPROVALS_SHORT, APPROVE_BARE, BARE, BARE_TEXT, HELD, ISSUED, LISTED_ISSUED,
     LISTED_OPEN, NO_SHAPE, NONE_LISTED, NOT_HELD, NOT_ISSUED, NOT_STANDING, NOTHING_ISSUED,
@@ -85,7 +85,7 @@ const FROM_THE_ISSUE: [Turn; 15] = [
 #[test]
 fn a_profile_is_reviewed_and_issued_and_withdrawn(rt: HostRuntime) -> Result<(), Fail> {
     let alloc = rt.alloc();
-    let mut office = cast_office(&rt, alloc)?;
+    let mut office = Trial::with_cast(&rt, alloc)?;
     converse(&rt, alloc, &mut office, &TO_THE_ISSUE)?;
     converse(&rt, alloc, &mut office, &FROM_THE_ISSUE)
 }
@@ -93,7 +93,7 @@ fn a_profile_is_reviewed_and_issued_and_withdrawn(rt: HostRuntime) -> Result<(),
 #[test]
 fn what_is_done_and_what_is_fetched_have_their_lengths(rt: HostRuntime) -> Result<(), Fail> {
     let alloc = rt.alloc();
-    let mut office = cast_office(&rt, alloc)?;
+    let mut office = Trial::with_cast(&rt, alloc)?;
     converse(&rt, alloc, &mut office, &TO_THE_ISSUE)?;
     let message = request(alloc, "POST /hold/blue/web", "t-sue", "")?;
     let answer = answer_to(alloc, &mut office, message.as_str().as_bytes())?;
@@ -138,6 +138,6 @@ const REFUSED_DOCUMENTS: [Turn; 3] = [
 #[test]
 fn a_document_that_is_none_is_denied_with_its_fault(rt: HostRuntime) -> Result<(), Fail> {
     let alloc = rt.alloc();
-    let mut office = cast_office(&rt, alloc)?;
+    let mut office = Trial::with_cast(&rt, alloc)?;
     converse(&rt, alloc, &mut office, &REFUSED_DOCUMENTS)
 }

@@ -2,15 +2,12 @@
 
 use crate::clocks::{Broken, Stepping};
 use crate::messages::request;
-use crate::offices::trial_office;
+use crate::offices::Trial;
 use crate::texts::ANN;
 use crate::turns::Told::Done;
 use crate::turns::message_of;
-use counted_io::Counted;
-use desk_http::{HttpFault, serve_one};
+use desk_http::HttpFault;
 use http_serving::{Deadline, Timed, Timeouts};
-use office_desk::Office;
-use sqlite::MemStore;
 use std::alloc::Global;
 use std::cell::Cell;
 use std::io;
@@ -108,7 +105,7 @@ struct Exchange {
 // An exchange that has this many seconds, where each call of the reader and the writer takes one.
 fn exchange_within(
     alloc: Global,
-    office: &mut Office<MemStore>,
+    office: &mut Trial,
     message: &[u8],
     seconds: u64,
 ) -> Result<Exchange, Fail> {
@@ -124,11 +121,13 @@ fn exchange_within(
         held: &mut written,
         left: &write_left,
     };
-    let mut reader = Counted::new(Timed::new(slow_reader, &deadline));
-    let mut writer = Counted::new(Timed::new(slow_writer, &deadline));
-    let served = serve_one(office, alloc, &mut reader, &mut writer);
+    let exchange = office.serve(
+        alloc,
+        Timed::new(slow_reader, &deadline),
+        Timed::new(slow_writer, &deadline),
+    );
     Ok(Exchange {
-        served,
+        served: exchange.served,
         written,
         read_left: read_left.get(),
         write_left: write_left.get(),
@@ -146,7 +145,7 @@ fn a_slow_reader_or_writer_fails_at_the_deadline_and_not_before(
     rt: HostRuntime,
 ) -> Result<(), Fail> {
     let alloc = rt.alloc();
-    let mut office = trial_office(alloc)?;
+    let mut office = Trial::new(alloc)?;
     let message = request(alloc, "POST /users", "abc", ANN)?;
     let answer = message_of(alloc, Done)?;
     let (reads, writes) = (message.len(), answer.len());
@@ -175,7 +174,7 @@ fn a_slow_reader_or_writer_fails_at_the_deadline_and_not_before(
 #[test]
 fn each_call_may_wait_as_long_as_is_left(rt: HostRuntime) -> Result<(), Fail> {
     let alloc = rt.alloc();
-    let mut office = trial_office(alloc)?;
+    let mut office = Trial::new(alloc)?;
     let message = b"GET\r\n\r\n";
     let first = exchange_within(alloc, &mut office, message, 1)?;
     assert_eq!(rt; first.served, Err(HttpFault::Read));
@@ -221,14 +220,12 @@ fn a_deadline_is_a_moment_of_the_clock(rt: HostRuntime) -> Result<(), Fail> {
 #[test]
 fn a_stream_without_time_outs_is_not_read(rt: HostRuntime) -> Result<(), Fail> {
     let alloc = rt.alloc();
-    let mut office = trial_office(alloc)?;
+    let mut office = Trial::new(alloc)?;
     let clock = Stepping::new();
     let deadline = Deadline::after(&clock, Duration::from_secs(9))?;
-    let mut reader = Counted::new(Timed::new(Endless, &deadline));
-    let mut writer = Counted::new(Vec::new(alloc));
-    let served = serve_one(&mut office, alloc, &mut reader, &mut writer);
-    assert_eq!(rt; served, Err(HttpFault::Read));
-    assert_eq!(rt; reader.faults(), 1);
-    assert!(rt; writer.into_inner().is_empty());
+    let exchange = office.serve(alloc, Timed::new(Endless, &deadline), Vec::new(alloc));
+    assert_eq!(rt; exchange.served, Err(HttpFault::Read));
+    assert_eq!(rt; exchange.read_faults, 1);
+    assert!(rt; exchange.output.is_empty());
     Ok(())
 }

@@ -1,11 +1,11 @@
 // Exchanges over memory.
 
-use crate::offices::{answer_to, trial_office};
+use crate::offices::{Trial, answer_to};
 use std::test::Fail;
 
 #[test]
 fn an_unknown_caller_is_denied(rt: HostRuntime) -> Result<(), Fail> {
-    let mut office = trial_office(rt.alloc())?;
+    let mut office = Trial::new(rt.alloc())?;
     let message =
         "GET /p/blue/web/1 HTTP/1.1\r\nHost: office\r\nAuthorization: Bearer nobody\r\n\r\n";
     let answer = answer_to(rt.alloc(), &mut office, message.as_bytes())?;

@@ -1,13 +1,12 @@
 // Heads that are refused, and heads that are not.
 
 use crate::messages::{list_with, longest_document, request};
-use crate::offices::{answer_to, assert_heard, assert_refused, cast_office, trial_office};
+use crate::offices::{Trial, answer_to, assert_heard, assert_refused};
 use crate::streams::{Giving, Source};
 use crate::texts::SUBMITTED;
 use crate::turns::Told::Json;
 use crate::turns::message_of;
-use counted_io::Counted;
-use desk_http::{HttpFault, serve_one};
+use desk_http::HttpFault;
 use std::alloc::Global;
 use std::test::Fail;
 
@@ -26,8 +25,7 @@ const TOO_LARGE: (&str, &str) = ("413 Payload Too Large", "too-large");
 // A head that a field pads to this many bytes.
 fn padded(alloc: Global, length: usize) -> Result<String, Fail> {
     let bare = list_with(alloc, "Padding: \r\n")?;
-    let padding = vec![in alloc; b'a'; length.saturating_sub(bare.len())]?;
-    let padding = String::from_utf8(padding)?;
+    let padding = "a".repeat(alloc, length.saturating_sub(bare.len()))?;
     let field = format!(in alloc; "Padding: {}\r\n", padding.as_str())?;
     list_with(alloc, field.as_str())
 }
@@ -35,7 +33,7 @@ fn padded(alloc: Global, length: usize) -> Result<String, Fail> {
 #[test]
 fn a_head_has_at_most_8192_bytes(rt: HostRuntime) -> Result<(), Fail> {
     let alloc = rt.alloc();
-    let mut office = trial_office(alloc)?;
+    let mut office = Trial::new(alloc)?;
     let longest = padded(alloc, 8192)?;
     assert_eq!(rt; longest.len(), 8192);
     assert_heard(&rt, alloc, &mut office, longest.as_str().as_bytes())?;
@@ -53,34 +51,41 @@ fn a_head_has_at_most_8192_bytes(rt: HostRuntime) -> Result<(), Fail> {
 #[test]
 fn bytes_without_an_end_of_head_are_a_head_that_is_too_long(rt: HostRuntime) -> Result<(), Fail> {
     let alloc = rt.alloc();
-    let mut office = trial_office(alloc)?;
+    let mut office = Trial::new(alloc)?;
     for length in [8192, 8193, 20_000] {
-        let message = vec![in alloc; b'a'; length]?;
-        assert_refused(&rt, alloc, &mut office, &message, TOO_LONG)?;
+        let message = "a".repeat(alloc, length)?;
+        assert_refused(
+            &rt,
+            alloc,
+            &mut office,
+            message.as_str().as_bytes(),
+            TOO_LONG,
+        )?;
     }
-    let message = vec![in alloc; b'a'; 8191]?;
-    let mut reader = Counted::new(message.as_slice());
-    let mut writer = Counted::new(Vec::new(alloc));
-    let served = serve_one(&mut office, alloc, &mut reader, &mut writer);
-    assert_eq!(rt; served, Err(HttpFault::Ended));
-    assert!(rt; writer.into_inner().is_empty());
+    let message = "a".repeat(alloc, 8191)?;
+    let exchange = office.serve(alloc, message.as_str().as_bytes(), Vec::new(alloc));
+    assert_eq!(rt; exchange.served, Err(HttpFault::Ended));
+    assert!(rt; exchange.output.is_empty());
     Ok(())
 }
 
 // How often the reader of a head was called that came a byte a call, where each further call fails.
 fn calls_to_read(alloc: Global, head: &[u8]) -> Result<(u64, String), Fail> {
-    let mut office = trial_office(alloc)?;
-    let mut reader = Counted::new(Source::new(head, Giving::FailsAt(head.len())));
-    let mut writer = Counted::new(Vec::new(alloc));
-    serve_one(&mut office, alloc, &mut reader, &mut writer)?;
-    Ok((reader.calls(), String::from_utf8(writer.into_inner())?))
+    let mut office = Trial::new(alloc)?;
+    let exchange = office.serve(
+        alloc,
+        Source::new(head, Giving::FailsAt(head.len())),
+        Vec::new(alloc),
+    );
+    exchange.served?;
+    Ok((exchange.calls, String::from_utf8(exchange.output)?))
 }
 
 #[test]
 fn a_head_is_refused_before_anything_behind_it_comes(rt: HostRuntime) -> Result<(), Fail> {
     let alloc = rt.alloc();
-    let without_end = vec![in alloc; b'a'; 8192]?;
-    let (calls, answer) = calls_to_read(alloc, &without_end)?;
+    let without_end = "a".repeat(alloc, 8192)?;
+    let (calls, answer) = calls_to_read(alloc, without_end.as_str().as_bytes())?;
     assert_eq!(rt; calls, 8192);
     assert_eq!(rt;
         answer.as_str(),
@@ -121,7 +126,7 @@ const BROKEN: [&[u8]; 16] = [
 #[test]
 fn a_head_of_another_form_is_refused(rt: HostRuntime) -> Result<(), Fail> {
     let alloc = rt.alloc();
-    let mut office = trial_office(alloc)?;
+    let mut office = Trial::new(alloc)?;
     for message in BROKEN.iter() {
         assert_refused(&rt, alloc, &mut office, message, BAD_HEAD)?;
     }
@@ -141,7 +146,7 @@ const UNUSUAL: [&[u8]; 6] = [
 #[test]
 fn a_head_may_have_bare_line_feeds_and_an_empty_line_in_front(rt: HostRuntime) -> Result<(), Fail> {
     let alloc = rt.alloc();
-    let mut office = trial_office(alloc)?;
+    let mut office = Trial::new(alloc)?;
     for message in UNUSUAL.iter() {
         assert_heard(&rt, alloc, &mut office, message)?;
     }
@@ -151,7 +156,7 @@ fn a_head_may_have_bare_line_feeds_and_an_empty_line_in_front(rt: HostRuntime) -
 #[test]
 fn a_head_has_at_most_64_fields(rt: HostRuntime) -> Result<(), Fail> {
     let alloc = rt.alloc();
-    let mut office = trial_office(alloc)?;
+    let mut office = Trial::new(alloc)?;
     let mut fields = String::new(alloc);
     for _ in 0..62 {
         fields.push_str("A: b\r\n")?;
@@ -172,7 +177,7 @@ fn a_head_has_at_most_64_fields(rt: HostRuntime) -> Result<(), Fail> {
 #[test]
 fn one_field_names_the_host_and_in_http_1_0_there_may_be_none(rt: HostRuntime) -> Result<(), Fail> {
     let alloc = rt.alloc();
-    let mut office = trial_office(alloc)?;
+    let mut office = Trial::new(alloc)?;
     for (version, hosts) in [
         ("1.1", ""),
         ("1.1", "Host: office\r\nHost: office\r\n"),
@@ -206,7 +211,7 @@ fn one_field_names_the_host_and_in_http_1_0_there_may_be_none(rt: HostRuntime) -
 #[test]
 fn no_transfer_is_encoded(rt: HostRuntime) -> Result<(), Fail> {
     let alloc = rt.alloc();
-    let mut office = trial_office(alloc)?;
+    let mut office = Trial::new(alloc)?;
     for fields in [
         "Transfer-Encoding: chunked\r\n",
         "transfer-encoding: identity\r\n",
@@ -228,7 +233,7 @@ fn no_transfer_is_encoded(rt: HostRuntime) -> Result<(), Fail> {
 #[test]
 fn a_length_is_one_decimal_number(rt: HostRuntime) -> Result<(), Fail> {
     let alloc = rt.alloc();
-    let mut office = trial_office(alloc)?;
+    let mut office = Trial::new(alloc)?;
     for fields in [
         "Content-Length: 0\r\nContent-Length: 0\r\n",
         "Content-Length: 0\r\ncontent-length: 1\r\n",
@@ -260,7 +265,7 @@ fn a_length_is_one_decimal_number(rt: HostRuntime) -> Result<(), Fail> {
 #[test]
 fn a_length_above_262144_is_too_large(rt: HostRuntime) -> Result<(), Fail> {
     let alloc = rt.alloc();
-    let mut office = trial_office(alloc)?;
+    let mut office = Trial::new(alloc)?;
     for length in ["262145", "0262145", "4294967296", "18446744073709551616"] {
         let field = format!(in alloc; "Content-Length: {length}\r\n")?;
         let message = list_with(alloc, field.as_str())?;
@@ -278,7 +283,7 @@ fn a_length_above_262144_is_too_large(rt: HostRuntime) -> Result<(), Fail> {
 #[test]
 fn a_document_of_262144_bytes_is_handed_in(rt: HostRuntime) -> Result<(), Fail> {
     let alloc = rt.alloc();
-    let mut office = cast_office(&rt, alloc)?;
+    let mut office = Trial::with_cast(&rt, alloc)?;
     let document = longest_document(alloc)?;
     assert_eq!(rt; document.len(), 262_144);
     let message = request(alloc, "POST /p/blue/web", "t-ann", document.as_str())?;

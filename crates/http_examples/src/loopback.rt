@@ -1,9 +1,8 @@
 // Exchanges over loopback.
 
 use crate::clocks::{Broken, Still};
-use crate::offices::trial_office;
+use crate::offices::Trial;
 use crate::streams::{Sink, Taking};
-use http_serving::serve_all;
 use std::io;
 use std::io::Write;
 use std::net::{Ipv4Addr, Shutdown, SocketAddr, TcpListener, TcpStream};
@@ -39,7 +38,7 @@ fn client(rt: &HostRuntime, address: SocketAddr, message: &str) -> Result<TcpStr
 #[test]
 fn two_clients_are_answered(rt: HostRuntime) -> Result<(), Fail> {
     let alloc = rt.alloc();
-    let mut office = trial_office(alloc)?;
+    let mut office = Trial::new(alloc)?;
     let (listener, address) = listen(&rt)?;
     let mut first = client(&rt, address, MESSAGE)?;
     first.shutdown(Shutdown::Write)?;
@@ -47,7 +46,7 @@ fn two_clients_are_answered(rt: HostRuntime) -> Result<(), Fail> {
     second.shutdown(Shutdown::Write)?;
     let mut output = Vec::new(alloc);
     let longest = Duration::from_secs(10);
-    let status = serve_all(&rt, &mut office, alloc, &listener, 2, longest, &mut output);
+    let status = office.serve_all(&rt, alloc, &listener, 2, longest, &mut output);
     assert_eq!(rt; status, 0);
     assert_eq!(rt; output.as_slice(), b"403\n403\n".as_slice());
     let answer = io::read_to_string(alloc, &mut first)?;
@@ -63,22 +62,14 @@ fn a_client_that_sends_nothing_more_is_left_and_the_next_is_served(
     rt: HostRuntime,
 ) -> Result<(), Fail> {
     let alloc = rt.alloc();
-    let mut office = trial_office(alloc)?;
+    let mut office = Trial::new(alloc)?;
     let (listener, address) = listen(&rt)?;
     for message in ["", "GET /p/blue", CUT_MESSAGE] {
         let first = client(&rt, address, message)?;
         let mut second = client(&rt, address, MESSAGE)?;
         let mut output = Vec::new(alloc);
         let longest = Duration::from_millis(200);
-        let status = serve_all(
-            &Still,
-            &mut office,
-            alloc,
-            &listener,
-            2,
-            longest,
-            &mut output,
-        );
+        let status = office.serve_all(&Still, alloc, &listener, 2, longest, &mut output);
         assert_eq!(rt; status, 0);
         assert_eq!(rt; output.as_slice(), b"fault read\n403\n".as_slice());
         let answer = io::read_to_string(alloc, &mut second)?;
@@ -91,13 +82,13 @@ fn a_client_that_sends_nothing_more_is_left_and_the_next_is_served(
 #[test]
 fn a_silent_client_is_waited_for_by_the_clock(rt: HostRuntime) -> Result<(), Fail> {
     let alloc = rt.alloc();
-    let mut office = trial_office(alloc)?;
+    let mut office = Trial::new(alloc)?;
     let (listener, address) = listen(&rt)?;
     let mut silent = client(&rt, address, "")?;
     let mut output = Vec::new(alloc);
     let start = Instant::now(&rt)?;
     let longest = Duration::from_millis(200);
-    let status = serve_all(&rt, &mut office, alloc, &listener, 1, longest, &mut output);
+    let status = office.serve_all(&rt, alloc, &listener, 1, longest, &mut output);
     assert!(rt; start.elapsed(&rt)? >= Duration::from_millis(150));
     assert_eq!(rt; status, 0);
     assert_eq!(rt; output.as_slice(), b"fault read\n".as_slice());
@@ -109,7 +100,7 @@ fn a_silent_client_is_waited_for_by_the_clock(rt: HostRuntime) -> Result<(), Fai
 #[test]
 fn a_client_that_closes_too_soon_has_no_answer(rt: HostRuntime) -> Result<(), Fail> {
     let alloc = rt.alloc();
-    let mut office = trial_office(alloc)?;
+    let mut office = Trial::new(alloc)?;
     let (listener, address) = listen(&rt)?;
     for message in ["", "GET /p/blue", CUT_MESSAGE] {
         let mut first = client(&rt, address, message)?;
@@ -117,7 +108,7 @@ fn a_client_that_closes_too_soon_has_no_answer(rt: HostRuntime) -> Result<(), Fa
         let mut second = client(&rt, address, MESSAGE)?;
         let mut output = Vec::new(alloc);
         let longest = Duration::from_secs(10);
-        let status = serve_all(&rt, &mut office, alloc, &listener, 2, longest, &mut output);
+        let status = office.serve_all(&rt, alloc, &listener, 2, longest, &mut output);
         assert_eq!(rt; status, 0);
         assert_eq!(rt; output.as_slice(), b"fault ended\n403\n".as_slice());
         let answer = io::read_to_string(alloc, &mut first)?;
@@ -134,7 +125,7 @@ fn a_client_that_is_refused_while_it_sends_reads_its_answer_to_the_end(
     rt: HostRuntime,
 ) -> Result<(), Fail> {
     let alloc = rt.alloc();
-    let mut office = trial_office(alloc)?;
+    let mut office = Trial::new(alloc)?;
     let (listener, address) = listen(&rt)?;
     let longest = Duration::from_secs(10);
     for head in [TOO_LARGE, NO_ROUTE] {
@@ -142,7 +133,7 @@ fn a_client_that_is_refused_while_it_sends_reads_its_answer_to_the_end(
         sender.write_all(&[b'a'; 20_000])?;
         sender.shutdown(Shutdown::Write)?;
         let mut output = Vec::new(alloc);
-        let status = serve_all(&rt, &mut office, alloc, &listener, 1, longest, &mut output);
+        let status = office.serve_all(&rt, alloc, &listener, 1, longest, &mut output);
         assert_eq!(rt; status, 0);
         let answer = io::read_to_string(alloc, &mut sender)?;
         assert!(rt; answer.as_str().starts_with("HTTP/1.1 4"));
@@ -154,20 +145,12 @@ fn a_client_that_is_refused_while_it_sends_reads_its_answer_to_the_end(
 #[test]
 fn a_clock_that_cannot_be_read_is_as_a_failing_reader(rt: HostRuntime) -> Result<(), Fail> {
     let alloc = rt.alloc();
-    let mut office = trial_office(alloc)?;
+    let mut office = Trial::new(alloc)?;
     let (listener, address) = listen(&rt)?;
     let _client = client(&rt, address, MESSAGE)?;
     let mut output = Vec::new(alloc);
     let longest = Duration::from_secs(10);
-    let status = serve_all(
-        &Broken,
-        &mut office,
-        alloc,
-        &listener,
-        1,
-        longest,
-        &mut output,
-    );
+    let status = office.serve_all(&Broken, alloc, &listener, 1, longest, &mut output);
     assert_eq!(rt; status, 0);
     assert_eq!(rt; output.as_slice(), b"fault read\n".as_slice());
     Ok(())
@@ -176,21 +159,21 @@ fn a_clock_that_cannot_be_read_is_as_a_failing_reader(rt: HostRuntime) -> Result
 #[test]
 fn an_output_that_fails_ends_it(rt: HostRuntime) -> Result<(), Fail> {
     let alloc = rt.alloc();
-    let mut office = trial_office(alloc)?;
+    let mut office = Trial::new(alloc)?;
     let (listener, address) = listen(&rt)?;
     let longest = Duration::from_secs(10);
     for (room, written) in [(0, ""), (3, "403"), (4, "403\n"), (7, "403\n403")] {
         let mut first = client(&rt, address, MESSAGE)?;
         let mut second = client(&rt, address, MESSAGE)?;
         let mut output = Sink::new(Vec::new(alloc), Taking::Bytes(room));
-        let status = serve_all(&rt, &mut office, alloc, &listener, 2, longest, &mut output);
+        let status = office.serve_all(&rt, alloc, &listener, 2, longest, &mut output);
         assert_eq!(rt; status, 1);
         assert_eq!(rt; output.held.as_slice(), written.as_bytes());
         let answer = io::read_to_string(alloc, &mut first)?;
         assert!(rt; answer.as_str().ends_with("\"caller-unknown\"}"));
         if room < 4 {
             let mut rest = Vec::new(alloc);
-            let status = serve_all(&rt, &mut office, alloc, &listener, 1, longest, &mut rest);
+            let status = office.serve_all(&rt, alloc, &listener, 1, longest, &mut rest);
             assert_eq!(rt; status, 0);
             assert_eq!(rt; rest.as_slice(), b"403\n".as_slice());
         }
@@ -203,11 +186,11 @@ fn an_output_that_fails_ends_it(rt: HostRuntime) -> Result<(), Fail> {
 #[test]
 fn no_exchange_has_no_line(rt: HostRuntime) -> Result<(), Fail> {
     let alloc = rt.alloc();
-    let mut office = trial_office(alloc)?;
+    let mut office = Trial::new(alloc)?;
     let (listener, _) = listen(&rt)?;
     let mut output = Sink::new(Vec::new(alloc), Taking::Nothing);
     let longest = Duration::from_secs(10);
-    let status = serve_all(&rt, &mut office, alloc, &listener, 0, longest, &mut output);
+    let status = office.serve_all(&rt, alloc, &listener, 0, longest, &mut output);
     assert_eq!(rt; status, 0);
     assert!(rt; output.held.is_empty());
     Ok(())

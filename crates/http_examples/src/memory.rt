@@ -1,17 +1,14 @@
 // What is told where memory is refused.
 
 use crate::messages::request;
-use crate::offices::trial_office;
+use crate::offices::Trial;
 use crate::streams::{Sink, Taking};
 use crate::texts::{
     APPROVE_BARE, BARE, BARE_TEXT, CAST, ISSUED, MEMORY, NOTHING_ISSUED, SHOWN_OPEN, SUBMITTED,
 };
 use crate::turns::Told::{Denied, Done, Json};
 use crate::turns::{Turn, message_of};
-use counted_io::Counted;
-use desk_http::{HttpFault, serve_one};
-use office_desk::Office;
-use sqlite::MemStore;
+use desk_http::HttpFault;
 use std::alloc::Global;
 use std::process::Abort;
 use std::test::Fail;
@@ -29,21 +26,18 @@ const TO_THE_FETCH: [Turn; 7] = [
 
 // Whether what is told of the turn was done: it is answered, or there was no memory for just this answer. Where memory was
 // refused before that, it wasn't.
-fn is_done(
-    rt: &impl Abort,
-    alloc: Global,
-    office: &mut Office<MemStore>,
-    turn: Turn,
-) -> Result<bool, Fail> {
+fn is_done(rt: &impl Abort, alloc: Global, office: &mut Trial, turn: Turn) -> Result<bool, Fail> {
     let (line, token, body, told) = turn;
     let message = request(alloc, line, token, body)?;
     let wanted = message_of(alloc, told)?;
     let held = Vec::with_capacity(alloc, 1024)?;
-    let mut reader = Counted::new(message.as_str().as_bytes());
-    let mut writer = Counted::new(Sink::new(held, Taking::Bytes(1024)));
-    let served = serve_one(office, alloc, &mut reader, &mut writer);
-    let written = writer.into_inner().held;
-    match served {
+    let exchange = office.serve(
+        alloc,
+        message.as_str().as_bytes(),
+        Sink::new(held, Taking::Bytes(1024)),
+    );
+    let written = exchange.output.held;
+    match exchange.served {
         Ok(503) => {
             assert_eq!(rt; written.as_slice(), MEMORY.as_bytes(), "{line}");
             Ok(false)
@@ -64,7 +58,7 @@ fn is_done(
 fn done_at_last(
     rt: &impl Abort,
     alloc: Global,
-    office: &mut Office<MemStore>,
+    office: &mut Trial,
     turn: Turn,
 ) -> Result<(), Fail> {
     if is_done(rt, alloc, office, turn)? {
@@ -79,7 +73,7 @@ fn done_at_last(
 #[test]
 fn want_of_memory_is_told_and_does_nothing(rt: HostRuntime) -> Result<(), Fail> {
     let alloc = rt.alloc();
-    let mut office = trial_office(alloc)?;
+    let mut office = Trial::new(alloc)?;
     for turn in CAST.iter() {
         done_at_last(&rt, alloc, &mut office, *turn)?;
     }

@@ -35,6 +35,6 @@ pub fn refusal(alloc: Global, status: &str, word: &str) -> Result<String, Fail> 
 
 // A document of as many bytes as a body may have.
 pub fn longest_document(alloc: Global) -> Result<String, Fail> {
-    let spaces = String::from_utf8(vec![in alloc; b' '; 262_125]?)?;
+    let spaces = " ".repeat(alloc, 262_125)?;
     Ok([BARE, spaces.as_str()].concat(alloc)?)
 }

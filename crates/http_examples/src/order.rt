@@ -1,14 +1,11 @@
 // The order in which a request is looked at.
 
 use crate::messages::refusal;
-use crate::offices::{answer_to, trial_office};
+use crate::offices::{Trial, answer_to};
 use crate::texts::{ANN, CALLER_UNKNOWN};
 use crate::turns::Told::Denied;
 use crate::turns::converse;
-use counted_io::Counted;
-use desk_http::{HttpFault, serve_one};
-use office_desk::Office;
-use sqlite::MemStore;
+use desk_http::HttpFault;
 use std::alloc::Global;
 use std::process::Abort;
 use std::test::Fail;
@@ -53,7 +50,7 @@ impl Faults {
 // An enrolment of ann by root, as it is where none of these steps is passed.
 fn enrolment_with(alloc: Global, faults: Faults) -> Result<String, Fail> {
     let padding = if faults.has(1) { 8192 } else { 0 };
-    let padding = String::from_utf8(vec![in alloc; b'a'; padding]?)?;
+    let padding = "a".repeat(alloc, padding)?;
     let mut message = [
         faults.text(8, "PUT", "POST"),
         faults.text(7, " /Users", " /users"),
@@ -80,18 +77,16 @@ fn enrolment_with(alloc: Global, faults: Faults) -> Result<String, Fail> {
 fn assert_stopped(
     rt: &impl Abort,
     alloc: Global,
-    office: &mut Office<MemStore>,
+    office: &mut Trial,
     faults: Faults,
     by: (usize, &str, &str),
 ) -> Result<(), Fail> {
     let (step, status, word) = by;
     let message = enrolment_with(alloc, faults)?;
     if step == CUT {
-        let mut reader = Counted::new(message.as_str().as_bytes());
-        let mut writer = Counted::new(Vec::new(alloc));
-        let served = serve_one(office, alloc, &mut reader, &mut writer);
-        assert_eq!(rt; served, Err(HttpFault::Ended));
-        assert!(rt; writer.into_inner().is_empty());
+        let exchange = office.serve(alloc, message.as_str().as_bytes(), Vec::new(alloc));
+        assert_eq!(rt; exchange.served, Err(HttpFault::Ended));
+        assert!(rt; exchange.output.is_empty());
         return Ok(());
     }
     let wanted = refusal(alloc, status, word)?;
@@ -103,7 +98,7 @@ fn assert_stopped(
 #[test]
 fn each_step_refuses_what_fails_it_and_any_later_one(rt: HostRuntime) -> Result<(), Fail> {
     let alloc = rt.alloc();
-    let mut office = trial_office(alloc)?;
+    let mut office = Trial::new(alloc)?;
     for by in STEPS.iter() {
         for later in STEPS.iter() {
             if later.0 >= by.0 {
@@ -119,7 +114,7 @@ fn each_step_refuses_what_fails_it_and_any_later_one(rt: HostRuntime) -> Result<
 #[test]
 fn what_passes_each_step_is_handled(rt: HostRuntime) -> Result<(), Fail> {
     let alloc = rt.alloc();
-    let mut office = trial_office(alloc)?;
+    let mut office = Trial::new(alloc)?;
     let message = enrolment_with(alloc, Faults(0, 0))?;
     let answer = answer_to(alloc, &mut office, message.as_str().as_bytes())?;
     assert_eq!(rt;

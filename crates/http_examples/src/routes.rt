@@ -1,7 +1,7 @@
 // Targets and methods.
 
 use crate::messages::request;
-use crate::offices::{answer_to, assert_heard, assert_refused, trial_office};
+use crate::offices::{Trial, answer_to, assert_heard, assert_refused};
 use crate::texts::{ANN, APPROVE_BARE, BARE};
 use std::test::Fail;
 
@@ -49,7 +49,7 @@ const NOWHERE: [&str; 35] = [
 #[test]
 fn a_target_of_another_form_has_no_route(rt: HostRuntime) -> Result<(), Fail> {
     let alloc = rt.alloc();
-    let mut office = trial_office(alloc)?;
+    let mut office = Trial::new(alloc)?;
     for target in NOWHERE.iter() {
         for method in ["GET", "POST", "get"] {
             let line = format!(in alloc; "{method} {target}")?;
@@ -69,9 +69,9 @@ fn a_target_of_another_form_has_no_route(rt: HostRuntime) -> Result<(), Fail> {
 #[test]
 fn a_word_in_a_target_has_at_most_64_bytes(rt: HostRuntime) -> Result<(), Fail> {
     let alloc = rt.alloc();
-    let mut office = trial_office(alloc)?;
+    let mut office = Trial::new(alloc)?;
     for (length, has_route) in [(64, true), (65, false)] {
-        let word = String::from_utf8(vec![in alloc; b'a'; length]?)?;
+        let word = "a".repeat(alloc, length)?;
         let line = format!(in alloc; "GET /issued/{}/{}", word.as_str(), word.as_str())?;
         let message = request(alloc, line.as_str(), "nobody", "")?;
         if has_route {
@@ -110,7 +110,7 @@ const ROUTES: [(&str, &str, &str); 14] = [
 #[test]
 fn each_route_is_heard_by_its_method(rt: HostRuntime) -> Result<(), Fail> {
     let alloc = rt.alloc();
-    let mut office = trial_office(alloc)?;
+    let mut office = Trial::new(alloc)?;
     for (method, target, body) in ROUTES.iter() {
         let line = format!(in alloc; "{method} {target}")?;
         let message = request(alloc, line.as_str(), "nobody", body)?;
@@ -122,7 +122,7 @@ fn each_route_is_heard_by_its_method(rt: HostRuntime) -> Result<(), Fail> {
 #[test]
 fn each_route_is_refused_by_another_method(rt: HostRuntime) -> Result<(), Fail> {
     let alloc = rt.alloc();
-    let mut office = trial_office(alloc)?;
+    let mut office = Trial::new(alloc)?;
     for (allowed, target, body) in ROUTES.iter() {
         let wanted = format!(in alloc;
             "HTTP/1.1 405 Method Not Allowed\r\nAllow: {allowed}\r\nContent-Type: application/json\r\n\

@@ -1,31 +1,30 @@
 // What stands where a reader or a writer fails, and what is answered where they give and take in pieces.
 
 use crate::messages::{longest_document, request};
-use crate::offices::{answer_to, cast_office, trial_office};
+use crate::offices::{Exchange, Trial, answer_to};
 use crate::streams::{Giving, Interrupted, Sink, Source, Taking};
 use crate::texts::{ANN, BARE, SAME_AS_OPEN, SUBMITTED};
 use crate::turns::Told::{Denied, Done, Json};
 use crate::turns::{converse, message_of};
-use counted_io::Counted;
-use desk_http::{HttpFault, MAX_READS, serve_one};
-use office_desk::Office;
-use sqlite::MemStore;
+use desk_http::{HttpFault, MAX_READS};
 use std::alloc::Global;
 use std::test::Fail;
 
 #[test]
 fn a_failing_read_leaves_nothing_handled(rt: HostRuntime) -> Result<(), Fail> {
     let alloc = rt.alloc();
-    let mut office = cast_office(&rt, alloc)?;
+    let mut office = Trial::with_cast(&rt, alloc)?;
     let message = request(alloc, "POST /p/blue/web", "t-ann", BARE)?;
     let bytes = message.as_str().as_bytes();
     for call in 0..bytes.len() {
-        let mut reader = Counted::new(Source::new(bytes, Giving::FailsAt(call)));
-        let mut writer = Counted::new(Vec::new(alloc));
-        let served = serve_one(&mut office, alloc, &mut reader, &mut writer);
-        assert_eq!(rt; served, Err(HttpFault::Read), "at {call}");
-        assert_eq!(rt; reader.faults(), 1);
-        assert!(rt; writer.into_inner().is_empty());
+        let exchange = office.serve(
+            alloc,
+            Source::new(bytes, Giving::FailsAt(call)),
+            Vec::new(alloc),
+        );
+        assert_eq!(rt; exchange.served, Err(HttpFault::Read), "at {call}");
+        assert_eq!(rt; exchange.read_faults, 1);
+        assert!(rt; exchange.output.is_empty());
     }
     let submission = [("POST /p/blue/web", "t-ann", BARE, Json(SUBMITTED))];
     converse(&rt, alloc, &mut office, &submission)
@@ -34,50 +33,51 @@ fn a_failing_read_leaves_nothing_handled(rt: HostRuntime) -> Result<(), Fail> {
 // What came of the first submission of a profile to a writer that takes this many bytes, and what it took.
 fn submitted_to(
     alloc: Global,
-    office: &mut Office<MemStore>,
+    office: &mut Trial,
     line: &str,
     taking: Taking,
-) -> Result<(Result<u16, HttpFault>, Vec<u8>), Fail> {
+) -> Result<Exchange<Sink>, Fail> {
     let message = request(alloc, line, "t-ann", BARE)?;
-    let mut reader = Counted::new(message.as_str().as_bytes());
-    let mut writer = Counted::new(Sink::new(Vec::new(alloc), taking));
-    let served = serve_one(office, alloc, &mut reader, &mut writer);
-    Ok((served, writer.into_inner().held))
+    let output = Sink::new(Vec::new(alloc), taking);
+    Ok(office.serve(alloc, message.as_str().as_bytes(), output))
 }
 
 #[test]
 fn a_failing_write_leaves_a_front_part_and_what_was_handled(rt: HostRuntime) -> Result<(), Fail> {
     let alloc = rt.alloc();
-    let mut office = cast_office(&rt, alloc)?;
+    let mut office = Trial::with_cast(&rt, alloc)?;
     let answer = message_of(alloc, Json(SUBMITTED))?;
     let bytes = answer.as_str().as_bytes();
     for room in 0..bytes.len() {
         let line = format!(in alloc; "POST /p/blue/web-{room}")?;
-        let (served, written) = submitted_to(
-            alloc,
-            &mut office,
-            line.as_str(),
-            Taking::Bytes(room),
-        )?;
-        assert_eq!(rt; served, Err(HttpFault::Write { status: 200 }), "at {room}");
-        assert_eq!(rt; written.as_slice(), &bytes[..room], "at {room}");
+        let exchange = submitted_to(alloc, &mut office, line.as_str(), Taking::Bytes(room))?;
+        assert_eq!(rt;
+            exchange.served,
+            Err(HttpFault::Write { status: 200 }),
+            "at {room}"
+        );
+        assert_eq!(rt;
+            exchange.output.held.as_slice(),
+            &bytes[..room],
+            "at {room}"
+        );
         let again = [(line.as_str(), "t-ann", BARE, Denied(SAME_AS_OPEN))];
         converse(&rt, alloc, &mut office, &again)?;
     }
     let taking = Taking::Bytes(bytes.len());
-    let (served, written) = submitted_to(alloc, &mut office, "POST /p/blue/web", taking)?;
-    assert_eq!(rt; served, Ok(200));
-    assert_eq!(rt; written.as_slice(), bytes);
+    let exchange = submitted_to(alloc, &mut office, "POST /p/blue/web", taking)?;
+    assert_eq!(rt; exchange.served, Ok(200));
+    assert_eq!(rt; exchange.output.held.as_slice(), bytes);
     Ok(())
 }
 
 #[test]
 fn a_writer_that_takes_no_byte_has_failed(rt: HostRuntime) -> Result<(), Fail> {
     let alloc = rt.alloc();
-    let mut office = cast_office(&rt, alloc)?;
-    let (served, written) = submitted_to(alloc, &mut office, "POST /p/blue/web", Taking::Nothing)?;
-    assert_eq!(rt; served, Err(HttpFault::Write { status: 200 }));
-    assert!(rt; written.is_empty());
+    let mut office = Trial::with_cast(&rt, alloc)?;
+    let exchange = submitted_to(alloc, &mut office, "POST /p/blue/web", Taking::Nothing)?;
+    assert_eq!(rt; exchange.served, Err(HttpFault::Write { status: 200 }));
+    assert!(rt; exchange.output.held.is_empty());
     let again = [("POST /p/blue/web", "t-ann", BARE, Denied(SAME_AS_OPEN))];
     converse(&rt, alloc, &mut office, &again)
 }
@@ -85,22 +85,21 @@ fn a_writer_that_takes_no_byte_has_failed(rt: HostRuntime) -> Result<(), Fail> {
 #[test]
 fn a_refusal_that_is_cut_has_its_status(rt: HostRuntime) -> Result<(), Fail> {
     let alloc = rt.alloc();
-    let mut office = trial_office(alloc)?;
+    let mut office = Trial::new(alloc)?;
     for (message, status) in [
         (b"GET /x HTTP/1.1\r\nHost: office\r\n\r\n".as_slice(), 404),
         (b"GET /users HTTP/1.1\r\nHost: office\r\n\r\n", 405),
         (b"GET\r\n\r\n", 400),
     ] {
-        let mut reader = Counted::new(message);
-        let mut writer = Counted::new(Sink::new(Vec::new(alloc), Taking::Bytes(12)));
-        let served = serve_one(&mut office, alloc, &mut reader, &mut writer);
-        assert_eq!(rt; served, Err(HttpFault::Write { status }));
-        assert_eq!(rt; writer.faults(), 1);
-        let wanted = format!(in alloc; "HTTP/1.1 {status}")?;
-        assert_eq!(rt;
-            writer.into_inner().held.as_slice(),
-            wanted.as_str().as_bytes()
+        let exchange = office.serve(
+            alloc,
+            message,
+            Sink::new(Vec::new(alloc), Taking::Bytes(12)),
         );
+        assert_eq!(rt; exchange.served, Err(HttpFault::Write { status }));
+        assert_eq!(rt; exchange.write_faults, 1);
+        let wanted = format!(in alloc; "HTTP/1.1 {status}")?;
+        assert_eq!(rt; exchange.output.held.as_slice(), wanted.as_str().as_bytes());
     }
     Ok(())
 }
@@ -108,16 +107,18 @@ fn a_refusal_that_is_cut_has_its_status(rt: HostRuntime) -> Result<(), Fail> {
 #[test]
 fn a_message_cut_at_any_place_has_the_same_answer(rt: HostRuntime) -> Result<(), Fail> {
     let alloc = rt.alloc();
-    let mut office = trial_office(alloc)?;
+    let mut office = Trial::new(alloc)?;
     let message = request(alloc, "POST /users", "abc", ANN)?;
     let bytes = message.as_str().as_bytes();
     let wanted = message_of(alloc, Done)?;
     for place in 0..bytes.len() {
-        let mut reader = Counted::new(Source::new(bytes, Giving::CutAt(place)));
-        let mut writer = Counted::new(Vec::new(alloc));
-        let served = serve_one(&mut office, alloc, &mut reader, &mut writer);
-        assert_eq!(rt; served, Ok(200), "at {place}");
-        assert_eq!(rt; writer.into_inner().as_slice(), wanted.as_str().as_bytes());
+        let exchange = office.serve(
+            alloc,
+            Source::new(bytes, Giving::CutAt(place)),
+            Vec::new(alloc),
+        );
+        assert_eq!(rt; exchange.served, Ok(200), "at {place}");
+        assert_eq!(rt; exchange.output.as_slice(), wanted.as_str().as_bytes());
     }
     Ok(())
 }
@@ -127,7 +128,7 @@ fn single_bytes_have_the_same_answer_where_each_read_is_interrupted(
     rt: HostRuntime,
 ) -> Result<(), Fail> {
     let alloc = rt.alloc();
-    let mut office = trial_office(alloc)?;
+    let mut office = Trial::new(alloc)?;
     let message = request(alloc, "POST /users", "abc", ANN)?;
     let bytes = message.as_str().as_bytes();
     let wanted = message_of(alloc, Done)?;
@@ -136,16 +137,15 @@ fn single_bytes_have_the_same_answer_where_each_read_is_interrupted(
         (Giving::OneByOne, length),
         (Giving::Interrupted, length.saturating_mul(2)),
     ] {
-        let mut reader = Counted::new(Source::new(bytes, giving));
-        let mut writer = Counted::new(Sink::new(Vec::new(alloc), Taking::OneByOne));
-        let served = serve_one(&mut office, alloc, &mut reader, &mut writer);
-        assert_eq!(rt; served, Ok(200));
-        assert_eq!(rt; reader.calls(), calls);
-        assert_eq!(rt; reader.faults(), 0);
-        assert_eq!(rt;
-            writer.into_inner().held.as_slice(),
-            wanted.as_str().as_bytes()
+        let exchange = office.serve(
+            alloc,
+            Source::new(bytes, giving),
+            Sink::new(Vec::new(alloc), Taking::OneByOne),
         );
+        assert_eq!(rt; exchange.served, Ok(200));
+        assert_eq!(rt; exchange.calls, calls);
+        assert_eq!(rt; exchange.read_faults, 0);
+        assert_eq!(rt; exchange.output.held.as_slice(), wanted.as_str().as_bytes());
     }
     Ok(())
 }
@@ -154,21 +154,23 @@ fn single_bytes_have_the_same_answer_where_each_read_is_interrupted(
 #[test]
 fn a_reader_is_not_called_behind_the_body(rt: HostRuntime) -> Result<(), Fail> {
     let alloc = rt.alloc();
-    let mut office = trial_office(alloc)?;
+    let mut office = Trial::new(alloc)?;
     let message = request(alloc, "POST /users", "abc", ANN)?;
     let bytes = message.as_str().as_bytes();
-    let mut reader = Counted::new(Source::new(bytes, Giving::FailsAt(bytes.len())));
-    let mut writer = Counted::new(Vec::new(alloc));
-    let served = serve_one(&mut office, alloc, &mut reader, &mut writer);
-    assert_eq!(rt; served, Ok(200));
-    assert_eq!(rt; reader.faults(), 0);
+    let exchange = office.serve(
+        alloc,
+        Source::new(bytes, Giving::FailsAt(bytes.len())),
+        Vec::new(alloc),
+    );
+    assert_eq!(rt; exchange.served, Ok(200));
+    assert_eq!(rt; exchange.read_faults, 0);
     Ok(())
 }
 
 #[test]
 fn what_follows_the_body_is_not_looked_at(rt: HostRuntime) -> Result<(), Fail> {
     let alloc = rt.alloc();
-    let mut office = trial_office(alloc)?;
+    let mut office = Trial::new(alloc)?;
     let message = request(alloc, "POST /users", "abc", ANN)?;
     let whole = message.as_str();
     let wanted = message_of(alloc, Done)?;
@@ -183,32 +185,28 @@ fn what_follows_the_body_is_not_looked_at(rt: HostRuntime) -> Result<(), Fail> {
 #[test]
 fn the_longest_body_may_come_a_byte_a_call(rt: HostRuntime) -> Result<(), Fail> {
     let alloc = rt.alloc();
-    let mut office = cast_office(&rt, alloc)?;
+    let mut office = Trial::with_cast(&rt, alloc)?;
     let document = longest_document(alloc)?;
     let message = request(alloc, "POST /p/blue/web", "t-ann", document.as_str())?;
     let bytes = message.as_str().as_bytes();
-    let mut reader = Counted::new(Source::new(bytes, Giving::OneByOne));
-    let mut writer = Counted::new(Vec::new(alloc));
-    let served = serve_one(&mut office, alloc, &mut reader, &mut writer);
-    assert_eq!(rt; served, Ok(200));
-    assert_eq!(rt; reader.calls(), bytes.len() as u64);
+    let exchange = office.serve(alloc, Source::new(bytes, Giving::OneByOne), Vec::new(alloc));
+    assert_eq!(rt; exchange.served, Ok(200));
+    assert_eq!(rt; exchange.calls, bytes.len() as u64);
     let wanted = message_of(alloc, Json(SUBMITTED))?;
-    assert_eq!(rt; writer.into_inner().as_slice(), wanted.as_str().as_bytes());
+    assert_eq!(rt; exchange.output.as_slice(), wanted.as_str().as_bytes());
     Ok(())
 }
 
 #[test]
 fn a_reader_is_not_called_without_end(rt: HostRuntime) -> Result<(), Fail> {
     let alloc = rt.alloc();
-    let mut office = trial_office(alloc)?;
-    let mut reader = Counted::new(Interrupted);
-    let mut writer = Counted::new(Vec::new(alloc));
-    let served = serve_one(&mut office, alloc, &mut reader, &mut writer);
-    assert_eq!(rt; served, Err(HttpFault::TooManyReads));
-    assert_eq!(rt; reader.calls(), 600_000);
+    let mut office = Trial::new(alloc)?;
+    let exchange = office.serve(alloc, Interrupted, Vec::new(alloc));
+    assert_eq!(rt; exchange.served, Err(HttpFault::TooManyReads));
+    assert_eq!(rt; exchange.calls, 600_000);
     assert_eq!(rt; MAX_READS, 600_000);
-    assert_eq!(rt; reader.faults(), 0);
-    assert!(rt; writer.into_inner().is_empty());
+    assert_eq!(rt; exchange.read_faults, 0);
+    assert!(rt; exchange.output.is_empty());
     Ok(())
 }
 

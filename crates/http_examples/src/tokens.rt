@@ -1,7 +1,7 @@
 // How a caller shows a token.
 
 use crate::messages::request;
-use crate::offices::{assert_heard, assert_refused, trial_office};
+use crate::offices::{Trial, assert_heard, assert_refused};
 use std::test::Fail;
 
 const NO_TOKEN: (&str, &str) = ("400 Bad Request", "no-token");
@@ -9,7 +9,7 @@ const NO_TOKEN: (&str, &str) = ("400 Bad Request", "no-token");
 #[test]
 fn a_token_is_shown_in_one_field_of_the_one_form(rt: HostRuntime) -> Result<(), Fail> {
     let alloc = rt.alloc();
-    let mut office = trial_office(alloc)?;
+    let mut office = Trial::new(alloc)?;
     for fields in [
         "",
         "Authorization: Bearer nobody\r\nAuthorization: Bearer nobody\r\n",
@@ -50,11 +50,11 @@ fn a_token_is_shown_in_one_field_of_the_one_form(rt: HostRuntime) -> Result<(), 
 #[test]
 fn a_token_has_at_most_128_bytes(rt: HostRuntime) -> Result<(), Fail> {
     let alloc = rt.alloc();
-    let mut office = trial_office(alloc)?;
-    let token = String::from_utf8(vec![in alloc; b'a'; 128]?)?;
+    let mut office = Trial::new(alloc)?;
+    let token = "a".repeat(alloc, 128)?;
     let message = request(alloc, "GET /p/blue", token.as_str(), "")?;
     assert_heard(&rt, alloc, &mut office, message.as_str().as_bytes())?;
-    let token = String::from_utf8(vec![in alloc; b'a'; 129]?)?;
+    let token = "a".repeat(alloc, 129)?;
     let message = request(alloc, "GET /p/blue", token.as_str(), "")?;
     assert_refused(
         &rt,

@@ -1,10 +1,8 @@
 // Requests in turn, and what is answered to them.
 
 use crate::messages::{request, response};
-use crate::offices::answer_to;
+use crate::offices::{Trial, answer_to};
 use crate::texts::DONE;
-use office_desk::Office;
-use sqlite::MemStore;
 use std::alloc::Global;
 use std::process::Abort;
 use std::test::Fail;
@@ -39,7 +37,7 @@ pub fn message_of(alloc: Global, told: Told<'_>) -> Result<String, Fail> {
 pub fn converse(
     rt: &impl Abort,
     alloc: Global,
-    office: &mut Office<MemStore>,
+    office: &mut Trial,
     turns: &[Turn],
 ) -> Result<(), Fail> {
     for (line, token, body, told) in turns.iter() {

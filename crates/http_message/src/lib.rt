@@ -8,6 +8,3 @@ pub mod status;
 pub use message::{ContentType, message_text};
 pub use method::Method;
 pub use status::Status;
-
-#[cfg(test)]
-mod tests;

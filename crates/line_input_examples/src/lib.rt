@@ -6,4 +6,6 @@ mod told;
 pub use told::{Told, tell_lines};
 
 #[cfg(test)]
+mod counted;
+#[cfg(test)]
 mod tests;

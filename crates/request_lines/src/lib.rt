@@ -17,6 +17,3 @@ pub use body::{read_enrol, read_vote};
 pub use fault::LineFault;
 pub use kind::Kind;
 pub use request::read_line;
-
-#[cfg(test)]
-mod tests;

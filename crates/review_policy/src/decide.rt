@@ -72,16 +72,3 @@ fn is_issued(state: Option<State>) -> bool
 {
     matches!(state, Some(State::Issued))
 }
-
-#[cfg(test)]
-mod tests {
-    use super::*;
-
-    // The number and the word of a denial.
-    pub(super) fn told(decision: Result<(), Denial>) -> Option<(u8, &'static str)> {
-        match decision {
-            Ok(()) => None,
-            Err(denial) => Some((denial.number, denial.rule.word())),
-        }
-    }
-}

@@ -50,21 +50,3 @@ pub struct VoteRow {
     /// Whether the voter is a reviewer now; else the vote has lapsed.
     pub counts: bool,
 }
-
-#[cfg(test)]
-mod tests {
-    use super::*;
-
-    #[test]
-    fn each_state_has_its_word(rt: HostRuntime) {
-        for (state, word) in [
-            (State::Open, "open"),
-            (State::Closed, "closed"),
-            (State::Issued, "issued"),
-            (State::Replaced, "replaced"),
-            (State::Withdrawn, "withdrawn"),
-        ] {
-            assert_eq!(rt; state.word(), word);
-        }
-    }
-}

@@ -49,19 +49,3 @@ impl Text {
         self.as_str() == other.as_str()
     }
 }
-
-#[cfg(test)]
-mod tests {
-    use super::*;
-    use std::test::Fail;
-
-    #[test]
-    fn a_copied_text_is_the_same_text(rt: HostRuntime) -> Result<(), Fail> {
-        let text = Text::new(String::from_str(rt.alloc(), "a b\n")?);
-        let copy = text.copy(rt.alloc())?;
-        assert_eq!(rt; copy.as_str(), "a b\n");
-        assert!(rt; text.is(&copy));
-        assert!(rt; !text.is(&Text::new(String::new(rt.alloc()))));
-        Ok(())
-    }
-}

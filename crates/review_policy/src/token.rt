@@ -73,26 +73,3 @@ fn is_a_token(text: &str) -> bool
         has_token_bytes(text.as_bytes())
     }
 }
-
-#[cfg(test)]
-mod tests {
-    use super::*;
-    use std::test::Fail;
-
-    #[test]
-    fn a_token_is_of_printed_characters(rt: HostRuntime) -> Result<(), Fail> {
-        let longest = "t".repeat(rt.alloc(), 128)?;
-        for text in ["abc", "!", "~", "t-ann", "A_b/9=", longest.as_str()] {
-            assert_eq!(rt; Token::new(rt.alloc(), text)?.as_str(), text);
-        }
-        let too_long = "t".repeat(rt.alloc(), 129)?;
-        for text in ["", "a b", "a\tb", "\u{7f}", "\u{e9}", too_long.as_str()] {
-            assert_eq!(rt;
-                Token::new(rt.alloc(), text).err(),
-                Some(WordFault::NotAWord),
-                "{text}"
-            );
-        }
-        Ok(())
-    }
-}

@@ -1,6 +1,6 @@
 //! Responses, whole.
 
-use crate::{memory_response, refusal, response};
+use http_answers::{memory_response, refusal, response};
 use http_message::{Method, Status};
 use review_policy::{Answer, Denial, Fault, Reply, Rule, Text};
 use std::alloc::AllocError;

@@ -1,9 +1,9 @@
-//! What is asked by routes and bodies that were worked out by hand.
+//! What is asked by routes and bodies.
 
-use crate::ask_of;
+use crate::asked::in_words;
+use http_asks::ask_of;
 use http_routes::{ProfileAct, ProfilePath, Route, find_route, office_router};
-use request_lines::LineFault;
-use review_policy::{Ask, ProfileName};
+use review_policy::Ask;
 use std::alloc::Global;
 use std::test::Fail;
 
@@ -17,73 +17,6 @@ const VOTE: &str =
     "\"digest\":\"000102030405060708090a0b0c0d0e0f101112131415161718191a1b1c1d1e1f\",\
     \"vote\":\"approve\"";
 
-// Whether the bytes of a digest are 0 to 31.
-fn digest_in_words(digest: &[u8; 32]) -> &'static str {
-    for (i, byte) in digest.iter().enumerate() {
-        if usize::from(*byte) != i {
-            return "another digest";
-        }
-    }
-    "0 to 31"
-}
-
-fn profile_in_words(alloc: Global, act: &str, name: &ProfileName) -> Result<String, Fail> {
-    let (team, profile) = (name.team.as_str(), name.profile.as_str());
-    let text = format!(in alloc; "{act} {team} {profile}")?;
-    Ok(text)
-}
-
-fn revision_in_words(
-    alloc: Global,
-    act: &str,
-    name: &ProfileName,
-    revision: u32,
-) -> Result<String, Fail> {
-    let (team, profile) = (name.team.as_str(), name.profile.as_str());
-    let text = format!(in alloc; "{act} {team} {profile} {revision}")?;
-    Ok(text)
-}
-
-// What is asked, with all that it names.
-fn in_words(alloc: Global, ask: &Ask) -> Result<String, Fail> {
-    match ask {
-        Ask::Enrol {
-            user,
-            team,
-            roles,
-            digest,
-        } => {
-            let (user, team, roles) = (user.as_str(), team.as_str(), roles.bits());
-            let digest = digest_in_words(digest);
-            Ok(format!(in alloc; "enrol {user} {team} {roles} {digest}")?)
-        }
-        Ask::Submit { name, document } => {
-            let words = profile_in_words(alloc, "submit", name)?;
-            let (words, document) = (words.as_str(), std::str::from_utf8(document.as_slice())?);
-            Ok(format!(in alloc; "{words} {document}")?)
-        }
-        Ask::Vote {
-            name,
-            revision,
-            digest,
-            approve,
-        } => {
-            let words = revision_in_words(alloc, "vote", name, *revision)?;
-            let (words, digest) = (words.as_str(), digest_in_words(digest));
-            Ok(format!(in alloc; "{words} {digest} {approve}")?)
-        }
-        Ask::Issue { name, revision } => revision_in_words(alloc, "issue", name, *revision),
-        Ask::Withdraw { name, revision } => revision_in_words(alloc, "withdraw", name, *revision),
-        Ask::Adopt { name, revision } => revision_in_words(alloc, "adopt", name, *revision),
-        Ask::Show { name, revision } => revision_in_words(alloc, "show", name, *revision),
-        Ask::Sheet { name, revision } => revision_in_words(alloc, "sheet", name, *revision),
-        Ask::List { team } => Ok(format!(in alloc; "list {}", team.as_str())?),
-        Ask::Fetch { name } => profile_in_words(alloc, "fetch", name),
-        Ask::Hold { name } => profile_in_words(alloc, "hold", name),
-        Ask::Release { name } => profile_in_words(alloc, "release", name),
-    }
-}
-
 // What a request asks, or why it is refused.
 fn asked(alloc: Global, method: &str, target: &str, body: &[u8]) -> Result<String, Fail> {
     let router = office_router(alloc)?;
@@ -92,9 +25,7 @@ fn asked(alloc: Global, method: &str, target: &str, body: &[u8]) -> Result<Strin
     };
     match ask_of(alloc, &route, body) {
         Ok(ask) => in_words(alloc, &ask),
-        Err(LineFault::NotJson) => Ok(String::from_str(alloc, "not-json")?),
-        Err(LineFault::NotARequest) => Ok(String::from_str(alloc, "not-a-request")?),
-        Err(LineFault::NoMemory) => Ok(String::from_str(alloc, "memory")?),
+        Err(fault) => Ok(format!(in alloc; "{fault}")?),
     }
 }
 
@@ -134,7 +65,10 @@ fn what_has_no_body_is_asked_by_an_empty_one(rt: HostRuntime) -> Result<(), Fail
 #[test]
 fn a_body_enrols_with_just_four_members(rt: HostRuntime) -> Result<(), Fail> {
     let words = asked_by(rt.alloc(), "/users", ENROL, "")?;
-    assert_eq!(rt; words.as_str(), "enrol ann blue 6 0 to 31");
+    assert_eq!(rt;
+        words.as_str(),
+        "enrol ann blue 6 000102030405060708090a0b0c0d0e0f101112131415161718191a1b1c1d1e1f"
+    );
     for more in [
         ",\"ask\":\"enrol\"",
         ",\"token\":\"abc\"",
@@ -151,7 +85,10 @@ fn a_body_enrols_with_just_four_members(rt: HostRuntime) -> Result<(), Fail> {
 fn a_body_votes_with_just_two_members(rt: HostRuntime) -> Result<(), Fail> {
     let target = "/p/blue/web/12/vote";
     let words = asked_by(rt.alloc(), target, VOTE, "")?;
-    assert_eq!(rt; words.as_str(), "vote blue web 12 0 to 31 true");
+    assert_eq!(rt;
+        words.as_str(),
+        "vote blue web 12 000102030405060708090a0b0c0d0e0f101112131415161718191a1b1c1d1e1f true"
+    );
     for more in [
         ",\"team\":\"blue\"",
         ",\"revision\":12",

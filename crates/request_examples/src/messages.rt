@@ -1,6 +1,6 @@
 //! Responses, whole.
 
-use super::{ContentType, Method, Status, message_text};
+use http_message::{ContentType, Method, Status, message_text};
 use std::test::Fail;
 
 #[test]

@@ -1,4 +1,4 @@
-use crate::{
+use counted_io::{
     Counted, ReadStep, SomeRead, Unread, WriteFailed, is_interrupted, read_some, read_step,
     read_up_to, write_whole,
 };
