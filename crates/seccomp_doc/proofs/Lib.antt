@@ -4,5 +4,6 @@ pub mod EntryFacts
 pub mod SameAction
 pub mod FaultFacts
 pub mod NameFacts
+pub mod OneAction
 pub mod FilterFacts
 pub mod MeaningFacts

@@ -1,5 +1,5 @@
 -- What a map from names to actions knows of some entries.
-use Rattle.std.specs.Prelude.{◌≡◌, ℕ, List, true, false, Option, Some, None}
+use Rattle.std.specs.Prelude.{◌≡◌, ℕ, List, true, false, Bool, Option, Some, None}
 use Rattle.std.specs.BTreeMap.{BTreeMap, get_by}
 use Rattle.std.specs.Cmp.Lexicographic.{slice_cmp}
 use Rattle.std.specs.List.{list_any}
@@ -10,6 +10,10 @@ use Rattle.seccomp_doc.specs.Action.{same_action}
 use Rattle.seccomp_doc.specs.Checks.{contradicts}
 use Rattle.seccomp_doc.specs.Filter.{EntryValue}
 use Rattle.seccomp_doc.specs.Meaning.{has_name}
+
+-- the entry has the action
+abbrev pub has_action : Action → EntryValue → Bool
+has_action action e = same_action e.action action
 
 -- the action under a name
 abbrev pub action_under : BTreeMap (Bor (List ℕ)) Action → List ℕ → Option Action

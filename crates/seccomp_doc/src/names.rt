@@ -1,10 +1,11 @@
 // Names that two entries give different actions.
 
 ghost use Rattle.std.specs.Prelude.{◌≡◌, ◌≢◌, ℕ, List, [], ◌∷◌, ◌++◌, Some, None, IfErr, OnOk, bytes_eq, if◌then◌else◌};
+ghost use Rattle.std.specs.List.{list_all};
 ghost use Rattle.seccomp_doc.specs.Checks.{Answers, all_name_checks, first_fault, name_checks};
 ghost use Rattle.seccomp_doc.specs.Filter.{EntryValue};
 ghost use Rattle.seccomp_doc.specs.Lawful.{HasOneAction};
-ghost use Rattle.seccomp_doc.specs.Names.{AgreesWith, DiffersFrom, Knows, action_under};
+ghost use Rattle.seccomp_doc.specs.Names.{AgreesWith, DiffersFrom, Knows, action_under, has_action};
 
 use crate::action::Action;
 use crate::call_name::CallName;
@@ -13,8 +14,26 @@ use crate::fault::FilterFault;
 use std::alloc::Global;
 use std::collections::BTreeMap;
 
-// Refuses the first name that an earlier entry has under another action. Each name is put once into an ordered map.
+// Refuses the first name that an earlier entry has under another action. Where all have one action, no name is looked at.
 pub(crate) fn refuse_two_actions(alloc: Global, entries: &[Entry]) -> Result<(), FilterFault>
+    ensures answers { Answers (first_fault (all_name_checks [] entries.now)) tt result }
+    ensures one_action { OnOk result (HasOneAction entries.now) }
+{
+    match entries.first() {
+        Some(first) if all_have_action(entries, first.action()) => Ok(()),
+        _ => compare_names(alloc, entries),
+    }
+}
+
+// Whether each entry has the action.
+fn all_have_action(entries: &[Entry], action: Action) -> bool
+    ensures { result ≡ list_all (has_action action) entries.now }
+{
+    entries.iter().all(|entry| entry.action().is_same(action))
+}
+
+// Refuses the first name that an earlier entry has under another action. Each name is put once into an ordered map.
+fn compare_names(alloc: Global, entries: &[Entry]) -> Result<(), FilterFault>
     ensures answers { Answers (first_fault (all_name_checks [] entries.now)) tt result }
     ensures one_action { OnOk result (HasOneAction entries.now) }
 {

@@ -1,7 +1,7 @@
 use Rattle.std.proofs.Common.{◌≡◌, [], take, drop}
 use Rattle.seccomp_doc.specs.Checks.{first_fault, all_name_checks}
 use Rattle.seccomp_doc.specs.Names.{Knows}
-use Rattle.seccomp_doc.proofs.names.refuse_two_actions.Given as goal
+use Rattle.seccomp_doc.proofs.names.compare_names.Given as goal
 
 abbrev pub invariant-loop-entry : goal.invariant-loop-entry
 invariant-loop-entry l =
