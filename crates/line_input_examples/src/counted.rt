@@ -5,7 +5,6 @@ use counted_io::{
 use std::alloc::{AllocError, Global};
 use std::io;
 use std::io::{ErrorKind, Read, Write};
-use std::test::Fail;
 
 // A reader that is interrupted, gives one byte, fails, and then is at its end.
 #[derive(Drop)]
@@ -77,43 +76,52 @@ impl Write for Narrow {
     }
 }
 
+// What came of a call of read, the first byte of its buffer, and the calls and faults that there were by then.
+fn seen_step(reader: &mut Counted<Halting>) -> (ReadStep, u8, u64, u64) {
+    let mut buffer = [0u8; 8];
+    let step = read_step(reader, &mut buffer);
+    (step, buffer[0], reader.calls(), reader.faults())
+}
+
 #[test]
 fn an_interrupted_read_is_a_call_and_no_fault(rt: HostRuntime) {
     let mut reader = Counted::new(Halting { calls: 0 });
-    let mut buffer = [0u8; 8];
-    assert_eq!(rt; read_step(&mut reader, &mut buffer), ReadStep::Interrupted);
-    assert_eq!(rt; reader.calls(), 1);
-    assert_eq!(rt; reader.faults(), 0);
-    assert_eq!(rt; read_step(&mut reader, &mut buffer), ReadStep::Bytes(1));
-    assert_eq!(rt; buffer[0], b'a');
-    assert_eq!(rt; read_step(&mut reader, &mut buffer), ReadStep::Failed);
-    assert_eq!(rt; reader.faults(), 1);
-    assert_eq!(rt; read_step(&mut reader, &mut buffer), ReadStep::End);
-    assert_eq!(rt; reader.calls(), 4);
-    assert_eq!(rt; reader.faults(), 1);
+    for seen in [
+        (ReadStep::Interrupted, 0, 1, 0),
+        (ReadStep::Bytes(1), b'a', 2, 0),
+        (ReadStep::Failed, 0, 3, 1),
+        (ReadStep::End, 0, 4, 1),
+    ] {
+        assert_eq!(rt; seen_step(&mut reader), seen);
+    }
     assert_eq!(rt; reader.into_inner().calls, 4);
 }
 
 #[test]
-fn a_text_is_written_whole_in_pieces(rt: HostRuntime) -> Result<(), Fail> {
+fn a_text_is_written_whole_in_pieces(rt: HostRuntime) {
     let mut writer = Counted::new(Narrow::new(rt.alloc(), 9, Full::Fails));
-    assert_eq!(rt; write_whole(&mut writer, b"profile"), Ok(()));
-    assert_eq!(rt; write_whole(&mut writer, b""), Ok(()));
-    writer.flush()?;
-    assert_eq!(rt; writer.calls(), 4);
-    assert_eq!(rt; writer.faults(), 0);
-    assert_eq!(rt; writer.into_inner().held.as_slice(), b"profile".as_slice());
-    Ok(())
+    let text = write_whole(&mut writer, b"profile");
+    let nothing = write_whole(&mut writer, b"");
+    let flushed = writer.flush().is_ok();
+    let seen = (text, nothing, flushed, writer.calls(), writer.faults());
+    let held = writer.into_inner().held;
+    assert_eq!(rt;
+        (seen, held.as_slice()),
+        ((Ok(()), Ok(()), true, 4, 0), b"profile".as_slice())
+    );
 }
 
 #[test]
 fn a_write_that_is_cut_is_a_fault_and_its_front_part_stands(rt: HostRuntime) {
     for full in [Full::TakesNone, Full::Interrupted, Full::Fails] {
         let mut writer = Counted::new(Narrow::new(rt.alloc(), 3, full));
-        assert_eq!(rt; write_whole(&mut writer, b"profile"), Err(WriteFailed));
-        assert_eq!(rt; writer.calls(), 3);
-        assert_eq!(rt; writer.faults(), 1);
-        assert_eq!(rt; writer.into_inner().held.as_slice(), b"pro".as_slice());
+        let answer = write_whole(&mut writer, b"profile");
+        let seen = (answer, writer.calls(), writer.faults());
+        let held = writer.into_inner().held;
+        assert_eq!(rt;
+            (seen, held.as_slice()),
+            ((Err(WriteFailed), 3, 1), b"pro".as_slice())
+        );
     }
 }
 
@@ -140,16 +148,28 @@ impl Write for Flushed {
 #[test]
 fn a_flush_reaches_the_writer_and_its_answer_is_given(rt: HostRuntime) {
     let mut writer = Counted::new(Flushed { flushes: 0 });
-    assert!(rt; writer.flush().is_err());
-    assert!(rt; writer.flush().is_ok());
-    assert_eq!(rt; writer.faults(), 0);
-    assert_eq!(rt; writer.into_inner().flushes, 2);
+    let first_fails = writer.flush().is_err();
+    let second_succeeds = writer.flush().is_ok();
+    let faults = writer.faults();
+    assert_eq!(rt;
+        (
+            first_fails,
+            second_succeeds,
+            faults,
+            writer.into_inner().flushes
+        ),
+        (true, true, 0, 2)
+    );
 }
 
 #[test]
 fn only_an_interruption_is_one(rt: HostRuntime) {
-    assert!(rt; is_interrupted(&io::Error::from(ErrorKind::Interrupted)));
-    assert!(rt; !is_interrupted(&io::Error::from(ErrorKind::WouldBlock)));
+    for (kind, is_one) in [
+        (ErrorKind::Interrupted, true),
+        (ErrorKind::WouldBlock, false),
+    ] {
+        assert_eq!(rt; is_interrupted(&io::Error::from(kind)), is_one);
+    }
 }
 
 #[test]
@@ -163,15 +183,23 @@ fn a_failed_write_has_the_word_write(rt: HostRuntime) -> Result<(), AllocError> 
 fn some_bytes_are_read_past_an_interruption(rt: HostRuntime) {
     let mut reader = Counted::new(Halting { calls: 0 });
     let mut buffer = [0u8; 8];
-    assert_eq!(rt; read_some(&mut reader, &mut buffer, 9), SomeRead::Bytes(1));
-    assert_eq!(rt; buffer[0], b'a');
-    assert_eq!(rt; reader.calls(), 2);
-    assert_eq!(rt; SomeRead::Bytes(1).count(), 1);
-    assert_eq!(rt; read_some(&mut reader, &mut buffer, 9), SomeRead::Failed);
-    assert_eq!(rt; SomeRead::Failed.count(), 0);
-    assert_eq!(rt; read_some(&mut reader, &mut buffer, 9), SomeRead::End);
-    assert_eq!(rt; reader.calls(), 4);
-    assert_eq!(rt; reader.faults(), 1);
+    let first = read_some(&mut reader, &mut buffer, 9);
+    let (byte, calls) = (buffer[0], reader.calls());
+    let second = read_some(&mut reader, &mut buffer, 9);
+    let third = read_some(&mut reader, &mut buffer, 9);
+    let ended = (third, reader.calls(), reader.faults());
+    assert_eq!(rt;
+        (
+            (first, first.count(), byte, calls),
+            (second, second.count()),
+            ended
+        ),
+        (
+            (SomeRead::Bytes(1), 1, b'a', 2),
+            (SomeRead::Failed, 0),
+            (SomeRead::End, 4, 1)
+        )
+    );
 }
 
 // A reader that is interrupted at each call.
@@ -188,17 +216,13 @@ impl Read for Interrupted {
 fn a_reader_that_is_always_interrupted_is_called_as_often_as_is_allowed(rt: HostRuntime) {
     let mut reader = Counted::new(Interrupted);
     let mut buffer = [0u8; 8];
+    let first = read_some(&mut reader, &mut buffer, 5);
+    let (calls, faults) = (reader.calls(), reader.faults());
+    let second = read_some(&mut reader, &mut buffer, 5);
     assert_eq!(rt;
-        read_some(&mut reader, &mut buffer, 5),
-        SomeRead::TooManyReads
+        (first, calls, faults, second, reader.calls()),
+        (SomeRead::TooManyReads, 5, 0, SomeRead::TooManyReads, 5)
     );
-    assert_eq!(rt; reader.calls(), 5);
-    assert_eq!(rt; reader.faults(), 0);
-    assert_eq!(rt;
-        read_some(&mut reader, &mut buffer, 5),
-        SomeRead::TooManyReads
-    );
-    assert_eq!(rt; reader.calls(), 5);
 }
 
 // A reader that gives its text three bytes a call.
@@ -227,23 +251,21 @@ fn all_is_read_up_to_a_number_of_bytes(rt: HostRuntime) -> Result<(), Unread> {
     ] {
         let mut reader = Counted::new(Slow { text: b"profile" });
         let bytes = read_up_to(rt.alloc(), &mut reader, most, 4)?;
-        assert_eq!(rt; bytes.as_slice(), read);
-        assert_eq!(rt; reader.calls(), calls);
+        assert_eq!(rt; (bytes.as_slice(), reader.calls()), (read, calls));
     }
     Ok(())
 }
 
 #[test]
 fn bytes_are_not_read_where_a_call_fails_or_there_are_too_many(rt: HostRuntime) {
-    let mut reader = Counted::new(Slow { text: b"profile" });
-    let read = read_up_to(rt.alloc(), &mut reader, 8, 3);
-    assert!(rt; matches!(read, Err(Unread::TooManyReads)));
-    assert_eq!(rt; reader.calls(), 3);
-    let mut reader = Counted::new(Halting { calls: 0 });
-    let read = read_up_to(rt.alloc(), &mut reader, 8, 9);
-    assert!(rt; matches!(read, Err(Unread::Failed)));
-    assert_eq!(rt; reader.calls(), 3);
-    assert_eq!(rt; reader.faults(), 1);
+    let mut slow = Counted::new(Slow { text: b"profile" });
+    let cut = read_up_to(rt.alloc(), &mut slow, 8, 3).err();
+    let mut halting = Counted::new(Halting { calls: 0 });
+    let failed = read_up_to(rt.alloc(), &mut halting, 8, 9).err();
+    assert_eq!(rt;
+        (cut, slow.calls(), failed, halting.calls(), halting.faults()),
+        (Some(Unread::TooManyReads), 3, Some(Unread::Failed), 3, 1)
+    );
 }
 
 #[test]

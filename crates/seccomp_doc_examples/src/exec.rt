@@ -1,28 +1,13 @@
-use cap_sets::{CapState, Caps, Eperm, File, execve, execve_root};
+use crate::states::{caps, state};
+use cap_sets::{Eperm, File, execve, execve_root};
+use std::process::Abort;
 use std::test::Fail;
-
-/// The set of these bits.
-pub fn caps(bits: u64) -> Result<Caps, Fail> {
-    Ok(Caps::from_bits(bits).ok_or("a bit above 40")?)
-}
 
 const BIND: u64 = 1 << 10;
 
 const ADMIN: u64 = 1 << 12;
 
 const RAW: u64 = 1 << 13;
-
-// The state of effective, permitted, inheritable, bounding and ambient.
-fn state(sets: [u64; 5]) -> Result<CapState, Fail> {
-    let [effective, permitted, inheritable, bounding, ambient] = sets;
-    Ok(CapState::new(
-        caps(effective)?,
-        caps(permitted)?,
-        caps(inheritable)?,
-        caps(bounding)?,
-        caps(ambient)?,
-    )?)
-}
 
 // A file with these permitted and inheritable capabilities.
 fn file(permitted: u64, inheritable: u64, effective: bool) -> Result<File, Fail> {
@@ -33,15 +18,33 @@ fn file(permitted: u64, inheritable: u64, effective: bool) -> Result<File, Fail>
     })
 }
 
+// That a process with these sets has those after it executes a file.
+fn assert_execve(
+    rt: &impl Abort,
+    before: [u64; 5],
+    file: File,
+    after: [u64; 5],
+) -> Result<(), Fail> {
+    let (old, new) = (state(before)?, state(after)?);
+    assert_eq!(rt; execve(&old, file), Ok(new), "from {before:?}");
+    Ok(())
+}
+
 #[test]
 fn a_plain_file_leaves_the_ambient_capabilities_alone(rt: HostRuntime) -> Result<(), Fail> {
-    let before = state([0, BIND | RAW, BIND, BIND | RAW, BIND])?;
-    let after = state([BIND, BIND, BIND, BIND | RAW, BIND])?;
-    assert_eq!(rt; execve(&before, File::Plain), Ok(after));
-    // Without ambient capabilities nothing is left.
-    let before = state([RAW, BIND | RAW, BIND, BIND | RAW, 0])?;
-    let after = state([0, 0, BIND, BIND | RAW, 0])?;
-    assert_eq!(rt; execve(&before, File::Plain), Ok(after));
+    for (before, after) in [
+        (
+            [0, BIND | RAW, BIND, BIND | RAW, BIND],
+            [BIND, BIND, BIND, BIND | RAW, BIND],
+        ),
+        // Without ambient capabilities nothing is left.
+        (
+            [RAW, BIND | RAW, BIND, BIND | RAW, 0],
+            [0, 0, BIND, BIND | RAW, 0],
+        ),
+    ] {
+        assert_execve(&rt, before, File::Plain, after)?;
+    }
     Ok(())
 }
 
@@ -50,12 +53,15 @@ fn a_capability_of_the_file_that_is_not_gained_is_eperm_under_the_effective_bit(
     rt: HostRuntime,
 ) -> Result<(), Fail> {
     let before = state([RAW; 5])?;
-    assert_eq!(rt; execve(&before, file(ADMIN | RAW, 0, true)?), Err(Eperm));
-    assert_eq!(rt;
-        execve(&before, file(ADMIN | RAW, 0, false)?),
-        Ok(state([0, RAW, RAW, RAW, 0])?)
-    );
-    assert_eq!(rt; Eperm.to_string(rt.alloc())?.as_str(), "EPERM");
+    let refused = execve(&before, file(ADMIN | RAW, 0, true)?);
+    assert_execve(
+        &rt,
+        [RAW; 5],
+        file(ADMIN | RAW, 0, false)?,
+        [0, RAW, RAW, RAW, 0],
+    )?;
+    let told = Eperm.to_string(rt.alloc())?;
+    assert_eq!(rt; (refused, told.as_str()), (Err(Eperm), "EPERM"));
     Ok(())
 }
 
@@ -104,8 +110,8 @@ fn files_with_capabilities_give_what_the_manual_page_says(rt: HostRuntime) -> Re
         ),
     ];
     for (before, (permitted, inheritable, effective), after) in table {
-        let result = execve(&state(before)?, file(permitted, inheritable, effective)?);
-        assert_eq!(rt; result, Ok(state(after)?), "from {before:?}");
+        let file = file(permitted, inheritable, effective)?;
+        assert_execve(&rt, before, file, after)?;
     }
     Ok(())
 }
@@ -113,12 +119,22 @@ fn files_with_capabilities_give_what_the_manual_page_says(rt: HostRuntime) -> Re
 #[test]
 fn root_gains_its_inheritable_and_bounding_capabilities(rt: HostRuntime) -> Result<(), Fail> {
     let chown_and_admin = (1 << 0) | (1 << 21);
-    let before = state([0, 0, 0, chown_and_admin, 0])?;
-    let after = state([chown_and_admin, chown_and_admin, 0, chown_and_admin, 0])?;
-    assert_eq!(rt; execve_root(&before), after);
-    // Inheritable counts beside bounding, and ambient stays.
-    let before = state([0, BIND | RAW, BIND, ADMIN, BIND])?;
-    let after = state([BIND | ADMIN, BIND | ADMIN, BIND, ADMIN, BIND])?;
-    assert_eq!(rt; execve_root(&before), after);
+    for (before, after) in [
+        (
+            [0, 0, 0, chown_and_admin, 0],
+            [chown_and_admin, chown_and_admin, 0, chown_and_admin, 0],
+        ),
+        // Inheritable counts beside bounding, and ambient stays.
+        (
+            [0, BIND | RAW, BIND, ADMIN, BIND],
+            [BIND | ADMIN, BIND | ADMIN, BIND, ADMIN, BIND],
+        ),
+    ] {
+        assert_eq!(rt;
+            execve_root(&state(before)?),
+            state(after)?,
+            "from {before:?}"
+        );
+    }
     Ok(())
 }

@@ -19,6 +19,14 @@ fn arg(index: u64, op: Op, value: u64) -> ArgParts {
     }
 }
 
+fn texts_of(alloc: Global, words: &[&str]) -> Result<Vec<String>, AllocError> {
+    let mut texts = Vec::new(alloc);
+    for word in words {
+        texts.push(String::from_str(alloc, word)?)?;
+    }
+    Ok(texts)
+}
+
 fn entry(
     alloc: Global,
     names: &[&str],
@@ -26,25 +34,25 @@ fn entry(
     errno: Option<u64>,
     args: &[ArgParts],
 ) -> Result<EntryParts, AllocError> {
-    let mut texts = Vec::new(alloc);
-    for name in names {
-        texts.push(String::from_str(alloc, name)?)?;
-    }
+    let args = Vec::from_slice(alloc, args)?;
+    let names = texts_of(alloc, names)?;
     Ok(EntryParts {
-        names: texts,
+        names,
         word,
         errno,
-        args: Vec::from_slice(alloc, args)?,
+        args,
     })
 }
 
-fn allowed(alloc: Global, names: &[&str], args: &[ArgParts]) -> Result<EntryParts, AllocError> {
-    entry(alloc, names, ActionWord::Allow, None, args)
-}
-
-fn list(alloc: Global, entry: EntryParts) -> Result<Vec<EntryParts>, AllocError> {
+// Entries of these names, actions, errnos and arguments.
+fn entries_of(
+    alloc: Global,
+    rows: &[(&[&str], ActionWord, Option<u64>, &[ArgParts])],
+) -> Result<Vec<EntryParts>, AllocError> {
     let mut entries = Vec::new(alloc);
-    entries.push(entry)?;
+    for (names, word, errno, args) in rows {
+        entries.push(entry(alloc, names, *word, *errno, args)?)?;
+    }
     Ok(entries)
 }
 
@@ -62,10 +70,17 @@ fn filter_of(alloc: Global, entries: Vec<EntryParts>) -> Result<Filter, FilterFa
     )
 }
 
+// The same of entries of these names, actions, errnos and arguments.
+fn filter_of_rows(
+    alloc: Global,
+    rows: &[(&[&str], ActionWord, Option<u64>, &[ArgParts])],
+) -> Result<Filter, FilterFault> {
+    filter_of(alloc, entries_of(alloc, rows)?)
+}
+
 // The filter of one entry for read.
 fn with_args(alloc: Global, args: &[ArgParts]) -> Result<Filter, FilterFault> {
-    let entry = allowed(alloc, &["read"], args)?;
-    filter_of(alloc, list(alloc, entry)?)
+    filter_of_rows(alloc, &[(&["read"], ActionWord::Allow, None, args)])
 }
 
 // The filter of a default alone.
@@ -86,6 +101,14 @@ fn with_default(
     )
 }
 
+// The fault that parts are refused by.
+fn told(alloc: Global, made: Result<Filter, FilterFault>) -> Result<String, AllocError> {
+    match made {
+        Ok(_) => String::from_str(alloc, "a filter"),
+        Err(fault) => format!(in alloc; "{fault}"),
+    }
+}
+
 // That parts are refused by this fault.
 fn assert_told(
     rt: &impl Abort,
@@ -93,12 +116,31 @@ fn assert_told(
     made: Result<Filter, FilterFault>,
     expected: &str,
 ) -> Result<(), Fail> {
-    let text = match made {
-        Ok(_) => String::from_str(alloc, "a filter")?,
-        Err(fault) => format!(in alloc; "{fault}")?,
-    };
+    let text = told(alloc, made)?;
     assert_eq!(rt; text.as_str(), expected);
     Ok(())
+}
+
+// That a filter does this with calls of these names and arguments.
+fn assert_actions(rt: &impl Abort, filter: &Filter, rows: &[(&str, [u64; 6], Action)]) {
+    for (name, words, action) in rows {
+        assert_eq!(rt;
+            action_for(filter, name, *words),
+            *action,
+            "{name} {words:?}"
+        );
+    }
+}
+
+// That a filter has one entry, of so many names and arguments, which allows read with zeros.
+fn assert_one_entry(rt: &impl Abort, filter: &Filter, names: usize, args: usize) {
+    assert_eq!(rt; filter.entries().len(), 1);
+    for entry in filter.entries() {
+        let counts = (entry.names().len(), entry.args().len());
+        let has = (entry.has_name("read"), entry.has_name("rea"));
+        let seen = (counts, has, entry.admits(&NO_WORDS), entry.action());
+        assert_eq!(rt; seen, ((names, args), (true, false), true, Action::Allow));
+    }
 }
 
 #[test]
@@ -110,51 +152,63 @@ fn an_index_twice_in_one_entry_is_refused(rt: HostRuntime) -> Result<(), Fail> {
 
 #[test]
 fn two_entries_of_one_call_are_alternatives(rt: HostRuntime) -> Result<(), Fail> {
-    let alloc = rt.alloc();
-    let one = allowed(alloc, &["read"], &[arg(0, Op::Equal, 1)])?;
-    let two = allowed(alloc, &["read"], &[arg(0, Op::Equal, 2)])?;
-    let filter = filter_of(alloc, vec![in alloc; one, two]?)?;
-    assert_eq!(rt;
-        action_for(&filter, "read", [1, 0, 0, 0, 0, 0]),
-        Action::Allow
-    );
-    assert_eq!(rt;
-        action_for(&filter, "read", [2, 0, 0, 0, 0, 0]),
-        Action::Allow
-    );
-    assert_eq!(rt;
-        action_for(&filter, "read", [3, 0, 0, 0, 0, 0]),
-        Action::Errno(1)
-    );
-    assert_eq!(rt;
-        action_for(&filter, "write", [1, 0, 0, 0, 0, 0]),
-        Action::Errno(1)
+    let filter = filter_of_rows(
+        rt.alloc(),
+        &[
+            (&["read"], ActionWord::Allow, None, &[arg(0, Op::Equal, 1)]),
+            (&["read"], ActionWord::Allow, None, &[arg(0, Op::Equal, 2)]),
+        ],
+    )?;
+    assert_actions(
+        &rt,
+        &filter,
+        &[
+            ("read", [1, 0, 0, 0, 0, 0], Action::Allow),
+            ("read", [2, 0, 0, 0, 0, 0], Action::Allow),
+            ("read", [3, 0, 0, 0, 0, 0], Action::Errno(1)),
+            ("write", [1, 0, 0, 0, 0, 0], Action::Errno(1)),
+        ],
     );
     Ok(())
 }
 
 #[test]
 fn a_call_under_two_actions_is_refused(rt: HostRuntime) -> Result<(), Fail> {
-    let alloc = rt.alloc();
-    let one = allowed(alloc, &["read", "clone3"], &[])?;
-    let two = entry(
+    let made = filter_of_rows(
+        rt.alloc(),
+        &[
+            (&["read", "clone3"], ActionWord::Allow, None, &[]),
+            (
+                &["clone", "clone3", "read"],
+                ActionWord::Errno,
+                Some(38),
+                &[],
+            ),
+        ],
+    );
+    assert_told(&rt, rt.alloc(), made, "two-actions clone3")
+}
+
+// The filter of two entries for clone3, with these errnos.
+fn with_errnos(
+    alloc: Global,
+    word: ActionWord,
+    one: Option<u64>,
+    other: Option<u64>,
+) -> Result<Filter, FilterFault> {
+    filter_of_rows(
         alloc,
-        &["clone", "clone3", "read"],
-        ActionWord::Errno,
-        Some(38),
-        &[],
-    )?;
-    let made = filter_of(alloc, vec![in alloc; one, two]?);
-    assert_told(&rt, alloc, made, "two-actions clone3")
+        &[
+            (&["clone3"], word, one, &[]),
+            (&["clone3"], word, other, &[]),
+        ],
+    )
 }
 
 #[test]
 fn an_absent_errno_is_1(rt: HostRuntime) -> Result<(), Fail> {
-    let alloc = rt.alloc();
     for word in [ActionWord::Errno, ActionWord::Trace] {
-        let absent = entry(alloc, &["clone3"], word, None, &[])?;
-        let one = entry(alloc, &["clone3"], word, Some(1), &[])?;
-        let filter = filter_of(alloc, vec![in alloc; absent, one]?)?;
+        let filter = with_errnos(rt.alloc(), word, None, Some(1))?;
         assert_eq!(rt; action_for(&filter, "clone3", NO_WORDS).errno(), Some(1));
     }
     Ok(())
@@ -162,24 +216,15 @@ fn an_absent_errno_is_1(rt: HostRuntime) -> Result<(), Fail> {
 
 #[test]
 fn another_errno_is_another_action(rt: HostRuntime) -> Result<(), Fail> {
-    let alloc = rt.alloc();
-    let one = entry(alloc, &["clone3"], ActionWord::Errno, Some(1), &[])?;
-    let other = entry(alloc, &["clone3"], ActionWord::Errno, Some(38), &[])?;
-    let made = filter_of(alloc, vec![in alloc; one, other]?);
-    assert_told(&rt, alloc, made, "two-actions clone3")
+    let made = with_errnos(rt.alloc(), ActionWord::Errno, Some(1), Some(38));
+    assert_told(&rt, rt.alloc(), made, "two-actions clone3")
 }
 
 #[test]
 fn a_name_twice_in_one_entry_is_no_fault(rt: HostRuntime) -> Result<(), Fail> {
-    let alloc = rt.alloc();
-    let twice = allowed(alloc, &["read", "read"], &[])?;
-    let filter = filter_of(alloc, list(alloc, twice)?)?;
-    assert_eq!(rt; filter.entries().len(), 1);
-    for entry in filter.entries() {
-        assert_eq!(rt; entry.names().len(), 2);
-        assert!(rt; entry.has_name("read") && !entry.has_name("rea"));
-        assert_eq!(rt; entry.action(), Action::Allow);
-    }
+    let twice: &[&str] = &["read", "read"];
+    let filter = filter_of_rows(rt.alloc(), &[(twice, ActionWord::Allow, None, &[])])?;
+    assert_one_entry(&rt, &filter, 2, 0);
     Ok(())
 }
 
@@ -204,8 +249,7 @@ fn assert_entry_told(
     args: &[ArgParts],
     expected: &str,
 ) -> Result<(), Fail> {
-    let entry = entry(alloc, names, ActionWord::Log, Some(70000), args)?;
-    let made = filter_of(alloc, list(alloc, entry)?);
+    let made = filter_of_rows(alloc, &[(names, ActionWord::Log, Some(70000), args)]);
     assert_told(rt, alloc, made, expected)
 }
 
@@ -213,42 +257,33 @@ fn assert_entry_told(
 fn refusals_come_in_their_order(rt: HostRuntime) -> Result<(), Fail> {
     let beyond = arg(6, Op::Equal, 0);
     let last = arg(5, Op::Equal, 0);
-    assert_entry_told(&rt, rt.alloc(), &[], &[beyond], "no-names")?;
-    assert_entry_told(
-        &rt,
-        rt.alloc(),
-        &["read", "Read"],
-        &[beyond],
-        "bad-call-name",
-    )?;
-    assert_entry_told(&rt, rt.alloc(), &["read"], &[beyond, beyond], "bad-index")?;
-    assert_entry_told(&rt, rt.alloc(), &["read"], &[last, last], "index-twice")?;
-    assert_entry_told(&rt, rt.alloc(), &["read"], &[last], "errno-not-taken")
+    let rows: [(&[&str], &[ArgParts], &str); 5] = [
+        (&[], &[beyond], "no-names"),
+        (&["read", "Read"], &[beyond], "bad-call-name"),
+        (&["read"], &[beyond, beyond], "bad-index"),
+        (&["read"], &[last, last], "index-twice"),
+        (&["read"], &[last], "errno-not-taken"),
+    ];
+    for (names, args, expected) in rows {
+        assert_entry_told(&rt, rt.alloc(), names, args, expected)?;
+    }
+    Ok(())
 }
 
 #[test]
 fn a_call_is_compared_by_its_arguments(rt: HostRuntime) -> Result<(), Fail> {
-    let alloc = rt.alloc();
-    let filter = with_args(
-        alloc,
-        &[arg(1, Op::LessOrEqual, 8), arg(5, Op::NotEqual, 7)],
-    )?;
-    assert_eq!(rt;
-        action_for(&filter, "read", [9, 8, 9, 9, 9, 6]),
-        Action::Allow
+    let args = [arg(1, Op::LessOrEqual, 8), arg(5, Op::NotEqual, 7)];
+    let filter = with_args(rt.alloc(), &args)?;
+    assert_actions(
+        &rt,
+        &filter,
+        &[
+            ("read", [9, 8, 9, 9, 9, 6], Action::Allow),
+            ("read", [0, 9, 0, 0, 0, 6], Action::Errno(1)),
+            ("read", [0, 8, 0, 0, 0, 7], Action::Errno(1)),
+        ],
     );
-    assert_eq!(rt;
-        action_for(&filter, "read", [0, 9, 0, 0, 0, 6]),
-        Action::Errno(1)
-    );
-    assert_eq!(rt;
-        action_for(&filter, "read", [0, 8, 0, 0, 0, 7]),
-        Action::Errno(1)
-    );
-    for entry in filter.entries() {
-        assert_eq!(rt; entry.args().len(), 2);
-        assert!(rt; entry.admits(&NO_WORDS));
-    }
+    assert_one_entry(&rt, &filter, 1, 2);
     Ok(())
 }
 
@@ -288,32 +323,34 @@ fn a_mask_covers_argument_and_datum(rt: HostRuntime) {
         value: 2114060288,
         value_two: 17,
     };
-    assert!(rt; mask.admits(0));
-    assert!(rt; mask.admits(17));
-    assert!(rt; !mask.admits(131072));
+    let seen = [mask.admits(0), mask.admits(17), mask.admits(131072)];
+    assert_eq!(rt; seen, [true, true, false]);
+}
+
+// That each entry of a filter has this comparison alone.
+fn assert_compares(rt: &impl Abort, filter: &Filter, compare: Compare) {
+    for entry in filter.entries() {
+        assert_eq!(rt; entry.args(), [compare].as_slice());
+    }
 }
 
 #[test]
 fn the_second_value_is_kept_with_a_mask_alone(rt: HostRuntime) -> Result<(), Fail> {
-    let alloc = rt.alloc();
-    let rows = [(Op::MaskedEqual, 5), (Op::Equal, 0)];
-    for (op, wanted) in rows {
+    for (op, wanted) in [(Op::MaskedEqual, 5), (Op::Equal, 0)] {
         let part = ArgParts {
             index: 2,
             op,
             value: 18446744073709551615,
             value_two: 5,
         };
-        let filter = with_args(alloc, &[part])?;
         let compare = Compare {
             index: 2,
             op,
             value: 18446744073709551615,
             value_two: wanted,
         };
-        for entry in filter.entries() {
-            assert_eq!(rt; entry.args(), [compare].as_slice());
-        }
+        let filter = with_args(rt.alloc(), &[part])?;
+        assert_compares(&rt, &filter, compare);
     }
     Ok(())
 }
@@ -321,25 +358,32 @@ fn the_second_value_is_kept_with_a_mask_alone(rt: HostRuntime) -> Result<(), Fai
 #[test]
 fn a_default_stands_alone(rt: HostRuntime) {
     let filter = Filter::only_default(rt.alloc(), Action::KillProcess);
-    assert_eq!(rt; action_for(&filter, "read", NO_WORDS), Action::KillProcess);
-    assert!(rt; filter.architectures().is_empty() && filter.flags().is_empty());
-    assert!(rt; filter.entries().is_empty());
+    let seen = (
+        action_for(&filter, "read", NO_WORDS),
+        filter.architectures().len(),
+        filter.flags().len(),
+        filter.entries().len(),
+    );
+    assert_eq!(rt; seen, (Action::KillProcess, 0, 0, 0));
 }
 
-#[test]
-fn architectures_and_flags_are_kept_in_order(rt: HostRuntime) -> Result<(), Fail> {
-    let alloc = rt.alloc();
+// A filter of two architectures and a flag.
+fn with_lists(alloc: Global) -> Result<Filter, Fail> {
+    let flags = vec![in alloc; ScmpFlag::read(alloc, "SECCOMP_FILTER_FLAG_LOG")?]?;
+    let one = Arch::read(alloc, "SCMP_ARCH_X86_64")?;
+    let two = Arch::read(alloc, "SCMP_ARCH_X86")?;
     let parts = FilterParts {
         default: ActionWord::Allow,
         default_errno: None,
-        architectures: vec![in alloc;
-            Arch::read(alloc, "SCMP_ARCH_X86_64")?,
-            Arch::read(alloc, "SCMP_ARCH_X86")?,
-        ]?,
-        flags: vec![in alloc; ScmpFlag::read(alloc, "SECCOMP_FILTER_FLAG_LOG")?]?,
+        architectures: vec![in alloc; one, two]?,
+        flags,
         entries: Vec::new(alloc),
     };
-    let filter = Filter::new(alloc, parts)?;
+    Ok(Filter::new(alloc, parts)?)
+}
+
+// The architectures and the flags of a filter, one after the other.
+fn listed(alloc: Global, filter: &Filter) -> Result<String, AllocError> {
     let mut text = String::new(alloc);
     for arch in filter.architectures() {
         text.push_str(arch.as_str())?;
@@ -347,6 +391,13 @@ fn architectures_and_flags_are_kept_in_order(rt: HostRuntime) -> Result<(), Fail
     for flag in filter.flags() {
         text.push_str(flag.as_str())?;
     }
+    Ok(text)
+}
+
+#[test]
+fn architectures_and_flags_are_kept_in_order(rt: HostRuntime) -> Result<(), Fail> {
+    let filter = with_lists(rt.alloc())?;
+    let text = listed(rt.alloc(), &filter)?;
     assert_eq!(rt;
         text.as_str(),
         "SCMP_ARCH_X86_64SCMP_ARCH_X86SECCOMP_FILTER_FLAG_LOG"
@@ -358,17 +409,15 @@ fn architectures_and_flags_are_kept_in_order(rt: HostRuntime) -> Result<(), Fail
 fn assert_form<F: Form>(
     rt: &impl Abort,
     text: &str,
-    read: Result<Formed<F>, WordFault>,
+    read: &Result<Formed<F>, WordFault>,
     is_of_the_form: bool,
 ) {
-    match read {
-        Ok(formed) => {
-            assert!(rt; is_of_the_form, "{text}");
-            assert_eq!(rt; formed.as_str(), text);
-        }
-        Err(WordFault::NotAWord) => assert!(rt; !is_of_the_form, "{text}"),
-        Err(WordFault::NoMemory) => assert!(rt; false, "{text}"),
-    }
+    let is_as_told = match read {
+        Ok(formed) => is_of_the_form && formed.as_str() == text,
+        Err(WordFault::NotAWord) => !is_of_the_form,
+        Err(WordFault::NoMemory) => false,
+    };
+    assert!(rt; is_as_told, "{text}");
 }
 
 #[test]
@@ -382,7 +431,7 @@ fn architectures_have_their_form(rt: HostRuntime) {
         ("SCMP_ARCH_x32", false),
         ("SCMP_ARCH_ABCDEFGHIJKLMNOPQRSTUVWXYZ0123456", false),
     ] {
-        assert_form(&rt, text, Arch::read(rt.alloc(), text), is_of_the_form);
+        assert_form(&rt, text, &Arch::read(rt.alloc(), text), is_of_the_form);
     }
 }
 
@@ -394,7 +443,7 @@ fn flags_have_their_form(rt: HostRuntime) {
         ("SECCOMP_FILTER_FLAG_", false),
         ("SECCOMP_FILTER_FLAG_V2", false),
     ] {
-        assert_form(&rt, text, ScmpFlag::read(rt.alloc(), text), is_of_the_form);
+        assert_form(&rt, text, &ScmpFlag::read(rt.alloc(), text), is_of_the_form);
     }
 }
 
@@ -406,7 +455,7 @@ fn names_of_calls_have_their_form(rt: HostRuntime) {
         ("Read", false),
         ("rt-signal", false),
     ] {
-        assert_form(&rt, text, CallName::read(rt.alloc(), text), is_of_the_form);
+        assert_form(&rt, text, &CallName::read(rt.alloc(), text), is_of_the_form);
     }
 }
 
@@ -423,20 +472,26 @@ fn actions_have_the_words_and_the_order_of_seccomp(rt: HostRuntime) {
     ];
     let mut rank = 0;
     for (word, action) in rows {
-        assert_eq!(rt; action.word(), word);
-        assert_eq!(rt; ActionWord::from_word(word), Some(action.action_word()));
-        assert_eq!(rt;
+        let seen = (
+            action.word(),
+            ActionWord::from_word(word),
             action.action_word().takes_errno(),
-            action.errno().is_some()
+            action.rank(),
         );
-        assert_eq!(rt; action.rank(), rank, "{word}");
+        let wanted = (
+            word,
+            Some(action.action_word()),
+            action.errno().is_some(),
+            rank,
+        );
+        assert_eq!(rt; seen, wanted, "{word}");
         rank = action.rank().saturating_add(1);
     }
-    assert_eq!(rt;
+    let others = (
         ActionWord::from_word("SCMP_ACT_KILL"),
-        Some(ActionWord::KillThread)
+        ActionWord::from_word("SCMP_ACT_NOTIFY"),
     );
-    assert_eq!(rt; ActionWord::from_word("SCMP_ACT_NOTIFY"), None);
+    assert_eq!(rt; others, (Some(ActionWord::KillThread), None));
 }
 
 #[test]
@@ -451,28 +506,19 @@ fn operators_have_the_words_of_libseccomp(rt: HostRuntime) {
         ("SCMP_CMP_MASKED_EQ", Op::MaskedEqual),
     ];
     for (word, op) in rows {
-        assert_eq!(rt; op.word(), word);
-        assert_eq!(rt; Op::from_word(word), Some(op));
-        assert_eq!(rt; op.is_masked(), word == "SCMP_CMP_MASKED_EQ");
+        let seen = (op.word(), Op::from_word(word), op.is_masked());
+        assert_eq!(rt; seen, (word, Some(op), word == "SCMP_CMP_MASKED_EQ"));
     }
     assert_eq!(rt; Op::from_word("SCMP_CMP_XX"), None);
 }
 
-// Entries that have names of their own, and one name in common.
-fn many_entries(alloc: Global, count: u64, names: u64) -> Result<Vec<EntryParts>, AllocError> {
+// So many entries, each with a name of its own and one that all have.
+fn many_entries(alloc: Global, count: u64) -> Result<Vec<EntryParts>, AllocError> {
     let mut entries = Vec::new(alloc);
-    for i in 0..count {
-        let mut texts = Vec::new(alloc);
-        for j in 0..names {
-            texts.push(format!(in alloc; "call_{i}_{j}")?)?;
-        }
-        texts.push(String::from_str(alloc, "read")?)?;
-        entries.push(EntryParts {
-            names: texts,
-            word: ActionWord::Allow,
-            errno: None,
-            args: Vec::new(alloc),
-        })?;
+    for number in 0..count {
+        let own = format!(in alloc; "call_{number}_0")?;
+        let names = [own.as_str(), "read"];
+        entries.push(entry(alloc, &names, ActionWord::Allow, None, &[])?)?;
     }
     Ok(entries)
 }
@@ -480,9 +526,10 @@ fn many_entries(alloc: Global, count: u64, names: u64) -> Result<Vec<EntryParts>
 #[test]
 fn a_filter_has_at_most_2048_entries(rt: HostRuntime) -> Result<(), Fail> {
     let alloc = rt.alloc();
-    let filter = filter_of(alloc, many_entries(alloc, 2048, 1)?)?;
-    assert_eq!(rt; filter.entries().len(), 2048);
-    assert_eq!(rt; action_for(&filter, "call_2047_0", NO_WORDS), Action::Allow);
-    let made = filter_of(alloc, many_entries(alloc, 2049, 1)?);
-    assert_told(&rt, alloc, made, "too-many")
+    let made = filter_of(alloc, many_entries(alloc, 2049)?);
+    assert_told(&rt, alloc, made, "too-many")?;
+    let filter = filter_of(alloc, many_entries(alloc, 2048)?)?;
+    let last = action_for(&filter, "call_2047_0", NO_WORDS);
+    assert_eq!(rt; (filter.entries().len(), last), (2048, Action::Allow));
+    Ok(())
 }

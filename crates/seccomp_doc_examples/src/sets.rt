@@ -50,8 +50,8 @@ const HEADER: [(&str, u64); 41] = [
 fn each_name_has_its_number_in_the_kernel_header(rt: HostRuntime) -> Result<(), Fail> {
     for (name, bits) in HEADER {
         let caps = Caps::from_name(name).ok_or("no capability")?;
-        assert_eq!(rt; caps.bits(), bits, "at {name}");
-        assert_eq!(rt; Caps::from_bits(bits), Some(caps), "at {name}");
+        let seen = (caps.bits(), Caps::from_bits(bits));
+        assert_eq!(rt; seen, (bits, Some(caps)), "at {name}");
     }
     Ok(())
 }
@@ -95,14 +95,27 @@ fn a_union_has_the_members_of_both_by_rising_number(rt: HostRuntime) -> Result<(
     let admin = Caps::from_name("CAP_SYS_ADMIN").ok_or("no capability")?;
     let chown = Caps::from_name("CAP_CHOWN").ok_or("no capability")?;
     let both = admin.union(chown);
+    let none = Caps::empty();
     let mut names = both.names();
-    assert_eq!(rt; both.bits(), 0x20_0001);
-    assert_eq!(rt; names.next(), Some("CAP_CHOWN"));
-    assert_eq!(rt; names.next(), Some("CAP_SYS_ADMIN"));
-    assert_eq!(rt; names.next(), None);
-    assert!(rt; both.contains(admin) && both.contains(chown) && both.contains(both));
-    assert!(rt; !admin.contains(both) && !admin.contains(chown));
-    assert!(rt; admin.contains(Caps::empty()) && !Caps::empty().contains(admin));
-    assert_eq!(rt; Caps::empty().names().next(), None);
+    let listed = [names.next(), names.next(), names.next()];
+    assert_eq!(rt;
+        (both.bits(), listed, none.names().next()),
+        (
+            0x20_0001,
+            [Some("CAP_CHOWN"), Some("CAP_SYS_ADMIN"), None],
+            None
+        )
+    );
+    for (set, part, contains) in [
+        (both, admin, true),
+        (both, chown, true),
+        (both, both, true),
+        (admin, both, false),
+        (admin, chown, false),
+        (admin, none, true),
+        (none, admin, false),
+    ] {
+        assert_eq!(rt; set.contains(part), contains, "{set:?} {part:?}");
+    }
     Ok(())
 }

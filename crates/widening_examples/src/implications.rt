@@ -1,7 +1,7 @@
 // Implications worked out by hand, and all implications between comparisons with the least and the greatest words.
 
 use seccomp_doc::{
-    ActionWord, ArgParts, Compare, EntryParts, Filter, FilterFault, FilterParts, Op,
+    ActionWord, ArgParts, Compare, Entry, EntryParts, Filter, FilterFault, FilterParts, Op,
 };
 use std::alloc::{AllocError, Global};
 use std::process::Abort;
@@ -79,15 +79,18 @@ fn ranges_imply_what_holds_them(rt: HostRuntime) {
 
 #[test]
 fn what_admits_nothing_implies_all_and_is_implied_by_nothing_else(rt: HostRuntime) {
-    let none = [simple(Op::LessThan, 0), simple(Op::GreaterThan, MAX)];
-    let some = [simple(Op::Equal, 3), simple(Op::NotEqual, 3), masked(0, 9)];
-    for empty in none {
-        for other in none {
-            assert!(rt; implies(empty, other), "{empty:?} {other:?}");
-        }
-        for other in some {
-            assert!(rt; implies(empty, other), "{empty:?} {other:?}");
-            assert!(rt; !implies(other, empty), "{other:?} {empty:?}");
+    let below = simple(Op::LessThan, 0);
+    let above = simple(Op::GreaterThan, MAX);
+    for empty in [below, above] {
+        for (other, is_empty) in [
+            (below, true),
+            (above, true),
+            (simple(Op::Equal, 3), false),
+            (simple(Op::NotEqual, 3), false),
+            (masked(0, 9), false),
+        ] {
+            let seen = (implies(empty, other), implies(other, empty));
+            assert_eq!(rt; seen, (true, is_empty), "{empty:?} {other:?}");
         }
     }
 }
@@ -153,15 +156,20 @@ fn implies_by_words(c: Compare, d: Compare) -> bool {
         && (8..16).all(|word| !c.admits(word) || d.admits(word))
 }
 
+// That each of these comparisons implies each of them as the words tell.
+fn assert_imply_by_words(rt: &impl Abort, all: &[Compare]) {
+    for c in all {
+        for d in all {
+            assert_eq!(rt; implies(*c, *d), implies_by_words(*c, *d), "{c:?} {d:?}");
+        }
+    }
+}
+
 #[test]
 fn comparisons_with_outer_words_imply_as_the_words_tell(rt: HostRuntime) -> Result<(), Fail> {
     let all = comparisons(rt.alloc())?;
     assert_eq!(rt; all.len(), 352);
-    for c in &all {
-        for d in &all {
-            assert_eq!(rt; implies(*c, *d), implies_by_words(*c, *d), "{c:?} {d:?}");
-        }
-    }
+    assert_imply_by_words(&rt, all.as_slice());
     Ok(())
 }
 
@@ -175,21 +183,20 @@ fn arg(index: u64, op: Op, value: u64) -> ArgParts {
 }
 
 fn entry(alloc: Global, args: &[ArgParts]) -> Result<EntryParts, AllocError> {
-    let mut names = Vec::new(alloc);
-    names.push(String::from_str(alloc, "fcntl")?)?;
+    let args = Vec::from_slice(alloc, args)?;
+    let names = vec![in alloc; String::from_str(alloc, "fcntl")?]?;
     Ok(EntryParts {
         names,
         word: ActionWord::Allow,
         errno: None,
-        args: Vec::from_slice(alloc, args)?,
+        args,
     })
 }
 
 fn entries(alloc: Global, e: &[ArgParts], f: &[ArgParts]) -> Result<Vec<EntryParts>, AllocError> {
-    let mut entries = Vec::new(alloc);
-    entries.push(entry(alloc, e)?)?;
-    entries.push(entry(alloc, f)?)?;
-    Ok(entries)
+    let one = entry(alloc, e)?;
+    let two = entry(alloc, f)?;
+    Ok(vec![in alloc; one, two]?)
 }
 
 // A filter of two entries with these comparisons.
@@ -207,9 +214,14 @@ fn two_entries(alloc: Global, e: &[ArgParts], f: &[ArgParts]) -> Result<Filter, 
     )
 }
 
+// The first of two entries implies the second, or doesn't.
+fn assert_entry_implies(rt: &impl Abort, entries: &[Entry], wanted: bool) {
+    assert_eq!(rt; entries.len(), 2);
+    assert_eq!(rt; entry_implies(&entries[0], &entries[1]), wanted);
+}
+
 #[test]
 fn entries_imply_by_pairs_of_comparisons(rt: HostRuntime) -> Result<(), Fail> {
-    let alloc = rt.alloc();
     let command = arg(1, Op::Equal, 8);
     let commands = arg(1, Op::LessOrEqual, 8);
     let other = arg(0, Op::NotEqual, 2);
@@ -225,10 +237,8 @@ fn entries_imply_by_pairs_of_comparisons(rt: HostRuntime) -> Result<(), Fail> {
         (&[], &[], true),
     ];
     for (e, f, wanted) in rows {
-        let filter = two_entries(alloc, e, f)?;
-        let entries = filter.entries();
-        assert_eq!(rt; entries.len(), 2);
-        assert_eq!(rt; entry_implies(&entries[0], &entries[1]), wanted);
+        let filter = two_entries(rt.alloc(), e, f)?;
+        assert_entry_implies(&rt, filter.entries(), wanted);
     }
     Ok(())
 }

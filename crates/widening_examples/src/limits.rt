@@ -1,12 +1,13 @@
 // Findings between filters at the limits: 2,048 entries, 1,024 names an entry, six comparisons an entry. No more can be
 // reached, since a filter above a limit is refused.
 
-use crate::tests::{assert_told, filter, filtered};
+use crate::tests::{assert_told, assert_wider_each, filter, filtered};
 use profile_text::Profile;
 use seccomp_doc::{ActionWord, ArgParts, EntryParts, FilterFault, Op};
 use std::alloc::Global;
+use std::process::Abort;
 use std::test::Fail;
-use widening::{Finding, findings, is_wider};
+use widening::{Finding, findings};
 
 // The name of a number, in four digits: the names are in byte order.
 fn numbered(alloc: Global, number: usize) -> Result<String, Fail> {
@@ -74,16 +75,28 @@ fn are_calls(alloc: Global, found: &[Finding]) -> Result<bool, Fail> {
     Ok(true)
 }
 
+// How many findings a profile of these entries has against one of none, and whether they are calls.
+fn found_of(alloc: Global, entries: Vec<EntryParts>) -> Result<(usize, bool), Fail> {
+    let many = profile(alloc, entries)?;
+    let none = profile(alloc, Vec::new(alloc))?;
+    let found = findings(alloc, &none, &many)?;
+    Ok((found.len(), are_calls(alloc, found.as_slice())?))
+}
+
+// How many findings a profile of these entries has against itself.
+fn found_against_itself(alloc: Global, entries: Vec<EntryParts>) -> Result<usize, Fail> {
+    let many = profile(alloc, entries)?;
+    let found = findings(alloc, &many, &many)?;
+    Ok(found.len())
+}
+
 #[test]
 fn each_of_many_names_is_found_once_in_byte_order(rt: HostRuntime) -> Result<(), Fail> {
     let alloc = rt.alloc();
-    let none = profile(alloc, Vec::new(alloc))?;
     for count in [1, 17, 512, 513, 1101, 2048] {
-        let many = profile(alloc, entries_named_each(alloc, count)?)?;
-        let found = findings(alloc, &none, &many)?;
-        assert_eq!(rt; found.len(), count);
-        assert!(rt; are_calls(alloc, found.as_slice())?);
-        assert!(rt; findings(alloc, &many, &many)?.is_empty());
+        let found = found_of(alloc, entries_named_each(alloc, count)?)?;
+        let own = found_against_itself(alloc, entries_named_each(alloc, count)?)?;
+        assert_eq!(rt; (found, own), ((count, true), 0));
     }
     Ok(())
 }
@@ -91,22 +104,22 @@ fn each_of_many_names_is_found_once_in_byte_order(rt: HostRuntime) -> Result<(),
 #[test]
 fn a_filter_above_a_limit_is_refused(rt: HostRuntime) -> Result<(), Fail> {
     let alloc = rt.alloc();
-    assert!(rt; are_too_many(alloc, entries_named_each(alloc, 2049)?));
-    assert!(rt; are_too_many(alloc, entry_named_often(alloc, 1025)?));
-    assert!(rt; are_too_many(alloc, entry_named_alike(alloc, 1025)?));
-    assert!(rt; are_too_many(alloc, entry_compared(alloc, 7, 0)?));
+    let refused = [
+        are_too_many(alloc, entries_named_each(alloc, 2049)?),
+        are_too_many(alloc, entry_named_often(alloc, 1025)?),
+        are_too_many(alloc, entry_named_alike(alloc, 1025)?),
+        are_too_many(alloc, entry_compared(alloc, 7, 0)?),
+    ];
+    assert_eq!(rt; refused, [true; 4]);
     Ok(())
 }
 
 #[test]
 fn each_name_of_an_entry_is_found(rt: HostRuntime) -> Result<(), Fail> {
     let alloc = rt.alloc();
-    let none = profile(alloc, Vec::new(alloc))?;
     for count in [1, 17, 1024] {
-        let many = profile(alloc, entry_named_often(alloc, count)?)?;
-        let found = findings(alloc, &none, &many)?;
-        assert_eq!(rt; found.len(), count);
-        assert!(rt; are_calls(alloc, found.as_slice())?);
+        let found = found_of(alloc, entry_named_often(alloc, count)?)?;
+        assert_eq!(rt; found, (count, true));
     }
     Ok(())
 }
@@ -116,9 +129,11 @@ fn a_name_that_an_entry_has_often_is_found_once(rt: HostRuntime) -> Result<(), F
     let alloc = rt.alloc();
     let none = profile(alloc, Vec::new(alloc))?;
     let often = profile(alloc, entry_named_alike(alloc, 1024)?)?;
-    assert_told(&rt, alloc, &none, &often, "call call_1000;")?;
-    assert_told(&rt, alloc, &often, &often, "")?;
-    Ok(())
+    assert_wider_each(
+        &rt,
+        alloc,
+        &[(&none, &often, "call call_1000;"), (&often, &often, "")],
+    )
 }
 
 // One entry that compares so many arguments, all but the last with 0, and the last with a value.
@@ -143,9 +158,11 @@ fn the_last_of_six_comparisons_counts(rt: HostRuntime) -> Result<(), Fail> {
     for count in [1, 2, 6] {
         let base = profile(alloc, entry_compared(alloc, count, 7)?)?;
         let new = profile(alloc, entry_compared(alloc, count, 8)?)?;
-        assert_told(&rt, alloc, &base, &base, "")?;
-        assert_told(&rt, alloc, &base, &new, "call call_1000;")?;
-        assert!(rt; is_wider(&base, &new));
+        assert_wider_each(
+            &rt,
+            alloc,
+            &[(&base, &base, ""), (&base, &new, "call call_1000;")],
+        )?;
     }
     Ok(())
 }
@@ -166,6 +183,17 @@ fn one_name_compared(alloc: Global, count: u64, more: u64) -> Result<Profile, Fa
     profile(alloc, entries)
 }
 
+// The one call that a new profile permits more is found against the baseline, and nothing against itself.
+fn assert_one_call(
+    rt: &impl Abort,
+    alloc: Global,
+    base: &Profile,
+    new: &Profile,
+) -> Result<(), Fail> {
+    assert_told(rt, alloc, base, base, "")?;
+    assert_told(rt, alloc, base, new, "call call_1000;")
+}
+
 // In all but the last entry of the new filter the comparison is that of an entry of the baseline's.
 #[test]
 fn the_last_of_many_entries_of_a_name_counts(rt: HostRuntime) -> Result<(), Fail> {
@@ -173,8 +201,7 @@ fn the_last_of_many_entries_of_a_name_counts(rt: HostRuntime) -> Result<(), Fail
     for count in [2, 65, 2048] {
         let base = one_name_compared(alloc, count, 0)?;
         let new = one_name_compared(alloc, count, 1)?;
-        assert_told(&rt, alloc, &base, &base, "")?;
-        assert_told(&rt, alloc, &base, &new, "call call_1000;")?;
+        assert_one_call(&rt, alloc, &base, &new)?;
     }
     Ok(())
 }

@@ -19,31 +19,23 @@ fn arg(op: Op, value: u64, value_two: u64) -> ArgParts {
     }
 }
 
-fn entry(
+// An entry of the calls of these names.
+fn named(
     alloc: Global,
-    name: &str,
+    names: &[&str],
     word: ActionWord,
     args: &[ArgParts],
 ) -> Result<EntryParts, AllocError> {
-    Ok(EntryParts {
-        names: vec![in alloc; String::from_str(alloc, name)?]?,
-        word,
-        errno: None,
-        args: Vec::from_slice(alloc, args)?,
-    })
-}
-
-// An entry that allows the calls of these names under a comparison.
-fn named(alloc: Global, names: &[&str], arg: ArgParts) -> Result<EntryParts, AllocError> {
-    let mut owned = Vec::new(alloc);
+    let args = Vec::from_slice(alloc, args)?;
+    let mut texts = Vec::new(alloc);
     for name in names {
-        owned.push(String::from_str(alloc, name)?)?;
+        texts.push(String::from_str(alloc, name)?)?;
     }
     Ok(EntryParts {
-        names: owned,
-        word: ActionWord::Allow,
+        names: texts,
+        word,
         errno: None,
-        args: vec![in alloc; arg]?,
+        args,
     })
 }
 
@@ -82,36 +74,45 @@ pub(crate) fn filtered(filter: Filter) -> Profile {
     Profile::new(no_caps(), Some(filter))
 }
 
-// The profile with no capability, the default of errno 1 and one entry of a call that is allowed where its first argument
-// compares as stated.
-fn allowing(alloc: Global, name: &str, args: &[ArgParts]) -> Result<Profile, Fail> {
-    let entry = entry(alloc, name, ActionWord::Allow, args)?;
-    let filter = filter(alloc, ActionWord::Errno, vec![in alloc; entry]?)?;
-    Ok(filtered(filter))
+// The profile with no capability, this default and one entry.
+fn with_entry(alloc: Global, default: ActionWord, entry: EntryParts) -> Result<Profile, Fail> {
+    Ok(filtered(filter(alloc, default, vec![in alloc; entry]?)?))
 }
 
-// The findings as one text, each ended by a semicolon.
-pub(crate) fn told(alloc: Global, base: &Profile, new: &Profile) -> Result<String, AllocError> {
-    let mut text = String::new(alloc);
-    for finding in &findings(alloc, base, new)? {
-        match finding {
-            Finding::Cap(set, number) => {
-                let set = set.name();
-                write!(text, "{set} {number};")?
-            }
-            Finding::NoSeccomp => text.push_str("no-seccomp;")?,
-            Finding::AnyArch => text.push_str("any;")?,
-            Finding::Arch(arch) => {
-                let name = arch.as_str();
-                write!(text, "{name};")?
-            }
-            Finding::Flag(flag) => {
-                let name = flag.as_str();
-                write!(text, "{name};")?
-            }
-            Finding::Call(name) => write!(text, "call {name};")?,
-            Finding::Default => text.push_str("default;")?,
+// The same with the default of errno 1 and a call that is allowed where its first argument compares as stated.
+fn allowing(alloc: Global, name: &str, args: &[ArgParts]) -> Result<Profile, Fail> {
+    let entry = named(alloc, &[name], ActionWord::Allow, args)?;
+    with_entry(alloc, ActionWord::Errno, entry)
+}
+
+// A finding at the end of a text, ended by a semicolon.
+fn tell(text: &mut String, finding: &Finding) -> Result<(), AllocError> {
+    match finding {
+        Finding::Cap(set, number) => {
+            let set = set.name();
+            write!(text, "{set} {number};")
         }
+        Finding::NoSeccomp => text.push_str("no-seccomp;"),
+        Finding::AnyArch => text.push_str("any;"),
+        Finding::Arch(arch) => {
+            let name = arch.as_str();
+            write!(text, "{name};")
+        }
+        Finding::Flag(flag) => {
+            let name = flag.as_str();
+            write!(text, "{name};")
+        }
+        Finding::Call(name) => write!(text, "call {name};"),
+        Finding::Default => text.push_str("default;"),
+    }
+}
+
+// The findings as one text.
+fn told(alloc: Global, base: &Profile, new: &Profile) -> Result<String, AllocError> {
+    let found = findings(alloc, base, new)?;
+    let mut text = String::new(alloc);
+    for finding in &found {
+        tell(&mut text, finding)?;
     }
     Ok(text)
 }
@@ -124,7 +125,8 @@ pub(crate) fn assert_told(
     new: &Profile,
     text: &str,
 ) -> Result<(), Fail> {
-    assert_eq!(rt; told(alloc, base, new)?.as_str(), text);
+    let told = told(alloc, base, new)?;
+    assert_eq!(rt; told.as_str(), text);
     Ok(())
 }
 
@@ -141,19 +143,41 @@ fn assert_wider(
     Ok(())
 }
 
-#[test]
-fn the_closed_profile_and_a_profile_without_a_filter(rt: HostRuntime) -> Result<(), Fail> {
-    let alloc = rt.alloc();
-    let closed = Profile::closed(alloc);
-    let open = Profile::new(no_caps(), None);
-    assert_wider(&rt, alloc, &closed, &open, "no-seccomp;")?;
-    let killing = filtered(filter(alloc, ActionWord::KillProcess, Vec::new(alloc))?);
-    assert_wider(&rt, alloc, &closed, &killing, "")?;
-    assert_wider(&rt, alloc, &open, &closed, "")?;
+// Each row has a baseline, a new profile and its findings.
+pub(crate) fn assert_wider_each(
+    rt: &impl Abort,
+    alloc: Global,
+    rows: &[(&Profile, &Profile, &str)],
+) -> Result<(), Fail> {
+    for (base, new, text) in rows {
+        assert_wider(rt, alloc, base, new, text)?;
+    }
     Ok(())
 }
 
-// The same of two profiles that allow this call, each under its comparisons.
+// The profile with no capability and this default alone.
+fn without_entries(alloc: Global, default: ActionWord) -> Result<Profile, Fail> {
+    Ok(filtered(filter(alloc, default, Vec::new(alloc))?))
+}
+
+#[test]
+fn the_closed_profile_and_a_profile_without_a_filter(rt: HostRuntime) -> Result<(), Fail> {
+    let alloc = rt.alloc();
+    let killing = without_entries(alloc, ActionWord::KillProcess)?;
+    let closed = Profile::closed(alloc);
+    let open = Profile::new(no_caps(), None);
+    assert_wider_each(
+        &rt,
+        alloc,
+        &[
+            (&closed, &open, "no-seccomp;"),
+            (&closed, &killing, ""),
+            (&open, &closed, ""),
+        ],
+    )
+}
+
+// They are those of two profiles that allow this call, each under its comparisons.
 fn assert_wider_of(
     rt: &impl Abort,
     alloc: Global,
@@ -207,12 +231,12 @@ fn an_interval_that_admits_nothing_is_no_finding(rt: HostRuntime) -> Result<(), 
     assert_wider_of(&rt, alloc, name, &nothing, &base, "call personality;")
 }
 
-// The profile with no capability, the default of errno 1 and these entries, each of calls that are allowed under a
-// comparison.
-fn naming(alloc: Global, rows: &[(&[&str], Op, u64)]) -> Result<Profile, Fail> {
+// The profile of these entries, where any other call fails; each row allows some calls under a comparison.
+fn allowing_each(alloc: Global, rows: &[(&[&str], Op, u64)]) -> Result<Profile, Fail> {
     let mut entries = Vec::new(alloc);
     for (names, op, value) in rows {
-        entries.push(named(alloc, names, arg(*op, *value, 0))?)?;
+        let args = [arg(*op, *value, 0)];
+        entries.push(named(alloc, names, ActionWord::Allow, &args)?)?;
     }
     Ok(filtered(filter(alloc, ActionWord::Errno, entries)?))
 }
@@ -221,7 +245,7 @@ fn naming(alloc: Global, rows: &[(&[&str], Op, u64)]) -> Result<Profile, Fail> {
 #[test]
 fn names_in_several_entries(rt: HostRuntime) -> Result<(), Fail> {
     let alloc = rt.alloc();
-    let base = naming(
+    let base = allowing_each(
         alloc,
         &[
             (&["read", "write"], Op::LessOrEqual, 4),
@@ -229,7 +253,7 @@ fn names_in_several_entries(rt: HostRuntime) -> Result<(), Fail> {
             (&["read"], Op::Equal, 50),
         ],
     )?;
-    let new = naming(
+    let new = allowing_each(
         alloc,
         &[
             (&["read", "write"], Op::LessOrEqual, 4),
@@ -249,7 +273,7 @@ fn a_mask_of_arguments(rt: HostRuntime) -> Result<(), Fail> {
     assert_wider_of(&rt, alloc, "clone", &base, &one, "")?;
     assert_wider_of(&rt, alloc, "clone", &base, &[], "call clone;")?;
     let base = allowing(alloc, "clone", &base)?;
-    let none = filtered(filter(alloc, ActionWord::Errno, Vec::new(alloc))?);
+    let none = without_entries(alloc, ActionWord::Errno)?;
     assert_wider(&rt, alloc, &base, &none, "")
 }
 
@@ -260,27 +284,34 @@ fn what_a_range_in_two_parts_permits_is_found(rt: HostRuntime) -> Result<(), Fai
         (["ioctl"].as_slice(), Op::LessOrEqual, 4),
         (["ioctl"].as_slice(), Op::GreaterOrEqual, 5),
     ];
-    let base = naming(alloc, &parts)?;
+    let base = allowing_each(alloc, &parts)?;
     let all = allowing(alloc, "ioctl", &[])?;
     assert_wider(&rt, alloc, &base, &all, "call ioctl;")
+}
+
+// The profile that allows any call but this one, which fails.
+fn refusing(alloc: Global, name: &str) -> Result<Profile, Fail> {
+    let entry = named(alloc, &[name], ActionWord::Errno, &[])?;
+    with_entry(alloc, ActionWord::Allow, entry)
 }
 
 #[test]
 fn a_name_that_only_the_baseline_restricts(rt: HostRuntime) -> Result<(), Fail> {
     let alloc = rt.alloc();
-    let refused = entry(alloc, "mount", ActionWord::Errno, &[])?;
-    let base = filtered(filter(alloc, ActionWord::Allow, vec![in alloc; refused]?)?);
-    let new = filtered(filter(alloc, ActionWord::Allow, Vec::new(alloc))?);
-    assert_wider(&rt, alloc, &base, &new, "call mount;")?;
-    assert_wider(&rt, alloc, &new, &base, "")?;
-    Ok(())
+    let base = refusing(alloc, "mount")?;
+    let new = without_entries(alloc, ActionWord::Allow)?;
+    assert_wider_each(
+        &rt,
+        alloc,
+        &[(&base, &new, "call mount;"), (&new, &base, "")],
+    )
 }
 
 // The profile of one entry of clone3, which fails with this errno.
 fn failing(alloc: Global, errno: u64) -> Result<Profile, Fail> {
-    let mut entry = entry(alloc, "clone3", ActionWord::Errno, &[])?;
+    let mut entry = named(alloc, &["clone3"], ActionWord::Errno, &[])?;
     entry.errno = Some(errno);
-    Ok(filtered(filter(alloc, ActionWord::Errno, vec![in alloc; entry]?)?))
+    with_entry(alloc, ActionWord::Errno, entry)
 }
 
 #[test]
@@ -291,6 +322,14 @@ fn another_errno_is_no_finding(rt: HostRuntime) -> Result<(), Fail> {
     assert_wider(&rt, alloc, &base, &new, "")
 }
 
+fn architectures_of(alloc: Global, words: &[&str]) -> Result<Vec<Arch>, Fail> {
+    let mut architectures = Vec::new(alloc);
+    for word in words {
+        architectures.push(Arch::read(alloc, word)?)?;
+    }
+    Ok(architectures)
+}
+
 // The filter with these architectures and one flag.
 fn listing(
     alloc: Global,
@@ -299,17 +338,14 @@ fn listing(
     flag: &str,
     entries: Vec<EntryParts>,
 ) -> Result<Profile, Fail> {
-    let mut listed = Vec::new(alloc);
-    for text in architectures {
-        listed.push(Arch::read(alloc, text)?)?;
-    }
     let flags = vec![in alloc; ScmpFlag::read(alloc, flag)?]?;
+    let architectures = architectures_of(alloc, architectures)?;
     let filter = Filter::new(
         alloc,
         FilterParts {
             default,
             default_errno: None,
-            architectures: listed,
+            architectures,
             flags,
             entries,
         },
@@ -321,34 +357,47 @@ const LOG: &str = "SECCOMP_FILTER_FLAG_LOG";
 
 const TSYNC: &str = "SECCOMP_FILTER_FLAG_TSYNC";
 
+// The findings are told so between filters without entries, each with these architectures and one flag.
+fn assert_wider_lists(
+    rt: &impl Abort,
+    alloc: Global,
+    (architectures, flag): (&[&str], &str),
+    (new_architectures, new_flag): (&[&str], &str),
+    text: &str,
+) -> Result<(), Fail> {
+    let errno = ActionWord::Errno;
+    let base = listing(alloc, errno, architectures, flag, Vec::new(alloc))?;
+    let new = listing(alloc, errno, new_architectures, new_flag, Vec::new(alloc))?;
+    assert_wider(rt, alloc, &base, &new, text)
+}
+
 #[test]
 fn architectures_and_flags_by_their_names(rt: HostRuntime) -> Result<(), Fail> {
-    let alloc = rt.alloc();
-    let errno = ActionWord::Errno;
-    let one = listing(alloc, errno, &["SCMP_ARCH_X86_64"], LOG, Vec::new(alloc))?;
-    let names = [
+    let one: &[&str] = &["SCMP_ARCH_X86_64"];
+    let more: &[&str] = &[
         "SCMP_ARCH_ARM",
         "SCMP_ARCH_X86_64",
         "SCMP_ARCH_ARM",
         "SCMP_ARCH_X86",
     ];
-    let more = listing(alloc, errno, &names, TSYNC, Vec::new(alloc))?;
-    let none = listing(alloc, errno, &[], LOG, Vec::new(alloc))?;
-    assert_wider(
-        &rt,
-        alloc,
-        &one,
-        &more,
-        "SCMP_ARCH_ARM;SCMP_ARCH_X86;SECCOMP_FILTER_FLAG_TSYNC;",
-    )?;
-    assert_wider(&rt, alloc, &one, &none, "any;")?;
-    assert_wider(&rt, alloc, &none, &one, "SCMP_ARCH_X86_64;")?;
+    let none: &[&str] = &[];
+    for (base, new, text) in [
+        (
+            (one, LOG),
+            (more, TSYNC),
+            "SCMP_ARCH_ARM;SCMP_ARCH_X86;SECCOMP_FILTER_FLAG_TSYNC;",
+        ),
+        ((one, LOG), (none, LOG), "any;"),
+        ((none, LOG), (one, LOG), "SCMP_ARCH_X86_64;"),
+    ] {
+        assert_wider_lists(&rt, rt.alloc(), base, new, text)?;
+    }
     Ok(())
 }
 
 // A profile that permits little.
 fn least(alloc: Global) -> Result<Profile, Fail> {
-    let kept = entry(alloc, "read", ActionWord::Errno, &[])?;
+    let kept = named(alloc, &["read"], ActionWord::Errno, &[])?;
     let entries = vec![in alloc; kept]?;
     listing(
         alloc,
@@ -361,12 +410,13 @@ fn least(alloc: Global) -> Result<Profile, Fail> {
 
 // One that permits more of each kind.
 fn most(alloc: Global) -> Result<Profile, Fail> {
-    let write = entry(alloc, "write", ActionWord::Allow, &[])?;
-    let close = entry(alloc, "close", ActionWord::Allow, &[])?;
+    let caps = some_caps()?;
+    let write = named(alloc, &["write"], ActionWord::Allow, &[])?;
+    let close = named(alloc, &["close"], ActionWord::Allow, &[])?;
     let entries = vec![in alloc; write, close]?;
     let open = listing(alloc, ActionWord::Log, &["SCMP_ARCH_X86"], TSYNC, entries)?;
     let Profile { caps: _, filter } = open;
-    Ok(Profile::new(some_caps()?, filter))
+    Ok(Profile::new(caps, filter))
 }
 
 fn some_caps() -> Result<CapState, Fail> {
