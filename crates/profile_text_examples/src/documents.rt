@@ -4,6 +4,8 @@ use crate::told::{NOTHING, assert_told, told};
 use cap_sets::{CapFault, CapState, Caps};
 use profile_text::{CapSet, DocFault, Profile, digest, fault_text, print, read};
 use seccomp_doc::{Action, Filter};
+use std::alloc::Global;
+use std::process::Abort;
 use std::test::Fail;
 
 // The canonical text of the closed profile.
@@ -135,44 +137,77 @@ fn canonical_texts_are_compact_and_in_order(rt: HostRuntime) -> Result<(), Fail>
     Ok(())
 }
 
-#[test]
-fn profiles_are_printed_with_their_filters(rt: HostRuntime) -> Result<(), Fail> {
-    let alloc = rt.alloc();
-    let closed = Profile::closed(alloc);
-    assert_eq!(rt; print(alloc, &closed)?.as_str(), CLOSED);
-    assert_eq!(rt; CLOSED.len(), 144);
+// That this is the canonical text of a profile.
+fn assert_printed(
+    rt: &impl Abort,
+    alloc: Global,
+    profile: &Profile,
+    text: &str,
+) -> Result<(), Fail> {
+    let printed = print(alloc, profile)?;
+    assert_eq!(rt; printed.as_str(), text);
+    Ok(())
+}
+
+// A profile that may have the first and the last capability, with a filter of a default alone.
+fn with_a_filter(alloc: Global) -> Result<Profile, Fail> {
     let all = Caps::from_bits((1 << 40) | 1).ok_or("known")?;
     let none = Caps::empty();
     let caps = CapState::new(none, all, none, all, none)?;
     let filter = Filter::only_default(alloc, Action::Errno(38));
-    let profile = Profile::new(caps, Some(filter));
-    assert_eq!(rt;
-        print(alloc, &profile)?.as_str(),
-        r#"{"capabilities":{"ambient":[],"bounding":["CAP_CHOWN","CAP_CHECKPOINT_RESTORE"],"effective":[],"inheritable":[],"permitted":["CAP_CHOWN","CAP_CHECKPOINT_RESTORE"]},"seccomp":{"defaultAction":"SCMP_ACT_ERRNO","defaultErrnoRet":38}}"#
-    );
+    Ok(Profile::new(caps, Some(filter)))
+}
+
+#[test]
+fn profiles_are_printed_with_their_filters(rt: HostRuntime) -> Result<(), Fail> {
+    let alloc = rt.alloc();
+    assert_eq!(rt; CLOSED.len(), 144);
+    assert_printed(&rt, alloc, &Profile::closed(alloc), CLOSED)?;
+    assert_printed(
+        &rt,
+        alloc,
+        &with_a_filter(alloc)?,
+        r#"{"capabilities":{"ambient":[],"bounding":["CAP_CHOWN","CAP_CHECKPOINT_RESTORE"],"effective":[],"inheritable":[],"permitted":["CAP_CHOWN","CAP_CHECKPOINT_RESTORE"]},"seccomp":{"defaultAction":"SCMP_ACT_ERRNO","defaultErrnoRet":38}}"#,
+    )
+}
+
+// That this is the text of a fault, by both calls that give it.
+fn assert_fault_text(
+    rt: &impl Abort,
+    alloc: Global,
+    fault: &DocFault,
+    text: &str,
+) -> Result<(), Fail> {
+    let told = fault_text(alloc, fault)?;
+    let shown = fault.to_string(alloc)?;
+    assert_eq!(rt; [told.as_str(), shown.as_str()], [text, text]);
     Ok(())
+}
+
+// Whether a document has an unknown member at this path.
+fn has_unknown_member(alloc: Global, document: &[u8], path: &str) -> bool {
+    match read(alloc, document) {
+        Err(DocFault::UnknownMember(found)) => found.as_str() == path,
+        _ => false,
+    }
 }
 
 #[test]
 fn faults_have_texts(rt: HostRuntime) -> Result<(), Fail> {
     let alloc = rt.alloc();
     for (fault, text) in [
-        (DocFault::TooLong, "too-long"),
-        (DocFault::NotJson, "not-json"),
-        (DocFault::NoMemory, "memory"),
-        (DocFault::TextTooLong, "text-too-long"),
+        (&DocFault::TooLong, "too-long"),
+        (&DocFault::NotJson, "not-json"),
+        (&DocFault::NoMemory, "memory"),
+        (&DocFault::TextTooLong, "text-too-long"),
         (
-            DocFault::Caps(CapFault::EffectiveOutside(40)),
+            &DocFault::Caps(CapFault::EffectiveOutside(40)),
             "effective-outside 40",
         ),
     ] {
-        assert_eq!(rt; fault_text(alloc, &fault)?.as_str(), text);
-        assert_eq!(rt; fault.to_string(alloc)?.as_str(), text);
+        assert_fault_text(&rt, alloc, fault, text)?;
     }
-    match read(alloc, b"{\"a\\nb\":1}") {
-        Err(DocFault::UnknownMember(path)) => assert_eq!(rt; path.as_str(), "/a\nb"),
-        _ => return Err(Fail::from("another answer")),
-    }
+    assert!(rt; has_unknown_member(alloc, b"{\"a\\nb\":1}", "/a\nb"));
     Ok(())
 }
 
@@ -196,8 +231,7 @@ fn sets_have_names(rt: HostRuntime) -> Result<(), Fail> {
         (CapSet::Inheritable, "inheritable"),
         (CapSet::Permitted, "permitted"),
     ] {
-        assert_eq!(rt; set.name(), name);
-        assert_eq!(rt; CapSet::from_name(name), Some(set));
+        assert_eq!(rt; (set.name(), CapSet::from_name(name)), (name, Some(set)));
     }
     assert_eq!(rt; CapSet::from_name("Ambient"), None);
     Ok(())

@@ -2,14 +2,14 @@
 
 use crate::told::{assert_kept, assert_told, assert_told_of, canonical};
 use profile_text::{DocFault, read};
-use std::alloc::Global;
+use std::alloc::{AllocError, Global};
 use std::test::Fail;
 
 // A filter of an argument of the call read.
-fn with_arg(alloc: Global, arg: &str) -> Result<String, Fail> {
-    Ok(format!(in alloc;
+fn with_arg(alloc: Global, arg: &str) -> Result<String, AllocError> {
+    format!(in alloc;
         r#"{{"defaultAction":"SCMP_ACT_LOG","syscalls":[{{"names":["read"],"action":"SCMP_ACT_ALLOW","args":[{arg}]}}]}}"#
-    )?)
+    )
 }
 
 #[test]

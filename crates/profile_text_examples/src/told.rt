@@ -1,7 +1,7 @@
 // What a document says.
 
 use profile_text::{Document, fault_text, read_with_text};
-use std::alloc::Global;
+use std::alloc::{AllocError, Global};
 use std::process::Abort;
 use std::test::Fail;
 
@@ -10,24 +10,24 @@ pub(crate) const NOTHING: &str =
     r#"{"capabilities":{"ambient":[],"bounding":[],"effective":[],"inheritable":[],"permitted":[]}}"#;
 
 /// The canonical text of what a document reads as, or the text of its fault.
-pub(crate) fn told(alloc: Global, document: &[u8]) -> Result<String, Fail> {
+pub(crate) fn told(alloc: Global, document: &[u8]) -> Result<String, AllocError> {
     match read_with_text(alloc, document) {
         Ok(Document { text, .. }) => Ok(text),
-        Err(fault) => Ok(fault_text(alloc, &fault)?),
+        Err(fault) => fault_text(alloc, &fault),
     }
 }
 
 /// The same of a document of no capabilities and this filter.
-pub(crate) fn told_of(alloc: Global, filter: &str) -> Result<String, Fail> {
+pub(crate) fn told_of(alloc: Global, filter: &str) -> Result<String, AllocError> {
     let document = format!(in alloc; r#"{{"capabilities":{{}},"seccomp":{filter}}}"#)?;
     told(alloc, document.as_bytes())
 }
 
 /// The canonical text of no capabilities and a filter of this text.
-pub(crate) fn canonical(alloc: Global, filter: &str) -> Result<String, Fail> {
+pub(crate) fn canonical(alloc: Global, filter: &str) -> Result<String, AllocError> {
     let capabilities =
         r#"{"ambient":[],"bounding":[],"effective":[],"inheritable":[],"permitted":[]}"#;
-    Ok(format!(in alloc; r#"{{"capabilities":{capabilities},"seccomp":{filter}}}"#)?)
+    format!(in alloc; r#"{{"capabilities":{capabilities},"seccomp":{filter}}}"#)
 }
 
 /// This is what a document says.
@@ -37,11 +37,8 @@ pub(crate) fn assert_told(
     document: &str,
     text: &str,
 ) -> Result<(), Fail> {
-    assert_eq!(rt;
-        told(alloc, document.as_bytes())?.as_str(),
-        text,
-        "{document}"
-    );
+    let told = told(alloc, document.as_bytes())?;
+    assert_eq!(rt; told.as_str(), text, "{document}");
     Ok(())
 }
 
@@ -52,7 +49,8 @@ pub(crate) fn assert_told_of(
     filter: &str,
     text: &str,
 ) -> Result<(), Fail> {
-    assert_eq!(rt; told_of(alloc, filter)?.as_str(), text, "{filter}");
+    let told = told_of(alloc, filter)?;
+    assert_eq!(rt; told.as_str(), text, "{filter}");
     Ok(())
 }
 

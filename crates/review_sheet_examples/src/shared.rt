@@ -5,6 +5,7 @@ use profile_text::{Profile, digest, print, read};
 use review_policy::{State, VoteRow, Word};
 use review_sheet::{SheetFacts, sheet};
 use std::alloc::{AllocError, Global};
+use std::process::Abort;
 use std::test::Fail;
 
 // The profile of a document.
@@ -37,8 +38,13 @@ pub(crate) fn rev_and_sue(
 ) -> Result<Vec<VoteRow>, Fail> {
     let rev = vote(alloc, "rev", rev.0, rev.1, rev.2)?;
     let sue = vote(alloc, "sue", sue.0, sue.1, sue.2)?;
-    let votes = vec![in alloc; rev, sue]?;
-    Ok(votes)
+    Ok(vec![in alloc; rev, sue]?)
+}
+
+// The digest of a profile's canonical text.
+fn digest_of(alloc: Global, profile: &Profile) -> Result<[u8; 32], AllocError> {
+    let text = print(alloc, profile)?;
+    Ok(digest(text.as_bytes()))
 }
 
 // The sheet of the first revision of blue/web, which is open.
@@ -50,15 +56,15 @@ pub(crate) fn sheet_of(
     listed: Caps,
     votes: Vec<VoteRow>,
 ) -> Result<String, Fail> {
+    let digest = digest_of(alloc, shown)?;
     let team = Word::new(alloc, "blue")?;
     let profile = Word::new(alloc, "web")?;
-    let text = print(alloc, shown)?;
     let facts = SheetFacts {
         team: &team,
         profile: &profile,
         number: 1,
         state: State::Open,
-        digest: digest(text.as_bytes()),
+        digest,
         baseline,
         base,
         shown,
@@ -68,8 +74,19 @@ pub(crate) fn sheet_of(
     Ok(sheet(alloc, &facts)?)
 }
 
+// The same with the closed profile for a baseline, without listed capabilities.
+pub(crate) fn sheet_of_votes(
+    alloc: Global,
+    shown: &str,
+    votes: Vec<VoteRow>,
+) -> Result<String, Fail> {
+    let shown = profile(alloc, shown)?;
+    let closed = Profile::closed(alloc);
+    sheet_of(alloc, None, &closed, &shown, Caps::empty(), votes)
+}
+
 // The same without votes, against a document.
-pub(crate) fn sheet_against(alloc: Global, base: &str, shown: &str) -> Result<String, Fail> {
+fn sheet_against(alloc: Global, base: &str, shown: &str) -> Result<String, Fail> {
     let base = profile(alloc, base)?;
     let shown = profile(alloc, shown)?;
     sheet_of(alloc, None, &base, &shown, Caps::empty(), Vec::new(alloc))
@@ -85,8 +102,32 @@ pub(crate) fn lines_of(alloc: Global, lines: &[&str]) -> Result<String, AllocErr
     Ok(text)
 }
 
-// Whether these lines stand in a sheet in their order, with no line between them.
-pub(crate) fn has_lines(alloc: Global, sheet: &str, lines: &[&str]) -> Result<bool, AllocError> {
-    let part = lines_of(alloc, lines)?;
-    Ok(sheet.contains(part.as_str()))
+// The same after another line.
+fn next_lines(alloc: Global, lines: &[&str]) -> Result<String, AllocError> {
+    let text = lines_of(alloc, lines)?;
+    format!(in alloc; "\n{text}")
+}
+
+// That these lines stand in a sheet below its first line in their order, with no line between them.
+pub(crate) fn assert_lines(
+    rt: &impl Abort,
+    alloc: Global,
+    sheet: &str,
+    lines: &[&str],
+) -> Result<(), Fail> {
+    let part = next_lines(alloc, lines)?;
+    assert!(rt; sheet.contains(part.as_str()), "{part} in {sheet}");
+    Ok(())
+}
+
+// That they stand in the sheet of a document against another, without votes.
+pub(crate) fn assert_lines_against(
+    rt: &impl Abort,
+    alloc: Global,
+    base: &str,
+    shown: &str,
+    lines: &[&str],
+) -> Result<(), Fail> {
+    let sheet = sheet_against(alloc, base, shown)?;
+    assert_lines(rt, alloc, sheet.as_str(), lines)
 }

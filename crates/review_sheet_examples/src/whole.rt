@@ -1,10 +1,11 @@
 // Whole sheets.
 
-use crate::shared::{lines_of, profile, rev_and_sue, sheet_of};
+use crate::shared::{lines_of, profile, rev_and_sue, sheet_of, sheet_of_votes};
 use cap_sets::Caps;
 use profile_text::Profile;
 use review_policy::Word;
 use std::alloc::Global;
+use std::process::Abort;
 use std::test::Fail;
 
 // No capability and no filter.
@@ -22,15 +23,22 @@ fn listed(name: &str) -> Caps {
     }
 }
 
+// That a sheet has these lines and no other.
+fn assert_sheet(rt: &impl Abort, alloc: Global, sheet: &str, lines: &[&str]) -> Result<(), Fail> {
+    let expected = lines_of(alloc, lines)?;
+    assert_eq!(rt; sheet, expected.as_str());
+    Ok(())
+}
+
 #[test]
 fn a_profile_without_a_filter_and_two_approvals(rt: HostRuntime) -> Result<(), Fail> {
     let alloc = rt.alloc();
-    let shown = profile(alloc, BARE)?;
     let votes = rev_and_sue(alloc, (true, false, true), (true, true, true))?;
-    let closed = Profile::closed(alloc);
-    let sheet = sheet_of(alloc, None, &closed, &shown, Caps::empty(), votes)?;
-    let expected = lines_of(
+    let sheet = sheet_of_votes(alloc, BARE, votes)?;
+    assert_sheet(
+        &rt,
         alloc,
+        sheet.as_str(),
         &[
             "REVIEW SHEET",
             "team: blue",
@@ -61,26 +69,25 @@ fn a_profile_without_a_filter_and_two_approvals(rt: HostRuntime) -> Result<(), F
             "approvals: 2",
             "rejections: 0",
         ],
-    )?;
-    assert_eq!(rt; sheet.as_str(), expected.as_str());
-    Ok(())
+    )
+}
+
+// The text of the sheet of a listed capability and a filter.
+fn sheet_with_a_filter(alloc: Global) -> Result<String, Fail> {
+    let listed = listed("CAP_SYS_ADMIN");
+    let shown = profile(alloc, FILTERED)?;
+    let closed = Profile::closed(alloc);
+    sheet_of(alloc, None, &closed, &shown, listed, Vec::new(alloc))
 }
 
 #[test]
 fn a_profile_with_a_filter_and_no_votes(rt: HostRuntime) -> Result<(), Fail> {
     let alloc = rt.alloc();
-    let shown = profile(alloc, FILTERED)?;
-    let closed = Profile::closed(alloc);
-    let sheet = sheet_of(
+    let sheet = sheet_with_a_filter(alloc)?;
+    assert_sheet(
+        &rt,
         alloc,
-        None,
-        &closed,
-        &shown,
-        listed("CAP_SYS_ADMIN"),
-        Vec::new(alloc),
-    )?;
-    let expected = lines_of(
-        alloc,
+        sheet.as_str(),
         &[
             "REVIEW SHEET",
             "team: blue",
@@ -118,16 +125,14 @@ fn a_profile_with_a_filter_and_no_votes(rt: HostRuntime) -> Result<(), Fail> {
             "approvals: 0",
             "rejections: 0",
         ],
-    )?;
-    assert_eq!(rt; sheet.as_str(), expected.as_str());
-    Ok(())
+    )
 }
 
 // The text of the sheet against the adopted revision 3 of blue/api, which has the same document.
 fn sheet_against_itself(alloc: Global) -> Result<String, Fail> {
+    let votes = rev_and_sue(alloc, (false, false, true), (true, false, true))?;
     let shown = profile(alloc, FILTERED)?;
     let api = Word::new(alloc, "api")?;
-    let votes = rev_and_sue(alloc, (false, false, true), (true, false, true))?;
     sheet_of(alloc, Some((api, 3)), &shown, &shown, Caps::empty(), votes)
 }
 
@@ -135,7 +140,6 @@ fn sheet_against_itself(alloc: Global) -> Result<String, Fail> {
 fn an_adopted_baseline_with_the_same_document(rt: HostRuntime) -> Result<(), Fail> {
     let alloc = rt.alloc();
     let sheet = sheet_against_itself(alloc)?;
-    assert!(rt; sheet.as_str().contains("\nbaseline: api 3\n"));
     let end = lines_of(
         alloc,
         &[
@@ -149,6 +153,7 @@ fn an_adopted_baseline_with_the_same_document(rt: HostRuntime) -> Result<(), Fai
             "rejections: 1",
         ],
     )?;
-    assert!(rt; sheet.as_str().ends_with(end.as_str()));
+    let has_baseline = sheet.as_str().contains("\nbaseline: api 3\n");
+    assert!(rt; has_baseline && sheet.as_str().ends_with(end.as_str()));
     Ok(())
 }
