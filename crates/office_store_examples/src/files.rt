@@ -3,89 +3,34 @@
 ghost use Rattle.sqlite.specs.Held.{state};
 ghost use Rattle.office_store.specs.Shown.{IsIdle};
 
-use crate::shared::{add, found_office, profile, user, word};
+use crate::calls::Act::{Add, Held, PutBaseline, PutHold, Revision};
+use crate::calls::Call::{Baseline, Check, Found, Of, PutUser, UserByName};
+use crate::calls::{SYS_ADMIN, Turn, WEB, converse};
 use crate::store::Store;
-use office_tables::StoreFault;
-use review_policy::{ProfileName, State};
 use sqlite::{Alter, Connection};
 use std::alloc::Global;
 use std::fs;
 use std::process::Abort;
 use std::test::Fail;
 
-// The user is in the office, each column as it was written.
-fn assert_user<S: Alter>(rt: &impl Abort, alloc: Global, store: &mut Store<S>) -> Result<(), Fail> {
-    let name = word(alloc, "ann")?;
-    let ann = store.user_by_name(alloc, &name)?.ok_or("ann")?;
-    assert_eq!(rt;
-        (
-            ann.name.as_str(),
-            ann.team.as_str(),
-            ann.roles.bits(),
-            ann.digest
-        ),
-        ("ann", "blue", 2, [7; 32])
-    );
-    Ok(())
-}
-
-// The revision is, each column as it was written.
-fn assert_revision<S: Alter>(
-    rt: &impl Abort,
-    alloc: Global,
-    store: &mut Store<S>,
-    web: &ProfileName,
-) -> Result<(), Fail> {
-    let first = store.revision(alloc, web, 1)?.ok_or("a revision")?;
-    assert_eq!(rt;
-        (first.number, first.author.as_str(), first.state),
-        (1, "ann", State::Open)
-    );
-    assert_eq!(rt; (first.body.as_str(), first.digest), ("{}", [7; 32]));
-    Ok(())
-}
-
-// The number of the baseline, and whether the profile is held.
-fn adopted<S: Alter>(
-    alloc: Global,
-    store: &mut Store<S>,
-    web: &ProfileName,
-) -> Result<(u32, bool), Fail> {
-    let baseline = store.baseline(alloc, &web.team)?.ok_or("a baseline")?;
-    Ok((baseline.number, store.held(web)?))
-}
+const WRITTEN: [Turn; 5] = [
+    (Found, "done"),
+    (PutUser("ann", 2, 7), "done"),
+    (Of(WEB, Add("ann")), "1"),
+    (Of(WEB, PutBaseline(1)), "done"),
+    (Of(WEB, PutHold), "done"),
+];
 
 // A user, a revision, a baseline and a hold are in the office, each column as it was written.
-fn assert_written<S: Alter>(
-    rt: &impl Abort,
-    alloc: Global,
-    store: &mut Store<S>,
-) -> Result<(), Fail> {
-    assert_user(rt, alloc, store)?;
-    let web = profile(alloc, "blue", "web")?;
-    assert_revision(rt, alloc, store, &web)?;
-    assert_eq!(rt; adopted(alloc, store, &web)?, (1, true));
-    Ok(())
-}
+const KEPT: [Turn; 5] = [
+    (Check, SYS_ADMIN),
+    (UserByName("ann"), "ann blue 2 7"),
+    (Of(WEB, Revision(1)), "1 ann open {} 7"),
+    (Baseline("blue"), "web 1"),
+    (Of(WEB, Held), "true"),
+];
 
-fn write_profile<S: Alter>(
-    alloc: Global,
-    store: &mut Store<S>,
-    web: &ProfileName,
-) -> Result<(), StoreFault> {
-    add(alloc, store, web, "ann")?;
-    store.put_baseline(web, 1)?;
-    store.put_hold(web)
-}
-
-fn write_all<S: Alter>(alloc: Global, store: &mut Store<S>) -> Result<(), Fail> {
-    found_office(alloc, store)?;
-    store.put_user(&user(alloc, "ann", 2, 7)?)?;
-    write_profile(alloc, store, &profile(alloc, "blue", "web")?)?;
-    Ok(())
-}
-
-// Writes into a new office, or checks the office that is there, and then reads what was written.
+// Writes into a store where it is new, and then reads what was written.
 fn tried<S: Alter + Drop>(
     rt: &impl Abort,
     alloc: Global,
@@ -96,11 +41,9 @@ fn tried<S: Alter + Drop>(
 {
     let mut store = Store::new(conn);
     if is_new {
-        write_all(alloc, &mut store)?;
-    } else {
-        assert_eq!(rt; store.check_office()?.bits(), 1 << 21);
+        converse(rt, alloc, &mut store, &WRITTEN)?;
     }
-    assert_written(rt, alloc, &mut store)?;
+    converse(rt, alloc, &mut store, &KEPT)?;
     Ok(store.into_connection())
 }
 

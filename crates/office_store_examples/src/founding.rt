@@ -5,7 +5,9 @@ ghost use Rattle.sqlite.specs.Held.{state};
 ghost use Rattle.sqlite_disk.specs.Memory.{memory_is_usable};
 ghost use Rattle.office_store.specs.Shown.{IsIdle};
 
-use crate::shared::{found_office, office, word};
+use crate::calls::Call::{Check, Found, Listed, UserByName, UserByToken};
+use crate::calls::{SYS_ADMIN, Turn, told_in_turn};
+use crate::shared::{found_office, office};
 use crate::store::Store;
 use office_store::FoundingFault;
 use office_tables::StoreFault;
@@ -29,34 +31,35 @@ fn run<S: Alter + Drop>(store: Store<S>, sql: &str) -> Result<Store<S>, Fail> {
     Ok(Store::new(conn))
 }
 
+const FOUNDED_ONCE: [Turn; 3] = [
+    (Check, SYS_ADMIN),
+    (Listed, SYS_ADMIN),
+    (Found, "already-founded"),
+];
+
 #[test]
 fn an_office_is_founded_once(rt: HostRuntime) -> Result<(), Fail> {
-    let alloc = rt.alloc();
-    let mut store = office(alloc)?;
-    assert_eq!(rt; checked(&mut store), Ok(1 << 21));
-    assert_eq!(rt; store.listed()?.bits(), 1 << 21);
-    assert_eq!(rt;
-        found_office(alloc, &mut store),
-        Err(FoundingFault::AlreadyFounded)
-    );
-    Ok(())
+    told_in_turn(&rt, rt.alloc(), &FOUNDED_ONCE)
 }
+
+const FIRST_USER: [Turn; 2] = [
+    (UserByName("root"), "root ops 1 1"),
+    (UserByToken(1), "root ops 1 1"),
+];
 
 #[test]
 fn an_office_is_founded_with_its_first_user(rt: HostRuntime) -> Result<(), Fail> {
-    let alloc = rt.alloc();
-    let mut store = office(alloc)?;
-    let root = store
-        .user_by_name(alloc, &word(alloc, "root")?)?
-        .ok_or("root")?;
-    assert_eq!(rt; root.roles.bits(), 1);
-    assert!(rt; store.user_by_token(alloc, &[1; 32])?.is_some());
-    Ok(())
+    told_in_turn(&rt, rt.alloc(), &FIRST_USER)
+}
+
+// What a founding answers in a store where these statements were run.
+fn founded_after(alloc: Global, sql: &str) -> Result<Result<(), FoundingFault>, Fail> {
+    let mut store = run(Store::new(Connection::open_in_memory(alloc)?), sql)?;
+    Ok(found_office(alloc, &mut store))
 }
 
 #[test]
 fn an_office_is_founded_in_an_empty_store(rt: HostRuntime) -> Result<(), Fail> {
-    let alloc = rt.alloc();
     for (sql, fault) in [
         (
             "CREATE TABLE Holds (name TEXT) STRICT",
@@ -67,17 +70,27 @@ fn an_office_is_founded_in_an_empty_store(rt: HostRuntime) -> Result<(), Fail> {
             FoundingFault::Store(StoreFault::NotAnOffice),
         ),
     ] {
-        let mut store = run(Store::new(Connection::open_in_memory(alloc)?), sql)?;
-        assert_eq!(rt; found_office(alloc, &mut store), Err(fault), "{sql}");
+        assert_eq!(rt; founded_after(rt.alloc(), sql)?, Err(fault), "{sql}");
     }
     Ok(())
 }
 
+// What a check of a store answers in which nothing was founded.
+fn checked_empty(alloc: Global) -> Result<Result<u64, StoreFault>, Fail> {
+    let mut store = Store::new(Connection::open_in_memory(alloc)?);
+    Ok(checked(&mut store))
+}
+
+// What a check of an office answers where these statements were run.
+fn checked_after(alloc: Global, sql: &str) -> Result<Result<u64, StoreFault>, Fail> {
+    let mut store = run(office(alloc)?, sql)?;
+    Ok(checked(&mut store))
+}
+
 #[test]
 fn a_store_that_is_no_office_is_told(rt: HostRuntime) -> Result<(), Fail> {
-    let alloc = rt.alloc();
-    let mut store = Store::new(Connection::open_in_memory(alloc)?);
-    assert_eq!(rt; checked(&mut store), Err(StoreFault::NotAnOffice));
+    let no_office = Err(StoreFault::NotAnOffice);
+    assert_eq!(rt; checked_empty(rt.alloc())?, no_office);
     for sql in [
         "DROP TABLE holds",
         "DROP TABLE votes; CREATE TABLE votes (team TEXT, profile TEXT, number INTEGER, voter TEXT, approve INTEGER) STRICT",
@@ -87,8 +100,7 @@ fn a_store_that_is_no_office_is_told(rt: HostRuntime) -> Result<(), Fail> {
         "UPDATE office SET listed = 2199023255552",
         "UPDATE office SET listed = -1",
     ] {
-        let mut store = run(office(alloc)?, sql)?;
-        assert_eq!(rt; checked(&mut store), Err(StoreFault::NotAnOffice), "{sql}");
+        assert_eq!(rt; checked_after(rt.alloc(), sql)?, no_office, "{sql}");
     }
     Ok(())
 }
@@ -145,27 +157,35 @@ fn done_in<D: Disk + Drop>(
     }
 }
 
-// Whether a founding was answered, where the log stops after so many calls, and what the next open finds.
-fn founded_before(rt: &HostRuntime, calls: u64) -> Result<(bool, Result<u64, StoreFault>), Fail> {
-    let stopping = Files {
-        log: Fuse::new(Memory::new(rt.alloc()), calls),
-        db: Fuse::new(Memory::new(rt.alloc()), 1_000_000),
+// What a check answers in an office that is opened in a copy of these files.
+fn checked_again(
+    alloc: Global,
+    left: &Files<Fuse<Memory>>,
+) -> Result<Result<u64, StoreFault>, Fail> {
+    let files = Files {
+        log: copy(alloc, left.log.inner())?,
+        db: copy(alloc, left.db.inner())?,
     };
-    let Some((founded, left)) = done_in(rt.alloc(), stopping, Step::Found) else {
+    let (kept, _) = done_in(alloc, files, Step::Check).ok_or("opened again")?;
+    Ok(kept)
+}
+
+// Whether a founding was answered, where the log stops after so many calls, and what the next open finds.
+fn founded_before(alloc: Global, calls: u64) -> Result<(bool, Result<u64, StoreFault>), Fail> {
+    let stopping = Files {
+        log: Fuse::new(Memory::new(alloc), calls),
+        db: Fuse::new(Memory::new(alloc), 1_000_000),
+    };
+    let Some((founded, left)) = done_in(alloc, stopping, Step::Found) else {
         return Ok((false, Err(StoreFault::NotAnOffice)));
     };
-    let files = Files {
-        log: copy(rt.alloc(), left.log.inner())?,
-        db: copy(rt.alloc(), left.db.inner())?,
-    };
-    let (kept, _) = done_in(rt.alloc(), files, Step::Check).ok_or("opened again")?;
-    Ok((founded.is_ok(), kept))
+    Ok((founded.is_ok(), checked_again(alloc, &left)?))
 }
 
 #[test]
 fn a_stop_leaves_nothing_or_the_founded_office(rt: HostRuntime) -> Result<(), Fail> {
     for step in 0u64..6 {
-        let (done, kept) = founded_before(&rt, 4 * step)?;
+        let (done, kept) = founded_before(rt.alloc(), 4 * step)?;
         assert!(rt;
             kept == Ok(1 << 21) || (!done && kept == Err(StoreFault::NotAnOffice)),
             "{step}"

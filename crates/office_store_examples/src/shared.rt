@@ -7,7 +7,6 @@ use office_tables::{StoreFault, UserRow};
 use review_policy::{ProfileName, Roles, Text, Word};
 use sqlite::{Alter, Connection, MemStore};
 use std::alloc::Global;
-use std::process::Abort;
 use std::test::Fail;
 
 /// Founds an office whose first user is root of the team ops, with the one listed capability CAP_SYS_ADMIN.
@@ -63,18 +62,4 @@ pub(crate) fn add<S: Alter>(
         return Err(StoreFault::NoMemory);
     };
     store.add_revision(alloc, name, author, Text::new(body), [7; 32])
-}
-
-/// Adds a revision by each of these authors in turn: they have these numbers.
-pub(crate) fn assert_added(
-    rt: &impl Abort,
-    alloc: Global,
-    store: &mut Store<MemStore>,
-    name: &ProfileName,
-    added: &[(&str, u32)],
-) -> Result<(), Fail> {
-    for (author, number) in added {
-        assert_eq!(rt; add(alloc, store, name, author), Ok(*number), "{author}");
-    }
-    Ok(())
 }
