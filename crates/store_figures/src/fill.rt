@@ -1,4 +1,4 @@
-//! A new office in a file, with so many users, revisions and votes, and one long profile.
+//! A new office with so many users, revisions and votes, and one long profile.
 
 ghost use Rattle.sqlite.specs.Held.{state};
 ghost use Rattle.office_store.specs.Shown.{IsIdle};
@@ -96,17 +96,4 @@ pub fn fill<S: Alter + Drop>(
     fill_short(alloc, &mut store, count)?;
     fill_long(alloc, &mut store, revisions, body)?;
     Ok(store.into_connection())
-}
-
-/// Makes a new office in a file, and closes it.
-pub fn fill_file(
-    rt: &HostRuntime,
-    path: &str,
-    count: u32,
-    revisions: u32,
-    body: &str,
-) -> Result<()> {
-    let conn = Connection::open(rt, path)?;
-    fill(rt.alloc(), conn, count, revisions, body)?.close()?;
-    Ok(())
 }

@@ -7,6 +7,9 @@
 //! Without words FILE is `office.db`, the numbers are small, and the file is removed at the end.
 #![tactic(auto)]
 
+ghost use Rattle.sqlite.specs.Held.{state};
+ghost use Rattle.office_store.specs.Shown.{IsIdle};
+
 mod call;
 mod fill;
 mod sample;
@@ -14,21 +17,57 @@ mod store;
 mod timed;
 
 use anyhow::{Context, Result, bail};
-use sqlite::Connection;
+use sqlite::{Alter, Connection};
 use std::time::Instant;
 use std::{env, fs};
 
 // How much an office is filled with.
-#[derive(Clone, Copy, Debug)]
+#[derive(Clone, Copy)]
 struct Sizes {
     count: u32,
     revisions: u32,
     size: u32,
 }
 
+// What is done once the file is open.
+#[derive(Clone, Copy)]
+enum Step {
+    Fill,
+    Time,
+}
+
+// Takes a step over a connection that was opened from this start on, and hands it back.
+fn take<S: Alter + Drop>(
+    rt: &HostRuntime,
+    conn: Connection<S>,
+    step: Step,
+    sizes: &Sizes,
+    body: &str,
+    start: &Instant,
+) -> Result<Connection<S>>
+    requires { IsIdle (state S.Store conn) }
+{
+    if let Step::Fill = step {
+        return fill::fill(rt.alloc(), conn, sizes.count, sizes.revisions, body);
+    }
+    eprintln!(rt;
+        "to open it: {} microseconds",
+        start.elapsed(rt)?.as_micros()
+    )?;
+    timed::time_office(rt, conn, sizes.count, body)
+}
+
+// Opens the file, takes a step and closes it.
+fn take_in_file(rt: &HostRuntime, path: &str, step: Step, sizes: &Sizes, body: &str) -> Result<()> {
+    let start = Instant::now(rt)?;
+    let conn = Connection::open(rt, path)?;
+    take(rt, conn, step, sizes, body, &start)?.close()?;
+    Ok(())
+}
+
 fn fill_timed(rt: &HostRuntime, path: &str, sizes: &Sizes, body: &str) -> Result<()> {
     let start = Instant::now(rt)?;
-    fill::fill_file(rt, path, sizes.count, sizes.revisions, body)?;
+    take_in_file(rt, path, Step::Fill, sizes, body)?;
     eprintln!(rt;
         "to fill the file: {} microseconds",
         start.elapsed(rt)?.as_micros()
@@ -39,14 +78,7 @@ fn fill_timed(rt: &HostRuntime, path: &str, sizes: &Sizes, body: &str) -> Result
 fn run(rt: &HostRuntime, path: &str, sizes: &Sizes) -> Result<()> {
     let body = sample::body(rt.alloc(), sizes.size)?;
     fill_timed(rt, path, sizes, body.as_str())?;
-    let start = Instant::now(rt)?;
-    let conn = Connection::open(rt, path)?;
-    eprintln!(rt;
-        "to open it: {} microseconds",
-        start.elapsed(rt)?.as_micros()
-    )?;
-    timed::time_office(rt, conn, sizes.count, body.as_str())?.close()?;
-    Ok(())
+    take_in_file(rt, path, Step::Time, sizes, body.as_str())
 }
 
 // Does so in a file that is removed.
