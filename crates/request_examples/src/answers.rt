@@ -52,8 +52,7 @@ fn bad_lines_are_told_by_their_words(rt: HostRuntime) {
             "{\"answer\":\"bad\",\"word\":\"not-a-request\"}\n",
         ),
     ] {
-        assert_eq!(rt; bad.word(), word);
-        assert_eq!(rt; bad.line(), line);
+        assert_eq!(rt; (bad.word(), bad.line()), (word, line));
     }
 }
 
@@ -143,14 +142,14 @@ fn a_sheet_is_told_as_a_json_text(rt: HostRuntime) -> Result<(), AllocError> {
     )
 }
 
-#[test]
-fn a_list_tells_each_profile(rt: HostRuntime) -> Result<(), Fail> {
-    let mut listed = Vec::new(rt.alloc());
+// Two profiles.
+fn listed_profiles(alloc: Global) -> Result<Listing, Fail> {
+    let mut listed = Vec::new(alloc);
     for (name, issued, revisions, state) in [
         ("db", 1, 3, State::Withdrawn),
         ("web", 0, 2, State::Open),
     ] {
-        let profile = Word::new(rt.alloc(), name)?;
+        let profile = Word::new(alloc, name)?;
         listed.push(ListedProfile {
             profile,
             issued,
@@ -158,7 +157,12 @@ fn a_list_tells_each_profile(rt: HostRuntime) -> Result<(), Fail> {
             state,
         })?;
     }
-    let profiles = Listing::new(listed);
+    Ok(Listing::new(listed))
+}
+
+#[test]
+fn a_list_tells_each_profile(rt: HostRuntime) -> Result<(), Fail> {
+    let profiles = listed_profiles(rt.alloc())?;
     assert_told(
         &rt,
         rt.alloc(),

@@ -5,6 +5,7 @@ use http_asks::ask_of;
 use http_routes::{ProfileAct, ProfilePath, Route, find_route, office_router};
 use review_policy::Ask;
 use std::alloc::Global;
+use std::process::Abort;
 use std::test::Fail;
 
 // The members of an enrolment: of a user with the roles author (2) and reviewer (4), and the token whose digest has the
@@ -17,22 +18,45 @@ const VOTE: &str =
     "\"digest\":\"000102030405060708090a0b0c0d0e0f101112131415161718191a1b1c1d1e1f\",\
     \"vote\":\"approve\"";
 
-// What a request asks, or why it is refused.
-fn asked(alloc: Global, method: &str, target: &str, body: &[u8]) -> Result<String, Fail> {
-    let router = office_router(alloc)?;
-    let Ok(route) = find_route(&router, method.as_bytes(), target.as_bytes()) else {
-        return Ok(String::from_str(alloc, "no such route")?);
-    };
-    match ask_of(alloc, &route, body) {
+// What a route and a body ask, or why they are refused.
+fn asked_of(alloc: Global, route: &Route, body: &str) -> Result<String, Fail> {
+    match ask_of(alloc, route, body.as_bytes()) {
         Ok(ask) => in_words(alloc, &ask),
         Err(fault) => Ok(format!(in alloc; "{fault}")?),
     }
 }
 
-// What a body with these members, and with those that follow them, asks of a target.
-fn asked_by(alloc: Global, target: &str, members: &str, more: &str) -> Result<String, Fail> {
+// What a request asks, or why it is refused.
+fn asked(alloc: Global, method: &str, target: &str, body: &str) -> Result<String, Fail> {
+    let router = office_router(alloc)?;
+    match find_route(&router, method.as_bytes(), target.as_bytes()) {
+        Ok(route) => asked_of(alloc, &route, body),
+        Err(_refusal) => Ok(String::from_str(alloc, "no such route")?),
+    }
+}
+
+fn assert_asked(
+    rt: &impl Abort,
+    alloc: Global,
+    (method, target): (&str, &str),
+    body: &str,
+    expected: &str,
+) -> Result<(), Fail> {
+    let words = asked(alloc, method, target, body)?;
+    assert_eq!(rt; words.as_str(), expected, "{target}: {body}");
+    Ok(())
+}
+
+// That a body with these members, and with those that follow them, asks this of a target.
+fn assert_asked_by(
+    rt: &impl Abort,
+    alloc: Global,
+    target: &str,
+    (members, more): (&str, &str),
+    expected: &str,
+) -> Result<(), Fail> {
     let body = format!(in alloc; "{{{members}{more}}}")?;
-    asked(alloc, "POST", target, body.as_str().as_bytes())
+    assert_asked(rt, alloc, ("POST", target), body.as_str(), expected)
 }
 
 #[test]
@@ -52,11 +76,10 @@ fn what_has_no_body_is_asked_by_an_empty_one(rt: HostRuntime) -> Result<(), Fail
         ),
         ("POST", "/p/blue/web/12/adopt", "adopt blue web 12"),
     ] {
-        let words = asked(rt.alloc(), method, target, b"")?;
-        assert_eq!(rt; words.as_str(), expected, "{target}");
+        let request = (method, target);
+        assert_asked(&rt, rt.alloc(), request, "", expected)?;
         for body in [" ", "\n", "{}"] {
-            let words = asked(rt.alloc(), method, target, body.as_bytes())?;
-            assert_eq!(rt; words.as_str(), "not-a-request", "{target}");
+            assert_asked(&rt, rt.alloc(), request, body, "not-a-request")?;
         }
     }
     Ok(())
@@ -64,19 +87,17 @@ fn what_has_no_body_is_asked_by_an_empty_one(rt: HostRuntime) -> Result<(), Fail
 
 #[test]
 fn a_body_enrols_with_just_four_members(rt: HostRuntime) -> Result<(), Fail> {
-    let words = asked_by(rt.alloc(), "/users", ENROL, "")?;
-    assert_eq!(rt;
-        words.as_str(),
-        "enrol ann blue 6 000102030405060708090a0b0c0d0e0f101112131415161718191a1b1c1d1e1f"
-    );
-    for more in [
-        ",\"ask\":\"enrol\"",
-        ",\"token\":\"abc\"",
-        ",\"vote\":\"approve\"",
-        ",\"comment\":null",
+    for (more, expected) in [
+        (
+            "",
+            "enrol ann blue 6 000102030405060708090a0b0c0d0e0f101112131415161718191a1b1c1d1e1f",
+        ),
+        (",\"ask\":\"enrol\"", "not-a-request"),
+        (",\"token\":\"abc\"", "not-a-request"),
+        (",\"vote\":\"approve\"", "not-a-request"),
+        (",\"comment\":null", "not-a-request"),
     ] {
-        let words = asked_by(rt.alloc(), "/users", ENROL, more)?;
-        assert_eq!(rt; words.as_str(), "not-a-request", "{more}");
+        assert_asked_by(&rt, rt.alloc(), "/users", (ENROL, more), expected)?;
     }
     Ok(())
 }
@@ -84,19 +105,17 @@ fn a_body_enrols_with_just_four_members(rt: HostRuntime) -> Result<(), Fail> {
 #[test]
 fn a_body_votes_with_just_two_members(rt: HostRuntime) -> Result<(), Fail> {
     let target = "/p/blue/web/12/vote";
-    let words = asked_by(rt.alloc(), target, VOTE, "")?;
-    assert_eq!(rt;
-        words.as_str(),
-        "vote blue web 12 000102030405060708090a0b0c0d0e0f101112131415161718191a1b1c1d1e1f true"
-    );
-    for more in [
-        ",\"team\":\"blue\"",
-        ",\"revision\":12",
-        ",\"ask\":\"vote\"",
-        ",\"token\":\"abc\"",
+    for (more, expected) in [
+        (
+            "",
+            "vote blue web 12 000102030405060708090a0b0c0d0e0f101112131415161718191a1b1c1d1e1f true",
+        ),
+        (",\"team\":\"blue\"", "not-a-request"),
+        (",\"revision\":12", "not-a-request"),
+        (",\"ask\":\"vote\"", "not-a-request"),
+        (",\"token\":\"abc\"", "not-a-request"),
     ] {
-        let words = asked_by(rt.alloc(), target, VOTE, more)?;
-        assert_eq!(rt; words.as_str(), "not-a-request", "{more}");
+        assert_asked_by(&rt, rt.alloc(), target, (VOTE, more), expected)?;
     }
     Ok(())
 }
@@ -105,15 +124,14 @@ fn a_body_votes_with_just_two_members(rt: HostRuntime) -> Result<(), Fail> {
 fn a_body_that_is_no_object_neither_enrols_nor_votes(rt: HostRuntime) -> Result<(), Fail> {
     for target in ["/users", "/p/blue/web/12/vote"] {
         for body in ["", "{", "approve", "null", "[]", "{}", "{\"digest\""] {
-            let words = asked(rt.alloc(), "POST", target, body.as_bytes())?;
-            assert_eq!(rt; words.as_str(), "not-a-request", "{target}: {body}");
+            assert_asked(&rt, rt.alloc(), ("POST", target), body, "not-a-request")?;
         }
     }
     Ok(())
 }
 
-// The document that is handed in by this body; none where something else is asked.
-fn document_in(alloc: Global, body: &[u8]) -> Result<Option<Vec<u8>>, Fail> {
+// Whether a document of just these bytes is handed in by them.
+fn is_handed_in(alloc: Global, body: &[u8]) -> Result<bool, Fail> {
     let path = ProfilePath {
         team: "blue",
         profile: "web",
@@ -123,25 +141,23 @@ fn document_in(alloc: Global, body: &[u8]) -> Result<Option<Vec<u8>>, Fail> {
         Ask::Submit {
             name: _name,
             document,
-        } => Ok(Some(document)),
-        _other => Ok(None),
+        } => Ok(document.as_slice() == body),
+        _other => Ok(false),
     }
 }
 
 #[test]
 fn a_document_is_handed_in_as_it_came(rt: HostRuntime) -> Result<(), Fail> {
-    let words = asked(
+    assert_asked(
+        &rt,
         rt.alloc(),
-        "POST",
-        "/p/blue/web",
-        b"{\"capabilities\":{}}\n",
+        ("POST", "/p/blue/web"),
+        "{\"capabilities\":{}}\n",
+        "submit blue web {\"capabilities\":{}}\n",
     )?;
-    assert_eq!(rt; words.as_str(), "submit blue web {\"capabilities\":{}}\n");
-    for body in [b"\xff\xfe\x00", b"\xc3(\r"] {
-        let document = document_in(rt.alloc(), body)?.expect(&rt, "a submission");
-        assert!(rt; document.as_slice() == body.as_slice());
+    for body in [b"\xff\xfe\x00".as_slice(), b"\xc3(\r", b""] {
+        let is_kept = is_handed_in(rt.alloc(), body)?;
+        assert!(rt; is_kept);
     }
-    let document = document_in(rt.alloc(), b"")?.expect(&rt, "a submission");
-    assert!(rt; document.is_empty());
     Ok(())
 }

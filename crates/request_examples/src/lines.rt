@@ -40,17 +40,34 @@ fn line_of(alloc: Global, ask: &str, members: &str) -> Result<String, AllocError
     format!(in alloc; "{{\"ask\":\"{ask}\",\"token\":\"abc\",{members}}}")
 }
 
-// A line that enrols a user with these roles and this digest.
-fn enrolment(alloc: Global, roles: &str, digest: &str) -> Result<String, AllocError> {
+// That a line asks this, which asks so with these members.
+fn assert_line(
+    rt: &impl Abort,
+    alloc: Global,
+    (ask, members): (&str, &str),
+    expected: &str,
+) -> Result<(), Fail> {
+    let line = line_of(alloc, ask, members)?;
+    assert_asked(rt, alloc, line.as_str(), expected)
+}
+
+// That a line asks this, which enrols a user with these roles and this digest.
+fn assert_enrolment(
+    rt: &impl Abort,
+    alloc: Global,
+    (roles, digest): (&str, &str),
+    expected: &str,
+) -> Result<(), Fail> {
     let members = format!(in alloc;
         "\"user\":\"ann\",\"team\":\"blue\",\"roles\":{roles},\"digest\":\"{digest}\""
     )?;
-    line_of(alloc, "enrol", members.as_str())
+    assert_line(rt, alloc, ("enrol", members.as_str()), expected)
 }
 
-fn assert_refused(rt: &impl Abort, alloc: Global, ask: &str, members: &str) -> Result<(), Fail> {
-    let line = line_of(alloc, ask, members)?;
-    assert_asked(rt, alloc, line.as_str(), "not-a-request")
+// That a line asks this, which shows a revision and goes on so.
+fn assert_shown(rt: &impl Abort, alloc: Global, rest: &str, expected: &str) -> Result<(), Fail> {
+    let line = format!(in alloc; "{SHOW}{rest}")?;
+    assert_asked(rt, alloc, line.as_str(), expected)
 }
 
 #[test]
@@ -76,8 +93,7 @@ fn a_line_asks_something_of_a_revision_or_of_a_profile(rt: HostRuntime) -> Resul
         ("release", PROFILE, "abc: release blue web"),
         ("list", r#""team":"blue""#, "abc: list blue"),
     ] {
-        let line = line_of(rt.alloc(), ask, members)?;
-        assert_asked(&rt, rt.alloc(), line.as_str(), expected)?;
+        assert_line(&rt, rt.alloc(), (ask, members), expected)?;
     }
     Ok(())
 }
@@ -88,9 +104,9 @@ fn a_line_votes_on_the_text_of_a_digest(rt: HostRuntime) -> Result<(), Fail> {
         let members = format!(in rt.alloc();
             "{REVISION},\"digest\":\"{HELLO}\",\"vote\":\"{word}\""
         )?;
-        let line = line_of(rt.alloc(), "vote", members.as_str())?;
         let expected = format!(in rt.alloc(); "abc: vote blue web 7 {HELLO} {approves}")?;
-        assert_asked(&rt, rt.alloc(), line.as_str(), expected.as_str())?;
+        let vote = ("vote", members.as_str());
+        assert_line(&rt, rt.alloc(), vote, expected.as_str())?;
     }
     Ok(())
 }
@@ -103,9 +119,8 @@ fn roles_may_be_none_repeated_and_in_any_order(rt: HostRuntime) -> Result<(), Fa
         (r#"["machine","registrar","machine"]"#, 33),
         (r#"["issuer","security","reviewer"]"#, 28),
     ] {
-        let line = enrolment(rt.alloc(), roles, HELLO)?;
         let expected = format!(in rt.alloc(); "abc: enrol ann blue {bits} {HELLO}")?;
-        assert_asked(&rt, rt.alloc(), line.as_str(), expected.as_str())?;
+        assert_enrolment(&rt, rt.alloc(), (roles, HELLO), expected.as_str())?;
     }
     Ok(())
 }
@@ -120,8 +135,7 @@ fn roles_are_a_list_of_role_words(rt: HostRuntime) -> Result<(), Fail> {
         "null",
         "{}",
     ] {
-        let line = enrolment(rt.alloc(), roles, HELLO)?;
-        assert_asked(&rt, rt.alloc(), line.as_str(), "not-a-request")?;
+        assert_enrolment(&rt, rt.alloc(), (roles, HELLO), "not-a-request")?;
     }
     Ok(())
 }
@@ -135,8 +149,7 @@ fn a_digest_has_64_lower_case_digits(rt: HostRuntime) -> Result<(), Fail> {
         "2cf24dba5fb0a30e26e83b2ac5b9e29e1b161e5c1fa7425e73043362938b982g",
         "2cf24dba5fb0a30e26e83b2ac5b9e29e1b161e5c1fa7425e73043362938b98240",
     ] {
-        let line = enrolment(rt.alloc(), "[]", digest)?;
-        assert_asked(&rt, rt.alloc(), line.as_str(), "not-a-request")?;
+        assert_enrolment(&rt, rt.alloc(), ("[]", digest), "not-a-request")?;
     }
     Ok(())
 }
@@ -156,8 +169,8 @@ fn a_revision_is_a_whole_number_from_1_to_9999(rt: HostRuntime) -> Result<(), Fa
         ("null", "not-a-request"),
         ("[1]", "not-a-request"),
     ] {
-        let line = format!(in rt.alloc(); "{SHOW},\"revision\":{number}}}")?;
-        assert_asked(&rt, rt.alloc(), line.as_str(), expected)?;
+        let rest = format!(in rt.alloc(); ",\"revision\":{number}}}")?;
+        assert_shown(&rt, rt.alloc(), rest.as_str(), expected)?;
     }
     Ok(())
 }
@@ -205,8 +218,7 @@ fn the_members_of_a_line_have_their_forms(rt: HostRuntime) -> Result<(), Fail> {
         r#","revision":1,"token":null}"#,
         r#","revision":1,"":1}"#,
     ] {
-        let line = format!(in rt.alloc(); "{SHOW}{rest}")?;
-        assert_asked(&rt, rt.alloc(), line.as_str(), "not-a-request")?;
+        assert_shown(&rt, rt.alloc(), rest, "not-a-request")?;
     }
     Ok(())
 }
@@ -218,8 +230,7 @@ fn the_last_of_a_repeated_member_counts_and_spaces_may_stand(rt: HostRuntime) ->
         (r#","revision":1,"profile":"db"}"#, "hello: show blue db 1"),
         (" , \"revision\" : 1 }\r", "hello: show blue web 1"),
     ] {
-        let line = format!(in rt.alloc(); "{SHOW}{rest}")?;
-        assert_asked(&rt, rt.alloc(), line.as_str(), expected)?;
+        assert_shown(&rt, rt.alloc(), rest, expected)?;
     }
     Ok(())
 }
@@ -237,7 +248,8 @@ fn a_vote_is_approve_or_reject_with_a_digest(rt: HostRuntime) -> Result<(), Fail
         r#","vote":"approve","digest":null"#,
     ] {
         let members = format!(in rt.alloc(); "{REVISION},\"digest\":\"{HELLO}\"{rest}")?;
-        assert_refused(&rt, rt.alloc(), "vote", members.as_str())?;
+        let vote = ("vote", members.as_str());
+        assert_line(&rt, rt.alloc(), vote, "not-a-request")?;
     }
     Ok(())
 }
@@ -268,7 +280,7 @@ fn a_line_has_just_the_members_of_its_kind(rt: HostRuntime) -> Result<(), Fail> 
         ("release", REVISION),
         ("release", r#""profile":"web""#),
     ] {
-        assert_refused(&rt, rt.alloc(), ask, members)?;
+        assert_line(&rt, rt.alloc(), (ask, members), "not-a-request")?;
     }
     Ok(())
 }
@@ -300,8 +312,12 @@ fn each_kind_is_known_by_its_word(rt: HostRuntime) {
 
 #[test]
 fn a_line_of_each_kind_has_its_members(rt: HostRuntime) {
-    assert!(rt; Kind::Vote.has_member("vote"));
-    assert!(rt; Kind::List.has_member("token"));
-    assert!(rt; !Kind::List.has_member("profile"));
-    assert!(rt; !Kind::Fetch.has_member("revision"));
+    for (kind, member, wanted) in [
+        (Kind::Vote, "vote", true),
+        (Kind::List, "token", true),
+        (Kind::List, "profile", false),
+        (Kind::Fetch, "revision", false),
+    ] {
+        assert_eq!(rt; kind.has_member(member), wanted, "{member}");
+    }
 }

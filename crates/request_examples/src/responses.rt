@@ -3,18 +3,40 @@
 use http_answers::{memory_response, refusal, response};
 use http_message::{Method, Status};
 use review_policy::{Answer, Denial, Fault, Reply, Rule, Text};
-use std::alloc::AllocError;
-use std::test::Fail;
+use std::alloc::{AllocError, Global};
+use std::process::Abort;
+
+fn assert_response(
+    rt: &impl Abort,
+    alloc: Global,
+    answer: &Answer,
+    expected: &str,
+) -> Result<(), AllocError> {
+    let text = response(alloc, answer)?;
+    assert_eq!(rt; text.as_str(), expected);
+    Ok(())
+}
+
+fn assert_refusal(
+    rt: &impl Abort,
+    alloc: Global,
+    (status, word): (Status, &str),
+    expected: &str,
+) -> Result<(), AllocError> {
+    let text = refusal(alloc, status, word)?;
+    assert_eq!(rt; text.as_str(), expected);
+    Ok(())
+}
 
 #[test]
 fn what_is_done_is_told_as_json(rt: HostRuntime) -> Result<(), AllocError> {
-    let text = response(rt.alloc(), &Answer::Done(Reply::Voted))?;
-    assert_eq!(rt;
-        text.as_str(),
+    assert_response(
+        &rt,
+        rt.alloc(),
+        &Answer::Done(Reply::Voted),
         "HTTP/1.1 200 OK\r\nContent-Type: application/json\r\nContent-Length: 17\r\n\
-         Connection: close\r\n\r\n{\"answer\":\"done\"}"
-    );
-    Ok(())
+         Connection: close\r\n\r\n{\"answer\":\"done\"}",
+    )
 }
 
 #[test]
@@ -23,46 +45,43 @@ fn a_denial_is_forbidden(rt: HostRuntime) -> Result<(), AllocError> {
         number: 1,
         rule: Rule::CallerUnknown,
     };
-    let answer = Answer::Denied {
-        denial,
-        fault: None,
-    };
-    let text = response(rt.alloc(), &answer)?;
-    assert_eq!(rt;
-        text.as_str(),
+    let fault = None;
+    assert_response(
+        &rt,
+        rt.alloc(),
+        &Answer::Denied { denial, fault },
         "HTTP/1.1 403 Forbidden\r\nContent-Type: application/json\r\nContent-Length: 52\r\n\
-         Connection: close\r\n\r\n{\"answer\":\"denied\",\"rule\":1,\"word\":\"caller-unknown\"}"
-    );
-    Ok(())
+         Connection: close\r\n\r\n{\"answer\":\"denied\",\"rule\":1,\"word\":\"caller-unknown\"}",
+    )
 }
 
 #[test]
-fn a_fetch_is_the_document_itself(rt: HostRuntime) -> Result<(), Fail> {
+fn a_fetch_is_the_document_itself(rt: HostRuntime) -> Result<(), AllocError> {
     let document = Text::new(String::from_str(rt.alloc(), "{\"capabilities\":{}}")?);
     let fetched = Reply::Fetched {
         digest: [0; 32],
         document,
         revision: 2,
     };
-    let text = response(rt.alloc(), &Answer::Done(fetched))?;
-    assert_eq!(rt;
-        text.as_str(),
+    assert_response(
+        &rt,
+        rt.alloc(),
+        &Answer::Done(fetched),
         "HTTP/1.1 200 OK\r\nContent-Type: application/json\r\nContent-Length: 19\r\n\
-         Connection: close\r\n\r\n{\"capabilities\":{}}"
-    );
-    Ok(())
+         Connection: close\r\n\r\n{\"capabilities\":{}}",
+    )
 }
 
 #[test]
-fn a_sheet_is_plain_text_and_its_length_is_of_bytes(rt: HostRuntime) -> Result<(), Fail> {
+fn a_sheet_is_plain_text_and_its_length_is_of_bytes(rt: HostRuntime) -> Result<(), AllocError> {
     let sheet = Text::new(String::from_str(rt.alloc(), "a\n\u{e9}\n")?);
-    let text = response(rt.alloc(), &Answer::Done(Reply::Sheet { sheet }))?;
-    assert_eq!(rt;
-        text.as_str(),
+    assert_response(
+        &rt,
+        rt.alloc(),
+        &Answer::Done(Reply::Sheet { sheet }),
         "HTTP/1.1 200 OK\r\nContent-Type: text/plain\r\nContent-Length: 5\r\n\
-         Connection: close\r\n\r\na\n\u{e9}\n"
-    );
-    Ok(())
+         Connection: close\r\n\r\na\n\u{e9}\n",
+    )
 }
 
 #[test]
@@ -89,8 +108,7 @@ fn each_fault_is_unavailable(rt: HostRuntime) -> Result<(), AllocError> {
              Connection: close\r\n\r\n{\"answer\":\"fault\",\"word\":\"not-an-office\"}",
         ),
     ] {
-        let text = response(rt.alloc(), &Answer::Fault(fault))?;
-        assert_eq!(rt; text.as_str(), expected);
+        assert_response(&rt, rt.alloc(), &Answer::Fault(fault), expected)?;
     }
     Ok(())
 }
@@ -106,23 +124,22 @@ fn want_of_memory_is_told_without_memory(rt: HostRuntime) {
 
 #[test]
 fn what_is_no_request_is_refused_by_its_word(rt: HostRuntime) -> Result<(), AllocError> {
-    let text = refusal(rt.alloc(), Status::BadRequest, "no-token")?;
-    assert_eq!(rt;
-        text.as_str(),
+    assert_refusal(
+        &rt,
+        rt.alloc(),
+        (Status::BadRequest, "no-token"),
         "HTTP/1.1 400 Bad Request\r\nContent-Type: application/json\r\nContent-Length: 34\r\n\
-         Connection: close\r\n\r\n{\"answer\":\"bad\",\"word\":\"no-token\"}"
-    );
-    Ok(())
+         Connection: close\r\n\r\n{\"answer\":\"bad\",\"word\":\"no-token\"}",
+    )
 }
 
 #[test]
 fn a_wrong_method_is_told_the_right_one(rt: HostRuntime) -> Result<(), AllocError> {
-    let status = Status::MethodNotAllowed(Method::Post);
-    let text = refusal(rt.alloc(), status, "wrong-method")?;
-    assert_eq!(rt;
-        text.as_str(),
+    assert_refusal(
+        &rt,
+        rt.alloc(),
+        (Status::MethodNotAllowed(Method::Post), "wrong-method"),
         "HTTP/1.1 405 Method Not Allowed\r\nAllow: POST\r\nContent-Type: application/json\r\nContent-Length: 38\r\n\
-         Connection: close\r\n\r\n{\"answer\":\"bad\",\"word\":\"wrong-method\"}"
-    );
-    Ok(())
+         Connection: close\r\n\r\n{\"answer\":\"bad\",\"word\":\"wrong-method\"}",
+    )
 }

@@ -3,15 +3,28 @@
 use review_policy::{
     Fault, ListedProfile, Listing, Role, Roles, State, Text, Token, Word, WordFault,
 };
+use std::alloc::Global;
+use std::process::Abort;
 use std::test::Fail;
+
+// That a text is a word, of which a copy has the same text.
+fn assert_word(rt: &impl Abort, alloc: Global, text: &str) -> Result<(), Fail> {
+    let word = Word::new(alloc, text)?;
+    let copy = word.copy(alloc)?;
+    assert_eq!(rt; (word.as_str(), copy.as_str()), (text, text));
+    Ok(())
+}
+
+fn assert_no_word(rt: &impl Abort, alloc: Global, text: &str) {
+    let fault = Word::new(alloc, text).err();
+    assert_eq!(rt; fault, Some(WordFault::NotAWord), "{text}");
+}
 
 #[test]
 fn a_word_is_of_small_letters_digits_and_hyphens(rt: HostRuntime) -> Result<(), Fail> {
     let longest = "a".repeat(rt.alloc(), 64)?;
     for text in ["web-1", "a", "-", "0", "az09", longest.as_str()] {
-        let word = Word::new(rt.alloc(), text)?;
-        assert_eq!(rt; word.as_str(), text);
-        assert_eq!(rt; word.copy(rt.alloc())?.as_str(), text);
+        assert_word(&rt, rt.alloc(), text)?;
     }
     let too_long = "a".repeat(rt.alloc(), 65)?;
     for text in [
@@ -25,38 +38,52 @@ fn a_word_is_of_small_letters_digits_and_hyphens(rt: HostRuntime) -> Result<(), 
         "{",
         too_long.as_str(),
     ] {
-        assert_eq!(rt;
-            Word::new(rt.alloc(), text).err(),
-            Some(WordFault::NotAWord),
-            "{text}"
-        );
+        assert_no_word(&rt, rt.alloc(), text);
     }
     Ok(())
 }
 
+// Whether words with these texts are the same.
+fn are_same(alloc: Global, text: &str, other: &str) -> Result<bool, Fail> {
+    let word = Word::new(alloc, text)?;
+    let other = Word::new(alloc, other)?;
+    Ok(word.is(&other))
+}
+
 #[test]
 fn words_are_the_same_where_their_texts_are(rt: HostRuntime) -> Result<(), Fail> {
-    let web = Word::new(rt.alloc(), "web")?;
-    assert!(rt; web.is(&Word::new(rt.alloc(), "web")?));
-    for text in ["we", "webs", "wed"] {
-        assert!(rt; !web.is(&Word::new(rt.alloc(), text)?), "{text}");
+    for (text, wanted) in [
+        ("web", true),
+        ("we", false),
+        ("webs", false),
+        ("wed", false),
+    ] {
+        let same = are_same(rt.alloc(), "web", text)?;
+        assert_eq!(rt; same, wanted, "{text}");
     }
     Ok(())
+}
+
+fn assert_token(rt: &impl Abort, alloc: Global, text: &str) -> Result<(), Fail> {
+    let token = Token::new(alloc, text)?;
+    assert_eq!(rt; token.as_str(), text);
+    Ok(())
+}
+
+fn assert_no_token(rt: &impl Abort, alloc: Global, text: &str) {
+    let fault = Token::new(alloc, text).err();
+    assert_eq!(rt; fault, Some(WordFault::NotAWord), "{text}");
 }
 
 #[test]
 fn a_token_is_of_printed_characters(rt: HostRuntime) -> Result<(), Fail> {
     let longest = "t".repeat(rt.alloc(), 128)?;
     for text in ["abc", "!", "~", "t-ann", "A_b/9=", longest.as_str()] {
-        assert_eq!(rt; Token::new(rt.alloc(), text)?.as_str(), text);
+        assert_token(&rt, rt.alloc(), text)?;
     }
     let too_long = "t".repeat(rt.alloc(), 129)?;
     for text in ["", "a b", "a\tb", "\u{7f}", "\u{e9}", too_long.as_str()] {
-        assert_eq!(rt;
-            Token::new(rt.alloc(), text).err(),
-            Some(WordFault::NotAWord),
-            "{text}"
-        );
+        assert_no_token(&rt, rt.alloc(), text);
     }
     Ok(())
 }
@@ -65,9 +92,11 @@ fn a_token_is_of_printed_characters(rt: HostRuntime) -> Result<(), Fail> {
 fn a_copied_text_is_the_same_text(rt: HostRuntime) -> Result<(), Fail> {
     let text = Text::new(String::from_str(rt.alloc(), "a b\n")?);
     let copy = text.copy(rt.alloc())?;
-    assert_eq!(rt; copy.as_str(), "a b\n");
-    assert!(rt; text.is(&copy));
-    assert!(rt; !text.is(&Text::new(String::new(rt.alloc()))));
+    let is_empty = text.is(&Text::new(String::new(rt.alloc())));
+    assert_eq!(rt;
+        (copy.as_str(), text.is(&copy), is_empty),
+        ("a b\n", true, false)
+    );
     Ok(())
 }
 
@@ -82,19 +111,25 @@ fn a_role_is_in_the_sets_that_it_was_put_into(rt: HostRuntime) {
         (Role::Issuer, false),
         (Role::Machine, false),
     ] {
-        assert_eq!(rt; both.has(role), wanted, "{role:?}");
-        assert!(rt; !Roles::empty().has(role), "{role:?}");
-        assert_eq!(rt; both.with(role).has(role), true, "{role:?}");
+        let added = both.with(role).has(role);
+        assert_eq!(rt;
+            (both.has(role), Roles::empty().has(role), added),
+            (wanted, false, true),
+            "{role:?}"
+        );
     }
     assert_eq!(rt; both.with(Role::Author), both);
 }
 
 #[test]
 fn the_first_role_has_the_lowest_bit_and_the_last_the_highest(rt: HostRuntime) {
-    assert_eq!(rt; Roles::empty().with(Role::Registrar).bits(), 1);
-    assert_eq!(rt; Roles::empty().with(Role::Machine).bits(), 32);
-    assert_eq!(rt; Roles::from_bits(63).map(|roles| roles.bits()), Some(63));
-    assert_eq!(rt; Roles::from_bits(64), None);
+    let first = Roles::empty().with(Role::Registrar).bits();
+    let last = Roles::empty().with(Role::Machine).bits();
+    let all = Roles::from_bits(63).map(|roles| roles.bits());
+    assert_eq!(rt;
+        (first, last, all, Roles::from_bits(64)),
+        (1, 32, Some(63), None)
+    );
 }
 
 #[test]
@@ -107,8 +142,7 @@ fn a_role_is_read_by_its_word(rt: HostRuntime) {
         (Role::Issuer, "issuer"),
         (Role::Machine, "machine"),
     ] {
-        assert_eq!(rt; role.word(), word);
-        assert_eq!(rt; Role::from_word(word), Some(role));
+        assert_eq!(rt; (role.word(), Role::from_word(word)), (word, Some(role)));
     }
     for word in ["", "Author", "author ", "authors", "admin"] {
         assert_eq!(rt; Role::from_word(word), None, "{word}");
@@ -140,22 +174,32 @@ fn each_fault_has_its_word(rt: HostRuntime) {
     }
 }
 
-#[test]
-fn a_listing_keeps_its_profiles_in_order(rt: HostRuntime) -> Result<(), Fail> {
-    let mut profiles = Vec::new(rt.alloc());
+// Two profiles.
+fn listed_profiles(alloc: Global) -> Result<Listing, Fail> {
+    let mut profiles = Vec::new(alloc);
     for (name, issued) in [("web", 0), ("api", 2)] {
+        let profile = Word::new(alloc, name)?;
         profiles.push(ListedProfile {
-            profile: Word::new(rt.alloc(), name)?,
+            profile,
             issued,
             revisions: 2,
             state: State::Open,
         })?;
     }
-    let listing = Listing::new(profiles);
-    let names = ["web", "api"];
-    assert_eq!(rt; listing.profiles().len(), 2);
+    Ok(Listing::new(profiles))
+}
+
+// That the profiles of these names are listed, in this order.
+fn assert_listed(rt: &impl Abort, listing: &Listing, names: &[&str]) {
+    assert_eq!(rt; listing.profiles().len(), names.len());
     for (listed, name) in listing.profiles().iter().zip(names.iter()) {
         assert_eq!(rt; listed.profile.as_str(), *name);
     }
+}
+
+#[test]
+fn a_listing_keeps_its_profiles_in_order(rt: HostRuntime) -> Result<(), Fail> {
+    let listing = listed_profiles(rt.alloc())?;
+    assert_listed(&rt, &listing, &["web", "api"]);
     Ok(())
 }
