@@ -1,18 +1,23 @@
 // A conversation over a file.
 
+ghost use Rattle.sqlite.specs.Held.{state};
+ghost use Rattle.office_store.specs.Shown.{IsIdle};
+
 use crate::acts::Act::{
     Adopt, Approve, Enrol, Fetch, Hold, Issue, List, Release, Sheet, Show, Submit, Withdraw,
 };
-use crate::offices::{Turn, converse, found_office};
+use crate::offices::{Turn, converse, converse_and_close, found_office, new_office};
+use crate::openings::reopened;
 use crate::people::{
     ANN, AUTHOR, BLUE_MACHINE, ISS, ISSUER, MACHINE, REV, REVIEWER, SECURITY, SUE,
 };
 use crate::sheets::BARE_SHEET;
 use crate::texts::{BARE, OF_BARE};
 use crate::told::Told::{Done, Fetched, Issued, Lines, Listed, Shown, Submitted};
-use office_desk::Office;
-use sqlite::Connection;
+use sqlite::{Alter, Connection};
+use std::alloc::Global;
 use std::fs;
+use std::process::Abort;
 use std::test::Fail;
 
 // The first enrolments.
@@ -60,11 +65,24 @@ const ALL_KINDS: [Turn; 13] = [
 #[test]
 fn a_conversation_in_one_go(rt: HostRuntime) -> Result<(), Fail> {
     let alloc = rt.alloc();
-    let Ok(mut office) = found_office(alloc, Connection::open_in_memory(alloc)?)? else {
-        return Err(Fail::from("a founding"));
-    };
+    let mut office = new_office(alloc)?;
     converse(&rt, alloc, &mut office, &ENROLMENTS)?;
     converse(&rt, alloc, &mut office, &ALL_KINDS)
+}
+
+// Founds an office in a store, asks all of these, and hands back what is under the office.
+fn founded<S: Alter + Drop>(
+    rt: &impl Abort,
+    alloc: Global,
+    conn: Connection<S>,
+    turns: &[Turn],
+) -> Result<Connection<S>, Fail>
+    requires { IsIdle (state S.Store conn) }
+{
+    match found_office(alloc, conn)? {
+        Ok(office) => converse_and_close(rt, alloc, office, turns),
+        Err((fault, _)) => Err(Fail::from(fault)),
+    }
 }
 
 #[test]
@@ -75,17 +93,11 @@ fn the_same_over_a_file_that_is_closed_and_opened_before_each_request(
     let path = "office_desk_test/office.db";
     let _ = fs::remove_dir_all(&rt, "office_desk_test");
     fs::create_dir(&rt, "office_desk_test")?;
-    let Ok(mut office) = found_office(alloc, Connection::open(&rt, path)?)? else {
-        return Err(Fail::from("a founding"));
-    };
-    converse(&rt, alloc, &mut office, &ENROLMENTS)?;
-    office.into_connection().close()?;
+    let conn = Connection::open(&rt, path)?;
+    founded(&rt, alloc, conn, &ENROLMENTS)?.close()?;
     for turn in &ALL_KINDS {
-        let Ok(mut office) = Office::over(Connection::open(&rt, path)?) else {
-            return Err(Fail::from("an office"));
-        };
-        converse(&rt, alloc, &mut office, &[*turn])?;
-        office.into_connection().close()?;
+        let conn = Connection::open(&rt, path)?;
+        reopened(&rt, alloc, conn, &[*turn])?.close()?;
     }
     fs::remove_dir_all(&rt, "office_desk_test")?;
     Ok(())

@@ -1,7 +1,7 @@
 // What a revision needs to be issued, against the baseline of that moment.
 
 use crate::acts::Act::{Adopt, Approve, Issue, Submit, Withdraw};
-use crate::offices::{Turn, cast_office, converse, told_in_turn};
+use crate::offices::{Turn, told_after, told_in_turn};
 use crate::texts::{BARE, OF_BARE};
 use crate::told::Told::{Done, Issued, Short, Submitted};
 use std::test::Fail;
@@ -26,13 +26,8 @@ const WITHDRAWN: [Turn; 2] = [
 
 #[test]
 fn the_need_is_that_against_the_baseline_of_the_issue(rt: HostRuntime) -> Result<(), Fail> {
-    let alloc = rt.alloc();
-    let mut office = cast_office(&rt, alloc)?;
-    converse(&rt, alloc, &mut office, &ADOPTED)?;
-    converse(&rt, alloc, &mut office, &ISSUED)?;
-    let mut office = cast_office(&rt, alloc)?;
-    converse(&rt, alloc, &mut office, &ADOPTED)?;
-    converse(&rt, alloc, &mut office, &WITHDRAWN)
+    told_after(&rt, rt.alloc(), &ADOPTED, &ISSUED)?;
+    told_after(&rt, rt.alloc(), &ADOPTED, &WITHDRAWN)
 }
 
 // Two profiles have the same document, and one of them is adopted once the other was handed in and approved.

@@ -21,6 +21,17 @@ use std::test::Fail;
 /// What a caller asks, and what the caller is told.
 pub(crate) type Turn<'a> = (&'a str, Act<'a>, Told<'a>);
 
+// What the caller is told who asks this, as it stands in a line.
+fn answer_to<S: Alter>(
+    alloc: Global,
+    office: &mut Office<S>,
+    by: &str,
+    act: Act,
+) -> Result<String, Fail> {
+    let answer = office.handle(alloc, &request(alloc, by, act)?);
+    Ok(answer_text(alloc, &answer)?)
+}
+
 /// Asks all of these in turn, and compares what is told.
 pub(crate) fn converse<S: Alter>(
     rt: &impl Abort,
@@ -29,15 +40,36 @@ pub(crate) fn converse<S: Alter>(
     turns: &[Turn],
 ) -> Result<(), Fail> {
     for (by, act, told) in turns.iter() {
-        let answer = office.handle(alloc, &request(alloc, by, *act)?);
         let wanted = text_of(alloc, *told)?;
-        assert_eq!(rt; answer_text(alloc, &answer)?, wanted, "{by}: {act:?}");
+        let answer = answer_to(alloc, office, by, *act)?;
+        assert_eq!(rt; answer, wanted, "{by}: {act:?}");
     }
     Ok(())
 }
 
+/// Asks all of these, and hands back what is under the office.
+pub(crate) fn converse_and_close<S: Alter + Drop>(
+    rt: &impl Abort,
+    alloc: Global,
+    office: Office<S>,
+    turns: &[Turn],
+) -> Result<Connection<S>, Fail> {
+    let mut office = office;
+    converse(rt, alloc, &mut office, turns)?;
+    Ok(office.into_connection())
+}
+
 /// What a founding answers.
 pub(crate) type Founded<S> = Result<Office<S>, (FoundingFault, Connection<S>)>;
+
+// The name, the team and the token's digest of root, and the one listed capability.
+fn founder(alloc: Global) -> Result<(Word, Word, [u8; 32], Caps), Fail> {
+    let digest = <[u8; 32] as FromHex>::from_hex(ROOT)?;
+    let listed = Caps::from_name("CAP_SYS_ADMIN").ok_or("a capability")?;
+    let name = Word::new(alloc, "root")?;
+    let team = Word::new(alloc, "office")?;
+    Ok((name, team, digest, listed))
+}
 
 /// Founds an office whose first user is root of the team office, with the one listed capability CAP_SYS_ADMIN.
 pub(crate) fn found_office<S: Alter + Drop>(
@@ -47,11 +79,35 @@ pub(crate) fn found_office<S: Alter + Drop>(
     requires { IsIdle (state S.Store conn) }
     ensures { IfOk result (λ founded. IfErr founded (λ refusal. IsIdle (state S.Store refusal.1))) }
 {
-    let name = Word::new(alloc, "root")?;
-    let team = Word::new(alloc, "office")?;
-    let digest = <[u8; 32] as FromHex>::from_hex(ROOT)?;
-    let listed = Caps::from_name("CAP_SYS_ADMIN").ok_or("a capability")?;
+    let (name, team, digest, listed) = founder(alloc)?;
     Ok(Office::found(conn, &name, &team, &digest, listed))
+}
+
+/// A new office in memory.
+pub(crate) fn new_office(alloc: Global) -> Result<Office<MemStore>, Fail> {
+    let conn = Connection::open_in_memory(alloc)?;
+    match found_office(alloc, conn)? {
+        Ok(office) => Ok(office),
+        Err((fault, _)) => Err(Fail::from(fault)),
+    }
+}
+
+// One whose users are enrolled.
+fn cast_office(rt: &impl Abort, alloc: Global) -> Result<Office<MemStore>, Fail> {
+    let mut office = new_office(alloc)?;
+    converse(rt, alloc, &mut office, &CAST)?;
+    Ok(office)
+}
+
+/// One whose users are enrolled, and where all of these were asked.
+pub(crate) fn office_after(
+    rt: &impl Abort,
+    alloc: Global,
+    turns: &[Turn],
+) -> Result<Office<MemStore>, Fail> {
+    let mut office = cast_office(rt, alloc)?;
+    converse(rt, alloc, &mut office, turns)?;
+    Ok(office)
 }
 
 /// Asks all of these in a new office in memory, whose users are enrolled.
@@ -60,12 +116,13 @@ pub(crate) fn told_in_turn(rt: &impl Abort, alloc: Global, turns: &[Turn]) -> Re
     converse(rt, alloc, &mut office, turns)
 }
 
-/// A new office in memory, with its users.
-pub(crate) fn cast_office(rt: &impl Abort, alloc: Global) -> Result<Office<MemStore>, Fail> {
-    let conn = Connection::open_in_memory(alloc)?;
-    let Ok(mut office) = found_office(alloc, conn)? else {
-        return Err(Fail::from("a founding"));
-    };
-    converse(rt, alloc, &mut office, &CAST)?;
-    Ok(office)
+/// Asks all of these in such an office, where all of the past was asked before.
+pub(crate) fn told_after(
+    rt: &impl Abort,
+    alloc: Global,
+    past: &[Turn],
+    turns: &[Turn],
+) -> Result<(), Fail> {
+    let mut office = office_after(rt, alloc, past)?;
+    converse(rt, alloc, &mut office, turns)
 }

@@ -1,18 +1,75 @@
 // Stores that an office is founded in or opened over, and stores that refuse it.
 
-ghost use Rattle.std.specs.Prelude.{IsTrue, IfOk};
+ghost use Rattle.std.specs.Prelude.{IfOk};
 ghost use Rattle.sqlite.specs.Held.{state};
 ghost use Rattle.office_store.specs.Shown.{IsIdle};
 
 use crate::acts::Act::{Show, Submit};
-use crate::offices::{Turn, cast_office, converse, found_office};
+use crate::offices::{Turn, converse_and_close, found_office, office_after};
 use crate::texts::{BARE, OF_BARE};
 use crate::told::Told::{Shown, Submitted};
 use office_desk::Office;
 use office_store::FoundingFault;
 use office_tables::StoreFault;
-use sqlite::{Alter, Connection, Error};
+use sqlite::{Alter, Connection};
+use std::alloc::Global;
+use std::process::Abort;
 use std::test::Fail;
+
+// The connection that is handed back where no office is founded for this fault.
+fn not_founded<S: Alter + Drop>(
+    rt: &impl Abort,
+    alloc: Global,
+    conn: Connection<S>,
+    wanted: FoundingFault,
+) -> Result<Connection<S>, Fail>
+    requires { IsIdle (state S.Store conn) }
+    ensures { IfOk result (λ conn. IsIdle (state S.Store conn)) }
+{
+    match found_office(alloc, conn)? {
+        Ok(_) => Err(Fail::from("a refusal")),
+        Err((fault, conn)) => {
+            assert_eq!(rt; fault, wanted);
+            Ok(conn)
+        }
+    }
+}
+
+// Whether an office is founded.
+fn is_founded<S: Alter + Drop>(alloc: Global, conn: Connection<S>) -> Result<bool, Fail>
+    requires { IsIdle (state S.Store conn) }
+{
+    Ok(found_office(alloc, conn)?.is_ok())
+}
+
+// The connection that is handed back where the store is no office.
+fn no_office<S: Alter + Drop>(rt: &impl Abort, conn: Connection<S>) -> Result<Connection<S>, Fail>
+    requires { IsIdle (state S.Store conn) }
+    ensures { IfOk result (λ conn. IsIdle (state S.Store conn)) }
+{
+    match Office::over(conn) {
+        Ok(_) => Err(Fail::from("a refusal")),
+        Err((fault, conn)) => {
+            assert_eq!(rt; fault, StoreFault::NotAnOffice);
+            Ok(conn)
+        }
+    }
+}
+
+/// Opens the office that a store has, asks all of these, and hands back what is under the office.
+pub(crate) fn reopened<S: Alter + Drop>(
+    rt: &impl Abort,
+    alloc: Global,
+    conn: Connection<S>,
+    turns: &[Turn],
+) -> Result<Connection<S>, Fail>
+    requires { IsIdle (state S.Store conn) }
+{
+    match Office::over(conn) {
+        Ok(office) => converse_and_close(rt, alloc, office, turns),
+        Err((fault, _)) => Err(Fail::from(fault)),
+    }
+}
 
 const SUBMITTED: [Turn; 1] = [("ann", Submit("web", BARE), Submitted(OF_BARE, 1))];
 
@@ -21,53 +78,41 @@ const SHOWN: [Turn; 1] = [("ann", Show("web", 1), Shown(OF_BARE, BARE, "open"))]
 #[test]
 fn a_second_founding_hands_the_office_back_as_it_was(rt: HostRuntime) -> Result<(), Fail> {
     let alloc = rt.alloc();
-    let mut office = cast_office(&rt, alloc)?;
-    converse(&rt, alloc, &mut office, &SUBMITTED)?;
-    let Err((fault, conn)) = found_office(alloc, office.into_connection())? else {
-        return Err(Fail::from("a refusal"));
-    };
-    assert_eq!(rt; fault, FoundingFault::AlreadyFounded);
-    let Ok(mut office) = Office::over(conn) else {
-        return Err(Fail::from("an office"));
-    };
-    converse(&rt, alloc, &mut office, &SHOWN)
+    let conn = office_after(&rt, alloc, &SUBMITTED)?.into_connection();
+    let conn = not_founded(&rt, alloc, conn, FoundingFault::AlreadyFounded)?;
+    reopened(&rt, alloc, conn, &SHOWN)?;
+    Ok(())
 }
 
 #[test]
 fn an_empty_store_is_no_office_and_is_handed_back_empty(rt: HostRuntime) -> Result<(), Fail> {
     let alloc = rt.alloc();
-    let Err((fault, conn)) = Office::over(Connection::open_in_memory(alloc)?) else {
-        return Err(Fail::from("a refusal"));
-    };
-    assert_eq!(rt; fault, StoreFault::NotAnOffice);
-    assert!(rt; found_office(alloc, conn)?.is_ok());
+    let conn = no_office(&rt, Connection::open_in_memory(alloc)?)?;
+    assert!(rt; is_founded(alloc, conn)?);
     Ok(())
 }
 
-// Runs the statements, and tells whether no transaction is open.
-fn run<S: Alter>(conn: &mut Connection<S>, sql: &str) -> Result<bool, Error>
-    requires { IsIdle (state S.Store conn.old) }
-    ensures { IfOk result (λ done. IsTrue done → IsIdle (state S.Store conn.new)) }
+// The connection once these statements were run, where they leave no transaction open.
+fn run<S: Alter + Drop>(conn: Connection<S>, sql: &str) -> Result<Connection<S>, Fail>
+    requires { IsIdle (state S.Store conn) }
+    ensures { IfOk result (λ conn. IsIdle (state S.Store conn)) }
 {
+    let mut conn = conn;
     conn.execute_batch(sql)?;
-    Ok(conn.is_autocommit())
+    if !conn.is_autocommit() {
+        return Err(Fail::from("no transaction is open"));
+    }
+    Ok(conn)
 }
 
 #[test]
 fn no_office_is_founded_beside_a_foreign_table(rt: HostRuntime) -> Result<(), Fail> {
     let alloc = rt.alloc();
-    let mut conn = Connection::open_in_memory(alloc)?;
-    if !run(&mut conn, "CREATE TABLE notes (name TEXT) STRICT")? {
-        return Err(Fail::from("a table"));
-    }
-    let Err((fault, conn)) = found_office(alloc, conn)? else {
-        return Err(Fail::from("a refusal"));
-    };
-    assert_eq!(rt; fault, FoundingFault::Store(StoreFault::NotAnOffice));
-    let mut conn = conn;
-    if !run(&mut conn, "DROP TABLE notes")? {
-        return Err(Fail::from("the table"));
-    }
-    assert!(rt; found_office(alloc, conn)?.is_ok());
+    let conn = Connection::open_in_memory(alloc)?;
+    let conn = run(conn, "CREATE TABLE notes (name TEXT) STRICT")?;
+    let foreign = FoundingFault::Store(StoreFault::NotAnOffice);
+    let conn = not_founded(&rt, alloc, conn, foreign)?;
+    let conn = run(conn, "DROP TABLE notes")?;
+    assert!(rt; is_founded(alloc, conn)?);
     Ok(())
 }

@@ -3,7 +3,7 @@
 use crate::acts::Act::{
     Adopt, Approve, Enrol, Fetch, Hold, Issue, List, Release, Sheet, Show, Submit, Withdraw,
 };
-use crate::offices::{Turn, cast_office, converse, told_in_turn};
+use crate::offices::{Turn, converse, office_after, told_in_turn};
 use crate::people::{ANN, AUTHOR, AUTHOR_AND_MORE, BEN, KIM, REGISTRAR, ROOT};
 use crate::texts::{BARE, CLOSED, OF_BARE, OF_CLOSED};
 use crate::told::Told::{Done, Issued, Refused, Rule, Submitted};
@@ -35,8 +35,7 @@ fn a_stranger_is_told_that_alone_of_what_is_there_and_what_is_not(
     rt: HostRuntime,
 ) -> Result<(), Fail> {
     let alloc = rt.alloc();
-    let mut office = cast_office(&rt, alloc)?;
-    converse(&rt, alloc, &mut office, &SUBMITTED)?;
+    let mut office = office_after(&rt, alloc, &SUBMITTED)?;
     converse(&rt, alloc, &mut office, &by_a_stranger("web"))?;
     converse(&rt, alloc, &mut office, &by_a_stranger("none"))
 }

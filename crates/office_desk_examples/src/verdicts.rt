@@ -5,7 +5,7 @@ mod changes;
 mod reads;
 
 use crate::acts::Act::{Approve, Hold, Issue, Reject, Submit};
-use crate::offices::{Turn, cast_office, converse};
+use crate::offices::{Turn, told_after};
 use crate::texts::{BARE, CLOSED, OF_BARE, OF_CLOSED};
 use crate::told::Told::{Done, Issued, Submitted};
 use std::alloc::Global;
@@ -39,7 +39,5 @@ const PAST: [Turn; 20] = [
 
 // Asks these in an office with that past, one after the other.
 fn told_after_all(rt: &impl Abort, alloc: Global, turns: &[Turn]) -> Result<(), Fail> {
-    let mut office = cast_office(rt, alloc)?;
-    converse(rt, alloc, &mut office, &PAST)?;
-    converse(rt, alloc, &mut office, turns)
+    told_after(rt, alloc, &PAST, turns)
 }

@@ -4,16 +4,16 @@ ghost use Rattle.sqlite.specs.Held.{state};
 ghost use Rattle.office_store.specs.Shown.{IsIdle};
 
 use crate::acts::Act::{Approve, Issue, List, Reject, Sheet, Submit};
-use crate::offices::{Turn, cast_office, converse, told_in_turn};
+use crate::offices::{Turn, office_after, told_in_turn};
 use crate::sheets::BARE_SHEET;
 use crate::texts::{BARE, CLOSED, OF_BARE, OF_CLOSED};
 use crate::told::NO_ROLE;
 use crate::told::Told::{Done, Issued, Lines, Listed, Rule, Short, Submitted};
 use office_store::{standing, tally};
-use office_tables::StoreFault;
 use review_policy::{ProfileName, Word};
 use sqlite::{Alter, Connection};
 use std::alloc::Global;
+use std::process::Abort;
 use std::test::Fail;
 
 const RESUBMITTED: [Turn; 6] = [
@@ -64,33 +64,34 @@ const SECOND_THOUGHTS: [Turn; 5] = [
 ];
 
 // Of the first revision of blue/web: its votes, and of those that count the approvals, those with security and the rejections.
-fn counted<S: Alter>(
-    alloc: Global,
-    conn: &mut Connection<S>,
-    name: &ProfileName,
-) -> Result<(usize, u64, u64, u64), StoreFault>
+type Counted = (usize, u64, u64, u64);
+
+fn counted<S: Alter>(alloc: Global, conn: &mut Connection<S>) -> Result<Counted, Fail>
     requires { IsIdle (state S.Store conn.old) }
 {
-    let votes = standing(alloc, conn, name, 1)?.len();
-    let tally = tally(alloc, conn, name, 1)?;
-    Ok((votes, tally.approvals, tally.secure, tally.rejections))
-}
-
-#[test]
-fn a_user_who_votes_again_has_one_vote(rt: HostRuntime) -> Result<(), Fail> {
-    let alloc = rt.alloc();
     let name = ProfileName {
         team: Word::new(alloc, "blue")?,
         profile: Word::new(alloc, "web")?,
     };
-    let mut office = cast_office(&rt, alloc)?;
-    converse(&rt, alloc, &mut office, &SECOND_THOUGHTS)?;
-    let mut conn = office.into_connection();
-    assert_eq!(rt; counted(alloc, &mut conn, &name), Ok((1, 1, 0, 0)));
-    let mut office = cast_office(&rt, alloc)?;
-    converse(&rt, alloc, &mut office, &BY_SECURITY_ALONE)?;
-    let mut conn = office.into_connection();
-    assert_eq!(rt; counted(alloc, &mut conn, &name), Ok((1, 1, 1, 0)));
+    let votes = standing(alloc, conn, &name, 1)?.len();
+    let tally = tally(alloc, conn, &name, 1)?;
+    Ok((votes, tally.approvals, tally.secure, tally.rejections))
+}
+
+// In an office where all of these were asked.
+fn counted_after(rt: &impl Abort, alloc: Global, turns: &[Turn]) -> Result<Counted, Fail> {
+    let mut conn = office_after(rt, alloc, turns)?.into_connection();
+    counted(alloc, &mut conn)
+}
+
+#[test]
+fn a_user_who_votes_again_has_one_vote(rt: HostRuntime) -> Result<(), Fail> {
+    for (turns, votes) in [
+        (SECOND_THOUGHTS.as_slice(), (1, 1, 0, 0)),
+        (BY_SECURITY_ALONE.as_slice(), (1, 1, 1, 0)),
+    ] {
+        assert_eq!(rt; counted_after(&rt, rt.alloc(), turns)?, votes);
+    }
     Ok(())
 }
 
