@@ -1,53 +1,41 @@
 // Conversations, from lines to lines.
 
-use crate::offices::{answers_to, joined, trial_office};
-use crate::streams::{Counting, Giving, InStep, Sink, Source, Taking};
+use crate::offices::{End, converse_anew, joined, serve, trial_office};
+use crate::streams::{Counting, Giving, InStep, Taking};
 use crate::texts::{
-    DONE, ENROL_ANN, FIRST_ANSWERS, FIRST_PATH, NOT_A_REQUEST, NOT_JSON, SECOND_ANSWERS, SUBMITTED,
-    TOO_LONG,
+    DONE, ENROL_ANN, FIRST_ANSWERS, FIRST_PATH, NOT_A_REQUEST, NOT_JSON, SECOND_ANSWERS,
+    SUBMIT_WITHOUT_FEED, SUBMITTED, TOO_LONG,
 };
-use counted_io::Counted;
-use desk::desk;
+use crate::turns::{Turn, take_turn, take_turns_anew};
+use office_desk::Office;
+use sqlite::Alter;
+use std::alloc::Global;
 use std::cell::Cell;
+use std::process::Abort;
 use std::test::Fail;
 
 #[test]
 fn an_empty_input_has_an_empty_output(rt: HostRuntime) -> Result<(), Fail> {
-    let mut office = trial_office(rt.alloc())?;
-    let output = answers_to(rt.alloc(), &mut office, b"")?;
-    assert!(rt; output.is_empty());
-    Ok(())
+    converse_anew(&rt, rt.alloc(), &[], &[])
 }
 
 #[test]
 fn an_author_hands_a_profile_in_and_sees_it(rt: HostRuntime) -> Result<(), Fail> {
-    let alloc = rt.alloc();
-    let mut office = trial_office(alloc)?;
-    let input = joined(alloc, &FIRST_PATH)?;
-    let wanted = joined(alloc, &FIRST_ANSWERS)?;
-    let output = answers_to(alloc, &mut office, &input)?;
-    assert_eq!(rt; output.as_slice(), wanted.as_slice());
-    Ok(())
+    converse_anew(&rt, rt.alloc(), &FIRST_PATH, &FIRST_ANSWERS)
 }
 
 #[test]
 fn a_line_that_is_too_long_is_passed_over(rt: HostRuntime) -> Result<(), Fail> {
-    let alloc = rt.alloc();
     for (length, told) in [(300_000, NOT_JSON), (300_001, TOO_LONG)] {
-        let mut office = trial_office(alloc)?;
-        let mut input = vec![in alloc; b'a'; length]?;
-        input.push(b'\n')?;
-        input.extend_from_slice(ENROL_ANN.as_bytes())?;
-        let wanted = joined(alloc, &[told, DONE])?;
-        let output = answers_to(alloc, &mut office, &input)?;
-        assert_eq!(rt; output.as_slice(), wanted.as_slice());
+        let line = "a".repeat(rt.alloc(), length)?;
+        let lines = [line.as_str(), "\n", ENROL_ANN];
+        converse_anew(&rt, rt.alloc(), &lines, &[told, DONE])?;
     }
     Ok(())
 }
 
 #[test]
 fn a_line_that_is_no_request_is_told_so(rt: HostRuntime) -> Result<(), Fail> {
-    let alloc = rt.alloc();
     for (line, told) in [
         ("\n", NOT_JSON),
         ("\r\n", NOT_JSON),
@@ -58,84 +46,73 @@ fn a_line_that_is_no_request_is_told_so(rt: HostRuntime) -> Result<(), Fail> {
             NOT_A_REQUEST,
         ),
     ] {
-        let mut office = trial_office(alloc)?;
-        let output = answers_to(alloc, &mut office, line.as_bytes())?;
-        assert_eq!(rt; output.as_slice(), told.as_bytes(), "at {line}");
+        converse_anew(&rt, rt.alloc(), &[line], &[told])?;
     }
     Ok(())
 }
 
 #[test]
 fn a_last_line_needs_no_line_feed(rt: HostRuntime) -> Result<(), Fail> {
-    let alloc = rt.alloc();
+    let lines = [ENROL_ANN, SUBMIT_WITHOUT_FEED];
+    converse_anew(&rt, rt.alloc(), &lines, &[DONE, SUBMITTED])
+}
+
+// Has the desk of a new office serve a reader that fails where it is called before each line is answered.
+fn served_in_step(alloc: Global, input: &[u8]) -> Result<(End, Vec<u8>), Fail> {
     let mut office = trial_office(alloc)?;
-    let input = joined(
-        alloc,
-        &[
-            ENROL_ANN,
-            "{\"ask\":\"submit\",\"token\":\"hello\",\"team\":\"blue\",\"profile\":\"web\",\"document\":\"{\\\"capabilities\\\":{}}\"}",
-        ],
-    )?;
-    let wanted = joined(alloc, &[DONE, SUBMITTED])?;
-    let output = answers_to(alloc, &mut office, &input)?;
-    assert_eq!(rt; output.as_slice(), wanted.as_slice());
-    Ok(())
+    let answers = Cell::new(0);
+    let reader = InStep {
+        rest: input,
+        lines: 0,
+        answers: &answers,
+    };
+    let writer = Counting {
+        held: Vec::new(alloc),
+        answers: &answers,
+    };
+    let (end, writer) = serve(alloc, &mut office, reader, writer);
+    Ok((end, writer.held))
 }
 
 #[test]
 fn each_line_is_answered_before_the_reader_is_called_again(rt: HostRuntime) -> Result<(), Fail> {
-    let alloc = rt.alloc();
-    let mut office = trial_office(alloc)?;
-    let input = joined(alloc, &FIRST_PATH)?;
-    let answers = Cell::new(0);
-    let mut reader = Counted::new(InStep {
-        rest: &input,
-        lines: 0,
-        answers: &answers,
-    });
-    let mut writer = Counted::new(Counting {
-        held: Vec::new(alloc),
-        answers: &answers,
-    });
-    desk(&mut office, alloc, &mut reader, &mut writer)?;
-    let wanted = joined(alloc, &FIRST_ANSWERS)?;
-    assert_eq!(rt; writer.into_inner().held.as_slice(), wanted.as_slice());
+    let input = joined(rt.alloc(), &FIRST_PATH)?;
+    let wanted = joined(rt.alloc(), &FIRST_ANSWERS)?;
+    let (end, written) = served_in_step(rt.alloc(), &input)?;
+    assert_eq!(rt;
+        (end.result, written.as_slice()),
+        (Ok(()), wanted.as_slice())
+    );
     Ok(())
 }
 
-#[test]
-fn a_stream_cut_at_any_place_has_the_same_answers(rt: HostRuntime) -> Result<(), Fail> {
-    let alloc = rt.alloc();
-    let mut office = trial_office(alloc)?;
-    let input = joined(alloc, &FIRST_PATH)?;
+// Has the desk serve the first path once for each place where it may be cut.
+fn cut_at_each_place<S: Alter>(
+    rt: &impl Abort,
+    alloc: Global,
+    office: &mut Office<S>,
+) -> Result<(), Fail> {
+    let length = joined(alloc, &FIRST_PATH)?.len();
     let mut answers = &FIRST_ANSWERS;
-    for place in 0..input.len() {
-        let mut reader = Counted::new(Source::new(&input, Giving::CutAt(place)));
-        let mut writer = Counted::new(Vec::new(alloc));
-        desk(&mut office, alloc, &mut reader, &mut writer)?;
-        let wanted = joined(alloc, answers)?;
-        assert_eq!(rt;
-            writer.into_inner().as_slice(),
-            wanted.as_slice(),
-            "at {place}"
-        );
+    for place in 0..length {
+        let manner = (Giving::CutAt(place), Taking::All);
+        take_turn(rt, alloc, office, (&FIRST_PATH, manner, Ok(()), answers))?;
         answers = &SECOND_ANSWERS;
     }
     Ok(())
 }
 
 #[test]
+fn a_stream_cut_at_any_place_has_the_same_answers(rt: HostRuntime) -> Result<(), Fail> {
+    let mut office = trial_office(rt.alloc())?;
+    cut_at_each_place(&rt, rt.alloc(), &mut office)
+}
+
+#[test]
 fn single_bytes_have_the_same_answers_where_each_read_is_interrupted(
     rt: HostRuntime,
 ) -> Result<(), Fail> {
-    let alloc = rt.alloc();
-    let mut office = trial_office(alloc)?;
-    let input = joined(alloc, &FIRST_PATH)?;
-    let mut reader = Counted::new(Source::new(&input, Giving::Interrupted));
-    let mut writer = Counted::new(Sink::new(Vec::new(alloc), Taking::OneByOne));
-    desk(&mut office, alloc, &mut reader, &mut writer)?;
-    let wanted = joined(alloc, &FIRST_ANSWERS)?;
-    assert_eq!(rt; writer.into_inner().held.as_slice(), wanted.as_slice());
-    assert_eq!(rt; reader.faults(), 0);
-    Ok(())
+    let manner = (Giving::Interrupted, Taking::OneByOne);
+    let turn: Turn = (&FIRST_PATH, manner, Ok(()), &FIRST_ANSWERS);
+    take_turns_anew(&rt, rt.alloc(), &[turn])
 }

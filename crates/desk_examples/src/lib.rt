@@ -16,3 +16,5 @@ mod stops;
 mod streams;
 #[cfg(test)]
 mod texts;
+#[cfg(test)]
+mod turns;

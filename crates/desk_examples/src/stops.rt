@@ -1,12 +1,17 @@
 // What stands where a reader or a writer stops the desk.
 
-use crate::offices::{answers_to, joined, trial_office};
-use crate::streams::{Giving, Interrupted, Sink, Source, Taking};
+use crate::offices::{converse, joined, serve, trial_office};
+use crate::streams::{Giving, Interrupted, Taking};
 use crate::texts::{
-    DONE, ENROL_ANN, FIRST_ANSWERS, FIRST_PATH, SAME_AS_OPEN, SECOND_ANSWERS, SUBMIT, SUBMITTED,
+    DONE, ENROL_ANN, FIRST_ANSWERS, FIRST_PATH, SAME_AS_OPEN, SECOND_ANSWERS, SUBMIT,
+    SUBMIT_WITHOUT_FEED, SUBMITTED,
 };
-use counted_io::Counted;
-use desk::{DeskFault, MAX_READS, desk};
+use crate::turns::{Turn, WHOLE, take_turn, take_turns_anew};
+use desk::{DeskFault, MAX_READS};
+use office_desk::Office;
+use sqlite::Alter;
+use std::alloc::Global;
+use std::process::Abort;
 use std::test::Fail;
 
 // How many line feeds there are.
@@ -14,111 +19,97 @@ fn feeds(bytes: &[u8]) -> usize {
     bytes.iter().filter(|b| **b == b'\n').count()
 }
 
+// Has the desk serve the first path once for each read that may fail, where it was served before.
+fn fail_at_each_read<S: Alter>(
+    rt: &impl Abort,
+    alloc: Global,
+    office: &mut Office<S>,
+) -> Result<(), Fail> {
+    let input = joined(alloc, &FIRST_PATH)?;
+    for call in 0..input.len() {
+        let told = feeds(&input[..call]).min(5);
+        let line = told as u64 + 1;
+        let manner = (Giving::FailsAt(call), Taking::All);
+        let ends = Err(DeskFault::Read { line });
+        let answers = &SECOND_ANSWERS[..told];
+        take_turn(rt, alloc, office, (&FIRST_PATH, manner, ends, answers))?;
+    }
+    Ok(())
+}
+
 #[test]
 fn lines_before_a_failing_read_are_answered(rt: HostRuntime) -> Result<(), Fail> {
     let alloc = rt.alloc();
     let mut office = trial_office(alloc)?;
-    let input = joined(alloc, &FIRST_PATH)?;
-    let _ = answers_to(alloc, &mut office, &input)?;
-    for call in 0..input.len() {
-        let mut reader = Counted::new(Source::new(&input, Giving::FailsAt(call)));
-        let mut writer = Counted::new(Vec::new(alloc));
-        let stopped = desk(&mut office, alloc, &mut reader, &mut writer);
-        let told = feeds(&input[..call]).min(5);
-        let line = told as u64 + 1;
-        assert_eq!(rt; stopped, Err(DeskFault::Read { line }), "at {call}");
-        assert_eq!(rt; reader.faults(), 1);
-        let wanted = joined(alloc, &SECOND_ANSWERS[..told])?;
-        assert_eq!(rt;
-            writer.into_inner().as_slice(),
-            wanted.as_slice(),
-            "at {call}"
-        );
-    }
-    Ok(())
+    converse(&rt, alloc, &mut office, &FIRST_PATH, &FIRST_ANSWERS)?;
+    fail_at_each_read(&rt, alloc, &mut office)
 }
 
 #[test]
 fn answers_before_a_failing_write_are_written(rt: HostRuntime) -> Result<(), Fail> {
-    let alloc = rt.alloc();
-    let input = joined(alloc, &FIRST_PATH)?;
     for calls in 0..5usize {
-        let mut office = trial_office(alloc)?;
-        let mut reader = Counted::new(input.as_slice());
-        let mut writer = Counted::new(Sink::new(Vec::new(alloc), Taking::Calls(calls)));
-        let stopped = desk(&mut office, alloc, &mut reader, &mut writer);
         let line = calls as u64 + 1;
-        assert_eq!(rt; stopped, Err(DeskFault::Write { line }));
-        assert_eq!(rt; writer.faults(), 1);
-        let wanted = joined(alloc, &FIRST_ANSWERS[..calls])?;
-        assert_eq!(rt; writer.into_inner().held.as_slice(), wanted.as_slice());
+        let manner = (Giving::Whole, Taking::Calls(calls));
+        let ends = Err(DeskFault::Write { line });
+        let answers = &FIRST_ANSWERS[..calls];
+        take_turns_anew(&rt, rt.alloc(), &[(&FIRST_PATH, manner, ends, answers)])?;
     }
     Ok(())
 }
 
+const NOTHING_TAKEN: [Turn; 1] = [(
+    &[ENROL_ANN],
+    (Giving::Whole, Taking::Nothing),
+    Err(DeskFault::Write { line: 1 }),
+    &[],
+)];
+
 #[test]
 fn a_writer_that_takes_no_byte_has_failed(rt: HostRuntime) -> Result<(), Fail> {
-    let alloc = rt.alloc();
-    let mut office = trial_office(alloc)?;
-    let mut reader = Counted::new(ENROL_ANN.as_bytes());
-    let mut writer = Counted::new(Sink::new(Vec::new(alloc), Taking::Nothing));
-    let stopped = desk(&mut office, alloc, &mut reader, &mut writer);
-    assert_eq!(rt; stopped, Err(DeskFault::Write { line: 1 }));
-    assert_eq!(rt; writer.faults(), 1);
-    assert!(rt; writer.into_inner().held.is_empty());
-    Ok(())
+    take_turns_anew(&rt, rt.alloc(), &NOTHING_TAKEN)
 }
+
+const LINE_CUT: [Turn; 2] = [
+    (
+        &[ENROL_ANN, SUBMIT_WITHOUT_FEED],
+        (Giving::FailsAtEnd, Taking::All),
+        Err(DeskFault::Read { line: 2 }),
+        &[DONE],
+    ),
+    (&[SUBMIT], WHOLE, Ok(()), &[SUBMITTED]),
+];
 
 #[test]
 fn a_line_that_the_reader_cuts_is_not_handled(rt: HostRuntime) -> Result<(), Fail> {
-    let alloc = rt.alloc();
-    let mut office = trial_office(alloc)?;
-    let whole =
-        "{\"ask\":\"submit\",\"token\":\"hello\",\"team\":\"blue\",\"profile\":\"web\",\"document\":\"{\\\"capabilities\\\":{}}\"}";
-    let input = joined(alloc, &[ENROL_ANN, whole])?;
-    let mut reader = Counted::new(Source::new(&input, Giving::FailsAt(input.len())));
-    let mut writer = Counted::new(Vec::new(alloc));
-    let stopped = desk(&mut office, alloc, &mut reader, &mut writer);
-    assert_eq!(rt; stopped, Err(DeskFault::Read { line: 2 }));
-    assert_eq!(rt; reader.faults(), 1);
-    assert_eq!(rt; writer.into_inner().as_slice(), DONE.as_bytes());
-    let output = answers_to(alloc, &mut office, SUBMIT.as_bytes())?;
-    assert_eq!(rt; output.as_slice(), SUBMITTED.as_bytes());
-    Ok(())
+    take_turns_anew(&rt, rt.alloc(), &LINE_CUT)
 }
 
 #[test]
 fn a_reader_is_not_called_without_end(rt: HostRuntime) -> Result<(), Fail> {
-    let alloc = rt.alloc();
-    let mut office = trial_office(alloc)?;
-    let mut reader = Counted::new(Interrupted);
-    let mut writer = Counted::new(Vec::new(alloc));
-    let stopped = desk(&mut office, alloc, &mut reader, &mut writer);
-    assert_eq!(rt; stopped, Err(DeskFault::TooManyReads { line: 1 }));
-    assert_eq!(rt; reader.calls(), MAX_READS);
-    assert_eq!(rt; reader.faults(), 0);
-    assert!(rt; writer.into_inner().is_empty());
+    let mut office = trial_office(rt.alloc())?;
+    let written = Vec::new(rt.alloc());
+    let (end, written) = serve(rt.alloc(), &mut office, Interrupted, written);
+    assert_eq!(rt;
+        (end.result, end.reads, end.failed_reads, written.len()),
+        (Err(DeskFault::TooManyReads { line: 1 }), MAX_READS, 0, 0)
+    );
     Ok(())
 }
 
+const ANSWER_CUT: [Turn; 3] = [
+    (&[ENROL_ANN], WHOLE, Ok(()), &[DONE]),
+    (
+        &[SUBMIT],
+        (Giving::Whole, Taking::Bytes(10)),
+        Err(DeskFault::Write { line: 1 }),
+        &["{\"answer\":"],
+    ),
+    (&[SUBMIT], WHOLE, Ok(()), &[SAME_AS_OPEN]),
+];
+
 #[test]
 fn a_submission_whose_answer_is_cut_stands(rt: HostRuntime) -> Result<(), Fail> {
-    let alloc = rt.alloc();
-    let mut office = trial_office(alloc)?;
-    let output = answers_to(alloc, &mut office, ENROL_ANN.as_bytes())?;
-    assert_eq!(rt; output.as_slice(), DONE.as_bytes());
-    let mut reader = Counted::new(SUBMIT.as_bytes());
-    let mut writer = Counted::new(Sink::new(Vec::new(alloc), Taking::Bytes(10)));
-    let stopped = desk(&mut office, alloc, &mut reader, &mut writer);
-    assert_eq!(rt; stopped, Err(DeskFault::Write { line: 1 }));
-    assert_eq!(rt; writer.faults(), 1);
-    assert_eq!(rt;
-        writer.into_inner().held.as_slice(),
-        b"{\"answer\":".as_slice()
-    );
-    let output = answers_to(alloc, &mut office, SUBMIT.as_bytes())?;
-    assert_eq!(rt; output.as_slice(), SAME_AS_OPEN.as_bytes());
-    Ok(())
+    take_turns_anew(&rt, rt.alloc(), &ANSWER_CUT)
 }
 
 #[test]

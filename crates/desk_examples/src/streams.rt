@@ -5,14 +5,18 @@ use std::io;
 use std::io::{ErrorKind, Read, Write};
 
 // How a reader gives its bytes.
-#[derive(Clone, Copy)]
+#[derive(Clone, Copy, Debug)]
 pub enum Giving {
+    // All that there is room for.
+    Whole,
     // First this many, then the others.
     CutAt(usize),
     // One a call, each after a call that is interrupted.
     Interrupted,
     // One a call, and this call fails, the first being 0.
     FailsAt(usize),
+    // One a call, and the call after the last byte fails.
+    FailsAtEnd,
 }
 
 // A reader of bytes.
@@ -36,11 +40,14 @@ impl<'a> Source<'a> {
     fn most(&self) -> io::Result<usize> {
         match self.giving {
             Giving::CutAt(place) if self.calls == 0 && place > 0 => Ok(place),
-            Giving::CutAt(_) => Ok(self.rest.len()),
+            Giving::CutAt(_) | Giving::Whole => Ok(self.rest.len()),
             Giving::Interrupted if self.calls % 2 == 0 => {
                 Err(io::Error::from(ErrorKind::Interrupted))
             }
             Giving::FailsAt(call) if self.calls == call => {
+                Err(io::Error::from(ErrorKind::BrokenPipe))
+            }
+            Giving::FailsAtEnd if self.rest.is_empty() => {
                 Err(io::Error::from(ErrorKind::BrokenPipe))
             }
             _ => Ok(1),
@@ -70,8 +77,10 @@ impl Read for Interrupted {
 }
 
 // How a writer takes its bytes.
-#[derive(Clone, Copy)]
+#[derive(Clone, Copy, Debug)]
 pub enum Taking {
+    // All that it is given.
+    All,
     // All that it is given, in this many calls; then it fails.
     Calls(usize),
     // This many bytes in all; then it fails.
@@ -107,6 +116,7 @@ impl Sink {
                 self.taking = Taking::Bytes(room - count);
                 Ok(count)
             }
+            Taking::All => Ok(given),
             Taking::OneByOne => Ok(given.min(1)),
             Taking::Nothing => Ok(0),
         }

@@ -7,6 +7,13 @@ pub const ENROL_ANN: &str =
 pub const SUBMIT: &str =
     "{\"ask\":\"submit\",\"token\":\"hello\",\"team\":\"blue\",\"profile\":\"web\",\"document\":\"{\\\"capabilities\\\":{}}\"}\n";
 
+// The same at the end of a stream.
+pub const SUBMIT_WITHOUT_FEED: &str =
+    "{\"ask\":\"submit\",\"token\":\"hello\",\"team\":\"blue\",\"profile\":\"web\",\"document\":\"{\\\"capabilities\\\":{}}\"}";
+
+pub const SUBMIT_NULL: &str =
+    "{\"ask\":\"submit\",\"token\":\"hello\",\"team\":\"blue\",\"profile\":\"web\",\"document\":\"{\\\"capabilities\\\":null}\"}\n";
+
 pub const SHOW: &str =
     "{\"ask\":\"show\",\"token\":\"hello\",\"team\":\"blue\",\"profile\":\"web\",\"revision\":1}\n";
 
@@ -29,6 +36,9 @@ pub const ROLE_MISSING: &str = "{\"answer\":\"denied\",\"rule\":2,\"word\":\"rol
 pub const NO_REVISION: &str = "{\"answer\":\"denied\",\"rule\":4,\"word\":\"no-revision\"}\n";
 
 pub const SAME_AS_OPEN: &str = "{\"answer\":\"denied\",\"rule\":5,\"word\":\"same-as-open\"}\n";
+
+pub const WRONG_SHAPE: &str =
+    "{\"answer\":\"denied\",\"fault\":\"wrong-shape /capabilities\",\"rule\":4,\"word\":\"document\"}\n";
 
 pub const CALLER_UNKNOWN: &str = "{\"answer\":\"denied\",\"rule\":1,\"word\":\"caller-unknown\"}\n";
 
