@@ -128,8 +128,8 @@ pub fn request(alloc: Global, kind: Kind, about: &About) -> Result<Request> {
 }
 
 /// Whether the request was carried out; a revision that was handed in is what later requests are about.
-pub fn is_done(about: &mut About, answer: &Answer) -> bool {
-    match answer {
+pub fn is_done(about: &mut About, answer: Answer) -> bool {
+    match &answer {
         Answer::Done(Reply::Submitted { digest, revision }) => {
             about.digest = *digest;
             about.revision = *revision;

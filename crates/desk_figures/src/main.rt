@@ -7,6 +7,7 @@
 //! microseconds a request took. Without words the numbers are small, in memory and in `office.db`, which is removed.
 #![tactic(auto)]
 
+ghost use Rattle.std.specs.Prelude.{IfOk};
 ghost use Rattle.sqlite.specs.Held.{state};
 ghost use Rattle.office_store.specs.Shown.{IsIdle};
 
@@ -41,27 +42,54 @@ fn ask_timed<S: Alter>(rt: &HostRuntime, office: &mut Office<S>, count: u32) -> 
     timed::time_requests(rt, office, Profiles::Long, count)
 }
 
-fn in_memory(rt: &HostRuntime, sizes: &Sizes) -> Result<()> {
-    println!(rt; "{} users, in memory", sizes.count)?;
-    let mut conn = Connection::open_in_memory(rt.alloc())?;
-    fill_timed(rt, &mut conn, sizes)?;
+// What is done once a store is open.
+#[derive(Clone, Copy)]
+enum Step {
+    Fill,
+    Ask,
+}
+
+// Takes a step over a connection, and hands it back.
+fn take<S: Alter + Drop>(
+    rt: &HostRuntime,
+    conn: Connection<S>,
+    step: Step,
+    sizes: &Sizes,
+) -> Result<Connection<S>>
+    requires { IsIdle (state S.Store conn) }
+    ensures { IfOk result (λ conn. IsIdle (state S.Store conn)) }
+{
+    if let Step::Fill = step {
+        let mut conn = conn;
+        fill_timed(rt, &mut conn, sizes)?;
+        return Ok(conn);
+    }
     let Ok(mut office) = Office::over(conn) else {
         bail!("no office")
     };
-    ask_timed(rt, &mut office, sizes.count)
+    ask_timed(rt, &mut office, sizes.count)?;
+    Ok(office.into_connection())
+}
+
+fn in_memory(rt: &HostRuntime, sizes: &Sizes) -> Result<()> {
+    println!(rt; "{} users, in memory", sizes.count)?;
+    let conn = Connection::open_in_memory(rt.alloc())?;
+    let conn = take(rt, conn, Step::Fill, sizes)?;
+    take(rt, conn, Step::Ask, sizes)?;
+    Ok(())
+}
+
+// Opens the file, takes a step and closes it.
+fn take_in_file(rt: &HostRuntime, path: &str, step: Step, sizes: &Sizes) -> Result<()> {
+    let conn = Connection::open(rt, path)?;
+    take(rt, conn, step, sizes)?.close()?;
+    Ok(())
 }
 
 fn in_file(rt: &HostRuntime, path: &str, sizes: &Sizes) -> Result<()> {
     println!(rt; "{} users, in a file", sizes.count)?;
-    let mut conn = Connection::open(rt, path)?;
-    fill_timed(rt, &mut conn, sizes)?;
-    conn.close()?;
-    let Ok(mut office) = Office::over(Connection::open(rt, path)?) else {
-        bail!("no office")
-    };
-    ask_timed(rt, &mut office, sizes.count)?;
-    office.into_connection().close()?;
-    Ok(())
+    take_in_file(rt, path, Step::Fill, sizes)?;
+    take_in_file(rt, path, Step::Ask, sizes)
 }
 
 // Does so in memory, and in a file that is removed.
@@ -90,18 +118,22 @@ fn sizes(count: &str, revisions: &str, size: &str) -> Result<Sizes> {
     })
 }
 
-fn main(rt: HostRuntime) -> Result<()> {
-    let words: Vec<String> = env::args(&rt)?.collect(rt.alloc())?;
-    match words.as_slice() {
-        [_] => small(&rt),
+fn run(rt: &HostRuntime, words: &[String]) -> Result<()> {
+    match words {
+        [_] => small(rt),
         [_, count, revisions, size] => {
             let sizes = sizes(count.as_str(), revisions.as_str(), size.as_str())?;
-            in_memory(&rt, &sizes)
+            in_memory(rt, &sizes)
         }
         [_, count, revisions, size, path] => {
             let sizes = sizes(count.as_str(), revisions.as_str(), size.as_str())?;
-            in_file(&rt, path.as_str(), &sizes)
+            in_file(rt, path.as_str(), &sizes)
         }
         _ => bail!("usage: desk_figures [COUNT REVISIONS SIZE [FILE]]"),
     }
+}
+
+fn main(rt: HostRuntime) -> Result<()> {
+    let words: Vec<String> = env::args(&rt)?.collect(rt.alloc())?;
+    run(&rt, words.as_slice())
 }

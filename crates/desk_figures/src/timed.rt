@@ -4,8 +4,9 @@ use crate::kind::{About, KINDS, Kind, is_done, request};
 use crate::sample::Profiles;
 use anyhow::Result;
 use office_desk::Office;
+use review_policy::Request;
 use sqlite::Alter;
-use std::time::Instant;
+use std::time::{Duration, Instant};
 
 /// How often a request of each kind is made at most.
 const MOST_TIMES: u32 = 100;
@@ -23,6 +24,20 @@ fn spread(index: u32, count: u32) -> u32 {
     index.wrapping_mul(7919).checked_rem(count).unwrap_or(0)
 }
 
+// Makes a request: whether it was carried out, and how long that took.
+fn time_request<S: Alter>(
+    rt: &HostRuntime,
+    office: &mut Office<S>,
+    request: &Request,
+    about: &mut About,
+) -> Result<(bool, Duration)> {
+    let start = Instant::now(rt)?;
+    let answer = office.handle(rt.alloc(), request);
+    let time = start.elapsed(rt);
+    let is_done = is_done(about, answer);
+    Ok((is_done, time?))
+}
+
 // Makes a request of a figure's kind, and adds what it came to.
 fn make<S: Alter>(
     rt: &HostRuntime,
@@ -31,11 +46,9 @@ fn make<S: Alter>(
     about: &mut About,
 ) -> Result<()> {
     let request = request(rt.alloc(), figure.kind, about)?;
-    let start = Instant::now(rt)?;
-    let answer = office.handle(rt.alloc(), &request);
-    let time = start.elapsed(rt)?;
+    let (is_done, time) = time_request(rt, office, &request, about)?;
     figure.nanoseconds = figure.nanoseconds.wrapping_add(time.as_nanos());
-    if is_done(about, &answer) {
+    if is_done {
         figure.done = figure.done.wrapping_add(1);
     }
     Ok(())
