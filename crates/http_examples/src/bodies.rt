@@ -1,11 +1,30 @@
 // Bodies that are refused, and bodies that are not.
 
-use crate::messages::request;
-use crate::offices::{Trial, assert_heard, assert_refused};
+use crate::messages::Message;
+use crate::messages::Message::{Ask, Submission};
+use crate::offices::Trial;
 use crate::texts::{ANN, APPROVE_BARE};
+use crate::turns::{HEARD, NOT_A_REQUEST, assert_told, told_alike};
+use std::alloc::Global;
+use std::process::Abort;
 use std::test::Fail;
 
-const NOT_A_REQUEST: (&str, &str) = ("400 Bad Request", "not-a-request");
+// That none of these lines, by this token, is a request with any of these bodies.
+fn assert_no_requests(
+    rt: &impl Abort,
+    alloc: Global,
+    office: &mut Trial,
+    lines: &[&str],
+    token: &str,
+    bodies: &[&str],
+) -> Result<(), Fail> {
+    for line in lines.iter() {
+        for body in bodies.iter() {
+            assert_told(rt, alloc, office, Ask(line, token, body), NOT_A_REQUEST)?;
+        }
+    }
+    Ok(())
+}
 
 // What has no body.
 const WITHOUT_BODY: [&str; 9] = [
@@ -24,19 +43,8 @@ const WITHOUT_BODY: [&str; 9] = [
 fn a_body_where_none_is_asked_is_refused(rt: HostRuntime) -> Result<(), Fail> {
     let alloc = rt.alloc();
     let mut office = Trial::new(alloc)?;
-    for line in WITHOUT_BODY.iter() {
-        for body in [" ", "\r\n", "{}"] {
-            let message = request(alloc, line, "nobody", body)?;
-            assert_refused(
-                &rt,
-                alloc,
-                &mut office,
-                message.as_str().as_bytes(),
-                NOT_A_REQUEST,
-            )?;
-        }
-    }
-    Ok(())
+    let bodies = [" ", "\r\n", "{}"];
+    assert_no_requests(&rt, alloc, &mut office, &WITHOUT_BODY, "nobody", &bodies)
 }
 
 // Bodies that don't enrol.
@@ -57,19 +65,10 @@ const NO_ENROLMENT: [&str; 11] = [
 #[test]
 fn a_body_enrols_with_just_its_members(rt: HostRuntime) -> Result<(), Fail> {
     let alloc = rt.alloc();
+    let line = "POST /users";
     let mut office = Trial::new(alloc)?;
-    for body in NO_ENROLMENT.iter() {
-        let message = request(alloc, "POST /users", "abc", body)?;
-        assert_refused(
-            &rt,
-            alloc,
-            &mut office,
-            message.as_str().as_bytes(),
-            NOT_A_REQUEST,
-        )?;
-    }
-    let message = request(alloc, "POST /users", "nobody", ANN)?;
-    assert_heard(&rt, alloc, &mut office, message.as_str().as_bytes())
+    assert_no_requests(&rt, alloc, &mut office, &[line], "abc", &NO_ENROLMENT)?;
+    assert_told(&rt, alloc, &mut office, Ask(line, "nobody", ANN), HEARD)
 }
 
 // Bodies that don't vote.
@@ -86,34 +85,21 @@ const NO_VOTE: [&str; 7] = [
 #[test]
 fn a_body_votes_with_just_its_members(rt: HostRuntime) -> Result<(), Fail> {
     let alloc = rt.alloc();
+    let line = "POST /p/blue/web/1/vote";
     let mut office = Trial::new(alloc)?;
-    for body in NO_VOTE.iter() {
-        let message = request(alloc, "POST /p/blue/web/1/vote", "nobody", body)?;
-        assert_refused(
-            &rt,
-            alloc,
-            &mut office,
-            message.as_str().as_bytes(),
-            NOT_A_REQUEST,
-        )?;
-    }
-    let message = request(alloc, "POST /p/blue/web/1/vote", "nobody", APPROVE_BARE)?;
-    assert_heard(&rt, alloc, &mut office, message.as_str().as_bytes())
+    assert_no_requests(&rt, alloc, &mut office, &[line], "nobody", &NO_VOTE)?;
+    let vote = Ask(line, "nobody", APPROVE_BARE);
+    assert_told(&rt, alloc, &mut office, vote, HEARD)
 }
+
+const SUBMISSIONS: [Message; 4] = [
+    Submission(b""),
+    Submission(b"{"),
+    Submission(b"\0"),
+    Submission(b"\xff\xfe\r\n\r\n"),
+];
 
 #[test]
 fn a_submission_has_any_body(rt: HostRuntime) -> Result<(), Fail> {
-    let alloc = rt.alloc();
-    let mut office = Trial::new(alloc)?;
-    for body in [b"".as_slice(), b"{", b"\0", b"\xff\xfe\r\n\r\n"] {
-        let length = body.len();
-        let head = format!(in alloc;
-            "POST /p/blue/web HTTP/1.1\r\nHost: office\r\nAuthorization: Bearer nobody\r\n\
-             Content-Length: {length}\r\n\r\n"
-        )?;
-        let mut message = Vec::from_slice(alloc, head.as_str().as_bytes())?;
-        message.extend_from_slice(body)?;
-        assert_heard(&rt, alloc, &mut office, &message)?;
-    }
-    Ok(())
+    told_alike(&rt, rt.alloc(), &SUBMISSIONS, HEARD)
 }

@@ -1,14 +1,12 @@
 // Conversations over HTTP alone.
 
-use crate::messages::request;
-use crate::offices::{Trial, answer_to};
 use crate::texts::{
-    ALREADY_HELD, APPROVALS_SHORT, APPROVE_BARE, BARE, BARE_TEXT, HELD, ISSUED, LISTED_ISSUED,
-    LISTED_OPEN, NO_SHAPE, NONE_LISTED, NOT_HELD, NOT_ISSUED, NOT_STANDING, NOTHING_ISSUED,
-    REJECT_BARE, REJECTED, ROLE_MISSING, SHOWN_OPEN, SUBMITTED, SUBMITTED_AGAIN,
+    ALREADY_HELD, APPROVALS_SHORT, APPROVE_BARE, BARE, BARE_TEXT, DONE_RESPONSE, HELD, ISSUED,
+    LISTED_ISSUED, LISTED_OPEN, NO_SHAPE, NONE_LISTED, NOT_HELD, NOT_ISSUED, NOT_STANDING,
+    NOTHING_ISSUED, REJECT_BARE, REJECTED, ROLE_MISSING, SHOWN_OPEN, SUBMITTED, SUBMITTED_AGAIN,
 };
-use crate::turns::Told::{Denied, Done, Json, Sheet};
-use crate::turns::{Turn, converse};
+use crate::turns::Told::{Denied, Done, Json, Sheet, Whole};
+use crate::turns::{Turn, told_after};
 use std::test::Fail;
 
 // The sheet after one vote.
@@ -84,39 +82,23 @@ const FROM_THE_ISSUE: [Turn; 15] = [
 
 #[test]
 fn a_profile_is_reviewed_and_issued_and_withdrawn(rt: HostRuntime) -> Result<(), Fail> {
-    let alloc = rt.alloc();
-    let mut office = Trial::with_cast(&rt, alloc)?;
-    converse(&rt, alloc, &mut office, &TO_THE_ISSUE)?;
-    converse(&rt, alloc, &mut office, &FROM_THE_ISSUE)
+    told_after(&rt, rt.alloc(), &TO_THE_ISSUE, &FROM_THE_ISSUE)
 }
+
+const PROFILE_FETCHED: &str =
+    "HTTP/1.1 200 OK\r\nContent-Type: application/json\r\nContent-Length: 92\r\n\
+     Connection: close\r\n\r\n\
+     {\"capabilities\":{\"ambient\":[],\"bounding\":[],\"effective\":[],\"inheritable\":[],\"permitted\":[]}}";
+
+const WHOLE_RESPONSES: [Turn; 3] = [
+    ("POST /hold/blue/web", "t-sue", "", Whole(DONE_RESPONSE)),
+    ("POST /release/blue/web", "t-sue", "", Done),
+    ("GET /issued/blue/web", "t-m1", "", Whole(PROFILE_FETCHED)),
+];
 
 #[test]
 fn what_is_done_and_what_is_fetched_have_their_lengths(rt: HostRuntime) -> Result<(), Fail> {
-    let alloc = rt.alloc();
-    let mut office = Trial::with_cast(&rt, alloc)?;
-    converse(&rt, alloc, &mut office, &TO_THE_ISSUE)?;
-    let message = request(alloc, "POST /hold/blue/web", "t-sue", "")?;
-    let answer = answer_to(alloc, &mut office, message.as_str().as_bytes())?;
-    assert_eq!(rt;
-        answer.as_str(),
-        "HTTP/1.1 200 OK\r\nContent-Type: application/json\r\nContent-Length: 17\r\n\
-         Connection: close\r\n\r\n{\"answer\":\"done\"}"
-    );
-    converse(
-        &rt,
-        alloc,
-        &mut office,
-        &[("POST /release/blue/web", "t-sue", "", Done)],
-    )?;
-    let message = request(alloc, "GET /issued/blue/web", "t-m1", "")?;
-    let answer = answer_to(alloc, &mut office, message.as_str().as_bytes())?;
-    assert_eq!(rt;
-        answer.as_str(),
-        "HTTP/1.1 200 OK\r\nContent-Type: application/json\r\nContent-Length: 92\r\n\
-         Connection: close\r\n\r\n\
-         {\"capabilities\":{\"ambient\":[],\"bounding\":[],\"effective\":[],\"inheritable\":[],\"permitted\":[]}}"
-    );
-    Ok(())
+    told_after(&rt, rt.alloc(), &TO_THE_ISSUE, &WHOLE_RESPONSES)
 }
 
 const REFUSED_DOCUMENTS: [Turn; 3] = [
@@ -137,7 +119,5 @@ const REFUSED_DOCUMENTS: [Turn; 3] = [
 
 #[test]
 fn a_document_that_is_none_is_denied_with_its_fault(rt: HostRuntime) -> Result<(), Fail> {
-    let alloc = rt.alloc();
-    let mut office = Trial::with_cast(&rt, alloc)?;
-    converse(&rt, alloc, &mut office, &REFUSED_DOCUMENTS)
+    told_after(&rt, rt.alloc(), &[], &REFUSED_DOCUMENTS)
 }

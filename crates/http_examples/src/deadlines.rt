@@ -1,8 +1,9 @@
 // Exchanges until a deadline, by a clock that counts a second more at each look.
 
 use crate::clocks::{Broken, Stepping};
-use crate::messages::request;
-use crate::offices::Trial;
+use crate::messages::Message::Ask;
+use crate::offices::{Exchange, Trial};
+use crate::streams::{Giving, Sink, Source, Taking};
 use crate::texts::ANN;
 use crate::turns::Told::Done;
 use crate::turns::message_of;
@@ -12,22 +13,20 @@ use std::alloc::Global;
 use std::cell::Cell;
 use std::io;
 use std::io::{ErrorKind, Read, Write};
+use std::process::Abort;
 use std::test::Fail;
-use std::time::Duration;
+use std::time::{Clock, Duration};
 
-// A reader that gives a byte a call, and tells its last time-out.
+// A reader that tells its last time-out.
 #[derive(Drop)]
 struct SlowReader<'a> {
-    rest: &'a [u8],
+    source: Source<'a>,
     left: &'a Cell<Duration>,
 }
 
 impl Read for SlowReader<'_> {
     fn read(&mut self, buf: &mut [u8]) -> io::Result<usize> {
-        let count = self.rest.len().min(buf.len()).min(1);
-        buf[..count].copy_from_slice(&self.rest[..count]);
-        self.rest = &self.rest[count..];
-        Ok(count)
+        self.source.read(buf)
     }
 }
 
@@ -42,18 +41,16 @@ impl Timeouts for SlowReader<'_> {
     }
 }
 
-// A writer that takes a byte a call, and tells its last time-out.
+// A writer that tells its last time-out.
 #[derive(Drop)]
 struct SlowWriter<'a> {
-    held: &'a mut Vec<u8>,
+    sink: &'a mut Sink,
     left: &'a Cell<Duration>,
 }
 
 impl Write for SlowWriter<'_> {
     fn write(&mut self, buf: &[u8]) -> io::Result<usize> {
-        let count = buf.len().min(1);
-        self.held.extend_from_slice(&buf[..count])?;
-        Ok(count)
+        self.sink.write(buf)
     }
 
     fn flush(&mut self) -> io::Result<()> {
@@ -92,46 +89,72 @@ impl Timeouts for Endless {
     }
 }
 
-// An exchange that was ended by a deadline, or not.
-#[derive(Drop)]
-struct Exchange {
-    served: Result<u16, HttpFault>,
-    written: Vec<u8>,
-    // The time-outs of the last read and the last write.
-    read_left: Duration,
-    write_left: Duration,
+// An exchange that has this many seconds, where each call of the reader and the writer takes one.
+fn serve_within<R: Read + Timeouts + Drop, W: Write + Timeouts + Drop>(
+    alloc: Global,
+    office: &mut Trial,
+    reader: R,
+    writer: W,
+    seconds: u64,
+) -> io::Result<Exchange> {
+    let clock = Stepping::new();
+    let deadline = Deadline::after(&clock, Duration::from_secs(seconds))?;
+    let input = Timed::new(reader, &deadline);
+    let mut output = Timed::new(writer, &deadline);
+    Ok(office.serve(alloc, input, &mut output))
 }
 
-// An exchange that has this many seconds, where each call of the reader and the writer takes one.
-fn exchange_within(
+// How a message is served, and the time-outs of the last read and the last write.
+type Waited = (Result<u16, HttpFault>, Duration, Duration);
+
+// Serves a message that is read and answered a byte a call.
+fn wait(
+    alloc: Global,
+    office: &mut Trial,
+    message: &[u8],
+    output: &mut Sink,
+    seconds: u64,
+) -> io::Result<Waited> {
+    let (read_left, write_left) = (Cell::new(Duration::ZERO), Cell::new(Duration::ZERO));
+    let reader = SlowReader {
+        source: Source::new(message, Giving::OneByOne),
+        left: &read_left,
+    };
+    let writer = SlowWriter {
+        sink: output,
+        left: &write_left,
+    };
+    let exchange = serve_within(alloc, office, reader, writer, seconds)?;
+    Ok((exchange.served, read_left.get(), write_left.get()))
+}
+
+// That the message is served so within these seconds, and that this is written.
+fn assert_written(
+    rt: &impl Abort,
     alloc: Global,
     office: &mut Trial,
     message: &[u8],
     seconds: u64,
-) -> Result<Exchange, Fail> {
-    let clock = Stepping::new();
-    let deadline = Deadline::after(&clock, Duration::from_secs(seconds))?;
-    let (read_left, write_left) = (Cell::new(Duration::ZERO), Cell::new(Duration::ZERO));
-    let mut written = Vec::new(alloc);
-    let slow_reader = SlowReader {
-        rest: message,
-        left: &read_left,
-    };
-    let slow_writer = SlowWriter {
-        held: &mut written,
-        left: &write_left,
-    };
-    let exchange = office.serve(
-        alloc,
-        Timed::new(slow_reader, &deadline),
-        Timed::new(slow_writer, &deadline),
+    served: Result<u16, HttpFault>,
+    written: &[u8],
+) -> Result<(), Fail> {
+    let mut output = Sink::new(Vec::new(alloc), Taking::OneByOne);
+    let waited = wait(alloc, office, message, &mut output, seconds)?;
+    assert_eq!(rt;
+        (waited.0, output.held.as_slice()),
+        (served, written),
+        "at {seconds}"
     );
-    Ok(Exchange {
-        served: exchange.served,
-        written,
-        read_left: read_left.get(),
-        write_left: write_left.get(),
-    })
+    Ok(())
+}
+
+// How a message of this length is served, and how many of these bytes are written, where there is time for that many calls.
+fn served_in(calls: usize, reads: usize, writes: usize) -> (Result<u16, HttpFault>, usize) {
+    match calls.checked_sub(reads) {
+        None => (Err(HttpFault::Read), 0),
+        Some(count) if count < writes => (Err(HttpFault::Write { status: 200 }), count),
+        Some(_) => (Ok(200), writes),
+    }
 }
 
 // The first of the bytes, as many as that, or all.
@@ -140,34 +163,51 @@ fn front_part(bytes: &[u8], count: usize) -> &[u8] {
 }
 
 // Each second is a look at the clock: one where the exchange begins, and one before each call of the reader and of the writer.
+fn assert_each_deadline(
+    rt: &impl Abort,
+    alloc: Global,
+    office: &mut Trial,
+    message: &[u8],
+    answer: &[u8],
+) -> Result<(), Fail> {
+    let (reads, writes) = (message.len(), answer.len());
+    for seconds in 0..reads.saturating_add(writes).saturating_add(3) {
+        let (served, count) = served_in(seconds.saturating_sub(1), reads, writes);
+        let written = front_part(answer, count);
+        assert_written(rt, alloc, office, message, seconds as u64, served, written)?;
+    }
+    Ok(())
+}
+
 #[test]
 fn a_slow_reader_or_writer_fails_at_the_deadline_and_not_before(
     rt: HostRuntime,
 ) -> Result<(), Fail> {
     let alloc = rt.alloc();
-    let mut office = Trial::new(alloc)?;
-    let message = request(alloc, "POST /users", "abc", ANN)?;
+    let message = Ask("POST /users", "abc", ANN).bytes(alloc)?;
     let answer = message_of(alloc, Done)?;
-    let (reads, writes) = (message.len(), answer.len());
-    for seconds in 0..reads.saturating_add(writes).saturating_add(3) {
-        let exchange = exchange_within(
-            alloc,
-            &mut office,
-            message.as_str().as_bytes(),
-            seconds as u64,
-        )?;
-        let calls = seconds.saturating_sub(1);
-        let (served, written) = if calls < reads {
-            (Err(HttpFault::Read), 0)
-        } else if calls - reads < writes {
-            (Err(HttpFault::Write { status: 200 }), calls - reads)
-        } else {
-            (Ok(200), writes)
-        };
-        assert_eq!(rt; exchange.served, served, "at {seconds}");
-        let wanted = front_part(answer.as_str().as_bytes(), written);
-        assert_eq!(rt; exchange.written.as_slice(), wanted, "at {seconds}");
-    }
+    let mut office = Trial::new(alloc)?;
+    assert_each_deadline(
+        &rt,
+        alloc,
+        &mut office,
+        &message,
+        answer.as_str().as_bytes(),
+    )
+}
+
+// That a head of seven bytes is so waited for, and that many bytes are written.
+fn assert_waited(
+    rt: &impl Abort,
+    alloc: Global,
+    office: &mut Trial,
+    seconds: u64,
+    waited: Waited,
+    count: usize,
+) -> Result<(), Fail> {
+    let mut output = Sink::new(Vec::new(alloc), Taking::OneByOne);
+    let told = wait(alloc, office, b"GET\r\n\r\n", &mut output, seconds)?;
+    assert_eq!(rt; (told, output.held.len()), (waited, count));
     Ok(())
 }
 
@@ -175,45 +215,84 @@ fn a_slow_reader_or_writer_fails_at_the_deadline_and_not_before(
 fn each_call_may_wait_as_long_as_is_left(rt: HostRuntime) -> Result<(), Fail> {
     let alloc = rt.alloc();
     let mut office = Trial::new(alloc)?;
-    let message = b"GET\r\n\r\n";
-    let first = exchange_within(alloc, &mut office, message, 1)?;
-    assert_eq!(rt; first.served, Err(HttpFault::Read));
-    assert_eq!(rt; first.read_left, Duration::ZERO);
+    let late = (Err(HttpFault::Read), Duration::ZERO, Duration::ZERO);
+    assert_waited(&rt, alloc, &mut office, 1, late, 0)?;
     // Seven reads, and 133 writes.
-    let whole = exchange_within(alloc, &mut office, message, 1000)?;
-    assert_eq!(rt; whole.served, Ok(400));
-    assert_eq!(rt; whole.read_left, Duration::from_secs(993));
-    assert_eq!(rt; whole.written.len(), 133);
-    assert_eq!(rt; whole.write_left, Duration::from_secs(860));
+    let whole = (Ok(400), Duration::from_secs(993), Duration::from_secs(860));
+    assert_waited(&rt, alloc, &mut office, 1000, whole, 133)
+}
+
+fn left_until<C: Clock>(deadline: &Deadline<C>) -> Result<Duration, ErrorKind> {
+    match deadline.left() {
+        Ok(left) => Ok(left),
+        Err(error) => Err(error.kind()),
+    }
+}
+
+// That a deadline after this long tells this, look by look.
+fn assert_left<C: Clock>(
+    rt: &impl Abort,
+    clock: &C,
+    length: Duration,
+    wanted: &[Result<Duration, ErrorKind>],
+) -> Result<(), Fail> {
+    let deadline = Deadline::after(clock, length)?;
+    for left in wanted.iter() {
+        assert_eq!(rt; left_until(&deadline), *left);
+    }
     Ok(())
 }
 
 #[test]
 fn a_deadline_leaves_less_at_each_look_and_never_nothing(rt: HostRuntime) -> Result<(), Fail> {
     let clock = Stepping::new();
-    let deadline = Deadline::after(&clock, Duration::from_millis(2_500))?;
-    assert_eq!(rt; deadline.left()?, Duration::from_millis(1_500));
-    assert_eq!(rt; deadline.left()?, Duration::from_millis(500));
-    for _ in 0..3 {
-        assert!(rt; matches!(deadline.left(), Err(e) if e.kind() == ErrorKind::TimedOut));
+    let looks = [
+        Ok(Duration::from_millis(1_500)),
+        Ok(Duration::from_millis(500)),
+        Err(ErrorKind::TimedOut),
+        Err(ErrorKind::TimedOut),
+        Err(ErrorKind::TimedOut),
+    ];
+    assert_left(&rt, &clock, Duration::from_millis(2_500), &looks)?;
+    let late = [Err(ErrorKind::TimedOut)];
+    assert_left(&rt, &clock, Duration::from_secs(1), &late)
+}
+
+// Why there is no such deadline.
+fn fault_of<C: Clock>(clock: &C, length: Duration) -> Option<ErrorKind> {
+    match Deadline::after(clock, length) {
+        Ok(_) => None,
+        Err(error) => Some(error.kind()),
     }
-    let deadline = Deadline::after(&clock, Duration::from_secs(1))?;
-    assert!(rt; matches!(deadline.left(), Err(e) if e.kind() == ErrorKind::TimedOut));
-    Ok(())
 }
 
 #[test]
 fn a_deadline_is_a_moment_of_the_clock(rt: HostRuntime) -> Result<(), Fail> {
     let clock = Stepping::new();
-    let last = Deadline::after(&clock, Duration::MAX)?;
+    let left = Duration::MAX.saturating_sub(Duration::from_secs(1));
+    assert_left(&rt, &clock, Duration::MAX, &[Ok(left)])?;
+    let past = fault_of(&clock, Duration::MAX);
+    let unread = fault_of(&Broken, Duration::from_secs(1));
     assert_eq!(rt;
-        last.left()?,
-        Duration::MAX.saturating_sub(Duration::from_secs(1))
+        (past, unread),
+        (Some(ErrorKind::InvalidInput), Some(ErrorKind::Unsupported))
     );
-    let past = Deadline::after(&clock, Duration::MAX);
-    assert!(rt; matches!(past, Err(e) if e.kind() == ErrorKind::InvalidInput));
-    let unread = Deadline::after(&Broken, Duration::from_secs(1));
-    assert!(rt; matches!(unread, Err(e) if e.kind() == ErrorKind::Unsupported));
+    Ok(())
+}
+
+// That a stream which can't be given a time-out fails at once.
+fn assert_unread(rt: &impl Abort, alloc: Global, office: &mut Trial) -> Result<(), Fail> {
+    let left = Cell::new(Duration::ZERO);
+    let mut output = Sink::new(Vec::new(alloc), Taking::All);
+    let writer = SlowWriter {
+        sink: &mut output,
+        left: &left,
+    };
+    let exchange = serve_within(alloc, office, Endless, writer, 9)?;
+    assert_eq!(rt;
+        (exchange.served, exchange.faults, output.held.is_empty()),
+        (Err(HttpFault::Read), (1, 0), true)
+    );
     Ok(())
 }
 
@@ -221,11 +300,5 @@ fn a_deadline_is_a_moment_of_the_clock(rt: HostRuntime) -> Result<(), Fail> {
 fn a_stream_without_time_outs_is_not_read(rt: HostRuntime) -> Result<(), Fail> {
     let alloc = rt.alloc();
     let mut office = Trial::new(alloc)?;
-    let clock = Stepping::new();
-    let deadline = Deadline::after(&clock, Duration::from_secs(9))?;
-    let exchange = office.serve(alloc, Timed::new(Endless, &deadline), Vec::new(alloc));
-    assert_eq!(rt; exchange.served, Err(HttpFault::Read));
-    assert_eq!(rt; exchange.read_faults, 1);
-    assert!(rt; exchange.output.is_empty());
-    Ok(())
+    assert_unread(&rt, alloc, &mut office)
 }

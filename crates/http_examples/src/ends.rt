@@ -1,27 +1,31 @@
 // Streams that end too soon.
 
-use crate::messages::request;
-use crate::offices::{Trial, answer_to};
+use crate::messages::Message::{Ask, Bytes};
+use crate::offices::{Trial, assert_ended};
 use crate::texts::{BARE, SUBMITTED};
 use crate::turns::Told::Json;
-use crate::turns::message_of;
-use desk_http::HttpFault;
+use crate::turns::assert_told;
+use std::alloc::Global;
+use std::process::Abort;
 use std::test::Fail;
+
+// That no front part of the message is handled, but the whole of it is.
+fn assert_whole(
+    rt: &impl Abort,
+    alloc: Global,
+    office: &mut Trial,
+    message: &[u8],
+) -> Result<(), Fail> {
+    for place in 0..message.len() {
+        assert_ended(rt, alloc, office, &message[..place]);
+    }
+    assert_told(rt, alloc, office, Bytes(message), Json(SUBMITTED))
+}
 
 #[test]
 fn a_submission_that_is_cut_at_any_place_is_not_handled(rt: HostRuntime) -> Result<(), Fail> {
     let alloc = rt.alloc();
+    let message = Ask("POST /p/blue/web", "t-ann", BARE).bytes(alloc)?;
     let mut office = Trial::with_cast(&rt, alloc)?;
-    let message = request(alloc, "POST /p/blue/web", "t-ann", BARE)?;
-    let bytes = message.as_str().as_bytes();
-    for place in 0..bytes.len() {
-        let exchange = office.serve(alloc, &bytes[..place], Vec::new(alloc));
-        assert_eq!(rt; exchange.served, Err(HttpFault::Ended), "at {place}");
-        assert_eq!(rt; exchange.read_faults, 0);
-        assert!(rt; exchange.output.is_empty());
-    }
-    let answer = answer_to(alloc, &mut office, bytes)?;
-    let wanted = message_of(alloc, Json(SUBMITTED))?;
-    assert_eq!(rt; answer, wanted);
-    Ok(())
+    assert_whole(&rt, alloc, &mut office, &message)
 }

@@ -1,6 +1,6 @@
 // What is told where memory is refused.
 
-use crate::messages::request;
+use crate::messages::Message::Ask;
 use crate::offices::Trial;
 use crate::streams::{Sink, Taking};
 use crate::texts::{
@@ -24,34 +24,32 @@ const TO_THE_FETCH: [Turn; 7] = [
     ("GET /issued/blue/web", "t-m1", "", Json(BARE_TEXT)),
 ];
 
-// Whether what is told of the turn was done: it is answered, or there was no memory for just this answer. Where memory was
-// refused before that, it wasn't.
+// Whether this was done: it is answered as wanted, or there was no memory for just this answer. Where memory was refused before
+// that, it wasn't.
+fn is_told(
+    rt: &impl Abort,
+    alloc: Global,
+    office: &mut Trial,
+    message: &[u8],
+    wanted: &str,
+) -> Result<bool, Fail> {
+    let mut output = Sink::new(Vec::with_capacity(alloc, 1024)?, Taking::Bytes(1024));
+    let (written, is_done) = match office.serve(alloc, message, &mut output).served {
+        Ok(503) => (MEMORY, false),
+        Ok(_) => (wanted, true),
+        Err(HttpFault::NoMemory { status }) => ("", status != 503),
+        Err(_) => return Err(Fail::from("another fault")),
+    };
+    assert_eq!(rt; output.held.as_slice(), written.as_bytes());
+    Ok(is_done)
+}
+
+// Whether what is told of the turn was done.
 fn is_done(rt: &impl Abort, alloc: Global, office: &mut Trial, turn: Turn) -> Result<bool, Fail> {
     let (line, token, body, told) = turn;
-    let message = request(alloc, line, token, body)?;
+    let bytes = Ask(line, token, body).bytes(alloc)?;
     let wanted = message_of(alloc, told)?;
-    let held = Vec::with_capacity(alloc, 1024)?;
-    let exchange = office.serve(
-        alloc,
-        message.as_str().as_bytes(),
-        Sink::new(held, Taking::Bytes(1024)),
-    );
-    let written = exchange.output.held;
-    match exchange.served {
-        Ok(503) => {
-            assert_eq!(rt; written.as_slice(), MEMORY.as_bytes(), "{line}");
-            Ok(false)
-        }
-        Ok(_) => {
-            assert_eq!(rt; written.as_slice(), wanted.as_str().as_bytes(), "{line}");
-            Ok(true)
-        }
-        Err(HttpFault::NoMemory { status }) => {
-            assert!(rt; written.is_empty());
-            Ok(status != 503)
-        }
-        Err(_) => Err(Fail::from("another fault")),
-    }
+    is_told(rt, alloc, office, &bytes, wanted.as_str())
 }
 
 // Asks this, and once more where memory was refused: nothing was done then, so that it is answered as it would have been.
@@ -61,10 +59,21 @@ fn done_at_last(
     office: &mut Trial,
     turn: Turn,
 ) -> Result<(), Fail> {
-    if is_done(rt, alloc, office, turn)? {
-        return Ok(());
+    let is_done = is_done(rt, alloc, office, turn)? || is_done(rt, alloc, office, turn)?;
+    assert!(rt; is_done);
+    Ok(())
+}
+
+// Asks all of these in turn.
+fn done_in_turn(
+    rt: &impl Abort,
+    alloc: Global,
+    office: &mut Trial,
+    turns: &[Turn],
+) -> Result<(), Fail> {
+    for turn in turns.iter() {
+        done_at_last(rt, alloc, office, *turn)?;
     }
-    assert!(rt; is_done(rt, alloc, office, turn)?);
     Ok(())
 }
 
@@ -74,11 +83,6 @@ fn done_at_last(
 fn want_of_memory_is_told_and_does_nothing(rt: HostRuntime) -> Result<(), Fail> {
     let alloc = rt.alloc();
     let mut office = Trial::new(alloc)?;
-    for turn in CAST.iter() {
-        done_at_last(&rt, alloc, &mut office, *turn)?;
-    }
-    for turn in TO_THE_FETCH.iter() {
-        done_at_last(&rt, alloc, &mut office, *turn)?;
-    }
-    Ok(())
+    done_in_turn(&rt, alloc, &mut office, &CAST)?;
+    done_in_turn(&rt, alloc, &mut office, &TO_THE_FETCH)
 }

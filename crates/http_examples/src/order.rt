@@ -1,11 +1,11 @@
 // The order in which a request is looked at.
 
-use crate::messages::refusal;
-use crate::offices::{Trial, answer_to};
-use crate::texts::{ANN, CALLER_UNKNOWN};
-use crate::turns::Told::Denied;
-use crate::turns::converse;
-use desk_http::HttpFault;
+use crate::messages::Message::{Ask, Text};
+use crate::messages::repeated;
+use crate::offices::{Trial, assert_ended};
+use crate::texts::{ANN, DONE_RESPONSE};
+use crate::turns::Told::{Refused, Whole};
+use crate::turns::{HEARD, assert_told, told_alike};
 use std::alloc::Global;
 use std::process::Abort;
 use std::test::Fail;
@@ -13,8 +13,11 @@ use std::test::Fail;
 // The step at which a body that is cut is found.
 const CUT: usize = 10;
 
-// How each step refuses, the first being 1. A body that is cut isn't answered.
-const STEPS: [(usize, &str, &str); 11] = [
+// A step, and how it refuses.
+type Step<'a> = (usize, &'a str, &'a str);
+
+// The steps in their order, the first being 1. A body that is cut isn't answered.
+const STEPS: [Step; 11] = [
     (1, "400 Bad Request", "head-too-long"),
     (2, "400 Bad Request", "bad-head"),
     (3, "400 Bad Request", "bad-host"),
@@ -49,8 +52,7 @@ impl Faults {
 
 // An enrolment of ann by root, as it is where none of these steps is passed.
 fn enrolment_with(alloc: Global, faults: Faults) -> Result<String, Fail> {
-    let padding = if faults.has(1) { 8192 } else { 0 };
-    let padding = "a".repeat(alloc, padding)?;
+    let padding = repeated(alloc, "a", if faults.has(1) { 8192 } else { 0 })?;
     let mut message = [
         faults.text(8, "PUT", "POST"),
         faults.text(7, " /Users", " /users"),
@@ -79,19 +81,25 @@ fn assert_stopped(
     alloc: Global,
     office: &mut Trial,
     faults: Faults,
-    by: (usize, &str, &str),
+    by: Step,
 ) -> Result<(), Fail> {
     let (step, status, word) = by;
     let message = enrolment_with(alloc, faults)?;
     if step == CUT {
-        let exchange = office.serve(alloc, message.as_str().as_bytes(), Vec::new(alloc));
-        assert_eq!(rt; exchange.served, Err(HttpFault::Ended));
-        assert!(rt; exchange.output.is_empty());
+        assert_ended(rt, alloc, office, message.as_str().as_bytes());
         return Ok(());
     }
-    let wanted = refusal(alloc, status, word)?;
-    let answer = answer_to(alloc, office, message.as_str().as_bytes())?;
-    assert_eq!(rt; answer, wanted, "at {} and {}", faults.0, faults.1);
+    let told = Refused(status, word);
+    assert_told(rt, alloc, office, Text(message.as_str()), told)
+}
+
+// That the step refuses what fails it, whichever later step fails it too.
+fn assert_stops(rt: &impl Abort, alloc: Global, office: &mut Trial, by: Step) -> Result<(), Fail> {
+    for later in STEPS.iter() {
+        if later.0 >= by.0 {
+            assert_stopped(rt, alloc, office, Faults(by.0, later.0), by)?;
+        }
+    }
     Ok(())
 }
 
@@ -100,27 +108,16 @@ fn each_step_refuses_what_fails_it_and_any_later_one(rt: HostRuntime) -> Result<
     let alloc = rt.alloc();
     let mut office = Trial::new(alloc)?;
     for by in STEPS.iter() {
-        for later in STEPS.iter() {
-            if later.0 >= by.0 {
-                let faults = Faults(by.0, later.0);
-                assert_stopped(&rt, alloc, &mut office, faults, *by)?;
-            }
-        }
+        assert_stops(&rt, alloc, &mut office, *by)?;
     }
-    let listing = [("GET /p/blue", "t-ann", "", Denied(CALLER_UNKNOWN))];
-    converse(&rt, alloc, &mut office, &listing)
+    let listing = Ask("GET /p/blue", "t-ann", "");
+    assert_told(&rt, alloc, &mut office, listing, HEARD)
 }
 
 #[test]
 fn what_passes_each_step_is_handled(rt: HostRuntime) -> Result<(), Fail> {
     let alloc = rt.alloc();
-    let mut office = Trial::new(alloc)?;
     let message = enrolment_with(alloc, Faults(0, 0))?;
-    let answer = answer_to(alloc, &mut office, message.as_str().as_bytes())?;
-    assert_eq!(rt;
-        answer.as_str(),
-        "HTTP/1.1 200 OK\r\nContent-Type: application/json\r\nContent-Length: 17\r\n\
-         Connection: close\r\n\r\n{\"answer\":\"done\"}"
-    );
-    Ok(())
+    let told = Whole(DONE_RESPONSE);
+    told_alike(&rt, alloc, &[Text(message.as_str())], told)
 }

@@ -1,11 +1,33 @@
 // Targets and methods.
 
-use crate::messages::request;
-use crate::offices::{Trial, answer_to, assert_heard, assert_refused};
+use crate::messages::Message::Ask;
+use crate::messages::repeated;
+use crate::offices::Trial;
 use crate::texts::{ANN, APPROVE_BARE, BARE};
+use crate::turns::Told::Refused;
+use crate::turns::{HEARD, Told, assert_told};
+use std::alloc::Global;
+use std::process::Abort;
 use std::test::Fail;
 
-const NO_ROUTE: (&str, &str) = ("404 Not Found", "no-route");
+const NO_ROUTE: Told = Refused("404 Not Found", "no-route");
+
+// A route: its method, a target of it, and a body of its form.
+type Route<'a> = (&'a str, &'a str, &'a str);
+
+// That a request of this method, target and body is answered so.
+fn assert_route(
+    rt: &impl Abort,
+    alloc: Global,
+    office: &mut Trial,
+    route: Route,
+    told: Told,
+) -> Result<(), Fail> {
+    let (method, target, body) = route;
+    let line = [method, " ", target].concat(alloc)?;
+    let message = Ask(line.as_str(), "nobody", body);
+    assert_told(rt, alloc, office, message, told)
+}
 
 // Targets that have no route, whatever the method.
 const NOWHERE: [&str; 35] = [
@@ -46,51 +68,55 @@ const NOWHERE: [&str; 35] = [
     "/release//web",
 ];
 
+// That the target has no route.
+fn assert_nowhere(
+    rt: &impl Abort,
+    alloc: Global,
+    office: &mut Trial,
+    target: &str,
+) -> Result<(), Fail> {
+    for method in ["GET", "POST", "get"] {
+        assert_route(rt, alloc, office, (method, target, ""), NO_ROUTE)?;
+    }
+    Ok(())
+}
+
 #[test]
 fn a_target_of_another_form_has_no_route(rt: HostRuntime) -> Result<(), Fail> {
     let alloc = rt.alloc();
     let mut office = Trial::new(alloc)?;
     for target in NOWHERE.iter() {
-        for method in ["GET", "POST", "get"] {
-            let line = format!(in alloc; "{method} {target}")?;
-            let message = request(alloc, line.as_str(), "nobody", "")?;
-            assert_refused(
-                &rt,
-                alloc,
-                &mut office,
-                message.as_str().as_bytes(),
-                NO_ROUTE,
-            )?;
-        }
+        assert_nowhere(&rt, alloc, &mut office, target)?;
     }
     Ok(())
+}
+
+// A target with two words of this many bytes.
+fn target_of(alloc: Global, length: usize) -> Result<String, Fail> {
+    let word = repeated(alloc, "a", length)?;
+    Ok(["/issued/", word.as_str(), "/", word.as_str()].concat(alloc)?)
+}
+
+fn assert_words(
+    rt: &impl Abort,
+    alloc: Global,
+    office: &mut Trial,
+    length: usize,
+    told: Told,
+) -> Result<(), Fail> {
+    let target = target_of(alloc, length)?;
+    assert_route(rt, alloc, office, ("GET", target.as_str(), ""), told)
 }
 
 #[test]
 fn a_word_in_a_target_has_at_most_64_bytes(rt: HostRuntime) -> Result<(), Fail> {
     let alloc = rt.alloc();
     let mut office = Trial::new(alloc)?;
-    for (length, has_route) in [(64, true), (65, false)] {
-        let word = "a".repeat(alloc, length)?;
-        let line = format!(in alloc; "GET /issued/{}/{}", word.as_str(), word.as_str())?;
-        let message = request(alloc, line.as_str(), "nobody", "")?;
-        if has_route {
-            assert_heard(&rt, alloc, &mut office, message.as_str().as_bytes())?;
-        } else {
-            assert_refused(
-                &rt,
-                alloc,
-                &mut office,
-                message.as_str().as_bytes(),
-                NO_ROUTE,
-            )?;
-        }
-    }
-    Ok(())
+    assert_words(&rt, alloc, &mut office, 64, HEARD)?;
+    assert_words(&rt, alloc, &mut office, 65, NO_ROUTE)
 }
 
-// Each route: its method, a target of it, and a body of its form.
-const ROUTES: [(&str, &str, &str); 14] = [
+const ROUTES: [Route; 14] = [
     ("POST", "/users", ANN),
     ("POST", "/p/blue/web", BARE),
     ("GET", "/p/0-", ""),
@@ -111,10 +137,35 @@ const ROUTES: [(&str, &str, &str); 14] = [
 fn each_route_is_heard_by_its_method(rt: HostRuntime) -> Result<(), Fail> {
     let alloc = rt.alloc();
     let mut office = Trial::new(alloc)?;
-    for (method, target, body) in ROUTES.iter() {
-        let line = format!(in alloc; "{method} {target}")?;
-        let message = request(alloc, line.as_str(), "nobody", body)?;
-        assert_heard(&rt, alloc, &mut office, message.as_str().as_bytes())?;
+    for route in ROUTES.iter() {
+        assert_route(&rt, alloc, &mut office, *route, HEARD)?;
+    }
+    Ok(())
+}
+
+const METHODS: [&str; 8] = [
+    "GET", "POST", "get", "Post", "HEAD", "PUT", "DELETE", "OPTIONS",
+];
+
+// The status that refuses another method than this.
+fn wrong_method(alloc: Global, allowed: &str) -> Result<String, Fail> {
+    Ok(["405 Method Not Allowed\r\nAllow: ", allowed].concat(alloc)?)
+}
+
+// That the route is refused by each method but its own.
+fn assert_one_method(
+    rt: &impl Abort,
+    alloc: Global,
+    office: &mut Trial,
+    route: Route,
+) -> Result<(), Fail> {
+    let (allowed, target, body) = route;
+    let status = wrong_method(alloc, allowed)?;
+    let told = Refused(status.as_str(), "wrong-method");
+    for method in METHODS.iter() {
+        if *method != allowed {
+            assert_route(rt, alloc, office, (method, target, body), told)?;
+        }
     }
     Ok(())
 }
@@ -123,22 +174,8 @@ fn each_route_is_heard_by_its_method(rt: HostRuntime) -> Result<(), Fail> {
 fn each_route_is_refused_by_another_method(rt: HostRuntime) -> Result<(), Fail> {
     let alloc = rt.alloc();
     let mut office = Trial::new(alloc)?;
-    for (allowed, target, body) in ROUTES.iter() {
-        let wanted = format!(in alloc;
-            "HTTP/1.1 405 Method Not Allowed\r\nAllow: {allowed}\r\nContent-Type: application/json\r\n\
-             Content-Length: 38\r\nConnection: close\r\n\r\n{{\"answer\":\"bad\",\"word\":\"wrong-method\"}}"
-        )?;
-        for method in [
-            "GET", "POST", "get", "Post", "HEAD", "PUT", "DELETE", "OPTIONS",
-        ] {
-            if method == *allowed {
-                continue;
-            }
-            let line = format!(in alloc; "{method} {target}")?;
-            let message = request(alloc, line.as_str(), "nobody", body)?;
-            let answer = answer_to(alloc, &mut office, message.as_str().as_bytes())?;
-            assert_eq!(rt; answer.as_str(), wanted.as_str(), "{method} {target}");
-        }
+    for route in ROUTES.iter() {
+        assert_one_method(&rt, alloc, &mut office, *route)?;
     }
     Ok(())
 }

@@ -1,124 +1,177 @@
 // What stands where a reader or a writer fails, and what is answered where they give and take in pieces.
 
-use crate::messages::{longest_document, request};
-use crate::offices::{Exchange, Trial, answer_to};
-use crate::streams::{Giving, Interrupted, Sink, Source, Taking};
+use crate::messages::Message::{Ask, Bytes};
+use crate::messages::{Message, document_of};
+use crate::offices::{Trial, assert_served};
+use crate::streams::{Giving, Interrupted, Source, Taking};
 use crate::texts::{ANN, BARE, SAME_AS_OPEN, SUBMITTED};
 use crate::turns::Told::{Denied, Done, Json};
-use crate::turns::{converse, message_of};
+use crate::turns::{Told, assert_told, message_of};
 use desk_http::{HttpFault, MAX_READS};
 use std::alloc::Global;
+use std::process::Abort;
 use std::test::Fail;
+
+const ENROLMENT: Message = Ask("POST /users", "abc", ANN);
+
+const SUBMISSION: Message = Ask("POST /p/blue/web", "t-ann", BARE);
+
+// That nothing is handled of the message, whichever read fails, but all of it where none does.
+fn assert_reads_fail(
+    rt: &impl Abort,
+    alloc: Global,
+    office: &mut Trial,
+    message: &[u8],
+) -> Result<(), Fail> {
+    for call in 0..message.len() {
+        let source = Source::new(message, Giving::FailsAt(call));
+        let served = Err(HttpFault::Read);
+        assert_served(rt, alloc, office, source, Taking::All, served, b"");
+    }
+    assert_told(rt, alloc, office, Bytes(message), Json(SUBMITTED))
+}
 
 #[test]
 fn a_failing_read_leaves_nothing_handled(rt: HostRuntime) -> Result<(), Fail> {
     let alloc = rt.alloc();
+    let message = SUBMISSION.bytes(alloc)?;
     let mut office = Trial::with_cast(&rt, alloc)?;
-    let message = request(alloc, "POST /p/blue/web", "t-ann", BARE)?;
-    let bytes = message.as_str().as_bytes();
-    for call in 0..bytes.len() {
-        let exchange = office.serve(
-            alloc,
-            Source::new(bytes, Giving::FailsAt(call)),
-            Vec::new(alloc),
-        );
-        assert_eq!(rt; exchange.served, Err(HttpFault::Read), "at {call}");
-        assert_eq!(rt; exchange.read_faults, 1);
-        assert!(rt; exchange.output.is_empty());
-    }
-    let submission = [("POST /p/blue/web", "t-ann", BARE, Json(SUBMITTED))];
-    converse(&rt, alloc, &mut office, &submission)
+    assert_reads_fail(&rt, alloc, &mut office, &message)
 }
 
-// What came of the first submission of a profile to a writer that takes this many bytes, and what it took.
-fn submitted_to(
+// That the message is served so to a writer that takes no more than that.
+fn assert_taken(
+    rt: &impl Abort,
     alloc: Global,
     office: &mut Trial,
-    line: &str,
+    message: Message,
     taking: Taking,
-) -> Result<Exchange<Sink>, Fail> {
-    let message = request(alloc, line, "t-ann", BARE)?;
-    let output = Sink::new(Vec::new(alloc), taking);
-    Ok(office.serve(alloc, message.as_str().as_bytes(), output))
+    served: Result<u16, HttpFault>,
+    written: &[u8],
+) -> Result<(), Fail> {
+    let bytes = message.bytes(alloc)?;
+    assert_served(rt, alloc, office, bytes.as_slice(), taking, served, written);
+    Ok(())
+}
+
+// That the message is handled, whose response is cut so.
+fn assert_handled(
+    rt: &impl Abort,
+    alloc: Global,
+    office: &mut Trial,
+    message: Message,
+    taking: Taking,
+    written: &[u8],
+) -> Result<(), Fail> {
+    let served = Err(HttpFault::Write { status: 200 });
+    assert_taken(rt, alloc, office, message, taking, served, written)?;
+    assert_told(rt, alloc, office, message, Denied(SAME_AS_OPEN))
+}
+
+// That a profile is submitted to a writer that has room for no more than this of the response.
+fn assert_cut(
+    rt: &impl Abort,
+    alloc: Global,
+    office: &mut Trial,
+    front: &[u8],
+) -> Result<(), Fail> {
+    let room = front.len();
+    let line = format!(in alloc; "POST /p/blue/web-{room}")?;
+    let submission = Ask(line.as_str(), "t-ann", BARE);
+    assert_handled(rt, alloc, office, submission, Taking::Bytes(room), front)
+}
+
+// That it is handled wherever the response is cut, and where it isn't.
+fn assert_cut_anywhere(
+    rt: &impl Abort,
+    alloc: Global,
+    office: &mut Trial,
+    response: &[u8],
+) -> Result<(), Fail> {
+    for room in 0..response.len() {
+        assert_cut(rt, alloc, office, &response[..room])?;
+    }
+    let taking = Taking::Bytes(response.len());
+    assert_taken(rt, alloc, office, SUBMISSION, taking, Ok(200), response)
 }
 
 #[test]
 fn a_failing_write_leaves_a_front_part_and_what_was_handled(rt: HostRuntime) -> Result<(), Fail> {
     let alloc = rt.alloc();
+    let response = message_of(alloc, Json(SUBMITTED))?;
     let mut office = Trial::with_cast(&rt, alloc)?;
-    let answer = message_of(alloc, Json(SUBMITTED))?;
-    let bytes = answer.as_str().as_bytes();
-    for room in 0..bytes.len() {
-        let line = format!(in alloc; "POST /p/blue/web-{room}")?;
-        let exchange = submitted_to(alloc, &mut office, line.as_str(), Taking::Bytes(room))?;
-        assert_eq!(rt;
-            exchange.served,
-            Err(HttpFault::Write { status: 200 }),
-            "at {room}"
-        );
-        assert_eq!(rt;
-            exchange.output.held.as_slice(),
-            &bytes[..room],
-            "at {room}"
-        );
-        let again = [(line.as_str(), "t-ann", BARE, Denied(SAME_AS_OPEN))];
-        converse(&rt, alloc, &mut office, &again)?;
-    }
-    let taking = Taking::Bytes(bytes.len());
-    let exchange = submitted_to(alloc, &mut office, "POST /p/blue/web", taking)?;
-    assert_eq!(rt; exchange.served, Ok(200));
-    assert_eq!(rt; exchange.output.held.as_slice(), bytes);
-    Ok(())
+    assert_cut_anywhere(&rt, alloc, &mut office, response.as_str().as_bytes())
 }
 
 #[test]
 fn a_writer_that_takes_no_byte_has_failed(rt: HostRuntime) -> Result<(), Fail> {
     let alloc = rt.alloc();
     let mut office = Trial::with_cast(&rt, alloc)?;
-    let exchange = submitted_to(alloc, &mut office, "POST /p/blue/web", Taking::Nothing)?;
-    assert_eq!(rt; exchange.served, Err(HttpFault::Write { status: 200 }));
-    assert!(rt; exchange.output.held.is_empty());
-    let again = [("POST /p/blue/web", "t-ann", BARE, Denied(SAME_AS_OPEN))];
-    converse(&rt, alloc, &mut office, &again)
+    assert_handled(&rt, alloc, &mut office, SUBMISSION, Taking::Nothing, b"")
 }
+
+// Messages that are refused, with the status and the first 12 bytes of the response.
+const REFUSED: [(&str, u16, &str); 3] = [
+    (
+        "GET /x HTTP/1.1\r\nHost: office\r\n\r\n",
+        404,
+        "HTTP/1.1 404",
+    ),
+    (
+        "GET /users HTTP/1.1\r\nHost: office\r\n\r\n",
+        405,
+        "HTTP/1.1 405",
+    ),
+    ("GET\r\n\r\n", 400, "HTTP/1.1 400"),
+];
 
 #[test]
 fn a_refusal_that_is_cut_has_its_status(rt: HostRuntime) -> Result<(), Fail> {
     let alloc = rt.alloc();
     let mut office = Trial::new(alloc)?;
-    for (message, status) in [
-        (b"GET /x HTTP/1.1\r\nHost: office\r\n\r\n".as_slice(), 404),
-        (b"GET /users HTTP/1.1\r\nHost: office\r\n\r\n", 405),
-        (b"GET\r\n\r\n", 400),
-    ] {
-        let exchange = office.serve(
-            alloc,
-            message,
-            Sink::new(Vec::new(alloc), Taking::Bytes(12)),
-        );
-        assert_eq!(rt; exchange.served, Err(HttpFault::Write { status }));
-        assert_eq!(rt; exchange.write_faults, 1);
-        let wanted = format!(in alloc; "HTTP/1.1 {status}")?;
-        assert_eq!(rt; exchange.output.held.as_slice(), wanted.as_str().as_bytes());
+    for (message, status, written) in REFUSED.iter() {
+        let served = Err(HttpFault::Write { status: *status });
+        let (message, written) = (message.as_bytes(), written.as_bytes());
+        let taking = Taking::Bytes(12);
+        assert_served(&rt, alloc, &mut office, message, taking, served, written);
     }
     Ok(())
+}
+
+// That a message that comes so is answered so to a writer that takes it so. Gives how often the reader was called.
+fn assert_given(
+    rt: &impl Abort,
+    alloc: Global,
+    office: &mut Trial,
+    source: Source,
+    taking: Taking,
+    told: Told,
+) -> Result<u64, Fail> {
+    let response = message_of(alloc, told)?;
+    let written = response.as_str().as_bytes();
+    Ok(assert_served(rt, alloc, office, source, taking, Ok(200), written))
+}
+
+// That an enrolment that comes so is done.
+fn assert_enrolled(
+    rt: &impl Abort,
+    alloc: Global,
+    office: &mut Trial,
+    giving: Giving,
+    taking: Taking,
+) -> Result<u64, Fail> {
+    let message = ENROLMENT.bytes(alloc)?;
+    let source = Source::new(&message, giving);
+    assert_given(rt, alloc, office, source, taking, Done)
 }
 
 #[test]
 fn a_message_cut_at_any_place_has_the_same_answer(rt: HostRuntime) -> Result<(), Fail> {
     let alloc = rt.alloc();
+    let length = ENROLMENT.bytes(alloc)?.len();
     let mut office = Trial::new(alloc)?;
-    let message = request(alloc, "POST /users", "abc", ANN)?;
-    let bytes = message.as_str().as_bytes();
-    let wanted = message_of(alloc, Done)?;
-    for place in 0..bytes.len() {
-        let exchange = office.serve(
-            alloc,
-            Source::new(bytes, Giving::CutAt(place)),
-            Vec::new(alloc),
-        );
-        assert_eq!(rt; exchange.served, Ok(200), "at {place}");
-        assert_eq!(rt; exchange.output.as_slice(), wanted.as_str().as_bytes());
+    for place in 0..length {
+        assert_enrolled(&rt, alloc, &mut office, Giving::CutAt(place), Taking::All)?;
     }
     Ok(())
 }
@@ -128,25 +181,12 @@ fn single_bytes_have_the_same_answer_where_each_read_is_interrupted(
     rt: HostRuntime,
 ) -> Result<(), Fail> {
     let alloc = rt.alloc();
+    let length = ENROLMENT.bytes(alloc)?.len() as u64;
+    let taking = Taking::OneByOne;
     let mut office = Trial::new(alloc)?;
-    let message = request(alloc, "POST /users", "abc", ANN)?;
-    let bytes = message.as_str().as_bytes();
-    let wanted = message_of(alloc, Done)?;
-    let length = bytes.len() as u64;
-    for (giving, calls) in [
-        (Giving::OneByOne, length),
-        (Giving::Interrupted, length.saturating_mul(2)),
-    ] {
-        let exchange = office.serve(
-            alloc,
-            Source::new(bytes, giving),
-            Sink::new(Vec::new(alloc), Taking::OneByOne),
-        );
-        assert_eq!(rt; exchange.served, Ok(200));
-        assert_eq!(rt; exchange.calls, calls);
-        assert_eq!(rt; exchange.read_faults, 0);
-        assert_eq!(rt; exchange.output.held.as_slice(), wanted.as_str().as_bytes());
-    }
+    let given = assert_enrolled(&rt, alloc, &mut office, Giving::OneByOne, taking)?;
+    let interrupted = assert_enrolled(&rt, alloc, &mut office, Giving::Interrupted, taking)?;
+    assert_eq!(rt; (given, interrupted), (length, length.saturating_mul(2)));
     Ok(())
 }
 
@@ -154,73 +194,82 @@ fn single_bytes_have_the_same_answer_where_each_read_is_interrupted(
 #[test]
 fn a_reader_is_not_called_behind_the_body(rt: HostRuntime) -> Result<(), Fail> {
     let alloc = rt.alloc();
+    let length = ENROLMENT.bytes(alloc)?.len();
     let mut office = Trial::new(alloc)?;
-    let message = request(alloc, "POST /users", "abc", ANN)?;
-    let bytes = message.as_str().as_bytes();
-    let exchange = office.serve(
+    assert_enrolled(
+        &rt,
         alloc,
-        Source::new(bytes, Giving::FailsAt(bytes.len())),
-        Vec::new(alloc),
-    );
-    assert_eq!(rt; exchange.served, Ok(200));
-    assert_eq!(rt; exchange.read_faults, 0);
+        &mut office,
+        Giving::FailsAt(length),
+        Taking::All,
+    )?;
     Ok(())
+}
+
+// That an enrolment is done, whatever this is that follows it.
+fn assert_done_before(
+    rt: &impl Abort,
+    alloc: Global,
+    office: &mut Trial,
+    more: &str,
+) -> Result<(), Fail> {
+    let mut message = ENROLMENT.bytes(alloc)?;
+    message.extend_from_slice(more.as_bytes())?;
+    assert_told(rt, alloc, office, Bytes(&message), Done)
 }
 
 #[test]
 fn what_follows_the_body_is_not_looked_at(rt: HostRuntime) -> Result<(), Fail> {
     let alloc = rt.alloc();
     let mut office = Trial::new(alloc)?;
-    let message = request(alloc, "POST /users", "abc", ANN)?;
-    let whole = message.as_str();
-    let wanted = message_of(alloc, Done)?;
     for more in ["}", "\r\n", "\0\0", "GET /x HTTP/1.1\r\n\r\n"] {
-        let longer = format!(in alloc; "{whole}{more}")?;
-        let answer = answer_to(alloc, &mut office, longer.as_str().as_bytes())?;
-        assert_eq!(rt; answer.as_str(), wanted.as_str());
+        assert_done_before(&rt, alloc, &mut office, more)?;
     }
     Ok(())
+}
+
+// A submission of as many bytes as a document may have.
+fn longest_submission(alloc: Global) -> Result<Vec<u8>, Fail> {
+    let document = document_of(alloc, 262_144)?;
+    Ask("POST /p/blue/web", "t-ann", document.as_str()).bytes(alloc)
 }
 
 #[test]
 fn the_longest_body_may_come_a_byte_a_call(rt: HostRuntime) -> Result<(), Fail> {
     let alloc = rt.alloc();
+    let message = longest_submission(alloc)?;
+    let source = Source::new(&message, Giving::OneByOne);
+    let told = Json(SUBMITTED);
     let mut office = Trial::with_cast(&rt, alloc)?;
-    let document = longest_document(alloc)?;
-    let message = request(alloc, "POST /p/blue/web", "t-ann", document.as_str())?;
-    let bytes = message.as_str().as_bytes();
-    let exchange = office.serve(alloc, Source::new(bytes, Giving::OneByOne), Vec::new(alloc));
-    assert_eq!(rt; exchange.served, Ok(200));
-    assert_eq!(rt; exchange.calls, bytes.len() as u64);
-    let wanted = message_of(alloc, Json(SUBMITTED))?;
-    assert_eq!(rt; exchange.output.as_slice(), wanted.as_str().as_bytes());
+    let calls = assert_given(&rt, alloc, &mut office, source, Taking::All, told)?;
+    assert_eq!(rt; calls, message.len() as u64);
     Ok(())
 }
 
 #[test]
 fn a_reader_is_not_called_without_end(rt: HostRuntime) -> Result<(), Fail> {
     let alloc = rt.alloc();
+    let served = Err(HttpFault::TooManyReads);
+    let taking = Taking::All;
     let mut office = Trial::new(alloc)?;
-    let exchange = office.serve(alloc, Interrupted, Vec::new(alloc));
-    assert_eq!(rt; exchange.served, Err(HttpFault::TooManyReads));
-    assert_eq!(rt; exchange.calls, 600_000);
-    assert_eq!(rt; MAX_READS, 600_000);
-    assert_eq!(rt; exchange.read_faults, 0);
-    assert!(rt; exchange.output.is_empty());
+    let calls = assert_served(&rt, alloc, &mut office, Interrupted, taking, served, b"");
+    assert_eq!(rt; (calls, MAX_READS), (600_000, 600_000));
     Ok(())
 }
 
+const WORDS: [(HttpFault, &str); 5] = [
+    (HttpFault::Read, "read"),
+    (HttpFault::Ended, "ended"),
+    (HttpFault::TooManyReads, "too-many-reads"),
+    (HttpFault::Write { status: 200 }, "write"),
+    (HttpFault::NoMemory { status: 403 }, "memory"),
+];
+
 #[test]
 fn each_fault_of_an_exchange_has_its_word(rt: HostRuntime) -> Result<(), Fail> {
-    for (fault, word) in [
-        (HttpFault::Read, "read"),
-        (HttpFault::Ended, "ended"),
-        (HttpFault::TooManyReads, "too-many-reads"),
-        (HttpFault::Write { status: 200 }, "write"),
-        (HttpFault::NoMemory { status: 403 }, "memory"),
-    ] {
+    for (fault, word) in WORDS.iter() {
         let text = format!(in rt.alloc(); "{fault}")?;
-        assert_eq!(rt; text.as_str(), word);
+        assert_eq!(rt; text.as_str(), *word);
     }
     Ok(())
 }

@@ -73,6 +73,8 @@ impl Read for Interrupted {
 // How a writer takes its bytes.
 #[derive(Clone, Copy)]
 pub enum Taking {
+    // All.
+    All,
     // This many bytes in all; then it fails.
     Bytes(usize),
     // One byte a call.
@@ -96,6 +98,7 @@ impl Sink {
     // How many of these bytes this call takes.
     fn most(&mut self, given: usize) -> io::Result<usize> {
         match self.taking {
+            Taking::All => Ok(given),
             Taking::Bytes(0) => Err(io::Error::from(ErrorKind::BrokenPipe)),
             Taking::Bytes(room) => {
                 let count = given.min(room);

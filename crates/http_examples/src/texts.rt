@@ -43,6 +43,11 @@ pub const REJECT_BARE: &str =
 
 pub const DONE: &str = r#"{"answer":"done"}"#;
 
+// The response to what is done, where there is nothing more to tell.
+pub const DONE_RESPONSE: &str =
+    "HTTP/1.1 200 OK\r\nContent-Type: application/json\r\nContent-Length: 17\r\n\
+     Connection: close\r\n\r\n{\"answer\":\"done\"}";
+
 pub const SUBMITTED: &str =
     r#"{"answer":"done","digest":"67d59648e3164479ed30407333c338a60764f60cd31c54ca1cd477602ac5e5d6","revision":1}"#;
 
