@@ -1,62 +1,49 @@
-//! What a command prints.
+//! What commands print.
 
+use crate::run::run_line;
 use anyhow::{Result, bail};
-use office_commands::run_words;
 use std::fs;
+use std::io::Write;
 
-/// What a command printed, standard output before standard error, and its status.
-#[derive(Drop)]
-pub struct Said {
-    pub text: String,
-    pub status: u8,
+// Writes what `office` prints over this input, standard output before standard error, and gives its status.
+fn say_line(rt: &HostRuntime, line: &str, input: &[u8], said: &mut Vec<u8>) -> Result<u8> {
+    let mut input = input;
+    let (status, errors) = run_line(rt, rt, rt, rt.alloc(), line, &mut input, said)?;
+    said.extend_from_slice(&errors)?;
+    Ok(status)
 }
 
-// What `office` prints to words that single spaces part, over this input.
-fn said_by_office(rt: &HostRuntime, words: &str, input: &str) -> Result<Said> {
-    let alloc = rt.alloc();
-    let mut given = Vec::new(alloc);
-    given.push(String::from_str(alloc, "office")?)?;
-    for word in words.split_whitespace() {
-        given.push(String::from_str(alloc, word)?)?;
-    }
-    let mut input = input.as_bytes();
-    let mut output = Vec::new(alloc);
-    let mut errors = Vec::new(alloc);
-    let status = run_words(
-        rt,
-        rt,
-        rt,
-        alloc,
-        &given,
-        &mut input,
-        &mut output,
-        &mut errors,
-    );
-    output.extend_from_slice(&errors)?;
-    let Ok(text) = String::from_utf8(output) else {
-        bail!("office printed bytes that are not UTF-8");
-    };
-    Ok(Said { text, status })
-}
-
-/// What is printed by `./office WORDS`, `./office WORDS < FILE`, `cat FILE`, or `echo $?` after a command of this status.
-pub fn said_to(rt: &HostRuntime, command: &str, status: u8) -> Result<Said> {
+// Writes what is printed by `./office WORDS`, `./office WORDS < FILE`, `cat FILE`, or `echo $?` after a command of this status,
+// and gives its own status.
+fn say(rt: &HostRuntime, command: &str, status: u8, said: &mut Vec<u8>) -> Result<u8> {
     if command == "echo $?" {
-        let text = format!(in rt.alloc(); "{status}\n")?;
-        return Ok(Said { text, status: 0 });
+        writeln!(said, "{status}")?;
+        return Ok(0);
     }
     if let Some(path) = command.strip_prefix("cat ") {
-        let text = fs::read_to_string(rt, path)?;
-        return Ok(Said { text, status: 0 });
+        said.extend_from_slice(&fs::read(rt, path)?)?;
+        return Ok(0);
     }
-    let Some(words) = command.strip_prefix("./office") else {
+    if !command.starts_with("./office") {
         bail!("{command}: not a command that is carried out here");
-    };
-    match words.split_once(" < ") {
-        Some((words, path)) => {
-            let input = fs::read_to_string(rt, path)?;
-            said_by_office(rt, words, input.as_str())
-        }
-        None => said_by_office(rt, words, ""),
     }
+    match command.split_once(" < ") {
+        Some((line, path)) => say_line(rt, line, &fs::read(rt, path)?, said),
+        None => say_line(rt, command, b"", said),
+    }
+}
+
+/// The documents and the commands of a text, below each command what it prints.
+pub fn said_in(rt: &HostRuntime, shown: &str) -> Result<Vec<u8>> {
+    let mut said = Vec::new(rt.alloc());
+    let mut status = 0u8;
+    for line in shown.lines() {
+        if let Some(command) = line.strip_prefix("$ ") {
+            writeln!(said, "{line}")?;
+            status = say(rt, command, status, &mut said)?;
+        } else if line.starts_with("# ") {
+            writeln!(said, "{line}")?;
+        }
+    }
+    Ok(said)
 }

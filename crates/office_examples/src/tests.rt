@@ -4,6 +4,7 @@ mod check;
 mod compare;
 mod databases;
 mod execve;
+mod host;
 mod said;
 mod served;
 mod shelf;

@@ -1,32 +1,40 @@
 // What one document permits more than another.
 
-use crate::tests::said::{assert_said, said_of};
-use crate::tests::shelf::PATH;
+use crate::tests::said::{Row, assert_rows};
 use std::test::Fail;
+
+const LAWFUL: &str = r#"{"capabilities":{}}"#;
 
 #[test]
 fn a_document_permits_nothing_more_than_itself(rt: HostRuntime) -> Result<(), Fail> {
-    let said = said_of(
-        rt.alloc(),
-        br#"{"capabilities":{}}"#,
-        &["compare", PATH, PATH],
-    )?;
-    assert_said(&rt, &said, 0, "", "");
-    Ok(())
+    let same = (LAWFUL, "office compare web.json web.json", (0, "", ""));
+    assert_rows(&rt, rt.alloc(), &[same])
 }
+
+const REFUSED: [Row; 4] = [
+    (
+        "",
+        "office compare web.json no.json",
+        (2, "", "office: base: not-json\n"),
+    ),
+    (
+        "",
+        "office compare no.json web.json",
+        (2, "", "office: base: read\n"),
+    ),
+    (
+        LAWFUL,
+        "office compare no.json no.json",
+        (2, "", "office: base: read\n"),
+    ),
+    (
+        LAWFUL,
+        "office compare web.json no.json",
+        (2, "", "office: new: read\n"),
+    ),
+];
 
 #[test]
 fn base_is_read_first(rt: HostRuntime) -> Result<(), Fail> {
-    let lawful: &[u8] = br#"{"capabilities":{}}"#;
-    let other: &[u8] = b"";
-    for (bytes, base, new, told) in [
-        (other, PATH, "no.json", "office: base: not-json\n"),
-        (other, "no.json", PATH, "office: base: read\n"),
-        (lawful, "no.json", "no.json", "office: base: read\n"),
-        (lawful, PATH, "no.json", "office: new: read\n"),
-    ] {
-        let said = said_of(rt.alloc(), bytes, &["compare", base, new])?;
-        assert_said(&rt, &said, 2, "", told);
-    }
-    Ok(())
+    assert_rows(&rt, rt.alloc(), &REFUSED)
 }

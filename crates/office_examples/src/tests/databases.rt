@@ -12,10 +12,18 @@ pub enum Closing {
 }
 
 // A database is empty when it is opened, at whatever path, and gone when it is closed.
-#[derive(Drop)]
+#[derive(Clone, Copy)]
 pub struct InMemory {
     pub alloc: Global,
     pub closing: Closing,
+}
+
+impl InMemory {
+    // One that can be closed.
+    pub fn new(alloc: Global) -> InMemory {
+        let closing = Closing::Done;
+        InMemory { alloc, closing }
+    }
 }
 
 impl Databases for InMemory {

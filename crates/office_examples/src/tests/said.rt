@@ -1,13 +1,12 @@
 // What the program says.
 
-use crate::tests::databases::{Closing, InMemory};
+use crate::run::run_line;
+use crate::tests::databases::InMemory;
 use crate::tests::shelf::{Shelf, Then};
 use crate::tests::unplugged::Unplugged;
-use office_commands::{Databases, Network, run_words};
-use sqlite::{Alter, Connection};
 use std::alloc::{AllocError, Global};
 use std::fs::Files;
-use std::io::Read;
+use std::io::Write;
 use std::process::Abort;
 use std::test::Fail;
 
@@ -19,44 +18,42 @@ pub struct Said {
     pub errors: Vec<u8>,
 }
 
-// The words, a name of the program's file before them.
-pub fn words_of(alloc: Global, texts: &[&str]) -> Result<Vec<String>, AllocError> {
-    let mut words = Vec::new(alloc);
-    words.push(String::from_str(alloc, "./out/office_program")?)?;
-    for text in texts {
-        words.push(String::from_str(alloc, text)?)?;
-    }
-    Ok(words)
+// What it is to say: its status, and the texts of its output and of its errors.
+pub type Told<'a> = (u8, &'a str, &'a str);
+
+// A text of web.json, a command line, and what is said to it.
+pub type Row<'a> = (&'a str, &'a str, Told<'a>);
+
+// Carries a command line out over these files, with databases in memory, where nothing can be bound. Gives its status and its
+// errors.
+pub fn run_over<F: Files, O: Write>(
+    files: &F,
+    databases: InMemory,
+    line: &str,
+    input: &str,
+    output: &mut O,
+) -> Result<(u8, Vec<u8>), AllocError> {
+    let mut input = input.as_bytes();
+    run_line(
+        files,
+        &databases,
+        &Unplugged,
+        databases.alloc,
+        line,
+        &mut input,
+        output,
+    )
 }
 
-// What it says to the words over these files, databases, network and input.
-pub fn said_on<
-    F: Files,
-    S: Alter + Drop,
-    D: Databases<Database = Connection<S>>,
-    N: Network,
-    I: Read,
->(
+// What is said then, where the output takes all.
+pub fn said_over<F: Files>(
     files: &F,
-    databases: &D,
-    network: &N,
-    alloc: Global,
-    texts: &[&str],
-    input: &mut I,
-) -> Result<Said, Fail> {
-    let words = words_of(alloc, texts)?;
-    let mut output = Vec::new(alloc);
-    let mut errors = Vec::new(alloc);
-    let status = run_words(
-        files,
-        databases,
-        network,
-        alloc,
-        &words,
-        input,
-        &mut output,
-        &mut errors,
-    );
+    databases: InMemory,
+    line: &str,
+    input: &str,
+) -> Result<Said, AllocError> {
+    let mut output = Vec::new(databases.alloc);
+    let (status, errors) = run_over(files, databases, line, input, &mut output)?;
     Ok(Said {
         status,
         output,
@@ -64,33 +61,61 @@ pub fn said_on<
     })
 }
 
-// The same where nothing can be bound.
-pub fn said_with<F: Files, S: Alter + Drop, D: Databases<Database = Connection<S>>, I: Read>(
-    files: &F,
-    databases: &D,
-    alloc: Global,
-    texts: &[&str],
-    input: &mut I,
-) -> Result<Said, Fail> {
-    said_on(files, databases, &Unplugged, alloc, texts, input)
-}
-
-// What it says to the words over these files, with an empty input.
-pub fn said_over<F: Files>(files: &F, alloc: Global, texts: &[&str]) -> Result<Said, Fail> {
-    let closing = Closing::Done;
-    let databases = InMemory { alloc, closing };
-    said_with(files, &databases, alloc, texts, &mut b"".as_slice())
-}
-
-// What it says to the words where web.json has these bytes.
-pub fn said_of(alloc: Global, bytes: &[u8], texts: &[&str]) -> Result<Said, Fail> {
-    let then = Then::Ends;
-    said_over(&Shelf { bytes, then }, alloc, texts)
+fn text_of(bytes: &[u8]) -> &str {
+    match str::from_utf8(bytes) {
+        Ok(text) => text,
+        Err(_) => "bytes that are not UTF-8",
+    }
 }
 
 // It ended with this status, and wrote just these texts.
-pub fn assert_said(rt: &impl Abort, said: &Said, status: u8, output: &str, errors: &str) {
-    assert_eq!(rt; said.errors.as_slice(), errors.as_bytes());
-    assert_eq!(rt; said.output.as_slice(), output.as_bytes());
-    assert_eq!(rt; said.status, status);
+pub fn assert_said(rt: &impl Abort, line: &str, said: &Said, (status, output, errors): Told) {
+    assert_eq!(rt; text_of(&said.errors), errors, "{line}");
+    assert_eq!(rt; text_of(&said.output), output, "{line}");
+    assert_eq!(rt; said.status, status, "{line}");
+}
+
+// Whether bytes begin with a text, or where it is empty, whether there are none.
+fn begin_with(bytes: &[u8], text: &str) -> bool {
+    bytes.starts_with(text.as_bytes()) && bytes.is_empty() == text.is_empty()
+}
+
+// It ended with this status, and what it wrote begins with these texts.
+pub fn assert_begun(rt: &impl Abort, line: &str, said: &Said, (status, output, errors): Told) {
+    assert!(rt; begin_with(&said.errors, errors), "{line}");
+    assert!(rt; begin_with(&said.output, output), "{line}");
+    assert_eq!(rt; said.status, status, "{line}");
+}
+
+// Over these files, with an empty input, this is said.
+pub fn assert_over<F: Files>(
+    rt: &impl Abort,
+    alloc: Global,
+    files: &F,
+    line: &str,
+    told: Told,
+) -> Result<(), Fail> {
+    let said = said_over(files, InMemory::new(alloc), line, "")?;
+    assert_said(rt, line, &said, told);
+    Ok(())
+}
+
+// Where web.json has these bytes, this is said.
+pub fn assert_of(
+    rt: &impl Abort,
+    alloc: Global,
+    bytes: &[u8],
+    line: &str,
+    told: Told,
+) -> Result<(), Fail> {
+    let then = Then::Ends;
+    assert_over(rt, alloc, &Shelf { bytes, then }, line, told)
+}
+
+// Where web.json has the text of a row, this is said to its command line.
+pub fn assert_rows(rt: &impl Abort, alloc: Global, rows: &[Row]) -> Result<(), Fail> {
+    for (text, line, told) in rows.iter() {
+        assert_of(rt, alloc, text.as_bytes(), line, *told)?;
+    }
+    Ok(())
 }

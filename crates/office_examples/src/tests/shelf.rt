@@ -6,9 +6,9 @@ use std::io;
 use std::io::{ErrorKind, Read, Seek, SeekFrom, Write};
 
 // The path of the file.
-pub const PATH: &str = "web.json";
+const PATH: &str = "web.json";
 
-// What the file does once its bytes are read.
+// What a stream does once its bytes are read.
 #[derive(Clone, Copy)]
 pub enum Then {
     Ends,
@@ -16,24 +16,34 @@ pub enum Then {
     IsInterrupted,
 }
 
-#[derive(Drop)]
+#[derive(Clone, Copy)]
 pub struct Shelf<'a> {
     pub bytes: &'a [u8],
     pub then: Then,
 }
 
-// The file, opened.
+// The file, opened, or an input.
 #[derive(Drop)]
-pub struct Opened<'a> {
-    bytes: &'a [u8],
-    then: Then,
+pub struct Stream<'a> {
+    pub bytes: &'a [u8],
+    pub then: Then,
+}
+
+impl<'a> Stream<'a> {
+    // A text that ends.
+    pub fn of(text: &'a str) -> Stream<'a> {
+        Stream {
+            bytes: text.as_bytes(),
+            then: Then::Ends,
+        }
+    }
 }
 
 fn unsupported<T: Drop>() -> io::Result<T> {
     Err(io::Error::from(ErrorKind::Unsupported))
 }
 
-impl Read for Opened<'_> {
+impl Read for Stream<'_> {
     fn read(&mut self, buf: &mut [u8]) -> io::Result<usize> {
         if !self.bytes.is_empty() {
             return self.bytes.read(buf);
@@ -46,7 +56,7 @@ impl Read for Opened<'_> {
     }
 }
 
-impl Write for Opened<'_> {
+impl Write for Stream<'_> {
     fn write(&mut self, _buf: &[u8]) -> io::Result<usize> {
         Err(io::Error::from(ErrorKind::Unsupported))
     }
@@ -56,13 +66,13 @@ impl Write for Opened<'_> {
     }
 }
 
-impl Seek for Opened<'_> {
+impl Seek for Stream<'_> {
     fn seek(&mut self, _to: SeekFrom) -> io::Result<u64> {
         unsupported()
     }
 }
 
-impl OpenFile for Opened<'_> {
+impl OpenFile for Stream<'_> {
     fn metadata(&self) -> io::Result<Metadata> {
         unsupported()
     }
@@ -81,21 +91,21 @@ impl OpenFile for Opened<'_> {
 }
 
 impl<'a> Files for Shelf<'a> {
-    type File = Opened<'a>;
+    type File = Stream<'a>;
 
-    type Dir = Opened<'a>;
+    type Dir = Stream<'a>;
 
-    fn open_file(&self, _how: &OpenOptions, path: &str) -> io::Result<Opened<'a>> {
+    fn open_file(&self, _how: &OpenOptions, path: &str) -> io::Result<Stream<'a>> {
         if path != PATH {
             return Err(io::Error::from(ErrorKind::NotFound));
         }
-        Ok(Opened {
+        Ok(Stream {
             bytes: self.bytes,
             then: self.then,
         })
     }
 
-    fn open_dir(&self, _path: &str) -> io::Result<Opened<'a>> {
+    fn open_dir(&self, _path: &str) -> io::Result<Stream<'a>> {
         unsupported()
     }
 

@@ -1,20 +1,18 @@
 // Offices in files.
 
 use crate::tests::databases::{Closing, InMemory};
-use crate::tests::said::{Said, assert_said, said_with};
-use sqlite::Connection;
-use std::io::{ErrorKind, Read};
+use crate::tests::host::{
+    Ask, DIGEST, FOUNDED, NO_OFFICE, Turn, assert_turns, assert_unplugged, make_folder,
+};
+use crate::tests::said::{Told, assert_said, said_over};
+use office_commands::Databases;
+use sqlite::{Alter, Connection};
+use std::fs;
 use std::process::Abort;
 use std::test::Fail;
-use std::{fs, io};
 
-// The SHA-256 of abc.
-const DIGEST: &str = "ba7816bf8f01cfea414140de5dae2223b00361a396177a9cb410ff61f20015ad";
-
-// The same in upper-case digits.
+// The SHA-256 of abc in upper-case digits.
 const UPPER: &str = "BA7816BF8F01CFEA414140DE5DAE2223B00361A396177A9CB410FF61F20015AD";
-
-const UNKNOWN: &str = "office: unknown-capability\n";
 
 // Enrols ann, who shows hello, as an author of blue.
 const ENROL: &str =
@@ -39,109 +37,109 @@ const LISTED: &str =
     r#"{"answer":"done","profiles":[{"issued":0,"profile":"web","revisions":1,"state":"open"}]}
 "#;
 
-// A reader that gives these bytes and then fails.
-#[derive(Drop)]
-struct Broken<'a>(&'a [u8]);
+const DISK: Told = (1, "", "office: disk\n");
 
-impl Read for Broken<'_> {
-    fn read(&mut self, buf: &mut [u8]) -> io::Result<usize> {
-        if self.0.is_empty() {
-            return Err(io::Error::from(ErrorKind::BrokenPipe));
-        }
-        self.0.read(buf)
-    }
-}
+const FOUND: Ask = Ask::Init("CAP_SYS_ADMIN");
 
-// What the program says to the words over real files, with this input.
-fn said_to<I: Read>(rt: &HostRuntime, texts: &[&str], input: &mut I) -> Result<Said, Fail> {
-    said_with(rt, rt, rt.alloc(), texts, input)
-}
+const FIRST_DAY: [Turn; 3] = [
+    (FOUND, FOUNDED),
+    (Ask::Desk(ENROL), (0, DONE, "")),
+    (Ask::Desk(SUBMIT), (0, SUBMITTED, "")),
+];
 
-// What `init` says where it founds an office of root at a path.
-fn founded(rt: &HostRuntime, path: &str) -> Result<Said, Fail> {
-    let texts = ["init", path, "root", "office", DIGEST, "CAP_SYS_ADMIN"];
-    said_to(rt, &texts, &mut b"".as_slice())
-}
-
-// What `desk` says at a path to these lines.
-fn answered(rt: &HostRuntime, path: &str, lines: &str) -> Result<Said, Fail> {
-    said_to(rt, &["desk", path], &mut lines.as_bytes())
-}
-
-// It said nothing but why it refused.
-fn assert_refused(rt: &impl Abort, said: &Said, told: &str) {
-    assert_said(rt, said, 1, "", told);
-}
-
-// A new folder of this name.
-fn make_folder(rt: &HostRuntime, name: &str) -> Result<(), Fail> {
-    let _ = fs::remove_dir_all(rt, name);
-    fs::create_dir(rt, name)?;
-    Ok(())
-}
+const SECOND_DAY: [Turn; 3] = [
+    (Ask::Desk(LIST), (0, LISTED, "")),
+    (FOUND, (1, "", "office: already-founded\n")),
+    (Ask::Desk(LIST), (0, LISTED, "")),
+];
 
 #[test]
 fn a_desk_goes_on_where_the_last_one_ended(rt: HostRuntime) -> Result<(), Fail> {
     make_folder(&rt, "office_stored")?;
-    let path = "office_stored/team.db";
-    assert_said(&rt, &founded(&rt, path)?, 0, "founded\n", "");
-    assert_said(&rt, &answered(&rt, path, ENROL)?, 0, DONE, "");
-    assert_said(&rt, &answered(&rt, path, SUBMIT)?, 0, SUBMITTED, "");
+    assert_turns(&rt, &rt, "office_stored/team.db", &FIRST_DAY)?;
     // A desk that has ended leaves all in the one file.
     let _ = fs::remove_file(&rt, "office_stored/team.db-wal");
-    assert_said(&rt, &answered(&rt, path, LIST)?, 0, LISTED, "");
-    assert_refused(&rt, &founded(&rt, path)?, "office: already-founded\n");
-    assert_said(&rt, &answered(&rt, path, LIST)?, 0, LISTED, "");
+    assert_turns(&rt, &rt, "office_stored/team.db", &SECOND_DAY)?;
     fs::remove_dir_all(&rt, "office_stored")?;
     Ok(())
 }
 
+const STOPPED: [Turn; 2] = [
+    (FOUND, FOUNDED),
+    (Ask::BrokenDesk(ENROL), (1, DONE, "office: read\n")),
+];
+
 #[test]
 fn a_desk_that_stops_closes_its_office(rt: HostRuntime) -> Result<(), Fail> {
     make_folder(&rt, "office_stopped")?;
-    let path = "office_stopped/team.db";
-    assert_said(&rt, &founded(&rt, path)?, 0, "founded\n", "");
-    let said = said_to(&rt, &["desk", path], &mut Broken(ENROL.as_bytes()))?;
-    assert_said(&rt, &said, 1, DONE, "office: read\n");
+    assert_turns(&rt, &rt, "office_stopped/team.db", &STOPPED)?;
     let _ = fs::remove_file(&rt, "office_stopped/team.db-wal");
-    assert_said(&rt, &answered(&rt, path, SUBMIT)?, 0, SUBMITTED, "");
+    let submitted = (Ask::Desk(SUBMIT), (0, SUBMITTED, ""));
+    assert_turns(&rt, &rt, "office_stopped/team.db", &[submitted])?;
     fs::remove_dir_all(&rt, "office_stopped")?;
     Ok(())
 }
+
+const EMPTY: [Turn; 2] = [(Ask::Desk(LIST), NO_OFFICE), (FOUND, FOUNDED)];
 
 #[test]
 fn where_nothing_is_there_is_no_office(rt: HostRuntime) -> Result<(), Fail> {
     make_folder(&rt, "office_empty")?;
     let missing = "office_empty/missing.db";
-    let said = answered(&rt, missing, LIST)?;
-    assert_refused(&rt, &said, "office: not-an-office\n");
+    assert_turns(&rt, &rt, missing, &[(Ask::Desk(LIST), NO_OFFICE)])?;
     assert!(rt; !fs::exists(&rt, missing)?);
     let empty = "office_empty/empty.db";
     fs::write(&rt, empty, b"")?;
-    let said = answered(&rt, empty, LIST)?;
-    assert_refused(&rt, &said, "office: not-an-office\n");
-    assert_said(&rt, &founded(&rt, empty)?, 0, "founded\n", "");
+    assert_turns(&rt, &rt, empty, &EMPTY)?;
     fs::remove_dir_all(&rt, "office_empty")?;
+    Ok(())
+}
+
+// Makes a database that is no office.
+fn make_foreign<S: Alter + Drop, D: Databases<Database = Connection<S>>>(
+    databases: &D,
+    path: &str,
+) -> Result<(), Fail> {
+    let mut conn = databases.open(path)?;
+    conn.execute_batch("CREATE TABLE note (id INTEGER PRIMARY KEY) STRICT")?;
+    databases.close(conn)?;
+    Ok(())
+}
+
+const FOREIGN: [Turn; 2] = [(Ask::Desk(LIST), NO_OFFICE), (FOUND, NO_OFFICE)];
+
+// What stands at a path is no office, and stays as it is.
+fn assert_foreign(rt: &impl Abort, host: &HostRuntime, path: &str) -> Result<(), Fail> {
+    let before = fs::read(host, path)?;
+    assert_turns(rt, host, path, &FOREIGN)?;
+    assert_eq!(rt; fs::read(host, path)?, before);
     Ok(())
 }
 
 #[test]
 fn what_is_no_office_is_left_as_it_is(rt: HostRuntime) -> Result<(), Fail> {
     make_folder(&rt, "office_foreign")?;
-    let text = "office_foreign/text.db";
-    fs::write(&rt, text, b"no database, but a text")?;
-    let other = "office_foreign/other.db";
-    let mut conn = Connection::open(&rt, other)?;
-    conn.execute_batch("CREATE TABLE note (id INTEGER PRIMARY KEY) STRICT")?;
-    conn.close()?;
-    for path in [text, other] {
-        let before = fs::read(&rt, path)?;
-        let said = answered(&rt, path, LIST)?;
-        assert_refused(&rt, &said, "office: not-an-office\n");
-        assert_refused(&rt, &founded(&rt, path)?, "office: not-an-office\n");
-        assert_eq!(rt; fs::read(&rt, path)?, before);
+    fs::write(&rt, "office_foreign/text.db", b"no database, but a text")?;
+    make_foreign(&rt, "office_foreign/other.db")?;
+    for path in &["office_foreign/text.db", "office_foreign/other.db"] {
+        assert_foreign(&rt, &rt, path)?;
     }
     fs::remove_dir_all(&rt, "office_foreign")?;
+    Ok(())
+}
+
+const OPEN: [Turn; 2] = [(Ask::Desk(ENROL), DISK), (FOUND, DISK)];
+
+// At a path that another has open nothing is done.
+fn assert_open<D: Databases>(
+    rt: &impl Abort,
+    host: &HostRuntime,
+    databases: &D,
+    path: &str,
+) -> Result<(), Fail> {
+    let database = databases.open(path)?;
+    assert_turns(rt, host, path, &OPEN)?;
+    databases.close(database)?;
     Ok(())
 }
 
@@ -149,47 +147,59 @@ fn what_is_no_office_is_left_as_it_is(rt: HostRuntime) -> Result<(), Fail> {
 fn an_office_that_is_open_is_refused(rt: HostRuntime) -> Result<(), Fail> {
     make_folder(&rt, "office_open")?;
     let path = "office_open/team.db";
-    assert_said(&rt, &founded(&rt, path)?, 0, "founded\n", "");
-    let conn = Connection::open(&rt, path)?;
-    assert_refused(&rt, &answered(&rt, path, ENROL)?, "office: disk\n");
-    assert_refused(&rt, &founded(&rt, path)?, "office: disk\n");
-    conn.close()?;
-    assert_said(&rt, &answered(&rt, path, ENROL)?, 0, DONE, "");
+    assert_turns(&rt, &rt, path, &[(FOUND, FOUNDED)])?;
+    assert_open(&rt, &rt, &rt, path)?;
+    assert_turns(&rt, &rt, path, &[(Ask::Desk(ENROL), (0, DONE, ""))])?;
     fs::remove_dir_all(&rt, "office_open")?;
     Ok(())
 }
 
+const NOWHERE: [Turn; 2] = [(FOUND, DISK), (Ask::Desk(ENROL), NO_OFFICE)];
+
 #[test]
 fn a_path_in_no_folder_is_refused(rt: HostRuntime) -> Result<(), Fail> {
-    let path = "office_nowhere/team.db";
-    assert_refused(&rt, &founded(&rt, path)?, "office: disk\n");
-    let said = answered(&rt, path, ENROL)?;
-    assert_refused(&rt, &said, "office: not-an-office\n");
-    Ok(())
+    assert_turns(&rt, &rt, "office_nowhere/team.db", &NOWHERE)
+}
+
+const BAD_WORD: Told = (1, "", "office: bad-word\n");
+
+const UNKNOWN: Told = (1, "", "office: unknown-capability\n");
+
+// A first user, the team, the digest and a listed capability, and what is said to them.
+const UNFOUNDED: [([&str; 4], Told); 7] = [
+    (["Root", "office", DIGEST, "CAP_KILL"], BAD_WORD),
+    (["root", "''", DIGEST, "CAP_KILL"], BAD_WORD),
+    (["root", "office", "abc", "CAP_KILL"], BAD_WORD),
+    (["root", "office", UPPER, "CAP_KILL"], BAD_WORD),
+    (["root", "office", "abc", "CAP_FLY"], BAD_WORD),
+    (["root", "office", DIGEST, "CAP_FLY"], UNKNOWN),
+    (["root", "office", DIGEST, "cap_kill"], UNKNOWN),
+];
+
+// What `init` says to these words at a path.
+fn assert_unfounded(
+    rt: &impl Abort,
+    host: &HostRuntime,
+    path: &str,
+    words: [&str; 4],
+    told: Told,
+) -> Result<(), Fail> {
+    let [name, team, digest, listed] = words;
+    let line = format!(in host.alloc();
+        "office init {path} {name} {team} {digest} CAP_CHOWN {listed}"
+    )?;
+    assert_unplugged(rt, host, line.as_str(), told)
 }
 
 #[test]
 fn words_that_found_nothing_make_no_file(rt: HostRuntime) -> Result<(), Fail> {
     make_folder(&rt, "office_words")?;
     let path = "office_words/team.db";
-    for (words, told) in [
-        (["Root", "office", DIGEST, "CAP_KILL"], "office: bad-word\n"),
-        (["root", "", DIGEST, "CAP_KILL"], "office: bad-word\n"),
-        (["root", "office", "abc", "CAP_KILL"], "office: bad-word\n"),
-        (["root", "office", UPPER, "CAP_KILL"], "office: bad-word\n"),
-        (["root", "office", "abc", "CAP_FLY"], "office: bad-word\n"),
-        (["root", "office", DIGEST, "CAP_FLY"], UNKNOWN),
-        (["root", "office", DIGEST, "cap_kill"], UNKNOWN),
-    ] {
-        let [name, team, digest, cap] = words;
-        let texts = ["init", path, name, team, digest, "CAP_CHOWN", cap];
-        let said = said_to(&rt, &texts, &mut b"".as_slice())?;
-        assert_refused(&rt, &said, told);
+    for (words, told) in &UNFOUNDED {
+        assert_unfounded(&rt, &rt, path, *words, *told)?;
     }
     assert!(rt; !fs::exists(&rt, path)?);
-    let texts = ["init", path, "root", "office", DIGEST];
-    let said = said_to(&rt, &texts, &mut b"".as_slice())?;
-    assert_said(&rt, &said, 0, "founded\n", "");
+    assert_turns(&rt, &rt, path, &[(Ask::Init(""), FOUNDED)])?;
     fs::remove_dir_all(&rt, "office_words")?;
     Ok(())
 }
@@ -197,10 +207,9 @@ fn words_that_found_nothing_make_no_file(rt: HostRuntime) -> Result<(), Fail> {
 #[test]
 fn an_office_that_cannot_be_closed_is_told(rt: HostRuntime) -> Result<(), Fail> {
     let alloc = rt.alloc();
-    let texts = ["init", "team.db", "root", "office", DIGEST];
     let closing = Closing::Fails;
-    let databases = InMemory { alloc, closing };
-    let said = said_with(&rt, &databases, alloc, &texts, &mut b"".as_slice())?;
-    assert_refused(&rt, &said, "office: disk\n");
+    let line = format!(in alloc; "office init team.db root office {DIGEST}")?;
+    let said = said_over(&rt, InMemory { alloc, closing }, line.as_str(), "")?;
+    assert_said(&rt, line.as_str(), &said, DISK);
     Ok(())
 }

@@ -6,7 +6,7 @@ use std::io::ErrorKind;
 use std::net::{Net, SocketAddr, TcpListener, TcpStream};
 use std::time::{Clock, Duration};
 
-#[derive(Drop)]
+#[derive(Clone, Copy)]
 pub struct Unplugged;
 
 impl Net for Unplugged {
