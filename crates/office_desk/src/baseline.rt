@@ -53,7 +53,7 @@ fn adopted_revision<S: Alter>(
         return Ok(None);
     };
     let name = ProfileName {
-        team: team.copy(alloc)?,
+        team: team.clone()?,
         profile: adopted.profile,
     };
     let found = revision(alloc, conn, &name, adopted.number)?;

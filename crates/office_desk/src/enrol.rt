@@ -73,18 +73,12 @@ fn users_of<S: Alter>(
 }
 
 // The row of a user who is enrolled.
-fn row_of(
-    alloc: Global,
-    user: &Word,
-    team: &Word,
-    roles: Roles,
-    digest: &[u8; 32],
-) -> Result<UserRow, AllocError>
+fn row_of(user: &Word, team: &Word, roles: Roles, digest: &[u8; 32]) -> Result<UserRow, AllocError>
     ensures { IfOk result (λ row. row ≡ record { name = user.now; team = team.now; roles = roles; digest = digest.now }) }
 {
     Ok(UserRow {
-        name: user.copy(alloc)?,
-        team: team.copy(alloc)?,
+        name: user.clone()?,
+        team: team.clone()?,
         roles,
         digest: *digest,
     })
@@ -107,7 +101,7 @@ pub(crate) fn enrol<S: Alter>(
     decide_enrol(&enrol_facts(caller, &None, &None, user, team))?;
     let (known, shower) = users_of(alloc, conn, user, digest)?;
     decide_enrol(&enrol_facts(caller, &known, &shower, user, team))?;
-    let row = row_of(alloc, user, team, roles, digest)?;
+    let row = row_of(user, team, roles, digest)?;
     put_user(conn, &row)?;
     Ok(Reply::Enrolled)
 }

@@ -28,11 +28,11 @@ fn issued_with(issued: u32, row: &ListedRevision) -> u32
 }
 
 // A profile, by its last row and the number that is issued among its rows.
-fn listed_by(alloc: Global, issued: u32, row: &ListedRevision) -> Result<ListedProfile, AllocError>
+fn listed_by(issued: u32, row: &ListedRevision) -> Result<ListedProfile, AllocError>
     ensures { IfOk result (λ listed. listed ≡ listed_by issued row.now) }
 {
     Ok(ListedProfile {
-        profile: row.profile.copy(alloc)?,
+        profile: row.profile.clone()?,
         issued,
         revisions: row.number,
         state: row.state,
@@ -49,7 +49,7 @@ pub fn profiles_in(alloc: Global, rows: &[ListedRevision]) -> Result<Listing, Al
     while let Some((row, later)) = left.split_first() {
         issued = issued_with(issued, row);
         if is_last(row, later) {
-            profiles.push(listed_by(alloc, issued, row)?)?;
+            profiles.push(listed_by(issued, row)?)?;
             issued = 0;
         }
         left = later;

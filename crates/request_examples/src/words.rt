@@ -10,7 +10,7 @@ use std::test::Fail;
 // That a text is a word, of which a copy has the same text.
 fn assert_word(rt: &impl Abort, alloc: Global, text: &str) -> Result<(), Fail> {
     let word = Word::new(alloc, text)?;
-    let copy = word.copy(alloc)?;
+    let copy = word.clone()?;
     assert_eq!(rt; (word.as_str(), copy.as_str()), (text, text));
     Ok(())
 }
@@ -91,7 +91,7 @@ fn a_token_is_of_printed_characters(rt: HostRuntime) -> Result<(), Fail> {
 #[test]
 fn a_copied_text_is_the_same_text(rt: HostRuntime) -> Result<(), Fail> {
     let text = Text::new(String::from_str(rt.alloc(), "a b\n")?);
-    let copy = text.copy(rt.alloc())?;
+    let copy = text.clone()?;
     let is_empty = text.is(&Text::new(String::new(rt.alloc())));
     assert_eq!(rt;
         (copy.as_str(), text.is(&copy), is_empty),

@@ -1,12 +1,11 @@
 //! Texts of any length, as contracts see them.
 
-ghost use Rattle.std.specs.Prelude.{◌≡◌, bytes_eq, string_bytes, IfOk};
+ghost use Rattle.std.specs.Prelude.{◌≡◌, bytes_eq, string_bytes};
 
-use std::alloc::{AllocError, Global};
 use std::marker::Model;
 
 /// A text, which contracts see as its bytes.
-#[derive(Debug, Drop)]
+#[derive(Clone, Debug, Drop)]
 pub struct Text {
     text: String,
 }
@@ -32,14 +31,6 @@ impl Text {
         ensures { result.now ≡ self.now }
     {
         self.text.as_str()
-    }
-
-    /// A text of its own with the same characters.
-    pub fn copy(&self, alloc: Global) -> Result<Text, AllocError>
-        ensures { IfOk result (λ text. text ≡ self.now) }
-    {
-        let text = String::from_str(alloc, self.as_str())?;
-        Ok(Text { text })
     }
 
     /// Whether it is the same text.

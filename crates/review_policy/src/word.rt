@@ -9,7 +9,7 @@ use std::marker::Model;
 use thiserror::Error;
 
 /// A name of a user, a team or a profile: 1 to 64 of a-z, 0-9 and the hyphen.
-#[derive(Debug, Drop)]
+#[derive(Clone, Debug, Drop)]
 pub struct Word {
     text: String,
 }
@@ -67,14 +67,6 @@ impl Word {
         ensures formed { is_word self.now ≡ true }
     {
         self.text.as_str()
-    }
-
-    /// A word of its own with the same text.
-    pub fn copy(&self, alloc: Global) -> Result<Word, AllocError>
-        ensures { IfOk result (λ word. word ≡ self.now) }
-    {
-        let text = String::from_str(alloc, self.as_str())?;
-        Ok(Word { text })
     }
 
     /// Whether it is the same word.

@@ -17,7 +17,8 @@ returns g c =
     let old = state g.S.Store c.args.conn.now in
     let mid = state g.S.Store c.baseline.new.conn in
     let new = state g.S.Store c.revision.new.conn in
+    let same : c.in_ok-clone.field-0 ≡ c.args.team.now = search rules in
     read_both old mid new _ _ _ c.in_ok-adopted.ensures.read _ _ _
-    (adopted_found c.args.team.now c.in_ok-adopted.field-0 c.in-Some.adopted c.in_ok-copy.field-0 c.in_ok-found.found c.standing.result
-    c.in-Some.is c.in_ok-copy.ensures c.standing.ensures)
+    (adopted_found c.args.team.now c.in_ok-adopted.field-0 c.in-Some.adopted c.in_ok-clone.field-0 c.in_ok-found.found c.standing.result
+    c.in-Some.is same c.standing.ensures)
     c.in_ok-found.ensures.read

@@ -39,11 +39,12 @@ returns-in_err-author g c =
 
 pub returns-in_err-revision : goal.returns-in_err-revision
 returns-in_err-revision g c =
+    let same : c.in_ok-author.author ≡ c.args.caller.now.name = search rules in
     left _ _ _ _ (refusals.Fault c.in_err-revision.field-0.0) c.from_residual-in_err-revision.ensures.1
     (answer_fails _ (state g.S.Store c.args.conn.now) (state g.S.Store c.last.new.conn) (state g.S.Store c.add_revision.new.conn) _
     c.in_ok-last.last c.in_ok-last.ensures.read (λ h. Submitted c.digest-digest.result (suc (revision_count h c.args.name.now))) _
     (λ h lawful is. adds h c.args.caller.now c.args.name.now c.args.document.now c.in_ok-text.text c.in_ok-text.ensures.text c.in_ok-last.last is
-    lawful c.in_ok-author.author c.digest-digest.result c.in_ok-author.ensures
+    lawful c.in_ok-author.author c.digest-digest.result same
     (c.digest-digest.ensures ∙ ap digest_of (c.as_bytes.ensures.value ∙ c.as_str.ensures))
     (asked c.args.caller.now c.args.name.now.team c.in_ok-text.text c.in_ok-last.last c.submit_facts.result c.is_open_text-same_as_open.result
     c.number_of.result (Ok tt) c.submit_facts.ensures c.is_open_text-same_as_open.ensures c.number_of.ensures c.in_ok-decide_submit.ensures))
@@ -51,10 +52,11 @@ returns-in_err-revision g c =
 
 pub returns : goal.returns
 returns g c =
+    let same : c.in_ok-author.author ≡ c.args.caller.now.name = search rules in
     answered _ (state g.S.Store c.args.conn.now) (state g.S.Store c.last.new.conn) (state g.S.Store c.add_revision.new.conn) _
     c.in_ok-last.last c.in_ok-last.ensures.read (λ h. Submitted c.digest-digest.result (suc (revision_count h c.args.name.now))) _
     (λ h lawful is. adds h c.args.caller.now c.args.name.now c.args.document.now c.in_ok-text.text c.in_ok-text.ensures.text c.in_ok-last.last is
-    lawful c.in_ok-author.author c.digest-digest.result c.in_ok-author.ensures
+    lawful c.in_ok-author.author c.digest-digest.result same
     (c.digest-digest.ensures ∙ ap digest_of (c.as_bytes.ensures.value ∙ c.as_str.ensures))
     (asked c.args.caller.now c.args.name.now.team c.in_ok-text.text c.in_ok-last.last c.submit_facts.result c.is_open_text-same_as_open.result
     c.number_of.result (Ok tt) c.submit_facts.ensures c.is_open_text-same_as_open.ensures c.number_of.ensures c.in_ok-decide_submit.ensures))
