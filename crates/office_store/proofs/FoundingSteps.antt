@@ -30,9 +30,9 @@ use Rattle.office_rows.proofs.Writing.{IsTableOf, WritesIn, inserts}
 use Rattle.office_rows.proofs.Leading.{Makes, Leads, goes, ends, all_led, none_led}
 use Rattle.office_rows.proofs.Creating.{HasEmptyTables, MakesTable, created_step}
 use Rattle.office_store.proofs.Indexing.{MakesIndexOn, indexed_step}
-use Rattle.office_store.specs.declared.schema.TheConstants.{CREATE_OFFICE, CREATE_USERS, CREATE_REVISIONS, CREATE_VOTES, CREATE_BASELINES, CREATE_HOLDS, CREATE_BY_STATE, CREATE_BY_AUTHOR, CREATE_LISTED}
+use Rattle.office_store.specs.declared.schema.TheConstants.{CREATE_OFFICE, CREATE_USERS, CREATE_REVISIONS, CREATE_VOTES, CREATE_BASELINES, CREATE_HOLDS, CREATE_BY_STATE, CREATE_BY_AUTHOR}
 use Rattle.office_store.specs.declared.founding.TheConstants.{INSERT_OFFICE}
-use Rattle.office_store.specs.Schema.{no_schema, tables_schema, by_state, by_author, listed_index, office_schema, office_table, users_table, revisions_table, votes_table, baselines_table, holds_table}
+use Rattle.office_store.specs.Schema.{no_schema, tables_schema, by_state, by_author, office_schema, office_table, users_table, revisions_table, votes_table, baselines_table, holds_table}
 use Rattle.office_store.specs.Entries.{user_row, IsUser}
 use Rattle.office_store.specs.Shown.{office_row, IsOffice}
 use Rattle.office_store.specs.Steps.{statement}
@@ -84,9 +84,6 @@ holds_made = record { means = record { is = refl; plain = (refl, refl); unlisted
 abbrev with_states : Schema
 with_states = indexed tables_schema (revisions_table 4) by_state
 
-abbrev with_authors : Schema
-with_authors = indexed with_states (revisions_table 4) by_author
-
 states_made : MakesIndexOn tables_schema 2 (revisions_table 4) CREATE_BY_STATE.now by_state
 unfolding understood everything
 states_made = record { there = refl; means = record { is = refl; plain = (refl, refl); unlisted = refl }; defined = refl }
@@ -94,10 +91,6 @@ states_made = record { there = refl; means = record { is = refl; plain = (refl, 
 authors_made : MakesIndexOn with_states 2 (revisions_table 4) CREATE_BY_AUTHOR.now by_author
 unfolding understood everything
 authors_made = record { there = refl; means = record { is = refl; plain = (refl, refl); unlisted = refl }; defined = refl }
-
-listed_made : MakesIndexOn with_authors 2 (revisions_table 4) CREATE_LISTED.now listed_index
-unfolding understood everything
-listed_made = record { there = refl; means = record { is = refl; plain = (refl, refl); unlisted = refl }; defined = refl }
 
 -- ---- the row of the office
 
@@ -165,9 +158,8 @@ module _ {S : Type 0} (g : Ghosts S) where
       (goes (created_step g CREATE_HOLDS.now (holds_table 0) with_baselines holds_made)
       (goes (indexed_step tables_schema 2 (revisions_table 4) CREATE_BY_STATE.now by_state states_made g)
       (goes (indexed_step with_states 2 (revisions_table 4) CREATE_BY_AUTHOR.now by_author authors_made g)
-      (goes (indexed_step with_authors 2 (revisions_table 4) CREATE_LISTED.now listed_index listed_made g)
       (goes (office_step listed below)
-      (goes (user_step u listed formed) ends))))))))))
+      (goes (user_step u listed formed) ends)))))))))
 
   module _ (u : UserRow) (listed : ℕ) (below : listed < 2 ^ 41) (formed : IsUser u) (h : Held S) (empty : (state g h).now.schema ≡ no_schema) where
     given : (x y z : Row) → x ≡ [] → y ≡ Int (pos listed) ∷ [] → z ≡ user_row u → Leads g (founding x y z) (HasEmptyTables no_schema) (λ db. IsOffice db (founded_tables u listed))

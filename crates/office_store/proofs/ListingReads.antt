@@ -6,9 +6,12 @@ use Rattle.std.specs.Ordering.{nat_cmp, int_cmp, ordering_then}
 use Rattle.std.proofs.lemmas.Bool.Decides.{nat_tests}
 use Rattle.std.proofs.lemmas.Slice.Eq.{bytes_eq-Decides}
 use Rattle.std.proofs.lemmas.List.Sorted.{IsPermutation-sym}
-use Rattle.sqlite.specs.declared.types.Value.TheVariants.{Text, Int}
+use Rattle.sqlite.specs.declared.types.Value.TheVariants.{Null, Text, Int}
+use Rattle.sqlite_sql.specs.declared.ops.BinaryOp.TheVariants.{Coalesce}
+use Rattle.sqlite_sql.specs.Ops.{binary}
+use Rattle.sqlite_sql.specs.Term.{eval_all}
 use Rattle.sqlite.specs.Order.{Row}
-use Rattle.sqlite.specs.Term.{Term, col, holds}
+use Rattle.sqlite.specs.Term.{Term, lit, col, op2, holds}
 use Rattle.sqlite.specs.Query.{inner, end}
 use Rattle.sqlite.specs.Command.TheVariants.{Select}
 use Rattle.sqlite.specs.Collation.TheVariants.{Binary}
@@ -51,8 +54,12 @@ shown_columns = col 1 2 ∷ col 1 3 ∷ col 1 5 ∷ []
 abbrev of_team : List Term
 of_team = column_is 1 0 ∷ []
 
+-- what a plus makes of a column
+abbrev plus : Term → Term
+plus column = op2 Coalesce column (lit Null)
+
 abbrev by_name_and_number : List (Term × Key)
-by_name_and_number = (col 1 2, ascending Binary) ∷ (col 1 3, ascending Binary) ∷ []
+by_name_and_number = (plus (col 1 2), ascending Binary) ∷ (col 1 3, ascending Binary) ∷ []
 
 abbrev names : List (List ℕ)
 names = codes "profile" ∷ codes "number" ∷ codes "state" ∷ []
@@ -72,6 +79,10 @@ shown e = listed_row (listed_of e)
 
 abbrev is_of : List ℕ → Revision → Bool
 is_of team e = bytes_eq team e.0.team
+
+keyed : (team : List ℕ) (k : ℤ × Revision) → eval_all (map {A = Term × Key} {B = Term} (λ o. o.0) by_name_and_number) ((Text team ∷ []) ∷ row_of revision_row k ∷ []) ≡ key k.1
+unfolding binary
+keyed team k = refl
 
 team_tested : (team : List ℕ) (k : ℤ × Revision) → list_all (holds ((Text team ∷ []) ∷ row_of revision_row k ∷ [])) of_team ≡ is_of team k.1
 team_tested team k = one_is _ _ (text_is k.1.0.team team)
@@ -175,7 +186,7 @@ module _ (old new : State) (t : Tables) (shows : Shows old t) where
   reads_listed idle items team =
       let o = shows.office in
       list_read _ REVISIONS_OF.now (Text team ∷ []) names listed_mean old new t shows idle items (AreListedRows t team)
-      (λ rows a. listed_rows team rows (table_in_order revision_row key shown (is_of team) shown_columns of_team by_name_and_number (Text team ∷ []) (team_tested team) (λ k. refl) (λ k. refl) _ 4 rows o.revisions.entries o.revisions.kept a))
+      (λ rows a. listed_rows team rows (table_in_order revision_row key shown (is_of team) shown_columns of_team by_name_and_number (Text team ∷ []) (team_tested team) (λ k. refl) (keyed team) _ 4 rows o.revisions.entries o.revisions.kept a))
 
 -- ---- one row
 

@@ -7,7 +7,7 @@ use Rattle.sqlite_schema.specs.Names.{table_named}
 use Rattle.office_tables.specs.Tables.{Tables}
 use Rattle.office_tables.specs.Changes.{founded_tables}
 use Rattle.office_rows.specs.Statements.{Statement}
-use Rattle.office_store.specs.declared.schema.TheConstants.{CREATE_OFFICE, CREATE_USERS, CREATE_REVISIONS, CREATE_VOTES, CREATE_BASELINES, CREATE_HOLDS, CREATE_BY_STATE, CREATE_BY_AUTHOR, CREATE_LISTED}
+use Rattle.office_store.specs.declared.schema.TheConstants.{CREATE_OFFICE, CREATE_USERS, CREATE_REVISIONS, CREATE_VOTES, CREATE_BASELINES, CREATE_HOLDS, CREATE_BY_STATE, CREATE_BY_AUTHOR}
 use Rattle.office_store.specs.declared.founding.TheConstants.{INSERT_OFFICE}
 use Rattle.office_store.specs.declared.users.TheConstants.{INSERT_USER}
 use Rattle.office_store.specs.Schema.{no_schema}
@@ -37,7 +37,6 @@ founding none office user =
     ∷ statement CREATE_HOLDS.now none
     ∷ statement CREATE_BY_STATE.now none
     ∷ statement CREATE_BY_AUTHOR.now none
-    ∷ statement CREATE_LISTED.now none
     ∷ statement INSERT_OFFICE.now office
     ∷ statement INSERT_USER.now user
     ∷ []

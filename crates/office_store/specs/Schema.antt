@@ -73,14 +73,11 @@ abbrev pub revisions_index : List ℕ → List ℕ → Index
 revisions_index name columns = record { name = name; tree = 0; table = 4; columns = columns; order = plain; is_unique = false }
 
 abbrev pub by_state : Index
-by_state = revisions_index (codes "revisions_by_state") (1 ∷ 2 ∷ 5 ∷ [])
+by_state = revisions_index (codes "revisions_by_state") (1 ∷ 2 ∷ 5 ∷ 3 ∷ [])
 
 abbrev pub by_author : Index
 by_author = revisions_index (codes "revisions_by_author") (1 ∷ 2 ∷ 4 ∷ [])
 
-abbrev pub listed_index : Index
-listed_index = revisions_index (codes "revisions_listed") (1 ∷ 2 ∷ 3 ∷ 5 ∷ [])
-
--- with the three indexes, one after the other
+-- with the two indexes, one after the other
 abbrev pub office_schema : Schema
-office_schema = indexed (indexed (indexed tables_schema (revisions_table 4) by_state) (revisions_table 4) by_author) (revisions_table 4) listed_index
+office_schema = indexed (indexed tables_schema (revisions_table 4) by_state) (revisions_table 4) by_author

@@ -15,8 +15,8 @@ ghost use Rattle.office_store.specs.Shown.{IsIdle, Shows, AreOffice, LeavesOnly}
 use crate::column::bytes_of;
 use crate::fault::FoundingFault;
 use crate::schema::{
-    CREATE_BASELINES, CREATE_BY_AUTHOR, CREATE_BY_STATE, CREATE_HOLDS, CREATE_LISTED,
-    CREATE_OFFICE, CREATE_REVISIONS, CREATE_USERS, CREATE_VOTES,
+    CREATE_BASELINES, CREATE_BY_AUTHOR, CREATE_BY_STATE, CREATE_HOLDS, CREATE_OFFICE,
+    CREATE_REVISIONS, CREATE_USERS, CREATE_VOTES,
 };
 use crate::users::INSERT_USER;
 use cap_sets::Caps;
@@ -120,10 +120,6 @@ fn run_founding<'a, S: Alter>(
             },
             Statement {
                 sql: CREATE_BY_AUTHOR,
-                params: none,
-            },
-            Statement {
-                sql: CREATE_LISTED,
                 params: none,
             },
             Statement {

@@ -20,8 +20,9 @@ use review_policy::Word;
 use sqlite::{Alter, Connection, Row};
 use std::alloc::Global;
 
+// The plus keeps the planner from the order of the primary key, so that it takes the index that has all three columns.
 pub(crate) const REVISIONS_OF: &str =
-    "SELECT profile, number, state FROM revisions WHERE team = ?1 ORDER BY profile, number";
+    "SELECT profile, number, state FROM revisions WHERE team = ?1 ORDER BY +profile, number";
 
 // The rows of the revisions of a team.
 fn listed_rows<S: Alter>(conn: &mut Connection<S>, team: &Word) -> Result<Vec<Row>, StoreFault>

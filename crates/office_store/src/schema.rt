@@ -24,14 +24,10 @@ pub const CREATE_BASELINES: &str =
 pub const CREATE_HOLDS: &str =
     "CREATE TABLE holds (team TEXT NOT NULL, profile TEXT NOT NULL, PRIMARY KEY (team, profile)) STRICT";
 
-/// Finds the open and the issued revision of a profile.
+/// Finds the open and the issued revision of a profile. It has all that a list of a team's revisions shows, so that no body is read.
 pub const CREATE_BY_STATE: &str =
-    "CREATE INDEX revisions_by_state ON revisions (team, profile, state)";
+    "CREATE INDEX revisions_by_state ON revisions (team, profile, state, number)";
 
 /// Finds the authors of a profile.
 pub const CREATE_BY_AUTHOR: &str =
     "CREATE INDEX revisions_by_author ON revisions (team, profile, author)";
-
-/// Has all that a list of a team's revisions shows, so that no body is read.
-pub const CREATE_LISTED: &str =
-    "CREATE INDEX revisions_listed ON revisions (team, profile, number, state)";
