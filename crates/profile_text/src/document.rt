@@ -32,14 +32,14 @@ pub struct Document {
 }
 
 // What the members of a document give, where they are there.
-#[derive(Debug, Drop)]
+#[derive(Drop)]
 pub(crate) struct Found {
     sets: Option<Sets>,
     filter: Option<FilterParts>,
 }
 
 // What a document names: five sets, and the parts of a filter, where it has one.
-#[derive(Debug, Drop)]
+#[derive(Drop)]
 pub(crate) struct Parts {
     sets: Sets,
     filter: Option<FilterParts>,

@@ -50,7 +50,7 @@ fn names_of(alloc: Global, place: Place, name: &str, value: Value) -> Result<Vec
 }
 
 // What the members of an entry give.
-#[derive(Debug, Drop)]
+#[derive(Drop)]
 pub(crate) struct FoundEntry {
     word: Option<ActionWord>,
     args: Vec<ArgParts>,

@@ -18,7 +18,7 @@ use serde_json::{Map, Value};
 use std::alloc::Global;
 
 // What the members of a filter give.
-#[derive(Debug, Drop)]
+#[derive(Drop)]
 pub(crate) struct FoundFilter {
     architectures: Vec<Arch>,
     default: Option<ActionWord>,

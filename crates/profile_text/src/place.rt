@@ -3,7 +3,7 @@
 use std::fmt;
 
 /// An object of a document. Its path is written only where a fault is told.
-#[derive(Clone, Copy, PartialEq, Eq, Debug)]
+#[derive(Clone, Copy)]
 pub(crate) enum Place {
     /// The whole document.
     Document,

@@ -47,7 +47,7 @@ impl CapSet {
 }
 
 /// Five sets as a document names them, lawful or not.
-#[derive(Clone, Copy, PartialEq, Eq, Debug)]
+#[derive(Clone, Copy)]
 pub(crate) struct Sets {
     pub(crate) ambient: Caps,
     pub(crate) bounding: Caps,
