@@ -1,3 +1,4 @@
+pub mod Building
 pub mod Getters
 pub mod Numbers
 pub mod RefusalFacts

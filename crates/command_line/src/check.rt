@@ -1,13 +1,13 @@
 //! The command `check`.
 
 ghost use Rattle.std.specs.Prelude.{◌≡◌, IfOk, IfSome, IfNone, None, false, codes};
-ghost use Rattle.clap.specs.declared.builder.command.Command.TheViews.{out-Command as fields_of};
-ghost use Rattle.clap.specs.Words.{app_of, first_of, found_of, rows_of};
+ghost use Rattle.clap.specs.Words.{first_of, found_of, rows_of};
 ghost use Rattle.command_line.specs.Commands.{check_app};
 ghost use Rattle.command_line.specs.Meaning.{AsksFor};
+ghost use Rattle.command_line.specs.Parts.{AddsCommand};
 
 use crate::command::Command;
-use crate::parts::{described, needed, with_arg};
+use crate::parts::{Form, Parameter, add_command};
 use clap::ArgMatches;
 use std::alloc::{AllocError, Global};
 
@@ -23,13 +23,19 @@ standard error says as `office: WORDS`.
 Example:
   office check examples/web.json";
 
-/// `check FILE`.
-pub(crate) fn check_command<'a>(alloc: Global) -> Result<clap::Command<'a>, AllocError>
-    ensures app { IfOk result (λ c. app_of c ≡ check_app) }
-    ensures globals { IfOk result (λ c. (fields_of c).has_globals ≡ false) }
+/// Adds `check FILE`.
+pub(crate) fn add_check<'a>(
+    alloc: Global,
+    commands: &mut Vec<clap::Command<'a>>,
+) -> Result<(), AllocError>
+    ensures { IfOk result (λ _. AddsCommand check_app commands.old.items commands.new.items) }
 {
-    let check = described(clap::Command::new(alloc, "check"), ABOUT, EXAMPLES);
-    with_arg(check, needed(alloc, "file", "FILE", "The document"))
+    let parameters = [Parameter {
+        id: "file",
+        form: Form::Needed("FILE"),
+        help: "The document",
+    }];
+    add_command(alloc, commands, "check", ABOUT, EXAMPLES, &parameters)
 }
 
 /// What `check` asks for with these values; none without FILE.

@@ -1,14 +1,14 @@
 //! The command `compare`.
 
 ghost use Rattle.std.specs.Prelude.{◌≡◌, IfOk, IfSome, IfNone, false, codes};
-ghost use Rattle.clap.specs.declared.builder.command.Command.TheViews.{out-Command as fields_of};
-ghost use Rattle.clap.specs.Words.{app_of, found_of, rows_of};
+ghost use Rattle.clap.specs.Words.{found_of, rows_of};
 ghost use Rattle.command_line.specs.Commands.{compare_app};
 ghost use Rattle.command_line.specs.Meaning.{AsksFor};
+ghost use Rattle.command_line.specs.Parts.{AddsCommand};
 ghost use Rattle.command_line.specs.Refusals.{NoneAskedFor};
 
 use crate::command::Command;
-use crate::parts::{described, needed, with_arg};
+use crate::parts::{Form, Parameter, add_command};
 use clap::ArgMatches;
 use std::alloc::{AllocError, Global};
 
@@ -24,16 +24,26 @@ was refused or failed, which standard error says as `office: WORDS`.
 Example:
   office compare examples/closed.json examples/web.json";
 
-/// `compare BASE NEW`.
-pub(crate) fn compare_command<'a>(alloc: Global) -> Result<clap::Command<'a>, AllocError>
-    ensures app { IfOk result (λ c. app_of c ≡ compare_app) }
-    ensures globals { IfOk result (λ c. (fields_of c).has_globals ≡ false) }
+/// Adds `compare BASE NEW`.
+pub(crate) fn add_compare<'a>(
+    alloc: Global,
+    commands: &mut Vec<clap::Command<'a>>,
+) -> Result<(), AllocError>
+    ensures { IfOk result (λ _. AddsCommand compare_app commands.old.items commands.new.items) }
 {
-    let compare = described(clap::Command::new(alloc, "compare"), ABOUT, EXAMPLES);
-    let base = needed(alloc, "base", "BASE", "The document to compare with");
-    let compare = with_arg(compare, base)?;
-    let new = needed(alloc, "new", "NEW", "The document that may permit more");
-    with_arg(compare, new)
+    let parameters = [
+        Parameter {
+            id: "base",
+            form: Form::Needed("BASE"),
+            help: "The document to compare with",
+        },
+        Parameter {
+            id: "new",
+            form: Form::Needed("NEW"),
+            help: "The document that may permit more",
+        },
+    ];
+    add_command(alloc, commands, "compare", ABOUT, EXAMPLES, &parameters)
 }
 
 /// What `compare` asks for with these values; none without BASE and NEW.

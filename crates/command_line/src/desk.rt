@@ -1,13 +1,13 @@
 //! The command `desk`.
 
 ghost use Rattle.std.specs.Prelude.{◌≡◌, IfOk, IfSome, IfNone, None, false, codes};
-ghost use Rattle.clap.specs.declared.builder.command.Command.TheViews.{out-Command as fields_of};
-ghost use Rattle.clap.specs.Words.{app_of, first_of, found_of, rows_of};
+ghost use Rattle.clap.specs.Words.{first_of, found_of, rows_of};
 ghost use Rattle.command_line.specs.Commands.{desk_app};
 ghost use Rattle.command_line.specs.Meaning.{AsksFor};
+ghost use Rattle.command_line.specs.Parts.{AddsCommand};
 
 use crate::command::Command;
-use crate::parts::{described, needed, with_arg};
+use crate::parts::{Form, Parameter, add_command};
 use clap::ArgMatches;
 use std::alloc::{AllocError, Global};
 
@@ -23,16 +23,19 @@ Statuses: 0, all lines were answered; 1, it was refused or failed, which standar
 Example:
   office desk team.db < requests.jsonl";
 
-/// `desk DB`.
-pub(crate) fn desk_command<'a>(alloc: Global) -> Result<clap::Command<'a>, AllocError>
-    ensures app { IfOk result (λ c. app_of c ≡ desk_app) }
-    ensures globals { IfOk result (λ c. (fields_of c).has_globals ≡ false) }
+/// Adds `desk DB`.
+pub(crate) fn add_desk<'a>(
+    alloc: Global,
+    commands: &mut Vec<clap::Command<'a>>,
+) -> Result<(), AllocError>
+    ensures { IfOk result (λ _. AddsCommand desk_app commands.old.items commands.new.items) }
 {
-    let desk = described(clap::Command::new(alloc, "desk"), ABOUT, EXAMPLES);
-    with_arg(
-        desk,
-        needed(alloc, "database", "DB", "The file of the office"),
-    )
+    let parameters = [Parameter {
+        id: "database",
+        form: Form::Needed("DB"),
+        help: "The file of the office",
+    }];
+    add_command(alloc, commands, "desk", ABOUT, EXAMPLES, &parameters)
 }
 
 /// What `desk` asks for with these values; none without DB.

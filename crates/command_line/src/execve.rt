@@ -1,13 +1,13 @@
 //! The command `execve`.
 
 ghost use Rattle.std.specs.Prelude.{◌≡◌, IfOk, IfSome, IfNone, None, false, codes};
-ghost use Rattle.clap.specs.declared.builder.command.Command.TheViews.{out-Command as fields_of};
-ghost use Rattle.clap.specs.Words.{app_of, first_of, found_of, rows_of};
-ghost use Rattle.command_line.specs.Commands.{execve_app, execve_flags_app};
+ghost use Rattle.clap.specs.Words.{first_of, found_of, rows_of};
+ghost use Rattle.command_line.specs.Commands.{execve_app};
 ghost use Rattle.command_line.specs.Meaning.{AsksFor};
+ghost use Rattle.command_line.specs.Parts.{AddsCommand};
 
 use crate::command::{Command, ExecveWords};
-use crate::parts::{described, flag, needed, value_option, with_arg};
+use crate::parts::{Form, Parameter, add_command};
 use clap::ArgMatches;
 use std::alloc::{AllocError, Global};
 
@@ -28,39 +28,41 @@ Examples:
   office execve examples/web.json --file-permitted CAP_NET_RAW --file-effective
   office execve examples/web.json --root";
 
-// `execve FILE` with its flags.
-fn execve_with_flags<'a>(alloc: Global) -> Result<clap::Command<'a>, AllocError>
-    ensures app { IfOk result (λ c. app_of c ≡ execve_flags_app) }
-    ensures globals { IfOk result (λ c. (fields_of c).has_globals ≡ false) }
+/// Adds `execve FILE [--root] [--file-permitted LIST] [--file-inheritable LIST] [--file-effective]`.
+pub(crate) fn add_execve<'a>(
+    alloc: Global,
+    commands: &mut Vec<clap::Command<'a>>,
+) -> Result<(), AllocError>
+    ensures { IfOk result (λ _. AddsCommand execve_app commands.old.items commands.new.items) }
 {
-    let execve = described(clap::Command::new(alloc, "execve"), ABOUT, EXAMPLES);
-    let execve = with_arg(execve, needed(alloc, "file", "FILE", "The document"))?;
-    let root = flag(alloc, "root", "The process has the user ids of root");
-    let execve = with_arg(execve, root)?;
-    let effective = flag(alloc, "file-effective", "The file's effective bit is set");
-    with_arg(execve, effective)
-}
-
-/// `execve FILE [--root] [--file-permitted LIST] [--file-inheritable LIST] [--file-effective]`.
-pub(crate) fn execve_command<'a>(alloc: Global) -> Result<clap::Command<'a>, AllocError>
-    ensures app { IfOk result (λ c. app_of c ≡ execve_app) }
-    ensures globals { IfOk result (λ c. (fields_of c).has_globals ≡ false) }
-{
-    let execve = execve_with_flags(alloc)?;
-    let permitted = value_option(
-        alloc,
-        "file-permitted",
-        "LIST",
-        "The file's permitted capabilities",
-    );
-    let execve = with_arg(execve, permitted)?;
-    let inheritable = value_option(
-        alloc,
-        "file-inheritable",
-        "LIST",
-        "The file's inheritable capabilities",
-    );
-    with_arg(execve, inheritable)
+    let parameters = [
+        Parameter {
+            id: "file",
+            form: Form::Needed("FILE"),
+            help: "The document",
+        },
+        Parameter {
+            id: "root",
+            form: Form::Flag,
+            help: "The process has the user ids of root",
+        },
+        Parameter {
+            id: "file-effective",
+            form: Form::Flag,
+            help: "The file's effective bit is set",
+        },
+        Parameter {
+            id: "file-permitted",
+            form: Form::Valued("LIST"),
+            help: "The file's permitted capabilities",
+        },
+        Parameter {
+            id: "file-inheritable",
+            form: Form::Valued("LIST"),
+            help: "The file's inheritable capabilities",
+        },
+    ];
+    add_command(alloc, commands, "execve", ABOUT, EXAMPLES, &parameters)
 }
 
 /// What `execve` asks for with these values; none without FILE.

@@ -1,101 +1,103 @@
 //! What commands are made of.
 
-ghost use Rattle.std.specs.Prelude.{◌≡◌, IfOk, false};
-ghost use Rattle.clap.specs.declared.builder.command.Command.TheViews.{out-Command as fields_of};
-ghost use Rattle.clap.specs.Words.{app_of, rule_of, shape_of, with_rule, with_subcommand};
-ghost use Rattle.command_line.specs.Parts.{flag_rule, needed_rule, number_rule, option_rule, several_rule, with_version};
+ghost use Rattle.std.specs.Prelude.{◌≡◌, IfOk, map};
+ghost use Rattle.clap.specs.Words.{new_app};
+ghost use Rattle.command_line.specs.Parts.{AddsCommand, part_for, part_of, rule_for, with_rules};
 
 use clap::builder::ValueParser;
 use clap::{Arg, ArgAction, Command};
 use std::alloc::{AllocError, Global};
 
-/// A value that has to be there, by its place.
-pub(crate) fn needed<'a>(alloc: Global, id: &'a str, shown: &'a str, help: &'a str) -> Arg<'a>
-    ensures rule { rule_of result ≡ needed_rule id.entry.now }
-    ensures local { result.global ≡ false }
-{
-    Arg::new(alloc, id)
-        .required(true)
-        .value_name(shown)
-        .help(help)
+/// How an argument is given, and what help calls its value.
+#[derive(Clone, Copy)]
+pub(crate) enum Form<'a> {
+    /// A value that has to be there, by its place.
+    Needed(&'a str),
+    /// Values by their places, as many as there are.
+    Several(&'a str),
+    /// `--id`, at most once.
+    Flag,
+    /// `--id VALUE`, at most once.
+    Valued(&'a str),
+    /// `--id NUMBER`, once, of a number from `low` to `high`.
+    Number {
+        shown: &'a str,
+        low: u64,
+        high: u64,
+    },
+    /// The same, at most once: else it is `default`.
+    NumberOr {
+        shown: &'a str,
+        low: u64,
+        high: u64,
+        default: &'a str,
+    },
 }
 
-/// Values by their places, as many as there are.
-pub(crate) fn several<'a>(alloc: Global, id: &'a str, shown: &'a str, help: &'a str) -> Arg<'a>
-    ensures rule { rule_of result ≡ several_rule id.entry.now }
-    ensures local { result.global ≡ false }
-{
-    Arg::new(alloc, id)
-        .action(ArgAction::Append)
-        .value_name(shown)
-        .help(help)
+/// An argument of a command.
+#[derive(Clone, Copy)]
+pub(crate) struct Parameter<'a> {
+    /// What it is read back by, and the name of an option.
+    pub id: &'a str,
+    /// How it is given.
+    pub form: Form<'a>,
+    /// What help says of it.
+    pub help: &'a str,
 }
 
-/// `--id VALUE`, at most once.
-pub(crate) fn value_option<'a>(alloc: Global, id: &'a str, shown: &'a str, help: &'a str) -> Arg<'a>
-    ensures rule { rule_of result ≡ option_rule id.entry.now }
-    ensures local { result.global ≡ false }
+// The argument, as `clap` takes it.
+fn arg_of<'a>(alloc: Global, parameter: Parameter<'a>) -> Arg<'a>
+    ensures { part_of result ≡ part_for parameter.entry }
 {
-    Arg::new(alloc, id).long(id).value_name(shown).help(help)
+    let id = parameter.id;
+    let arg = Arg::new(alloc, id).help(parameter.help);
+    match parameter.form {
+        Form::Needed(shown) => arg.required(true).value_name(shown),
+        Form::Several(shown) => arg.action(ArgAction::Append).value_name(shown),
+        Form::Flag => arg.long(id).action(ArgAction::SetTrue),
+        Form::Valued(shown) => arg.long(id).value_name(shown),
+        Form::Number { shown, low, high } => arg
+            .long(id)
+            .value_name(shown)
+            .value_parser(ValueParser::unsigned(low, high))
+            .required(true),
+        Form::NumberOr {
+            shown,
+            low,
+            high,
+            default,
+        } => arg
+            .long(id)
+            .value_name(shown)
+            .value_parser(ValueParser::unsigned(low, high))
+            .default_value(default),
+    }
 }
 
-/// `--id NUMBER`, at most once, of a number from `low` to `high`.
-pub(crate) fn number_option<'a>(
+// The arguments, as `clap` takes them.
+fn args_of<'a>(alloc: Global, parameters: &[Parameter<'a>]) -> Result<Vec<Arg<'a>>, AllocError>
+    ensures { IfOk result (λ args. map part_of args.items ≡ map part_for parameters.now) }
+{
+    let mut args = Vec::new(alloc);
+    for parameter in parameters {
+        args.push(arg_of(alloc, *parameter))?;
+    }
+    Ok(args)
+}
+
+/// Adds a command with these arguments, and with what its help says first and last.
+pub(crate) fn add_command<'a>(
     alloc: Global,
-    id: &'a str,
-    shown: &'a str,
-    help: &'a str,
-    low: u64,
-    high: u64,
-) -> Arg<'a>
-    ensures rule { rule_of result ≡ number_rule id.entry.now low high }
-    ensures local { result.global ≡ false }
+    commands: &mut Vec<Command<'a>>,
+    name: &'a str,
+    about: &'a str,
+    examples: &'a str,
+    parameters: &[Parameter<'a>],
+) -> Result<(), AllocError>
+    ensures { IfOk result (λ _. AddsCommand (with_rules (new_app name.now) (map rule_for parameters.now)) commands.old.items commands.new.items) }
 {
-    value_option(alloc, id, shown, help).value_parser(ValueParser::unsigned(low, high))
-}
-
-/// `--id`, at most once.
-pub(crate) fn flag<'a>(alloc: Global, id: &'a str, help: &'a str) -> Arg<'a>
-    ensures rule { rule_of result ≡ flag_rule id.entry.now }
-    ensures local { result.global ≡ false }
-{
-    Arg::new(alloc, id)
-        .long(id)
-        .action(ArgAction::SetTrue)
-        .help(help)
-}
-
-/// The command, with what its help says first and last.
-pub(crate) fn described<'a>(command: Command<'a>, about: &'a str, examples: &'a str) -> Command<'a>
-    ensures app { app_of result ≡ app_of command.entry }
-    ensures globals { (fields_of result).has_globals ≡ (fields_of command.entry).has_globals }
-{
-    command.about(about).after_help(examples)
-}
-
-/// The command, which `--version` asks for this version.
-pub(crate) fn versioned<'a>(command: Command<'a>, version: &'a str) -> Command<'a>
-    ensures { app_of result ≡ with_version (app_of command.entry) }
-{
-    command.version(version)
-}
-
-/// The command with one more argument.
-pub(crate) fn with_arg<'a>(command: Command<'a>, arg: Arg<'a>) -> Result<Command<'a>, AllocError>
-    requires { arg.global ≡ false }
-    ensures app { IfOk result (λ c. app_of c ≡ with_rule (app_of command.entry) (rule_of arg.entry)) }
-    ensures globals { IfOk result (λ c. (fields_of c).has_globals ≡ (fields_of command.entry).has_globals) }
-{
-    command.arg(arg)
-}
-
-/// The command with one more command below it.
-pub(crate) fn with_command<'a>(
-    command: Command<'a>,
-    inner: Command<'a>,
-) -> Result<Command<'a>, AllocError>
-    requires { (fields_of inner).has_globals ≡ false }
-    ensures app { IfOk result (λ c. app_of c ≡ with_subcommand (app_of command.entry) (shape_of inner.entry)) }
-{
-    command.subcommand(inner)
+    let args = args_of(alloc, parameters)?;
+    let command = Command::new(alloc, name).about(about).after_help(examples);
+    commands.push(command.args(args)?)?;
+    Ok(())
 }

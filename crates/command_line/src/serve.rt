@@ -1,14 +1,14 @@
 //! The command `serve`.
 
 ghost use Rattle.std.specs.Prelude.{◌≡◌, ℕ, IfOk, IfSome, IfNone, false, codes};
-ghost use Rattle.clap.specs.declared.builder.command.Command.TheViews.{out-Command as fields_of};
-ghost use Rattle.clap.specs.Words.{app_of, found_of, one_of, rows_of};
+ghost use Rattle.clap.specs.Words.{found_of, one_of, rows_of};
 ghost use Rattle.command_line.specs.Commands.{serve_app};
 ghost use Rattle.command_line.specs.Meaning.{AsksFor, IsNumberIn};
+ghost use Rattle.command_line.specs.Parts.{AddsCommand};
 ghost use Rattle.command_line.specs.Refusals.{NoNumberIn, NoneAskedFor};
 
 use crate::command::{Command, ServeWords};
-use crate::parts::{described, needed, number_option, with_arg};
+use crate::parts::{Form, Parameter, add_command};
 use clap::ArgMatches;
 use std::alloc::{AllocError, Global};
 
@@ -29,25 +29,40 @@ Statuses: 0, N exchanges are over; 1, it was refused or failed, which standard e
 Example:
   office serve team.db --port 8080 --requests 1000";
 
-/// `serve DB [--port P] --requests N`.
-pub(crate) fn serve_command<'a>(alloc: Global) -> Result<clap::Command<'a>, AllocError>
-    ensures app { IfOk result (λ c. app_of c ≡ serve_app) }
-    ensures globals { IfOk result (λ c. (fields_of c).has_globals ≡ false) }
+/// Adds `serve DB [--port P] --requests N`.
+pub(crate) fn add_serve<'a>(
+    alloc: Global,
+    commands: &mut Vec<clap::Command<'a>>,
+) -> Result<(), AllocError>
+    ensures { IfOk result (λ _. AddsCommand serve_app commands.old.items commands.new.items) }
 {
-    let serve = described(clap::Command::new(alloc, "serve"), ABOUT, EXAMPLES);
-    let database = needed(alloc, "database", "DB", "The file of the office");
-    let serve = with_arg(serve, database)?;
-    let port = number_option(alloc, "port", "P", "The port, from 0 to 65535", 0, 65535);
-    let serve = with_arg(serve, port.default_value("0"))?;
-    let requests = number_option(
-        alloc,
-        "requests",
-        "N",
-        "How many exchanges, from 1 to 1000000",
-        1,
-        u64::from(MOST_REQUESTS),
-    );
-    with_arg(serve, requests.required(true))
+    let parameters = [
+        Parameter {
+            id: "database",
+            form: Form::Needed("DB"),
+            help: "The file of the office",
+        },
+        Parameter {
+            id: "port",
+            form: Form::NumberOr {
+                shown: "P",
+                low: 0,
+                high: 65535,
+                default: "0",
+            },
+            help: "The port, from 0 to 65535",
+        },
+        Parameter {
+            id: "requests",
+            form: Form::Number {
+                shown: "N",
+                low: 1,
+                high: MOST_REQUESTS as u64,
+            },
+            help: "How many exchanges, from 1 to 1000000",
+        },
+    ];
+    add_command(alloc, commands, "serve", ABOUT, EXAMPLES, &parameters)
 }
 
 // P, or its default.

@@ -2,19 +2,19 @@
 
 ghost use Rattle.std.specs.Prelude.{◌≡◌, [], IfOk, IfErr, IfSome, IfNone, map, string_bytes};
 ghost use Rattle.clap.specs.Words.{FailsBy, app_of, fault_of, found_of, rows_of, subcommand_of, subcommand_rows_of};
-ghost use Rattle.command_line.specs.Commands.{documents_app, founding_app, office_app, one_document_app};
+ghost use Rattle.command_line.specs.Commands.{commands, office_app};
 ghost use Rattle.command_line.specs.Meaning.{AsksFor, IsCommand};
+ghost use Rattle.command_line.specs.Parts.{AreCommands};
 ghost use Rattle.command_line.specs.Refusals.{IsRefused, NamesNoCommand, NoneAskedFor};
 
-use crate::check::{check_command, check_of};
+use crate::check::{add_check, check_of};
 use crate::command::Command;
-use crate::compare::{compare_command, compare_of};
-use crate::desk::{desk_command, desk_of};
-use crate::execve::{execve_command, execve_of};
+use crate::compare::{add_compare, compare_of};
+use crate::desk::{add_desk, desk_of};
+use crate::execve::{add_execve, execve_of};
 use crate::fault::WordsFault;
-use crate::init::{init_command, init_of};
-use crate::parts::{described, versioned, with_command};
-use crate::serve::{serve_command, serve_of};
+use crate::init::{add_init, init_of};
+use crate::serve::{add_serve, serve_of};
 use clap::ArgMatches;
 use std::alloc::{AllocError, Global};
 
@@ -38,40 +38,30 @@ Examples:
   office serve team.db --port 8080 --requests 1000
   office < examples/first-path.jsonl";
 
-// The program and its commands on one document.
-fn one_document_command<'a>(alloc: Global) -> Result<clap::Command<'a>, AllocError>
-    ensures { IfOk result (λ c. app_of c ≡ one_document_app) }
+// The commands, in the order of the help.
+fn commands_of<'a>(alloc: Global) -> Result<Vec<clap::Command<'a>>, AllocError>
+    ensures { IfOk result (λ made. AreCommands commands made.items) }
 {
-    let office = clap::Command::new(alloc, "office").bin_name("office")?;
-    let office = versioned(described(office, ABOUT, EXAMPLES), VERSION);
-    let office = with_command(office, check_command(alloc)?)?;
-    with_command(office, execve_command(alloc)?)
-}
-
-// The program and its commands on documents.
-fn documents_command<'a>(alloc: Global) -> Result<clap::Command<'a>, AllocError>
-    ensures { IfOk result (λ c. app_of c ≡ documents_app) }
-{
-    let office = one_document_command(alloc)?;
-    with_command(office, compare_command(alloc)?)
-}
-
-// The program, its commands on documents, and the one that founds an office.
-fn founding_command<'a>(alloc: Global) -> Result<clap::Command<'a>, AllocError>
-    ensures { IfOk result (λ c. app_of c ≡ founding_app) }
-{
-    let office = documents_command(alloc)?;
-    with_command(office, init_command(alloc)?)
+    let mut commands = Vec::new(alloc);
+    add_check(alloc, &mut commands)?;
+    add_execve(alloc, &mut commands)?;
+    add_compare(alloc, &mut commands)?;
+    add_init(alloc, &mut commands)?;
+    add_desk(alloc, &mut commands)?;
+    add_serve(alloc, &mut commands)?;
+    Ok(commands)
 }
 
 // The program and its commands.
-#[tactic(auto, unfolding(crate::specs::Commands::office_app))]
 fn office_command<'a>(alloc: Global) -> Result<clap::Command<'a>, AllocError>
     ensures { IfOk result (λ c. app_of c ≡ office_app) }
 {
-    let office = founding_command(alloc)?;
-    let office = with_command(office, desk_command(alloc)?)?;
-    with_command(office, serve_command(alloc)?)
+    let commands = commands_of(alloc)?;
+    let office = clap::Command::new(alloc, "office")
+        .version(VERSION)
+        .about(ABOUT)
+        .after_help(EXAMPLES);
+    office.subcommands(commands)?.bin_name("office")
 }
 
 // What `clap` makes of the words.
@@ -103,6 +93,23 @@ fn command_of<'w>(
     }
 }
 
+// What was found asks for; a refusal where it is no command.
+fn asked_for<'w>(alloc: Global, matches: &ArgMatches<'w>) -> Result<Command<'w>, WordsFault>
+    ensures command { IfOk result (IsCommand (subcommand_rows_of matches.now)) }
+    ensures none { IfErr result (IsRefused [] (subcommand_rows_of matches.now)) }
+{
+    let Some((name, given)) = matches.subcommand() else {
+        return Ok(Command::Trial);
+    };
+    match command_of(alloc, name, given)? {
+        Some(command) => Ok(command),
+        None => {
+            let text = String::from_str(alloc, "error: a value is missing\n")?;
+            Err(WordsFault::Refused(text))
+        }
+    }
+}
+
 /// What the words of a command line ask for, the first of them being the program's name.
 ///
 /// # Errors
@@ -115,18 +122,8 @@ pub fn read_words<'w>(alloc: Global, words: &'w [String]) -> Result<Command<'w>,
     ensures refused { IfErr result (IsRefused (fault_of office_app (map string_bytes words.entry.now))
         (subcommand_of office_app (map string_bytes words.entry.now))) }
 {
-    let matches = match matches_of(alloc, words) {
-        Ok(matches) => matches,
-        Err(error) => return Err(WordsFault::of_error(alloc, &error)),
-    };
-    let Some((name, given)) = matches.subcommand() else {
-        return Ok(Command::Trial);
-    };
-    match command_of(alloc, name, given)? {
-        Some(command) => Ok(command),
-        None => {
-            let text = String::from_str(alloc, "error: a value is missing\n")?;
-            Err(WordsFault::Refused(text))
-        }
+    match matches_of(alloc, words) {
+        Ok(matches) => asked_for(alloc, &matches),
+        Err(error) => Err(WordsFault::of_error(alloc, &error)),
     }
 }
