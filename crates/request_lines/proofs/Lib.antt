@@ -1,2 +1,3 @@
 pub mod AnswerFacts
+pub mod KindFacts
 pub mod RequestFacts

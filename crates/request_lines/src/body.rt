@@ -79,9 +79,8 @@ fn value_of(alloc: Global, body: &[u8]) -> Result<Value, LineFault>
 fn enrol_at(alloc: Global, value: &Value) -> Result<Ask, LineFault>
     ensures { Gives plain_ask result (enrol_body (view value.now)) }
 {
-    let ask = enrol_of(alloc, value)?;
     if has_no_other(Body::Enrol, value) {
-        Ok(ask)
+        enrol_of(alloc, value)
     } else {
         Err(LineFault::NotARequest)
     }

@@ -21,6 +21,27 @@ pub enum Kind {
     Release,
 }
 
+// The kind of this word, by a comparison with each.
+fn kind_named(text: &str) -> Option<Kind>
+    ensures { result ≡ kind_of text.now }
+{
+    match text {
+        "enrol" => Some(Kind::Enrol),
+        "submit" => Some(Kind::Submit),
+        "vote" => Some(Kind::Vote),
+        "issue" => Some(Kind::Issue),
+        "withdraw" => Some(Kind::Withdraw),
+        "adopt" => Some(Kind::Adopt),
+        "show" => Some(Kind::Show),
+        "sheet" => Some(Kind::Sheet),
+        "list" => Some(Kind::List),
+        "fetch" => Some(Kind::Fetch),
+        "hold" => Some(Kind::Hold),
+        "release" => Some(Kind::Release),
+        _ => None,
+    }
+}
+
 impl Kind {
     /// The kind of this word; `None` where it is no kind's.
     pub fn from_word(text: &str) -> Option<Kind>
@@ -28,33 +49,7 @@ impl Kind {
         ensures found { IfSome result (λ kind. kind_word kind ≡ text.now) }
         ensures known { (kind : Kind) → kind_word kind ≡ text.now → result ≡ Some kind }
     {
-        if text == "enrol" {
-            Some(Kind::Enrol)
-        } else if text == "submit" {
-            Some(Kind::Submit)
-        } else if text == "vote" {
-            Some(Kind::Vote)
-        } else if text == "issue" {
-            Some(Kind::Issue)
-        } else if text == "withdraw" {
-            Some(Kind::Withdraw)
-        } else if text == "adopt" {
-            Some(Kind::Adopt)
-        } else if text == "show" {
-            Some(Kind::Show)
-        } else if text == "sheet" {
-            Some(Kind::Sheet)
-        } else if text == "list" {
-            Some(Kind::List)
-        } else if text == "fetch" {
-            Some(Kind::Fetch)
-        } else if text == "hold" {
-            Some(Kind::Hold)
-        } else if text == "release" {
-            Some(Kind::Release)
-        } else {
-            None
-        }
+        kind_named(text)
     }
 
     /// Whether a line of this kind has a member of this name.

@@ -57,9 +57,9 @@ fn request_of(alloc: Global, value: &Value) -> Result<Request, LineFault>
     ensures { Gives plain result (request_at (view value.now)) }
 {
     let kind = kind_of(value)?;
-    let token = token_of(alloc, value)?;
-    let ask = ask_of(alloc, kind, value)?;
     if has_no_other(kind, value) {
+        let token = token_of(alloc, value)?;
+        let ask = ask_of(alloc, kind, value)?;
         Ok(Request { token, ask })
     } else {
         Err(LineFault::NotARequest)

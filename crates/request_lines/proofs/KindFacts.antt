@@ -1,0 +1,40 @@
+-- The kind of a word.
+use Rattle.std.proofs.Common.{◌≡◌, ℕ, cond, List, [], ◌∷◌, Option, Some, None, inl, inr, refl, sym, subst, bytes_eq}
+use Rattle.std.proofs.lemmas.Bool.{cases_Bool}
+use Rattle.std.proofs.lemmas.Slice.Eq.{bytes_eq-Decides}
+use Rattle.std.specs.Prelude.{IfSome, find}
+use Rattle.request_lines.specs.declared.kind.Kind.{Kind}
+use Rattle.request_lines.specs.declared.kind.Kind.TheVariants as kinds
+use Rattle.request_lines.specs.Kinds.{all_kinds, kind_of, kind_word}
+
+found_among : (text : List ℕ) (among : List Kind)
+    → IfSome (find (λ kind. bytes_eq text (kind_word kind)) among) (λ kind. kind_word kind ≡ text)
+found_among text [] = tt
+found_among text (k ∷ among) =
+    elim (cases_Bool (bytes_eq text (kind_word k)))
+    as (λ _. IfSome (cond (bytes_eq text (kind_word k)) (Some k) (find (λ kind. bytes_eq text (kind_word kind)) among)) (λ kind. kind_word kind ≡ text)) [
+      | inl same ↦ rw same (sym ((bytes_eq-Decides text (kind_word k)).0 same))
+      | inr other ↦ rw other (found_among text among)
+    ]
+
+-- a kind that is found has the word
+pub found_kind : (text : List ℕ) → IfSome (kind_of text) (λ kind. kind_word kind ≡ text)
+found_kind text = found_among text all_kinds
+
+each_found : (kind : Kind) → kind_of (kind_word kind) ≡ Some kind
+each_found kinds.Enrol = refl
+each_found kinds.Submit = refl
+each_found kinds.Vote = refl
+each_found kinds.Issue = refl
+each_found kinds.Withdraw = refl
+each_found kinds.Adopt = refl
+each_found kinds.Show = refl
+each_found kinds.Sheet = refl
+each_found kinds.List = refl
+each_found kinds.Fetch = refl
+each_found kinds.Hold = refl
+each_found kinds.Release = refl
+
+-- and each kind is found by its word
+pub known_kind : (text : List ℕ) (kind : Kind) → kind_word kind ≡ text → kind_of text ≡ Some kind
+known_kind text kind is = subst (λ (t : List ℕ). kind_of t ≡ Some kind) is (each_found kind)
