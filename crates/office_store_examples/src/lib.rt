@@ -3,20 +3,14 @@
 #![tactic(auto)]
 
 #[cfg(test)]
-mod answers;
-#[cfg(test)]
-mod calls;
+mod call;
 #[cfg(test)]
 mod files;
 #[cfg(test)]
-mod founding;
-#[cfg(test)]
-mod lists;
-#[cfg(test)]
 mod memory;
 #[cfg(test)]
-mod rows;
+mod stops;
 #[cfg(test)]
-mod shared;
+mod stores;
 #[cfg(test)]
-mod store;
+mod transcript;

@@ -1,122 +1,84 @@
-// Calls that are refused memory, as `rt try --test --fail-alloc N` refuses the Nth allocation of each test. Without a
-// refusal each call is made.
+// Writes that are refused memory, as `rt try --test --fail-alloc N` refuses the Nth allocation of each test. Without a refusal
+// each is carried out.
 
-use crate::shared::{add, found_office};
-use crate::store::Store;
-use office_store::FoundingFault;
-use office_tables::{StoreFault, UserRow};
-use review_policy::{ProfileName, Role, Roles, State, Word};
-use sqlite::{Connection, MemStore};
+use crate::transcript::said;
+use review_policy::WordFault;
+use sqlite::Connection;
 use std::alloc::Global;
+use std::process::Abort;
 
-fn word(alloc: Global, text: &str) -> Result<Word, StoreFault> {
-    match Word::new(alloc, text) {
-        Ok(word) => Ok(word),
-        Err(_) => Err(StoreFault::NoMemory),
+// The transcript of these calls in memory.
+fn said_in_memory(alloc: Global, before: &str, calls: &str) -> Result<String, WordFault> {
+    let calls = format!(in alloc; "{before}{calls}")?;
+    let mut conn = Connection::open_in_memory(alloc)?;
+    said(alloc, &mut conn, calls.as_str())
+}
+
+// Whether a transcript goes on as a write that is carried out or as one that is refused, unless memory is refused to a call
+// before it or to the read after it.
+fn is_kept(said: &str, before: &str, done: &str, refused: &str) -> bool {
+    match said.strip_prefix(before) {
+        Some(rest) => rest == done || rest == refused || rest.ends_with("Err(NoMemory)\n"),
+        None => said.contains("NoMemory"),
     }
 }
 
-fn ann(alloc: Global, roles: Roles, byte: u8) -> Result<UserRow, StoreFault> {
-    Ok(UserRow {
-        name: word(alloc, "ann")?,
-        team: word(alloc, "blue")?,
-        roles,
-        digest: [byte; 32],
-    })
-}
-
-// Whether an office was founded in an empty store, or what was wrong with the store.
-fn founded(founding: Result<(), FoundingFault>) -> Result<(), StoreFault> {
-    match founding {
-        Ok(()) => Ok(()),
-        Err(FoundingFault::Store(fault)) => Err(fault),
-        Err(FoundingFault::AlreadyFounded) => Err(StoreFault::NotAnOffice),
+fn assert_kept(rt: &impl Abort, alloc: Global, before: &str, done: &str, refused: &str) {
+    match said_in_memory(alloc, before, done) {
+        Ok(said) => assert!(rt; is_kept(said.as_str(), before, done, refused), "{said}"),
+        Err(fault) => assert_eq!(rt; fault, WordFault::NoMemory),
     }
 }
 
-fn office(alloc: Global) -> Result<Store<MemStore>, StoreFault> {
-    let mut store = Store::new(Connection::open_in_memory(alloc)?);
-    founded(found_office(alloc, &mut store))?;
-    Ok(store)
-}
+// Ann has no role.
+const ENROLLED: &str = "\
+> found
+Ok(())
+> put_user blue - ann 0 7
+Ok(())
+";
 
-/// What a second write answered, and what a read answered after it; or the fault of another call.
-type Told<T, U> = Result<(Result<T, StoreFault>, U), StoreFault>;
+const IS_REVIEWER: &str = "\
+> put_user blue - ann 4 8
+Ok(())
+> user_by_name - - ann
+ann blue 4 8
+";
 
-fn put_ann(
-    alloc: Global,
-    store: &mut Store<MemStore>,
-    roles: Roles,
-    byte: u8,
-) -> Result<(), StoreFault> {
-    store.put_user(&ann(alloc, roles, byte)?)
-}
-
-// The bits of the roles of ann.
-fn roles_of_ann(alloc: Global, store: &mut Store<MemStore>) -> Result<u8, StoreFault> {
-    match store.user_by_name(alloc, &word(alloc, "ann")?)? {
-        Some(user) => Ok(user.roles.bits()),
-        None => Err(StoreFault::NotAnOffice),
-    }
-}
-
-// Puts ann with the one role in the place of ann with none.
-fn put_again(alloc: Global) -> Told<(), u8> {
-    let mut store = office(alloc)?;
-    put_ann(alloc, &mut store, Roles::empty(), 7)?;
-    let reviewer = Roles::empty().with(Role::Reviewer);
-    let answer = put_ann(alloc, &mut store, reviewer, 8);
-    Ok((answer, roles_of_ann(alloc, &mut store)?))
-}
+const HAS_NO_ROLE: &str = "\
+> put_user blue - ann 4 8
+Err(NoMemory)
+> user_by_name - - ann
+ann blue 0 7
+";
 
 #[test]
 fn a_user_is_put_or_stays_as_before(rt: HostRuntime) {
-    let told = put_again(rt.alloc());
-    assert!(rt;
-        matches!(
-            told,
-            Ok((Ok(()), 4) | (Err(StoreFault::NoMemory), 0)) | Err(StoreFault::NoMemory)
-        ),
-        "{told:?}"
-    );
+    assert_kept(&rt, rt.alloc(), ENROLLED, IS_REVIEWER, HAS_NO_ROLE);
 }
 
-fn web(alloc: Global) -> Result<ProfileName, StoreFault> {
-    Ok(ProfileName {
-        team: word(alloc, "blue")?,
-        profile: word(alloc, "web")?,
-    })
-}
+const ADDED: &str = "\
+> found
+Ok(())
+> add_revision blue web ann
+Ok(1)
+";
 
-fn add_to_web(alloc: Global, store: &mut Store<MemStore>) -> Result<u32, StoreFault> {
-    add(alloc, store, &web(alloc)?, "ann")
-}
+const IS_CLOSED: &str = "\
+> add_revision blue web ann
+Ok(2)
+> revision blue web - 1
+1 ann closed {} 7
+";
 
-// The state of the first revision.
-fn state_of_first(alloc: Global, store: &mut Store<MemStore>) -> Result<State, StoreFault> {
-    match store.revision(alloc, &web(alloc)?, 1)? {
-        Some(first) => Ok(first.state),
-        None => Err(StoreFault::NotAnOffice),
-    }
-}
-
-// Adds a second revision of a profile.
-fn add_again(alloc: Global) -> Told<u32, State> {
-    let mut store = office(alloc)?;
-    add_to_web(alloc, &mut store)?;
-    let answer = add_to_web(alloc, &mut store);
-    Ok((answer, state_of_first(alloc, &mut store)?))
-}
+const IS_OPEN: &str = "\
+> add_revision blue web ann
+Err(NoMemory)
+> revision blue web - 1
+1 ann open {} 7
+";
 
 #[test]
 fn a_revision_is_added_or_the_open_one_stays(rt: HostRuntime) {
-    let told = add_again(rt.alloc());
-    assert!(rt;
-        matches!(
-            told,
-            Ok((Ok(2), State::Closed) | (Err(StoreFault::NoMemory), State::Open))
-                | Err(StoreFault::NoMemory)
-        ),
-        "{told:?}"
-    );
+    assert_kept(&rt, rt.alloc(), ADDED, IS_CLOSED, IS_OPEN);
 }

@@ -1,0 +1,202 @@
+// The calls of a store as lines, and what they answer as text.
+
+ghost use Rattle.sqlite.specs.Held.{state};
+ghost use Rattle.office_store.specs.Shown.{IsIdle};
+
+use cap_sets::Caps;
+use office_store::{
+    Ballot, FoundingFault, add_revision, authors, baseline, check_office, delete_hold, found,
+    has_revision, held, is_author, issued, last, listed, put_baseline, put_hold, put_user,
+    put_vote, revision, revisions_of, set_issued, set_withdrawn, standing, tally, user_by_name,
+    user_by_token,
+};
+use office_tables::{RevisionRow, StoreFault, UserRow};
+use review_policy::{ProfileName, Roles, Text, Word, WordFault};
+use sqlite::{Alter, Connection};
+use std::alloc::{AllocError, Global};
+use std::fmt::Debug;
+
+// What a call is about. What its line leaves out is `-`, or 0.
+#[derive(Drop)]
+struct Subject {
+    profile: ProfileName,
+    name: Word,
+    // the number of a revision, or the bits of roles
+    number: u32,
+    // the byte that a digest has alone
+    byte: u8,
+    ballot: Ballot,
+}
+
+fn ballot_of(word: &str) -> Ballot {
+    let (approves, security) = match word {
+        "approve-security" => (true, true),
+        "approve" => (true, false),
+        _ => (false, false),
+    };
+    Ballot { approves, security }
+}
+
+// The words of a line after that of the call: a team, a profile, a name, a number, and a byte or a vote.
+fn subject_of(alloc: Global, line: &str) -> Result<Subject, WordFault> {
+    let mut words = line.split(' ').skip(1);
+    let team = Word::new(alloc, words.next().unwrap_or("-"))?;
+    let profile = Word::new(alloc, words.next().unwrap_or("-"))?;
+    let name = Word::new(alloc, words.next().unwrap_or("-"))?;
+    let number = words.next().unwrap_or("0").parse::<u32>().unwrap_or(0);
+    let more = words.next().unwrap_or("0");
+    Ok(Subject {
+        profile: ProfileName { team, profile },
+        name,
+        number,
+        byte: more.parse::<u8>().unwrap_or(0),
+        ballot: ballot_of(more),
+    })
+}
+
+// The roles of these bits.
+fn roles(bits: u32) -> Roles {
+    match u8::try_from(bits) {
+        Ok(bits) => Roles::from_bits(bits).unwrap_or(Roles::empty()),
+        Err(_) => Roles::empty(),
+    }
+}
+
+// Founds an office whose first user is root of the team ops, with the one listed capability CAP_SYS_ADMIN.
+fn found_office<S: Alter>(alloc: Global, conn: &mut Connection<S>) -> Result<(), FoundingFault>
+    requires { IsIdle (state S.Store conn.old) }
+    ensures { IsIdle (state S.Store conn.new) }
+{
+    let (Ok(name), Ok(team)) = (Word::new(alloc, "root"), Word::new(alloc, "ops")) else {
+        return Err(FoundingFault::Store(StoreFault::NoMemory));
+    };
+    let listed = Caps::from_name("CAP_SYS_ADMIN").unwrap_or(Caps::empty());
+    found(conn, &name, &team, &[1; 32], listed)
+}
+
+fn put<S: Alter>(conn: &mut Connection<S>, subject: &Subject) -> Result<(), StoreFault>
+    requires { IsIdle (state S.Store conn.old) }
+    ensures { IsIdle (state S.Store conn.new) }
+{
+    let user = UserRow {
+        name: subject.name.clone()?,
+        team: subject.profile.team.clone()?,
+        roles: roles(subject.number),
+        digest: [subject.byte; 32],
+    };
+    put_user(conn, &user)
+}
+
+// Adds a revision whose body is `{}`, and whose digest has the byte 7 alone.
+fn add<S: Alter>(
+    alloc: Global,
+    conn: &mut Connection<S>,
+    subject: &Subject,
+) -> Result<u32, StoreFault>
+    requires { IsIdle (state S.Store conn.old) }
+    ensures { IsIdle (state S.Store conn.new) }
+{
+    let author = subject.name.clone()?;
+    let body = Text::new(String::from_str(alloc, "{}")?);
+    add_revision(alloc, conn, &subject.profile, author, body, [7; 32])
+}
+
+fn bits(answer: Result<Caps, StoreFault>) -> Result<u64, StoreFault> {
+    Ok(answer?.bits())
+}
+
+fn text<T: Debug + Drop>(alloc: Global, answer: T) -> Result<String, AllocError> {
+    format!(in alloc; "{answer:?}")
+}
+
+// The byte that a digest has alone, or 0.
+fn byte_of(digest: &[u8; 32]) -> u8 {
+    let byte = digest[0];
+    if *digest == [byte; 32] { byte } else { 0 }
+}
+
+// The name, the team, the roles and the byte of the digest of a user.
+fn user_text(
+    alloc: Global,
+    answer: Result<Option<UserRow>, StoreFault>,
+) -> Result<String, AllocError> {
+    match answer {
+        Ok(Some(user)) => {
+            let (name, team, roles) = (user.name.as_str(), user.team.as_str(), user.roles.bits());
+            format!(in alloc; "{name} {team} {roles} {}", byte_of(&user.digest))
+        }
+        none => text(alloc, none),
+    }
+}
+
+// The number, the author, the state, the body and the byte of the digest of a revision.
+fn revision_text(
+    alloc: Global,
+    answer: Result<Option<RevisionRow>, StoreFault>,
+) -> Result<String, AllocError> {
+    match answer {
+        Ok(Some(revision)) => {
+            let (author, body) = (revision.author.as_str(), revision.body.as_str());
+            let (number, state) = (revision.number, revision.state.word());
+            format!(in alloc;
+                "{number} {author} {state} {body} {}",
+                byte_of(&revision.digest)
+            )
+        }
+        none => text(alloc, none),
+    }
+}
+
+// What a call answers.
+fn answer<S: Alter>(
+    alloc: Global,
+    conn: &mut Connection<S>,
+    call: &str,
+    subject: &Subject,
+) -> Result<String, AllocError>
+    requires { IsIdle (state S.Store conn.old) }
+    ensures { IsIdle (state S.Store conn.new) }
+{
+    let (profile, name, number) = (&subject.profile, &subject.name, subject.number);
+    match call {
+        "found" => text(alloc, found_office(alloc, conn)),
+        "check_office" => text(alloc, bits(check_office(conn))),
+        "listed" => text(alloc, bits(listed(conn))),
+        "put_user" => text(alloc, put(conn, subject)),
+        "user_by_name" => user_text(alloc, user_by_name(alloc, conn, name)),
+        "user_by_token" => user_text(alloc, user_by_token(alloc, conn, &[subject.byte; 32])),
+        "add_revision" => text(alloc, add(alloc, conn, subject)),
+        "has_revision" => text(alloc, has_revision(conn, profile)),
+        "revision" => revision_text(alloc, revision(alloc, conn, profile, number)),
+        "last" => revision_text(alloc, last(alloc, conn, profile)),
+        "issued" => revision_text(alloc, issued(alloc, conn, profile)),
+        "set_issued" => text(alloc, set_issued(conn, profile, number)),
+        "set_withdrawn" => text(alloc, set_withdrawn(conn, profile, number)),
+        "is_author" => text(alloc, is_author(conn, profile, name)),
+        "authors" => text(alloc, authors(alloc, conn, profile)),
+        "revisions_of" => text(alloc, revisions_of(alloc, conn, &profile.team)),
+        "put_vote" => text(alloc, put_vote(conn, profile, number, name, subject.ballot)),
+        "standing" => text(alloc, standing(alloc, conn, profile, number)),
+        "tally" => text(alloc, tally(alloc, conn, profile, number)),
+        "baseline" => text(alloc, baseline(alloc, conn, &profile.team)),
+        "put_baseline" => text(alloc, put_baseline(conn, profile, number)),
+        "held" => text(alloc, held(conn, profile)),
+        "put_hold" => text(alloc, put_hold(conn, profile)),
+        "delete_hold" => text(alloc, delete_hold(conn, profile)),
+        _ => text(alloc, "no call"),
+    }
+}
+
+/// Makes the call of a line, and gives what it answers as text.
+pub(crate) fn told<S: Alter>(
+    alloc: Global,
+    conn: &mut Connection<S>,
+    line: &str,
+) -> Result<String, WordFault>
+    requires { IsIdle (state S.Store conn.old) }
+    ensures { IsIdle (state S.Store conn.new) }
+{
+    let subject = subject_of(alloc, line)?;
+    let call = line.split(' ').next().unwrap_or("-");
+    Ok(answer(alloc, conn, call, &subject)?)
+}
