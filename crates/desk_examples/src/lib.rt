@@ -1,5 +1,5 @@
-//! The desk, tried by its public calls: conversations, streams that come in pieces, stop or fail, want of memory, and lists
-//! of requests.
+//! The desk, tried by its public calls: streams that come in pieces, stop or fail, want of memory, and lists of requests. What
+//! whole conversations are answered is shown by the transcripts of `office_examples`.
 #![tactic(auto)]
 
 #[cfg(test)]

@@ -1,52 +1,31 @@
 // Offices in memory, and what the desk does in an office.
 
-ghost use Rattle.sqlite.specs.Held.{state};
-ghost use Rattle.office_store.specs.Shown.{IsIdle};
-
-use cap_sets::Caps;
 use counted_io::Counted;
 use desk::{DeskFault, desk};
+use founding_words::founding_of;
 use office_desk::Office;
-use profile_text::digest;
-use review_policy::Word;
 use sqlite::{Alter, Connection, MemStore};
-use std::alloc::{AllocError, Global};
+use std::alloc::Global;
 use std::io::{Read, Write};
-use std::process::Abort;
 use std::test::Fail;
 
-// The name and the team of root, and the one listed capability.
-fn founder(alloc: Global) -> Result<(Word, Word, Caps), Fail> {
-    let listed = Caps::from_name("CAP_SYS_ADMIN").ok_or("a capability")?;
-    let name = Word::new(alloc, "root")?;
-    let team = Word::new(alloc, "office")?;
-    Ok((name, team, listed))
-}
+// The SHA-256 of abc, the token of root.
+const DIGEST: &str = "ba7816bf8f01cfea414140de5dae2223b00361a396177a9cb410ff61f20015ad";
 
-// Founds an office in which root of the team office may enrol users, by the token abc.
-fn found_office<S: Alter + Drop>(alloc: Global, conn: Connection<S>) -> Result<Office<S>, Fail>
-    requires { IsIdle (state S.Store conn) }
-{
-    let (name, team, listed) = founder(alloc)?;
-    match Office::found(conn, &name, &team, &digest(b"abc"), listed) {
+// An office in memory in which root of the team office may enrol users, by the token abc.
+pub fn trial_office(alloc: Global) -> Result<Office<MemStore>, Fail> {
+    let founding = founding_of(alloc, "root", "office", DIGEST, &["CAP_SYS_ADMIN"])?;
+    let conn = Connection::open_in_memory(alloc)?;
+    match Office::found(
+        conn,
+        &founding.name,
+        &founding.team,
+        &founding.digest,
+        founding.listed,
+    ) {
         Ok(office) => Ok(office),
         Err((fault, _)) => Err(Fail::from(fault)),
     }
-}
-
-// Such an office in memory.
-pub fn trial_office(alloc: Global) -> Result<Office<MemStore>, Fail> {
-    let conn = Connection::open_in_memory(alloc)?;
-    found_office(alloc, conn)
-}
-
-// The texts, one after the other.
-pub fn joined(alloc: Global, texts: &[&str]) -> Result<Vec<u8>, AllocError> {
-    let mut bytes = Vec::new(alloc);
-    for text in texts {
-        bytes.extend_from_slice(text.as_bytes())?;
-    }
-    Ok(bytes)
 }
 
 // How the desk ended.
@@ -76,35 +55,4 @@ pub fn serve<S: Alter, R: Read + Drop, W: Write + Drop>(
         failed_writes: writer.faults(),
     };
     (end, writer.into_inner())
-}
-
-// Has the desk serve lines that are read whole, and compares the answers, which are written whole.
-pub fn converse<S: Alter>(
-    rt: &impl Abort,
-    alloc: Global,
-    office: &mut Office<S>,
-    lines: &[&str],
-    answers: &[&str],
-) -> Result<(), Fail> {
-    let input = joined(alloc, lines)?;
-    let wanted = joined(alloc, answers)?;
-    let (end, written) = serve(alloc, office, input.as_slice(), Vec::new(alloc));
-    assert_eq!(rt;
-        (end.result, written.as_slice()),
-        (Ok(()), wanted.as_slice()),
-        "up to {:?}",
-        lines.last()
-    );
-    Ok(())
-}
-
-// The same in a new office.
-pub fn converse_anew(
-    rt: &impl Abort,
-    alloc: Global,
-    lines: &[&str],
-    answers: &[&str],
-) -> Result<(), Fail> {
-    let mut office = trial_office(alloc)?;
-    converse(rt, alloc, &mut office, lines, answers)
 }

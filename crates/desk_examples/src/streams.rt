@@ -4,6 +4,11 @@ use std::cell::Cell;
 use std::io;
 use std::io::{ErrorKind, Read, Write};
 
+// How many line feeds there are.
+pub fn feeds(bytes: &[u8]) -> usize {
+    bytes.iter().filter(|b| **b == b'\n').count()
+}
+
 // How a reader gives its bytes.
 #[derive(Clone, Copy, Debug)]
 pub enum Giving {
@@ -13,10 +18,14 @@ pub enum Giving {
     CutAt(usize),
     // One a call, each after a call that is interrupted.
     Interrupted,
+    // One a call, and a call fails where another number of lines is answered than was given.
+    InStep,
     // One a call, and this call fails, the first being 0.
     FailsAt(usize),
     // One a call, and the call after the last byte fails.
     FailsAtEnd,
+    // None: each call is interrupted.
+    Never,
 }
 
 // A reader of bytes.
@@ -25,15 +34,25 @@ pub struct Source<'a> {
     rest: &'a [u8],
     calls: usize,
     giving: Giving,
+    // How many lines there are, and how many of them are answered.
+    lines: usize,
+    answered: &'a Cell<usize>,
 }
 
 impl<'a> Source<'a> {
-    pub fn new(rest: &'a [u8], giving: Giving) -> Source<'a> {
+    pub fn new(bytes: &'a [u8], giving: Giving, answered: &'a Cell<usize>) -> Source<'a> {
         Source {
-            rest,
+            rest: bytes,
             calls: 0,
             giving,
+            lines: feeds(bytes),
+            answered,
         }
+    }
+
+    // Whether as many lines are answered as were given.
+    fn is_in_step(&self) -> bool {
+        self.answered.get().saturating_add(feeds(self.rest)) == self.lines
     }
 
     // How many bytes this call gives at most.
@@ -41,9 +60,11 @@ impl<'a> Source<'a> {
         match self.giving {
             Giving::CutAt(place) if self.calls == 0 && place > 0 => Ok(place),
             Giving::CutAt(_) | Giving::Whole => Ok(self.rest.len()),
+            Giving::Never => Err(io::Error::from(ErrorKind::Interrupted)),
             Giving::Interrupted if self.calls % 2 == 0 => {
                 Err(io::Error::from(ErrorKind::Interrupted))
             }
+            Giving::InStep if !self.is_in_step() => Err(io::Error::from(ErrorKind::BrokenPipe)),
             Giving::FailsAt(call) if self.calls == call => {
                 Err(io::Error::from(ErrorKind::BrokenPipe))
             }
@@ -66,16 +87,6 @@ impl Read for Source<'_> {
     }
 }
 
-// A reader that is interrupted without end.
-#[derive(Drop)]
-pub struct Interrupted;
-
-impl Read for Interrupted {
-    fn read(&mut self, _buf: &mut [u8]) -> io::Result<usize> {
-        Err(io::Error::from(ErrorKind::Interrupted))
-    }
-}
-
 // How a writer takes its bytes.
 #[derive(Clone, Copy, Debug)]
 pub enum Taking {
@@ -93,14 +104,20 @@ pub enum Taking {
 
 // A writer of bytes.
 #[derive(Drop)]
-pub struct Sink {
+pub struct Sink<'a> {
     pub held: Vec<u8>,
     taking: Taking,
+    // How many lines were taken.
+    answered: &'a Cell<usize>,
 }
 
-impl Sink {
-    pub fn new(held: Vec<u8>, taking: Taking) -> Sink {
-        Sink { held, taking }
+impl<'a> Sink<'a> {
+    pub fn new(held: Vec<u8>, taking: Taking, answered: &'a Cell<usize>) -> Sink<'a> {
+        Sink {
+            held,
+            taking,
+            answered,
+        }
     }
 
     // How many of these bytes this call takes.
@@ -123,56 +140,14 @@ impl Sink {
     }
 }
 
-impl Write for Sink {
+impl Write for Sink<'_> {
     fn write(&mut self, buf: &[u8]) -> io::Result<usize> {
         let count = self.most(buf.len())?.min(buf.len());
-        self.held.extend_from_slice(&buf[..count])?;
+        let taken = &buf[..count];
+        self.held.extend_from_slice(taken)?;
+        let answered = self.answered.get().saturating_add(feeds(taken));
+        self.answered.set(answered);
         Ok(count)
-    }
-
-    fn flush(&mut self) -> io::Result<()> {
-        Ok(())
-    }
-}
-
-// A reader that gives a byte a call, and fails where another number of answers was written than it gave lines.
-#[derive(Drop)]
-pub struct InStep<'a> {
-    pub rest: &'a [u8],
-    pub lines: usize,
-    pub answers: &'a Cell<usize>,
-}
-
-impl Read for InStep<'_> {
-    fn read(&mut self, buf: &mut [u8]) -> io::Result<usize> {
-        if self.answers.get() != self.lines {
-            return Err(io::Error::from(ErrorKind::BrokenPipe));
-        }
-        if self.rest.is_empty() || buf.is_empty() {
-            return Ok(0);
-        }
-        buf[0] = self.rest[0];
-        if self.rest[0] == b'\n' {
-            self.lines = self.lines.saturating_add(1);
-        }
-        self.rest = &self.rest[1..];
-        Ok(1)
-    }
-}
-
-// A writer that counts the answers that it was given.
-#[derive(Drop)]
-pub struct Counting<'a> {
-    pub held: Vec<u8>,
-    pub answers: &'a Cell<usize>,
-}
-
-impl Write for Counting<'_> {
-    fn write(&mut self, buf: &[u8]) -> io::Result<usize> {
-        self.held.extend_from_slice(buf)?;
-        let more = buf.iter().filter(|b| **b == b'\n').count();
-        self.answers.set(self.answers.get().saturating_add(more));
-        Ok(buf.len())
     }
 
     fn flush(&mut self) -> io::Result<()> {

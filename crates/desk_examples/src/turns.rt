@@ -1,11 +1,12 @@
 // Streams that the desk serves in turn.
 
-use crate::offices::{joined, serve, trial_office};
+use crate::offices::{serve, trial_office};
 use crate::streams::{Giving, Sink, Source, Taking};
 use desk::DeskFault;
 use office_desk::Office;
 use sqlite::Alter;
 use std::alloc::Global;
+use std::cell::Cell;
 use std::process::Abort;
 use std::test::Fail;
 
@@ -16,7 +17,7 @@ pub type Manner = (Giving, Taking);
 pub const WHOLE: Manner = (Giving::Whole, Taking::All);
 
 // The lines of a stream and its manner, how the desk ends, and what it has written then.
-pub type Turn<'a> = (&'a [&'a str], Manner, Result<(), DeskFault>, &'a [&'a str]);
+pub type Turn<'a> = (&'a str, Manner, Result<(), DeskFault>, &'a str);
 
 // How many reads failed where the desk ended so, and how many writes.
 fn failed(end: Result<(), DeskFault>) -> (u64, u64) {
@@ -33,36 +34,23 @@ pub fn take_turn<S: Alter>(
     alloc: Global,
     office: &mut Office<S>,
     (lines, manner, ends, answers): Turn,
-) -> Result<(), Fail> {
-    let input = joined(alloc, lines)?;
-    let wanted = joined(alloc, answers)?;
+) {
     let (giving, taking) = manner;
-    let source = Source::new(&input, giving);
-    let sink = Sink::new(Vec::new(alloc), taking);
+    let answered = Cell::new(0);
+    let source = Source::new(lines.as_bytes(), giving, &answered);
+    let sink = Sink::new(Vec::new(alloc), taking, &answered);
     let (end, sink) = serve(alloc, office, source, sink);
     let told = (end.failed_reads, end.failed_writes);
     assert_eq!(rt;
         (end.result, told, sink.held.as_slice()),
-        (ends, failed(ends), wanted.as_slice()),
+        (ends, failed(ends), answers.as_bytes()),
         "{manner:?}"
     );
-    Ok(())
 }
 
-fn take_turns<S: Alter>(
-    rt: &impl Abort,
-    alloc: Global,
-    office: &mut Office<S>,
-    turns: &[Turn],
-) -> Result<(), Fail> {
-    for turn in turns {
-        take_turn(rt, alloc, office, *turn)?;
-    }
-    Ok(())
-}
-
-// Takes these turns in a new office.
-pub fn take_turns_anew(rt: &impl Abort, alloc: Global, turns: &[Turn]) -> Result<(), Fail> {
+// The same in a new office.
+pub fn take_turn_anew(rt: &impl Abort, alloc: Global, turn: Turn) -> Result<(), Fail> {
     let mut office = trial_office(alloc)?;
-    take_turns(rt, alloc, &mut office, turns)
+    take_turn(rt, alloc, &mut office, turn);
+    Ok(())
 }

@@ -4,72 +4,20 @@ ghost use Rattle.std.specs.Prelude.{IfOk, IfErr};
 ghost use Rattle.sqlite.specs.Held.{state};
 ghost use Rattle.office_store.specs.Shown.{IsIdle};
 
-use crate::acts::{Act, request};
-use crate::people::{CAST, ROOT};
-use crate::told::{Told, text_of};
-use cap_sets::Caps;
-use hex::FromHex;
+use founding_words::founding_of;
 use office_desk::Office;
 use office_store::FoundingFault;
-use request_lines::answer_text;
-use review_policy::Word;
-use sqlite::{Alter, Connection, MemStore};
+use request_lines::{line, read_line};
+use sqlite::{Alter, Connection};
 use std::alloc::Global;
 use std::process::Abort;
 use std::test::Fail;
 
-/// What a caller asks, and what the caller is told.
-pub(crate) type Turn<'a> = (&'a str, Act<'a>, Told<'a>);
-
-// What the caller is told who asks this, as it stands in a line.
-fn answer_to<S: Alter>(
-    alloc: Global,
-    office: &mut Office<S>,
-    by: &str,
-    act: Act,
-) -> Result<String, Fail> {
-    let answer = office.handle(alloc, &request(alloc, by, act)?);
-    Ok(answer_text(alloc, &answer)?)
-}
-
-/// Asks all of these in turn, and compares what is told.
-pub(crate) fn converse<S: Alter>(
-    rt: &impl Abort,
-    alloc: Global,
-    office: &mut Office<S>,
-    turns: &[Turn],
-) -> Result<(), Fail> {
-    for (by, act, told) in turns.iter() {
-        let wanted = text_of(alloc, *told)?;
-        let answer = answer_to(alloc, office, by, *act)?;
-        assert_eq!(rt; answer, wanted, "{by}: {act:?}");
-    }
-    Ok(())
-}
-
-/// Asks all of these, and hands back what is under the office.
-pub(crate) fn converse_and_close<S: Alter + Drop>(
-    rt: &impl Abort,
-    alloc: Global,
-    office: Office<S>,
-    turns: &[Turn],
-) -> Result<Connection<S>, Fail> {
-    let mut office = office;
-    converse(rt, alloc, &mut office, turns)?;
-    Ok(office.into_connection())
-}
+// The SHA-256 of abc, the token of root.
+const DIGEST: &str = "ba7816bf8f01cfea414140de5dae2223b00361a396177a9cb410ff61f20015ad";
 
 /// What a founding answers.
 pub(crate) type Founded<S> = Result<Office<S>, (FoundingFault, Connection<S>)>;
-
-// The name, the team and the token's digest of root, and the one listed capability.
-fn founder(alloc: Global) -> Result<(Word, Word, [u8; 32], Caps), Fail> {
-    let digest = <[u8; 32] as FromHex>::from_hex(ROOT)?;
-    let listed = Caps::from_name("CAP_SYS_ADMIN").ok_or("a capability")?;
-    let name = Word::new(alloc, "root")?;
-    let team = Word::new(alloc, "office")?;
-    Ok((name, team, digest, listed))
-}
 
 /// Founds an office whose first user is root of the team office, with the one listed capability CAP_SYS_ADMIN.
 pub(crate) fn found_office<S: Alter + Drop>(
@@ -79,50 +27,84 @@ pub(crate) fn found_office<S: Alter + Drop>(
     requires { IsIdle (state S.Store conn) }
     ensures { IfOk result (λ founded. IfErr founded (λ refusal. IsIdle (state S.Store refusal.1))) }
 {
-    let (name, team, digest, listed) = founder(alloc)?;
-    Ok(Office::found(conn, &name, &team, &digest, listed))
+    let founding = founding_of(alloc, "root", "office", DIGEST, &["CAP_SYS_ADMIN"])?;
+    Ok(Office::found(
+        conn,
+        &founding.name,
+        &founding.team,
+        &founding.digest,
+        founding.listed,
+    ))
 }
 
-/// A new office in memory.
-pub(crate) fn new_office(alloc: Global) -> Result<Office<MemStore>, Fail> {
-    let conn = Connection::open_in_memory(alloc)?;
+// The line that answers the request of a line.
+fn answer_to<S: Alter>(
+    alloc: Global,
+    office: &mut Office<S>,
+    request: &str,
+) -> Result<String, Fail> {
+    let request = read_line(alloc, request.as_bytes())?;
+    let answer = office.handle(alloc, &request);
+    Ok(line(alloc, &answer)?)
+}
+
+/// The lines that answer the requests of these lines, one after the other.
+pub(crate) fn answers_to<S: Alter>(
+    alloc: Global,
+    office: &mut Office<S>,
+    requests: &str,
+) -> Result<String, Fail> {
+    let mut answers = String::new(alloc);
+    for request in requests.lines() {
+        answers.push_str(&answer_to(alloc, office, request)?)?;
+    }
+    Ok(answers)
+}
+
+// Compares what an office answers to the requests of these lines, and hands back what is under it.
+fn converse<S: Alter + Drop>(
+    rt: &impl Abort,
+    alloc: Global,
+    mut office: Office<S>,
+    requests: &str,
+    wanted: &str,
+) -> Result<Connection<S>, Fail>
+    ensures { IfOk result (λ conn. IsIdle (state S.Store conn)) }
+{
+    let answers = answers_to(alloc, &mut office, requests)?;
+    assert_eq!(rt; answers.as_str().trim_end(), wanted);
+    Ok(office.into_connection())
+}
+
+/// Founds an office in a store, compares what it answers to these requests, and hands back what is under it.
+pub(crate) fn founded<S: Alter + Drop>(
+    rt: &impl Abort,
+    alloc: Global,
+    conn: Connection<S>,
+    requests: &str,
+    wanted: &str,
+) -> Result<Connection<S>, Fail>
+    requires { IsIdle (state S.Store conn) }
+    ensures { IfOk result (λ conn. IsIdle (state S.Store conn)) }
+{
     match found_office(alloc, conn)? {
-        Ok(office) => Ok(office),
+        Ok(office) => converse(rt, alloc, office, requests, wanted),
         Err((fault, _)) => Err(Fail::from(fault)),
     }
 }
 
-// One whose users are enrolled.
-fn cast_office(rt: &impl Abort, alloc: Global) -> Result<Office<MemStore>, Fail> {
-    let mut office = new_office(alloc)?;
-    converse(rt, alloc, &mut office, &CAST)?;
-    Ok(office)
-}
-
-/// One whose users are enrolled, and where all of these were asked.
-pub(crate) fn office_after(
+/// The same in the office that a store has.
+pub(crate) fn reopened<S: Alter + Drop>(
     rt: &impl Abort,
     alloc: Global,
-    turns: &[Turn],
-) -> Result<Office<MemStore>, Fail> {
-    let mut office = cast_office(rt, alloc)?;
-    converse(rt, alloc, &mut office, turns)?;
-    Ok(office)
-}
-
-/// Asks all of these in a new office in memory, whose users are enrolled.
-pub(crate) fn told_in_turn(rt: &impl Abort, alloc: Global, turns: &[Turn]) -> Result<(), Fail> {
-    let mut office = cast_office(rt, alloc)?;
-    converse(rt, alloc, &mut office, turns)
-}
-
-/// Asks all of these in such an office, where all of the past was asked before.
-pub(crate) fn told_after(
-    rt: &impl Abort,
-    alloc: Global,
-    past: &[Turn],
-    turns: &[Turn],
-) -> Result<(), Fail> {
-    let mut office = office_after(rt, alloc, past)?;
-    converse(rt, alloc, &mut office, turns)
+    conn: Connection<S>,
+    requests: &str,
+    wanted: &str,
+) -> Result<Connection<S>, Fail>
+    requires { IsIdle (state S.Store conn) }
+{
+    match Office::over(conn) {
+        Ok(office) => converse(rt, alloc, office, requests, wanted),
+        Err((fault, _)) => Err(Fail::from(fault)),
+    }
 }

@@ -4,10 +4,8 @@ ghost use Rattle.std.specs.Prelude.{IfOk};
 ghost use Rattle.sqlite.specs.Held.{state};
 ghost use Rattle.office_store.specs.Shown.{IsIdle};
 
-use crate::acts::Act::{Show, Submit};
-use crate::offices::{Turn, converse_and_close, found_office, office_after};
-use crate::texts::{BARE, OF_BARE};
-use crate::told::Told::{Shown, Submitted};
+use crate::offices::{found_office, founded, reopened};
+use crate::texts::{SHOW, SHOWN, SUBMISSION, SUBMITTED};
 use office_desk::Office;
 use office_store::FoundingFault;
 use office_tables::StoreFault;
@@ -42,54 +40,26 @@ fn is_founded<S: Alter + Drop>(alloc: Global, conn: Connection<S>) -> Result<boo
     Ok(found_office(alloc, conn)?.is_ok())
 }
 
-// The connection that is handed back where the store is no office.
-fn no_office<S: Alter + Drop>(rt: &impl Abort, conn: Connection<S>) -> Result<Connection<S>, Fail>
-    requires { IsIdle (state S.Store conn) }
-    ensures { IfOk result (λ conn. IsIdle (state S.Store conn)) }
-{
-    match Office::over(conn) {
-        Ok(_) => Err(Fail::from("a refusal")),
-        Err((fault, conn)) => {
-            assert_eq!(rt; fault, StoreFault::NotAnOffice);
-            Ok(conn)
-        }
-    }
-}
-
-/// Opens the office that a store has, asks all of these, and hands back what is under the office.
-pub(crate) fn reopened<S: Alter + Drop>(
-    rt: &impl Abort,
-    alloc: Global,
-    conn: Connection<S>,
-    turns: &[Turn],
-) -> Result<Connection<S>, Fail>
-    requires { IsIdle (state S.Store conn) }
-{
-    match Office::over(conn) {
-        Ok(office) => converse_and_close(rt, alloc, office, turns),
-        Err((fault, _)) => Err(Fail::from(fault)),
-    }
-}
-
-const SUBMITTED: [Turn; 1] = [("ann", Submit("web", BARE), Submitted(OF_BARE, 1))];
-
-const SHOWN: [Turn; 1] = [("ann", Show("web", 1), Shown(OF_BARE, BARE, "open"))];
-
 #[test]
 fn a_second_founding_hands_the_office_back_as_it_was(rt: HostRuntime) -> Result<(), Fail> {
     let alloc = rt.alloc();
-    let conn = office_after(&rt, alloc, &SUBMITTED)?.into_connection();
+    let conn = Connection::open_in_memory(alloc)?;
+    let conn = founded(&rt, alloc, conn, SUBMISSION, SUBMITTED)?;
     let conn = not_founded(&rt, alloc, conn, FoundingFault::AlreadyFounded)?;
-    reopened(&rt, alloc, conn, &SHOWN)?;
+    reopened(&rt, alloc, conn, SHOW, SHOWN)?;
     Ok(())
 }
 
 #[test]
 fn an_empty_store_is_no_office_and_is_handed_back_empty(rt: HostRuntime) -> Result<(), Fail> {
-    let alloc = rt.alloc();
-    let conn = no_office(&rt, Connection::open_in_memory(alloc)?)?;
-    assert!(rt; is_founded(alloc, conn)?);
-    Ok(())
+    match Office::over(Connection::open_in_memory(rt.alloc())?) {
+        Ok(_) => Err(Fail::from("a refusal")),
+        Err((fault, conn)) => {
+            assert_eq!(rt; fault, StoreFault::NotAnOffice);
+            assert!(rt; is_founded(rt.alloc(), conn)?);
+            Ok(())
+        }
+    }
 }
 
 // The connection once these statements were run, where they leave no transaction open.

@@ -1,8 +1,8 @@
-//! Carries out what the documents show of `office`, and compares what it prints with what they show.
+//! Carries out what is shown of `office`, and compares what it prints with what is shown.
 //!
-//! Its input is what `.ci/shown` gathers: the commands, each after `$ `, below each the lines that it prints, and after `# ` the
-//! document that they stand in. Where these lines differ from those that are printed, it writes the whole text as it would have to
-//! be, and ends with status 1.
+//! Its input is what `.ci/shown` gathers: the commands of the documents and of the transcripts, each after `$ `, below each its
+//! input, if it is shown there, and the lines that it prints, and after `# ` the headings. Where these lines differ from those
+//! that are printed, it writes the whole text as it would have to be, and ends with status 1.
 #![tactic(auto)]
 
 mod run;
@@ -15,17 +15,28 @@ use anyhow::{Result, bail};
 use std::io::Write;
 use std::{fs, io};
 
-// The office that the documents found, as an earlier run left it.
-const FOUNDED: [&str; 2] = ["team.db", "team.db-wal"];
+// Removes a database.
+fn forget(rt: &HostRuntime, path: &str) -> Result<()> {
+    let log = format!(in rt.alloc(); "{path}-wal")?;
+    let _ = fs::remove_file(rt, &log);
+    let _ = fs::remove_file(rt, path);
+    Ok(())
+}
+
+// Removes the databases that `init` makes, whose names end with `.db`, as an earlier run may have left them.
+fn forget_founded(rt: &HostRuntime, shown: &str) -> Result<()> {
+    for founding in shown.split("\n$ ./office init ").skip(1) {
+        let (path, _) = founding.split_once(" ").unwrap_or((founding, ""));
+        if path.ends_with(".db") {
+            forget(rt, path)?;
+        }
+    }
+    Ok(())
+}
 
 fn main(rt: HostRuntime) -> Result<()> {
     let shown = io::read_to_string(rt.alloc(), rt.reader())?;
-    if !shown.as_str().contains("\n$ ") {
-        bail!("no command is shown");
-    }
-    for path in FOUNDED {
-        let _ = fs::remove_file(&rt, path);
-    }
+    forget_founded(&rt, shown.as_str())?;
     let said = said_in(&rt, shown.as_str())?;
     if said.as_slice() != shown.as_bytes() {
         io::writer(&rt).write_all(&said)?;

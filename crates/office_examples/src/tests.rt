@@ -1,14 +1,9 @@
-// Whole command lines, and the values that words have.
+// What no transcript shows: which stream a text goes to, streams and databases that fail, files at their limit, and an office over
+// a socket.
 
-mod check;
-mod compare;
-mod databases;
-mod execve;
-mod host;
+mod documents;
+mod offices;
 mod said;
 mod served;
-mod shelf;
-mod stored;
-mod unplugged;
-mod values;
+mod stream;
 mod words;

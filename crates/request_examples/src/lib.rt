@@ -1,18 +1,8 @@
-//! The words and rules of the office, its lines, and its messages over HTTP, by examples that were worked out by hand.
+//! What no line and no exchange shows of rules, words and answers, by examples that were worked out by hand.
 #![tactic(auto)]
 
 #[cfg(test)]
 mod answers;
-#[cfg(test)]
-mod asked;
-#[cfg(test)]
-mod asks;
-#[cfg(test)]
-mod lines;
-#[cfg(test)]
-mod messages;
-#[cfg(test)]
-mod responses;
 #[cfg(test)]
 mod rules;
 #[cfg(test)]
