@@ -1,5 +1,7 @@
 // Files of documents that end at their limit, fail midway or never end.
 
+ghost use Rattle.std.specs.Prelude.{◌≡◌};
+
 use crate::tests::said::assert_said;
 use crate::tests::stream::Stream;
 use counted_io::Counted;
@@ -38,7 +40,10 @@ fn a_file_of_262145_bytes_is_too_long(rt: HostRuntime) -> Result<(), Fail> {
 }
 
 // A file whose bytes are a document, and that then fails so.
-fn failing(kind: ErrorKind) -> Counted<Stream<'static>> {
+fn failing(kind: ErrorKind) -> Counted<Stream<'static>>
+    ensures calls { result.calls ≡ 0 }
+    ensures faults { result.faults ≡ 0 }
+{
     Counted::new(Stream {
         bytes: br#"{"capabilities":{}}"#,
         then: Some(kind),
@@ -53,10 +58,12 @@ fn assert_refused(
     wanted: &str,
 ) -> Result<(), Fail> {
     let mut fault = String::new(alloc);
-    if let Err(checked) = check_document(alloc, &mut failing(kind)) {
+    let mut read_once = failing(kind);
+    if let Err(checked) = check_document(alloc, &mut read_once) {
         write!(fault, "{checked} ")?;
     }
-    if let Err(executed) = execve_document(alloc, &Execution::ByRoot, &mut failing(kind)) {
+    let mut read_again = failing(kind);
+    if let Err(executed) = execve_document(alloc, &Execution::ByRoot, &mut read_again) {
         write!(fault, "{executed}")?;
     }
     assert_eq!(rt; fault.as_str(), wanted);
