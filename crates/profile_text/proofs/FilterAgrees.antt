@@ -1,13 +1,12 @@
 -- Arguments, entries and filters agree with their relations.
-use Rattle.std.proofs.Common.{◌≡◌, ◌∙◌, ℕ, List, [], ◌∷◌, Bool, true, false, cond, Option, Some, None, bytes_eq, refl, sym, ap, subst}
+use Rattle.std.proofs.Common.{◌≡◌, ℕ, List, [], Bool, true, false, Option, Some, None, refl, subst}
 use Rattle.std.specs.Prelude.{codes, is_some, map}
 use Rattle.serde_json.specs.Data.{Data, null, boolean, number, string, array, object, Members}
 use Rattle.seccomp_doc.specs.declared.parts.ArgParts.{ArgParts}
 use Rattle.seccomp_doc.specs.Parts.{EntryPartsValue, FilterPartsValue}
 use Rattle.seccomp_doc.specs.Word.{is_arch, is_flag}
-use Rattle.profile_text.specs.declared.fault.DocFault.{DocFault}
 use Rattle.profile_text.specs.FilterParts.{number_in, whole_number, action_in, op_in, string_in, list_as, arg_at, arg_in, entry_at, entry_in, filter_at, seccomp_in}
-use Rattle.profile_text.specs.FilterReads.{AllMembers, IsNumber, IsNumberOrNull, IsAction, IsOp, IsText, IsTextOf, IsList, IsListOrNull, OrNull, IsA, IsOneOf, arg_names, IsArgMember, MembersAreArg, IsArg, entry_names, IsEntryMember, MembersAreEntry, IsEntry, seccomp_names, IsSeccompMember, MembersAreFilter, IsFilter, IsSeccomp}
+use Rattle.profile_text.specs.FilterReads.{IsNumber, IsNumberOrNull, IsAction, IsOp, IsText, IsTextOf, IsList, IsListOrNull, OrNull, IsA, IsOneOf, arg_names, IsArgMember, IsArg, entry_names, IsEntryMember, IsEntry, seccomp_names, IsSeccompMember, IsFilter, IsSeccomp}
 use Rattle.profile_text.specs.FilterShape.{number_faults, action_faults, op_faults, text_faults, is_text, table_faults, arg_rows, arg_faults, entry_rows, entry_faults, seccomp_rows, seccomp_faults}
 use Rattle.profile_text.specs.Shape.{Shape, word_faults, list_faults, optional_faults, row_faults, row_named, member_of, members_faults, missing_faults, object_faults}
 use Rattle.profile_text.proofs.Agreeing.{Agrees, EachOf, both_empty, list_agrees, null_agrees, all_from, none_from, one_of, known, member_holds, optional_is, optional_same, required_is, required_same, required_there}

@@ -1,5 +1,5 @@
 -- What a loop over the members of the objects of a filter has found.
-use Rattle.std.proofs.Common.{◌≡◌, ◌∙◌, ℕ, List, [], Option, Some, None, option_map, refl, ap}
+use Rattle.std.proofs.Common.{◌≡◌, ◌∙◌, ℕ, List, [], Option, None, option_map, Ok, refl, sym, ap, subst}
 use Rattle.std.specs.Option.{option_map_or}
 use Rattle.std.specs.Prelude.{codes}
 use Rattle.serde_json.specs.Data.{Data, Members, no_members, member}
@@ -10,6 +10,9 @@ use Rattle.seccomp_doc.specs.Parts.{EntryPartsValue}
 use Rattle.profile_text.specs.declared.argument.FoundArg.{FoundArg}
 use Rattle.profile_text.specs.FilterFound.{EntryMembers, FilterMembers, arg_found, arg_found_with, entry_found, entry_found_with, filter_found, filter_found_with}
 use Rattle.profile_text.specs.FilterParts.{whole_number, number_in, action_in, op_in, string_in, list_as, arg_in, entry_in}
+use Rattle.profile_text.specs.FilterShape.{arg_rows, entry_rows, seccomp_rows}
+use Rattle.profile_text.specs.Reading.{unless_faulty}
+use Rattle.profile_text.specs.Shape.{members_faults, members_over}
 use Rattle.profile_text.proofs.Picks.{picked, member_picked}
 
 abbrev list_or_none : {X : Type 0} → (Data → X) → Option Data → List X
@@ -45,8 +48,18 @@ arg_start ms =
     ∙ ap with_value (member_picked (option_map number_in) (codes "value") None ms)
     ∙ ap with_two (member_picked number_or_zero (codes "valueTwo") None ms)
 
-pub arg_more : (name : List ℕ) (d : Data) (found : FoundArg) (ms : Members) → arg_filled found (member name d ms) ≡ arg_filled (arg_found_with name d found) ms
-arg_more name d found ms = refl
+arg_over : (found : FoundArg) (ms : Members) → members_over arg_found_with found ms ≡ arg_filled found ms
+arg_over found no_members = refl
+arg_over found (member name d ms) = arg_over (arg_found_with name d found) ms
+
+-- what a loop over the members of an argument finds
+pub arg_by_members : (ms : Members) → members_over arg_found_with no_arg_found ms ≡ arg_found ms
+arg_by_members ms = arg_over no_arg_found ms ∙ sym (arg_start ms)
+
+-- what a walk over its members gives
+pub arg_walked : (path : List ℕ) (ms : Members) (found : FoundArg)
+    → unless_faulty (members_faults arg_rows path ms) (members_over arg_found_with (no_arg_found) ms) ≡ Ok found → unless_faulty (members_faults arg_rows path ms) (arg_found ms) ≡ Ok found
+arg_walked path ms found told = subst (λ x. unless_faulty (members_faults arg_rows path ms) x ≡ Ok found) (arg_by_members ms) told
 
 -- ---- an entry
 
@@ -74,8 +87,20 @@ entry_start ms =
     ∙ ap with_errno (member_picked number_or_none (codes "errnoRet") None ms)
     ∙ ap with_names (member_picked (option_map (list_as string_in)) (codes "names") None ms)
 
-pub entry_more : (name : List ℕ) (d : Data) (found : EntryMembers) (ms : Members) → entry_filled found (member name d ms) ≡ entry_filled (entry_found_with name d found) ms
-entry_more name d found ms = refl
+entry_over : (found : EntryMembers) (ms : Members) → members_over entry_found_with found ms ≡ entry_filled found ms
+entry_over found no_members = refl
+entry_over found (member name d ms) = entry_over (entry_found_with name d found) ms
+
+-- what a loop over the members of an entry finds
+pub entry_by_members : (ms : Members) → members_over entry_found_with no_entry_found ms ≡ entry_found ms
+entry_by_members ms = entry_over no_entry_found ms ∙ sym (entry_start ms)
+
+-- what a walk over its members gives
+pub entry_walked : (path : List ℕ) (ms : Members) (args : List ArgParts) (found : EntryMembers) → args ≡ []
+    → unless_faulty (members_faults entry_rows path ms) (members_over entry_found_with (record { word = None; args = args; errno = None; names = None }) ms) ≡ Ok found → unless_faulty (members_faults entry_rows path ms) (entry_found ms) ≡ Ok found
+entry_walked path ms args found none told =
+    subst (λ x. unless_faulty (members_faults entry_rows path ms) x ≡ Ok found) (entry_by_members ms)
+    (subst (λ (xs : List ArgParts). unless_faulty (members_faults entry_rows path ms) (members_over entry_found_with (record { word = None; args = xs; errno = None; names = None }) ms) ≡ Ok found) none told)
 
 -- ---- a filter
 
@@ -106,5 +131,18 @@ filter_start ms =
     ∙ ap with_flags (member_picked (list_or_none string_in) (codes "flags") None ms)
     ∙ ap with_entries (member_picked (list_or_none entry_in) (codes "syscalls") None ms)
 
-pub filter_more : (name : List ℕ) (d : Data) (found : FilterMembers) (ms : Members) → filter_filled found (member name d ms) ≡ filter_filled (filter_found_with name d found) ms
-filter_more name d found ms = refl
+filter_over : (found : FilterMembers) (ms : Members) → members_over filter_found_with found ms ≡ filter_filled found ms
+filter_over found no_members = refl
+filter_over found (member name d ms) = filter_over (filter_found_with name d found) ms
+
+-- what a loop over the members of a filter finds
+pub filter_by_members : (ms : Members) → members_over filter_found_with no_filter_found ms ≡ filter_found ms
+filter_by_members ms = filter_over no_filter_found ms ∙ sym (filter_start ms)
+
+-- what a walk over its members gives
+pub filter_walked : (path : List ℕ) (ms : Members) (architectures flags : List (List ℕ)) (entries : List EntryPartsValue) (found : FilterMembers) → architectures ≡ [] → flags ≡ [] → entries ≡ []
+    → unless_faulty (members_faults seccomp_rows path ms) (members_over filter_found_with (record { architectures = architectures; default = None; default_errno = None; flags = flags; entries = entries }) ms) ≡ Ok found → unless_faulty (members_faults seccomp_rows path ms) (filter_found ms) ≡ Ok found
+filter_walked path ms architectures flags entries found a f e told =
+    let P : List (List ℕ) → List (List ℕ) → List EntryPartsValue → Type 0 = λ xs ys zs. unless_faulty (members_faults seccomp_rows path ms) (members_over filter_found_with (record { architectures = xs; default = None; default_errno = None; flags = ys; entries = zs }) ms) ≡ Ok found in
+    subst (λ x. unless_faulty (members_faults seccomp_rows path ms) x ≡ Ok found) (filter_by_members ms)
+    (subst (λ xs. P xs [] []) a (subst (λ ys. P architectures ys []) f (subst (λ zs. P architectures flags zs) e told)))

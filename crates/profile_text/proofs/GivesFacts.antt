@@ -1,5 +1,5 @@
 -- Faults one after another.
-use Rattle.std.proofs.Common.{◌≡◌, ◌⊎◌, inl, inr, List, [], ◌∷◌, ◌++◌, Result, Ok, Err, refl, ap}
+use Rattle.std.proofs.Common.{◌≡◌, inl, inr, List, [], ◌∷◌, ◌++◌, Ok, Err, refl, ap}
 use Rattle.profile_text.specs.declared.fault.DocFault.{DocFault}
 use Rattle.profile_text.specs.Reading.{Gives, unless_faulty}
 

@@ -1,10 +1,9 @@
 -- What a document reads as has known capabilities alone.
-use Rattle.std.proofs.Common.{◌≡◌, ◌∙◌, ℕ, ◌+◌, ◌^◌, ◌<◌, List, [], ◌∷◌, length, Option, Some, None, Bool, true, false, cond, bytes_eq, refl, sym, subst, arith, lit<}
+use Rattle.std.proofs.Common.{◌≡◌, ℕ, ◌+◌, ◌^◌, ◌<◌, List, [], ◌∷◌, length, Option, Some, None, Bool, true, false, cond, bytes_eq, sym, subst, arith, lit<}
 use Rattle.std.proofs.Math.Pow.{pow-lt}
 use Rattle.std.proofs.lemmas.Nat.{or_lt}
-use Rattle.std.specs.Int.RustNames.{bit_or}
 use Rattle.serde_json.specs.Data.{Data, null, boolean, number, string, array, object, Items, no_items, item}
-use Rattle.cap_sets.specs.Capability.{number_from, number_named, cap_names}
+use Rattle.cap_sets.specs.Capability.{number_from, cap_names}
 use Rattle.profile_text.specs.Reads.{Names, AllName, StandsForSet}
 use Rattle.profile_text.specs.Sets.{cap_of, caps_of}
 use Rattle.profile_text.proofs.NameFacts.{named_is, listed_set}

@@ -1,5 +1,5 @@
 -- The filter that a document names is a lawful one.
-use Rattle.std.proofs.Common.{◌≡◌, ◌∙◌, ℕ, ◌+◌, ◌^◌, ◌<◌, ◌≤◌, ◌==◌, ◌⊎◌, inl, inr, List, [], ◌∷◌, ◌++◌, All, Contains, map, length, Bool, true, false, cond, not, ◌&&◌, Option, Some, None, bytes_eq, refl, sym, ap, subst, arith, append_assoc, append-nil, nat_lt, ltb-false, ltb-true, lit<}
+use Rattle.std.proofs.Common.{◌≡◌, ◌∙◌, ℕ, ◌^◌, ◌<◌, inl, inr, List, [], ◌∷◌, ◌++◌, All, Contains, map, length, Bool, true, false, cond, not, ◌&&◌, Option, Some, None, bytes_eq, refl, sym, ap, subst, arith, append_assoc, append-nil, nat_lt, ltb-false, ltb-true, lit<}
 use Rattle.std.specs.List.{list_any, flat_map}
 use Rattle.std.specs.Prelude.{◌||◌, IfSome, codes, unwrap_or}
 use Rattle.std.proofs.lemmas.Bool.{eqb-false}
@@ -9,11 +9,10 @@ use Rattle.seccomp_doc.specs.declared.action.Action.{Action}
 use Rattle.seccomp_doc.specs.declared.action.ActionWord.{ActionWord}
 use Rattle.seccomp_doc.specs.declared.action.ActionWord.TheVariants as words
 use Rattle.seccomp_doc.specs.declared.compare.Compare.{Compare}
-use Rattle.seccomp_doc.specs.declared.fault.FilterFault.{FilterFault}
 use Rattle.seccomp_doc.specs.declared.fault.FilterFault.TheVariants.{TooMany}
 use Rattle.seccomp_doc.specs.declared.parts.ArgParts.{ArgParts}
-use Rattle.seccomp_doc.specs.Action.{errno_of, same_action}
-use Rattle.seccomp_doc.specs.Checks.{Check, all_name_checks, arg_checks, contradicts, entry_checks, errno_checks, fault_of, first_fault, has_too_many, name_check, name_checks, names_checks}
+use Rattle.seccomp_doc.specs.Action.{same_action}
+use Rattle.seccomp_doc.specs.Checks.{Check, all_name_checks, contradicts, entry_checks, errno_checks, fault_of, first_fault, has_too_many, name_check, name_checks}
 use Rattle.seccomp_doc.specs.Compare.{is_masked}
 use Rattle.seccomp_doc.specs.Filter.{EntryValue, FilterValue}
 use Rattle.seccomp_doc.specs.Lawful.{HasOneAction, IsLawful, IsLawfulAction, IsLawfulCompare, IsLawfulEntry, has_repeat}

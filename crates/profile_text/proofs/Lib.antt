@@ -6,6 +6,7 @@ pub mod WalkFacts
 pub mod Steps
 pub mod FilterPicks
 pub mod ObjectFacts
+pub mod NamedMember
 pub mod Agreeing
 pub mod ValuesAgree
 pub mod FilterAgrees

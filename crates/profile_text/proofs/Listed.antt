@@ -1,10 +1,9 @@
 -- The members of an object, of which some may be left out: what is found under a name, and what holds of each.
-use Rattle.std.proofs.Common.{◌≡◌, ◌∙◌, ℕ, List, [], ◌∷◌, Bool, true, false, cond, Option, Some, None, bytes_eq, refl, sym, ap, subst}
-use Rattle.serde_json.specs.Data.{Data, Members, no_members, member}
+use Rattle.std.proofs.Common.{◌≡◌, ◌∙◌, ℕ, List, [], ◌∷◌, Bool, true, false, cond, Option, Some, None, bytes_eq, refl, ap}
+use Rattle.serde_json.specs.Data.{Data, Members, no_members}
 use Rattle.profile_text.specs.FilterReads.{AllMembers}
 use Rattle.profile_text.specs.Shape.{member_from, member_of}
 use Rattle.profile_text.specs.Text.{member_if}
-use Rattle.profile_text.proofs.Picks.{same_name}
 
 -- the names in order, each with its value, where it has one
 abbrev pub Rows : Type 0

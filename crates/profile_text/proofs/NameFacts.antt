@@ -1,10 +1,9 @@
 -- The set of a list of names is the set that the list stands for.
-use Rattle.std.proofs.Common.{◌≡◌, ◌∙◌, ℕ, ◌^◌, ◌⊎◌, inl, inr, List, Option, Some, None, refl, sym, ap, subst, arith}
+use Rattle.std.proofs.Common.{◌≡◌, ◌∙◌, ℕ, ◌^◌, inl, inr, refl, sym, subst, arith}
 use Rattle.std.proofs.lemmas.Bool.{cases_eq}
 use Rattle.std.proofs.lemmas.Nat.Bits.{bit_at-pow_same, bit_at-pow_other, bit_at-zero, same_from_bits}
 use Rattle.std.specs.Prelude.{◌↔◌}
 use Rattle.std.specs.Int.{bit_at}
-use Rattle.std.specs.Int.RustNames.{bit_or}
 use Rattle.serde_json.specs.Data.{Data, null, boolean, number, string, array, object, Items, no_items, item}
 use Rattle.cap_sets.specs.Capability.{Has}
 use Rattle.cap_sets.proofs.Bits.{either_from_or, or_from_either, cases_bit}

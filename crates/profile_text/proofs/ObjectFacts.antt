@@ -1,5 +1,5 @@
 -- Steps of the readers of the objects of a filter.
-use Rattle.std.proofs.Common.{◌≡◌, ◌∙◌, ℕ, List, [], ◌∷◌, Bool, true, false, Option, Some, None, option_map, bytes_eq, Result, Ok, Err, inl, inr, refl, sym, ap, subst}
+use Rattle.std.proofs.Common.{◌≡◌, ◌∙◌, ℕ, List, [], true, false, Option, Some, None, option_map, bytes_eq, Ok, Err, refl, sym, ap, subst}
 use Rattle.std.specs.Prelude.{codes, is_some, unwrap_or}
 use Rattle.serde_json.specs.Data.{Data, Members}
 use Rattle.seccomp_doc.specs.declared.action.ActionWord.{ActionWord}

@@ -1,7 +1,7 @@
 -- The parts that the canonical text of a filter names: they have no fault, and make the filter.
-use Rattle.std.proofs.Common.{◌≡◌, ◌∙◌, ℕ, ◌+◌, ◌^◌, ◌<◌, ◌≤◌, ◌==◌, ◌⊎◌, inl, inr, List, [], ◌∷◌, ◌++◌, All, Contains, map, length, Bool, true, false, cond, not, ◌&&◌, ◌||◌, Option, Some, None, bytes_eq, refl, sym, ap, subst, arith, append_assoc, append-nil, le-ltb, nat_lt}
+use Rattle.std.proofs.Common.{◌≡◌, ◌∙◌, ℕ, ◌^◌, ◌<◌, ◌≤◌, ◌==◌, List, [], ◌∷◌, ◌++◌, All, Contains, map, length, Bool, true, false, cond, not, ◌&&◌, None, bytes_eq, refl, sym, ap, subst, arith, append_assoc, le-ltb, nat_lt}
 use Rattle.std.specs.List.{list_any, flat_map}
-use Rattle.std.proofs.lemmas.Bool.{cases_Bool, ne_eqb}
+use Rattle.std.proofs.lemmas.Bool.{ne_eqb}
 use Rattle.std.proofs.lemmas.List.{length-map}
 use Rattle.std.proofs.lemmas.List.Elements.{All-head, All-tail, Contains-append_left, Contains-append_right, Contains-push}
 use Rattle.std.proofs.lemmas.Slice.Eq.{bytes_eq-Decides}
@@ -13,7 +13,7 @@ use Rattle.seccomp_doc.specs.Action.{errno_of, same_action, word_of}
 use Rattle.seccomp_doc.specs.Checks.{all_name_checks, contradicts, entry_checks, errno_checks, fault_of, first_fault, has_too_many, is_large, is_no_call_name, name_check, name_checks}
 use Rattle.seccomp_doc.specs.Compare.{is_masked}
 use Rattle.seccomp_doc.specs.Filter.{EntryValue, FilterValue}
-use Rattle.seccomp_doc.specs.Lawful.{HasOneAction, IsLawful, IsLawfulAction, IsLawfulCompare, IsLawfulEntry, has_repeat}
+use Rattle.seccomp_doc.specs.Lawful.{HasOneAction, IsLawful, IsLawfulAction, IsLawfulCompare, IsLawfulEntry}
 use Rattle.seccomp_doc.specs.Meaning.{has_name}
 use Rattle.seccomp_doc.specs.Parts.{EntryPartsValue, FilterPartsValue, action_of, compare_of, entry_of, filter_of}
 use Rattle.seccomp_doc.specs.Word.{is_call_name}

@@ -1,10 +1,10 @@
 -- The JSON of a filter stands for its own parts.
-use Rattle.std.proofs.Common.{◌≡◌, ◌∙◌, ℕ, ◌^◌, ◌<◌, List, [], ◌∷◌, All, map, Bool, true, false, Option, Some, None, bytes_eq, refl, sym, ap, subst, arith, lt-ltb}
+use Rattle.std.proofs.Common.{◌≡◌, ◌∙◌, ℕ, ◌^◌, ◌<◌, List, [], ◌∷◌, All, map, Bool, true, false, Option, Some, None, bytes_eq, refl, sym, subst, arith, lt-ltb}
 use Rattle.std.specs.Prelude.{codes}
 use Rattle.std.proofs.lemmas.List.Elements.{All-head, All-tail, All-weaker}
 use Rattle.std.proofs.lemmas.Slice.Eq.{bytes_eq-Decides}
 use Rattle.std.proofs.lemmas.Bool.{false≢true}
-use Rattle.serde_json.specs.Data.{Data, string, number, unsigned, array, object, Members}
+use Rattle.serde_json.specs.Data.{Data, string, number, unsigned}
 use Rattle.serde_json.specs.View.{items_of}
 use Rattle.seccomp_doc.specs.declared.action.Action.{Action}
 use Rattle.seccomp_doc.specs.declared.action.Action.TheVariants as actions
@@ -17,11 +17,10 @@ use Rattle.seccomp_doc.specs.Action.{action_word_named, action_word_text, errno_
 use Rattle.seccomp_doc.specs.Compare.{is_masked, op_named, op_text}
 use Rattle.seccomp_doc.specs.Filter.{EntryValue, FilterValue}
 use Rattle.seccomp_doc.specs.Lawful.{IsLawfulAction, IsLawfulCompare, IsLawfulEntry}
-use Rattle.seccomp_doc.specs.Word.{is_arch, is_call_name, is_flag}
+use Rattle.seccomp_doc.specs.Word.{is_arch, is_flag}
 use Rattle.profile_text.specs.FilterParts.{u64_of}
 use Rattle.profile_text.specs.FilterReads.{AreItems, IsA, IsAction, IsArg, IsArgMember, IsEntry, IsEntryMember, IsFilter, IsList, IsListOrNull, IsNumber, IsNumberOrNull, IsOp, IsSeccompMember, IsText, IsTextOf, Optional, OrNull, Required}
 use Rattle.profile_text.specs.Reads.{IsWhole}
-use Rattle.profile_text.specs.Shape.{member_of}
 use Rattle.profile_text.specs.Text.{arg_data, entry_data, errno_data, filter_data, some_list, texts_data, value_two_data}
 use Rattle.profile_text.proofs.Listed.{Rows, found_at, HoldsIf, all_listed}
 use Rattle.profile_text.proofs.OwnParts.{own_arg, own_entry, own_parts}

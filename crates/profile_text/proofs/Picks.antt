@@ -1,5 +1,5 @@
 -- What a loop over the members of an object has picked up, and the sets of `capabilities` by their names.
-use Rattle.std.proofs.Common.{◌≡◌, ◌∙◌, ℕ, ◌⊎◌, inl, inr, List, [], ◌∷◌, ◌++◌, Bool, true, false, cond, Option, Some, None, option_map, bytes_eq, refl, sym, ap, subst}
+use Rattle.std.proofs.Common.{◌≡◌, ◌∙◌, ℕ, ◌⊎◌, inl, inr, List, Bool, true, false, cond, Option, Some, None, option_map, bytes_eq, refl, sym, ap, subst}
 use Rattle.std.proofs.lemmas.Bool.{cases_Bool}
 use Rattle.std.proofs.lemmas.Slice.Eq.{bytes_eq-Decides}
 use Rattle.std.specs.Option.{option_map_or}
@@ -13,8 +13,8 @@ use Rattle.profile_text.specs.declared.sets.Sets.{Sets}
 use Rattle.profile_text.specs.Document.{caps_row, caps_rows}
 use Rattle.profile_text.specs.FilterParts.{seccomp_in}
 use Rattle.profile_text.specs.Parts.{found_in, found_with}
-use Rattle.profile_text.specs.Sets.{set_name, set_named, set_of, sets_of, sets_in, sets_with, no_sets, member_set}
-use Rattle.profile_text.specs.Shape.{member_from, member_of, row_named}
+use Rattle.profile_text.specs.Sets.{set_name, set_named, set_of, sets_of, sets_in, sets_with, no_sets}
+use Rattle.profile_text.specs.Shape.{member_from, members_over, row_named}
 
 -- what the members say of a name, where so far it is a
 abbrev pub picked : {A : Type 0} → (Option Data → A) → List ℕ → A → Members → A
@@ -164,5 +164,10 @@ found_filled ms =
     ap with_sets (member_picked (option_map sets_of) (codes "capabilities") None ms)
     ∙ ap with_filter (member_picked seccomp_or_none (codes "seccomp") None ms)
 
-pub found_more : (n : List ℕ) (d : Data) (found : Found) (ms : Members) → found_over found (member n d ms) ≡ found_over (found_with n d found) ms
-found_more n d found ms = refl
+found_over_members : (found : Found) (ms : Members) → members_over found_with found ms ≡ found_over found ms
+found_over_members found no_members = refl
+found_over_members found (member n d ms) = found_over_members (found_with n d found) ms
+
+-- what a loop over the members of a document finds
+pub found_by_members : (ms : Members) → members_over found_with nothing_found ms ≡ found_in ms
+found_by_members ms = found_over_members nothing_found ms ∙ sym (found_filled ms)

@@ -1,11 +1,11 @@
 -- The canonical text of a profile, read as JSON, is the value that was written.
-use Rattle.std.proofs.Common.{◌≡◌, ◌∙◌, ℕ, ◌+◌, ◌^◌, ◌<◌, ◌≤◌, List, [], ◌∷◌, All, map, Option, Some, None, Bool, true, false, cond, refl, sym, ap, arith, lit≤}
+use Rattle.std.proofs.Common.{◌≡◌, ℕ, ◌+◌, ◌^◌, ◌<◌, ◌≤◌, List, [], ◌∷◌, All, map, Option, Some, None, Bool, true, false, cond, refl, arith, lit≤}
 use Rattle.std.specs.Prelude.{codes, IsUtf8, IfSome, ◌&&◌, ◌==◌}
 use Rattle.std.specs.Int.{bit_at}
 use Rattle.std.proofs.lemmas.Bool.{and_parts}
 use Rattle.std.proofs.lemmas.List.Elements.{All-nil, All-cons, All-weaker}
 use Rattle.json.proofs.Printed.Utf8.{are_ascii, IsUtf8-are_ascii}
-use Rattle.serde_json.specs.Data.{Data, string, number, unsigned, object, Members, no_members, member}
+use Rattle.serde_json.specs.Data.{Data, string, number, unsigned, object, no_members, member}
 use Rattle.serde_json.specs.Read.{of_json, max_depth}
 use Rattle.serde_json.specs.Written.{outline}
 use Rattle.cap_sets.specs.Capability.{cap_names, names_from, names_of}
@@ -26,7 +26,7 @@ use Rattle.profile_text.specs.declared.profile.Profile.{Profile}
 use Rattle.profile_text.specs.Reading.{json_of}
 use Rattle.profile_text.specs.Reads.{IsWhole, HasWholeFilter}
 use Rattle.profile_text.specs.Text.{arg_data, caps_data, entry_data, errno_data, filter_data, member_if, profile_data, seccomp_data, set_data, some_list, text_of, texts_data, value_two_data}
-use Rattle.profile_text.proofs.Printing.{Back, MembersPrint, Prints, PrintsIf, back_if, deeper, end_prints, list_prints, member_prints, number_prints, object_prints, printed_json, some_list_prints, text_prints}
+use Rattle.profile_text.proofs.Printing.{Back, Prints, PrintsIf, back_if, deeper, end_prints, list_prints, member_prints, number_prints, object_prints, printed_json, some_list_prints, text_prints}
 use Rattle.profile_text.proofs.WordBytes.{arch_utf8, call_name_utf8, flag_utf8}
 
 -- a value that is there, printed on fewer levels

@@ -1,16 +1,14 @@
 -- A canonical text reads as its profile.
-use Rattle.std.proofs.Common.{◌≡◌, ◌∙◌, ℕ, ◌≤◌, inl, inr, List, [], ◌∷◌, length, Option, Some, None, Ok, refl, sym, ap, subst}
+use Rattle.std.proofs.Common.{◌≡◌, ℕ, ◌≤◌, inl, inr, List, [], ◌∷◌, length, Option, Some, None, Ok, refl, sym, ap, subst}
 use Rattle.std.specs.Prelude.{IfSome, codes}
-use Rattle.serde_json.specs.Data.{Data, null, boolean, number, string, array, object, Members}
+use Rattle.serde_json.specs.Data.{Data, null, boolean, number, string, array, object}
 use Rattle.cap_sets.specs.declared.state.CapState.{CapState}
 use Rattle.seccomp_doc.specs.Filter.{FilterValue}
 use Rattle.profile_text.specs.declared.profile.Profile.{Profile}
-use Rattle.profile_text.specs.declared.sets.CapSet.{CapSet}
 use Rattle.profile_text.specs.declared.sets.CapSet.TheVariants.{Ambient, Bounding, Effective, Inheritable, Permitted}
 use Rattle.profile_text.specs.FilterReads.{StandsForFilter}
 use Rattle.profile_text.specs.Reading.{reading_of, most_bytes}
-use Rattle.profile_text.specs.Reads.{IsSetMember, IsCapsValue, StandsForSet, StandsForCaps, StandsFor, IsDocumentMember, IsWhole, HasKnownCaps, HasWholeFilter, state_set}
-use Rattle.profile_text.specs.Sets.{set_name}
+use Rattle.profile_text.specs.Reads.{IsCapsValue, StandsForCaps, StandsFor, IsDocumentMember, IsWhole, HasKnownCaps, HasWholeFilter}
 use Rattle.profile_text.specs.Shape.{member_of}
 use Rattle.profile_text.specs.Text.{caps_data, profile_data, seccomp_data, text_of}
 use Rattle.profile_text.proofs.KnownCaps.{known_set}

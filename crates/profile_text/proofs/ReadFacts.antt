@@ -1,33 +1,35 @@
 -- Steps of the reader of documents.
-use Rattle.std.proofs.Common.{◌≡◌, ◌∙◌, ℕ, ◌<◌, ◌≤◌, List, [], length, Bool, true, false, cond, Option, Some, None, option_map, bytes_eq, Result, Ok, Err, inl, inr, refl, sym, ap, subst, le-ltb, lt-ltb}
-use Rattle.std.specs.Prelude.{IsUtf8, codes, is_some}
+use Rattle.std.proofs.Common.{◌≡◌, ◌∙◌, ℕ, ◌<◌, ◌≤◌, List, [], length, cond, Option, Some, None, Ok, Err, inl, inr, refl, ap, subst, le-ltb, lt-ltb}
+use Rattle.std.specs.Prelude.{IsUtf8, codes}
 use Rattle.std.specs.Str.{is_utf8}
 use Rattle.std.proofs.lemmas.Str.{IsUtf8-from_is_utf8, is_utf8-from_IsUtf8}
 use Rattle.std.proofs.lemmas.Bool.{cases_Bool}
 use Rattle.serde_json.specs.Data.{Data, Members}
 use Rattle.serde_json.specs.Read.{read}
-use Rattle.seccomp_doc.specs.Parts.{FilterPartsValue}
 use Rattle.profile_text.specs.declared.fault.DocFault.{DocFault}
 use Rattle.profile_text.specs.declared.fault.DocFault.TheVariants.{WrongShape, NotJson, TooLong}
 use Rattle.profile_text.specs.declared.document.Found.{Found}
 use Rattle.profile_text.specs.declared.document.Parts.{Parts}
 use Rattle.profile_text.specs.declared.sets.Sets.{Sets}
-use Rattle.profile_text.specs.Document.{caps_faults, document_rows}
-use Rattle.profile_text.specs.FilterParts.{seccomp_in}
-use Rattle.profile_text.specs.FilterShape.{seccomp_faults}
+use Rattle.profile_text.specs.Document.{document_rows}
 use Rattle.profile_text.specs.Parts.{found_in, found_with, parts_of}
 use Rattle.profile_text.specs.Reading.{Gives, unless_faulty, profile_of, profile_of_json, reading_of, most_bytes}
 use Rattle.profile_text.specs.Sets.{sets_of}
-use Rattle.profile_text.specs.Shape.{below, member_of, members_faults, missing_faults, object_faults, row_faults, row_named}
+use Rattle.profile_text.specs.Shape.{member_of, members_faults, members_over, missing_faults, object_faults}
 use Rattle.profile_text.proofs.GivesFacts.{gives_first, ok_parts}
 use Rattle.profile_text.proofs.ObjectFacts.{is_there, is_absent}
-use Rattle.profile_text.proofs.Picks.{same_name}
+use Rattle.profile_text.proofs.Picks.{found_by_members, nothing_found}
 
 -- the fault of a member is the fault of the document
 pub document_err : (ms : Members) (fault : DocFault) → Gives {X = Found} (Err fault) (unless_faulty (members_faults document_rows [] ms) (found_in ms))
     → Gives {X = Parts} (Err fault) (unless_faulty (object_faults document_rows [] ms) (parts_of (found_in ms)))
 unfolding object_faults
 document_err ms fault told = gives_first fault (members_faults document_rows [] ms) (missing_faults document_rows [] ms) (found_in ms) (parts_of (found_in ms)) told
+
+-- what a walk over the members of a document gives
+pub document_walked : (ms : Members) (found : Found) → unless_faulty (members_faults document_rows [] ms) (members_over found_with nothing_found ms) ≡ Ok found
+    → unless_faulty (members_faults document_rows [] ms) (found_in ms) ≡ Ok found
+document_walked ms found told = subst (λ x. unless_faulty (members_faults document_rows [] ms) x ≡ Ok found) (found_by_members ms) told
 
 pub document_found : (ms : Members) (found : Found) (sets : Sets) → unless_faulty (members_faults document_rows [] ms) (found_in ms) ≡ Ok found → found.sets ≡ Some sets
     → unless_faulty (object_faults document_rows [] ms) (parts_of (found_in ms)) ≡ Ok (record { sets = sets; filter = found.filter })

@@ -1,5 +1,5 @@
 -- Bytes read as a profile exactly where they stand for it.
-use Rattle.std.proofs.Common.{◌≡◌, ◌∙◌, ℕ, ◌<◌, ◌≤◌, ◌⊎◌, inl, inr, List, [], ◌∷◌, ◌++◌, length, Bool, true, false, cond, Option, Some, None, option_map, Result, Ok, Err, refl, sym, ap, subst, le-ltb, ltb-false}
+use Rattle.std.proofs.Common.{◌≡◌, ◌∙◌, ℕ, ◌≤◌, ◌⊎◌, inl, inr, List, [], length, Bool, true, false, cond, Option, Some, None, option_map, Result, Ok, Err, refl, sym, ap, subst, le-ltb, ltb-false}
 use Rattle.std.specs.Option.{option_map_or}
 use Rattle.std.specs.Prelude.{IfOk, codes, nat_lt, unwrap_or}
 use Rattle.serde_json.specs.Data.{Data, null, boolean, number, string, array, object, Members}
@@ -24,7 +24,7 @@ use Rattle.profile_text.specs.FilterShape.{seccomp_faults}
 use Rattle.profile_text.specs.Reading.{GivesAs, ◌>>=◌, unless_faulty, unless_unlawful, filter_or_fault, caps_or_fault, if_short, profile_of, profile_of_json, json_of, reading_of, most_bytes}
 use Rattle.profile_text.specs.Reads.{IsSetMember, IsCapsValue, IsDocumentMember, StandsForSet, StandsForCaps, MembersStandFor, StandsFor, Reads, state_set}
 use Rattle.profile_text.specs.Parts.{found_in, document_parts, parts_of}
-use Rattle.profile_text.specs.Sets.{set_name, set_in, set_of, sets_in, sets_of, no_sets, member_set}
+use Rattle.profile_text.specs.Sets.{set_name, set_in, set_of, sets_in, sets_of, no_sets}
 use Rattle.profile_text.specs.Shape.{member_of, members_faults, missing_faults, object_faults}
 use Rattle.profile_text.specs.State.{state_of, state_by, lawful_or_fault}
 use Rattle.profile_text.specs.Text.{text_of}
@@ -33,7 +33,6 @@ use Rattle.profile_text.proofs.FilterAgrees.{seccomp_agrees}
 use Rattle.profile_text.proofs.GivesFacts.{ok_parts}
 use Rattle.profile_text.proofs.ShapeFacts.{stands_for_own, stood_for, document_members_from, no_document_members_fault}
 use Rattle.profile_text.proofs.StateFacts.{state_told}
-use Rattle.profile_text.proofs.States.{same_profile}
 
 bind_ok : {X Y : Type 0} (r : Result X DocFault) (next : X → Result Y DocFault) (y : Y) → (r >>= next) ≡ Ok y → (x : X) × (r ≡ Ok x) × (next x ≡ Ok y)
 bind_ok (Ok x) next y e = (x, refl, e)

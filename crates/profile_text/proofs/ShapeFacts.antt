@@ -1,23 +1,21 @@
 -- Where there is no fault, the values are of their shapes.
-use Rattle.std.proofs.Common.{◌≡◌, ◌∙◌, ℕ, ◌+◌, ◌⊎◌, inl, inr, List, [], ◌∷◌, ◌++◌, Bool, true, false, cond, Option, Some, None, bytes_eq, refl, sym, ap, subst}
-use Rattle.std.proofs.lemmas.Bool.{cases_Bool}
+use Rattle.std.proofs.Common.{◌≡◌, ◌∙◌, ℕ, ◌+◌, inl, inr, List, [], Bool, true, false, Option, Some, None, bytes_eq, refl, sym, subst}
 use Rattle.std.specs.Option.{option_map_or}
 use Rattle.std.specs.Prelude.{decimal, codes}
 use Rattle.serde_json.specs.Data.{Data, null, boolean, number, string, array, object, Items, no_items, item, Members, no_members, member}
 use Rattle.cap_sets.specs.Capability.{number_named}
-use Rattle.profile_text.specs.declared.fault.DocFault.{DocFault}
 use Rattle.profile_text.specs.declared.sets.CapSet.{CapSet}
 use Rattle.profile_text.specs.declared.sets.CapSet.TheVariants.{Ambient, Bounding, Effective, Inheritable, Permitted}
 use Rattle.profile_text.specs.Document.{is_cap_name, set_faults, caps_row, caps_rows, caps_faults, document_rows}
 use Rattle.profile_text.specs.FilterParts.{seccomp_in}
 use Rattle.profile_text.specs.FilterReads.{AllMembers}
-use Rattle.profile_text.specs.Reads.{Names, AllName, ListsSet, IsSetValue, StandsForSet, IsSetMember, IsCapsValue, IsDocumentMember}
-use Rattle.profile_text.specs.Sets.{set_name, set_named, set_of}
-use Rattle.profile_text.specs.Shape.{below, word_faults, items_faults, list_faults, optional_faults, row_faults, row_named, members_faults, missing_faults, object_faults, member_from, member_of}
+use Rattle.profile_text.specs.Reads.{Names, AllName, IsSetValue, StandsForSet, IsSetMember, IsCapsValue, IsDocumentMember}
+use Rattle.profile_text.specs.Sets.{set_name, set_of}
+use Rattle.profile_text.specs.Shape.{below, word_faults, items_faults, list_faults, optional_faults, row_faults, row_named, members_faults}
 use Rattle.profile_text.proofs.Agreeing.{both_empty, empty_both}
 use Rattle.profile_text.proofs.FilterAgrees.{seccomp_agrees}
 use Rattle.profile_text.proofs.NameFacts.{lists_own_set, listed_set}
-use Rattle.profile_text.proofs.Picks.{name_cases, same_name, row_is, IsNoSet}
+use Rattle.profile_text.proofs.Picks.{name_cases, same_name, IsNoSet}
 use Rattle.profile_text.proofs.WalkFacts.{caps_object}
 
 -- ---- lists of names

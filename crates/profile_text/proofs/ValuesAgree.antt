@@ -1,7 +1,7 @@
 -- Numbers, names and texts agree with their relations.
 use Rattle.std.proofs.Common.{◌≡◌, ◌∙◌, ℕ, List, [], ◌∷◌, Bool, true, false, cond, Option, Some, None, bytes_eq, refl, sym, ap, subst}
 use Rattle.std.specs.Prelude.{codes, is_some, unwrap_or}
-use Rattle.serde_json.specs.Data.{Num, Data, null, boolean, number, string, array, object}
+use Rattle.serde_json.specs.Data.{Data, null, boolean, number, string, array, object}
 use Rattle.seccomp_doc.specs.declared.action.ActionWord.{ActionWord}
 use Rattle.seccomp_doc.specs.declared.compare.Op.{Op}
 use Rattle.seccomp_doc.specs.Action.{action_word_named}
@@ -10,7 +10,7 @@ use Rattle.profile_text.specs.declared.fault.DocFault.{DocFault}
 use Rattle.profile_text.specs.declared.fault.DocFault.TheVariants.{UnknownWord, BadNumber}
 use Rattle.profile_text.specs.FilterParts.{u64_of, whole_number, number_in, action_in, op_in, string_in}
 use Rattle.profile_text.specs.FilterReads.{IsNumber, IsSomeNumber, IsAction, IsOp, IsTextOf}
-use Rattle.profile_text.specs.FilterShape.{number_faults, action_faults, op_faults, is_notify, is_action_name, is_op_name}
+use Rattle.profile_text.specs.FilterShape.{number_faults, action_faults, op_faults, is_action_name}
 use Rattle.profile_text.specs.Shape.{refused_faults, word_faults}
 use Rattle.profile_text.proofs.Agreeing.{Agrees}
 use Rattle.profile_text.proofs.Picks.{same_name}

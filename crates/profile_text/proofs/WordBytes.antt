@@ -1,6 +1,6 @@
 -- Names of calls, architectures and flags are ASCII.
-use Rattle.std.proofs.Common.{◌≡◌, ◌∙◌, ℕ, ◌<◌, List, [], ◌∷◌, ◌++◌, take, drop, length, Bool, true, false, bytes_eq, refl, sym, ap, subst, arith, nat_lt, lt-ltb}
-use Rattle.std.specs.Prelude.{◌&&◌, IsUtf8, codes}
+use Rattle.std.proofs.Common.{◌≡◌, ℕ, ◌<◌, List, [], ◌∷◌, take, drop, length, Bool, true, bytes_eq, refl, sym, subst, arith, lt-ltb}
+use Rattle.std.specs.Prelude.{IsUtf8, codes}
 use Rattle.std.specs.List.{list_all}
 use Rattle.std.proofs.lemmas.Bool.{and_parts}
 use Rattle.std.proofs.lemmas.Bool.Decides.{nat_tests}

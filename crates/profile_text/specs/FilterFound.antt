@@ -1,5 +1,5 @@
 -- What the members of the objects of a filter give, one after another.
-use Rattle.std.specs.Prelude.{ℕ, List, [], if◌then◌else◌, Option, Some, None, option_map, bytes_eq, codes, map, string_bytes}
+use Rattle.std.specs.Prelude.{ℕ, List, if◌then◌else◌, Option, Some, option_map, bytes_eq, codes, map, string_bytes}
 use Rattle.std.specs.Option.{option_map_or}
 use Rattle.serde_json.specs.Data.{Data, Members}
 use Rattle.seccomp_doc.specs.declared.action.ActionWord.{ActionWord}

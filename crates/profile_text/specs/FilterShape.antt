@@ -4,7 +4,6 @@ use Rattle.serde_json.specs.Data.{Data, null, boolean, number, string, array, ob
 use Rattle.seccomp_doc.specs.Action.{action_word_named}
 use Rattle.seccomp_doc.specs.Compare.{op_named}
 use Rattle.seccomp_doc.specs.Word.{is_arch, is_flag}
-use Rattle.profile_text.specs.declared.fault.DocFault.{DocFault}
 use Rattle.profile_text.specs.declared.fault.DocFault.TheVariants.{WrongShape, BadNumber}
 use Rattle.profile_text.specs.FilterParts.{u64_of}
 use Rattle.profile_text.specs.Shape.{Shape, Row, word_faults, list_faults, optional_faults, refused_faults, object_faults}

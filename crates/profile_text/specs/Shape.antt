@@ -77,6 +77,11 @@ unfoldable pub members_faults : List Row → List ℕ → Members → List DocFa
 members_faults rows path no_members = []
 members_faults rows path (member name d ms) = row_faults (row_named rows name) (below path name) d ++ members_faults rows path ms
 
+-- what the members give, one after another, by a rule for one member more
+abbrev pub members_over : {X : Type 0} → (List ℕ → Data → X → X) → X → Members → X
+members_over with x no_members = x
+members_over with x (member name d ms) = members_over with (with name d x) ms
+
 -- the members that must be there and aren't, in the order of the table
 abbrev pub missing_faults : List Row → List ℕ → Members → List DocFault
 missing_faults rows path ms =

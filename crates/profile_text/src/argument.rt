@@ -2,14 +2,14 @@
 
 ghost use Rattle.std.specs.Prelude.{codes};
 ghost use Rattle.serde_json.specs.View.{items_view, members_view, view};
-ghost use Rattle.profile_text.specs.FilterFound.{arg_found, arg_found_with};
 ghost use Rattle.profile_text.specs.FilterParts.{arg_at, arg_in, items_as, list_as};
 ghost use Rattle.profile_text.specs.FilterShape.{arg_faults, arg_rows};
 ghost use Rattle.profile_text.specs.Place.{path_of};
 ghost use Rattle.profile_text.specs.Reading.{Gives, GivesAs, unless_faulty};
-ghost use Rattle.profile_text.specs.Shape.{below, items_faults, list_faults, members_faults, object_faults, optional_faults, row_faults, row_named};
+ghost use Rattle.profile_text.specs.Shape.{below, items_faults, list_faults, object_faults, optional_faults};
 
 use crate::fault::{DocFault, Path};
+use crate::members::{FromMembers, with_members};
 use crate::place::Place;
 use crate::value::{number_of, op_of, optional_number_of};
 use seccomp_doc::{ArgParts, Op};
@@ -17,7 +17,7 @@ use serde_json::{Map, Value};
 use std::alloc::Global;
 
 // What the members of an argument give.
-#[derive(Clone, Copy)]
+#[derive(Drop)]
 pub(crate) struct FoundArg {
     index: Option<u64>,
     op: Option<Op>,
@@ -25,61 +25,66 @@ pub(crate) struct FoundArg {
     value_two: u64,
 }
 
-// What was found so far, with one member more.
-fn found_with(
-    alloc: Global,
-    place: Place,
-    found: FoundArg,
-    name: &str,
-    value: &Value,
-) -> Result<FoundArg, DocFault>
-    ensures { Gives result (unless_faulty
-        (row_faults (row_named arg_rows name.now) (below (path_of place) name.now) (view value.now))
-        (arg_found_with name.now (view value.now) found)) }
-{
-    if name == "index" {
-        let index = Some(number_of(alloc, place, name, value)?);
-        Ok(FoundArg { index, ..found })
-    } else if name == "op" {
-        let op = Some(op_of(alloc, place, name, value)?);
-        Ok(FoundArg { op, ..found })
-    } else if name == "value" {
-        let value = Some(number_of(alloc, place, name, value)?);
-        Ok(FoundArg { value, ..found })
-    } else if name == "valueTwo" {
-        let value_two = optional_number_of(alloc, place, name, value)?.unwrap_or(0);
-        Ok(FoundArg { value_two, ..found })
-    } else {
-        Err(DocFault::UnknownMember(Path::of_member(alloc, place, name)?))
+impl FromMembers for FoundArg {
+    ghost use Rattle.profile_text.specs.declared.argument.FoundArg.{FoundArg};
+    ghost use Rattle.profile_text.specs.FilterFound.{arg_found_with};
+    ghost use Rattle.profile_text.specs.FilterShape.{arg_rows};
+    ghost use Rattle.profile_text.specs.Place.{path_of};
+
+    type At = Place;
+
+    ghost Seen = { FoundArg };
+
+    ghost seen = { λ found. found };
+
+    ghost path = { path_of };
+
+    ghost rows = { arg_rows };
+
+    ghost with_member = { arg_found_with };
+
+    fn take_member(
+        &mut self,
+        alloc: Global,
+        place: Place,
+        name: &str,
+        value: Value,
+    ) -> Result<(), DocFault> {
+        if name == "index" {
+            let index = number_of(alloc, place, name, &value)?;
+            self.index = Some(index);
+            Ok(())
+        } else if name == "op" {
+            let op = op_of(alloc, place, name, &value)?;
+            self.op = Some(op);
+            Ok(())
+        } else if name == "value" {
+            let number = number_of(alloc, place, name, &value)?;
+            self.value = Some(number);
+            Ok(())
+        } else if name == "valueTwo" {
+            let value_two = optional_number_of(alloc, place, name, &value)?;
+            self.value_two = value_two.unwrap_or(0);
+            Ok(())
+        } else {
+            Err(DocFault::UnknownMember(Path::of_member(alloc, place, name)?))
+        }
     }
 }
 
-// What the members give.
-fn found_in(alloc: Global, place: Place, members: &Map<String, Value>) -> Result<FoundArg, DocFault>
+// The argument of the members, of which the second value isn't required.
+fn arg_at(alloc: Global, place: Place, members: Map<String, Value>) -> Result<ArgParts, DocFault>
     ensures { Gives result (unless_faulty
-        (members_faults arg_rows (path_of place) (members_view members.now.entries))
-        (arg_found (members_view members.now.entries))) }
+        (object_faults arg_rows (path_of place) (members_view members.entries))
+        (arg_at (members_view members.entries))) }
 {
-    let mut found = FoundArg {
+    let start = FoundArg {
         index: None,
         op: None,
         value: None,
         value_two: 0,
     };
-    for (name, value) in members {
-        let name = name.as_str();
-        found = found_with(alloc, place, found, name, value)?;
-    }
-    Ok(found)
-}
-
-// The argument of the members, of which the second value isn't required.
-fn arg_at(alloc: Global, place: Place, members: &Map<String, Value>) -> Result<ArgParts, DocFault>
-    ensures { Gives result (unless_faulty
-        (object_faults arg_rows (path_of place) (members_view members.now.entries))
-        (arg_at (members_view members.now.entries))) }
-{
-    let found = found_in(alloc, place, members)?;
+    let found = with_members(alloc, place, start, members)?;
     let Some(index) = found.index else {
         return Err(DocFault::WrongShape(Path::of_member(alloc, place, "index")?));
     };
@@ -103,7 +108,7 @@ fn arg_of(alloc: Global, place: Place, value: Value) -> Result<ArgParts, DocFaul
     ensures { Gives result (unless_faulty (arg_faults (path_of place) (view value)) (arg_in (view value))) }
 {
     match value {
-        Value::Object(members) => arg_at(alloc, place, &members),
+        Value::Object(members) => arg_at(alloc, place, members),
         _ => Err(DocFault::WrongShape(Path::of(alloc, place)?)),
     }
 }

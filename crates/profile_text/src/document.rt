@@ -5,13 +5,14 @@ ghost use Rattle.serde_json.specs.View.{members_view, view};
 ghost use Rattle.profile_text.specs.Document.{document_faults, document_rows};
 ghost use Rattle.profile_text.specs.Reading.{Gives, GivesAs, HasItsText, if_short, most_bytes, profile_of, reading_of, unless_faulty};
 ghost use Rattle.profile_text.specs.Reads.{Reads};
-ghost use Rattle.profile_text.specs.Parts.{document_parts, found_in, found_with, parts_of};
-ghost use Rattle.profile_text.specs.Shape.{below, members_faults, object_faults, row_faults, row_named};
+ghost use Rattle.profile_text.specs.Parts.{document_parts, found_in, parts_of};
+ghost use Rattle.profile_text.specs.Shape.{object_faults};
 
 use crate::canonical::print;
 use crate::capabilities::capabilities_of;
 use crate::fault::{DocFault, Path};
 use crate::filter::{filter_of, seccomp_of};
+use crate::members::{FromMembers, with_members};
 use crate::place::Place;
 use crate::profile::Profile;
 use crate::sets::Sets;
@@ -45,38 +46,43 @@ pub(crate) struct Parts {
     filter: Option<FilterParts>,
 }
 
-// What was found so far, with one member more.
-fn found_with(alloc: Global, found: Found, name: &str, value: Value) -> Result<Found, DocFault>
-    ensures { Gives result (unless_faulty
-        (row_faults (row_named document_rows name.now) (below [] name.now) (view value))
-        (found_with name.now (view value) found)) }
-{
-    if name == "capabilities" {
-        let sets = Some(capabilities_of(alloc, &value)?);
-        Ok(Found { sets, ..found })
-    } else if name == "seccomp" {
-        let filter = seccomp_of(alloc, value)?;
-        Ok(Found { filter, ..found })
-    } else {
-        Err(DocFault::UnknownMember(Path::of_member(alloc, Place::Document, name)?))
-    }
-}
+impl FromMembers for Found {
+    ghost use Rattle.std.specs.Prelude.{[]};
+    ghost use Rattle.profile_text.specs.declared.document.Found.{Found};
+    ghost use Rattle.profile_text.specs.Document.{document_rows};
+    ghost use Rattle.profile_text.specs.Parts.{found_with};
 
-// What the members give.
-fn found_in(alloc: Global, members: Map<String, Value>) -> Result<Found, DocFault>
-    ensures { Gives result (unless_faulty
-        (members_faults document_rows [] (members_view members.entries))
-        (found_in (members_view members.entries))) }
-{
-    let mut found = Found {
-        sets: None,
-        filter: None,
-    };
-    for (name, value) in members {
-        let name = name.as_str();
-        found = found_with(alloc, found, name, value)?;
+    type At = ();
+
+    ghost Seen = { Found };
+
+    ghost seen = { λ found. found };
+
+    ghost path = { λ _. [] };
+
+    ghost rows = { document_rows };
+
+    ghost with_member = { found_with };
+
+    fn take_member(
+        &mut self,
+        alloc: Global,
+        _document: (),
+        name: &str,
+        value: Value,
+    ) -> Result<(), DocFault> {
+        if name == "capabilities" {
+            let sets = capabilities_of(alloc, &value)?;
+            self.sets = Some(sets);
+            Ok(())
+        } else if name == "seccomp" {
+            let filter = seccomp_of(alloc, value)?;
+            self.filter = filter;
+            Ok(())
+        } else {
+            Err(DocFault::UnknownMember(Path::of_member(alloc, Place::Document, name)?))
+        }
     }
-    Ok(found)
 }
 
 // The parts of the members, of which `capabilities` is required.
@@ -85,7 +91,11 @@ fn parts_in(alloc: Global, members: Map<String, Value>) -> Result<Parts, DocFaul
         (object_faults document_rows [] (members_view members.entries))
         (parts_of (found_in (members_view members.entries)))) }
 {
-    let Found { sets, filter } = found_in(alloc, members)?;
+    let start = Found {
+        sets: None,
+        filter: None,
+    };
+    let Found { sets, filter } = with_members(alloc, (), start, members)?;
     match sets {
         Some(sets) => Ok(Parts { sets, filter }),
         None => Err(DocFault::WrongShape(Path::of(alloc, Place::Capabilities)?)),

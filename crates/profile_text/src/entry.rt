@@ -2,15 +2,15 @@
 
 ghost use Rattle.std.specs.Prelude.{codes, map, string_bytes};
 ghost use Rattle.serde_json.specs.View.{items_view, members_view, view};
-ghost use Rattle.profile_text.specs.FilterFound.{entry_found, entry_found_with, entry_seen};
 ghost use Rattle.profile_text.specs.FilterParts.{entry_at, entry_in, items_as, list_as, string_in};
 ghost use Rattle.profile_text.specs.FilterShape.{entry_faults, entry_rows, text_faults};
 ghost use Rattle.profile_text.specs.Place.{path_of};
 ghost use Rattle.profile_text.specs.Reading.{Gives, GivesAs, unless_faulty};
-ghost use Rattle.profile_text.specs.Shape.{below, items_faults, list_faults, members_faults, object_faults, optional_faults, row_faults, row_named};
+ghost use Rattle.profile_text.specs.Shape.{below, items_faults, list_faults, object_faults, optional_faults};
 
 use crate::argument::args_of;
 use crate::fault::{DocFault, Path};
+use crate::members::{FromMembers, with_members};
 use crate::place::Place;
 use crate::value::{action_of, optional_number_of, text_of};
 use seccomp_doc::{ActionWord, ArgParts, EntryParts};
@@ -58,56 +58,51 @@ pub(crate) struct FoundEntry {
     names: Option<Vec<String>>,
 }
 
-// What was found so far, with one member more.
-fn found_with(
-    alloc: Global,
-    entry: usize,
-    found: FoundEntry,
-    name: &str,
-    value: Value,
-) -> Result<FoundEntry, DocFault>
-    ensures { GivesAs entry_seen result (unless_faulty
-        (row_faults (row_named entry_rows name.now) (below (path_of (Place.Entry entry)) name.now) (view value))
-        (entry_found_with name.now (view value) (entry_seen found))) }
-{
-    if name == "action" {
-        let word = Some(action_of(alloc, Place::Entry(entry), name, &value)?);
-        Ok(FoundEntry { word, ..found })
-    } else if name == "args" {
-        let args = args_of(alloc, entry, value)?;
-        Ok(FoundEntry { args, ..found })
-    } else if name == "errnoRet" {
-        let errno = optional_number_of(alloc, Place::Entry(entry), name, &value)?;
-        Ok(FoundEntry { errno, ..found })
-    } else if name == "names" {
-        let names = Some(names_of(alloc, Place::Entry(entry), name, value)?);
-        Ok(FoundEntry { names, ..found })
-    } else {
-        Err(DocFault::UnknownMember(Path::of_member(alloc, Place::Entry(entry), name)?))
-    }
-}
+impl FromMembers for FoundEntry {
+    ghost use Rattle.profile_text.specs.FilterFound.{EntryMembers, entry_found_with, entry_seen};
+    ghost use Rattle.profile_text.specs.FilterShape.{entry_rows};
+    ghost use Rattle.profile_text.specs.Place.{path_of};
+    ghost use Rattle.profile_text.specs.declared.place.Place.TheVariants.{Entry};
 
-// What the members give.
-fn found_in(
-    alloc: Global,
-    entry: usize,
-    members: Map<String, Value>,
-) -> Result<FoundEntry, DocFault>
-    ensures { GivesAs entry_seen result (unless_faulty
-        (members_faults entry_rows (path_of (Place.Entry entry)) (members_view members.entries))
-        (entry_found (members_view members.entries))) }
-{
-    let mut found = FoundEntry {
-        word: None,
-        args: Vec::new(alloc),
-        errno: None,
-        names: None,
-    };
-    for (name, value) in members {
-        let name = name.as_str();
-        found = found_with(alloc, entry, found, name, value)?;
+    type At = usize;
+
+    ghost Seen = { EntryMembers };
+
+    ghost seen = { entry_seen };
+
+    ghost path = { λ entry. path_of (Entry entry) };
+
+    ghost rows = { entry_rows };
+
+    ghost with_member = { entry_found_with };
+
+    fn take_member(
+        &mut self,
+        alloc: Global,
+        entry: usize,
+        name: &str,
+        value: Value,
+    ) -> Result<(), DocFault> {
+        if name == "action" {
+            let word = action_of(alloc, Place::Entry(entry), name, &value)?;
+            self.word = Some(word);
+            Ok(())
+        } else if name == "args" {
+            let args = args_of(alloc, entry, value)?;
+            self.args = args;
+            Ok(())
+        } else if name == "errnoRet" {
+            let errno = optional_number_of(alloc, Place::Entry(entry), name, &value)?;
+            self.errno = errno;
+            Ok(())
+        } else if name == "names" {
+            let names = names_of(alloc, Place::Entry(entry), name, value)?;
+            self.names = Some(names);
+            Ok(())
+        } else {
+            Err(DocFault::UnknownMember(Path::of_member(alloc, Place::Entry(entry), name)?))
+        }
     }
-    Ok(found)
 }
 
 // The entry of the members, of which the action and the names are required.
@@ -120,12 +115,18 @@ fn entry_at(
         (object_faults entry_rows (path_of (Place.Entry entry)) (members_view members.entries))
         (entry_at (members_view members.entries))) }
 {
+    let start = FoundEntry {
+        word: None,
+        args: Vec::new(alloc),
+        errno: None,
+        names: None,
+    };
     let FoundEntry {
         word,
         args,
         errno,
         names,
-    } = found_in(alloc, entry, members)?;
+    } = with_members(alloc, entry, start, members)?;
     let Some(word) = word else {
         return Err(DocFault::WrongShape(Path::of_member(alloc, Place::Entry(entry), "action")?));
     };

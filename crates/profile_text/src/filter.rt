@@ -2,15 +2,15 @@
 
 ghost use Rattle.std.specs.Prelude.{codes};
 ghost use Rattle.serde_json.specs.View.{members_view, view};
-ghost use Rattle.profile_text.specs.FilterFound.{filter_found, filter_found_with, filter_seen};
 ghost use Rattle.profile_text.specs.FilterParts.{filter_at, seccomp_in};
 ghost use Rattle.profile_text.specs.FilterShape.{seccomp_faults, seccomp_rows};
-ghost use Rattle.profile_text.specs.Reading.{Gives, GivesAs, filter_or_fault, unless_faulty};
-ghost use Rattle.profile_text.specs.Shape.{below, members_faults, object_faults, row_faults, row_named};
+ghost use Rattle.profile_text.specs.Reading.{Gives, filter_or_fault, unless_faulty};
+ghost use Rattle.profile_text.specs.Shape.{object_faults};
 
 use crate::entry::entries_of;
 use crate::fault::{DocFault, Path};
 use crate::filter_words::words_of;
+use crate::members::{FromMembers, with_members};
 use crate::place::Place;
 use crate::value::{action_of, optional_number_of};
 use seccomp_doc::{ActionWord, Arch, EntryParts, Filter, FilterFault, FilterParts, ScmpFlag};
@@ -27,63 +27,56 @@ pub(crate) struct FoundFilter {
     entries: Vec<EntryParts>,
 }
 
-// What was found so far, with one member more.
-fn found_with(
-    alloc: Global,
-    found: FoundFilter,
-    name: &str,
-    value: Value,
-) -> Result<FoundFilter, DocFault>
-    ensures { GivesAs filter_seen result (unless_faulty
-        (row_faults (row_named seccomp_rows name.now) (below (codes "/seccomp") name.now) (view value))
-        (filter_found_with name.now (view value) (filter_seen found))) }
-{
-    if name == "architectures" {
-        let architectures = words_of(alloc, Place::Filter, name, value)?;
-        Ok(FoundFilter {
-            architectures,
-            ..found
-        })
-    } else if name == "defaultAction" {
-        let default = Some(action_of(alloc, Place::Filter, name, &value)?);
-        Ok(FoundFilter { default, ..found })
-    } else if name == "defaultErrnoRet" {
-        let default_errno = optional_number_of(alloc, Place::Filter, name, &value)?;
-        Ok(FoundFilter {
-            default_errno,
-            ..found
-        })
-    } else if name == "flags" {
-        let flags = words_of(alloc, Place::Filter, name, value)?;
-        Ok(FoundFilter { flags, ..found })
-    } else if name == "listenerMetadata" || name == "listenerPath" {
-        Err(DocFault::NotInProfile(Path::of_member(alloc, Place::Filter, name)?))
-    } else if name == "syscalls" {
-        let entries = entries_of(alloc, value)?;
-        Ok(FoundFilter { entries, ..found })
-    } else {
-        Err(DocFault::UnknownMember(Path::of_member(alloc, Place::Filter, name)?))
-    }
-}
+impl FromMembers for FoundFilter {
+    ghost use Rattle.std.specs.Prelude.{codes};
+    ghost use Rattle.profile_text.specs.FilterFound.{FilterMembers, filter_found_with, filter_seen};
+    ghost use Rattle.profile_text.specs.FilterShape.{seccomp_rows};
 
-// What the members give.
-fn found_in(alloc: Global, members: Map<String, Value>) -> Result<FoundFilter, DocFault>
-    ensures { GivesAs filter_seen result (unless_faulty
-        (members_faults seccomp_rows (codes "/seccomp") (members_view members.entries))
-        (filter_found (members_view members.entries))) }
-{
-    let mut found = FoundFilter {
-        architectures: Vec::new(alloc),
-        default: None,
-        default_errno: None,
-        flags: Vec::new(alloc),
-        entries: Vec::new(alloc),
-    };
-    for (name, value) in members {
-        let name = name.as_str();
-        found = found_with(alloc, found, name, value)?;
+    type At = ();
+
+    ghost Seen = { FilterMembers };
+
+    ghost seen = { filter_seen };
+
+    ghost path = { λ _. codes "/seccomp" };
+
+    ghost rows = { seccomp_rows };
+
+    ghost with_member = { filter_found_with };
+
+    fn take_member(
+        &mut self,
+        alloc: Global,
+        _filter: (),
+        name: &str,
+        value: Value,
+    ) -> Result<(), DocFault> {
+        if name == "architectures" {
+            let architectures = words_of(alloc, Place::Filter, name, value)?;
+            self.architectures = architectures;
+            Ok(())
+        } else if name == "defaultAction" {
+            let default = action_of(alloc, Place::Filter, name, &value)?;
+            self.default = Some(default);
+            Ok(())
+        } else if name == "defaultErrnoRet" {
+            let default_errno = optional_number_of(alloc, Place::Filter, name, &value)?;
+            self.default_errno = default_errno;
+            Ok(())
+        } else if name == "flags" {
+            let flags = words_of(alloc, Place::Filter, name, value)?;
+            self.flags = flags;
+            Ok(())
+        } else if name == "listenerMetadata" || name == "listenerPath" {
+            Err(DocFault::NotInProfile(Path::of_member(alloc, Place::Filter, name)?))
+        } else if name == "syscalls" {
+            let entries = entries_of(alloc, value)?;
+            self.entries = entries;
+            Ok(())
+        } else {
+            Err(DocFault::UnknownMember(Path::of_member(alloc, Place::Filter, name)?))
+        }
     }
-    Ok(found)
 }
 
 // The parts of the members, of which the default is required.
@@ -92,13 +85,20 @@ fn filter_at(alloc: Global, members: Map<String, Value>) -> Result<FilterParts, 
         (object_faults seccomp_rows (codes "/seccomp") (members_view members.entries))
         (filter_at (members_view members.entries))) }
 {
+    let start = FoundFilter {
+        architectures: Vec::new(alloc),
+        default: None,
+        default_errno: None,
+        flags: Vec::new(alloc),
+        entries: Vec::new(alloc),
+    };
     let FoundFilter {
         architectures,
         default,
         default_errno,
         flags,
         entries,
-    } = found_in(alloc, members)?;
+    } = with_members(alloc, (), start, members)?;
     match default {
         Some(default) => Ok(FilterParts {
             default,

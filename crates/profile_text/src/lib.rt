@@ -15,6 +15,7 @@ mod filter_text;
 mod filter_words;
 mod hash;
 pub mod law;
+mod members;
 mod place;
 mod profile;
 mod sets;

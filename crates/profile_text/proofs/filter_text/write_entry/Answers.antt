@@ -1,4 +1,4 @@
-use Rattle.std.proofs.Common.{map, Some}
+use Rattle.std.proofs.Common.{map}
 use Rattle.std.specs.Prelude.{codes}
 use Rattle.serde_json.specs.Data.{member, no_members}
 use Rattle.seccomp_doc.specs.Action.{errno_of}
