@@ -4,7 +4,7 @@ use crate::denial::Need;
 use crate::revision::State;
 
 /// What the rules of enrol ask.
-#[derive(Clone, Copy, Debug, PartialEq, Eq)]
+#[derive(Clone, Copy)]
 pub struct EnrolFacts {
     /// No user's present token is the one that is shown.
     pub caller_unknown: bool,
@@ -19,7 +19,7 @@ pub struct EnrolFacts {
 }
 
 /// What the rules of submit ask.
-#[derive(Clone, Copy, Debug, PartialEq, Eq)]
+#[derive(Clone, Copy)]
 pub struct SubmitFacts {
     /// No user's present token is the one that is shown.
     pub caller_unknown: bool,
@@ -36,7 +36,7 @@ pub struct SubmitFacts {
 }
 
 /// What the rules of vote ask.
-#[derive(Clone, Copy, Debug, PartialEq, Eq)]
+#[derive(Clone, Copy)]
 pub struct VoteFacts {
     /// No user's present token is the one that is shown.
     pub caller_unknown: bool,
@@ -51,7 +51,7 @@ pub struct VoteFacts {
 }
 
 /// What the rules of issue ask.
-#[derive(Clone, Copy, Debug, PartialEq, Eq)]
+#[derive(Clone, Copy)]
 pub struct IssueFacts {
     /// No user's present token is the one that is shown.
     pub caller_unknown: bool,
@@ -74,7 +74,7 @@ pub struct IssueFacts {
 }
 
 /// What the rules of withdraw ask.
-#[derive(Clone, Copy, Debug, PartialEq, Eq)]
+#[derive(Clone, Copy)]
 pub struct WithdrawFacts {
     /// No user's present token is the one that is shown.
     pub caller_unknown: bool,
@@ -87,7 +87,7 @@ pub struct WithdrawFacts {
 }
 
 /// What the rules of adopt ask.
-#[derive(Clone, Copy, Debug, PartialEq, Eq)]
+#[derive(Clone, Copy)]
 pub struct AdoptFacts {
     /// No user's present token is the one that is shown.
     pub caller_unknown: bool,
@@ -100,7 +100,7 @@ pub struct AdoptFacts {
 }
 
 /// What the rules of show, sheet and list ask.
-#[derive(Clone, Copy, Debug, PartialEq, Eq)]
+#[derive(Clone, Copy)]
 pub struct ReadFacts {
     /// No user's present token is the one that is shown.
     pub caller_unknown: bool,
@@ -113,7 +113,7 @@ pub struct ReadFacts {
 }
 
 /// What the rules of fetch ask.
-#[derive(Clone, Copy, Debug, PartialEq, Eq)]
+#[derive(Clone, Copy)]
 pub struct FetchFacts {
     /// No user's present token is the one that is shown.
     pub caller_unknown: bool,
@@ -128,7 +128,7 @@ pub struct FetchFacts {
 }
 
 /// What the rules of hold ask.
-#[derive(Clone, Copy, Debug, PartialEq, Eq)]
+#[derive(Clone, Copy)]
 pub struct HoldFacts {
     /// No user's present token is the one that is shown.
     pub caller_unknown: bool,
@@ -141,7 +141,7 @@ pub struct HoldFacts {
 }
 
 /// What the rules of release ask.
-#[derive(Clone, Copy, Debug, PartialEq, Eq)]
+#[derive(Clone, Copy)]
 pub struct ReleaseFacts {
     /// No user's present token is the one that is shown.
     pub caller_unknown: bool,

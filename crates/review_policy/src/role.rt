@@ -26,6 +26,21 @@ pub enum Role {
     Machine,
 }
 
+// The role of this word, by a comparison with each.
+fn role_named(text: &str) -> Option<Role>
+    ensures { result ≡ role_of text.now }
+{
+    match text {
+        "registrar" => Some(Role::Registrar),
+        "author" => Some(Role::Author),
+        "reviewer" => Some(Role::Reviewer),
+        "security" => Some(Role::Security),
+        "issuer" => Some(Role::Issuer),
+        "machine" => Some(Role::Machine),
+        _ => None,
+    }
+}
+
 impl Role {
     /// Its word, as requests name it.
     pub fn word(self) -> &'static str
@@ -47,21 +62,7 @@ impl Role {
         ensures found { IfSome result (λ role. role_word role ≡ text.now) }
         ensures known { (role : Role) → role_word role ≡ text.now → result ≡ Some role }
     {
-        if text == "registrar" {
-            Some(Role::Registrar)
-        } else if text == "author" {
-            Some(Role::Author)
-        } else if text == "reviewer" {
-            Some(Role::Reviewer)
-        } else if text == "security" {
-            Some(Role::Security)
-        } else if text == "issuer" {
-            Some(Role::Issuer)
-        } else if text == "machine" {
-            Some(Role::Machine)
-        } else {
-            None
-        }
+        role_named(text)
     }
 }
 
