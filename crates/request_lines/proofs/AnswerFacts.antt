@@ -1,5 +1,6 @@
 -- The text of an answer is the one that JSON has for it, since no part of it is a float.
-use Rattle.std.proofs.Common.{◌≡◌, ℕ, List, [], ◌∷◌, Option, Some, None, map, false, refl}
+use Rattle.std.proofs.Common.{◌≡◌, ℕ, List, [], ◌∷◌, Option, Some, None, Result, Ok, Err, map, false, refl}
+use Rattle.std.specs.Prelude.{IfOk, String, string_bytes}
 use Rattle.serde_json.specs.Data.{Data, Members}
 use Rattle.serde_json.specs.View.{items_of}
 use Rattle.serde_json.specs.Written.{has_float, items_have_float, members_have_float, compact_text}
@@ -39,6 +40,8 @@ no_float (Done reply) = no_float_reply reply
 no_float (Denied denial fault) = no_float_reason (shortage_of denial.rule) fault (rule_members denial) refl
 no_float (Fault fault) = refl
 
-pub text_is : (d : Data) (a : Answer) (text : List ℕ) → d ≡ answer_data a → (has_float d ≡ false → text ≡ compact_text d) → text ≡ answer_text a
+pub text_is : {Z E : Type 0} (d : Data) (a : Answer) (r : Result (String Z) E) → d ≡ answer_data a → IfOk r (λ text. has_float d ≡ false → string_bytes text ≡ compact_text d)
+    → IfOk r (λ text. string_bytes text ≡ answer_text a)
 unfolding answer_text
-text_is d a text e h = rw e at (h (rw e (no_float a)))
+text_is d a (Ok text) e h = rw e at (h (rw e (no_float a)))
+text_is d a (Err refused) e h = tt

@@ -1,25 +1,14 @@
 -- The kind of a word.
-use Rattle.std.proofs.Common.{◌≡◌, ℕ, cond, List, [], ◌∷◌, Option, Some, None, inl, inr, refl, sym, subst, bytes_eq}
-use Rattle.std.proofs.lemmas.Bool.{cases_Bool}
-use Rattle.std.proofs.lemmas.Slice.Eq.{bytes_eq-Decides}
-use Rattle.std.specs.Prelude.{IfSome, find}
+use Rattle.std.proofs.Common.{◌≡◌, ℕ, List, Some, refl, subst}
+use Rattle.std.specs.Prelude.{IfSome}
+use Rattle.review_policy.proofs.WordFacts.{found_by_word}
 use Rattle.request_lines.specs.declared.kind.Kind.{Kind}
 use Rattle.request_lines.specs.declared.kind.Kind.TheVariants as kinds
 use Rattle.request_lines.specs.Kinds.{all_kinds, kind_of, kind_word}
 
-found_among : (text : List ℕ) (among : List Kind)
-    → IfSome (find (λ kind. bytes_eq text (kind_word kind)) among) (λ kind. kind_word kind ≡ text)
-found_among text [] = tt
-found_among text (k ∷ among) =
-    elim (cases_Bool (bytes_eq text (kind_word k)))
-    as (λ _. IfSome (cond (bytes_eq text (kind_word k)) (Some k) (find (λ kind. bytes_eq text (kind_word kind)) among)) (λ kind. kind_word kind ≡ text)) [
-      | inl same ↦ rw same (sym ((bytes_eq-Decides text (kind_word k)).0 same))
-      | inr other ↦ rw other (found_among text among)
-    ]
-
 -- a kind that is found has the word
 pub found_kind : (text : List ℕ) → IfSome (kind_of text) (λ kind. kind_word kind ≡ text)
-found_kind text = found_among text all_kinds
+found_kind text = found_by_word kind_word text all_kinds
 
 each_found : (kind : Kind) → kind_of (kind_word kind) ≡ Some kind
 each_found kinds.Enrol = refl

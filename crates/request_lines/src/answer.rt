@@ -2,34 +2,52 @@
 
 ghost use Rattle.std.specs.Prelude.{◌≡◌, codes, IfOk, map, string_bytes};
 ghost use Rattle.hex.specs.Hex.{encode_lower};
-ghost use Rattle.serde_json.specs.Data.{object, array};
-ghost use Rattle.serde_json.specs.View.{view, items_of};
+ghost use Rattle.serde_json.specs.Data.{array, no_members, object, put as with_member, string};
+ghost use Rattle.serde_json.specs.View.{view, items_of, members_view};
+ghost use Rattle.review_policy.specs.WordTables.{fault_word};
 ghost use Rattle.request_lines.specs.Answers.{text_member, listed_data, reply_members, answer_data, answer_text, line_of};
 
-use crate::denial::denied_value;
-use review_policy::{Answer, ListedProfile, Reply, State, Text};
-use serde_json::{Value, json};
+use crate::denial::denied_object;
+use crate::object::{answer_object, with_number, with_text, with_value};
+use review_policy::{Answer, Fault, ListedProfile, Reply, Text};
+use serde_json::{Map, Value};
 use std::alloc::{AllocError, Global};
 
-// A digest as 64 lower-case hexadecimal digits.
-fn digest_text(alloc: Global, digest: &[u8; 32]) -> Result<String, AllocError>
-    ensures { IfOk result (λ text. string_bytes text ≡ encode_lower digest.now) }
+// An object with one more member, a digest as 64 lower-case hexadecimal digits.
+fn with_digest(
+    alloc: Global,
+    object: Map<String, Value>,
+    digest: &[u8; 32],
+) -> Result<Map<String, Value>, AllocError>
+    ensures { IfOk result (λ m. members_view m.entries ≡ with_member (codes "digest") (string (encode_lower digest.now)) (members_view object.entries)) }
 {
-    hex::encode(alloc, digest.as_slice())
+    let text = hex::encode(alloc, digest.as_slice())?;
+    with_text(alloc, object, "digest", text.as_str())
+}
+
+// An object with two more members, a document and its digest.
+fn with_document(
+    alloc: Global,
+    object: Map<String, Value>,
+    digest: &[u8; 32],
+    document: &Text,
+) -> Result<Map<String, Value>, AllocError>
+    ensures { IfOk result (λ m. members_view m.entries
+        ≡ with_member (codes "document") (string document.now) (with_member (codes "digest") (string (encode_lower digest.now)) (members_view object.entries))) }
+{
+    let object = with_digest(alloc, object, digest)?;
+    with_text(alloc, object, "document", document.as_str())
 }
 
 // A profile of a list.
 fn listed_value(alloc: Global, listed: &ListedProfile) -> Result<Value, AllocError>
     ensures { IfOk result (λ v. view v ≡ listed_data listed.now) }
 {
-    let profile = listed.profile.as_str();
-    let state = listed.state.word();
-    json!(in alloc; {
-        "issued": listed.issued,
-        "profile": profile,
-        "revisions": listed.revisions,
-        "state": state,
-    })
+    let object = with_number(alloc, Map::new(alloc), "issued", listed.issued as u64)?;
+    let object = with_text(alloc, object, "profile", listed.profile.as_str())?;
+    let object = with_number(alloc, object, "revisions", listed.revisions as u64)?;
+    let object = with_text(alloc, object, "state", listed.state.word())?;
+    Ok(Value::Object(object))
 }
 
 // The profiles of a list.
@@ -43,87 +61,81 @@ fn listing_value(alloc: Global, profiles: &[ListedProfile]) -> Result<Value, All
     Ok(Value::Array(values))
 }
 
-// The answer that a request is done, by its kind.
-fn done_value(alloc: Global, reply: &Reply) -> Result<Value, AllocError>
-    ensures { IfOk result (λ v. view v ≡ object (text_member (codes "answer") (codes "done") (reply_members reply.now))) }
+// An object with one more member, the profiles of a list.
+fn with_listing(
+    alloc: Global,
+    object: Map<String, Value>,
+    profiles: &[ListedProfile],
+) -> Result<Map<String, Value>, AllocError>
+    ensures { IfOk result (λ m. members_view m.entries ≡ with_member (codes "profiles") (array (items_of (map listed_data profiles.now))) (members_view object.entries)) }
 {
+    let listing = listing_value(alloc, profiles)?;
+    with_value(alloc, object, "profiles", listing)
+}
+
+// The answer that a request is done, by its kind.
+fn done_object(alloc: Global, reply: &Reply) -> Result<Map<String, Value>, AllocError>
+    ensures { IfOk result (λ m. members_view m.entries ≡ text_member (codes "answer") (codes "done") (reply_members reply.now)) }
+{
+    let object = answer_object(alloc, "done")?;
     match reply {
         Reply::Submitted { digest, revision } => {
-            let digest = digest_text(alloc, digest)?;
-            json!(in alloc; {"answer": "done", "digest": digest, "revision": *revision})
+            let object = with_digest(alloc, object, digest)?;
+            with_number(alloc, object, "revision", *revision as u64)
         }
-        Reply::Issued { digest } => {
-            let digest = digest_text(alloc, digest)?;
-            json!(in alloc; {"answer": "done", "digest": digest})
-        }
+        Reply::Issued { digest } => with_digest(alloc, object, digest),
         Reply::Shown {
             digest,
             document,
             state,
-        } => shown_value(alloc, digest, document, *state),
-        Reply::Sheet { sheet } => {
-            let sheet = sheet.as_str();
-            json!(in alloc; {"answer": "done", "sheet": sheet})
+        } => {
+            let object = with_document(alloc, object, digest, document)?;
+            with_text(alloc, object, "state", state.word())
         }
-        Reply::Listed { profiles } => {
-            let profiles = listing_value(alloc, profiles.profiles())?;
-            json!(in alloc; {"answer": "done", "profiles": profiles})
-        }
+        Reply::Sheet { sheet } => with_text(alloc, object, "sheet", sheet.as_str()),
+        Reply::Listed { profiles } => with_listing(alloc, object, profiles.profiles()),
         Reply::Fetched {
             digest,
             document,
             revision,
-        } => fetched_value(alloc, digest, document, *revision),
+        } => {
+            let object = with_document(alloc, object, digest, document)?;
+            with_number(alloc, object, "revision", *revision as u64)
+        }
         Reply::Enrolled
         | Reply::Voted
         | Reply::Withdrawn
         | Reply::Adopted
         | Reply::Held
-        | Reply::Released => json!(in alloc; {"answer": "done"}),
+        | Reply::Released => Ok(object),
     }
 }
 
-// The answer that shows a revision.
-fn shown_value(
-    alloc: Global,
-    digest: &[u8; 32],
-    document: &Text,
-    state: State,
-) -> Result<Value, AllocError>
-    ensures { IfOk result (λ v. view v ≡ answer_data (Answer.Done (Reply.Shown digest.now document.now state))) }
+// The answer that a request failed.
+fn fault_object(alloc: Global, fault: Fault) -> Result<Map<String, Value>, AllocError>
+    ensures { IfOk result (λ m. members_view m.entries ≡ text_member (codes "answer") (codes "fault") (text_member (codes "word") (fault_word fault) no_members)) }
 {
-    let digest = digest_text(alloc, digest)?;
-    let document = document.as_str();
-    let state = state.word();
-    json!(in alloc; {"answer": "done", "digest": digest, "document": document, "state": state})
+    let object = answer_object(alloc, "fault")?;
+    with_text(alloc, object, "word", fault.word())
 }
 
-// The answer that gives what was issued.
-fn fetched_value(
-    alloc: Global,
-    digest: &[u8; 32],
-    document: &Text,
-    revision: u32,
-) -> Result<Value, AllocError>
-    ensures { IfOk result (λ v. view v ≡ answer_data (Answer.Done (Reply.Fetched digest.now document.now revision))) }
+// The members of an answer.
+fn object_of(alloc: Global, answer: &Answer) -> Result<Map<String, Value>, AllocError>
+    ensures { IfOk result (λ m. object (members_view m.entries) ≡ answer_data answer.now) }
 {
-    let digest = digest_text(alloc, digest)?;
-    let document = document.as_str();
-    json!(in alloc; {"answer": "done", "digest": digest, "document": document, "revision": revision})
+    match answer {
+        Answer::Done(reply) => done_object(alloc, reply),
+        Answer::Denied { denial, fault } => denied_object(alloc, *denial, fault),
+        Answer::Fault(fault) => fault_object(alloc, *fault),
+    }
 }
 
 // An answer as JSON.
 fn answer_value(alloc: Global, answer: &Answer) -> Result<Value, AllocError>
     ensures { IfOk result (λ v. view v ≡ answer_data answer.now) }
 {
-    match answer {
-        Answer::Done(reply) => done_value(alloc, reply),
-        Answer::Denied { denial, fault } => denied_value(alloc, *denial, fault),
-        Answer::Fault(fault) => {
-            let word = fault.word();
-            json!(in alloc; {"answer": "fault", "word": word})
-        }
-    }
+    let object = object_of(alloc, answer)?;
+    Ok(Value::Object(object))
 }
 
 /// The text of an answer: JSON with no space, its members in byte order.
@@ -131,8 +143,7 @@ pub fn answer_text(alloc: Global, answer: &Answer) -> Result<String, AllocError>
     ensures { IfOk result (λ text. string_bytes text ≡ answer_text answer.now) }
 {
     let value = answer_value(alloc, answer)?;
-    let text = value.to_string(alloc)?;
-    Ok(text)
+    value.to_string(alloc)
 }
 
 /// The line of an answer: its text and a line feed.

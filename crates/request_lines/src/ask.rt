@@ -1,14 +1,16 @@
 //! What a line asks for, by its kind.
 
+ghost use Rattle.std.specs.Prelude.{ℕ};
 ghost use Rattle.serde_json.specs.View.{view};
+ghost use Rattle.review_policy.specs.declared.ask.ProfileName.{ProfileName};
 ghost use Rattle.request_lines.specs.Faults.{Gives};
-ghost use Rattle.request_lines.specs.Plain.{plain_ask, issue, withdraw, adopt, show, sheet, fetch, hold, release};
+ghost use Rattle.request_lines.specs.Plain.{PlainAsk, plain_ask, issue, withdraw, adopt, show, sheet, fetch, hold, release};
 ghost use Rattle.request_lines.specs.Requests.{ask_at, enrol_at, submit_at, vote_on, of_revision, list_at, of_profile};
 
 use crate::fault::LineFault;
 use crate::kind::Kind;
 use crate::member::{digest_of, document_of, name_of, revision_of, roles_of, vote_of, word_of};
-use review_policy::Ask;
+use review_policy::{Ask, ProfileName};
 use serde_json::Value;
 use std::alloc::Global;
 
@@ -81,48 +83,48 @@ fn list_of(alloc: Global, value: &Value) -> Result<Ask, LineFault>
     Ok(Ask::List { team })
 }
 
+// The revision that is named.
 #[tactic(auto, unfolding(crate::specs::Requests::of_revision))]
+fn revision_named(alloc: Global, value: &Value) -> Result<(ProfileName, u32), LineFault>
+    ensures { (ask : ProfileName → ℕ → PlainAsk) → Gives (λ named. ask named.0 named.1) result (of_revision ask (view value.now)) }
+{
+    let name = name_of(alloc, value)?;
+    let revision = revision_of(value)?;
+    Ok((name, revision))
+}
+
 fn issue_of(alloc: Global, value: &Value) -> Result<Ask, LineFault>
     ensures { Gives plain_ask result (of_revision issue (view value.now)) }
 {
-    let name = name_of(alloc, value)?;
-    let revision = revision_of(value)?;
+    let (name, revision) = revision_named(alloc, value)?;
     Ok(Ask::Issue { name, revision })
 }
 
-#[tactic(auto, unfolding(crate::specs::Requests::of_revision))]
 fn withdraw_of(alloc: Global, value: &Value) -> Result<Ask, LineFault>
     ensures { Gives plain_ask result (of_revision withdraw (view value.now)) }
 {
-    let name = name_of(alloc, value)?;
-    let revision = revision_of(value)?;
+    let (name, revision) = revision_named(alloc, value)?;
     Ok(Ask::Withdraw { name, revision })
 }
 
-#[tactic(auto, unfolding(crate::specs::Requests::of_revision))]
 fn adopt_of(alloc: Global, value: &Value) -> Result<Ask, LineFault>
     ensures { Gives plain_ask result (of_revision adopt (view value.now)) }
 {
-    let name = name_of(alloc, value)?;
-    let revision = revision_of(value)?;
+    let (name, revision) = revision_named(alloc, value)?;
     Ok(Ask::Adopt { name, revision })
 }
 
-#[tactic(auto, unfolding(crate::specs::Requests::of_revision))]
 fn show_of(alloc: Global, value: &Value) -> Result<Ask, LineFault>
     ensures { Gives plain_ask result (of_revision show (view value.now)) }
 {
-    let name = name_of(alloc, value)?;
-    let revision = revision_of(value)?;
+    let (name, revision) = revision_named(alloc, value)?;
     Ok(Ask::Show { name, revision })
 }
 
-#[tactic(auto, unfolding(crate::specs::Requests::of_revision))]
 fn sheet_of(alloc: Global, value: &Value) -> Result<Ask, LineFault>
     ensures { Gives plain_ask result (of_revision sheet (view value.now)) }
 {
-    let name = name_of(alloc, value)?;
-    let revision = revision_of(value)?;
+    let (name, revision) = revision_named(alloc, value)?;
     Ok(Ask::Sheet { name, revision })
 }
 

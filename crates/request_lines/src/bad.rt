@@ -4,11 +4,12 @@ ghost use Rattle.std.specs.Prelude.{◌≡◌, IfOk, string_bytes};
 ghost use Rattle.serde_json.specs.View.{view};
 ghost use Rattle.request_lines.specs.Bad.{bad_data, bad_text, bad_word, bad_line};
 
-use serde_json::{Value, json};
+use crate::object::{answer_object, with_text};
+use serde_json::Value;
 use std::alloc::{AllocError, Global};
 
 /// Why a line is no request.
-#[derive(Clone, Copy, Debug, PartialEq, Eq)]
+#[derive(Clone, Copy, Debug)]
 pub enum BadLine {
     /// It is longer than 300,000 bytes.
     TooLong,
@@ -22,7 +23,9 @@ pub enum BadLine {
 fn bad_value(alloc: Global, word: &str) -> Result<Value, AllocError>
     ensures { IfOk result (λ v. view v ≡ bad_data word.now) }
 {
-    json!(in alloc; {"answer": "bad", "word": word})
+    let object = answer_object(alloc, "bad")?;
+    let object = with_text(alloc, object, "word", word)?;
+    Ok(Value::Object(object))
 }
 
 /// The text of the answer that names a word as bad: JSON with no space, its members in byte order.
@@ -35,8 +38,7 @@ pub fn bad_text(alloc: Global, word: &str) -> Result<String, AllocError>
     ensures { IfOk result (λ text. string_bytes text ≡ bad_text word.now) }
 {
     let value = bad_value(alloc, word)?;
-    let text = value.to_string(alloc)?;
-    Ok(text)
+    value.to_string(alloc)
 }
 
 impl BadLine {

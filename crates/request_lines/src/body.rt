@@ -16,7 +16,7 @@ use serde_json::{Map, Value};
 use std::alloc::Global;
 
 // The kinds of request whose body is an object.
-#[derive(Clone, Copy, Debug, PartialEq, Eq)]
+#[derive(Clone, Copy)]
 enum Body {
     Enrol,
     Vote,
@@ -31,7 +31,7 @@ impl Body {
     {
         match self {
             Body::Enrol => Kind::Enrol.has_own_member(name),
-            Body::Vote => name == "digest" || name == "vote",
+            Body::Vote => matches!(name, "digest" | "vote"),
         }
     }
 }

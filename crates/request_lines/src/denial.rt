@@ -1,12 +1,12 @@
 //! The JSON of a denial.
 
 ghost use Rattle.std.specs.Prelude.{◌≡◌, codes, IfOk, Option, option_map};
-ghost use Rattle.serde_json.specs.Data.{object};
-ghost use Rattle.serde_json.specs.View.{view};
-ghost use Rattle.request_lines.specs.Answers.{text_member, need_number, shortage_of, denied_members};
+ghost use Rattle.serde_json.specs.View.{members_view};
+ghost use Rattle.request_lines.specs.Answers.{text_member, need_number, shortage_of, rule_members, denied_members};
 
+use crate::object::{answer_object, with_number, with_text};
 use review_policy::{Denial, Need, Rule, Text};
-use serde_json::{Value, json};
+use serde_json::{Map, Value};
 use std::alloc::{AllocError, Global};
 
 // How many approvals there were and how many are needed, where they were too few.
@@ -28,27 +28,32 @@ fn need_number(need: Need) -> u64
     }
 }
 
+// The answer that a rule refuses a request, with the number and the word of the rule.
+fn rule_object(alloc: Global, denial: Denial) -> Result<Map<String, Value>, AllocError>
+    ensures { IfOk result (λ m. members_view m.entries ≡ text_member (codes "answer") (codes "denied") (rule_members denial)) }
+{
+    let object = answer_object(alloc, "denied")?;
+    let object = with_number(alloc, object, "rule", denial.number as u64)?;
+    with_text(alloc, object, "word", denial.rule.word())
+}
+
 /// The answer that a rule refuses a request.
-pub(crate) fn denied_value(
+pub(crate) fn denied_object(
     alloc: Global,
     denial: Denial,
     fault: &Option<Text>,
-) -> Result<Value, AllocError>
-    ensures { IfOk result (λ v. view v ≡ object (text_member (codes "answer") (codes "denied") (denied_members denial fault.now))) }
+) -> Result<Map<String, Value>, AllocError>
+    ensures { IfOk result (λ m. members_view m.entries ≡ text_member (codes "answer") (codes "denied") (denied_members denial fault.now)) }
 {
-    let number = denial.number as u64;
-    let word = denial.rule.word();
+    let object = rule_object(alloc, denial)?;
     match shortage_of(denial.rule) {
         Some((got, need)) => {
-            let need = need_number(need);
-            json!(in alloc; {"answer": "denied", "got": got, "need": need, "rule": number, "word": word})
+            let object = with_number(alloc, object, "got", got)?;
+            with_number(alloc, object, "need", need_number(need))
         }
         None => match fault {
-            Some(text) => {
-                let fault = text.as_str();
-                json!(in alloc; {"answer": "denied", "fault": fault, "rule": number, "word": word})
-            }
-            None => json!(in alloc; {"answer": "denied", "rule": number, "word": word}),
+            Some(text) => with_text(alloc, object, "fault", text.as_str()),
+            None => Ok(object),
         },
     }
 }

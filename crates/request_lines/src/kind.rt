@@ -3,9 +3,10 @@
 ghost use Rattle.std.specs.Prelude.{◌≡◌, Some, IfSome};
 ghost use Rattle.request_lines.specs.Kinds.{kind_of, kind_word, has_member, has_own_member};
 ghost use Rattle.request_lines.specs.declared.kind.Kind.{Kind};
+ghost use Rattle.request_lines.specs.declared.kind.Kind.TheVariants.{Enrol, Fetch, Issue};
 
 /// The kinds of request.
-#[derive(Clone, Copy, Debug, PartialEq, Eq)]
+#[derive(Clone, Copy)]
 pub enum Kind {
     Enrol,
     Submit,
@@ -42,6 +43,27 @@ fn kind_named(text: &str) -> Option<Kind>
     }
 }
 
+// Whether it is a member of an enrolment.
+fn is_of_enrolment(name: &str) -> bool
+    ensures { result ≡ has_own_member Enrol name.now }
+{
+    matches!(name, "user" | "team" | "roles" | "digest")
+}
+
+// Whether it is a member that names a profile.
+fn names_profile(name: &str) -> bool
+    ensures { result ≡ has_own_member Fetch name.now }
+{
+    matches!(name, "team" | "profile")
+}
+
+// Whether it is a member that names a revision.
+fn names_revision(name: &str) -> bool
+    ensures { result ≡ has_own_member Issue name.now }
+{
+    matches!(name, "team" | "profile" | "revision")
+}
+
 impl Kind {
     /// The kind of this word; `None` where it is no kind's.
     pub fn from_word(text: &str) -> Option<Kind>
@@ -56,7 +78,7 @@ impl Kind {
     pub fn has_member(self, name: &str) -> bool
         ensures { result ≡ has_member self name.now }
     {
-        name == "ask" || name == "token" || self.has_own_member(name)
+        matches!(name, "ask" | "token") || self.has_own_member(name)
     }
 
     /// The same, apart from the members that every line has.
@@ -64,22 +86,14 @@ impl Kind {
         ensures { result ≡ has_own_member self name.now }
     {
         match self {
-            Kind::Enrol => {
-                name == "user" || name == "team" || name == "roles" || name == "digest"
-            }
-            Kind::Submit => name == "team" || name == "profile" || name == "document",
-            Kind::Vote => {
-                name == "team"
-                    || name == "profile"
-                    || name == "revision"
-                    || name == "digest"
-                    || name == "vote"
-            }
+            Kind::Enrol => is_of_enrolment(name),
+            Kind::Submit => names_profile(name) || name == "document",
+            Kind::Vote => names_revision(name) || matches!(name, "digest" | "vote"),
             Kind::Issue | Kind::Withdraw | Kind::Adopt | Kind::Show | Kind::Sheet => {
-                name == "team" || name == "profile" || name == "revision"
+                names_revision(name)
             }
             Kind::List => name == "team",
-            Kind::Fetch | Kind::Hold | Kind::Release => name == "team" || name == "profile",
+            Kind::Fetch | Kind::Hold | Kind::Release => names_profile(name),
         }
     }
 }

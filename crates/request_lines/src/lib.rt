@@ -9,6 +9,7 @@ mod denial;
 pub mod fault;
 pub mod kind;
 mod member;
+mod object;
 pub mod request;
 
 pub use answer::{answer_text, line};

@@ -124,16 +124,9 @@ pub(crate) fn vote_of(value: &Value) -> Result<bool, LineFault>
     ensures { Gives (λ approve. approve) result (vote_at (view value.now)) }
 {
     match text_of(value, "vote") {
-        None => Err(LineFault::NotARequest),
-        Some(text) => {
-            if text == "approve" {
-                Ok(true)
-            } else if text == "reject" {
-                Ok(false)
-            } else {
-                Err(LineFault::NotARequest)
-            }
-        }
+        Some("approve") => Ok(true),
+        Some("reject") => Ok(false),
+        _ => Err(LineFault::NotARequest),
     }
 }
 
