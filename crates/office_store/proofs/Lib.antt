@@ -7,6 +7,7 @@ pub mod Lenses
 pub mod UserWrites
 pub mod Profiles
 pub mod RevisionWrites
+pub mod Rows
 pub mod OtherWrites
 pub mod RevisionReads
 pub mod OtherReads
