@@ -21,6 +21,13 @@ fn found(alloc: Global, base: &Profile, new: &Profile) -> Result<String, AllocEr
     findings_text(alloc, found.as_slice())
 }
 
+// The same of documents.
+fn found_between(alloc: Global, base: &str, new: &str) -> Result<String, Fail> {
+    let base = read(alloc, base.as_bytes())?;
+    let new = read(alloc, new.as_bytes())?;
+    Ok(found(alloc, &base, &new)?)
+}
+
 /// These are the findings of a new document against a baseline, and there are none against itself.
 pub(crate) fn assert_found(
     rt: &impl Abort,
@@ -29,9 +36,7 @@ pub(crate) fn assert_found(
     new: &str,
     text: &str,
 ) -> Result<(), Fail> {
-    let base = read(alloc, base.as_bytes())?;
-    let new = read(alloc, new.as_bytes())?;
-    assert_eq!(rt; found(alloc, &base, &new)?.as_str(), text);
-    assert_eq!(rt; found(alloc, &new, &new)?.as_str(), "");
+    assert_eq!(rt; found_between(alloc, base, new)?.as_str(), text);
+    assert_eq!(rt; found_between(alloc, new, new)?.as_str(), "");
     Ok(())
 }
