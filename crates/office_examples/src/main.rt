@@ -1,47 +1,24 @@
-//! Carries out what is shown of `office`, and compares what it prints with what is shown.
+//! Carries out what is shown of `office`, and prints what its calls take.
 //!
-//! Its input is what `.ci/shown` gathers: the commands of the documents and of the transcripts, each after `$ `, below each its
-//! input, if it is shown there, and the lines that it prints, and after `# ` the headings. Where these lines differ from those
-//! that are printed, it writes the whole text as it would have to be, and ends with status 1.
+//! Without words it carries out all that is shown, and then measures with small numbers. Where what is shown differs from what
+//! comes of it, it writes the whole text as it would have to be, and ends with status 1. With the words of `figures` it measures
+//! what they say.
 #![tactic(auto)]
 
-mod run;
-mod said;
-#[cfg(test)]
-mod tests;
+mod figures;
+mod shown;
 
-use crate::said::said_in;
-use anyhow::{Result, bail};
-use std::io::Write;
-use std::{fs, io};
-
-// Removes a database.
-fn forget(rt: &HostRuntime, path: &str) -> Result<()> {
-    let log = format!(in rt.alloc(); "{path}-wal")?;
-    let _ = fs::remove_file(rt, &log);
-    let _ = fs::remove_file(rt, path);
-    Ok(())
-}
-
-// Removes the databases that `init` makes, whose names end with `.db`, as an earlier run may have left them.
-fn forget_founded(rt: &HostRuntime, shown: &str) -> Result<()> {
-    for founding in shown.split("\n$ ./office init ").skip(1) {
-        let (path, _) = founding.split_once(" ").unwrap_or((founding, ""));
-        if path.ends_with(".db") {
-            forget(rt, path)?;
-        }
-    }
-    Ok(())
-}
+use crate::figures::{measure, measure_small};
+use crate::shown::carry_out;
+use anyhow::Result;
+use std::env;
 
 fn main(rt: HostRuntime) -> Result<()> {
-    let shown = io::read_to_string(rt.alloc(), rt.reader())?;
-    forget_founded(&rt, shown.as_str())?;
-    let said = said_in(&rt, shown.as_str())?;
-    if said.as_slice() != shown.as_bytes() {
-        io::writer(&rt).write_all(&said)?;
-        bail!("the commands print something else than is shown");
+    let words: Vec<String> = env::args(&rt)?.skip(1).collect(rt.alloc())?;
+    if words.is_empty() {
+        carry_out(&rt)?;
+        return measure_small(&rt);
     }
-    println!(rt; "each command prints what is shown")?;
-    Ok(())
+    let words: Vec<&str> = words.iter().map(String::as_str).collect(rt.alloc())?;
+    measure(&rt, &words)
 }

@@ -1,0 +1,7 @@
+// Command lines.
+
+mod documents;
+mod offices;
+mod said;
+mod served;
+mod words;

@@ -1,0 +1,9 @@
+// Exchanges over HTTP.
+
+mod clock;
+mod deadlines;
+mod loopback;
+mod memory;
+mod messages;
+mod stops;
+mod trial;

@@ -1,0 +1,19 @@
+//! What no transcript shows, tried by the public calls: the tables and the office over files and disks that stop, streams that come
+//! in pieces, stop or fail, databases and sockets that do, want of memory, deadlines, and lists of requests. What requests and
+//! commands are answered is shown by the transcripts of `office_examples`.
+#![tactic(auto)]
+
+#[cfg(test)]
+mod commands;
+#[cfg(test)]
+mod exchanges;
+#[cfg(test)]
+mod lines;
+#[cfg(test)]
+mod office;
+#[cfg(test)]
+mod offices;
+#[cfg(test)]
+mod store;
+#[cfg(test)]
+mod streams;

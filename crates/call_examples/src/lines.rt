@@ -1,0 +1,10 @@
+// The desk: lines of requests, and lists of them.
+
+mod conversations;
+mod in_step;
+mod memory;
+mod requests;
+mod served;
+mod stops;
+mod texts;
+mod turns;

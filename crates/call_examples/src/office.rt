@@ -1,0 +1,8 @@
+// The office over `sqlite`: a store that is no office, a second founding, a file that is closed and opened again, and how the votes
+// of a revision count.
+
+mod files;
+mod founded;
+mod openings;
+mod texts;
+mod votes;

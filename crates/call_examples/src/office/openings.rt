@@ -1,0 +1,89 @@
+// Stores that an office is founded in or opened over, and stores that refuse it.
+
+ghost use Rattle.std.specs.Prelude.{IfOk};
+ghost use Rattle.sqlite.specs.Held.{state};
+ghost use Rattle.office_store.specs.Shown.{IsIdle};
+
+use crate::office::founded::{founded, reopened};
+use crate::office::texts::{SHOW, SHOWN, SUBMISSION, SUBMITTED};
+use crate::offices::found_office;
+use office_desk::Office;
+use office_store::FoundingFault;
+use office_tables::StoreFault;
+use sqlite::{Alter, Connection};
+use std::alloc::Global;
+use std::process::Abort;
+use std::test::Fail;
+
+// The connection that is handed back where no office is founded for this fault.
+fn not_founded<S: Alter + Drop>(
+    rt: &impl Abort,
+    alloc: Global,
+    conn: Connection<S>,
+    wanted: FoundingFault,
+) -> Result<Connection<S>, Fail>
+    requires { IsIdle (state S.Store conn) }
+    ensures { IfOk result (λ conn. IsIdle (state S.Store conn)) }
+{
+    match found_office(alloc, conn)? {
+        Ok(_) => Err(Fail::from("a refusal")),
+        Err((fault, conn)) => {
+            assert_eq!(rt; fault, wanted);
+            Ok(conn)
+        }
+    }
+}
+
+// Whether an office is founded.
+fn is_founded<S: Alter + Drop>(alloc: Global, conn: Connection<S>) -> Result<bool, Fail>
+    requires { IsIdle (state S.Store conn) }
+{
+    Ok(found_office(alloc, conn)?.is_ok())
+}
+
+#[test]
+fn a_second_founding_hands_the_office_back_as_it_was(rt: HostRuntime) -> Result<(), Fail> {
+    let alloc = rt.alloc();
+    let conn = Connection::open_in_memory(alloc)?;
+    let conn = founded(&rt, alloc, conn, SUBMISSION, SUBMITTED)?;
+    let conn = not_founded(&rt, alloc, conn, FoundingFault::AlreadyFounded)?;
+    reopened(&rt, alloc, conn, SHOW, SHOWN)?;
+    Ok(())
+}
+
+#[test]
+fn an_empty_store_is_no_office_and_is_handed_back_empty(rt: HostRuntime) -> Result<(), Fail> {
+    match Office::over(Connection::open_in_memory(rt.alloc())?) {
+        Ok(_) => Err(Fail::from("a refusal")),
+        Err((fault, conn)) => {
+            assert_eq!(rt; fault, StoreFault::NotAnOffice);
+            assert!(rt; is_founded(rt.alloc(), conn)?);
+            Ok(())
+        }
+    }
+}
+
+// The connection once these statements were run, where they leave no transaction open.
+fn run<S: Alter + Drop>(conn: Connection<S>, sql: &str) -> Result<Connection<S>, Fail>
+    requires { IsIdle (state S.Store conn) }
+    ensures { IfOk result (λ conn. IsIdle (state S.Store conn)) }
+{
+    let mut conn = conn;
+    conn.execute_batch(sql)?;
+    if !conn.is_autocommit() {
+        return Err(Fail::from("no transaction is open"));
+    }
+    Ok(conn)
+}
+
+#[test]
+fn no_office_is_founded_beside_a_foreign_table(rt: HostRuntime) -> Result<(), Fail> {
+    let alloc = rt.alloc();
+    let conn = Connection::open_in_memory(alloc)?;
+    let conn = run(conn, "CREATE TABLE notes (name TEXT) STRICT")?;
+    let foreign = FoundingFault::Store(StoreFault::NotAnOffice);
+    let conn = not_founded(&rt, alloc, conn, foreign)?;
+    let conn = run(conn, "DROP TABLE notes")?;
+    assert!(rt; is_founded(alloc, conn)?);
+    Ok(())
+}

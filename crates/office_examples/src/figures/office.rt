@@ -1,0 +1,114 @@
+//! An office that is filled, and then timed.
+
+ghost use Rattle.std.specs.Prelude.{IfOk};
+ghost use Rattle.sqlite.specs.Held.{state};
+ghost use Rattle.office_store.specs.Shown.{IsIdle};
+
+use crate::figures::call::time_calls;
+use crate::figures::figure::tell_time;
+use crate::figures::fill::fill;
+use crate::figures::request::time_requests;
+use crate::figures::sample::{Profiles, Sizes};
+use anyhow::{Result, bail};
+use office_desk::Office;
+use sqlite::{Alter, Connection};
+use std::time::Instant;
+
+/// What is done over an office's store.
+#[derive(Clone, Copy)]
+pub enum Step {
+    Fill,
+    Call,
+    Ask,
+}
+
+// Makes requests of an office about short profiles, and then about the long one.
+fn ask_both<S: Alter>(rt: &HostRuntime, office: &mut Office<S>, sizes: &Sizes) -> Result<()> {
+    time_requests(rt, office, Profiles::Short, sizes)?;
+    time_requests(rt, office, Profiles::Long, sizes)
+}
+
+// Makes requests of the office over a connection, and hands the connection back.
+fn ask<S: Alter + Drop>(
+    rt: &HostRuntime,
+    conn: Connection<S>,
+    sizes: &Sizes,
+) -> Result<Connection<S>>
+    requires { IsIdle (state S.Store conn) }
+    ensures { IfOk result (λ conn. IsIdle (state S.Store conn)) }
+{
+    let Ok(mut office) = Office::over(conn) else {
+        bail!("no office")
+    };
+    ask_both(rt, &mut office, sizes)?;
+    Ok(office.into_connection())
+}
+
+// Fills the office over a connection, or makes the calls of its store.
+fn fill_or_call<S: Alter>(
+    rt: &HostRuntime,
+    conn: &mut Connection<S>,
+    step: Step,
+    sizes: &Sizes,
+) -> Result<()>
+    requires { IsIdle (state S.Store conn.old) }
+    ensures { IsIdle (state S.Store conn.new) }
+{
+    match step {
+        Step::Fill => fill(rt, conn, sizes),
+        _ => time_calls(rt, conn, sizes),
+    }
+}
+
+// Takes a step over a connection, and hands it back.
+fn take<S: Alter + Drop>(
+    rt: &HostRuntime,
+    conn: Connection<S>,
+    step: Step,
+    sizes: &Sizes,
+) -> Result<Connection<S>>
+    requires { IsIdle (state S.Store conn) }
+    ensures { IfOk result (λ conn. IsIdle (state S.Store conn)) }
+{
+    if let Step::Ask = step {
+        return ask(rt, conn, sizes);
+    }
+    let mut conn = conn;
+    fill_or_call(rt, &mut conn, step, sizes)?;
+    Ok(conn)
+}
+
+// Fills an office, and takes a step over it.
+fn take_filled<S: Alter + Drop>(
+    rt: &HostRuntime,
+    conn: Connection<S>,
+    step: Step,
+    sizes: &Sizes,
+) -> Result<()>
+    requires { IsIdle (state S.Store conn) }
+{
+    let conn = take(rt, conn, Step::Fill, sizes)?;
+    take(rt, conn, step, sizes)?;
+    Ok(())
+}
+
+// Opens a file, takes a step over it and closes it.
+fn take_in_file(rt: &HostRuntime, path: &str, step: Step, sizes: &Sizes) -> Result<()> {
+    let start = Instant::now(rt)?;
+    let conn = Connection::open(rt, path)?;
+    tell_time(rt, "to open it", &start)?;
+    take(rt, conn, step, sizes)?.close()?;
+    Ok(())
+}
+
+/// Fills an office in a file, or in memory, and takes a step over it.
+pub fn time_office(rt: &HostRuntime, path: &str, step: Step, sizes: &Sizes) -> Result<()> {
+    if path == ":memory:" {
+        println!(rt; "{} users, in memory", sizes.count)?;
+        let conn = Connection::open_in_memory(rt.alloc())?;
+        return take_filled(rt, conn, step, sizes);
+    }
+    println!(rt; "{} users, in a file", sizes.count)?;
+    take_in_file(rt, path, Step::Fill, sizes)?;
+    take_in_file(rt, path, step, sizes)
+}

@@ -1,0 +1,136 @@
+//! What commands print.
+
+use crate::shown::run::say_line;
+use anyhow::{Result, bail};
+use std::fs;
+use std::io::Write;
+
+// Writes what is printed over this input by `./office WORDS` or by `cat`, and gives its status.
+fn say_over(rt: &HostRuntime, words: &str, input: &[u8], said: &mut Vec<u8>) -> Result<u8> {
+    if words == "cat" {
+        said.extend_from_slice(input)?;
+        return Ok(0);
+    }
+    if !words.starts_with("./office") {
+        bail!("{words}: not a command that is carried out here");
+    }
+    say_line(rt, words, input, said)
+}
+
+// Of `./office WORDS`, `./office WORDS < FILE`, `./office WORDS <<'END'`, `cat FILE - <<'END' | ./office WORDS` or `cat FILE`:
+// what is run, and the file that its input begins with, or no name where it begins with none.
+fn parts_of(command: &str) -> (&str, &str) {
+    let file = command.strip_prefix("cat ").unwrap_or("");
+    if let Some((file, words)) = file.split_once(" - <<'END' | ") {
+        (words, file)
+    } else if !file.is_empty() {
+        ("cat", file)
+    } else if let Some((words, _)) = command.split_once(" <<'END'") {
+        (words, "")
+    } else {
+        command.split_once(" < ").unwrap_or((command, ""))
+    }
+}
+
+// The bytes of a file, if one is named, and the lines after it, if there are any.
+fn input_of(rt: &HostRuntime, file: &str, lines: Option<&str>) -> Result<Vec<u8>> {
+    let mut input = Vec::new(rt.alloc());
+    if !file.is_empty() {
+        input = fs::read(rt, file)?;
+    }
+    if let Some(lines) = lines {
+        writeln!(input, "{lines}")?;
+    }
+    Ok(input)
+}
+
+// Writes what `./office` or `cat` prints over its file and these lines, and gives its status.
+fn say_run(rt: &HostRuntime, command: &str, lines: Option<&str>, said: &mut Vec<u8>) -> Result<u8> {
+    let (words, file) = parts_of(command);
+    let input = input_of(rt, file, lines)?;
+    say_over(rt, words, &input, said)
+}
+
+// Writes a text and a line feed to a file, where `TEXT' > FILE` follows `echo '`, and gives the status of that.
+fn keep(rt: &HostRuntime, text_and_file: &str) -> Result<u8> {
+    let Some((text, file)) = text_and_file.split_once("' > ") else {
+        bail!("echo '{text_and_file}: not a command that is carried out here");
+    };
+    let text = format!(in rt.alloc(); "{text}\n")?;
+    fs::write(rt, file, text.as_str())?;
+    Ok(0)
+}
+
+// Writes a status, and gives the status of that.
+fn say_status(status: u8, said: &mut Vec<u8>) -> Result<u8> {
+    writeln!(said, "{status}")?;
+    Ok(0)
+}
+
+// Writes what a command prints that was given these lines, after a command of this status, and gives its own.
+fn say(
+    rt: &HostRuntime,
+    command: &str,
+    lines: Option<&str>,
+    status: u8,
+    said: &mut Vec<u8>,
+) -> Result<u8> {
+    if command == "echo $?" {
+        say_status(status, said)
+    } else if let Some(text_and_file) = command.strip_prefix("echo '") {
+        keep(rt, text_and_file)
+    } else {
+        say_run(rt, command, lines, said)
+    }
+}
+
+// The lines down to the line `END`, where a command is given such lines.
+fn given_below<'a>(command: &str, below: &'a str) -> Option<&'a str> {
+    match below.split_once("\nEND") {
+        Some((lines, _)) if command.contains(" <<'END'") => Some(lines),
+        _ => None,
+    }
+}
+
+// Writes a command with the lines that it is given, and says what it prints.
+fn say_command(
+    rt: &HostRuntime,
+    command: &str,
+    below: &str,
+    status: u8,
+    said: &mut Vec<u8>,
+) -> Result<u8> {
+    let lines = given_below(command, below);
+    writeln!(said, "$ {command}")?;
+    if let Some(lines) = lines {
+        writeln!(said, "{lines}\nEND")?;
+    }
+    say(rt, command, lines, status, said)
+}
+
+// Writes the headings among these lines.
+fn say_headings(lines: &str, said: &mut Vec<u8>) -> Result<()> {
+    for line in lines.lines() {
+        if line.starts_with("# ") {
+            writeln!(said, "{line}")?;
+        }
+    }
+    Ok(())
+}
+
+/// The headings and the commands of a text, below each command what it prints. No line that a command is given begins with `# `,
+/// `$ ` or `END`.
+pub fn said_in(rt: &HostRuntime, shown: &str) -> Result<Vec<u8>> {
+    let Some((headings, commands)) = shown.split_once("\n$ ") else {
+        bail!("no command is shown");
+    };
+    let mut said = Vec::new(rt.alloc());
+    let mut status = 0u8;
+    say_headings(headings, &mut said)?;
+    for part in commands.split("\n$ ") {
+        let (command, below) = part.split_once("\n").unwrap_or((part, ""));
+        status = say_command(rt, command, below, status, &mut said)?;
+        say_headings(below, &mut said)?;
+    }
+    Ok(said)
+}
