@@ -14,8 +14,7 @@ use Rattle.desk.specs.declared.fault.DeskFault.TheVariants.{Read, Write, TooMany
 use Rattle.desk.specs.declared.outcome.Outcome.{Outcome}
 use Rattle.desk.specs.Outcomes.{told}
 use Rattle.desk.specs.Stands.{IsHandled, HasHandled, AreAnswered, AreCutShort, StopsWriting, StandsAfter, IsUnfinished}
-use Rattle.desk.specs.declared.serve.Untold.{Untold}
-use Rattle.desk.specs.Written.{IsWritten, IsServed}
+use Rattle.desk.specs.Written.{IsServed}
 use Rattle.desk.proofs.OutcomeFacts.{answered_none, answered_more, cut_short, cut_before, none_handled, handled_more}
 
 -- the lines that were handed out are answered
@@ -43,10 +42,6 @@ front (l ∷ done) others first = ap (λ ls. l ∷ ls) (front done others first)
 
 pub none_has : (s : State) → HasHandled s s
 none_has s = record { lines = []; outcomes = []; handled = none_handled s }
-
-pub unwritten_as : (before after : Option (List ℕ)) (text : List ℕ) (e d : Untold) → e ≡ d → IsWritten before after text (Err e)
-    → IsWritten before after text (Err d)
-unwritten_as before after text e d same w = subst (λ (x : Untold). IsWritten before after text (Err x)) same w
 
 -- what an exit of `?` passes on
 pub passed_on : (r : Result ⊤ DeskFault) (e : DeskFault) → IsErrAnd r (λ x. x ≡ e) → r ≡ Err e

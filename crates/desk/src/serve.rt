@@ -8,7 +8,7 @@ ghost use Rattle.request_lines.specs.Answers.{line_of};
 ghost use Rattle.desk.specs.Outcomes.{told};
 ghost use Rattle.desk.specs.declared.outcome.Outcome.{Outcome};
 ghost use Rattle.desk.specs.Stands.{IsHandled, HasHandled, AreAnswered, StandsAfter};
-ghost use Rattle.desk.specs.Written.{IsWritten, CountsUntold, IsServed, CountsServed};
+ghost use Rattle.desk.specs.Written.{IsServed, CountsServed};
 
 use crate::fault::DeskFault;
 use crate::outcome::Outcome;
@@ -24,15 +24,6 @@ use std::io::{Read, Write};
 /// How often a reader may be called.
 pub const MAX_READS: u64 = 4_194_304;
 
-// Why an outcome was not told.
-#[derive(Clone, Copy, Debug, PartialEq, Eq)]
-enum Untold {
-    // There was no memory for its line.
-    NoMemory,
-    // The writer failed.
-    Write,
-}
-
 // The line that tells want of memory.
 #[tactic(auto, unfolding(request_lines::specs::Answers::line_of, request_lines::specs::Answers::answer_text, serde_json::proofs::OnLiterals::serde_json_on_literals))]
 fn memory_line() -> &'static str
@@ -41,20 +32,25 @@ fn memory_line() -> &'static str
     "{\"answer\":\"fault\",\"word\":\"memory\"}\n"
 }
 
-// Writes the line that tells an outcome.
-fn tell<W: Write>(alloc: Global, outcome: &Outcome, writer: &mut Counted<W>) -> Result<(), Untold>
-    ensures told { IsWritten (W.contents writer.old.inner) (W.contents writer.new.inner) (told outcome.now) result }
-    ensures faults { CountsUntold writer.old.faults writer.new.faults result }
+// Writes the line that tells what came of the line of this number.
+fn tell<W: Write>(
+    alloc: Global,
+    outcome: &Outcome,
+    writer: &mut Counted<W>,
+    number: u64,
+) -> Result<(), DeskFault>
+    ensures told { IsServed (W.contents writer.old.inner) (W.contents writer.new.inner) (told outcome.now) number result }
+    ensures faults { CountsServed writer.old.faults writer.new.faults result }
 {
     let written = match outcome {
         Outcome::Bad(bad) => write_whole(writer, bad.line().as_bytes()),
         Outcome::NoMemory => write_whole(writer, memory_line().as_bytes()),
         Outcome::Answered { request: _, answer } => match line(alloc, answer) {
             Ok(text) => write_whole(writer, text.as_bytes()),
-            Err(_) => return Err(Untold::NoMemory),
+            Err(_) => return Err(DeskFault::NoMemory { line: number }),
         },
     };
-    written.map_err(|_| Untold::Write)
+    written.map_err(|_| DeskFault::Write { line: number })
 }
 
 // Handles the first line that is held, and writes the line that tells what came of it.
@@ -71,11 +67,7 @@ fn serve_first<S: Alter, W: Write>(
     ensures faults { CountsServed writer.old.faults writer.new.faults result }
 {
     let outcome = Outcome::of_first(office, alloc, lines);
-    match tell(alloc, &outcome, writer) {
-        Ok(()) => Ok(()),
-        Err(Untold::Write) => Err(DeskFault::Write { line: number }),
-        Err(Untold::NoMemory) => Err(DeskFault::NoMemory { line: number }),
-    }
+    tell(alloc, &outcome, writer, number)
 }
 
 /// Handles the lines of a stream one after the other, and writes the answer to each.

@@ -1,5 +1,5 @@
-use Rattle.std.proofs.Common.{◌≡◌, ◌∙◌}
-use Rattle.request_lines.specs.Requests.{request_in, asked}
+use Rattle.std.proofs.Common.{◌∙◌}
+use Rattle.request_lines.specs.Requests.{request_in}
 use Rattle.request_lines.specs.declared.bad.BadLine.TheVariants as bad
 use Rattle.request_lines.specs.declared.fault.LineFault.TheVariants.{NotJson, NotARequest}
 use Rattle.desk.proofs.AskedFacts.{asked_long, asked_short, tells_as, handled_bad, handled_unread, handled_answered}
