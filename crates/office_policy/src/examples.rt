@@ -159,7 +159,7 @@ pub fn examples_of_the_need()
 {}
 
 /// A profile that is wider than the baseline, or holds a listed capability in any of its five sets, needs two approvals.
-#[tactic(auto, unfolding(widening::specs::Findings::findings_of))]
+#[tactic(auto, unfolding(widening::specs::Findings::findings_of, widening::specs::Findings::gained))]
 pub fn examples_of_wider_profiles()
     ensures no_filter { need_against 0 closed_profile (with_caps no_caps) ≡ TwoWithSecurity }
     ensures nothing_more { need_against listed closed_profile closed_profile ≡ One }

@@ -4,7 +4,7 @@ use Rattle.std.specs.Fmt.{digits}
 use Rattle.hex.specs.Hex.{encode_with}
 use Rattle.cap_sets.specs.Capability.{names_from}
 use Rattle.widening.specs.declared.finding.Finding.TheVariants.{NoSeccomp}
-use Rattle.widening.specs.Findings.{findings_of}
+use Rattle.widening.specs.Findings.{findings_of, gained}
 use Rattle.review_sheet.specs.Sets.{caps_lines}
 use Rattle.review_sheet.specs.Filters.{seccomp_lines}
 use Rattle.review_sheet.specs.Review.{findings_lines, tally_lines, votes_lines}
@@ -12,7 +12,7 @@ use Rattle.review_sheet.specs.Sheet.{head_lines, need_lines, sheet_lines}
 use Rattle.review_sheet.specs.Examples.{bare, bare_lines}
 
 found : findings_of bare.base bare.shown ≡ NoSeccomp ∷ []
-unfolding findings_of
+unfolding findings_of gained
 found = refl
 
 head : head_lines bare ≡ take 7 bare_lines

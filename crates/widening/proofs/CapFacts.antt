@@ -31,6 +31,7 @@ gained_here base new n has missing = and_from (bit_at new n == 1) (not (bit_at b
 
 -- a set that gains nothing is within the other
 pub within_from_nothing : (set : CapSet) (base new : ℕ) → new < 2 ^ 41 → map (Cap set) (gained base new) ≡ [] → IsWithin new base
+unfolding gained
 within_from_nothing set base new known none n has =
     elim (cases_Bool (bit_at base n == 1)) as (λ _. Has base n) [
       | inl there ↦ eqb-true (bit_at base n) 1 there

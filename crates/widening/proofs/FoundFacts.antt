@@ -1,6 +1,6 @@
 -- Whether something is found, and one finding more.
 use Rattle.std.proofs.Common.{◌≡◌, ◌∙◌, ap, refl, sym, ℕ, zero, suc, ◌+◌, ◌<◌, List, [], ◌∷◌, ◌++◌, Bool, true, false, not, cond, ◌||◌, ◌&&◌, map, length, take, get_or, nat_lt, bytes_eq, append_assoc, add-one, arith}
-use Rattle.std.specs.Prelude.{filter}
+use Rattle.std.specs.Prelude.{filter, flat_map}
 use Rattle.std.specs.List.{list_any, range_with_len}
 use Rattle.std.proofs.lemmas.Bool.Decides.{same_from_decides}
 use Rattle.std.proofs.lemmas.List.{append-nil, map-append, take_more}
@@ -17,7 +17,7 @@ use Rattle.profile_text.specs.Reads.{state_set}
 use Rattle.widening.specs.declared.finding.Finding.{Finding}
 use Rattle.widening.specs.declared.finding.Finding.TheVariants.{AnyArch, Arch, Call, Cap, Default, Flag}
 use Rattle.widening.specs.Calls.{entry_names, is_permitted_more}
-use Rattle.widening.specs.Findings.{arch_findings, between_filters, call_findings, call_names, cap_findings, default_findings, filter_findings, findings_of, flag_findings, is_emptied, is_found, is_gained, is_wider, set_findings}
+use Rattle.widening.specs.Findings.{arch_findings, between_filters, call_findings, call_names, cap_findings, compared_sets, default_findings, filter_findings, findings_of, flag_findings, gained, is_emptied, is_found, is_gained, is_wider, set_findings}
 use Rattle.widening.specs.Texts.{added_texts, adds_a_text, each_once, lists}
 use Rattle.widening.proofs.TextFacts.{list_any-each_once, list_any-in_byte_order}
 
@@ -189,11 +189,12 @@ name_more shown p start items pushed names name before push =
 
 -- ---- five sets, one after another
 
-pub five_found : {X : Type 0} (start one two three four five a b c d e : List X) →
-    one ≡ start ++ a → two ≡ one ++ b → three ≡ two ++ c → four ≡ three ++ d → five ≡ four ++ e →
-    five ≡ start ++ (a ++ (b ++ (c ++ (d ++ (e ++ [])))))
-five_found start one two three four five a b c d e p q r s t =
-    t ∙ ap (λ xs. xs ++ e) (s ∙ ap (λ xs. xs ++ d) (r ∙ ap (λ xs. xs ++ c) (q ∙ ap (λ xs. xs ++ b) p))) ∙ simp (append_assoc, append-nil)
+-- the capabilities of the five sets, one set after another
+pub five_found : (f : CapSet → List Finding) (start one two three four five : List Finding) →
+    one ≡ start ++ f Effective → two ≡ one ++ f Permitted → three ≡ two ++ f Inheritable → four ≡ three ++ f Bounding → five ≡ four ++ f Ambient →
+    five ≡ start ++ flat_map f compared_sets
+five_found f start one two three four five p q r s t =
+    t ∙ ap (λ xs. xs ++ f Ambient) (s ∙ ap (λ xs. xs ++ f Bounding) (r ∙ ap (λ xs. xs ++ f Inheritable) (q ∙ ap (λ xs. xs ++ f Permitted) p))) ∙ simp (append_assoc, append-nil)
 
 five_or : (a b c d e : Bool) → (a || (b || (c || (d || (e || false))))) ≡ ((((a || b) || c) || d) || e)
 five_or true b c d e = refl
@@ -208,6 +209,7 @@ pub found_caps : (base new : CapState) → is_found (cap_findings base new)
     ≡ ((((list_any (is_gained base.effective new.effective) (range_with_len 0 41) || list_any (is_gained base.permitted new.permitted) (range_with_len 0 41))
     || list_any (is_gained base.inheritable new.inheritable) (range_with_len 0 41)) || list_any (is_gained base.bounding new.bounding) (range_with_len 0 41))
     || list_any (is_gained base.ambient new.ambient) (range_with_len 0 41))
+unfolding gained
 found_caps base new =
     let g : CapSet → Bool = λ set. list_any (is_gained (state_set set base) (state_set set new)) (range_with_len 0 41) in
     let one : (set : CapSet) → is_found (set_findings base new set) ≡ g set = λ set. is_found-filter (Cap set) (is_gained (state_set set base) (state_set set new)) (range_with_len 0 41) in

@@ -19,7 +19,7 @@ use Rattle.implication.specs.Implication.{entry_implies, implies}
 use Rattle.implication.proofs.Implied.{implies-from_exact}
 use Rattle.widening.specs.declared.finding.Finding.TheVariants.{Cap, AnyArch, Arch, Flag, Call, Default}
 use Rattle.widening.specs.Calls.{Rules, entry_rank, is_at_most_entries, is_at_most_possible, is_covered, is_default_covered, is_kept, is_plain, keeps_to, rules_of}
-use Rattle.widening.specs.Findings.{arch_findings, call_findings, call_names, cap_findings, compared_sets, default_findings, filter_findings, findings_of, flag_findings, set_findings}
+use Rattle.widening.specs.Findings.{arch_findings, call_findings, call_names, cap_findings, compared_sets, default_findings, filter_findings, findings_of, flag_findings, gained, set_findings}
 use Rattle.widening.specs.Texts.{added_texts, each_once, lists}
 use Rattle.widening.proofs.Searches.{filter-none}
 use Rattle.widening.proofs.TextFacts.{list_any-each_once}
@@ -148,6 +148,7 @@ no_filter_finding (Some f) lawful =
     ∙ no_default f
 
 no_cap : (state : CapState) → cap_findings state state ≡ []
+unfolding gained
 no_cap state = flat_map_empty (set_findings state state) (λ set. ap (map (Cap set)) (filter_against (λ n. bit_at (state_set set state) n == 1) (range_with_len 0 41))) compared_sets
 
 pub nothing_found : (p : Profile) → IfSome p.filter IsLawful → findings_of p p ≡ []

@@ -23,7 +23,7 @@ abbrev pub is_gained : ℕ → ℕ → ℕ → Bool
 is_gained base new n = bit_at new n == 1 && not (bit_at base n == 1)
 
 -- the capabilities of a set that the baseline's hasn't, by rising number
-abbrev pub gained : ℕ → ℕ → List ℕ
+unfoldable pub gained : ℕ → ℕ → List ℕ
 gained base new = filter (is_gained base new) (range_with_len 0 41)
 
 abbrev pub set_findings : CapState → CapState → CapSet → List Finding

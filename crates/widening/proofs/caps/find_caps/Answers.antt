@@ -1,11 +1,9 @@
-use Rattle.profile_text.specs.declared.sets.CapSet.TheVariants.{Effective, Permitted, Inheritable, Bounding, Ambient}
 use Rattle.widening.specs.Findings.{set_findings}
 use Rattle.widening.proofs.FoundFacts.{five_found}
 use Rattle.widening.proofs.caps.find_caps.Goals as goal
 
 pub returns : goal.returns
 returns c =
-    let found = set_findings c.args.base.now c.args.new.now in
-    five_found c.args.found.now.items c.find_gained.new.found.items c.find_gained-2.new.found.items c.find_gained-3.new.found.items c.find_gained-4.new.found.items c.find_gained-5.new.found.items
-    (found Effective) (found Permitted) (found Inheritable) (found Bounding) (found Ambient)
+    five_found (set_findings c.args.base.now c.args.new.now) c.args.found.now.items c.find_gained.new.found.items c.find_gained-2.new.found.items
+    c.find_gained-3.new.found.items c.find_gained-4.new.found.items c.find_gained-5.new.found.items
     c.in_ok-find_gained.ensures c.in_ok-find_gained-2.ensures c.in_ok-find_gained-3.ensures c.in_ok-find_gained-4.ensures c.in_ok-find_gained-5.ensures
