@@ -51,19 +51,19 @@ impl FromMembers for FoundArg {
         value: Value,
     ) -> Result<(), DocFault> {
         if name == "index" {
-            let index = number_of(alloc, place, name, &value)?;
+            let index = number_of(alloc, place, name, value)?;
             self.index = Some(index);
             Ok(())
         } else if name == "op" {
-            let op = op_of(alloc, place, name, &value)?;
+            let op = op_of(alloc, place, name, value)?;
             self.op = Some(op);
             Ok(())
         } else if name == "value" {
-            let number = number_of(alloc, place, name, &value)?;
+            let number = number_of(alloc, place, name, value)?;
             self.value = Some(number);
             Ok(())
         } else if name == "valueTwo" {
-            let value_two = optional_number_of(alloc, place, name, &value)?;
+            let value_two = optional_number_of(alloc, place, name, value)?;
             self.value_two = value_two.unwrap_or(0);
             Ok(())
         } else {

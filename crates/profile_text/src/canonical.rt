@@ -73,12 +73,15 @@ fn written(out: Writer) -> String
     }
 }
 
+// How many bytes a text has room for before it grows.
+const FIRST_ROOM: usize = 4096;
+
 /// The canonical text of a profile: compact JSON, with the members of each object in byte order of their names. All five
 /// capability sets are written, by rising number; a filter is written where there is one, without its empty lists.
 pub fn print(alloc: Global, profile: &Profile) -> Result<String, AllocError>
     ensures { IfOk result (λ text. string_bytes text ≡ text_of profile.now) }
 {
-    let mut out = Writer::new(Vec::new(alloc));
+    let mut out = Writer::new(Vec::with_capacity(alloc, FIRST_ROOM)?);
     write_profile(&mut out, profile)?;
     Ok(written(out))
 }

@@ -84,7 +84,7 @@ impl FromMembers for FoundEntry {
         value: Value,
     ) -> Result<(), DocFault> {
         if name == "action" {
-            let word = action_of(alloc, Place::Entry(entry), name, &value)?;
+            let word = action_of(alloc, Place::Entry(entry), name, value)?;
             self.word = Some(word);
             Ok(())
         } else if name == "args" {
@@ -92,7 +92,7 @@ impl FromMembers for FoundEntry {
             self.args = args;
             Ok(())
         } else if name == "errnoRet" {
-            let errno = optional_number_of(alloc, Place::Entry(entry), name, &value)?;
+            let errno = optional_number_of(alloc, Place::Entry(entry), name, value)?;
             self.errno = errno;
             Ok(())
         } else if name == "names" {

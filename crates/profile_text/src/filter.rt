@@ -56,11 +56,11 @@ impl FromMembers for FoundFilter {
             self.architectures = architectures;
             Ok(())
         } else if name == "defaultAction" {
-            let default = action_of(alloc, Place::Filter, name, &value)?;
+            let default = action_of(alloc, Place::Filter, name, value)?;
             self.default = Some(default);
             Ok(())
         } else if name == "defaultErrnoRet" {
-            let default_errno = optional_number_of(alloc, Place::Filter, name, &value)?;
+            let default_errno = optional_number_of(alloc, Place::Filter, name, value)?;
             self.default_errno = default_errno;
             Ok(())
         } else if name == "flags" {

@@ -29,12 +29,12 @@ pub(crate) fn number_of(
     alloc: Global,
     place: Place,
     name: &str,
-    value: &Value,
+    value: Value,
 ) -> Result<u64, DocFault>
-    ensures { Gives result (unless_faulty (number_faults (below (path_of place) name.now) (view value.now)) (number_in (view value.now))) }
+    ensures { Gives result (unless_faulty (number_faults (below (path_of place) name.now) (view value)) (number_in (view value))) }
 {
     match value {
-        Value::Number(number) => match u64_of(number) {
+        Value::Number(number) => match u64_of(&number) {
             Some(number) => Ok(number),
             None => Err(DocFault::BadNumber(Path::of_member(alloc, place, name)?)),
         },
@@ -48,15 +48,15 @@ pub(crate) fn optional_number_of(
     alloc: Global,
     place: Place,
     name: &str,
-    value: &Value,
+    value: Value,
 ) -> Result<Option<u64>, DocFault>
     ensures { Gives result (unless_faulty
-        (optional_faults number_faults (below (path_of place) name.now) (view value.now))
-        (whole_number (view value.now))) }
+        (optional_faults number_faults (below (path_of place) name.now) (view value))
+        (whole_number (view value))) }
 {
     match value {
         Value::Null => Ok(None),
-        _ => Ok(Some(number_of(alloc, place, name, value)?)),
+        value => Ok(Some(number_of(alloc, place, name, value)?)),
     }
 }
 
@@ -80,9 +80,9 @@ pub(crate) fn action_of(
     alloc: Global,
     place: Place,
     name: &str,
-    value: &Value,
+    value: Value,
 ) -> Result<ActionWord, DocFault>
-    ensures { Gives result (unless_faulty (action_faults (below (path_of place) name.now) (view value.now)) (action_in (view value.now))) }
+    ensures { Gives result (unless_faulty (action_faults (below (path_of place) name.now) (view value)) (action_in (view value))) }
 {
     match value {
         Value::String(word) => action_named(alloc, place, name, word.as_str()),
@@ -92,8 +92,8 @@ pub(crate) fn action_of(
 
 /// An operator.
 #[tactic(auto, unfolding(crate::specs::Shape::word_faults))]
-pub(crate) fn op_of(alloc: Global, place: Place, name: &str, value: &Value) -> Result<Op, DocFault>
-    ensures { Gives result (unless_faulty (op_faults (below (path_of place) name.now) (view value.now)) (op_in (view value.now))) }
+pub(crate) fn op_of(alloc: Global, place: Place, name: &str, value: Value) -> Result<Op, DocFault>
+    ensures { Gives result (unless_faulty (op_faults (below (path_of place) name.now) (view value)) (op_in (view value))) }
 {
     match value {
         Value::String(word) => match Op::from_word(word.as_str()) {

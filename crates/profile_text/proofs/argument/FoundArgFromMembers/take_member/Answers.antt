@@ -15,8 +15,8 @@ returns-in_err-index c =
     let p = err_from_is_err_and c.from_residual.result c.from_residual.ensures.1 in
     rw (p.1, p.2) (refused_at_name arg_rows (path_of c.args.place) c.args.name.now (codes "index") (view c.args.value) (number_faults) _ _ _ (sym c.if-eq.ensures) refl c.in_err-index.ensures)
 
-pub returns-then-eq : goal.returns-then-eq
-returns-then-eq c =
+pub returns-in_ok-index : goal.returns-in_ok-index
+returns-in_ok-index c =
     let d = view c.args.value in
     let s : FoundArg = c.args.self.now in
     let make : ℕ → FoundArg = λ v. record { index = Some v; op = s.op; value = s.value; value_two = s.value_two } in
@@ -27,8 +27,8 @@ returns-in_err-op c =
     let p = err_from_is_err_and c.from_residual-in_err-op.result c.from_residual-in_err-op.ensures.1 in
     rw (p.1, p.2) (refused_at_name arg_rows (path_of c.args.place) c.args.name.now (codes "op") (view c.args.value) (op_faults) _ _ _ (sym c.if-eq-2.ensures) refl c.in_err-op.ensures)
 
-pub returns-then-eq-2 : goal.returns-then-eq-2
-returns-then-eq-2 c =
+pub returns-in_ok-op : goal.returns-in_ok-op
+returns-in_ok-op c =
     let d = view c.args.value in
     let s : FoundArg = c.args.self.now in
     let make : Op → FoundArg = λ v. record { index = s.index; op = Some v; value = s.value; value_two = s.value_two } in
@@ -39,8 +39,8 @@ returns-in_err-number c =
     let p = err_from_is_err_and c.from_residual-in_err-number.result c.from_residual-in_err-number.ensures.1 in
     rw (p.1, p.2) (refused_at_name arg_rows (path_of c.args.place) c.args.name.now (codes "value") (view c.args.value) (number_faults) _ _ _ (sym c.if-eq-3.ensures) refl c.in_err-number.ensures)
 
-pub returns-then-eq-3 : goal.returns-then-eq-3
-returns-then-eq-3 c =
+pub returns-in_ok-number : goal.returns-in_ok-number
+returns-in_ok-number c =
     let d = view c.args.value in
     let s : FoundArg = c.args.self.now in
     let make : ℕ → FoundArg = λ v. record { index = s.index; op = s.op; value = Some v; value_two = s.value_two } in
