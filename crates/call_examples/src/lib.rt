@@ -14,6 +14,8 @@ mod office;
 #[cfg(test)]
 mod offices;
 #[cfg(test)]
+mod served;
+#[cfg(test)]
 mod store;
 #[cfg(test)]
 mod streams;

@@ -4,7 +4,6 @@ mod conversations;
 mod in_step;
 mod memory;
 mod requests;
-mod served;
 mod stops;
 mod texts;
 mod turns;

@@ -3,7 +3,7 @@
 use crate::commands::said::{assert_said, founding, said_on};
 use crate::streams::{Giving, Source};
 use office_commands::Databases;
-use sqlite::{Alter, Connection, Error, ErrorCode, MemStore};
+use sqlite::{Connection, Error, ErrorCode, MemStore};
 use std::alloc::Global;
 use std::fs;
 use std::process::Abort;
@@ -81,13 +81,16 @@ fn an_empty_file_is_no_office_and_is_taken(rt: HostRuntime) -> Result<(), Fail> 
 }
 
 // Makes a database that is no office.
-fn make_foreign<S: Alter + Drop, D: Databases<Database = Connection<S>>>(
-    databases: &D,
-    path: &str,
-) -> Result<(), Fail> {
-    let mut conn = databases.open(path)?;
+fn make_foreign(rt: &HostRuntime, path: &str) -> Result<(), Fail> {
+    let mut conn = Connection::open(rt, path)?;
     conn.execute_batch("CREATE TABLE note (id INTEGER PRIMARY KEY) STRICT")?;
-    databases.close(conn)?;
+    conn.close()?;
+    Ok(())
+}
+
+// That a file has these bytes.
+fn assert_has(rt: &impl Abort, host: &HostRuntime, path: &str, bytes: &[u8]) -> Result<(), Fail> {
+    assert_eq!(rt; fs::read(host, path)?.as_slice(), bytes);
     Ok(())
 }
 
@@ -98,22 +101,21 @@ fn another_database_is_left_as_it_is(rt: HostRuntime) -> Result<(), Fail> {
     let before = fs::read(&rt, "other.db")?;
     assert_at(&rt, &rt, "other.db", LIST, NO_OFFICE)?;
     assert_at(&rt, &rt, "other.db", "", NO_OFFICE)?;
-    assert_eq!(rt; fs::read(&rt, "other.db")?, before);
-    Ok(())
+    assert_has(&rt, &rt, "other.db", &before)
+}
+
+// A desk and a founding are refused.
+fn assert_refused(rt: &impl Abort, host: &HostRuntime, path: &str) -> Result<(), Fail> {
+    assert_said(rt, host, "office desk open.db", ENROL, Giving::Whole, DISK)?;
+    let line = founding(host.alloc(), path)?;
+    assert_said(rt, host, line.as_str(), "", Giving::Whole, DISK)
 }
 
 // What another has open is refused.
-fn assert_open<D: Databases>(
-    rt: &impl Abort,
-    host: &HostRuntime,
-    databases: &D,
-    path: &str,
-) -> Result<(), Fail> {
-    let database = databases.open(path)?;
-    assert_said(rt, host, "office desk open.db", ENROL, Giving::Whole, DISK)?;
-    let line = founding(host.alloc(), path)?;
-    assert_said(rt, host, line.as_str(), "", Giving::Whole, DISK)?;
-    databases.close(database)?;
+fn assert_open(rt: &impl Abort, host: &HostRuntime, path: &str) -> Result<(), Fail> {
+    let conn = Connection::open(host, path)?;
+    assert_refused(rt, host, path)?;
+    conn.close()?;
     Ok(())
 }
 
@@ -121,7 +123,7 @@ fn assert_open<D: Databases>(
 fn an_office_that_is_open_is_refused(rt: HostRuntime) -> Result<(), Fail> {
     let _ = fs::remove_file(&rt, "open.db");
     assert_at(&rt, &rt, "open.db", "", "0 > founded\n")?;
-    assert_open(&rt, &rt, &rt, "open.db")?;
+    assert_open(&rt, &rt, "open.db")?;
     assert_at(&rt, &rt, "open.db", ENROL, DONE)
 }
 

@@ -23,12 +23,7 @@ fn text_of(bytes: &[u8]) -> &str {
 }
 
 // Carries a command line out, whose words spaces part, over real files. Gives the status that it ends with, and its errors.
-pub(crate) fn run_line<
-    S: Alter + Drop,
-    D: Databases<Database = Connection<S>>,
-    N: Network,
-    O: Write,
->(
+fn run_line<S: Alter + Drop, D: Databases<Database = Connection<S>>, N: Network, O: Write>(
     rt: &HostRuntime,
     databases: &D,
     network: &N,
@@ -56,7 +51,23 @@ pub(crate) fn run_line<
     Ok((status, errors))
 }
 
-// What it says: its status, its errors, and after `> ` its output.
+// The same with real databases and sockets.
+pub(crate) fn run_here<O: Write>(
+    rt: &HostRuntime,
+    line: &str,
+    input: Source,
+    output: &mut O,
+) -> Result<(u8, Vec<u8>), AllocError> {
+    run_line(rt, rt, rt, line, input, output)
+}
+
+// What is said: the status, the errors, and after `> ` the output.
+fn told(alloc: Global, status: u8, errors: &[u8], output: &[u8]) -> Result<String, AllocError> {
+    let (errors, output) = (text_of(errors), text_of(output));
+    format!(in alloc; "{status} {errors}> {output}")
+}
+
+// What it says over these databases and sockets.
 pub(crate) fn said_on<S: Alter + Drop, D: Databases<Database = Connection<S>>, N: Network>(
     rt: &HostRuntime,
     databases: &D,
@@ -66,13 +77,14 @@ pub(crate) fn said_on<S: Alter + Drop, D: Databases<Database = Connection<S>>, N
 ) -> Result<String, AllocError> {
     let mut output = Vec::new(rt.alloc());
     let (status, errors) = run_line(rt, databases, network, line, input, &mut output)?;
-    let (errors, output) = (text_of(&errors), text_of(&output));
-    format!(in rt.alloc(); "{status} {errors}> {output}")
+    told(rt.alloc(), status, &errors, &output)
 }
 
-// The same with real databases and sockets.
+// The same with real ones.
 pub(crate) fn said(rt: &HostRuntime, line: &str, input: Source) -> Result<String, AllocError> {
-    said_on(rt, rt, rt, line, input)
+    let mut output = Vec::new(rt.alloc());
+    let (status, errors) = run_here(rt, line, input, &mut output)?;
+    told(rt.alloc(), status, &errors, &output)
 }
 
 // This is said to a command line with these lines for its input, which are given so.

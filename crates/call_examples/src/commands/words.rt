@@ -1,6 +1,6 @@
 // Words that are no command line, help, the stream that each text goes to, and an output that fails.
 
-use crate::commands::said::{assert_said, run_line, said};
+use crate::commands::said::{assert_said, run_here, said};
 use crate::streams::{Giving, Source};
 use std::io::{ErrorKind, Write};
 use std::process::Abort;
@@ -105,7 +105,7 @@ fn an_output_that_fails_is_told(rt: HostRuntime) -> Result<(), Fail> {
         "office --version",
     ] {
         let input = Source::new(b"", Giving::Whole);
-        let (status, errors) = run_line(&rt, &rt, &rt, line, input, &mut Closed)?;
+        let (status, errors) = run_here(&rt, line, input, &mut Closed)?;
         assert_eq!(rt; status, 1, "{line}");
         assert_eq!(rt; errors.as_slice(), b"office: write\n".as_slice(), "{line}");
     }

@@ -1,10 +1,10 @@
 // Conversations, from lines to lines.
 
 use crate::lines::in_step::{Answered, InStep};
-use crate::lines::served::serve;
 use crate::lines::texts::{FIRST_ANSWERS, FIRST_PATH, SECOND_ANSWERS, first_lines};
 use crate::lines::turns::{WHOLE, take_turn, take_turn_anew};
 use crate::offices::trial_office;
+use crate::served::serve;
 use crate::streams::{Giving, Taking};
 use std::cell::Cell;
 use std::test::Fail;

@@ -1,9 +1,9 @@
 // What is told where memory is refused.
 
-use crate::lines::served::serve;
 use crate::lines::texts::{FIRST_ANSWERS, FIRST_PATH, SECOND_ANSWERS, first_lines};
 use crate::lines::turns::{WHOLE, take_turn};
 use crate::offices::trial_office;
+use crate::served::serve;
 use crate::streams::{Sink, Taking};
 use desk::DeskFault;
 use office_desk::Office;

@@ -1,11 +1,11 @@
 // What stands where a reader or a writer stops the desk.
 
-use crate::lines::served::serve;
 use crate::lines::texts::{
     FIRST_ANSWERS, FIRST_PATH, SAME_AS_OPEN, SECOND_ANSWERS, SUBMIT, SUBMITTED, first_lines,
 };
 use crate::lines::turns::{WHOLE, take_turn, take_turn_anew};
 use crate::offices::trial_office;
+use crate::served::serve;
 use crate::streams::{Giving, Source, Taking, feeds};
 use desk::{DeskFault, MAX_READS};
 use office_desk::Office;

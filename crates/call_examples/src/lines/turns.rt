@@ -1,7 +1,7 @@
 // Streams that the desk serves in turn.
 
-use crate::lines::served::serve;
 use crate::offices::trial_office;
+use crate::served::serve;
 use crate::streams::{Giving, Sink, Source, Taking};
 use desk::DeskFault;
 use office_desk::Office;
