@@ -24,7 +24,7 @@ fn found(alloc: Global) -> Result<Founded> {
 }
 
 /// An office in memory, of which root of the team office may enrol users, by the token abc.
-pub fn found_office(alloc: Global) -> Result<Office<MemStore>> {
+fn found_office(alloc: Global) -> Result<Office<MemStore>> {
     match found(alloc)? {
         Ok(office) => Ok(office),
         Err((fault, _)) => bail!("an office is not founded: {fault}"),
