@@ -1,10 +1,11 @@
 -- Looking a name up in the table, and the number that it has there.
-use Rattle.std.proofs.Common.{◌≡◌, ℕ, ◌+◌, ◌^◌, ◌<◌, List, [], ◌∷◌, true, false, zero, suc, Option, Some, None, cond, length, refl, sym, ap, arith, ne_eqb, ◌≢◌, Bool}
+use Rattle.std.proofs.Common.{◌≡◌, ℕ, ◌+◌, ◌^◌, ◌<◌, List, [], ◌∷◌, true, false, zero, suc, Option, Some, None, cond, length, refl, sym, ap, arith, ne_eqb, ◌≢◌}
 use Rattle.std.specs.Prelude.{nat_eq, option_map, slice_get}
 use Rattle.std.specs.Cmp.Lexicographic.{pointwise, same_text, other_text}
 use Rattle.std.proofs.lemmas.Nat.{pow_below}
 use Rattle.bitflags.specs.Sets.{find_row, find_name}
 use Rattle.cap_sets.specs.Capability.{rows_from, number_from, number_named, cap_names, cap_table, single, IsNamed}
+use Rattle.cap_sets.proofs.Searches.{passed_over}
 
 -- a row of the table is found by its name as its number is
 find_row_number : (n : ℕ) (names : List (List ℕ)) (name : List ℕ) → find_row (rows_from n names) name ≡ option_map single (number_from n names name)
@@ -55,20 +56,15 @@ named_at n (first ∷ names) name k e =
       | false ↦ λ test e. let later = named_at (n + 1) names name k e in (suc later.0, omega (arith, later.1), later.2)
     ]) refl e
 
--- a name that is not found is not the first
-not_here : (test : Bool) (n : ℕ) (rest : Option ℕ) → cond test (Some n) rest ≡ None → (test ≡ false) × (rest ≡ None)
-not_here true n rest e = cc
-not_here false n rest e = (refl, e)
-
 -- a name that is not found is nowhere
 nowhere_named : (n : ℕ) (names : List (List ℕ)) (name : List ℕ) → number_from n names name ≡ None → (i : ℕ) → slice_get names i ≢ Some name
 unfolding number_from
 nowhere_named n [] name e i at = cc
 nowhere_named n (first ∷ names) name e zero at =
     let same : first ≡ name = cc in
-    other_text first name (sym (not_here (pointwise nat_eq first name) n (number_from (n + 1) names name) e).0) same
+    other_text first name (sym (passed_over (pointwise nat_eq first name) n (number_from (n + 1) names name) e).0) same
 nowhere_named n (first ∷ names) name e (suc i) at =
-    nowhere_named (n + 1) names name (not_here (pointwise nat_eq first name) n (number_from (n + 1) names name) e).1 i at
+    nowhere_named (n + 1) names name (passed_over (pointwise nat_eq first name) n (number_from (n + 1) names name) e).1 i at
 
 -- the set of a name is that of the capability that has it
 pub single_of_name : (name : List ℕ) (caps : ℕ) → Some caps ≡ option_map single (number_named name) → (n : ℕ) × IsNamed n name × (caps ≡ single n)

@@ -1,7 +1,8 @@
 -- The capabilities by number and name, and sets of them.
 -- A set is known by its members: a contract sees it as the number whose bit n is set where capability n is a member.
-use Rattle.std.specs.Prelude.{◌≡◌, ℕ, ◌+◌, ◌^◌, ◌==◌, ◌<◌, List, [], ◌∷◌, Option, Some, None, if◌then◌else◌, codes, drop, nat_eq, slice_get}
+use Rattle.std.specs.Prelude.{◌≡◌, ℕ, ◌+◌, ◌^◌, ◌==◌, ◌<◌, List, [], ◌∷◌, Option, Some, None, if◌then◌else◌, codes, drop, nat_eq, option_and_then, slice_get}
 use Rattle.std.specs.Int.{bit_at}
+use Rattle.std.specs.Int.RustNames.{bit_or}
 use Rattle.std.specs.Cmp.Lexicographic.{pointwise}
 
 -- the names of the capabilities by rising number, from 0 on, as in linux/capability.h
@@ -78,6 +79,15 @@ number_from n (first ∷ names) name = if pointwise nat_eq first name then Some 
 -- the number of the capability of this name
 abbrev pub number_named : List ℕ → Option ℕ
 number_named name = number_from 0 cap_names name
+
+-- the set with the capabilities of these names too, where each is one's
+abbrev pub with_names : ℕ → List (List ℕ) → Option ℕ
+with_names caps [] = Some caps
+with_names caps (name ∷ names) = option_and_then (λ number. with_names (bit_or caps (single number)) names) (number_named name)
+
+-- the set of just the capabilities of these names, where each is one's
+abbrev pub set_named : List (List ℕ) → Option ℕ
+set_named names = with_names 0 names
 
 -- the names of the members, where the first of these names has number n
 unfoldable pub names_from : ℕ → List (List ℕ) → ℕ → List (List ℕ)

@@ -1,10 +1,11 @@
 // A set of capabilities.
 
-ghost use Rattle.std.specs.Prelude.{◌≡◌, ◌<◌, ◌^◌, ◌↔◌, ◌==◌, ℕ, List, Some, None, Contains, IsTrue, IsSome, IfSome, IfNone, nat_lt, if◌then◌else◌, option_map};
+ghost use Rattle.std.specs.Prelude.{◌≡◌, ◌<◌, ◌^◌, ◌↔◌, ◌==◌, ℕ, List, Some, None, Contains, IsTrue, IsSome, IfSome, IfNone, map, nat_lt, if◌then◌else◌, option_map};
 ghost use Rattle.std.specs.Bool.{OnFalse};
 ghost use Rattle.std.specs.Int.{bit_at};
 ghost use Rattle.std.specs.Int.RustNames.{bit_and, bit_or};
-ghost use Rattle.cap_sets.specs.Capability.{Has, IsNamed, IsWithin, single, number_named, names_of, IsLowest};
+ghost use Rattle.cap_sets.specs.Capability.{Has, IsNamed, IsWithin, single, number_named, names_of, set_named, IsLowest};
+ghost use Rattle.cap_sets.specs.Lawful.{lowest_outside};
 ghost use Rattle.cap_sets.specs.NumberSet.{HasExactly, nothing, members, ◌∪◌, ◌∩◌};
 
 use crate::flags::CapFlags;
@@ -49,6 +50,20 @@ impl Caps {
             Some(flags) => Some(Caps { flags }),
             None => None,
         }
+    }
+
+    /// The set of just the capabilities of these names, each any number of times; none where one is no capability's name.
+    pub fn from_names(names: &[&str]) -> Option<Caps>
+        ensures { result ≡ set_named (map (λ name. name.now) names.now) }
+    {
+        let mut caps = Caps::empty();
+        'names: for name in names {
+            match Caps::from_name(name) {
+                Some(named) => caps = caps.union(named),
+                None => return None,
+            }
+        }
+        Some(caps)
     }
 
     /// The set that has capability n where bit n is set; none where a bit above 40 is set.
@@ -111,6 +126,7 @@ impl Caps {
     pub(crate) fn lowest_outside(self, other: Caps) -> Option<u8>
         ensures found { IfSome result (IsLowest (λ k. Has self k × ¬ Has other k)) }
         ensures none { IfNone result (IsWithin self other) }
+        ensures value { result ≡ lowest_outside self other }
     {
         lowest_bit_outside(self.flags.0, other.flags.0)
     }
@@ -128,6 +144,7 @@ impl Caps {
 fn lowest_bit_outside(bits: u64, other: u64) -> Option<u8>
     ensures found { IfSome result (IsLowest (λ k. Has bits k × ¬ Has other k)) }
     ensures none { IfNone result (IsWithin bits other) }
+    ensures value { result ≡ lowest_outside bits other }
 {
     let outside = bits & !other;
     if outside == 0 {

@@ -1,7 +1,8 @@
 // The lawful states of a process.
 
-ghost use Rattle.std.specs.Prelude.{◌≡◌, IfOk, IfErr};
-ghost use Rattle.cap_sets.specs.Lawful.{IsFirstFault, IsLawful};
+ghost use Rattle.std.specs.Prelude.{◌≡◌, IfOk};
+ghost use Rattle.std.specs.Result.{result_err};
+ghost use Rattle.cap_sets.specs.Lawful.{IsLawfulState, first_fault};
 
 use crate::caps::Caps;
 use std::error::Error;
@@ -21,7 +22,7 @@ pub struct CapState {
     pub bounding: Caps,
     /// What stays permitted and effective through the execve of a plain file.
     pub ambient: Caps,
-    pub ghost lawful: { IsLawful effective permitted inheritable ambient },
+    pub ghost lawful: { IsLawfulState effective permitted inheritable ambient },
 }
 
 /// Why five sets are no lawful state.
@@ -56,6 +57,7 @@ impl CapState {
     /// # Errors
     ///
     /// The first fault of the five sets, in the order of `CapFault`.
+    #[tactic(auto, unfolding(crate::specs::Lawful::first_fault))]
     pub fn new(
         effective: Caps,
         permitted: Caps,
@@ -63,10 +65,10 @@ impl CapState {
         bounding: Caps,
         ambient: Caps,
     ) -> Result<CapState, CapFault>
-        ensures lawful { IfOk result (λ _. IsLawful effective permitted inheritable ambient) }
+        ensures lawful { IfOk result (λ _. IsLawfulState effective permitted inheritable ambient) }
         ensures sets { IfOk result (λ state. (state.effective ≡ effective) × (state.permitted ≡ permitted)
             × (state.inheritable ≡ inheritable) × (state.bounding ≡ bounding) × (state.ambient ≡ ambient)) }
-        ensures fault { IfErr result (IsFirstFault effective permitted inheritable ambient) }
+        ensures fault { result_err result ≡ first_fault effective permitted inheritable ambient }
     {
         if let Some(number) = effective.lowest_outside(permitted) {
             return Err(CapFault::EffectiveOutside(number));

@@ -23,7 +23,7 @@ pub enum Unread {
     /// The reader was called as often as is allowed, without an end or a fault.
     #[error("too-many-reads")]
     TooManyReads,
-    /// Memory was refused.
+    /// Memory was refused. No contract can say when: it may stand in place of any answer.
     #[error("memory")]
     NoMemory,
 }

@@ -17,7 +17,7 @@ use std::alloc::Global;
 pub enum Outcome {
     /// It is no request.
     Bad(BadLine),
-    /// There was no memory to read it.
+    /// There was no memory to read it. No contract can say when.
     NoMemory,
     /// The request that it asks was answered.
     Answered { request: Request, answer: Answer },

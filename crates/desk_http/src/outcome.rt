@@ -20,7 +20,7 @@ use std::io::Read;
 pub enum Outcome {
     /// What came is no request.
     Refused(Refusal),
-    /// There was no memory to read it.
+    /// There was no memory to read it. No contract can say when.
     NoMemory,
     /// The request that it asks was answered.
     Answered { request: Request, answer: Answer },

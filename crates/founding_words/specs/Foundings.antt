@@ -1,13 +1,13 @@
 -- The founding that words describe, or why they describe none.
 use Rattle.std.specs.Prelude.{◌≡◌, ℕ, ◌&&◌, List, Option, Some, None, Result, Ok, Err, if◌then◌else◌}
+use Rattle.cap_sets.specs.Capability.{set_named}
+use Rattle.review_policy.specs.Digests.{digest_from_hex}
 use Rattle.review_policy.specs.Words.{is_word}
 use Rattle.review_policy.specs.declared.word.WordFault.{WordFault}
 use Rattle.review_policy.specs.declared.word.WordFault.TheVariants as words
 use Rattle.founding_words.specs.declared.fault.FoundingWordsFault.{FoundingWordsFault}
 use Rattle.founding_words.specs.declared.fault.FoundingWordsFault.TheVariants.{BadWord, UnknownCapability, NoMemory}
 use Rattle.founding_words.specs.declared.founding.Founding.{Founding}
-use Rattle.founding_words.specs.Digests.{digest_of}
-use Rattle.founding_words.specs.Capabilities.{set_named}
 
 -- the founding by these two words, where DIGEST is one and each CAP is a capability's name
 abbrev pub founding_by : List ℕ → List ℕ → Option (List ℕ) → Option ℕ → Result Founding FoundingWordsFault
@@ -18,7 +18,7 @@ founding_by name team (Some digest) (Some listed) = Ok (record { name = name; te
 -- the founding that NAME, TEAM, DIGEST and the CAPs describe, or the first refusal: of one of the three, and then of a CAP
 abbrev pub founding_of : (name team digest : List ℕ) → List (List ℕ) → Result Founding FoundingWordsFault
 founding_of name team digest capabilities =
-    if is_word name && is_word team then founding_by name team (digest_of digest) (set_named capabilities) else Err BadWord
+    if is_word name && is_word team then founding_by name team (digest_from_hex digest) (set_named capabilities) else Err BadWord
 
 -- what is answered is what the words describe; memory may have been refused in place of it
 abbrev pub Gives : Result Founding FoundingWordsFault → Result Founding FoundingWordsFault → Type 0

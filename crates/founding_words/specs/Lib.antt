@@ -1,3 +1,1 @@
-pub mod Digests
-pub mod Capabilities
 pub mod Foundings

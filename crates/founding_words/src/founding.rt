@@ -1,13 +1,11 @@
 //! The founding that words describe.
 
-ghost use Rattle.std.specs.Prelude.{◌≡◌, map};
+ghost use Rattle.std.specs.Prelude.{map};
 ghost use Rattle.founding_words.specs.Foundings.{founding_of, Gives};
 
-use crate::capabilities::set_named;
-use crate::digest::digest_of;
 use crate::fault::FoundingWordsFault;
 use cap_sets::Caps;
-use review_policy::{Word, WordFault};
+use review_policy::{Word, WordFault, digest_from_hex};
 use std::alloc::Global;
 
 /// Whom an office is founded with, and what it lists.
@@ -53,10 +51,10 @@ pub fn founding_of(
 {
     let name = Word::new(alloc, name)?;
     let team = Word::new(alloc, team)?;
-    let Some(digest) = digest_of(digest) else {
+    let Some(digest) = digest_from_hex(digest) else {
         return Err(FoundingWordsFault::BadWord);
     };
-    match set_named(capabilities) {
+    match Caps::from_names(capabilities) {
         Some(listed) => Ok(Founding {
             name,
             team,

@@ -1,8 +1,6 @@
 //! Foundings as a command line writes them: the first user of an office and its listed capabilities.
 #![tactic(auto)]
 
-mod capabilities;
-mod digest;
 mod fault;
 mod founding;
 

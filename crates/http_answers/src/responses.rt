@@ -24,7 +24,7 @@ pub fn status_of(answer: &Answer) -> Status
 ///
 /// # Errors
 ///
-/// Memory was refused.
+/// Memory was refused. No contract can say when.
 pub fn response(alloc: Global, answer: &Answer) -> Result<String, AllocError>
     ensures { IfOk result (λ text. string_bytes text ≡ response_to answer.now) }
 {
@@ -47,7 +47,7 @@ pub fn response(alloc: Global, answer: &Answer) -> Result<String, AllocError>
 ///
 /// # Errors
 ///
-/// Memory was refused.
+/// Memory was refused. No contract can say when.
 pub fn refusal(alloc: Global, status: Status, word: &str) -> Result<String, AllocError>
     ensures { IfOk result (λ text. string_bytes text ≡ refusal_of status word.now) }
 {

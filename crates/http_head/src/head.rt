@@ -29,8 +29,8 @@ pub struct Head {
 
 impl Head {
     /// The token that the caller shows: the field `Authorization`, given once, is `Bearer` in any case, one space and
-    /// a token. None where it isn't so, which is refused as [`Refusal::NoToken`]. Fails only where there is no memory
-    /// for it. `bytes` is the buffer that the head was read from.
+    /// a token. None where it isn't so, which is refused as [`Refusal::NoToken`]. Fails for want of memory, and no contract
+    /// can say when. `bytes` is the buffer that the head was read from.
     pub fn token(&self, alloc: Global, bytes: &[u8]) -> Result<Option<Token>, AllocError>
         requires { IsFoundWithin (length bytes.now) self.now.authorization }
         ensures { IfOk result (λ token. token ≡ shown_token (shown bytes.now self.now.authorization)) }

@@ -16,7 +16,7 @@ pub enum Unheard {
     Failed,
     /// The reader was called as often as is allowed.
     TooManyReads,
-    /// Memory was refused.
+    /// Memory was refused. No contract can say when: it may stand in place of any answer.
     NoMemory,
 }
 

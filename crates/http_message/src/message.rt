@@ -30,7 +30,7 @@ impl ContentType {
 /// The response with this status and this body, after which the connection is closed.
 ///
 /// Its lines end with CR LF. It has the field `Allow` where the status is [`Status::MethodNotAllowed`], and
-/// `Content-Length` is the number of the body's bytes. Fails only where there is no memory for it.
+/// `Content-Length` is the number of the body's bytes. Fails for want of memory, and no contract can say when.
 pub fn message_text(
     alloc: Global,
     status: Status,

@@ -61,7 +61,7 @@ static ROUTES: [(&str, Form); 12] = [
     ),
 ];
 
-/// The router of the office. Fails only where there is no memory for it.
+/// The router of the office. Fails for want of memory, and no contract can say when.
 pub fn office_router(alloc: Global) -> Result<Router<Form>, AllocError>
     ensures { IfOk result (λ router. router ≡ office_rows) }
 {

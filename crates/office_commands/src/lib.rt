@@ -1,17 +1,17 @@
 //! The commands of the program, over files and streams: what each prints where, and the status that it ends with.
 #![tactic(auto)]
 
-mod comparing;
+mod compare;
 mod databases;
 mod fault;
-mod founding;
+mod init;
 mod lines;
 mod opening;
 mod run;
-mod serving;
+mod serve;
 mod stored;
 mod trial;
 
 pub use databases::Databases;
 pub use run::run_words;
-pub use serving::Network;
+pub use serve::Network;

@@ -8,7 +8,7 @@ ghost use Rattle.office_commands.specs.Openings.{fault_of_opening};
 use crate::databases::Databases;
 use crate::fault::CommandFault;
 use office_desk::Office;
-use office_rows::fault_of;
+use office_rows::fault_of_error;
 use office_tables::StoreFault;
 use sqlite::{Alter, Connection, Error, ErrorCode};
 use std::fs;
@@ -20,7 +20,7 @@ fn fault_of_opening(error: Error) -> StoreFault
 {
     match error {
         Error::SqliteFailure(ErrorCode::NotADatabase) => StoreFault::NotAnOffice,
-        error => fault_of(error),
+        error => fault_of_error(error),
     }
 }
 

@@ -4,11 +4,11 @@ ghost use Rattle.std.specs.Prelude.{◌≡◌, IfErr, IfOk, OnOk};
 ghost use Rattle.std.specs.Io.KnownBytes.{Appends};
 ghost use Rattle.counted_io.specs.Counts.{one_more};
 
-use crate::comparing::compare_files;
+use crate::compare::compare_files;
 use crate::databases::Databases;
 use crate::fault::CommandFault;
-use crate::founding::found_at;
-use crate::serving::{Network, serve_http};
+use crate::init::found_at;
+use crate::serve::{Network, serve_http};
 use crate::stored::serve_stored;
 use crate::trial::serve_trial;
 use command_line::{Command, ExecveWords, WordsFault, read_words};

@@ -14,7 +14,7 @@ use Rattle.office_store.specs.Calls.{IsRead, IsWrite}
 use Rattle.office_store.proofs.Committed.{survives_same}
 use Rattle.office_policy.specs.History.{Event, History}
 use Rattle.office_policy.specs.Verdict.{Verdict, accepted, denied}
-use Rattle.office_policy.specs.Lawful.{IsLawful}
+use Rattle.office_policy.specs.Lawful.{IsLawfulHistory}
 use Rattle.office_policy.specs.TablesOf.{tables_of}
 use Rattle.office_policy.specs.Runs.{answer_of}
 use Rattle.office_desk.specs.declared.refusal.Refusal.{Refusal}
@@ -360,9 +360,9 @@ then_carries_for Of Then judge first old mid new F a read result more is rest =
     }
 
 pub then_carries : (judge first : History → Verdict) {A : Type 0} (old mid new : State) (F : Tables → A → Type 0) (a : A) (read : IsRead old mid (Ok a) F) (result : Result Reply Refusal)
-    → ((h : History) → IsLawful h → F (tables_of h) a → first h ≡ judge h) → CarriesOut mid new result first → CarriesOut old new result judge
+    → ((h : History) → IsLawfulHistory h → F (tables_of h) a → first h ≡ judge h) → CarriesOut mid new result first → CarriesOut old new result judge
 then_carries judge first old mid new F a read result is rest =
-    then_carries_for IsLawful IsLawful judge first old mid new F a read result (λ h lawful found. lawful) is rest
+    then_carries_for IsLawfulHistory IsLawfulHistory judge first old mid new F a read result (λ h lawful found. lawful) is rest
 
 -- what is so of many histories is so of fewer
 pub for_fewer : (Of Less : History → Type 0) (old new : State) (result : Result Reply Refusal) (judge : History → Verdict)

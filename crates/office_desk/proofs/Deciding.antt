@@ -12,8 +12,8 @@ use Rattle.office_tables.specs.Tables.{Tables}
 use Rattle.office_store.specs.Shown.{IsIdle}
 use Rattle.office_store.specs.Calls.{IsRead, IsWrite, Into}
 use Rattle.office_policy.specs.History.{Event, History}
-use Rattle.office_policy.specs.Verdict.{accepted, denied, rules_of, done_of, fault_of, verdict_of}
-use Rattle.office_policy.specs.Lawful.{IsLawful}
+use Rattle.office_policy.specs.Verdict.{accepted, denied, rules_of, done_of, fault_beside, verdict_of}
+use Rattle.office_policy.specs.Lawful.{IsLawfulHistory}
 use Rattle.office_policy.specs.TablesOf.{tables_of}
 use Rattle.office_history.specs.LooksBack.{LooksBack}
 use Rattle.office_desk.specs.declared.refusal.Refusal.TheVariants as refusals
@@ -23,10 +23,10 @@ use Rattle.office_desk.proofs.Handling.{denied_is, allowed_is}
 
 -- what is told of its refusals is their rule alone, and its rules ask no more than what is looked back
 pub record Kind (caller : Option UserRow) (a : Ask) {X : Type 0} (look : History → X) (rules : X → List (Rule × Bool)) : Type 0 where
-  pub plain : (h : History) (rule : Rule) → fault_of h a rule ≡ None
+  pub plain : (h : History) (rule : Rule) → fault_beside h a rule ≡ None
   pub asked : (h : History) → rules_of h caller a ≡ rules (look h)
 
-module _ {Of : History → Type 0} (lawful : (h : History) → Of h → IsLawful h)
+module _ {Of : History → Type 0} (lawful : (h : History) → Of h → IsLawfulHistory h)
     {caller : Option UserRow} {a : Ask} {X : Type 0} {look : History → X} {rules : X → List (Rule × Bool)} (kind : Kind caller a look rules) where
   denied_at : (h : History) (d : Denial) → first_denial (rules (look h)) ≡ Err d → verdict_of h caller a ≡ denied d None
   denied_at h d e = denied_is h caller a d (ap first_denial (kind.asked h) ∙ e) ∙ ap (denied d) (kind.plain h d.rule)

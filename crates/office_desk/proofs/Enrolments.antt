@@ -17,7 +17,7 @@ use Rattle.office_policy.specs.Users.{user_of, user_showing, is_named}
 use Rattle.office_policy.specs.Facts.{enrol_facts, is_elsewhere, is_another}
 use Rattle.office_policy.specs.Verdict.{denied, verdict_of}
 use Rattle.office_policy.specs.TablesOf.{tables_of}
-use Rattle.office_policy.specs.Lawful.{IsLawful}
+use Rattle.office_policy.specs.Lawful.{IsLawfulHistory}
 use Rattle.office_history.specs.LooksBack.{LooksBack}
 use Rattle.office_history.proofs.EventFacts.{enrolled_tables}
 use Rattle.office_history.proofs.LookUps.{shower_is}

@@ -20,9 +20,9 @@ use Rattle.office_policy.specs.Users.{user_showing}
 use Rattle.office_history.proofs.LookUps.{shower_is}
 use Rattle.office_store.specs.Shown.{ShowsIfOpen}
 use Rattle.office_policy.specs.History.{History}
-use Rattle.office_policy.specs.Verdict.{Verdict, accepted, denied, rules_of, done_of, fault_of, judged, verdict_of, verdict}
+use Rattle.office_policy.specs.Verdict.{Verdict, accepted, denied, rules_of, done_of, fault_beside, judged, verdict_of, verdict}
 use Rattle.office_policy.specs.Formed.{HasForms}
-use Rattle.office_policy.specs.Lawful.{IsLawful}
+use Rattle.office_policy.specs.Lawful.{IsLawfulHistory}
 use Rattle.office_policy.specs.TablesOf.{tables_of}
 use Rattle.office_policy.specs.Runs.{answer_of, event_of, with_event, IsAnswer}
 use Rattle.office_policy.proofs.LawFacts.{lawful_more}
@@ -38,7 +38,7 @@ use Rattle.office_desk.proofs.Carrying.{for_fewer}
 -- ---- verdicts
 
 -- a request that a rule refuses
-pub denied_is : (h : History) (caller : Option UserRow) (a : Ask) (d : Denial) → first_denial (rules_of h caller a) ≡ Err d → verdict_of h caller a ≡ denied d (fault_of h a d.rule)
+pub denied_is : (h : History) (caller : Option UserRow) (a : Ask) (d : Denial) → first_denial (rules_of h caller a) ≡ Err d → verdict_of h caller a ≡ denied d (fault_beside h a d.rule)
 denied_is h caller a d e = ap (judged h caller a) e
 
 -- and one that none refuses
@@ -72,15 +72,15 @@ pub asked : (old new : State) (result : Result Reply Refusal) (caller : UserRow)
     → CarriesOut old new result (λ h. verdict_of h (Some caller) a) → CarriesFor (Knows caller) old new result (λ h. verdict_of h (Some caller) b)
 asked old new result caller a b is carried =
     asked_known old new result caller a b is
-    (for_fewer IsLawful (Knows caller) old new result (λ h. verdict_of h (Some caller) a) (λ h knows. knows.lawful) carried)
+    (for_fewer IsLawfulHistory (Knows caller) old new result (λ h. verdict_of h (Some caller) a) (λ h knows. knows.lawful) carried)
 
 -- a history knows the user who was found
-pub known : (h : History) → IsLawful h → (digest : List ℕ) (user : Option UserRow) (caller : UserRow) → user ≡ Some caller → IsUserShowing (tables_of h) digest user
+pub known : (h : History) → IsLawfulHistory h → (digest : List ℕ) (user : Option UserRow) (caller : UserRow) → user ≡ Some caller → IsUserShowing (tables_of h) digest user
     → Knows caller h
 known h lawful digest user caller is showing = record { lawful = lawful; row = (subst (IsUserShowing (tables_of h) digest) is showing).0 }
 
 -- the caller is the user who was found by the token's digest
-pub called : (h : History) → IsLawful h → (r : Request) (digest : List ℕ) (user : Option UserRow) → digest ≡ digest_of r.token → IsUserShowing (tables_of h) digest user
+pub called : (h : History) → IsLawfulHistory h → (r : Request) (digest : List ℕ) (user : Option UserRow) → digest ≡ digest_of r.token → IsUserShowing (tables_of h) digest user
     → verdict_of h user r.ask ≡ verdict h r
 called h lawful r digest user is showing = ap (λ u. verdict_of h u r.ask) (shower_is h lawful digest user showing ∙ ap (user_showing h) is)
 
@@ -95,7 +95,7 @@ was_open_by false new shut is_open = absurd (let k : new ≡ true = is_open in l
 
 -- ---- the office after a request
 
-lawful_after : (h : History) (r : Request) (v : Verdict) → is_token r.token ≡ true → HasForms r.ask → verdict h r ≡ v → IsLawful h → IsLawful (with_event (event_of v) h)
+lawful_after : (h : History) (r : Request) (v : Verdict) → is_token r.token ≡ true → HasForms r.ask → verdict h r ≡ v → IsLawfulHistory h → IsLawfulHistory (with_event (event_of v) h)
 lawful_after h r (accepted reply None) token forms is lawful = lawful
 lawful_after h r (accepted reply (Some e)) token forms is lawful =
     lawful_more h e lawful (record { request = r; formed = record { token = token; forms = forms; number = numbered h lawful r reply e is }; reply = reply; allowed = is })

@@ -28,7 +28,7 @@ use Rattle.office_policy.specs.Users.{is_of_team}
 use Rattle.office_policy.specs.Revisions.{revision_count, last_revision, if_open, number_of}
 use Rattle.office_policy.specs.Facts.{canonical, is_text_of, submit_facts}
 use Rattle.office_policy.specs.Verdict.{Verdict, accepted, denied, fault_told, new_revision, verdict_of}
-use Rattle.office_policy.specs.Lawful.{IsLawful}
+use Rattle.office_policy.specs.Lawful.{IsLawfulHistory}
 use Rattle.office_policy.specs.TablesOf.{tables_of}
 use Rattle.office_history.proofs.Submissions.{last_found, last_number, submits}
 use Rattle.office_desk.specs.declared.refusal.Refusal.{Refusal}
@@ -110,7 +110,7 @@ module _ (h : History) (caller : UserRow) (p : ProfileName) (document : Vec ℕ 
         ∙ ap (λ r. denied d (fault_told d.rule r)) is_read ∙ ap (denied d) (read_untold d.rule profile)
 
     -- a submission that is allowed adds its event
-    pub adds : IsLawful h → (author digest : List ℕ) → author ≡ caller.name → digest ≡ digest_of text
+    pub adds : IsLawfulHistory h → (author digest : List ℕ) → author ≡ caller.name → digest ≡ digest_of text
         → decision_on caller p.team text last ≡ Ok tt
         → Adds h (verdict_of h (Some caller) (ask.Submit p document)) (Submitted digest (suc (revision_count h p))) (Submits p author text digest)
     adds lawful author digest is_author is_digest e = record {

@@ -12,7 +12,7 @@ use Rattle.office_store.specs.Shown.{IsIdle, Shows, ShowsIfOpen, AreOffice, Leav
 use Rattle.office_policy.specs.History.{History}
 use Rattle.office_policy.specs.Users.{user_of}
 use Rattle.office_policy.specs.Verdict.{Verdict, accepted, denied}
-use Rattle.office_policy.specs.Lawful.{IsLawful}
+use Rattle.office_policy.specs.Lawful.{IsLawfulHistory}
 use Rattle.office_policy.specs.TablesOf.{tables_of}
 use Rattle.office_policy.specs.Runs.{answer_of, event_of, with_event}
 use Rattle.office_desk.specs.declared.refusal.Refusal.{Refusal}
@@ -71,9 +71,9 @@ pub record CarriesFor (Of : History → Type 0) (old new : State) (result : Resu
 
 -- of the lawful ones
 abbrev pub CarriesOut : State → State → Result Reply Refusal → (History → Verdict) → Type 0
-CarriesOut = CarriesFor IsLawful
+CarriesOut = CarriesFor IsLawfulHistory
 
 -- a lawful history in which this is the row of its user
 pub record Knows (user : UserRow) (h : History) : Type 0 where
-  pub lawful : IsLawful h
+  pub lawful : IsLawfulHistory h
   pub row : user_of h user.name ≡ Some user

@@ -42,7 +42,7 @@ impl<S: Alter> Office<S> {
     ghost use Rattle.office_store.specs.Schema.{no_schema};
     ghost use Rattle.office_store.specs.Shown.{IsIdle, Shows, AreOffice, LeavesNoMore, MayLeave};
     ghost use Rattle.office_policy.specs.History.{History, founded};
-    ghost use Rattle.office_policy.specs.Lawful.{IsLawful};
+    ghost use Rattle.office_policy.specs.Lawful.{IsLawfulHistory};
     ghost use Rattle.office_policy.specs.TablesOf.{tables_of};
     ghost use Rattle.office_desk.specs.Offices.{IsOffice};
     ghost use Rattle.office_desk.specs.Handled.{Stands, IsHandled};
@@ -95,9 +95,9 @@ impl<S: Alter> Office<S> {
         requires { IsIdle (state S.Store conn) }
         ensures form { IfOk result (λ office. HasCleanDisk (state S.Store office)
             → (listed : ℕ) × HasForm (state S.Store conn) (state S.Store office) listed) }
-        ensures office { (h : History) → IsLawful h → Shows (state S.Store conn) (tables_of h)
+        ensures office { (h : History) → IsLawfulHistory h → Shows (state S.Store conn) (tables_of h)
             → IfOk result (λ office. IsOffice h (state S.Store office)) }
-        ensures known { (h : History) → IsLawful h → Shows (state S.Store conn) (tables_of h)
+        ensures known { (h : History) → IsLawfulHistory h → Shows (state S.Store conn) (tables_of h)
             → IfErr result (λ refusal. HasCleanDisk (state S.Store refusal.1) → refusal.0 ≢ StoreFault.NotAnOffice) }
         ensures same { (state S.Store conn).now ≡ (state S.Store conn).committed
             → IfErr result (λ refusal. HasCleanDisk (state S.Store refusal.1) → IsAsItWas (state S.Store conn) (state S.Store refusal.1)) }

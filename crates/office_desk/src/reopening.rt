@@ -11,7 +11,7 @@ ghost use Rattle.sqlite.specs.State.{HasCleanDisk};
 ghost use Rattle.office_store.specs.Reopening.{HoldsOffice};
 ghost use Rattle.office_store.specs.Shown.{IsIdle};
 ghost use Rattle.office_policy.specs.History.{History};
-ghost use Rattle.office_policy.specs.Lawful.{IsLawful};
+ghost use Rattle.office_policy.specs.Lawful.{IsLawfulHistory};
 ghost use Rattle.office_policy.specs.TablesOf.{tables_of};
 ghost use Rattle.office_desk.specs.Offices.{IsOffice};
 
@@ -21,7 +21,7 @@ use sqlite_disk::Disk;
 /// A connection that has opened files with the tables of a history is an office of that history. `Connection::open_from`
 /// ensures the premises on it. `Office::over` then takes it.
 pub fn opened_files_of_a_history_are_its_office<D: Disk + Drop>(opened: &Connection<FileStore<D>>)
-    ensures { (h : History) (image : Image) → IsLawful h → HoldsOffice image (tables_of h) → FindsIn image (file_state opened.now)
+    ensures { (h : History) (image : Image) → IsLawfulHistory h → HoldsOffice image (tables_of h) → FindsIn image (file_state opened.now)
         → IsOpened opened.now → IsIdle (file_state opened.now)
         → IsOffice h (file_state opened.now) }
 {}

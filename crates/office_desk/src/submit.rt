@@ -114,6 +114,6 @@ pub(crate) fn submit<S: Alter>(
     decide_submit(&submit_facts(caller, &name.team, false, same_as_open, number_of(&last)))?;
     let digest = digest(text.as_str().as_bytes());
     let author = caller.name.clone()?;
-    let revision = add_revision(alloc, conn, name, author, text, digest)?;
+    let revision = add_revision(conn, name, author, text, digest)?;
     Ok(Reply::Submitted { digest, revision })
 }

@@ -15,7 +15,7 @@ use Rattle.office_policy.specs.History.{founded, enrolled, submitted, voted, iss
 use Rattle.office_policy.specs.Users.{user_of}
 use Rattle.office_policy.specs.Revisions.{Submission, issues, withdraws, is_replaced, revision_count, submission_of, revision_of, state_in}
 use Rattle.office_policy.specs.Votes.{kept_vote, vote_of, kept_vote_of}
-use Rattle.office_policy.specs.Lawful.{IsLawful}
+use Rattle.office_policy.specs.Lawful.{IsLawfulHistory}
 use Rattle.office_policy.specs.TablesOf.{tables_of}
 use Rattle.office_policy.proofs.UserFacts.{same_bytes}
 use Rattle.office_policy.proofs.StateFacts.{both, state_by, new_row, revision_submitted}
@@ -94,6 +94,6 @@ pub issued_tables : (h : History) (c : List ℕ) (p : ProfileName) (n : ℕ) →
     → with_issued p n (tables_of h) ≡ tables_of (issued c p n ∷ h)
 issued_tables h c p n still_open = λ i. with_rows h (λ q k. issued_rows h c p n still_open q k i)
 
-pub submitted_tables : (h : History) → IsLawful h → (c : List ℕ) (p : ProfileName) (text : List ℕ)
+pub submitted_tables : (h : History) → IsLawfulHistory h → (c : List ℕ) (p : ProfileName) (text : List ℕ)
     → with_revision p (new_row h p c text) (tables_of h) ≡ tables_of (submitted c p text ∷ h)
 submitted_tables h lawful c p text = λ i. with_rows h (λ q k. sym (revision_submitted h lawful c p text q k) i)

@@ -11,7 +11,7 @@ use Rattle.office_store.specs.Reads.{HasRevision}
 use Rattle.office_policy.specs.History.{submitted, History}
 use Rattle.office_policy.specs.Users.{user_showing}
 use Rattle.office_policy.specs.Revisions.{Submission, submission_of, revision_count, is_author}
-use Rattle.office_policy.specs.Lawful.{IsLawful}
+use Rattle.office_policy.specs.Lawful.{IsLawfulHistory}
 use Rattle.office_policy.specs.TablesOf.{tables_of}
 use Rattle.office_policy.proofs.UserFacts.{same_bytes, bytes_same, showing_one, showing_none}
 use Rattle.office_policy.proofs.RevisionFacts.{some_within}
@@ -21,7 +21,7 @@ use Rattle.office_policy.proofs.Histories.{numbers, submissions_kept}
 
 -- ---- users
 
-pub shower_is : (h : History) → IsLawful h → (digest : List ℕ) (user : Option UserRow) → IsUserShowing (tables_of h) digest user → user ≡ user_showing h digest
+pub shower_is : (h : History) → IsLawfulHistory h → (digest : List ℕ) (user : Option UserRow) → IsUserShowing (tables_of h) digest user → user ≡ user_showing h digest
 shower_is h lawful digest None none = sym (showing_none h digest none)
 shower_is h lawful digest (Some u) is = sym (showing_one h (lawful_apart h lawful) digest u is.0 is.1)
 

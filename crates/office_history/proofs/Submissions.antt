@@ -10,7 +10,7 @@ use Rattle.office_tables.specs.Reads.{IsLast, next_number}
 use Rattle.office_store.specs.Reads.{IsNextNumber, Submits, submitted as submission}
 use Rattle.office_policy.specs.History.{submitted, History}
 use Rattle.office_policy.specs.Revisions.{Submission, submission_of, revision_of, revision_count, last_revision, number_of}
-use Rattle.office_policy.specs.Lawful.{IsLawful}
+use Rattle.office_policy.specs.Lawful.{IsLawfulHistory}
 use Rattle.office_policy.specs.TablesOf.{tables_of}
 use Rattle.office_policy.proofs.RevisionFacts.{none_above, none_last, number_is, last_is}
 use Rattle.office_policy.proofs.StateFacts.{row_at}
@@ -63,12 +63,12 @@ module _ (h : History) (p : ProfileName) where
   next_is n (last, is, number) = number ∙ number_after last is
 
 -- a submission makes of the tables of a history those with its event
-pub submits : (h : History) → IsLawful h → (c : List ℕ) (p : ProfileName) (text : List ℕ)
+pub submits : (h : History) → IsLawfulHistory h → (c : List ℕ) (p : ProfileName) (text : List ℕ)
     → Submits p c text (digest_of text) (tables_of h) (tables_of (submitted c p text ∷ h))
 submits h lawful c p text = (suc (revision_count h p), next_stands h p, sym (submitted_tables h lawful c p text))
 
 -- and no others
-pub submits_is : (h : History) → IsLawful h → (c : List ℕ) (p : ProfileName) (text : List ℕ) (u : Tables)
+pub submits_is : (h : History) → IsLawfulHistory h → (c : List ℕ) (p : ProfileName) (text : List ℕ) (u : Tables)
     → Submits p c text (digest_of text) (tables_of h) u → u ≡ tables_of (submitted c p text ∷ h)
 submits_is h lawful c p text u (n, next, is) =
     is ∙ ap (λ k. with_revision p (submission k c text (digest_of text)) (tables_of h)) (next_is h p n next) ∙ submitted_tables h lawful c p text

@@ -14,7 +14,7 @@ ghost use Rattle.office_policy.specs.History.{History, founded, enrolled, submit
 ghost use Rattle.office_policy.specs.Users.{user_of, registrar_alone};
 ghost use Rattle.office_policy.specs.Revisions.{revision_of, revision_count, state_in};
 ghost use Rattle.office_policy.specs.TablesOf.{tables_of};
-ghost use Rattle.office_policy.specs.Lawful.{IsLawful};
+ghost use Rattle.office_policy.specs.Lawful.{IsLawfulHistory};
 
 /// The tables of a new office are those of its founding: its first user, who is registrar and no more, and the listed
 /// capabilities.
@@ -33,7 +33,7 @@ pub fn an_enrolment_puts_a_user()
 
 /// A submission adds the next revision of its profile, open, and closes the one that was open.
 pub fn a_submission_adds_a_revision()
-    ensures { (h : History) → IsLawful h → (caller : List ℕ) (p : ProfileName) (text : List ℕ)
+    ensures { (h : History) → IsLawfulHistory h → (caller : List ℕ) (p : ProfileName) (text : List ℕ)
         → with_revision p (new_revision (suc (revision_count h p)) caller text (digest_of text)) (tables_of h)
         ≡ tables_of (submitted caller p text ∷ h) }
 {}
@@ -45,9 +45,9 @@ pub fn the_next_number_is_one_more()
 
 /// To submit under the next number makes the tables with the submission, and no others.
 pub fn a_submission_has_the_next_number()
-    ensures made { (h : History) → IsLawful h → (caller : List ℕ) (p : ProfileName) (text : List ℕ)
+    ensures made { (h : History) → IsLawfulHistory h → (caller : List ℕ) (p : ProfileName) (text : List ℕ)
         → Submits p caller text (digest_of text) (tables_of h) (tables_of (submitted caller p text ∷ h)) }
-    ensures alone { (h : History) → IsLawful h → (caller : List ℕ) (p : ProfileName) (text : List ℕ) (t : Tables)
+    ensures alone { (h : History) → IsLawfulHistory h → (caller : List ℕ) (p : ProfileName) (text : List ℕ) (t : Tables)
         → Submits p caller text (digest_of text) (tables_of h) t → t ≡ tables_of (submitted caller p text ∷ h) }
 {}
 

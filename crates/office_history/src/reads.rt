@@ -12,11 +12,11 @@ ghost use Rattle.office_policy.specs.History.{History};
 ghost use Rattle.office_policy.specs.Users.{user_showing};
 ghost use Rattle.office_policy.specs.Revisions.{last_revision, number_of, revision_count, is_author};
 ghost use Rattle.office_policy.specs.TablesOf.{tables_of};
-ghost use Rattle.office_policy.specs.Lawful.{IsLawful};
+ghost use Rattle.office_policy.specs.Lawful.{IsLawfulHistory};
 
 /// The user who shows a digest is the one that looking back finds, and where looking back finds none there is none.
 pub fn one_user_shows_a_digest()
-    ensures { (h : History) → IsLawful h → (digest : List ℕ) (user : Option UserRow)
+    ensures { (h : History) → IsLawfulHistory h → (digest : List ℕ) (user : Option UserRow)
         → IsUserShowing (tables_of h) digest user → user ≡ user_showing h digest }
 {}
 

@@ -12,7 +12,7 @@ use Rattle.office_tables.specs.Tables.{is_profile}
 use Rattle.office_policy.specs.History.{Event, founded, enrolled, submitted, voted, issued, withdrawn, adopted, held, released, History}
 use Rattle.office_policy.specs.Revisions.{Submission, submits, submission_of, revision_of, revision_count, is_submission_by, is_author, state_in}
 use Rattle.office_policy.specs.Votes.{CastVote, vote_of}
-use Rattle.office_policy.specs.Lawful.{IsLawful}
+use Rattle.office_policy.specs.Lawful.{IsLawfulHistory}
 use Rattle.office_policy.proofs.UserFacts.{same_bytes}
 use Rattle.office_policy.proofs.RevisionFacts.{count_more, standing_within}
 use Rattle.office_policy.proofs.StateFacts.{both, same_profile}
@@ -86,7 +86,7 @@ voted_more h (adopted c q k) is p n name v at before = let b = before at in reco
 voted_more h (held c q) is p n name v at before = let b = before at in record { within = b.within; on_last = λ last. cast_before h (held c q) p n name v refl (b.on_last last) }
 voted_more h (released c q) is p n name v at before = let b = before at in record { within = b.within; on_last = λ last. cast_before h (released c q) p n name v refl (b.on_last last) }
 
-pub voted_on : (h : History) → IsLawful h → (p : ProfileName) (n : ℕ) (name : List ℕ) (v : CastVote) → vote_of h p n name ≡ Some v → IsVoted h p n name v
+pub voted_on : (h : History) → IsLawfulHistory h → (p : ProfileName) (n : ℕ) (name : List ℕ) (v : CastVote) → vote_of h p n name ≡ Some v → IsVoted h p n name v
 voted_on [] lawful p n name v at = absurd lawful
 voted_on (founded x t d l ∷ []) lawful p n name v at = absurd (cc)
 voted_on (_ ∷ []) lawful p n name v at = absurd lawful

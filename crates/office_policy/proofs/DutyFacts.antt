@@ -34,7 +34,7 @@ use Rattle.office_policy.specs.Documents.{document_of}
 use Rattle.office_policy.specs.Baseline.{baseline_of, listed_of}
 use Rattle.office_policy.specs.Need.{need_against, need_of_row, need_at}
 use Rattle.office_policy.specs.Facts.{has_digest}
-use Rattle.office_policy.specs.Lawful.{IsLawful}
+use Rattle.office_policy.specs.Lawful.{IsLawfulHistory}
 use Rattle.office_policy.specs.Duty.{AreOthers, NamesTheText, AreOfTheText, AreEnough, LacksTwo, IsPlain, IsPlainRevision}
 use Rattle.office_policy.proofs.VoterFacts.{once_ordered, voters_ordered}
 use Rattle.office_policy.proofs.UserFacts.{same_bytes}
@@ -48,10 +48,10 @@ use Rattle.office_policy.proofs.TextFacts.{reads_back, known_caps}
 
 -- what an issue follows, on the lawful history before it
 pub record IsIssue (h : History) (issuer : List ℕ) (p : ProfileName) (n : ℕ) : Type 0 where
-  pub lawful : IsLawful h
+  pub lawful : IsLawfulHistory h
   pub allowed : IssueAllowed h issuer p n
 
-pub issue_of : (h : History) (issuer : List ℕ) (p : ProfileName) (n : ℕ) → IsLawful (issued issuer p n ∷ h) → IsIssue h issuer p n
+pub issue_of : (h : History) (issuer : List ℕ) (p : ProfileName) (n : ℕ) → IsLawfulHistory (issued issuer p n ∷ h) → IsIssue h issuer p n
 issue_of [] issuer p n lawful = absurd lawful
 issue_of (f ∷ h) issuer p n lawful = record { lawful = lawful.1; allowed = allowed_follows (f ∷ h) (issued issuer p n) lawful.0 }
 
@@ -142,10 +142,10 @@ approval_of h p n name is =
         record { vote = v; stands = at; approves = parts.1; reviewer = parts.0 }
 
 -- the vote of an approval of the last revision, as it was cast
-cast_of : (h : History) (p : ProfileName) (n : ℕ) (name : List ℕ) (v : CastVote) → IsLawful h → is_open (state_in (revision_of h p n)) ≡ true → vote_of h p n name ≡ Some v → IsCastOn h p n name v
+cast_of : (h : History) (p : ProfileName) (n : ℕ) (name : List ℕ) (v : CastVote) → IsLawfulHistory h → is_open (state_in (revision_of h p n)) ≡ true → vote_of h p n name ≡ Some v → IsCastOn h p n name v
 cast_of h p n name v lawful opened at = (voted_on h lawful p n name v at).on_last (open_submission h p n opened).last
 
-pub by_others : (h : History) (issuer : List ℕ) (p : ProfileName) (n : ℕ) → IsLawful (issued issuer p n ∷ h) → AreOthers h issuer p n
+pub by_others : (h : History) (issuer : List ℕ) (p : ProfileName) (n : ℕ) → IsLawfulHistory (issued issuer p n ∷ h) → AreOthers h issuer p n
 by_others h issuer p n lawful =
     let is = issue_of h issuer p n lawful in
     record {
@@ -164,7 +164,7 @@ named_text : (h : History) (p : ProfileName) (n : ℕ) (s : Submission) (digest 
 named_text h p n s digest at named =
     sym (same_bytes (digest_of s.text) digest (subst (λ o. has_digest (option_map (row_of h p n) o) digest ≡ true) at named))
 
-pub of_the_text : (h : History) (issuer : List ℕ) (p : ProfileName) (n : ℕ) → IsLawful (issued issuer p n ∷ h) → AreOfTheText h p n
+pub of_the_text : (h : History) (issuer : List ℕ) (p : ProfileName) (n : ℕ) → IsLawfulHistory (issued issuer p n ∷ h) → AreOfTheText h p n
 of_the_text h issuer p n lawful =
     let is = issue_of h issuer p n lawful in
     let last = open_submission h p n is.allowed.still_open in
@@ -191,7 +191,7 @@ of_the_text h issuer p n lawful =
 
 -- ---- the need
 
-pub enough : (h : History) (issuer : List ℕ) (p : ProfileName) (n : ℕ) → IsLawful (issued issuer p n ∷ h) → AreEnough h p n
+pub enough : (h : History) (issuer : List ℕ) (p : ProfileName) (n : ℕ) → IsLawfulHistory (issued issuer p n ∷ h) → AreEnough h p n
 enough h issuer p n lawful =
     let is = issue_of h issuer p n lawful in
     record {
@@ -249,7 +249,7 @@ need_one h p n enough lacks = by_need (need_at h p n) refl lacks
         absurd (omega arith)
     by_need TwoWithSecurity is (inr none) = let some = enough.secured is in absurd (omega arith)
 
-pub plain : (h : History) (issuer : List ℕ) (p : ProfileName) (n : ℕ) → IsLawful (issued issuer p n ∷ h) → LacksTwo h p n → IsPlainRevision h p n
+pub plain : (h : History) (issuer : List ℕ) (p : ProfileName) (n : ℕ) → IsLawfulHistory (issued issuer p n ∷ h) → LacksTwo h p n → IsPlainRevision h p n
 plain h issuer p n lawful lacks =
     let is = issue_of h issuer p n lawful in
     let last = open_submission h p n is.allowed.still_open in

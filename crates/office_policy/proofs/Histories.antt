@@ -12,7 +12,7 @@ use Rattle.office_policy.specs.History.{Event, founded, enrolled, submitted, iss
 use Rattle.office_policy.specs.Users.{user_of}
 use Rattle.office_policy.specs.Revisions.{Submission, issues, withdraws, is_replaced, revision_count, submission_of, revision_of, state_in, last_issue}
 use Rattle.office_policy.specs.Facts.{is_elsewhere}
-use Rattle.office_policy.specs.Lawful.{IsLawful}
+use Rattle.office_policy.specs.Lawful.{IsLawfulHistory}
 use Rattle.office_policy.specs.Laws.{KeepsTeams, KeepsSubmissions, NumbersRun, OpenIsLast, OneIssued}
 use Rattle.office_policy.proofs.UserFacts.{same_bytes}
 use Rattle.office_policy.proofs.RevisionFacts.{some_within, within_last}
@@ -39,7 +39,7 @@ teams_more h (enrolled c n t r d) is name u v before after =
     ] refl after
 teams_more h _ is name u v before after = let row : v ≡ u = cc in ap (λ x. x.team) row
 
-pub teams_kept : (h : History) (e : Event) → IsLawful (e ∷ h) → KeepsTeams h e
+pub teams_kept : (h : History) (e : Event) → IsLawfulHistory (e ∷ h) → KeepsTeams h e
 teams_kept [] e lawful name u v before after = absurd (cc)
 teams_kept (f ∷ h) e lawful name u v before after = teams_more (f ∷ h) e (allowed_follows (f ∷ h) e lawful.0) name u v before after
 

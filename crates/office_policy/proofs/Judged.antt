@@ -25,7 +25,7 @@ use Rattle.office_policy.specs.Need.{need_at}
 use Rattle.office_policy.specs.Sheets.{sheet_of}
 use Rattle.review_sheet.specs.Sheet.{sheet_text}
 use Rattle.office_policy.specs.Facts.{submit_facts, issue_facts, read_facts, fetch_facts}
-use Rattle.office_policy.specs.Verdict.{Verdict, accepted, denied, unreached, of_revision, new_revision, verdict_of, judged, rules_of, done_of, fault_of}
+use Rattle.office_policy.specs.Verdict.{Verdict, accepted, denied, unreached, of_revision, new_revision, verdict_of, judged, rules_of, done_of, fault_beside}
 use Rattle.office_policy.specs.Laws.{IsJudged}
 use Rattle.office_policy.proofs.RuleFacts.{none_refuses}
 
@@ -88,7 +88,7 @@ verdict_told : (h : History) (caller : Option UserRow) (a : Ask) → verdict_of 
 verdict_told h caller a =
     elim (first_denial (rules_of h caller a)) as (λ r. first_denial (rules_of h caller a) ≡ r → judged h caller a r ≢ unreached) [
       | Ok u ↦ λ none. allowed_done h caller a none
-      | Err d ↦ λ first. refused_told d (fault_of h a d.rule) (numbered 1 (rules_of h caller a) d first)
+      | Err d ↦ λ first. refused_told d (fault_beside h a d.rule) (numbered 1 (rules_of h caller a) d first)
     ] refl
 
 pub all_judged : (h : History) (request : Request) → IsJudged h request

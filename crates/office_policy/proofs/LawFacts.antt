@@ -27,7 +27,7 @@ use Rattle.office_policy.specs.Need.{need_at}
 use Rattle.office_policy.specs.Sheets.{sheet_of}
 use Rattle.office_policy.specs.Facts.{is_elsewhere, is_another, has_digest, enrol_facts, submit_facts, vote_facts, issue_facts, withdraw_facts, adopt_facts}
 use Rattle.office_policy.specs.Verdict.{Verdict, accepted, denied, unreached, of_revision, new_revision, verdict_of, judged, rules_of, done_of}
-use Rattle.office_policy.specs.Lawful.{IsLawful, IsAllowed}
+use Rattle.office_policy.specs.Lawful.{IsLawfulHistory, IsAllowed}
 use Rattle.office_policy.specs.Laws.{AreApart}
 use Rattle.office_policy.proofs.RuleFacts.{none_refuses}
 use Rattle.office_policy.proofs.UserFacts.{same_bytes, user_named, showing_one, showing_is}
@@ -181,7 +181,7 @@ allowed_follows h e is =
     subst (FollowsIn h) is.allowed (verdict_of_follows h (user_showing h token) (known_caller h token) is.request.ask)
 
 -- a lawful history goes on lawfully by an allowed event
-pub lawful_more : (h : History) (e : Event) → IsLawful h → IsAllowed h e → IsLawful (e ∷ h)
+pub lawful_more : (h : History) (e : Event) → IsLawfulHistory h → IsAllowed h e → IsLawfulHistory (e ∷ h)
 lawful_more [] e lawful is = absurd lawful
 lawful_more (f ∷ h) e lawful is = (is, lawful)
 
@@ -227,7 +227,7 @@ apart_more h (enrolled c n t r d) is apart = apart_enrolled h apart c n t r d is
 apart_more h _ is apart = apart
 
 -- no two users of a lawful history show one digest
-pub lawful_apart : (h : History) → IsLawful h → AreApart h
+pub lawful_apart : (h : History) → IsLawfulHistory h → AreApart h
 lawful_apart [] lawful = absurd lawful
 lawful_apart (founded n t d l ∷ []) lawful = apart_founded n t d l
 lawful_apart (_ ∷ []) lawful = absurd lawful

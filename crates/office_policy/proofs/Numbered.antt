@@ -27,7 +27,7 @@ use Rattle.office_policy.specs.Sheets.{sheet_of}
 use Rattle.office_policy.specs.Facts.{vote_facts, issue_facts, withdraw_facts, adopt_facts}
 use Rattle.office_policy.specs.Verdict.{Verdict, accepted, denied, unreached, of_revision, new_revision, verdict_of, verdict, judged, rules_of, done_of}
 use Rattle.office_policy.specs.Formed.{IsNumber, HasNumber}
-use Rattle.office_policy.specs.Lawful.{IsLawful}
+use Rattle.office_policy.specs.Lawful.{IsLawfulHistory}
 use Rattle.office_policy.proofs.RuleFacts.{none_refuses}
 use Rattle.office_policy.proofs.RevisionFacts.{count_more}
 use Rattle.office_policy.proofs.StateFacts.{same_profile}
@@ -49,7 +49,7 @@ count_after h (submitted c q t) is p most =
 count_after h _ is p most = most
 
 -- no profile of a lawful history has more revisions than there are numbers
-pub count_limited : (h : History) → IsLawful h → (p : ProfileName) → revision_count h p ≤ max_revisions
+pub count_limited : (h : History) → IsLawfulHistory h → (p : ProfileName) → revision_count h p ≤ max_revisions
 count_limited [] lawful p = absurd lawful
 count_limited (founded n t d l ∷ []) lawful p = omega arith
 count_limited (_ ∷ []) lawful p = absurd lawful
@@ -60,7 +60,7 @@ some_row None row there = absurd (cc)
 some_row (Some s) row there = refl
 
 -- a revision that is there has a number of its form
-pub number_there : (h : History) → IsLawful h → (p : ProfileName) (n : ℕ) → is_none (state_in (revision_of h p n)) ≡ false → IsNumber n
+pub number_there : (h : History) → IsLawfulHistory h → (p : ProfileName) (n : ℕ) → is_none (state_in (revision_of h p n)) ≡ false → IsNumber n
 number_there h lawful p n there =
     let within = (numbers h p n).0 (some_row (submission_of h p n) _ there) in
     let limit = count_limited h lawful p in
@@ -76,7 +76,7 @@ new_numbered : (h : History) (caller : Option UserRow) (p : ProfileName) (a : As
 new_numbered h caller p a (Ok profile) any = any
 new_numbered h caller p a (Err f) any = tt
 
-done_numbered : (h : History) → IsLawful h → (caller : Option UserRow) (a : Ask) → first_denial (rules_of h caller a) ≡ Ok tt → NumberedIn a (done_of h caller a)
+done_numbered : (h : History) → IsLawfulHistory h → (caller : Option UserRow) (a : Ask) → first_denial (rules_of h caller a) ≡ Ok tt → NumberedIn a (done_of h caller a)
 done_numbered h lawful caller (ask.Enrol user team roles digest) e = tt
 done_numbered h lawful caller (ask.Submit p document) e = new_numbered h caller p (ask.Submit p document) (reading_of document.items) tt
 done_numbered h lawful caller (ask.Vote p n digest approve) e =
@@ -95,7 +95,7 @@ done_numbered h lawful caller (ask.Fetch p) e = of_revision_by (NumberedIn (ask.
 done_numbered h lawful caller (ask.Hold p) e = tt
 done_numbered h lawful caller (ask.Release p) e = tt
 
-verdict_numbered : (h : History) → IsLawful h → (caller : Option UserRow) (a : Ask) → NumberedIn a (verdict_of h caller a)
+verdict_numbered : (h : History) → IsLawfulHistory h → (caller : Option UserRow) (a : Ask) → NumberedIn a (verdict_of h caller a)
 verdict_numbered h lawful caller a =
     elim (first_denial (rules_of h caller a)) as (λ r. first_denial (rules_of h caller a) ≡ r → NumberedIn a (judged h caller a r)) [
       | Ok u ↦ λ e. done_numbered h lawful caller a e
@@ -103,5 +103,5 @@ verdict_numbered h lawful caller a =
     ] refl
 
 -- a request that is an event asks for a number of its form
-pub numbered : (h : History) → IsLawful h → (r : Request) (reply : Reply) (e : Event) → verdict h r ≡ accepted reply (Some e) → HasNumber r.ask
+pub numbered : (h : History) → IsLawfulHistory h → (r : Request) (reply : Reply) (e : Event) → verdict h r ≡ accepted reply (Some e) → HasNumber r.ask
 numbered h lawful r reply e is = subst (NumberedIn r.ask) is (verdict_numbered h lawful (user_showing h (digest_of r.token)) r.ask)

@@ -12,7 +12,7 @@ use Rattle.office_tables.specs.Tables.{is_profile}
 use Rattle.office_tables.specs.Changes.{after_submission}
 use Rattle.office_policy.specs.History.{Event, founded, enrolled, submitted, voted, issued, withdrawn, adopted, held, released, History}
 use Rattle.office_policy.specs.Revisions.{Submission, submits, issues, withdraws, is_replaced, revision_count, submission_of, revision_of}
-use Rattle.office_policy.specs.Lawful.{IsLawful}
+use Rattle.office_policy.specs.Lawful.{IsLawfulHistory}
 use Rattle.office_policy.proofs.UserFacts.{same_bytes, bytes_same}
 use Rattle.office_policy.proofs.RevisionFacts.{count_more, within_last, standing_within}
 use Rattle.office_policy.proofs.LawFacts.{Follows, allowed_follows}
@@ -66,7 +66,7 @@ unnamed_more h (held c q) is p n above before = let u = before above in record {
 unnamed_more h (released c q) is p n above before = let u = before above in record { issues = u.issues; withdrawals = u.withdrawals }
 
 -- no issue and no withdrawal names a revision above the last
-pub unnamed_above : (h : History) → IsLawful h → (p : ProfileName) (n : ℕ) → revision_count h p < n → IsUnnamed h p n
+pub unnamed_above : (h : History) → IsLawfulHistory h → (p : ProfileName) (n : ℕ) → revision_count h p < n → IsUnnamed h p n
 unnamed_above [] lawful p n above = absurd lawful
 unnamed_above (founded x t d l ∷ []) lawful p n above = record { issues = refl; withdrawals = refl }
 unnamed_above (_ ∷ []) lawful p n above = absurd lawful
@@ -121,7 +121,7 @@ closed_earlier h p n (Some s) is =
     there none = cc
 
 -- the submission's own profile has the new row, and its others are closed
-same_submitted : (h : History) → IsLawful h → (c : List ℕ) (p : ProfileName) (t : List ℕ) (n : ℕ)
+same_submitted : (h : History) → IsLawfulHistory h → (c : List ℕ) (p : ProfileName) (t : List ℕ) (n : ℕ)
     → option_map (row_at h p n (suc (revision_count h p))) (cond (n == suc (revision_count h p)) (Some (record { author = c; text = t })) (submission_of h p n))
     ≡ cond (n == suc (revision_count h p)) (Some (new_row h p c t)) (option_map after_submission (revision_of h p n))
 same_submitted h lawful c p t n =
@@ -138,7 +138,7 @@ same_submitted h lawful c p t n =
         ∙ ap Some (open_last h p (suc (revision_count h p)) (unnamed_above h lawful p (suc (revision_count h p)) (omega arith)) c t)
 
 -- the revisions after a submission
-pub revision_submitted : (h : History) → IsLawful h → (c : List ℕ) (p : ProfileName) (t : List ℕ) (q : ProfileName) (n : ℕ)
+pub revision_submitted : (h : History) → IsLawfulHistory h → (c : List ℕ) (p : ProfileName) (t : List ℕ) (q : ProfileName) (n : ℕ)
     → revision_of (submitted c p t ∷ h) q n ≡ cond (is_profile q p) (cond (n == suc (revision_count h p)) (Some (new_row h p c t)) (option_map after_submission (revision_of h q n))) (revision_of h q n)
 revision_submitted h lawful c p t q n =
     elim (is_profile q p) as (λ b. is_profile q p ≡ b →

@@ -16,7 +16,7 @@ use Rattle.office_tables.specs.Tables.{is_profile}
 use Rattle.office_policy.specs.History.{Event, founded, submitted, History}
 use Rattle.office_policy.specs.Revisions.{Submission, submission_of, revision_count}
 use Rattle.office_policy.specs.Documents.{document_of, read_or_closed}
-use Rattle.office_policy.specs.Lawful.{IsLawful}
+use Rattle.office_policy.specs.Lawful.{IsLawfulHistory}
 use Rattle.office_policy.specs.Duty.{ReadsBack}
 use Rattle.office_policy.proofs.LawFacts.{Follows, allowed_follows}
 
@@ -38,7 +38,7 @@ back_more h (submitted c q t) is before p n s at =
     ] at
 back_more h _ is before p n s at = before p n s at
 
-pub reads_back : (h : History) → IsLawful h → ReadsBack h
+pub reads_back : (h : History) → IsLawfulHistory h → ReadsBack h
 reads_back [] lawful p n s at = absurd lawful
 reads_back (founded x t d l ∷ []) lawful p n s at = absurd (cc)
 reads_back (_ ∷ []) lawful p n s at = absurd lawful

@@ -19,7 +19,7 @@ pub record IsAllowed (before : History) (e : Event) : Type 0 where
   pub allowed : verdict before request ≡ accepted reply (Some e)
 
 -- the first event is a founding, and each later one is that of an allowed request
-abbrev pub IsLawful : History → Type 0
-IsLawful [] = ⊥
-IsLawful (e ∷ []) = IsFounding e
-IsLawful (e ∷ f ∷ before) = IsAllowed (f ∷ before) e × IsLawful (f ∷ before)
+abbrev pub IsLawfulHistory : History → Type 0
+IsLawfulHistory [] = ⊥
+IsLawfulHistory (e ∷ []) = IsFounding e
+IsLawfulHistory (e ∷ f ∷ before) = IsAllowed (f ∷ before) e × IsLawfulHistory (f ∷ before)

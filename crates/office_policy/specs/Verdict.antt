@@ -91,14 +91,14 @@ module _ (h : History) where
   done_of caller (ask.Release p) = accepted reply.Released (Some (released (name_of caller) p))
 
   -- what is told of a refusal besides its rule: why a document doesn't read
-  abbrev pub fault_of : Ask → Rule → Option (List ℕ)
-  fault_of (ask.Submit p document) rule = fault_told rule (reading_of document.items)
-  fault_of _ rule = None
+  abbrev pub fault_beside : Ask → Rule → Option (List ℕ)
+  fault_beside (ask.Submit p document) rule = fault_told rule (reading_of document.items)
+  fault_beside _ rule = None
 
   -- the first rule that refuses, else what is done
   abbrev pub judged : Option UserRow → Ask → Result ⊤ Denial → Verdict
   judged caller a (Ok u) = done_of caller a
-  judged caller a (Err d) = denied d (fault_of a d.rule)
+  judged caller a (Err d) = denied d (fault_beside a d.rule)
 
   abbrev pub verdict_of : Option UserRow → Ask → Verdict
   verdict_of caller a = judged caller a (first_denial (rules_of caller a))

@@ -12,7 +12,7 @@ ghost use Rattle.office_policy.specs.History.{Event, History, issued};
 ghost use Rattle.office_policy.specs.Revisions.{state_of};
 ghost use Rattle.office_policy.specs.Holds.{is_held};
 ghost use Rattle.office_policy.specs.Verdict.{verdict, accepted};
-ghost use Rattle.office_policy.specs.Lawful.{IsLawful};
+ghost use Rattle.office_policy.specs.Lawful.{IsLawfulHistory};
 ghost use Rattle.office_policy.specs.Teams.{concerns, team_of};
 ghost use Rattle.office_policy.specs.Duty.{AreOthers, AreOfTheText, AreEnough, LacksTwo, IsPlainRevision, IsTextOf, IsDigestOf, IsFetched, ReadsBack};
 
@@ -44,26 +44,26 @@ pub fn nothing_is_given_out_while_it_is_held()
 
 /// Each text of a lawful history reads back as the document whose canonical text it is.
 pub fn texts_read_back()
-    ensures { (h : History) → IsLawful h → ReadsBack h }
+    ensures { (h : History) → IsLawfulHistory h → ReadsBack h }
 {}
 
 /// Each approval of an issued revision named the digest of exactly the issued text, after its submission, and nothing of the
 /// profile was submitted since.
 pub fn approvals_are_of_the_issued_text()
-    ensures { (h : History) (issuer : List ℕ) (p : ProfileName) (n : ℕ) → IsLawful (issued issuer p n ∷ h) → AreOfTheText h p n }
+    ensures { (h : History) (issuer : List ℕ) (p : ProfileName) (n : ℕ) → IsLawfulHistory (issued issuer p n ∷ h) → AreOfTheText h p n }
 {}
 
 /// The approvals of an issued revision are of distinct names, each a reviewer at the vote and at the issue, none an author of
 /// the profile. The issuer is no author of it either.
 pub fn approvals_are_by_others()
-    ensures { (h : History) (issuer : List ℕ) (p : ProfileName) (n : ℕ) → IsLawful (issued issuer p n ∷ h) → AreOthers h issuer p n }
+    ensures { (h : History) (issuer : List ℕ) (p : ProfileName) (n : ℕ) → IsLawfulHistory (issued issuer p n ∷ h) → AreOthers h issuer p n }
 {}
 
 /// An issued revision has the approvals that its need asks for at the issue. Where it has fewer than two, or none with
 /// security, it holds no listed capability and permits no more than the baseline.
 pub fn issues_have_the_approvals_that_they_need()
-    ensures enough { (h : History) (issuer : List ℕ) (p : ProfileName) (n : ℕ) → IsLawful (issued issuer p n ∷ h) → AreEnough h p n }
-    ensures plain { (h : History) (issuer : List ℕ) (p : ProfileName) (n : ℕ) → IsLawful (issued issuer p n ∷ h) → LacksTwo h p n → IsPlainRevision h p n }
+    ensures enough { (h : History) (issuer : List ℕ) (p : ProfileName) (n : ℕ) → IsLawfulHistory (issued issuer p n ∷ h) → AreEnough h p n }
+    ensures plain { (h : History) (issuer : List ℕ) (p : ProfileName) (n : ℕ) → IsLawfulHistory (issued issuer p n ∷ h) → LacksTwo h p n → IsPlainRevision h p n }
 {}
 
 /// A request has the same verdict on two histories that have the same events that concern the team that it names, in the same

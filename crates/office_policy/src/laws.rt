@@ -14,17 +14,17 @@ ghost use Rattle.office_policy.specs.Votes.{tally_at};
 ghost use Rattle.office_policy.specs.Need.{need_at};
 ghost use Rattle.office_policy.specs.Sheets.{sheet_of};
 ghost use Rattle.office_policy.specs.TablesOf.{tables_of};
-ghost use Rattle.office_policy.specs.Lawful.{IsLawful};
+ghost use Rattle.office_policy.specs.Lawful.{IsLawfulHistory};
 ghost use Rattle.office_policy.specs.Laws.{AreApart, KeepsTeams, KeepsSubmissions, NumbersRun, OpenIsLast, OneIssued, IsJudged, ListsInOrder, ListsAll};
 
 /// No two users show one digest.
 pub fn digests_are_apart()
-    ensures { (h : History) → IsLawful h → AreApart h }
+    ensures { (h : History) → IsLawfulHistory h → AreApart h }
 {}
 
 /// A user's team never changes.
 pub fn teams_are_kept()
-    ensures { (h : History) (e : Event) → IsLawful (e ∷ h) → KeepsTeams h e }
+    ensures { (h : History) (e : Event) → IsLawfulHistory (e ∷ h) → KeepsTeams h e }
 {}
 
 /// A revision's author and text never change.
@@ -64,7 +64,7 @@ pub fn each_profile_is_listed()
 
 /// No profile has more revisions than there are numbers, 9,999.
 pub fn numbers_are_limited()
-    ensures { (h : History) (p : ProfileName) → IsLawful h → revision_count h p ≤ max_revisions }
+    ensures { (h : History) (p : ProfileName) → IsLawfulHistory h → revision_count h p ≤ max_revisions }
 {}
 
 /// The counts of a revision's votes, by the tables that a history leaves, are those of looking back.

@@ -22,7 +22,7 @@ use Rattle.sqlite_resolve.specs.Scope.{Name}
 use Rattle.sqlite_resolve.specs.Compile.{compiled, first, planned, meaning, returning, with_command, timed}
 use Rattle.office_tables.specs.declared.fault.StoreFault.{StoreFault}
 use Rattle.office_tables.specs.declared.fault.StoreFault.TheVariants.{NotAnOffice}
-use Rattle.office_rows.specs.Faults.{fault_of, FindsRow}
+use Rattle.office_rows.specs.Faults.{fault_of_error, FindsRow}
 use Rattle.office_rows.specs.Rows.{IsFaultOf}
 use Rattle.office_rows.specs.Queries.{IsQuery, IsAsItWas, IsAsked}
 use Rattle.office_rows.proofs.Errors.{of_store, refused_read}
@@ -91,7 +91,7 @@ module _ (sql : List ℕ) (query : IsQuery sql) (params : Row) (old new : State)
   row_left row (inr h) = shown_left h.0 h.1
 
   -- a failure changes nothing, or undoes the transaction for a fault of the store
-  failed_left : (e : Error) → FailsToQuery sql params old new e → IsUnchanged old new ⊎ (IsRolledBack old new × (fault_of e ≢ NotAnOffice))
+  failed_left : (e : Error) → FailsToQuery sql params old new e → IsUnchanged old new ⊎ (IsRolledBack old new × (fault_of_error e ≢ NotAnOffice))
   unfolding FailsToQuery IsNotRun
   failed_left e (inl (inl h)) = inl h.1
   failed_left e (inl (inr h)) = inr (h.3, rw h.1 (of_store h.0).0)

@@ -8,23 +8,23 @@ use Rattle.sqlite.specs.State.{State, QueriesRow}
 use Rattle.office_tables.specs.declared.fault.StoreFault.{StoreFault}
 use Rattle.office_tables.specs.declared.fault.StoreFault.TheVariants.{NoMemory, Disk, Full, NotAnOffice}
 
-abbrev pub fault_of : Error → StoreFault
-fault_of (error.SqliteFailure code.OutOfMemory) = NoMemory
-fault_of (error.SqliteFailure code.DiskFull) = Full
-fault_of (error.SqliteFailure code.TooBig) = Full
-fault_of (error.SqlInputError e) = NotAnOffice
-fault_of (error.InvalidColumnIndex at) = NotAnOffice
-fault_of (error.InvalidColumnType at kind) = NotAnOffice
-fault_of (error.IntegralValueOutOfRange at) = NotAnOffice
-fault_of (error.Utf8Error at) = NotAnOffice
-fault_of _ = Disk
+abbrev pub fault_of_error : Error → StoreFault
+fault_of_error (error.SqliteFailure code.OutOfMemory) = NoMemory
+fault_of_error (error.SqliteFailure code.DiskFull) = Full
+fault_of_error (error.SqliteFailure code.TooBig) = Full
+fault_of_error (error.SqlInputError e) = NotAnOffice
+fault_of_error (error.InvalidColumnIndex at) = NotAnOffice
+fault_of_error (error.InvalidColumnType at kind) = NotAnOffice
+fault_of_error (error.IntegralValueOutOfRange at) = NotAnOffice
+fault_of_error (error.Utf8Error at) = NotAnOffice
+fault_of_error _ = Disk
 
 -- the error says nothing of the form of the tables
 abbrev pub IsOfMachine : Error → Type 0
-IsOfMachine e = (fault_of e ≢ NotAnOffice) × (e ≢ error.QueryReturnedNoRows)
+IsOfMachine e = (fault_of_error e ≢ NotAnOffice) × (e ≢ error.QueryReturnedNoRows)
 
 -- the first row of the answer, that there is none, or why there is no answer
 abbrev pub FindsRow : List ℕ → Row → State → State → Result (Option Row) StoreFault → Type 0
 FindsRow sql params old new (Ok (Some row)) = QueriesRow sql params old new (Ok row)
 FindsRow sql params old new (Ok None) = QueriesRow sql params old new (Err error.QueryReturnedNoRows)
-FindsRow sql params old new (Err f) = (e : Error) × QueriesRow sql params old new (Err e) × (f ≡ fault_of e) × (e ≢ error.QueryReturnedNoRows)
+FindsRow sql params old new (Err f) = (e : Error) × QueriesRow sql params old new (Err e) × (f ≡ fault_of_error e) × (e ≢ error.QueryReturnedNoRows)

@@ -9,7 +9,7 @@ use Rattle.sqlite.specs.Steps.{FailsToCommit}
 use Rattle.sqlite.specs.Held.{Held, state}
 use Rattle.sqlite.specs.Values.{bound}
 use Rattle.office_tables.specs.declared.fault.StoreFault.{StoreFault}
-use Rattle.office_rows.specs.Faults.{fault_of}
+use Rattle.office_rows.specs.Faults.{fault_of_error}
 use Rattle.office_rows.specs.declared.transaction.Statement.{Statement as Lent}
 
 pub record Statement : Type 0 where
@@ -40,4 +40,4 @@ module _ {S : Type 0} (g : Ghosts S) where
   pub record IsCause (statements : List Statement) (h : Held S) (f : StoreFault) : Type 0 where
     pub error : Error
     pub failed : FailedIn statements (begun h) error
-    pub fault : f ≡ fault_of error
+    pub fault : f ≡ fault_of_error error

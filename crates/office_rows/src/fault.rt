@@ -1,15 +1,15 @@
 //! The faults of a store, of the errors of `sqlite`.
 
 ghost use Rattle.std.specs.Prelude.{◌≡◌};
-ghost use Rattle.office_rows.specs.Faults.{fault_of};
+ghost use Rattle.office_rows.specs.Faults.{fault_of_error};
 
 use office_tables::StoreFault;
 use sqlite::{Error, ErrorCode};
 
 /// The fault of a store that an error of `sqlite` is. A text that isn't understood and a value of another kind are
 /// `NotAnOffice`; what is neither want of memory nor of room is `Disk`.
-pub fn fault_of(error: Error) -> StoreFault
-    ensures { result ≡ fault_of error }
+pub fn fault_of_error(error: Error) -> StoreFault
+    ensures { result ≡ fault_of_error error }
 {
     match error {
         Error::SqliteFailure(ErrorCode::OutOfMemory) => StoreFault::NoMemory,

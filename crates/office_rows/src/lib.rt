@@ -7,7 +7,7 @@ pub mod query;
 pub mod rows;
 pub mod transaction;
 
-pub use fault::fault_of;
+pub use fault::fault_of_error;
 pub use query::{first_row, is_there};
 pub use rows::all_rows;
 pub use transaction::{Statement, run_all};

@@ -7,7 +7,7 @@ ghost use Rattle.sqlite.specs.Values.{bound};
 ghost use Rattle.office_rows.specs.Faults.{FindsRow};
 ghost use Rattle.office_rows.specs.Told.{IsTold, TellsWhether};
 
-use crate::fault::fault_of;
+use crate::fault::fault_of_error;
 use office_tables::StoreFault;
 use sqlite::types::ValueRef;
 use sqlite::{Alter, Connection, Error, Row};
@@ -26,7 +26,7 @@ pub fn first_row<S: Alter>(
     match conn.query_row(sql, params) {
         Ok(row) => Ok(Some(row)),
         Err(Error::QueryReturnedNoRows) => Ok(None),
-        Err(error) => Err(fault_of(error)),
+        Err(error) => Err(fault_of_error(error)),
     }
 }
 

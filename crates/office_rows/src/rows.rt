@@ -6,7 +6,7 @@ ghost use Rattle.sqlite.specs.State.{HasCleanDisk, Survives, CommitsShowing, Sho
 ghost use Rattle.sqlite.specs.Values.{bound};
 ghost use Rattle.office_rows.specs.Rows.{IsFaultOf};
 
-use crate::fault::fault_of;
+use crate::fault::fault_of_error;
 use office_tables::StoreFault;
 use sqlite::types::ValueRef;
 use sqlite::{Alter, Connection, Row};
@@ -25,6 +25,6 @@ pub fn all_rows<S: Alter>(
 {
     match conn.query_all(sql, params) {
         Ok(rows) => Ok(rows),
-        Err(error) => Err(fault_of(error)),
+        Err(error) => Err(fault_of_error(error)),
     }
 }

@@ -11,7 +11,7 @@ use Rattle.sqlite.proofs.StateLemmas.{survives_weaker, survives_then}
 use Rattle.office_tables.specs.Tables.{Tables}
 use Rattle.office_tables.specs.declared.fault.StoreFault.{StoreFault}
 use Rattle.office_tables.specs.declared.fault.StoreFault.TheVariants.{NotAnOffice}
-use Rattle.office_rows.specs.Faults.{fault_of, FindsRow}
+use Rattle.office_rows.specs.Faults.{fault_of_error, FindsRow}
 use Rattle.office_rows.specs.Rows.{IsFaultOf}
 use Rattle.office_rows.specs.Queries.{IsQuery, IsAsItWas, IsAsked}
 use Rattle.office_rows.proofs.Queries.{first_asked, rows_asked}
@@ -242,7 +242,7 @@ module _ {S : Type 0} (g : Ghosts S) (ss : List Statement) (some : 0 < length ss
     lost = lost_of;
   }
 
-  pub write_refused : (A : Type 0) (e : Error) (f : StoreFault) → f ≡ fault_of e
+  pub write_refused : (A : Type 0) (e : Error) (f : StoreFault) → f ≡ fault_of_error e
       → (HasCleanDisk (state g new) → IsTrue (state g new).is_open → ((state g new).now ≡ (state g old).committed) × ((state g new).committed ≡ (state g old).committed))
       → (HasCleanDisk (state g new) → FailedIn g ss (begun old) e) → IsWrite {A = A} (state g old) (state g new) (Err f) (AreSteps g ss)
   write_refused A e f is none cause = record {

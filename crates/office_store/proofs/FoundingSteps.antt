@@ -36,7 +36,7 @@ use Rattle.office_store.specs.Schema.{no_schema, tables_schema, by_state, by_aut
 use Rattle.office_store.specs.Entries.{user_row, IsUser}
 use Rattle.office_store.specs.Shown.{office_row, IsOffice}
 use Rattle.office_store.specs.Steps.{statement}
-use Rattle.office_store.specs.Founding.{founding}
+use Rattle.office_store.specs.Founding.{founding, founding_office}
 use Rattle.office_store.proofs.Columns.{cast_null, cast_int}
 use Rattle.office_store.proofs.UserWrites.{insert_user, insert_step}
 
@@ -148,7 +148,7 @@ module _ {S : Type 0} (g : Ghosts S) where
   user_step : (u : UserRow) (listed : ℕ) → IsUser u → Makes g (insert_user u) (λ db. IsOffice db (no_tables listed)) (λ db. IsOffice db (founded_tables u listed))
   user_step u listed formed = let it = insert_step g u (no_tables listed) formed refl in record { ok = it.ok; err = it.err }
 
-  founds : (u : UserRow) (listed : ℕ) → listed < 2 ^ 41 → IsUser u → Leads g (founding [] (Int (pos listed) ∷ []) (user_row u)) (HasEmptyTables no_schema) (λ db. IsOffice db (founded_tables u listed))
+  founds : (u : UserRow) (listed : ℕ) → listed < 2 ^ 41 → IsUser u → Leads g (founding_office u listed) (HasEmptyTables no_schema) (λ db. IsOffice db (founded_tables u listed))
   founds u listed below formed =
       goes (created_step g CREATE_OFFICE.now (office_table 0) no_schema office_made)
       (goes (created_step g CREATE_USERS.now (users_table 0) with_office users_made)
@@ -160,6 +160,12 @@ module _ {S : Type 0} (g : Ghosts S) where
       (goes (indexed_step with_states 2 (revisions_table 4) CREATE_BY_AUTHOR.now by_author authors_made g)
       (goes (office_step listed below)
       (goes (user_step u listed formed) ends)))))))))
+
+  -- what failed, of parameters that are these
+  pub failed_given : (u : UserRow) (listed : ℕ) (h : Held S) (none office user : Row) (e : Error) → FailedIn g (founding none office user) h e → none ≡ [] → office ≡ Int (pos listed) ∷ [] → user ≡ user_row u
+      → FailedIn g (founding_office u listed) h e
+  failed_given u listed h none office user e failed is_none is_office is_user =
+      subst (λ (r : Row × Row × Row). FailedIn g (founding r.0 r.1 r.2) h e) (λ i. (is_none i, is_office i, is_user i)) failed
 
   module _ (u : UserRow) (listed : ℕ) (below : listed < 2 ^ 41) (formed : IsUser u) (h : Held S) (empty : (state g h).now.schema ≡ no_schema) where
     given : (x y z : Row) → x ≡ [] → y ≡ Int (pos listed) ∷ [] → z ≡ user_row u → Leads g (founding x y z) (HasEmptyTables no_schema) (λ db. IsOffice db (founded_tables u listed))

@@ -1,5 +1,5 @@
 -- The number of the next revision of a profile.
-use Rattle.std.proofs.Common.{inl, inr, ◌≢◌, List, subst, ◌≡◌, ◌<◌, ◌+◌, ℕ, Bool, true, false, Option, None, Some, Result, Ok, Err, IfOk, refl, sym, ap, ◌∙◌, arith}
+use Rattle.std.proofs.Common.{inl, inr, ◌≡◌, ◌<◌, ◌+◌, ℕ, Bool, true, false, Option, None, Some, Result, Ok, Err, refl, sym, ap, ◌∙◌, arith}
 use Rattle.std.specs.Prelude.{nat_lt}
 use Rattle.std.proofs.lemmas.Bool.Decides.{nat_tests}
 use Rattle.review_policy.specs.declared.ask.ProfileName.{ProfileName}
@@ -8,12 +8,10 @@ use Rattle.office_tables.specs.declared.fault.StoreFault.{StoreFault}
 use Rattle.office_tables.specs.Tables.{Tables}
 use Rattle.office_tables.specs.Reads.{IsLast, next_number}
 use Rattle.sqlite.specs.Order.{Row}
-use Rattle.sqlite.specs.State.{State}
 use Rattle.office_tables.specs.declared.fault.StoreFault.TheVariants.{NotAnOffice}
-use Rattle.office_rows.specs.Told.{IsTold, TellsOne, TellsRow}
-use Rattle.office_store.specs.Adding.{IsAfter, TellsNext}
-use Rattle.office_store.specs.Entries.{revision_columns, IsRevisionForm}
-use Rattle.office_store.specs.Reads.{IsNextNumber}
+use Rattle.office_store.specs.Adding.{IsNumber, IsAfter, TellsNext}
+use Rattle.office_store.specs.Entries.{number_row}
+use Rattle.office_store.specs.Reads.{IsLastNumberRow, IsNextNumber}
 
 neither_less : (a b : ℕ) → (a < b → ⊥) → (b < a → ⊥) → a ≡ b
 neither_less a b up down = go (nat_lt a b) (nat_lt b a) refl refl
@@ -40,36 +38,21 @@ last_free t p (Some r) it = it.1 (r.number + 1) (omega arith)
 pub next_free : (t : Tables) (p : ProfileName) (n : ℕ) → IsNextNumber t p n → t.revisions p n ≡ None
 next_free t p n it = ap (t.revisions p) it.2 ∙ last_free t p it.0 it.1
 
-pub next_is : (t : Tables) (p : ProfileName) (last : Option RevisionRow) → IsLast t p last → (r : Result ℕ StoreFault) → IfOk r (λ n. n ≡ next_number last) → IfOk r (IsNextNumber t p)
-next_is t p last it (Ok n) is = (last, it, is)
-next_is t p last it (Err f) is = is
+same_number : (m n : ℕ) → number_row m ≡ number_row n → m ≡ n
+same_number m n same = let k : m ≡ n = cc in k
 
--- what the last revision makes of the next number
-abbrev pub Follows : Result (Option RevisionRow) StoreFault → Result ℕ StoreFault → Type 0
-Follows (Err f) r = r ≡ Err f
-Follows (Ok None) r = r ≡ Ok 1
-Follows (Ok (Some last)) r = IsAfter last.number r
+-- what is told after the row of the last number is the next
+pub next_read : (t : Tables) (p : ProfileName) (o : Option Row) → IsLastNumberRow t p o → (n : ℕ) → TellsNext o (Ok n) → IsNextNumber t p n
+next_read t p None none n tells = (None, none, let same : n ≡ 1 = cc in same)
+next_read t p (Some w) (r, last, is) n (m, shown, after) = (Some r, last, after ∙ ap (λ k. k + 1) (same_number m r.number (sym shown ∙ is)))
 
-pub next_told : (row : Result (Option Row) StoreFault) (last : Result (Option RevisionRow) StoreFault) (r : Result ℕ StoreFault) → IsTold (TellsOne revision_columns IsRevisionForm) row last → Follows last r → IsTold TellsNext row r
-next_told (Err e) (Err f) r told follows = let same : f ≡ e = cc in follows ∙ ap Err same
-next_told (Err e) (Ok None) r told follows = absurd cc
-next_told (Err e) (Ok (Some last)) r told follows = absurd cc
-next_told (Ok None) (Err f) r told follows = absurd cc
-next_told (Ok None) (Ok None) r told follows = follows
-next_told (Ok None) (Ok (Some last)) r told follows = absurd cc
-next_told (Ok (Some w)) (Err f) r told follows = subst (TellsNext (Some w)) (sym follows) (inl told)
-next_told (Ok (Some w)) (Ok None) r told follows = absurd told
-next_told (Ok (Some w)) (Ok (Some last)) (Ok n) told follows = (last, told, follows)
-next_told (Ok (Some w)) (Ok (Some last)) (Err f) told follows = inr (last, told, follows)
+pub next_formed : (t : Tables) (p : ProfileName) (o : Option Row) → IsLastNumberRow t p o → ((r : RevisionRow) → IsLast t p (Some r) → IsNumber r.number) → TellsNext o (Err NotAnOffice) → ⊥
+next_formed t p None none formed tells = absurd cc
+next_formed t p (Some w) (r, last, is) formed (inl (inl memory)) = absurd cc
+next_formed t p (Some w) (r, last, is) formed (inl (inr unread)) = unread.1 r.number (formed r last) is
+next_formed t p (Some w) (r, last, is) formed (inr after) = let full = after.2.0 in absurd cc
 
-pub told_after : (sql : List ℕ) (params : Row) (old new : State) (last : Result (Option RevisionRow) StoreFault) (r : Result ℕ StoreFault) → TellsRow sql params old new (TellsOne revision_columns IsRevisionForm) last
-    → Follows last r → TellsRow sql params old new TellsNext r
-told_after sql params old new last r it follows = record { row = it.row; found = it.found; told = next_told it.row last r it.told follows }
-
-pub after_is : (m : ℕ) (r : Result ℕ StoreFault) → IsAfter m r → IfOk r (λ n. n ≡ m + 1)
-after_is m (Ok n) it = it
-after_is m (Err f) it = tt
-
-pub after_formed : (m : ℕ) (r : Result ℕ StoreFault) → IsAfter m r → r ≢ Err NotAnOffice
-after_formed m (Ok n) it same = cc
-after_formed m (Err f) it same = let z = it.0 in cc
+-- a number that was read, and the one after it
+pub told_after : (row : Row) (last : ℕ) (r : Result ℕ StoreFault) → row ≡ number_row last → IsAfter last r → TellsNext (Some row) r
+told_after row last (Ok n) is after = (last, is, after)
+told_after row last (Err f) is after = inr (last, is, after)

@@ -25,15 +25,16 @@ use Rattle.office_tables.specs.declared.row.RevisionRow.{RevisionRow}
 use Rattle.office_tables.specs.declared.fault.StoreFault.{StoreFault}
 use Rattle.office_tables.specs.declared.fault.StoreFault.TheVariants.{NotAnOffice}
 use Rattle.office_tables.specs.Tables.{Tables, is_profile}
+use Rattle.office_tables.specs.Reads.{IsLast}
 use Rattle.office_rows.specs.Faults.{FindsRow}
 use Rattle.office_rows.proofs.Plain.{plain_query, Means}
 use Rattle.office_rows.proofs.Stored.{find_own}
 use Rattle.office_rows.proofs.Finding.{IsFound, finds_some, found_own}
-use Rattle.office_rows.proofs.Ordered.{first_query, IsFirstRow, finds_first}
-use Rattle.office_store.specs.declared.revisions.TheConstants.{REVISION_AT, ISSUED_OF, LAST_OF, REVISION_OF}
+use Rattle.office_rows.proofs.Ordered.{first_query, IsFirst, IsFirstRow, finds_first}
+use Rattle.office_store.specs.declared.revisions.TheConstants.{REVISION_AT, ISSUED_OF, LAST_OF, LAST_NUMBER, REVISION_OF}
 use Rattle.office_store.specs.Schema.{office_schema}
-use Rattle.office_store.specs.Entries.{Revision, same_revision, revision_key, revision_row, revision_columns, IsRevision, state_number}
-use Rattle.office_store.specs.Reads.{IsIssuedRow, IsLastRow, HasRevision}
+use Rattle.office_store.specs.Entries.{Revision, same_revision, revision_key, revision_row, revision_columns, number_row, IsRevision, state_number}
+use Rattle.office_store.specs.Reads.{IsIssuedRow, IsLastRow, IsLastNumberRow, HasRevision}
 use Rattle.office_store.specs.Shown.{Shows, ShowsIfOpen}
 use Rattle.office_store.proofs.Kept.{still_shows, answered_shows, map_of_map, some_shown}
 use Rattle.office_store.proofs.Profiles.{profile_params, revision_params, at_profile, profile_tested, at_revision, revision_tested, in_state_of, is_in_state, state_tested, revisions_decide, profiles_decide, both_true, same_profile, same_state}
@@ -59,12 +60,19 @@ last_means : Means office_schema LAST_OF.now (Select (record { lets = []; body =
 unfolding understood everything
 last_means = record { is = refl; plain = (refl, refl); unlisted = refl }
 
-any_means : Means office_schema REVISION_OF.now (Select (record { lets = []; body = plain_query (col 1 3 ∷ []) at_profile 4 }) (codes "number" ∷ []))
+abbrev number_column : List Term
+number_column = col 1 3 ∷ []
+
+number_means : Means office_schema LAST_NUMBER.now (Select (record { lets = []; body = first_query number_column at_profile 4 greatest }) (codes "number" ∷ []))
+unfolding understood everything
+number_means = record { is = refl; plain = (refl, refl); unlisted = refl }
+
+any_means : Means office_schema REVISION_OF.now (Select (record { lets = []; body = plain_query number_column at_profile 4 }) (codes "number" ∷ []))
 unfolding understood everything
 any_means = record { is = refl; plain = (refl, refl); unlisted = refl }
 
 abbrev number_of : Revision → Row
-number_of e = Int (pos e.1.number) ∷ []
+number_of e = number_row e.1.number
 
 abbrev is_of : ProfileName → Revision → Bool
 is_of p e = is_profile p e.0
@@ -151,21 +159,29 @@ module _ (old new : State) (t : Tables) (shows : Shows old t) where
         old new o.schema shows.settled idle o.revisions.entries o.revisions.kept r h in
         (issued_row p r it.0, it.1, still_shows old new t shows it.2, answered_shows old new t shows it.2 r it.3)
 
-    abbrev IsFirstOf : ProfileName → Option Row → Type 0
-    IsFirstOf p = IsFirstRow revision_row shown number_of (is_of p) shown_columns at_profile greatest (profile_params p) shows.office.revisions.entries
+    -- of a profile's revisions, by falling numbers, the first is its last
+    first_is_last : (p : ProfileName) (show : Revision → Row) (project : List Term) (e : Revision)
+        → IsFirst revision_row show number_of (is_of p) project at_profile greatest (profile_params p) shows.office.revisions.entries e → IsLast t p (Some e.1)
+    first_is_last p show project e first =
+        let at = subst (λ q. t.revisions q e.1.number ≡ Some e.1) (sym (same_profile p e.0 first.passed)) (found_at e first.has) in
+        let later = λ (n : ℕ) (above : e.1.number < n). none_if (t.revisions p n) (λ s is.
+        let it = stands p n s is in
+        let of : is_of p it.entry ≡ true = (profiles_decide p it.entry.0).1 (ap (λ (k : ProfileName × ℕ). k.0) it.key) in
+        not_above e.1.number it.entry.1.number (first.least it.entry it.has of) (subst (λ m. e.1.number < m) (ap (λ (k : ProfileName × ℕ). k.1) it.key) above)) in
+        (at, later)
 
-    last_shown : (p : ProfileName) (r : Result (Option Row) StoreFault) → IfOk r (IsFirstOf p) → IfOk r (IsLastRow t p)
-    last_shown p (Ok (Some row)) it =
-        let first = it.1 in
-        let at = subst (λ q. t.revisions q it.0.1.number ≡ Some it.0.1) (sym (same_profile p it.0.0 first.passed)) (found_at it.0 first.has) in
-        let later = λ (n : ℕ) (above : it.0.1.number < n). none_if (t.revisions p n) (λ s is.
-        let e = stands p n s is in
-        let of : is_of p e.entry ≡ true = (profiles_decide p e.entry.0).1 (ap (λ (k : ProfileName × ℕ). k.0) e.key) in
-        not_above it.0.1.number e.entry.1.number (first.least e.entry e.has of) (subst (λ m. it.0.1.number < m) (ap (λ (k : ProfileName × ℕ). k.1) e.key) above)) in
-        (it.0.1, (at, later), it.2)
-    last_shown p (Ok None) none = λ n. none_if (t.revisions p n) (λ s is.
+    none_is_last : (p : ProfileName) → ((e : Revision) → Has shows.office.revisions.entries e → is_of p e ≡ true → ⊥) → IsLast t p None
+    none_is_last p none = λ n. none_if (t.revisions p n) (λ s is.
         let e = stands p n s is in
         none e.entry e.has ((profiles_decide p e.entry.0).1 (ap (λ (k : ProfileName × ℕ). k.0) e.key)))
+
+    -- the first row of their query, which shows this of each
+    abbrev IsFirstOf : ProfileName → (Revision → Row) → List Term → Option Row → Type 0
+    IsFirstOf p show project = IsFirstRow revision_row show number_of (is_of p) project at_profile greatest (profile_params p) shows.office.revisions.entries
+
+    last_shown : (p : ProfileName) (r : Result (Option Row) StoreFault) → IfOk r (IsFirstOf p shown shown_columns) → IfOk r (IsLastRow t p)
+    last_shown p (Ok (Some row)) it = (it.0.1, first_is_last p shown shown_columns it.0 it.1, it.2)
+    last_shown p (Ok None) none = none_is_last p none
     last_shown p (Err f) it = it
 
     pub reads_last : (p : ProfileName) (r : Result (Option Row) StoreFault) → FindsRow LAST_OF.now (profile_params p) old new r
@@ -175,6 +191,19 @@ module _ (old new : State) (t : Tables) (shows : Shows old t) where
         let it = finds_first revision_row shown number_of (is_of p) shown_columns at_profile greatest (profile_params p) (profile_tested p) (λ k. refl) (λ k. refl)
         office_schema LAST_OF.now 4 names last_means old new o.schema shows.settled idle o.revisions.entries o.revisions.kept r h in
         (last_shown p r it.0, it.1, still_shows old new t shows it.2, answered_shows old new t shows it.2 r it.3)
+
+    number_shown : (p : ProfileName) (r : Result (Option Row) StoreFault) → IfOk r (IsFirstOf p number_of number_column) → IfOk r (IsLastNumberRow t p)
+    number_shown p (Ok (Some row)) it = (it.0.1, first_is_last p number_of number_column it.0 it.1, it.2)
+    number_shown p (Ok None) none = none_is_last p none
+    number_shown p (Err f) it = it
+
+    pub reads_number : (p : ProfileName) (r : Result (Option Row) StoreFault) → FindsRow LAST_NUMBER.now (profile_params p) old new r
+        → IfOk r (IsLastNumberRow t p) × (r ≢ Err NotAnOffice) × ShowsIfOpen new t × OnOk r (Shows new t)
+    reads_number p r h =
+        let o = shows.office in
+        let it = finds_first revision_row number_of number_of (is_of p) number_column at_profile greatest (profile_params p) (profile_tested p) (λ k. refl) (λ k. refl)
+        office_schema LAST_NUMBER.now 4 (codes "number" ∷ []) number_means old new o.schema shows.settled idle o.revisions.entries o.revisions.kept r h in
+        (number_shown p r it.0, it.1, still_shows old new t shows it.2, answered_shows old new t shows it.2 r it.3)
 
     any_row : (p : ProfileName) (r : Result (Option Row) StoreFault) → IfOk r (IsFound (is_of p) number_of shows.office.revisions.entries) → IfOk r (λ row. is_some row ≡ true ↔ HasRevision t p)
     any_row p (Ok (Some row)) it = (
@@ -193,7 +222,7 @@ module _ (old new : State) (t : Tables) (shows : Shows old t) where
         → IfOk r (λ row. is_some row ≡ true ↔ HasRevision t p) × (r ≢ Err NotAnOffice) × ShowsIfOpen new t × OnOk r (Shows new t)
     reads_any p r h =
         let o = shows.office in
-        let it = finds_some revision_row number_of (is_of p) (col 1 3 ∷ []) at_profile office_schema REVISION_OF.now (profile_params p) 4 (codes "number" ∷ []) any_means (profile_tested p) (λ k. refl)
+        let it = finds_some revision_row number_of (is_of p) number_column at_profile office_schema REVISION_OF.now (profile_params p) 4 (codes "number" ∷ []) any_means (profile_tested p) (λ k. refl)
         old new o.schema shows.settled idle o.revisions.entries o.revisions.kept r h in
         (any_row p r it.0, it.1, still_shows old new t shows it.2, answered_shows old new t shows it.2 r it.3)
 

@@ -9,7 +9,7 @@ use Rattle.sqlite.specs.declared.error.Error.{Error}
 use Rattle.office_tables.specs.declared.fault.StoreFault.{StoreFault}
 use Rattle.office_tables.specs.declared.fault.StoreFault.TheVariants.{NotAnOffice}
 use Rattle.office_tables.specs.Tables.{Tables}
-use Rattle.office_rows.specs.Faults.{fault_of, FindsRow}
+use Rattle.office_rows.specs.Faults.{fault_of_error, FindsRow}
 use Rattle.office_rows.specs.Told.{IsOfRow, IsTold, IsUnread, TellsOne, TellsOnly, TellsWhether}
 use Rattle.office_store.specs.declared.form.TheConstants.{OFFICE_ROW}
 use Rattle.office_store.specs.Form.{has_tables, listed_row, form_row, AreCaps, HasForm, HasOfficeRow}
@@ -21,12 +21,12 @@ use Rattle.office_store.proofs.OfficeRow.{shown_row}
 use Rattle.sqlite_value.specs.Order.{column}
 use Rattle.sqlite_rules.proofs.ListLemmas.{contains_had}
 
-pub read_cause : (at : ℕ) (v : Value) (e : Error) → IsReadError at v e → IsOfRow (fault_of e)
-read_cause at v e (inl h) = inr (ap fault_of h)
-read_cause at v e (inr (inl h)) = inr (ap fault_of h)
-read_cause at v e (inr (inr (inl h))) = inr (ap fault_of h)
-read_cause at v e (inr (inr (inr (inl h)))) = inr (ap fault_of h)
-read_cause at v e (inr (inr (inr (inr h)))) = inl (ap fault_of h)
+pub read_cause : (at : ℕ) (v : Value) (e : Error) → IsReadError at v e → IsOfRow (fault_of_error e)
+read_cause at v e (inl h) = inr (ap fault_of_error h)
+read_cause at v e (inr (inl h)) = inr (ap fault_of_error h)
+read_cause at v e (inr (inr (inl h))) = inr (ap fault_of_error h)
+read_cause at v e (inr (inr (inr (inl h)))) = inr (ap fault_of_error h)
+read_cause at v e (inr (inr (inr (inr h)))) = inl (ap fault_of_error h)
 
 -- a reading that fails for no memory, or since the row is no such value's
 pub unread : {X R A : Type 0} (encode : X → R) (IsFormed : X → Type 0) (row : R) (r : Result A StoreFault) (f : StoreFault) → r ≡ Err f

@@ -9,7 +9,7 @@ use Rattle.office_tables.specs.declared.row.RevisionRow.{RevisionRow}
 use Rattle.office_tables.specs.Tables.{Tables}
 use Rattle.office_tables.specs.Changes.{with_revision}
 use Rattle.office_tables.specs.Reads.{IsUserShowing, IsLast, next_number}
-use Rattle.office_store.specs.Entries.{user_row, revision_columns}
+use Rattle.office_store.specs.Entries.{user_row, revision_columns, number_row}
 use Rattle.office_store.specs.Form.{form_row}
 
 -- the row of a user who shows this digest, or that there is none
@@ -31,6 +31,11 @@ IsIssuedRow t p (Some row) = (r : RevisionRow) × IsIssued t p (Some r) × (row 
 abbrev pub IsLastRow : Tables → ProfileName → Option Row → Type 0
 IsLastRow t p None = IsLast t p None
 IsLastRow t p (Some row) = (r : RevisionRow) × IsLast t p (Some r) × (row ≡ revision_columns r)
+
+-- the same of its number alone
+abbrev pub IsLastNumberRow : Tables → ProfileName → Option Row → Type 0
+IsLastNumberRow t p None = IsLast t p None
+IsLastNumberRow t p (Some row) = (r : RevisionRow) × IsLast t p (Some r) × (row ≡ number_row r.number)
 
 -- a revision of the profile
 pub record HasRevision (t : Tables) (p : ProfileName) : Type 0 where

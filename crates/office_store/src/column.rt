@@ -9,7 +9,7 @@ ghost use Rattle.office_rows.specs.Told.{IsOfRow};
 ghost use Rattle.office_store.specs.Entries.{state_number};
 
 use cap_sets::Caps;
-use office_rows::fault_of;
+use office_rows::fault_of_error;
 use office_tables::StoreFault;
 use review_policy::{Roles, State, Text, Word, WordFault};
 use sqlite::Row;
@@ -22,7 +22,7 @@ pub(crate) fn text_at(row: &Row, at: usize) -> Result<String, StoreFault>
         → result ≢ Err StoreFault.NotAnOffice }
     ensures cause { IfErr result IsOfRow }
 {
-    row.get(at).map_err(fault_of)
+    row.get(at).map_err(fault_of_error)
 }
 
 /// The word of a column.
@@ -48,7 +48,7 @@ pub(crate) fn number_at(row: &Row, at: usize) -> Result<u32, StoreFault>
         → result ≢ Err StoreFault.NotAnOffice }
     ensures cause { IfErr result IsOfRow }
 {
-    row.get(at).map_err(fault_of)
+    row.get(at).map_err(fault_of_error)
 }
 
 // The bits of a column.
@@ -57,7 +57,7 @@ fn bits_at(row: &Row, at: usize) -> Result<u64, StoreFault>
     ensures formed { (bits : ℕ) → at < length row.now → column row.now at ≡ Int (pos bits) → result ≢ Err StoreFault.NotAnOffice }
     ensures cause { IfErr result IsOfRow }
 {
-    row.get(at).map_err(fault_of)
+    row.get(at).map_err(fault_of_error)
 }
 
 /// The capabilities of a column.
@@ -79,7 +79,7 @@ pub(crate) fn digest_at(row: &Row, at: usize) -> Result<[u8; 32], StoreFault>
         → result ≢ Err StoreFault.NotAnOffice }
     ensures cause { IfErr result IsOfRow }
 {
-    let bytes: Vec<u8> = row.get(at).map_err(fault_of)?;
+    let bytes: Vec<u8> = row.get(at).map_err(fault_of_error)?;
     match <[u8; 32]>::try_from(bytes.as_slice()) {
         Ok(digest) => Ok(digest),
         Err(_) => Err(StoreFault::NotAnOffice),

@@ -5,7 +5,7 @@ ghost use Rattle.std.specs.List.{list_all};
 ghost use Rattle.sqlite.specs.Held.{state};
 ghost use Rattle.sqlite.specs.State.{HasCleanDisk};
 ghost use Rattle.office_rows.specs.Faults.{FindsRow};
-ghost use Rattle.office_rows.specs.Told.{IsOfRow, IsTold, TellsOnly};
+ghost use Rattle.office_rows.specs.Told.{IsOfRow, IsTold, TellsRow, TellsOnly};
 ghost use Rattle.office_store.specs.Calls.{IsRead};
 ghost use Rattle.office_store.specs.Form.{has_column, has_tables, form_row, AreCaps, HasForm};
 ghost use Rattle.office_store.specs.Reads.{IsFormRow};
@@ -103,6 +103,8 @@ pub fn check_office<S: Alter>(conn: &mut Connection<S>) -> Result<Caps, StoreFau
     ensures read { has_tables (state S.Store conn.old).now.schema ≡ true → IsRead (state S.Store conn.old) (state S.Store conn.new) result (λ t listed. listed ≡ t.listed) }
     ensures foreign { has_tables (state S.Store conn.old).now.schema ≡ false → (result ≡ Err StoreFault.NotAnOffice) × (conn.new ≡ conn.old) }
     ensures form { HasCleanDisk (state S.Store conn.new) → IfOk result (HasForm (state S.Store conn.old) (state S.Store conn.new)) }
+    ensures told { has_tables (state S.Store conn.old).now.schema ≡ true → HasCleanDisk (state S.Store conn.new)
+        → TellsRow OFFICE_ROW.now [] (state S.Store conn.old) (state S.Store conn.new) (TellsOnly form_row AreCaps) result }
     ensures idle { IsIdle (state S.Store conn.new) }
 {
     if !has_tables(conn.schema()) {

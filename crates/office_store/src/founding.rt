@@ -7,8 +7,8 @@ ghost use Rattle.sqlite.specs.State.{HasCleanDisk, Survives, Shows as Sees};
 ghost use Rattle.sqlite.specs.Values.{bound};
 ghost use Rattle.sqlite_schema.specs.Names.{table_named};
 ghost use Rattle.office_rows.specs.Queries.{IsAsItWas};
-ghost use Rattle.office_rows.specs.Statements.{begun, RanAll, FailedIn};
-ghost use Rattle.office_store.specs.Founding.{has_table, IsForeign, new_office, founding};
+ghost use Rattle.office_rows.specs.Statements.{begun, RanAll, FailedIn, IsCause};
+ghost use Rattle.office_store.specs.Founding.{has_table, IsForeign, first_user, new_office, founding, founding_office, FailsToFound};
 ghost use Rattle.office_store.specs.Schema.{no_schema};
 ghost use Rattle.office_store.specs.Shown.{IsIdle, Shows, AreOffice, LeavesOnly};
 
@@ -20,7 +20,7 @@ use crate::schema::{
 };
 use crate::users::INSERT_USER;
 use cap_sets::Caps;
-use office_rows::{Statement, fault_of, run_all};
+use office_rows::{Statement, fault_of_error, run_all};
 use office_tables::StoreFault;
 use review_policy::Word;
 use sqlite::types::ValueRef;
@@ -148,6 +148,8 @@ fn make_office<S: Alter>(
     ensures kept { HasCleanDisk (state S.Store conn.new)
         → OnOk result (LeavesOnly (state S.Store conn.new) (new_office name.now team.now digest.now listed)) }
     ensures formed { HasCleanDisk (state S.Store conn.new) → result ≢ Err StoreFault.NotAnOffice }
+    ensures cause { HasCleanDisk (state S.Store conn.new)
+        → IfErr result (IsCause S.Store (founding_office (first_user name.now team.now digest.now) listed) conn.old) }
     ensures same { (state S.Store conn.old).now ≡ (state S.Store conn.old).committed → HasCleanDisk (state S.Store conn.new)
         → OnErr result (IsAsItWas (state S.Store conn.old) (state S.Store conn.new)) }
     ensures idle { IsIdle (state S.Store conn.new) }
@@ -165,7 +167,7 @@ fn make_office<S: Alter>(
         params![name, team, 1u32, digest],
     ) {
         Ok(()) => Ok(()),
-        Err(error) => Err(fault_of(error)),
+        Err(error) => Err(fault_of_error(error)),
     }
 }
 
@@ -191,6 +193,8 @@ pub fn found<S: Alter>(
     ensures already { result ≡ Err FoundingFault.AlreadyFounded ↔ IsTrue (has_table (state S.Store conn.old).now.schema) }
     ensures foreign { HasCleanDisk (state S.Store conn.new)
         → result ≡ Err (FoundingFault.Store StoreFault.NotAnOffice) ↔ IsForeign (state S.Store conn.old).now.schema }
+    ensures cause { HasCleanDisk (state S.Store conn.new)
+        → IfErr result (FailsToFound S.Store (first_user name.now team.now digest.now) listed conn.old) }
     ensures empty { OnOk result ((state S.Store conn.old).now.schema ≡ no_schema) }
     ensures same { (state S.Store conn.old).now ≡ (state S.Store conn.old).committed → HasCleanDisk (state S.Store conn.new)
         → OnErr result (IsAsItWas (state S.Store conn.old) (state S.Store conn.new)) }

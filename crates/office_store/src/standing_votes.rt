@@ -16,7 +16,7 @@ ghost use Rattle.office_store.specs.Shown.{IsIdle};
 
 use crate::bind::of_number;
 use crate::column::{roles_at, word_at};
-use office_rows::{all_rows, fault_of};
+use office_rows::{all_rows, fault_of_error};
 use office_tables::{StoreFault, Tally};
 use review_policy::{ProfileName, Role, VoteRow};
 use sqlite::{Alter, Connection, Row};
@@ -47,7 +47,7 @@ fn flag_at(row: &Row, at: usize) -> Result<bool, StoreFault>
     ensures formed { (flag : Bool) → at < length row.now → column row.now at ≡ Int (bit flag) → result ≢ Err StoreFault.NotAnOffice }
     ensures cause { IfErr result IsOfRow }
 {
-    row.get(at).map_err(fault_of)
+    row.get(at).map_err(fault_of_error)
 }
 
 // The vote of a row, as it stands by its voter's present roles.

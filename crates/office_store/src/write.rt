@@ -9,7 +9,7 @@ ghost use Rattle.office_store.specs.Calls.{IsWrite};
 ghost use Rattle.office_store.specs.Shown.{IsIdle};
 ghost use Rattle.office_store.specs.Steps.{statement, AreSteps};
 
-use office_rows::{Statement, fault_of, run_all};
+use office_rows::{Statement, fault_of_error, run_all};
 use office_tables::StoreFault;
 use sqlite::types::ValueRef;
 use sqlite::{Alter, Connection};
@@ -26,7 +26,7 @@ fn write<S: Alter>(
 {
     match run_all(conn, statements) {
         Ok(()) => Ok(()),
-        Err(error) => Err(fault_of(error)),
+        Err(error) => Err(fault_of_error(error)),
     }
 }
 

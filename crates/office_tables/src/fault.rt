@@ -6,7 +6,7 @@ use thiserror::Error;
 /// Why a store gives no answer. Where the store is still open, its tables are as they were.
 #[derive(Clone, Copy, Debug, Drop, PartialEq, Eq, Error)]
 pub enum StoreFault {
-    /// There was no memory.
+    /// There was no memory. No contract can say when: it may stand in place of any answer.
     #[error("memory")]
     NoMemory,
     /// The disk failed, or the store refused a call for another cause, as a second row under one key.

@@ -6,8 +6,8 @@ use Rattle.std.specs.Int.RustNames.{bit_or}
 use Rattle.std.proofs.lemmas.List.Elements.{All-from_get_or}
 use Rattle.std.proofs.lemmas.List.Splits.{slice_split_first, slice_split_none}
 use Rattle.std.proofs.lemmas.List.Sums.{fails_before_first}
-use Rattle.cap_sets.specs.Capability.{number_named, single}
-use Rattle.profile_commands.specs.Lists.{parts_of, with_names}
+use Rattle.cap_sets.specs.Capability.{number_named, single, with_names}
+use Rattle.profile_commands.specs.Lists.{parts_of}
 
 abbrev is_comma : ℕ → Bool
 is_comma byte = byte == 44

@@ -7,6 +7,7 @@ use Rattle.cap_sets.specs.Execve.{IsAfter, IsAfterRoot, IsDenied}
 use Rattle.command_line.specs.declared.command.ExecveWords.{ExecveWords}
 use Rattle.profile_text.specs.declared.profile.Profile.{Profile}
 use Rattle.profile_text.specs.Reading.{reading_of}
+use Rattle.review_sheet.specs.Sets.{state_text}
 use Rattle.profile_commands.specs.declared.execution.Execution.{Execution}
 use Rattle.profile_commands.specs.declared.execution.Execution.TheVariants.{ByRoot, OfFile}
 use Rattle.profile_commands.specs.declared.execution.ExecutionFault.{ExecutionFault}
@@ -16,7 +17,6 @@ use Rattle.profile_commands.specs.declared.execve.Outcome.{Outcome}
 use Rattle.profile_commands.specs.declared.execve.Outcome.TheVariants.{Done, Denied}
 use Rattle.profile_commands.specs.Lists.{set_listed}
 use Rattle.profile_commands.specs.Refusal.{RefusesAs}
-use Rattle.profile_commands.specs.Texts.{state_text}
 
 -- an option gives the file capabilities
 abbrev pub takes_file : ExecveWords → Bool

@@ -7,9 +7,9 @@ ghost use Rattle.profile_commands.specs.Refusal.{AgreesWithReads};
 use crate::document::read_document;
 use crate::execution::Execution;
 use crate::fault::FileFault;
-use crate::text::state_text;
 use cap_sets::{CapState, execve, execve_root};
 use counted_io::Counted;
+use review_sheet::state_text;
 use std::alloc::{AllocError, Global};
 use std::io::Read;
 

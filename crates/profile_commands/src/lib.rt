@@ -9,7 +9,6 @@ mod execve;
 mod fault;
 mod file_bytes;
 mod list;
-mod text;
 
 pub use check::check_document;
 pub use compare::{ComparedFault, compare_documents};
@@ -18,4 +17,3 @@ pub use execution::{Execution, ExecutionFault, execution_of};
 pub use execve::{Outcome, execve_document};
 pub use fault::FileFault;
 pub use list::set_listed;
-pub use text::state_text;

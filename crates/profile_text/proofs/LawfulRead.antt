@@ -15,7 +15,7 @@ use Rattle.seccomp_doc.specs.Action.{same_action}
 use Rattle.seccomp_doc.specs.Checks.{Check, all_name_checks, contradicts, entry_checks, errno_checks, fault_of, first_fault, has_too_many, name_check, name_checks}
 use Rattle.seccomp_doc.specs.Compare.{is_masked}
 use Rattle.seccomp_doc.specs.Filter.{EntryValue, FilterValue}
-use Rattle.seccomp_doc.specs.Lawful.{HasOneAction, IsLawful, IsLawfulAction, IsLawfulCompare, IsLawfulEntry, has_repeat}
+use Rattle.seccomp_doc.specs.Lawful.{HasOneAction, IsLawfulFilter, IsLawfulAction, IsLawfulCompare, IsLawfulEntry, has_repeat}
 use Rattle.seccomp_doc.specs.Meaning.{has_name}
 use Rattle.seccomp_doc.specs.Parts.{EntryPartsValue, FilterPartsValue, action_of, compare_of, entry_of, filter_of}
 use Rattle.seccomp_doc.specs.Word.{is_call_name, is_arch, is_flag}
@@ -158,7 +158,7 @@ no_entries d e at_d at_e name has_d has_e = absurd (omega (arith, at_d.1))
 
 -- ---- the whole
 
-pub made_lawful : (p : FilterPartsValue) → All (λ e. All IsSmall e.args) p.entries → fault_of p ≡ None → IsLawful (filter_of p)
+pub made_lawful : (p : FilterPartsValue) → All (λ e. All IsSmall e.args) p.entries → fault_of p ≡ None → IsLawfulFilter (filter_of p)
 unfolding fault_of
 made_lawful p small none =
     let head : List Check = ((TooMany, has_too_many p) ∷ []) ++ errno_checks p.default p.default_errno in

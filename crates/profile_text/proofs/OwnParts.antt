@@ -13,7 +13,7 @@ use Rattle.seccomp_doc.specs.Action.{errno_of, same_action, word_of}
 use Rattle.seccomp_doc.specs.Checks.{all_name_checks, contradicts, entry_checks, errno_checks, fault_of, first_fault, has_too_many, is_large, is_no_call_name, name_check, name_checks}
 use Rattle.seccomp_doc.specs.Compare.{is_masked}
 use Rattle.seccomp_doc.specs.Filter.{EntryValue, FilterValue}
-use Rattle.seccomp_doc.specs.Lawful.{HasOneAction, IsLawful, IsLawfulAction, IsLawfulCompare, IsLawfulEntry}
+use Rattle.seccomp_doc.specs.Lawful.{HasOneAction, IsLawfulFilter, IsLawfulAction, IsLawfulCompare, IsLawfulEntry}
 use Rattle.seccomp_doc.specs.Meaning.{has_name}
 use Rattle.seccomp_doc.specs.Parts.{EntryPartsValue, FilterPartsValue, action_of, compare_of, entry_of, filter_of}
 use Rattle.seccomp_doc.specs.Word.{is_call_name}
@@ -71,7 +71,7 @@ same_entries : (es : List EntryValue) → All IsLawfulEntry es → map entry_of 
 same_entries [] all = refl
 same_entries (e ∷ es) all = rw (same_entry e (All-head IsLawfulEntry e es all), same_entries es (All-tail IsLawfulEntry e es all)) refl
 
-pub own_make : (f : FilterValue) → IsLawful f → filter_of (own_parts f) ≡ f
+pub own_make : (f : FilterValue) → IsLawfulFilter f → filter_of (own_parts f) ≡ f
 own_make f h =
     let with_default : Action → FilterValue = λ a. record { default = a; architectures = f.architectures; flags = f.flags; entries = map entry_of (map own_entry f.entries) } in
     let with_entries : List EntryValue → FilterValue = λ es. record { default = f.default; architectures = f.architectures; flags = f.flags; entries = es } in
@@ -154,7 +154,7 @@ none_large (e ∷ es) names args =
       le-ltb 6 (length e.args) (All-head (λ (x : EntryValue). length x.args ≤ 6) e es args),
     ) (none_large es (All-tail (λ (x : EntryValue). length x.names ≤ 1024) e es names) (All-tail (λ (x : EntryValue). length x.args ≤ 6) e es args))
 
-few : (f : FilterValue) → IsLawful f → has_too_many (own_parts f) ≡ false
+few : (f : FilterValue) → IsLawfulFilter f → has_too_many (own_parts f) ≡ false
 few f h =
     rw (
       none_large f.entries h.few_names h.few_args,
@@ -165,7 +165,7 @@ few f h =
     ) refl
 
 -- the parts of a lawful filter have no fault
-pub own_faultless : (f : FilterValue) → IsLawful f → fault_of (own_parts f) ≡ None
+pub own_faultless : (f : FilterValue) → IsLawfulFilter f → fault_of (own_parts f) ≡ None
 own_faultless f h =
     fault_of-names (own_parts f) (few f h) (errno_passed f.default h.default) (entries_passed f.entries h.entries)
     ∙ ap (λ es. first_fault (all_name_checks [] es)) (same_entries f.entries h.entries)

@@ -1,11 +1,12 @@
 -- Bytes read as a profile exactly where they stand for it.
-use Rattle.std.proofs.Common.{◌≡◌, ◌∙◌, ℕ, ◌≤◌, ◌⊎◌, inl, inr, List, [], length, Bool, true, false, cond, Option, Some, None, option_map, Result, Ok, Err, refl, sym, ap, subst, le-ltb, ltb-false}
+use Rattle.std.proofs.Common.{◌≡◌, ◌∙◌, ℕ, ◌≤◌, inl, inr, List, [], length, Bool, true, false, cond, Option, Some, None, option_map, Result, Ok, Err, refl, sym, ap, subst, le-ltb, ltb-false}
 use Rattle.std.specs.Option.{option_map_or}
 use Rattle.std.specs.Prelude.{IfOk, codes, nat_lt, unwrap_or}
 use Rattle.serde_json.specs.Data.{Data, null, boolean, number, string, array, object, Members}
-use Rattle.cap_sets.specs.Lawful.{IsLawful, IsFirstFault}
+use Rattle.cap_sets.specs.Lawful.{IsLawfulState}
 use Rattle.cap_sets.specs.declared.state.CapState.{CapState}
 use Rattle.cap_sets.specs.declared.state.CapFault.{CapFault}
+use Rattle.cap_sets.proofs.Faults.{no_fault_from_lawful}
 use Rattle.seccomp_doc.specs.declared.fault.FilterFault.{FilterFault}
 use Rattle.seccomp_doc.specs.Checks.{fault_of}
 use Rattle.seccomp_doc.specs.Filter.{FilterValue}
@@ -26,7 +27,7 @@ use Rattle.profile_text.specs.Reads.{IsSetMember, IsCapsValue, IsDocumentMember,
 use Rattle.profile_text.specs.Parts.{found_in, document_parts, parts_of}
 use Rattle.profile_text.specs.Sets.{set_name, set_in, set_of, sets_in, sets_of, no_sets}
 use Rattle.profile_text.specs.Shape.{member_of, members_faults, missing_faults, object_faults}
-use Rattle.profile_text.specs.State.{state_of, state_by, lawful_or_fault}
+use Rattle.profile_text.specs.State.{fault_in, state_by, state_of}
 use Rattle.profile_text.specs.Text.{text_of}
 use Rattle.profile_text.proofs.Agreeing.{both_empty, member_holds, optional_is, optional_same}
 use Rattle.profile_text.proofs.FilterAgrees.{seccomp_agrees}
@@ -43,29 +44,29 @@ bind_ok (Err fault) next y e = absurd (cc)
 abbrev HasSets : CapState → Sets → Type 0
 HasSets state s = (set : CapSet) → state_set set state ≡ set_in set s
 
-state_has_by : (s : Sets) (t : IsLawful s.effective s.permitted s.inheritable s.ambient ⊎ ((fault : CapFault) × IsFirstFault s.effective s.permitted s.inheritable s.ambient fault)) (state : CapState) → state_by s t ≡ Ok state → HasSets state s
-state_has_by s (inl lawful) state e Ambient = let same : s.ambient ≡ state.ambient = cc in sym same
-state_has_by s (inl lawful) state e Bounding = let same : s.bounding ≡ state.bounding = cc in sym same
-state_has_by s (inl lawful) state e Effective = let same : s.effective ≡ state.effective = cc in sym same
-state_has_by s (inl lawful) state e Inheritable = let same : s.inheritable ≡ state.inheritable = cc in sym same
-state_has_by s (inl lawful) state e Permitted = let same : s.permitted ≡ state.permitted = cc in sym same
-state_has_by s (inr fault) state e set = absurd (cc)
+state_has_by : (s : Sets) (fault : Option CapFault) (is : fault_in s ≡ fault) (state : CapState) → state_by s fault is ≡ Ok state → HasSets state s
+state_has_by s None is state e Ambient = let same : s.ambient ≡ state.ambient = cc in sym same
+state_has_by s None is state e Bounding = let same : s.bounding ≡ state.bounding = cc in sym same
+state_has_by s None is state e Effective = let same : s.effective ≡ state.effective = cc in sym same
+state_has_by s None is state e Inheritable = let same : s.inheritable ≡ state.inheritable = cc in sym same
+state_has_by s None is state e Permitted = let same : s.permitted ≡ state.permitted = cc in sym same
+state_has_by s (Some fault) is state e set = absurd (cc)
 
 pub state_has : (s : Sets) (state : CapState) → state_of s ≡ Ok state → HasSets state s
 unfolding state_of
-state_has s state e = state_has_by s (lawful_or_fault s.effective s.permitted s.inheritable s.ambient) state e
+state_has s state e = state_has_by s (fault_in s) refl state e
 
-lawful_of : (s : Sets) (state : CapState) → HasSets state s → IsLawful s.effective s.permitted s.inheritable s.ambient
+lawful_of : (s : Sets) (state : CapState) → HasSets state s → IsLawfulState s.effective s.permitted s.inheritable s.ambient
 lawful_of s state h =
-    subst (λ x. IsLawful x s.permitted s.inheritable s.ambient) (h Effective)
-    (subst (λ x. IsLawful state.effective x s.inheritable s.ambient) (h Permitted)
-    (subst (λ x. IsLawful state.effective state.permitted x s.ambient) (h Inheritable)
-    (subst (λ x. IsLawful state.effective state.permitted state.inheritable x) (h Ambient) state.lawful)))
+    subst (λ x. IsLawfulState x s.permitted s.inheritable s.ambient) (h Effective)
+    (subst (λ x. IsLawfulState state.effective x s.inheritable s.ambient) (h Permitted)
+    (subst (λ x. IsLawfulState state.effective state.permitted x s.ambient) (h Inheritable)
+    (subst (λ x. IsLawfulState state.effective state.permitted state.inheritable x) (h Ambient) state.lawful)))
 
 state_from : (s : Sets) (state : CapState) → HasSets state s → state_of s ≡ Ok state
 state_from s state h =
-    let told : ◌≡◌ {A = Result CapState CapFault} (Ok state) (state_of s) = state_told s (Ok state) (lawful_of s state h) (h Effective, h Permitted, h Inheritable, h Bounding, h Ambient) tt in
-    sym told
+    let none = no_fault_from_lawful s.effective s.permitted s.inheritable s.ambient (lawful_of s state h) in
+    sym (state_told s (Ok state) (h Effective, h Permitted, h Inheritable, h Bounding, h Ambient) (sym none))
 
 caps_ok : (r : Result CapState CapFault) (state : CapState) → caps_or_fault r ≡ Ok state → r ≡ Ok state
 caps_ok (Ok s) state e = let same : s ≡ state = cc in ap (λ x. Ok x) same

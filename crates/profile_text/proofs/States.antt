@@ -1,7 +1,7 @@
 -- Two states with the same sets are one state.
 use Rattle.std.proofs.Common.{◌≡◌, ◌∙◌, ℕ, Option, Some, ap, subst}
 use Rattle.std.proofs.Props.{props}
-use Rattle.cap_sets.specs.Lawful.{IsLawful}
+use Rattle.cap_sets.specs.Lawful.{IsLawfulState}
 use Rattle.cap_sets.specs.declared.state.CapState.{CapState}
 use Rattle.seccomp_doc.specs.Filter.{FilterValue}
 use Rattle.seccomp_doc.specs.Meaning.{only_default}
@@ -9,20 +9,20 @@ use Rattle.seccomp_doc.specs.declared.action.Action.TheVariants.{KillProcess}
 use Rattle.profile_text.specs.declared.profile.Profile.{Profile}
 use Rattle.profile_text.specs.Profile.{no_caps, closed_profile}
 
-lawful_prop : (e p i a : ℕ) → IsProp (IsLawful e p i a)
+lawful_prop : (e p i a : ℕ) → IsProp (IsLawfulState e p i a)
 lawful_prop e p i a = hlevel props
 
-abbrev state : (e p i b a : ℕ) → IsLawful e p i a → CapState
+abbrev state : (e p i b a : ℕ) → IsLawfulState e p i a → CapState
 state e p i b a lawful = record { effective = e; permitted = p; inheritable = i; bounding = b; ambient = a; lawful = lawful }
 
 -- the sets alone tell a state from another
 pub same_state : (s t : CapState) → s.effective ≡ t.effective → s.permitted ≡ t.permitted → s.inheritable ≡ t.inheritable → s.bounding ≡ t.bounding → s.ambient ≡ t.ambient → s ≡ t
 same_state s t e p i b a =
-    let P_e : ℕ → Type 0 = λ x. (l : IsLawful x t.permitted t.inheritable t.ambient) → s ≡ state x t.permitted t.inheritable t.bounding t.ambient l in
-    let P_p : ℕ → Type 0 = λ x. (l : IsLawful s.effective x t.inheritable t.ambient) → s ≡ state s.effective x t.inheritable t.bounding t.ambient l in
-    let P_i : ℕ → Type 0 = λ x. (l : IsLawful s.effective s.permitted x t.ambient) → s ≡ state s.effective s.permitted x t.bounding t.ambient l in
-    let P_b : ℕ → Type 0 = λ x. (l : IsLawful s.effective s.permitted s.inheritable t.ambient) → s ≡ state s.effective s.permitted s.inheritable x t.ambient l in
-    let P_a : ℕ → Type 0 = λ x. (l : IsLawful s.effective s.permitted s.inheritable x) → s ≡ state s.effective s.permitted s.inheritable s.bounding x l in
+    let P_e : ℕ → Type 0 = λ x. (l : IsLawfulState x t.permitted t.inheritable t.ambient) → s ≡ state x t.permitted t.inheritable t.bounding t.ambient l in
+    let P_p : ℕ → Type 0 = λ x. (l : IsLawfulState s.effective x t.inheritable t.ambient) → s ≡ state s.effective x t.inheritable t.bounding t.ambient l in
+    let P_i : ℕ → Type 0 = λ x. (l : IsLawfulState s.effective s.permitted x t.ambient) → s ≡ state s.effective s.permitted x t.bounding t.ambient l in
+    let P_b : ℕ → Type 0 = λ x. (l : IsLawfulState s.effective s.permitted s.inheritable t.ambient) → s ≡ state s.effective s.permitted s.inheritable x t.ambient l in
+    let P_a : ℕ → Type 0 = λ x. (l : IsLawfulState s.effective s.permitted s.inheritable x) → s ≡ state s.effective s.permitted s.inheritable s.bounding x l in
     let first : P_a s.ambient = λ l. ap (state s.effective s.permitted s.inheritable s.bounding s.ambient) (lawful_prop s.effective s.permitted s.inheritable s.ambient s.lawful l) in
     subst P_e e (subst P_p p (subst P_i i (subst P_b b (subst P_a a first)))) t.lawful
 

@@ -5,7 +5,7 @@ use Rattle.serde_json.specs.Data.{Data, null, boolean, number, string, array, ob
 use Rattle.cap_sets.specs.Capability.{Has, number_named}
 use Rattle.cap_sets.specs.declared.state.CapState.{CapState}
 use Rattle.seccomp_doc.specs.Filter.{FilterValue}
-use Rattle.seccomp_doc.specs.Lawful.{IsLawful}
+use Rattle.seccomp_doc.specs.Lawful.{IsLawfulFilter}
 use Rattle.seccomp_doc.specs.Word.{is_arch, is_flag}
 use Rattle.profile_text.specs.declared.profile.Profile.{Profile}
 use Rattle.profile_text.specs.declared.sets.CapSet.{CapSet}
@@ -122,7 +122,7 @@ pub record HasKnownCaps (s : CapState) : Type 0 where
 
 -- a filter that `seccomp_doc` can make: a lawful one, of architectures and flags that are of the form
 pub record IsWhole (f : FilterValue) : Type 0 where
-  pub lawful : IsLawful f
+  pub lawful : IsLawfulFilter f
   pub architectures : All (λ a. is_arch a ≡ true) f.architectures
   pub flags : All (λ a. is_flag a ≡ true) f.flags
 

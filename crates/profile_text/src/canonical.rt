@@ -74,7 +74,7 @@ fn written(out: Writer) -> String
 }
 
 // How many bytes a text has room for before it grows.
-const FIRST_ROOM: usize = 4096;
+const FIRST_ROOM: usize = 8192;
 
 /// The canonical text of a profile: compact JSON, with the members of each object in byte order of their names. All five
 /// capability sets are written, by rising number; a filter is written where there is one, without its empty lists.

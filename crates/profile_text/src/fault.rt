@@ -99,7 +99,7 @@ pub enum DocFault {
     Caps(CapFault),
     /// The parts of `seccomp` are no filter.
     Filter(FilterFault),
-    /// Memory was refused; it is never told inside `Filter`.
+    /// Memory was refused, and never inside `Filter`. No contract can say when: it may stand in place of any answer.
     NoMemory,
     /// The canonical text has more than 262,144 bytes.
     TextTooLong,

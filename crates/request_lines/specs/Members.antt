@@ -1,12 +1,10 @@
 -- The members of a request's line, each of its form.
-use Rattle.std.specs.Prelude.{ℕ, ◌^◌, ◌&&◌, ◌||◌, List, Bool, true, false, Option, Some, None, if◌then◌else◌, option_and_then, codes, nat_le}
-use Rattle.std.specs.List.{list_all}
-use Rattle.std.specs.Result.{result_ok}
+use Rattle.std.specs.Prelude.{ℕ, ◌^◌, ◌&&◌, List, Bool, true, false, Option, Some, None, if◌then◌else◌, option_and_then, codes, nat_le}
 use Rattle.std.specs.Str.{bytes_eq}
 use Rattle.std.specs.Int.RustNames.{bit_or}
-use Rattle.hex.specs.Hex.{decode_sized}
 use Rattle.serde_json.specs.Data.{Data, Items, no_items, item}
 use Rattle.serde_json.specs.Find.{get, as_str, as_number, as_u64, as_array}
+use Rattle.review_policy.specs.Digests.{digest_from_hex}
 use Rattle.review_policy.specs.Words.{is_word, is_token}
 use Rattle.review_policy.specs.Role.{place_of}
 use Rattle.review_policy.specs.WordTables.{role_of}
@@ -49,16 +47,9 @@ if_revision n = if nat_le 1 n && nat_le n 9999 then Some n else None
 unfoldable pub revision_at : Data → Option ℕ
 revision_at d = option_and_then if_revision (option_and_then as_u64 (option_and_then as_number (get (codes "revision") d)))
 
--- 0-9 and a-f
-abbrev pub is_lower_digit : ℕ → Bool
-is_lower_digit c = (nat_le 48 c && nat_le c 57) || (nat_le 97 c && nat_le c 102)
-
--- the 32 bytes of 64 lower-case hexadecimal digits
-unfoldable pub digest_of : List ℕ → Option (List ℕ)
-digest_of text = if list_all is_lower_digit text then result_ok (decode_sized text 32) else None
-
+-- a digest of 64 lower-case hexadecimal digits
 unfoldable pub digest_at : Data → Option (List ℕ)
-digest_at d = option_and_then digest_of (text_at (codes "digest") d)
+digest_at d = option_and_then digest_from_hex (text_at (codes "digest") d)
 
 -- a vote: whether it approves
 abbrev pub approves : List ℕ → Option Bool

@@ -32,7 +32,7 @@ fn bad_value(alloc: Global, word: &str) -> Result<Value, AllocError>
 ///
 /// # Errors
 ///
-/// Memory was refused.
+/// Memory was refused. No contract can say when.
 #[tactic(auto, unfolding(crate::specs::Bad::bad_text))]
 pub fn bad_text(alloc: Global, word: &str) -> Result<String, AllocError>
     ensures { IfOk result (λ text. string_bytes text ≡ bad_text word.now) }

@@ -1,6 +1,6 @@
 //! The JSON of a denial.
 
-ghost use Rattle.std.specs.Prelude.{◌≡◌, codes, IfOk, Option, option_map};
+ghost use Rattle.std.specs.Prelude.{◌≡◌, codes, IfOk};
 ghost use Rattle.serde_json.specs.View.{members_view};
 ghost use Rattle.request_lines.specs.Answers.{text_member, need_number, shortage_of, rule_members, denied_members};
 

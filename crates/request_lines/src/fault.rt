@@ -12,7 +12,7 @@ pub enum LineFault {
     /// It is JSON, and not of the form of a request.
     #[error("not-a-request")]
     NotARequest,
-    /// There was no memory to read it.
+    /// There was no memory to read it. No contract can say when.
     #[error("memory")]
     NoMemory,
 }

@@ -1,16 +1,14 @@
 //! The members of a request's line, each of its form.
 
 ghost use Rattle.std.specs.Prelude.{◌≡◌, codes, option_and_then, option_map};
-ghost use Rattle.std.specs.List.{list_all};
 ghost use Rattle.serde_json.specs.Find.{as_str};
 ghost use Rattle.serde_json.specs.View.{view, items_view};
 ghost use Rattle.review_policy.specs.WordTables.{role_of};
 ghost use Rattle.request_lines.specs.Faults.{Gives};
-ghost use Rattle.request_lines.specs.Members.{text_at, word_at, token_at, name_at, revision_at, is_lower_digit, digest_of, digest_at, vote_at, roles_of, roles_at};
+ghost use Rattle.request_lines.specs.Members.{text_at, word_at, token_at, name_at, revision_at, digest_at, vote_at, roles_of, roles_at};
 
 use crate::fault::LineFault;
-use hex::FromHex;
-use review_policy::{ProfileName, Role, Roles, Token, Word, WordFault};
+use review_policy::{ProfileName, Role, Roles, Token, Word, WordFault, digest_from_hex};
 use serde_json::Value;
 use std::alloc::Global;
 
@@ -78,32 +76,6 @@ pub(crate) fn revision_of(value: &Value) -> Result<u32, LineFault>
     }
 }
 
-// Whether a byte is a digit of a digest.
-fn is_lower_digit(byte: u8) -> bool
-    ensures { result ≡ is_lower_digit byte }
-{
-    byte.is_ascii_digit() || (byte >= b'a' && byte <= b'f')
-}
-
-// Whether each byte is a digit of a digest.
-fn has_lower_digits(bytes: &[u8]) -> bool
-    ensures { result ≡ list_all is_lower_digit bytes.now }
-{
-    bytes.iter().all(|byte| is_lower_digit(*byte))
-}
-
-// The 32 bytes of 64 lower-case hexadecimal digits.
-#[tactic(auto, unfolding(crate::specs::Members::digest_of))]
-fn digest_in(text: &str) -> Option<[u8; 32]>
-    ensures { result ≡ digest_of text.now }
-{
-    if has_lower_digits(text.as_bytes()) {
-        <[u8; 32] as FromHex>::from_hex(text).ok()
-    } else {
-        None
-    }
-}
-
 /// A digest of 64 lower-case hexadecimal digits.
 #[tactic(auto, unfolding(crate::specs::Members::digest_at))]
 pub(crate) fn digest_of(value: &Value) -> Result<[u8; 32], LineFault>
@@ -111,7 +83,7 @@ pub(crate) fn digest_of(value: &Value) -> Result<[u8; 32], LineFault>
 {
     match text_of(value, "digest") {
         None => Err(LineFault::NotARequest),
-        Some(text) => match digest_in(text) {
+        Some(text) => match digest_from_hex(text) {
             Some(digest) => Ok(digest),
             None => Err(LineFault::NotARequest),
         },

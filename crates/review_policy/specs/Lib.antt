@@ -1,4 +1,5 @@
 pub mod Words
+pub mod Digests
 pub mod Role
 pub mod Rules
 pub mod FirstRefusal

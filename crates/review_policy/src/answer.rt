@@ -102,7 +102,7 @@ pub enum Reply {
 /// What failed, so that a request was not carried out.
 #[derive(Clone, Copy, Debug, PartialEq, Eq)]
 pub enum Fault {
-    /// There was no memory.
+    /// There was no memory. No contract can say when: it may stand in place of any answer.
     Memory,
     /// The disk failed.
     Disk,

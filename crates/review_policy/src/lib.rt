@@ -5,6 +5,7 @@ pub mod answer;
 pub mod ask;
 pub mod decide;
 pub mod denial;
+pub mod digest;
 pub mod facts;
 pub mod revision;
 pub mod role;
@@ -20,6 +21,7 @@ pub use decide::{
     the_first_refusing_rule_is_named,
 };
 pub use denial::{Denial, Need, Rule};
+pub use digest::digest_from_hex;
 pub use facts::{
     AdoptFacts, EnrolFacts, FetchFacts, HoldFacts, IssueFacts, ReadFacts, ReleaseFacts,
     SubmitFacts, VoteFacts, WithdrawFacts,

@@ -31,7 +31,7 @@ pub enum WordFault {
     /// The text isn't of the form.
     #[error("not-a-word")]
     NotAWord,
-    /// There was no memory for it.
+    /// There was no memory for it. No contract can say when: it may stand in place of any answer.
     #[error("memory")]
     NoMemory,
 }

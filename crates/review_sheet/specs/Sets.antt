@@ -2,7 +2,7 @@
 use Rattle.std.specs.Prelude.{ℕ, List, [], ◌∷◌, ◌++◌, codes}
 use Rattle.cap_sets.specs.Capability.{names_of}
 use Rattle.cap_sets.specs.declared.state.CapState.{CapState}
-use Rattle.review_sheet.specs.Layout.{items_text}
+use Rattle.review_sheet.specs.Layout.{items_text, joined}
 use Rattle.review_sheet.specs.AfterExecve.{after_plain, after_root}
 
 -- a label, and the names of a set's members by rising number
@@ -18,6 +18,10 @@ state_lines state =
     ∷ set_line (codes "bounding") state.bounding
     ∷ set_line (codes "ambient") state.ambient
     ∷ []
+
+-- the five sets alone, a line each
+abbrev pub state_text : CapState → List ℕ
+state_text state = joined (state_lines state)
 
 -- three of the sets after execve of a plain file
 abbrev pub plain_lines : CapState → List (List ℕ)

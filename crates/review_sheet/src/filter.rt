@@ -1,6 +1,6 @@
 //! The lines of a filter.
 
-ghost use Rattle.std.specs.Prelude.{◌≡◌, ◌++◌, OnOk, codes, decimal, map};
+ghost use Rattle.std.specs.Prelude.{◌++◌, OnOk, codes, decimal, map};
 ghost use Rattle.review_sheet.specs.Filters.{action_text, arg_line, entries_lines, entry_lines, filter_lines, seccomp_lines, second_value};
 ghost use Rattle.review_sheet.specs.Layout.{Adds, AddsLines, ended, then_number};
 

@@ -3,7 +3,6 @@
 ghost use Rattle.std.specs.Prelude.{◌≡◌, ◌++◌, ◌∷◌, ◌==◌, [], not, IfOk, OnOk, codes, map, string_bytes};
 ghost use Rattle.std.specs.Int.RustNames.{bit_and};
 ghost use Rattle.cap_sets.specs.Capability.{names_of, single};
-ghost use Rattle.profile_text.specs.Sets.{set_name};
 ghost use Rattle.review_policy.specs.Rules.{need_of};
 ghost use Rattle.review_sheet.specs.Layout.{Adds, AddsLines, ended};
 ghost use Rattle.review_sheet.specs.Review.{all_sets, finding_line, finding_text, findings_lines, findings_text, need_text};
@@ -20,7 +19,7 @@ use widening::{CapSet, Finding};
 ///
 /// # Errors
 ///
-/// Memory was refused.
+/// Memory was refused. No contract can say when.
 pub fn findings_text(alloc: Global, found: &[Finding]) -> Result<String, AllocError>
     ensures { IfOk result (λ text. string_bytes text ≡ findings_text found.now) }
 {

@@ -1,46 +1,13 @@
 //! Lines of a sheet, and lists within a line.
 
-ghost use Rattle.std.specs.Prelude.{◌≡◌, ◌∷◌, ◌++◌, [], OnOk, List, ℕ, decimal, map};
+ghost use Rattle.std.specs.Prelude.{◌∷◌, ◌++◌, [], OnOk, decimal};
 ghost use Rattle.cap_sets.specs.Capability.{names_of};
 ghost use Rattle.review_sheet.specs.Layout.{Adds, ended, items_text, spaced};
 ghost use Rattle.review_sheet.specs.Sets.{set_line};
 
 use cap_sets::{Caps, Names};
-use seccomp_doc::{Arch, CallName, ScmpFlag};
+use seccomp_doc::{Form, Formed};
 use std::alloc::AllocError;
-
-/// What a list of a sheet names.
-pub(crate) trait Named {
-    ghost name_of: { Self → List ℕ };
-
-    /// Its name.
-    fn name(&self) -> &str
-        ensures { result.now ≡ name_of self.now };
-}
-
-impl Named for Arch {
-    ghost name_of = { λ arch. arch };
-
-    fn name(&self) -> &str {
-        self.as_str()
-    }
-}
-
-impl Named for ScmpFlag {
-    ghost name_of = { λ flag. flag };
-
-    fn name(&self) -> &str {
-        self.as_str()
-    }
-}
-
-impl Named for CallName {
-    ghost name_of = { λ call. call };
-
-    fn name(&self) -> &str {
-        self.as_str()
-    }
-}
 
 /// Adds a line: a label and a text.
 pub(crate) fn push_line(text: &mut String, label: &str, rest: &str) -> Result<(), AllocError>
@@ -64,34 +31,34 @@ fn push_spaced(text: &mut String, item: &str) -> Result<(), AllocError>
     text.push_str(item)
 }
 
-// Adds the names of items joined by single spaces, or `none`.
-fn push_items<T: Named>(text: &mut String, items: &[T]) -> Result<(), AllocError>
-    ensures { OnOk result (Adds text.old text.new (items_text (map T.name_of items.now))) }
+// Adds the items of a list, joined by single spaces, or `none`.
+fn push_items<F: Form>(text: &mut String, items: &[Formed<F>]) -> Result<(), AllocError>
+    ensures { OnOk result (Adds text.old text.new (items_text items.now)) }
 {
     let Some((first, rest)) = items.split_first() else {
         return text.push_str("none");
     };
-    text.push_str(first.name())?;
+    text.push_str(first.as_str())?;
     push_others(text, rest)
 }
 
-// Adds the names of items, each after a space.
-fn push_others<T: Named>(text: &mut String, items: &[T]) -> Result<(), AllocError>
-    ensures { OnOk result (Adds text.old text.new (spaced (map T.name_of items.now))) }
+// Adds items, each with a space before it.
+fn push_others<F: Form>(text: &mut String, items: &[Formed<F>]) -> Result<(), AllocError>
+    ensures { OnOk result (Adds text.old text.new (spaced items.now)) }
 {
     for item in items {
-        push_spaced(text, item.name())?;
+        push_spaced(text, item.as_str())?;
     }
     Ok(())
 }
 
-/// Adds a line: a label, and the names of items.
-pub(crate) fn push_list<T: Named>(
+/// Adds a line: a label, and the items of a list.
+pub(crate) fn push_list<F: Form>(
     text: &mut String,
     label: &str,
-    items: &[T],
+    items: &[Formed<F>],
 ) -> Result<(), AllocError>
-    ensures { OnOk result (Adds text.old text.new (ended (label.now ++ items_text (map T.name_of items.now)))) }
+    ensures { OnOk result (Adds text.old text.new (ended (label.now ++ items_text items.now))) }
 {
     text.push_str(label)?;
     push_items(text, items)?;

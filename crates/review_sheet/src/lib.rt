@@ -20,4 +20,5 @@ pub use laws::{
     each_line_ends_with_a_line_feed, findings_and_need_are_those_of_the_comparison_and_the_policy,
     lines_after_execve_are_those_of_any_state_after_it, numbers_of_lists_are_those_of_their_lines,
 };
+pub use sets::state_text;
 pub use sheet_text::sheet;

@@ -1,13 +1,26 @@
 //! The lines of the capability sets.
 
-ghost use Rattle.std.specs.Prelude.{◌≡◌, OnOk};
+ghost use Rattle.std.specs.Prelude.{◌≡◌, IfOk, OnOk, string_bytes};
 ghost use Rattle.cap_sets.specs.Execve.{IsAfter};
 ghost use Rattle.review_sheet.specs.Layout.{AddsLines};
-ghost use Rattle.review_sheet.specs.Sets.{caps_lines, plain_lines, root_lines, state_lines};
+ghost use Rattle.review_sheet.specs.Sets.{caps_lines, plain_lines, root_lines, state_lines, state_text};
 
 use crate::layout::push_set;
 use cap_sets::{CapState, File, execve, execve_root};
-use std::alloc::AllocError;
+use std::alloc::{AllocError, Global};
+
+/// The five lines of a state's sets, as a sheet has them.
+///
+/// # Errors
+///
+/// Memory was refused. No contract can say when.
+pub fn state_text(alloc: Global, state: &CapState) -> Result<String, AllocError>
+    ensures { IfOk result (λ text. string_bytes text ≡ state_text state.now) }
+{
+    let mut text = String::new(alloc);
+    push_state(&mut text, state)?;
+    Ok(text)
+}
 
 /// Adds the sets of a document, and then those after execve.
 pub(crate) fn push_caps(text: &mut String, state: &CapState) -> Result<(), AllocError>

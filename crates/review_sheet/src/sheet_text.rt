@@ -22,7 +22,7 @@ use widening::findings;
 ///
 /// # Errors
 ///
-/// Memory was refused.
+/// Memory was refused. No contract can say when.
 pub fn sheet(alloc: Global, facts: &SheetFacts<'_>) -> Result<String, AllocError>
     ensures { IfOk result (λ text. string_bytes text ≡ sheet_text facts.now) }
 {

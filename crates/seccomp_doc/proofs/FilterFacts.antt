@@ -8,7 +8,7 @@ use Rattle.seccomp_doc.specs.declared.action.Action.{Action}
 use Rattle.seccomp_doc.specs.declared.fault.FilterFault.{FilterFault}
 use Rattle.seccomp_doc.specs.declared.fault.FilterFault.TheVariants.{TooMany}
 use Rattle.seccomp_doc.specs.Filter.{EntryValue, FilterValue}
-use Rattle.seccomp_doc.specs.Lawful.{IsLawful, IsLawfulAction, IsLawfulEntry, HasOneAction}
+use Rattle.seccomp_doc.specs.Lawful.{IsLawfulFilter, IsLawfulAction, IsLawfulEntry, HasOneAction}
 use Rattle.seccomp_doc.specs.Parts.{EntryPartsValue, FilterPartsValue, action_of, compare_of, entry_of, filter_of}
 use Rattle.seccomp_doc.specs.Checks.{Check, all_name_checks, entry_checks, errno_checks, fault_of, first_fault, has_too_many, is_large}
 use Rattle.seccomp_doc.proofs.EntryFacts.{both_false}
@@ -114,7 +114,7 @@ few_args (e ∷ es) h =
 
 pub lawful_filter : (p : FilterPartsValue) (default : Action) (entries : List EntryValue) → has_too_many p ≡ false → IsLawfulAction default →
     entries ≡ map entry_of p.entries → All IsLawfulEntry entries → HasOneAction entries →
-    IsLawful (record { default = default; architectures = p.architectures; flags = p.flags; entries = entries })
+    IsLawfulFilter (record { default = default; architectures = p.architectures; flags = p.flags; entries = entries })
 lawful_filter p default entries few small same lawful one =
     let counts = both_false (nat_lt 2048 (length p.entries) || nat_lt 64 (length p.architectures) || nat_lt 64 (length p.flags)) (list_any is_large p.entries) few in
     let lists = both_false (nat_lt 2048 (length p.entries) || nat_lt 64 (length p.architectures)) (nat_lt 64 (length p.flags)) counts.0 in
@@ -163,7 +163,7 @@ fault_of-last p v default entries shown eq done =
     (fault_of-names v done.few done.default_answer.0 done.entries_answer.1 ∙ ap (λ es. first_fault (all_name_checks [] es)) (sym (done.same ∙ done.entries_answer.0)))
 
 pub lawful_last : (v : FilterPartsValue) (default : Action) (entries shown : List EntryValue) → Steps v default entries shown → HasOneAction shown →
-    IsLawful (record { default = default; architectures = v.architectures; flags = v.flags; entries = entries })
+    IsLawfulFilter (record { default = default; architectures = v.architectures; flags = v.flags; entries = entries })
 lawful_last v default entries shown done one =
     lawful_filter v default entries done.few done.default_lawful done.entries_answer.0 done.entries_answer.2 (subst HasOneAction done.same one)
 

@@ -8,7 +8,7 @@ use Rattle.std.proofs.lemmas.List.Elements.{All-contains_itself, All-head, All-t
 use Rattle.std.proofs.lemmas.List.Folds.{list_any_at}
 use Rattle.seccomp_doc.specs.declared.action.Action.{Action}
 use Rattle.seccomp_doc.specs.Filter.{EntryValue, FilterValue}
-use Rattle.seccomp_doc.specs.Lawful.{IsLawful}
+use Rattle.seccomp_doc.specs.Lawful.{IsLawfulFilter}
 use Rattle.seccomp_doc.specs.Meaning.{admits_words, has_name, is_match, meaning}
 use Rattle.seccomp_doc.proofs.EntryFacts.{both_false}
 
@@ -38,7 +38,7 @@ first_none test default (e ∷ es) none =
     let parts = both_false (test e) (list_any test es) none in
     ap (λ b. option_map_or (λ x. x.action) (cond b (Some e) (find test es)) default) parts.0 ∙ first_none test default es parts.1
 
-pub meaning-matched : (f : FilterValue) → IsLawful f → (name words : List ℕ) → (e : EntryValue) → Contains f.entries e → is_match name words e ≡ true → meaning f name words ≡ e.action
+pub meaning-matched : (f : FilterValue) → IsLawfulFilter f → (name words : List ℕ) → (e : EntryValue) → Contains f.entries e → is_match name words e ≡ true → meaning f name words ≡ e.action
 meaning-matched f lawful name words e in_e matches =
     let has = first_true (has_name name e) (admits_words e.args words) matches in
     first_has (is_match name words) f.default e.action f.entries

@@ -40,7 +40,7 @@ HasOneAction entries =
     (name : List ℕ) → has_name name d ≡ true → has_name name e ≡ true → d.action ≡ e.action
 
 -- the counts are within their limits, each entry is lawful, and no name has two actions
-pub record IsLawful (f : FilterValue) : Type 0 where
+pub record IsLawfulFilter (f : FilterValue) : Type 0 where
   pub few_architectures : length f.architectures ≤ 64
   pub few_flags : length f.flags ≤ 64
   pub few_entries : length f.entries ≤ 2048

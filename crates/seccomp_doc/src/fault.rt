@@ -24,7 +24,7 @@ pub enum FilterFault {
     TwoActions(CallName),
     /// A count is above its limit.
     TooMany,
-    /// Memory was refused.
+    /// Memory was refused. No contract can say when: it may stand in place of any answer.
     NoMemory,
 }
 

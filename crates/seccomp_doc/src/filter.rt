@@ -4,7 +4,7 @@ ghost use Rattle.std.specs.Prelude.{◌≡◌, ◌≢◌, None, Some, All, IfErr
 ghost use Rattle.std.specs.List.{list_any};
 ghost use Rattle.std.specs.Option.{option_copied};
 ghost use Rattle.seccomp_doc.specs.Meaning.{is_match, meaning, only_default};
-ghost use Rattle.seccomp_doc.specs.Lawful.{IsLawful, IsLawfulEntry};
+ghost use Rattle.seccomp_doc.specs.Lawful.{IsLawfulFilter, IsLawfulEntry};
 ghost use Rattle.seccomp_doc.specs.Parts.{entry_of, filter_of};
 ghost use Rattle.seccomp_doc.specs.Checks.{Answers, entry_checks, fault_of, first_fault, has_too_many, is_large};
 
@@ -44,13 +44,13 @@ pub struct Filter {
 
 impl Model for Filter {
     ghost use Rattle.seccomp_doc.specs.Filter.{FilterValue};
-    ghost use Rattle.seccomp_doc.specs.Lawful.{IsLawful};
+    ghost use Rattle.seccomp_doc.specs.Lawful.{IsLawfulFilter};
 
     ghost Value = { FilterValue };
 
     ghost view = { λ f. record { default = f.default; architectures = f.architectures.items; flags = f.flags.items; entries = f.entries.items } };
 
-    ghost invariant = { λ f. IsLawful (record { default = f.default; architectures = f.architectures.items; flags = f.flags.items; entries = f.entries.items }) };
+    ghost invariant = { λ f. IsLawfulFilter (record { default = f.default; architectures = f.architectures.items; flags = f.flags.items; entries = f.entries.items }) };
 }
 
 impl Filter {
@@ -61,7 +61,7 @@ impl Filter {
     /// at last a name that an earlier entry has under another action. Memory may be refused at any point.
     pub fn new(alloc: Global, parts: FilterParts) -> Result<Filter, FilterFault>
         ensures answers { Answers (fault_of parts) (filter_of parts) result }
-        ensures lawful { IfOk result IsLawful }
+        ensures lawful { IfOk result IsLawfulFilter }
     {
         if has_too_many(&parts) {
             return Err(FilterFault::TooMany);
@@ -120,7 +120,7 @@ impl Filter {
     /// The entries, in the order of the document.
     pub fn entries(&self) -> &[Entry]
         ensures entries { result.now ≡ self.now.entries }
-        ensures lawful { IsLawful self.now }
+        ensures lawful { IsLawfulFilter self.now }
     {
         self.entries.as_slice()
     }

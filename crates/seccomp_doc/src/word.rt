@@ -11,7 +11,7 @@ pub enum WordFault {
     /// The text isn't of the form.
     #[error("not a word")]
     NotAWord,
-    /// Memory was refused; the text is of the form.
+    /// Memory was refused, which no contract can say when; the text is of the form.
     #[error("out of memory")]
     NoMemory,
 }

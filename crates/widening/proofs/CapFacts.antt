@@ -2,7 +2,7 @@
 use Rattle.std.proofs.Common.{◌≡◌, ◌∙◌, ap, refl, sym, ℕ, zero, suc, ◌+◌, ◌<◌, ◌≤◌, ◌^◌, List, [], ◌∷◌, Bool, true, false, not, ◌==◌, map, inl, inr, eqb-true, eq-eqb, arith}
 use Rattle.std.specs.Int.{bit_at}
 use Rattle.std.specs.List.{list_any, range_with_len}
-use Rattle.std.proofs.lemmas.Bool.{cases_Bool, cases_eq, cases_lt, and_from, and_right, and_left, ne_eqb, or_left, or_right, or_from, both_ways}
+use Rattle.std.proofs.lemmas.Bool.{cases_Bool, cases_eq, cases_lt, and_from, and_right, and_left, ne_eqb, not-false, or_left, or_right, or_from, both_ways}
 use Rattle.std.proofs.lemmas.Nat.Bits.{bit_at_above}
 use Rattle.cap_sets.specs.Capability.{Has, IsWithin}
 use Rattle.cap_sets.proofs.Lowest.{lowest_from_some, outside, within_from_none}
@@ -73,3 +73,10 @@ pub gains_from_bits : (base new read_base read_new : ℕ) → read_new ≡ new �
 gains_from_bits base new read_base read_new same_new same_base small known =
     ap (λ n. not (outside n read_base == 0)) same_new ∙ ap (λ b. not (outside new b == 0)) same_base
     ∙ ap not (gains_told base new small known) ∙ not_not (list_any (is_gained base new) (range_with_len 0 41))
+
+-- where none of them is outside, the set is within the other
+pub within_from_bits : (base new read_base read_new : ℕ) → read_new ≡ new → read_base ≡ base → base < 2 ^ 64 → new < 2 ^ 41 →
+    not (outside read_new read_base == 0) ≡ false → IsWithin new base
+within_from_bits base new read_base read_new same_new same_base small known none =
+    within_from_none new base (omega arith) small
+    (ap (λ n. outside n base) (sym same_new) ∙ ap (outside read_new) (sym same_base) ∙ eqb-true (outside read_new read_base) 0 (not-false _ none))

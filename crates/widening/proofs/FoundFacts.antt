@@ -2,11 +2,9 @@
 use Rattle.std.proofs.Common.{◌≡◌, ◌∙◌, ap, refl, sym, ℕ, zero, suc, ◌+◌, ◌<◌, List, [], ◌∷◌, ◌++◌, Bool, true, false, not, cond, ◌||◌, ◌&&◌, map, length, take, get_or, nat_lt, bytes_eq, append_assoc, add-one, arith}
 use Rattle.std.specs.Prelude.{filter, flat_map}
 use Rattle.std.specs.List.{list_any, range_with_len}
-use Rattle.std.proofs.lemmas.Bool.Decides.{same_from_decides}
 use Rattle.std.proofs.lemmas.List.{append-nil, map-append, take_more}
 use Rattle.std.proofs.lemmas.List.Elements.{filter-append}
 use Rattle.std.proofs.lemmas.List.Folds.{list_any-append}
-use Rattle.std.proofs.lemmas.Slice.Eq.{bytes_eq-Decides}
 use Rattle.cap_sets.specs.declared.state.CapState.{CapState}
 use Rattle.seccomp_doc.specs.Action.{rank_of}
 use Rattle.seccomp_doc.specs.Filter.{FilterValue}
@@ -17,9 +15,9 @@ use Rattle.profile_text.specs.Reads.{state_set}
 use Rattle.widening.specs.declared.finding.Finding.{Finding}
 use Rattle.widening.specs.declared.finding.Finding.TheVariants.{AnyArch, Arch, Call, Cap, Default, Flag}
 use Rattle.widening.specs.Calls.{entry_names, is_permitted_more}
-use Rattle.widening.specs.Findings.{arch_findings, between_filters, call_findings, call_names, cap_findings, compared_sets, default_findings, filter_findings, findings_of, flag_findings, gained, is_emptied, is_found, is_gained, is_wider, set_findings}
+use Rattle.widening.specs.Findings.{arch_findings, between_filters, call_findings, call_names, cap_findings, compared_sets, default_findings, filter_findings, findings_of, flag_findings, gained, gains, is_emptied, is_found, is_gained, is_wider, set_findings}
 use Rattle.widening.specs.Texts.{added_texts, adds_a_text, each_once, lists}
-use Rattle.widening.proofs.TextFacts.{list_any-each_once, list_any-in_byte_order}
+use Rattle.widening.proofs.TextFacts.{bytes_eq-swap, list_any-each_once, list_any-in_byte_order}
 
 pub is_found-append : (xs ys : List Finding) → is_found (xs ++ ys) ≡ (is_found xs || is_found ys)
 is_found-append [] ys = refl
@@ -53,9 +51,6 @@ range_with_len-push from zero = ap (λ n. n ∷ []) (omega arith)
 range_with_len-push from (suc count) =
     ap (λ ns. from ∷ ns) (range_with_len-push (from + 1) count)
     ∙ ap (λ n. from ∷ (range_with_len (from + 1) count ++ n ∷ [])) (omega arith)
-
-bytes_eq-swap : (a b : List ℕ) → bytes_eq a b ≡ bytes_eq b a
-bytes_eq-swap a b = let other = bytes_eq-Decides b a in same_from_decides _ _ (bytes_eq-Decides a b) ((λ e. sym (other.0 e)), (λ e. other.1 (sym e)))
 
 last_kept : (text last : List ℕ) (b : Bool) → filter (λ other. not (bytes_eq text other)) (cond b [] (last ∷ [])) ≡ cond (bytes_eq last text || b) [] (last ∷ [])
 last_kept text last true =
@@ -132,13 +127,6 @@ found_between base new =
     ∙ or_exchange ((is_emptied base.architectures new.architectures || adds_a_text base.architectures new.architectures) || adds_a_text base.flags new.flags)
     (is_found (call_findings base new)) (nat_lt (rank_of base.default) (rank_of new.default))
 
--- where the first of two answers is given, and where the second is
-pub or_then : (a b r : Bool) → r ≡ (a || b) → a ≡ true → a ≡ r
-or_then a b r e t = t ∙ sym (e ∙ ap (λ x. x || b) t)
-
-pub or_else : (a b r : Bool) → r ≡ (a || b) → a ≡ false → b ≡ r
-or_else a b r e f = sym (e ∙ ap (λ x. x || b) f)
-
 -- between two profiles
 pub found_in_all : (base new : Profile) → is_wider base new ≡ (is_found (cap_findings base.caps new.caps) || is_found (filter_findings base.filter new.filter))
 unfolding findings_of
@@ -206,17 +194,13 @@ five_or false false false false false = refl
 
 -- some set gains a capability
 pub found_caps : (base new : CapState) → is_found (cap_findings base new)
-    ≡ ((((list_any (is_gained base.effective new.effective) (range_with_len 0 41) || list_any (is_gained base.permitted new.permitted) (range_with_len 0 41))
-    || list_any (is_gained base.inheritable new.inheritable) (range_with_len 0 41)) || list_any (is_gained base.bounding new.bounding) (range_with_len 0 41))
-    || list_any (is_gained base.ambient new.ambient) (range_with_len 0 41))
-unfolding gained
+    ≡ ((((gains base.effective new.effective || gains base.permitted new.permitted) || gains base.inheritable new.inheritable) || gains base.bounding new.bounding)
+    || gains base.ambient new.ambient)
+unfolding gained gains
 found_caps base new =
-    let g : CapSet → Bool = λ set. list_any (is_gained (state_set set base) (state_set set new)) (range_with_len 0 41) in
+    let g : CapSet → Bool = λ set. gains (state_set set base) (state_set set new) in
     let one : (set : CapSet) → is_found (set_findings base new set) ≡ g set = λ set. is_found-filter (Cap set) (is_gained (state_set set base) (state_set set new)) (range_with_len 0 41) in
     let rest : (set : CapSet) (others : List Finding) (b : Bool) → is_found others ≡ b → is_found (set_findings base new set ++ others) ≡ (g set || b) =
     λ set others b e. is_found-append (set_findings base new set) others ∙ ap (λ x. x || is_found others) (one set) ∙ ap (λ x. g set || x) e in
     rest Effective _ _ (rest Permitted _ _ (rest Inheritable _ _ (rest Bounding _ _ (rest Ambient [] false refl))))
     ∙ five_or (g Effective) (g Permitted) (g Inheritable) (g Bounding) (g Ambient)
-
-pub five_told : {a b c d e v w x y z : Bool} → a ≡ v → b ≡ w → c ≡ x → d ≡ y → e ≡ z → ((((a || b) || c) || d) || e) ≡ ((((v || w) || x) || y) || z)
-five_told p q r s t = cc

@@ -11,7 +11,6 @@ use Rattle.std.specs.Ordering.{nat_cmp}
 use Rattle.std.specs.declared.vec.Vec.{Vec}
 use Rattle.std.proofs.Math.Seq.{drop-append_seam}
 use Rattle.std.proofs.lemmas.Bool.{and_from, cases_Bool, lt-ltb, ltb-true}
-use Rattle.std.proofs.lemmas.Bool.Decides.{same_from_decides}
 use Rattle.std.proofs.lemmas.List.{drop_more, length-append, length-take-le, take_more}
 use Rattle.std.proofs.lemmas.List.Concat.{flat_map-append}
 use Rattle.std.proofs.lemmas.List.Elements.{All-weaker}
@@ -26,7 +25,8 @@ use Rattle.implication.specs.Implication.{entry_implies}
 use Rattle.widening.specs.Calls.{entry_rank, is_at_most_entries, is_at_most_possible, is_covered, is_default_covered, is_kept, is_plain, keeps_to, permits_no_more, rules_of}
 use Rattle.widening.specs.Groups.{AreWithin, HasSameElements, entries_at, places_from, places_of, places_under}
 use Rattle.widening.specs.Ranks.{rules_with}
-use Rattle.widening.proofs.Searches.{list_any-flat_map}
+use Rattle.widening.proofs.Searches.{list_any-flat_map, or_none}
+use Rattle.widening.proofs.TextFacts.{bytes_eq-swap}
 
 -- ---- tests of lists with the same elements
 
@@ -72,19 +72,12 @@ permits_same d n xs ys zs ws same new =
 
 -- ---- one name more, and one entry more
 
-or_none : (b : Bool) → (b || false) ≡ b
-or_none true = refl
-or_none false = refl
-
 or_spread : (a b t h : Bool) → ((a || (b && t)) || (h && t)) ≡ (a || ((b || h) && t))
 or_spread true b t h = refl
 or_spread false true true h = refl
 or_spread false true false true = refl
 or_spread false true false false = refl
 or_spread false false t h = refl
-
-bytes_eq-swap : (a b : List ℕ) → bytes_eq a b ≡ bytes_eq b a
-bytes_eq-swap a b = let other = bytes_eq-Decides b a in same_from_decides _ _ (bytes_eq-Decides a b) ((λ e. sym (other.0 e)), (λ e. other.1 (sym e)))
 
 -- `old`, `mid` and `new` give the places under a name: at first, before this name of the entry, and after it
 pub name_added : (old mid new : List ℕ → List ℕ) (names : List (List ℕ)) (i : ℕ) (name shown : List ℕ) (place : ℕ) →

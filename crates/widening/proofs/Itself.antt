@@ -11,7 +11,7 @@ use Rattle.cap_sets.specs.declared.state.CapState.{CapState}
 use Rattle.seccomp_doc.specs.declared.compare.Compare.{Compare}
 use Rattle.seccomp_doc.specs.Action.{rank_of}
 use Rattle.seccomp_doc.specs.Filter.{EntryValue, FilterValue}
-use Rattle.seccomp_doc.specs.Lawful.{IsLawful}
+use Rattle.seccomp_doc.specs.Lawful.{IsLawfulFilter}
 use Rattle.seccomp_doc.specs.Meaning.{has_name}
 use Rattle.profile_text.specs.declared.profile.Profile.{Profile}
 use Rattle.profile_text.specs.Reads.{state_set}
@@ -105,7 +105,7 @@ entry_implies_itself e =
     list_any_at (λ c. c.index == d.index && implies c d) e.args in_args.0 d in_args.1
     (ap (λ c. c.index == d.index && implies c d) in_args.2 ∙ and_from (d.index == d.index) (implies d d) (eq-eqb d.index d.index refl) (implies_itself d)))
 
-module _ (f : FilterValue) (lawful : IsLawful f) (name : List ℕ) where
+module _ (f : FilterValue) (lawful : IsLawfulFilter f) (name : List ℕ) where
   abbrev own_rules : Rules
   own_rules = rules_of name f
 
@@ -133,13 +133,13 @@ none_fail : (p : List ℕ → Bool) → ((x : List ℕ) → p x ≡ true) → (x
 none_fail p all [] = refl
 none_fail p all (x ∷ xs) = ap (λ b. cond (not b) (x ∷ filter (λ y. not (p y)) xs) (filter (λ y. not (p y)) xs)) (all x) ∙ none_fail p all xs
 
-no_call : (f : FilterValue) → IsLawful f → call_findings f f ≡ []
+no_call : (f : FilterValue) → IsLawfulFilter f → call_findings f f ≡ []
 no_call f lawful = ap (map Call) (none_fail (keeps_to f f) (keeps_to_itself f lawful) (call_names f f))
 
 no_default : (f : FilterValue) → default_findings f f ≡ []
 no_default f = ap (λ b. cond b (Default ∷ []) []) (le-ltb (rank_of f.default) (rank_of f.default) (omega arith))
 
-no_filter_finding : (filter : Option FilterValue) → IfSome filter IsLawful → filter_findings filter filter ≡ []
+no_filter_finding : (filter : Option FilterValue) → IfSome filter IsLawfulFilter → filter_findings filter filter ≡ []
 no_filter_finding None lawful = refl
 no_filter_finding (Some f) lawful =
     ap (λ found. found ++ flag_findings f.flags f.flags ++ call_findings f f ++ default_findings f f) (no_architecture f.architectures)
@@ -151,6 +151,6 @@ no_cap : (state : CapState) → cap_findings state state ≡ []
 unfolding gained
 no_cap state = flat_map_empty (set_findings state state) (λ set. ap (map (Cap set)) (filter_against (λ n. bit_at (state_set set state) n == 1) (range_with_len 0 41))) compared_sets
 
-pub nothing_found : (p : Profile) → IfSome p.filter IsLawful → findings_of p p ≡ []
+pub nothing_found : (p : Profile) → IfSome p.filter IsLawfulFilter → findings_of p p ≡ []
 unfolding findings_of
 nothing_found p lawful = ap (λ found. found ++ filter_findings p.filter p.filter) (no_cap p.caps) ∙ no_filter_finding p.filter lawful

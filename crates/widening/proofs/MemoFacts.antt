@@ -11,15 +11,7 @@ use Rattle.implication.specs.Implication.{entry_implies}
 use Rattle.widening.specs.Groups.{entries_at}
 use Rattle.widening.specs.Memo.{AreRows, IsRow, IsRowOrEmpty}
 use Rattle.widening.proofs.GroupFacts.{entries_at-more}
-use Rattle.widening.proofs.Searches.{list_any-flat_map}
-
-or_none : (b : Bool) → (b || false) ≡ b
-or_none true = refl
-or_none false = refl
-
-and_true : (b : Bool) → (b && true) ≡ b
-and_true true = refl
-and_true false = refl
+use Rattle.widening.proofs.Searches.{and_true, list_any-flat_map, or_none}
 
 -- what stands in a row is told
 pub row_tells : (e : EntryValue) (others : List EntryValue) (row : List (Option Bool)) → IsRow e others row → (place : ℕ) → place < length row → (told : Bool) →

@@ -113,3 +113,7 @@ empty_from_test (f ∷ found) none = cc
 
 pub no_wider_by_test : (base new : Profile) → HasKnownCaps new.caps → is_wider base new ≡ false → IsNoWider base new
 no_wider_by_test base new known none = no_wider base new known (empty_from_test (findings_of base new) none)
+
+-- the same by the parts of the test
+pub no_wider_by_parts : (base new : Profile) → HoldsNoMore base.caps new.caps → is_found (filter_findings base.filter new.filter) ≡ false → IsNoWider base new
+no_wider_by_parts base new caps none = record { caps = caps; calls = allows_no_more base.filter new.filter (empty_from_test (filter_findings base.filter new.filter) none) }

@@ -1,5 +1,5 @@
 -- What ranks tell of the entries that they are of.
-use Rattle.std.proofs.Common.{◌≡◌, ◌∙◌, ap, refl, sym, ℕ, ◌+◌, ◌<◌, ◌≤◌, List, [], ◌∷◌, ◌++◌, Bool, true, false, not, ◌||◌, ◌&&◌, Option, Some, None, cond, filter, get_or, length, subst, take, nat_le, nat_lt, inl, inr, arith}
+use Rattle.std.proofs.Common.{◌≡◌, ◌∙◌, ap, refl, sym, ℕ, ◌+◌, ◌<◌, ◌≤◌, List, [], ◌∷◌, ◌++◌, Bool, true, false, not, ◌||◌, ◌&&◌, Some, None, cond, filter, get_or, length, subst, take, nat_le, nat_lt, inl, inr, arith}
 use Rattle.std.specs.List.{list_all, list_any}
 use Rattle.std.proofs.lemmas.Bool.{and_from, and_parts, cases_lt, false_from_ne_true, le-leb, le-ltb, lt-leb, or_from, or_left, or_cases, both_ways}
 use Rattle.std.proofs.lemmas.Bool.Decides.{nat_tests}
@@ -13,10 +13,11 @@ use Rattle.seccomp_doc.specs.Filter.{EntryValue}
 use Rattle.implication.specs.Implication.{entry_implies}
 use Rattle.widening.specs.declared.ranks.Ranks.{Ranks}
 use Rattle.widening.specs.declared.ranks.Span.{Span}
-use Rattle.widening.specs.Calls.{Rules, entry_rank, is_at_most_entries, is_at_most_possible, is_covered, is_default_covered, is_kept, is_plain, permits_no_more}
+use Rattle.widening.specs.Calls.{Rules, entry_rank, is_at_most_entries, is_at_most_possible, is_covered, is_default_covered, is_kept, is_plain}
 use Rattle.widening.specs.Groups.{entries_at}
 use Rattle.widening.specs.Ranks.{AreRanksOf, do_imply, is_in, rules_with}
 use Rattle.widening.proofs.GroupFacts.{entries_at-more}
+use Rattle.widening.proofs.Searches.{and_true}
 
 pub rank-most : (a : Action) → rank_of a ≤ 6
 rank-most KillProcess = omega arith
@@ -44,14 +45,6 @@ list_all-weaker p q weaker (x ∷ xs) all =
 list_all-each : {X : Type 0} (p : X → Bool) → ((x : X) → p x ≡ true) → (xs : List X) → list_all p xs ≡ true
 list_all-each p each [] = refl
 list_all-each p each (x ∷ xs) = and_from (p x) (list_all p xs) (each x) (list_all-each p each xs)
-
-and_true : (b : Bool) → (b && true) ≡ b
-and_true true = refl
-and_true false = refl
-
-or_false : (b : Bool) → (b || false) ≡ b
-or_false true = refl
-or_false false = refl
 
 -- ---- what has to imply
 
@@ -213,14 +206,12 @@ stricter_must_imply base new possible tells plain high most b n of_base of_new =
 
 -- ---- the test of a name by what is asked
 
-module _ (b n : Rules) (of_new of_base : Option Span) (covered : list_all (is_covered b) n.entries ≡ do_imply of_new n.entries b.entries)
-    (default : is_default_covered b n ≡ do_imply of_base b.entries n.entries) (first : Bool) (asked : first ≡ do_imply of_new n.entries b.entries) where
-  pub both_imply : first ≡ true → (second : Bool) → second ≡ do_imply of_base b.entries n.entries → second ≡ permits_no_more b n
-  both_imply passes second next =
-      next ∙ sym default ∙ sym (ap (λ x. x && is_default_covered b n) (covered ∙ sym asked ∙ passes))
+-- where the first of two tests passes, and where it fails
+pub and_then : (a b r : Bool) → r ≡ (a && b) → a ≡ true → b ≡ r
+and_then a b r e t = sym (e ∙ ap (λ x. x && b) t)
 
-  pub first_fails : first ≡ false → false ≡ permits_no_more b n
-  first_fails fails = sym (ap (λ x. x && is_default_covered b n) (covered ∙ sym asked ∙ fails))
+pub and_else : (a b r : Bool) → r ≡ (a && b) → a ≡ false → a ≡ r
+and_else a b r e f = f ∙ sym (e ∙ ap (λ x. x && b) f)
 
 -- ---- an entry more
 

@@ -1,9 +1,17 @@
 -- Tests of lists, and what a search finds.
-use Rattle.std.proofs.Common.{◌≡◌, ◌∙◌, ap, refl, sym, List, [], ◌∷◌, Bool, true, false, cond, ◌||◌, Some, None, map, inl, inr}
+use Rattle.std.proofs.Common.{◌≡◌, ◌∙◌, ap, refl, sym, List, [], ◌∷◌, Bool, true, false, cond, ◌||◌, ◌&&◌, Some, None, map, inl, inr}
 use Rattle.std.specs.Prelude.{find, filter}
 use Rattle.std.specs.List.{list_all, list_any, flat_map}
 use Rattle.std.proofs.lemmas.Bool.{cases_Bool, cond-true, cond-false, and_parts, or_cases, or_left, or_right, or_from, or_parts}
 use Rattle.std.proofs.lemmas.List.Folds.{list_any-append}
+
+pub or_none : (b : Bool) → (b || false) ≡ b
+or_none true = refl
+or_none false = refl
+
+pub and_true : (b : Bool) → (b && true) ≡ b
+and_true true = refl
+and_true false = refl
 
 module _ {X : Type 0} where
   -- what is found passes the test

@@ -9,11 +9,17 @@ use Rattle.std.specs.Cmp.Lexicographic.{slice_cmp}
 use Rattle.std.specs.Borrow.{Bor}
 use Rattle.std.specs.BTreeSet.{insert_key}
 use Rattle.std.proofs.lemmas.Bool.{cases_Bool, or_left, or_right}
+use Rattle.std.proofs.lemmas.Bool.Decides.{same_from_decides}
 use Rattle.std.proofs.lemmas.Map.Lookups.{exact_bytes}
 use Rattle.std.proofs.lemmas.List.{take_more}
 use Rattle.std.proofs.lemmas.List.Sums.{fold-append}
 use Rattle.std.proofs.lemmas.Slice.Eq.{bytes_eq-Decides}
 use Rattle.widening.specs.Texts.{each_once, in_byte_order, lists, put_in_order}
+use Rattle.widening.proofs.Searches.{or_none}
+
+-- equality of texts, the other way round
+pub bytes_eq-swap : (a b : List ℕ) → bytes_eq a b ≡ bytes_eq b a
+bytes_eq-swap a b = let other = bytes_eq-Decides b a in same_from_decides _ _ (bytes_eq-Decides a b) ((λ e. sym (other.0 e)), (λ e. other.1 (sym e)))
 
 or_swap : (a b c : Bool) → (a || (b || c)) ≡ (b || (a || c))
 or_swap true true c = refl
@@ -23,10 +29,6 @@ or_swap false b c = refl
 or_twice : (a b : Bool) → (a || b) ≡ (a || (a || b))
 or_twice true b = refl
 or_twice false b = refl
-
-or-false : (a : Bool) → (a || false) ≡ a
-or-false true = refl
-or-false false = refl
 
 or_comm : (a b : Bool) → (a || b) ≡ (b || a)
 or_comm true true = refl
@@ -52,7 +54,7 @@ module _ (p : List ℕ → Bool) where
       list_any-placed (slice_cmp nat_cmp k x) k x xs (insert_key (slice_cmp nat_cmp) xs k) (exact_bytes k x) (list_any-insert_key xs k)
 
   pub list_any-put_in_order : (ordered texts : List (List ℕ)) → list_any p (put_in_order ordered texts) ≡ (list_any p ordered || list_any p texts)
-  list_any-put_in_order ordered [] = sym (or-false (list_any p ordered))
+  list_any-put_in_order ordered [] = sym (or_none (list_any p ordered))
   list_any-put_in_order ordered (text ∷ texts) =
       list_any-put_in_order (insert_key (slice_cmp nat_cmp) ordered text) texts
       ∙ ap (λ b. b || list_any p texts) (list_any-insert_key ordered text ∙ or_comm (p text) (list_any p ordered))

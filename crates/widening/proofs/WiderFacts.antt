@@ -11,12 +11,8 @@ use Rattle.seccomp_doc.specs.Filter.{EntryValue}
 use Rattle.seccomp_doc.specs.Meaning.{has_name}
 use Rattle.widening.specs.Calls.{entry_names}
 use Rattle.widening.specs.Texts.{in_byte_order, lists, put_in_order}
-use Rattle.widening.proofs.Searches.{list_any-flat_map, list_any-weaker}
+use Rattle.widening.proofs.Searches.{and_true, list_any-flat_map, list_any-weaker}
 use Rattle.widening.proofs.TextFacts.{passes_where_listed, put_in_order-append}
-
-and_true : (b : Bool) → (b && true) ≡ b
-and_true true = refl
-and_true false = refl
 
 -- a name that stands before, or that fails, changes nothing
 pub new_name_more : (p : List ℕ → Bool) (names earlier : List (List ℕ)) (i : ℕ) (name shown : List ℕ) (told : Bool) →

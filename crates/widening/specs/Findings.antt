@@ -1,7 +1,7 @@
 -- What a new profile permits, or may permit, and its baseline doesn't: the list of findings, in its order.
 use Rattle.std.specs.Prelude.{ℕ, ◌==◌, List, [], ◌∷◌, ◌++◌, Bool, true, false, not, ◌&&◌, nat_lt, if◌then◌else◌, Option, Some, None, filter, map, flat_map, length}
 use Rattle.std.specs.Int.{bit_at}
-use Rattle.std.specs.List.{range_with_len}
+use Rattle.std.specs.List.{list_any, range_with_len}
 use Rattle.cap_sets.specs.declared.state.CapState.{CapState}
 use Rattle.seccomp_doc.specs.Action.{rank_of}
 use Rattle.seccomp_doc.specs.Filter.{FilterValue}
@@ -25,6 +25,10 @@ is_gained base new n = bit_at new n == 1 && not (bit_at base n == 1)
 -- the capabilities of a set that the baseline's hasn't, by rising number
 unfoldable pub gained : ℕ → ℕ → List ℕ
 gained base new = filter (is_gained base new) (range_with_len 0 41)
+
+-- there are some
+unfoldable pub gains : ℕ → ℕ → Bool
+gains base new = list_any (is_gained base new) (range_with_len 0 41)
 
 abbrev pub set_findings : CapState → CapState → CapSet → List Finding
 set_findings base new set = map (Cap set) (gained (state_set set base) (state_set set new))

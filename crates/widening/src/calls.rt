@@ -9,7 +9,7 @@ ghost use Rattle.implication.specs.Implication.{entry_implies};
 ghost use Rattle.widening.specs.Calls.{keeps_to, rules_of};
 ghost use Rattle.widening.specs.Ranks.{AreRanksOf, do_imply, is_in, rules_with};
 
-use crate::ranks::{Ranks, Span, asked_of_base, asked_of_new};
+use crate::ranks::{Asked, Ranks, Span};
 use implication::entry_implies;
 use seccomp_doc::{Entry, Filter};
 
@@ -17,10 +17,7 @@ use seccomp_doc::{Entry, Filter};
 pub(crate) fn keeps_to(base: &Filter, new: &Filter, name: &str) -> bool
     ensures { result ≡ keeps_to base.now new.now name.now }
 {
-    let base_ranks = ranks_of(base, name);
-    let new_ranks = ranks_of(new, name);
-    let of_new = asked_of_new(base_ranks, new_ranks);
-    let of_base = asked_of_base(base_ranks, new_ranks);
+    let Asked { of_new, of_base } = Asked::between(ranks_of(base, name), ranks_of(new, name));
     do_imply(of_new, new, base, name) && do_imply(of_base, base, new, name)
 }
 

@@ -1,10 +1,11 @@
 // Capability sets compared.
 
-ghost use Rattle.std.specs.Prelude.{◌≡◌, ◌<◌, ◌==◌, ◌^◌, ◌∷◌, ◌++◌, [], OnOk, if◌then◌else◌, map};
+ghost use Rattle.std.specs.Prelude.{◌≡◌, ◌<◌, ◌==◌, ◌∷◌, ◌++◌, [], OnOk, if◌then◌else◌, map};
+ghost use Rattle.std.specs.Bool.{OnFalse};
 ghost use Rattle.std.specs.Int.{bit_at};
-ghost use Rattle.std.specs.List.{list_any, range_with_len};
-ghost use Rattle.profile_text.specs.Reads.{HasKnownCaps};
-ghost use Rattle.widening.specs.Findings.{cap_findings, gained, is_found, is_gained};
+ghost use Rattle.cap_sets.specs.Capability.{IsWithin};
+ghost use Rattle.widening.specs.Findings.{cap_findings, gained, gains, is_found, is_gained};
+ghost use Rattle.widening.specs.Permits.{HoldsNoMore};
 
 use crate::finding::Finding;
 use cap_sets::{CapState, Caps};
@@ -12,6 +13,7 @@ use profile_text::CapSet;
 use std::alloc::AllocError;
 
 // Adds each capability that a set of the new state has and the baseline's hasn't, set by set.
+#[tactic(auto, using(crate::proofs::FoundFacts::five_found))]
 pub(crate) fn find_caps(
     found: &mut Vec<Finding>,
     base: &CapState,
@@ -74,22 +76,24 @@ fn has(caps: Caps, number: u8) -> bool
 }
 
 // Whether some set of the new state has a capability that the baseline's hasn't.
+#[tactic(auto, using(crate::proofs::FoundFacts::found_caps))]
 pub(crate) fn gains_a_cap(base: &CapState, new: &CapState) -> bool
     ensures told { result ≡ is_found (cap_findings base.now new.now) }
-    ensures known { HasKnownCaps new.now }
+
+    // Where it is false, each of the new sets is within the baseline's.
+    ensures no_more { OnFalse result (HoldsNoMore base.now new.now) }
 {
-    let effective = gains(base.effective, new.effective);
-    let permitted = gains(base.permitted, new.permitted);
-    let inheritable = gains(base.inheritable, new.inheritable);
-    let bounding = gains(base.bounding, new.bounding);
-    let ambient = gains(base.ambient, new.ambient);
-    effective | permitted | inheritable | bounding | ambient
+    gains(base.effective, new.effective)
+        || gains(base.permitted, new.permitted)
+        || gains(base.inheritable, new.inheritable)
+        || gains(base.bounding, new.bounding)
+        || gains(base.ambient, new.ambient)
 }
 
 // Whether the new set has a capability that the baseline's hasn't.
 fn gains(base: Caps, new: Caps) -> bool
-    ensures told { result ≡ list_any (is_gained base new) (range_with_len 0 41) }
-    ensures known { new < 2 ^ 41 }
+    ensures told { result ≡ gains base new }
+    ensures no_more { OnFalse result (IsWithin new base) }
 {
     new.bits() & !base.bits() != 0
 }

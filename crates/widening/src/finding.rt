@@ -1,7 +1,13 @@
 // Findings.
 
+ghost use Rattle.std.specs.Prelude.{◌≡◌, ℕ, List, IfOk};
+ghost use Rattle.widening.specs.declared.finding.Finding.{Finding};
+
 use profile_text::CapSet;
-use seccomp_doc::{Arch, CallName, ScmpFlag};
+use seccomp_doc::arch::ArchForm;
+use seccomp_doc::flag::FlagForm;
+use seccomp_doc::{Arch, CallName, Form, ScmpFlag};
+use std::alloc::{AllocError, Global};
 
 /// Something that a new profile permits, or may permit, and its baseline doesn't.
 #[derive(Debug, Drop)]
@@ -20,4 +26,32 @@ pub enum Finding {
     Call(CallName),
     /// The new filter's default is more permissive than the baseline's.
     Default,
+}
+
+// A form of texts that findings are of.
+pub(crate) trait Found: Form {
+    // The finding of a text.
+    ghost finding_of: { List ℕ → Finding };
+
+    // The finding of a text of this form.
+    fn finding_of(alloc: Global, text: &str) -> Result<Finding, AllocError>
+        ensures { IfOk result (λ finding. finding ≡ finding_of text.now) };
+}
+
+impl Found for ArchForm {
+    ghost finding_of = { λ text. Finding.Arch text };
+
+    fn finding_of(alloc: Global, text: &str) -> Result<Finding, AllocError> {
+        let arch = Arch::read(alloc, text).map_err(|_| AllocError)?;
+        Ok(Finding::Arch(arch))
+    }
+}
+
+impl Found for FlagForm {
+    ghost finding_of = { λ text. Finding.Flag text };
+
+    fn finding_of(alloc: Global, text: &str) -> Result<Finding, AllocError> {
+        let flag = ScmpFlag::read(alloc, text).map_err(|_| AllocError)?;
+        Ok(Finding::Flag(flag))
+    }
 }

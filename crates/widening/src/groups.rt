@@ -9,7 +9,7 @@ ghost use Rattle.widening.specs.Memo.{IsMemo};
 ghost use Rattle.widening.specs.Ranks.{AreRanksOf, rules_with};
 
 use crate::memo::{Memo, do_imply};
-use crate::ranks::{Ranks, asked_of_base, asked_of_new};
+use crate::ranks::{Asked, Ranks};
 use seccomp_doc::{Action, Entry, Filter};
 use std::alloc::{AllocError, Global};
 use std::collections::BTreeMap;
@@ -95,8 +95,7 @@ pub(crate) fn keeps_to(
     let new_group = new.group(name);
     let base_ranks = base_group.ranks(base.filter.default_action());
     let new_ranks = new_group.ranks(new.filter.default_action());
-    let of_new = asked_of_new(base_ranks, new_ranks);
-    let of_base = asked_of_base(base_ranks, new_ranks);
+    let Asked { of_new, of_base } = Asked::between(base_ranks, new_ranks);
     let new_entries_do = do_imply(alloc, &mut memo.of_new, of_new, &new_group, &base_group)?;
     if !new_entries_do {
         return Ok(false);

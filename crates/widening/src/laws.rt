@@ -6,7 +6,7 @@ ghost use Rattle.std.specs.List.Sorted.{IsStrictlySortedBy};
 ghost use Rattle.std.specs.Ordering.{nat_cmp};
 ghost use Rattle.profile_text.specs.Reads.{HasKnownCaps};
 ghost use Rattle.profile_text.specs.declared.profile.Profile.{Profile};
-ghost use Rattle.seccomp_doc.specs.Lawful.{IsLawful};
+ghost use Rattle.seccomp_doc.specs.Lawful.{IsLawfulFilter};
 ghost use Rattle.widening.specs.Findings.{called, findings_of, is_wider};
 ghost use Rattle.widening.specs.Permits.{IsNoWider};
 
@@ -19,7 +19,7 @@ pub fn no_finding_permits_no_more()
 
 /// Nothing is found between a profile and itself.
 pub fn nothing_is_found_against_itself()
-    ensures { (p : Profile) → IfSome p.filter IsLawful → findings_of p p ≡ [] }
+    ensures { (p : Profile) → IfSome p.filter IsLawfulFilter → findings_of p p ≡ [] }
 {}
 
 /// The names of the calls that are found stand once each, in byte order.

@@ -1,11 +1,11 @@
-// Architectures and flags compared.
+// Lists of texts compared: of architectures, of flags, and of names.
 
-ghost use Rattle.std.specs.Prelude.{◌≡◌, ◌&&◌, ◌∷◌, ◌++◌, [], OnOk, if◌then◌else◌, not};
-ghost use Rattle.widening.specs.Findings.{arch_findings, flag_findings, is_emptied};
-ghost use Rattle.widening.specs.Texts.{adds_a_text, lists};
+ghost use Rattle.std.specs.Prelude.{◌≡◌, ◌&&◌, ◌∷◌, ◌++◌, [], OnOk, if◌then◌else◌, map, not};
+ghost use Rattle.widening.specs.Findings.{arch_findings, is_emptied};
+ghost use Rattle.widening.specs.Texts.{added_texts, adds_a_text, lists};
 
-use crate::finding::Finding;
-use seccomp_doc::{Arch, ScmpFlag};
+use crate::finding::{Finding, Found};
+use seccomp_doc::{Arch, Form, Formed};
 use std::alloc::{AllocError, Global};
 
 // Adds each architecture that only the new filter lists.
@@ -21,61 +21,38 @@ pub(crate) fn find_architectures(
         found.push(Finding::AnyArch)?;
         return Ok(());
     }
-    for i in 0..new.len() {
-        find_architecture(alloc, found, base, &new[..i], &new[i])?;
-    }
-    Ok(())
+    find_added(alloc, found, base, new)
 }
 
-// Adds the architecture, where neither the baseline nor an earlier place lists it.
-fn find_architecture(
+// Adds each text that only the new list has.
+pub(crate) fn find_added<F: Found>(
     alloc: Global,
     found: &mut Vec<Finding>,
-    base: &[Arch],
-    earlier: &[Arch],
-    arch: &Arch,
+    base: &[Formed<F>],
+    new: &[Formed<F>],
 ) -> Result<(), AllocError>
-    ensures { OnOk result (found.new.items ≡ found.old.items
-        ++ (if not (lists earlier.now arch.now) && not (lists base.now arch.now) then Finding.Arch arch.now ∷ [] else [])) }
-{
-    let text = arch.as_str();
-    if !lists_architecture(earlier, text) && !lists_architecture(base, text) {
-        let arch = Arch::read(alloc, text).map_err(|_| AllocError)?;
-        found.push(Finding::Arch(arch))?;
-    }
-    Ok(())
-}
-
-// Adds each flag that only the new filter has.
-pub(crate) fn find_flags(
-    alloc: Global,
-    found: &mut Vec<Finding>,
-    base: &[ScmpFlag],
-    new: &[ScmpFlag],
-) -> Result<(), AllocError>
-    ensures { OnOk result (found.new.items ≡ found.old.items ++ flag_findings base.now new.now) }
+    ensures { OnOk result (found.new.items ≡ found.old.items ++ map F.finding_of (added_texts base.now new.now)) }
 {
     for i in 0..new.len() {
-        find_flag(alloc, found, base, &new[..i], &new[i])?;
+        find_text(alloc, found, base, &new[..i], &new[i])?;
     }
     Ok(())
 }
 
-// Adds the flag, where neither the baseline nor an earlier place has it.
-fn find_flag(
+// Adds the text, where neither the baseline nor an earlier place lists it.
+fn find_text<F: Found>(
     alloc: Global,
     found: &mut Vec<Finding>,
-    base: &[ScmpFlag],
-    earlier: &[ScmpFlag],
-    flag: &ScmpFlag,
+    base: &[Formed<F>],
+    earlier: &[Formed<F>],
+    text: &Formed<F>,
 ) -> Result<(), AllocError>
     ensures { OnOk result (found.new.items ≡ found.old.items
-        ++ (if not (lists earlier.now flag.now) && not (lists base.now flag.now) then Finding.Flag flag.now ∷ [] else [])) }
+        ++ (if not (lists earlier.now text.now) && not (lists base.now text.now) then F.finding_of text.now ∷ [] else [])) }
 {
-    let text = flag.as_str();
-    if !lists_flag(earlier, text) && !lists_flag(base, text) {
-        let flag = ScmpFlag::read(alloc, text).map_err(|_| AllocError)?;
-        found.push(Finding::Flag(flag))?;
+    let text = text.as_str();
+    if !lists(earlier, text) && !lists(base, text) {
+        found.push(F::finding_of(alloc, text)?)?;
     }
     Ok(())
 }
@@ -87,29 +64,16 @@ pub(crate) fn is_emptied(base: &[Arch], new: &[Arch]) -> bool
     new.is_empty() && !base.is_empty()
 }
 
-// Whether the new filter lists an architecture that the baseline's doesn't.
-pub(crate) fn adds_an_architecture(base: &[Arch], new: &[Arch]) -> bool
+// Whether the new list has a text that the baseline's hasn't.
+pub(crate) fn adds_a_text<F: Form>(base: &[Formed<F>], new: &[Formed<F>]) -> bool
     ensures { result ≡ adds_a_text base.now new.now }
 {
-    new.iter()
-        .any(|arch| !lists_architecture(base, arch.as_str()))
+    new.iter().any(|text| !lists(base, text.as_str()))
 }
 
-// Whether the new filter has a flag that the baseline's hasn't.
-pub(crate) fn adds_a_flag(base: &[ScmpFlag], new: &[ScmpFlag]) -> bool
-    ensures { result ≡ adds_a_text base.now new.now }
+// Whether the list has the text.
+pub(crate) fn lists<F: Form>(texts: &[Formed<F>], text: &str) -> bool
+    ensures { result ≡ lists texts.now text.now }
 {
-    new.iter().any(|flag| !lists_flag(base, flag.as_str()))
-}
-
-fn lists_architecture(architectures: &[Arch], text: &str) -> bool
-    ensures { result ≡ lists architectures.now text.now }
-{
-    architectures.iter().any(|arch| arch.as_str() == text)
-}
-
-fn lists_flag(flags: &[ScmpFlag], text: &str) -> bool
-    ensures { result ≡ lists flags.now text.now }
-{
-    flags.iter().any(|flag| flag.as_str() == text)
+    texts.iter().any(|own| own.as_str() == text)
 }

@@ -9,7 +9,7 @@ ghost use Rattle.widening.specs.Texts.{put_in_order, texts_in};
 use crate::caps::find_caps;
 use crate::finding::Finding;
 use crate::groups::{Groups, keeps_to};
-use crate::listed::{find_architectures, find_flags};
+use crate::listed::{find_added, find_architectures};
 use crate::memo::Memo;
 use profile_text::Profile;
 use seccomp_doc::{CallName, Entry, Filter};
@@ -26,7 +26,7 @@ use std::collections::BTreeSet;
 ///
 /// # Errors
 ///
-/// Memory was refused.
+/// Memory was refused. No contract can say when.
 #[tactic(auto, unfolding(crate::specs::Findings::findings_of))]
 pub fn findings(alloc: Global, base: &Profile, new: &Profile) -> Result<Vec<Finding>, AllocError>
     ensures { IfOk result (λ found. found.items ≡ findings_of base.now new.now) }
@@ -66,7 +66,7 @@ fn find_between(
     ensures { OnOk result (found.new.items ≡ found.old.items ++ between_filters base.now new.now) }
 {
     find_architectures(alloc, found, base.architectures(), new.architectures())?;
-    find_flags(alloc, found, base.flags(), new.flags())?;
+    find_added(alloc, found, base.flags(), new.flags())?;
     find_calls(alloc, found, base, new)?;
     find_default(found, base, new)
 }

@@ -1,10 +1,10 @@
 // What the ranks of a name's entries tell without a look at their comparisons, and which entries must imply another.
 
-ghost use Rattle.std.specs.Prelude.{◌≡◌, ◌∷◌, ◌++◌, [], ℕ, List, ◌≤◌, nat_le};
+ghost use Rattle.std.specs.Prelude.{◌≡◌, ◌&&◌, ◌∷◌, ◌++◌, [], ℕ, List, ◌≤◌, nat_le};
 ghost use Rattle.std.specs.List.{list_all};
 ghost use Rattle.seccomp_doc.specs.declared.action.Action.{Action as ActionValue};
 ghost use Rattle.seccomp_doc.specs.Filter.{EntryValue};
-ghost use Rattle.widening.specs.Calls.{Rules, entry_rank, is_at_most_possible, is_covered, is_default_covered};
+ghost use Rattle.widening.specs.Calls.{Rules, is_at_most_possible, is_covered, is_default_covered, permits_no_more};
 ghost use Rattle.widening.specs.Ranks.{AreRanksOf, do_imply, is_in, rules_with};
 
 use seccomp_doc::{Action, Entry};
@@ -87,9 +87,30 @@ impl Ranks {
     }
 }
 
+// The ranks of the entries that must imply one of the other rules', so that new rules permit no more than a baseline's: of
+// the new entries, and of the baseline's. Without a span the new rules permit more, whatever the entries compare.
+#[derive(Clone, Copy)]
+pub(crate) struct Asked {
+    pub(crate) of_new: Option<Span>,
+    pub(crate) of_base: Option<Span>,
+}
+
+impl Asked {
+    // What is asked of rules with these ranks.
+    pub(crate) fn between(base: Ranks, new: Ranks) -> Asked
+        ensures { (b n : Rules) → AreRanksOf base b → AreRanksOf new n →
+            permits_no_more b n ≡ (do_imply result.of_new n.entries b.entries && do_imply result.of_base b.entries n.entries) }
+    {
+        Asked {
+            of_new: asked_of_new(base, new),
+            of_base: asked_of_base(base, new),
+        }
+    }
+}
+
 // The ranks of the new entries that must imply one of the baseline's, so that each permits no more. Without a span one
 // permits more, whatever it compares.
-pub(crate) fn asked_of_new(base: Ranks, new: Ranks) -> Option<Span>
+fn asked_of_new(base: Ranks, new: Ranks) -> Option<Span>
     ensures { (b n : Rules) → AreRanksOf base b → AreRanksOf new n →
         list_all (is_covered b) n.entries ≡ do_imply result n.entries b.entries }
 {
@@ -108,7 +129,7 @@ pub(crate) fn asked_of_new(base: Ranks, new: Ranks) -> Option<Span>
 
 // The ranks of the baseline's entries that must imply a new one, so that the new default permits no more. Without a span
 // it permits more, whatever they compare.
-pub(crate) fn asked_of_base(base: Ranks, new: Ranks) -> Option<Span>
+fn asked_of_base(base: Ranks, new: Ranks) -> Option<Span>
     ensures { (b n : Rules) → AreRanksOf base b → AreRanksOf new n →
         is_default_covered b n ≡ do_imply result b.entries n.entries }
 {

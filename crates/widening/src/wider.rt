@@ -12,7 +12,7 @@ ghost use Rattle.widening.specs.Texts.{adds_a_text, lists};
 
 use crate::calls::keeps_to;
 use crate::caps::gains_a_cap;
-use crate::listed::{adds_a_flag, adds_an_architecture, is_emptied};
+use crate::listed::{adds_a_text, is_emptied, lists};
 use profile_text::Profile;
 use seccomp_doc::{CallName, Entry, Filter};
 
@@ -20,6 +20,7 @@ use seccomp_doc::{CallName, Entry, Filter};
 ///
 /// It takes no memory, and looks at all entries for each name: with as many names as a filter can have that takes seconds.
 /// `findings` groups the entries by name first, and is the call for documents of others.
+#[tactic(auto, using(crate::proofs::FoundFacts::found_in_all, crate::proofs::Permitted::no_wider_by_parts))]
 pub fn is_wider(base: &Profile, new: &Profile) -> bool
     ensures told { result ≡ is_wider base.now new.now }
 
@@ -41,6 +42,7 @@ fn are_filters_wider(base: &Option<Filter>, new: &Option<Filter>) -> bool
 }
 
 // Whether there is a finding between two filters.
+#[tactic(auto, using(crate::proofs::FoundFacts::found_between))]
 fn is_filter_wider(base: &Filter, new: &Filter) -> bool
     ensures { result ≡ is_found (between_filters base.now new.now) }
 {
@@ -54,14 +56,14 @@ fn is_setting_wider(base: &Filter, new: &Filter) -> bool
         || adds_a_text base.now.flags new.now.flags)
         || nat_lt (rank_of base.now.default) (rank_of new.now.default)) }
 {
-    let emptied = is_emptied(base.architectures(), new.architectures());
-    let architecture = adds_an_architecture(base.architectures(), new.architectures());
-    let flag = adds_a_flag(base.flags(), new.flags());
-    let default = base.default_action().rank() < new.default_action().rank();
-    emptied | architecture | flag | default
+    is_emptied(base.architectures(), new.architectures())
+        || adds_a_text(base.architectures(), new.architectures())
+        || adds_a_text(base.flags(), new.flags())
+        || base.default_action().rank() < new.default_action().rank()
 }
 
 // Whether the new filter may permit a call of some name more.
+#[tactic(auto, using(crate::proofs::FoundFacts::found_calls))]
 fn gains_a_call(base: &Filter, new: &Filter) -> bool
     ensures { result ≡ is_found (call_findings base.now new.now) }
 {
@@ -104,14 +106,7 @@ fn is_new_and_more(
     ensures { result ≡ (not (lists names.now name.now) && (not (list_any (has_name name.now) earlier.now)
         && is_permitted_more base.now new.now name.now)) }
 {
-    !is_among(names, name) && (!is_named(earlier, name) && !keeps_to(base, new, name))
-}
-
-// Whether the name is one of these.
-fn is_among(names: &[CallName], name: &str) -> bool
-    ensures { result ≡ lists names.now name.now }
-{
-    names.iter().any(|own| own.as_str() == name)
+    !lists(names, name) && (!is_named(earlier, name) && !keeps_to(base, new, name))
 }
 
 // Whether an entry has the name.

@@ -143,7 +143,7 @@ const LONGEST_HEAD: &str =
 // A submission of a document of 262,144 bytes.
 fn longest_submission(alloc: Global) -> Result<String, AllocError> {
     let spaces = " ".repeat(alloc, 262_125)?;
-    [LONGEST_HEAD, "{\"capabilities\":{}}", spaces.as_str()].concat(alloc)
+    [LONGEST_HEAD, r#"{"capabilities":{}}"#, spaces.as_str()].concat(alloc)
 }
 
 #[test]

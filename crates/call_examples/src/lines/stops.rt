@@ -106,7 +106,7 @@ fn a_submission_whose_answer_is_cut_stands(rt: HostRuntime) -> Result<(), Fail> 
         &rt,
         rt.alloc(),
         &mut office,
-        (SUBMIT, manner, ends, "{\"answer\":"),
+        (SUBMIT, manner, ends, r#"{"answer":"#),
     );
     take_turn(
         &rt,

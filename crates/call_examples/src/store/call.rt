@@ -98,7 +98,7 @@ fn add<S: Alter>(
 {
     let author = subject.name.clone()?;
     let body = Text::new(String::from_str(alloc, "{}")?);
-    add_revision(alloc, conn, &subject.profile, author, body, [7; 32])
+    add_revision(conn, &subject.profile, author, body, [7; 32])
 }
 
 fn bits(answer: Result<Caps, StoreFault>) -> Result<u64, StoreFault> {

@@ -86,7 +86,7 @@ pub fn add<S: Alter>(
     let Sample { user, profile } = sample;
     let author = user.name.clone()?;
     let body = Text::new(String::from_str(alloc, body)?);
-    add_revision(alloc, conn, profile, author, body, user.digest)
+    add_revision(conn, profile, author, body, user.digest)
 }
 
 /// Has the user approve the first revision.

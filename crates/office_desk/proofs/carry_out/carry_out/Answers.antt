@@ -3,7 +3,7 @@ use Rattle.sqlite.specs.Held.{state}
 use Rattle.review_policy.specs.declared.denial.Rule.TheVariants.{CallerUnknown}
 use Rattle.profile_text.specs.Digest.{digest_of}
 use Rattle.office_policy.specs.Verdict.{verdict_of, verdict}
-use Rattle.office_policy.specs.Lawful.{IsLawful}
+use Rattle.office_policy.specs.Lawful.{IsLawfulHistory}
 use Rattle.office_desk.specs.declared.refusal.Refusal.TheVariants as refusals
 use Rattle.office_desk.specs.Carries.{Knows}
 use Rattle.office_desk.proofs.Carrying.{left, read_fails, refused_after, then_carries_for}
@@ -23,7 +23,7 @@ returns-in_default-clause-carried g c =
 
 pub returns-clause-carried : goal.returns-clause-carried
 returns-clause-carried g c =
-    then_carries_for IsLawful (Knows c.in-Some.caller) (λ h. verdict h c.args.request.now) (λ h. verdict_of h (Some c.in-Some.caller) c.args.request.now.ask) (state g.S.Store c.args.conn.now) (state g.S.Store c.user_by_token.new.conn)
+    then_carries_for IsLawfulHistory (Knows c.in-Some.caller) (λ h. verdict h c.args.request.now) (λ h. verdict_of h (Some c.in-Some.caller) c.args.request.now.ask) (state g.S.Store c.args.conn.now) (state g.S.Store c.user_by_token.new.conn)
     (state g.S.Store c.carry_out_for.new.conn) _ c.in_ok-caller.field-0 c.in_ok-caller.ensures.read c.carry_out_for.result
     (λ h lawful is. known h lawful c.digest-token.result c.in_ok-caller.field-0 c.in-Some.caller c.in-Some.is is)
     (λ h lawful is. ap (λ u. verdict_of h u c.args.request.now.ask) (sym c.in-Some.is)

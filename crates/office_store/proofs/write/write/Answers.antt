@@ -14,7 +14,7 @@ pub returns-in-Err-clause-write : goal.returns-in-Err-clause-write
 returns-in-Err-clause-write g c =
     let some : 0 < length (map statement_of c.args.statements.now) = omega (arith, c.requires.some, length-map c.args.statements.now statement_of) in
     write_refused g.S.Store (map statement_of c.args.statements.now) some c.args.conn.now c.run_all.new.conn c.requires.idle c.run_all.ensures.mode
-    (g.met.S.Store.settled c.run_all.new.conn.store) c.run_all.ensures.was_open c.run_all.ensures.crash _ c.in-Err.error c.fault_of.result c.fault_of.ensures c.in-Err.ensures.none c.in-Err.ensures.cause
+    (g.met.S.Store.settled c.run_all.new.conn.store) c.run_all.ensures.was_open c.run_all.ensures.crash _ c.in-Err.error c.fault_of_error.result c.fault_of_error.ensures c.in-Err.ensures.none c.in-Err.ensures.cause
 
 pub returns-in-Err-clause-cause : goal.returns-in-Err-clause-cause
-returns-in-Err-clause-cause g c clean = record { error = c.in-Err.error; failed = c.in-Err.ensures.cause clean; fault = c.fault_of.ensures }
+returns-in-Err-clause-cause g c clean = record { error = c.in-Err.error; failed = c.in-Err.ensures.cause clean; fault = c.fault_of_error.ensures }

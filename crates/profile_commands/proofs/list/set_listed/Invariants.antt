@@ -1,5 +1,6 @@
 use Rattle.std.proofs.Common.{◌≡◌, length, IsUtf8}
-use Rattle.profile_commands.specs.Lists.{parts_of, set_listed, with_names}
+use Rattle.cap_sets.specs.Capability.{with_names}
+use Rattle.profile_commands.specs.Lists.{parts_of, set_listed}
 use Rattle.profile_commands.proofs.list.set_listed.Given as goal
 
 abbrev pub invariant-names : goal.invariant-names

@@ -1,5 +1,4 @@
 use Rattle.std.proofs.Common.{ℕ, List, ◌∙◌, ◌∷◌, ◌++◌, ap, codes, decimal, map}
-use Rattle.std.proofs.lemmas.List.{map-id}
 use Rattle.std.specs.Prelude.{string_bytes}
 use Rattle.seccomp_doc.specs.declared.action.Action.{Action}
 use Rattle.review_sheet.specs.Filters.{action_text, arg_line}
@@ -20,6 +19,5 @@ returns c =
     line_then start one three (first e.action) (names ∷ args)
     (c.in_ok-push_numbered.ensures ∙ ap (λ a. start ++ ended (first a)) c.action.ensures)
     (line_then one two three names args
-    (c.in_ok-push_list.ensures ∙ ap (λ ns. one ++ ended (codes "  names: " ++ items_text ns))
-    (map-id c.names-called.result.now ∙ c.names-called.ensures.names))
+    (c.in_ok-push_list.ensures ∙ ap (λ ns. one ++ ended (codes "  names: " ++ items_text ns)) c.names-called.ensures.names)
     (c.in_ok-push_args.ensures ∙ ap (λ cs. two ++ joined (map arg_line cs)) c.args-compared.ensures.args))

@@ -1,5 +1,4 @@
 use Rattle.std.proofs.Common.{◌∙◌, ◌∷◌, ◌++◌, ap, codes, decimal, length}
-use Rattle.std.proofs.lemmas.List.{map-id}
 use Rattle.std.specs.Prelude.{string_bytes}
 use Rattle.review_sheet.specs.Filters.{action_text, entries_lines}
 use Rattle.review_sheet.specs.Layout.{ended, items_text, joined}
@@ -22,10 +21,9 @@ returns c =
     line_then (string_bytes c.args.text.now) one five default (architectures ∷ flags ∷ count ∷ entries)
     (c.in_ok-push_default.ensures ∙ ap (λ a. string_bytes c.args.text.now ++ ended (codes "seccomp: " ++ action_text a)) c.default_action.ensures)
     (line_then one two five architectures (flags ∷ count ∷ entries)
-    (c.in_ok-push_list.ensures ∙ ap (λ names. one ++ ended (codes "architectures: " ++ items_text names))
-    (map-id c.architectures.result.now ∙ c.architectures.ensures))
+    (c.in_ok-push_list.ensures ∙ ap (λ names. one ++ ended (codes "architectures: " ++ items_text names)) c.architectures.ensures)
     (line_then two three five flags (count ∷ entries)
-    (c.in_ok-push_list-2.ensures ∙ ap (λ names. two ++ ended (codes "flags: " ++ items_text names)) (map-id c.flags.result.now ∙ c.flags.ensures))
+    (c.in_ok-push_list-2.ensures ∙ ap (λ names. two ++ ended (codes "flags: " ++ items_text names)) c.flags.ensures)
     (line_then three four five count entries
     (c.in_ok-push_count.ensures ∙ ap (λ es. three ++ ended (codes "entries: " ++ decimal (length es))) c.entries-entries.ensures.entries)
     (c.in_ok-push_entries.ensures ∙ ap (λ es. four ++ joined (entries_lines 1 es)) c.entries-entries.ensures.entries))))

@@ -1,8 +1,8 @@
-use Rattle.std.proofs.Common.{◌≡◌, ◌∙◌, false, rules, tests, true}
+use Rattle.std.proofs.Common.{◌≡◌, ◌∙◌, false, rules, sym, tests, true}
 use Rattle.widening.specs.Groups.{entries_at}
 use Rattle.widening.specs.Ranks.{rules_with}
 use Rattle.widening.proofs.GroupFacts.{grouped_keeps}
-use Rattle.widening.proofs.RankFacts.{both_imply, first_fails}
+use Rattle.widening.proofs.RankFacts.{and_else, and_then}
 use Rattle.widening.proofs.groups.keeps_to.Goals as goal
 
 pub returns-clause-told : goal.returns-clause-told
@@ -12,10 +12,8 @@ returns-clause-told c =
     let b = rules_with c.default_action.result xs in
     let n = rules_with c.default_action-2.result zs in
     let passes : c.in_ok-new_entries_do.new_entries_do ≡ true = search (rules, tests) in
-    both_imply b n c.asked_of_new-of_new.result c.asked_of_base-of_base.result
-    (c.asked_of_new-of_new.ensures b n c.ranks-base_ranks.ensures c.ranks-new_ranks.ensures)
-    (c.asked_of_base-of_base.ensures b n c.ranks-base_ranks.ensures c.ranks-new_ranks.ensures)
-    c.in_ok-new_entries_do.new_entries_do c.in_ok-new_entries_do.ensures.told passes c.in_ok-base_entries_do.base_entries_do c.in_ok-base_entries_do.ensures.told
+    c.in_ok-base_entries_do.ensures.told
+    ∙ and_then _ _ _ (c.between-of_new.ensures b n c.ranks-base_ranks.ensures c.ranks-new_ranks.ensures) (sym c.in_ok-new_entries_do.ensures.told ∙ passes)
     ∙ grouped_keeps c.args.base.now.filter.now c.args.new.now.filter.now c.args.name.now c.default_action.result c.default_action-2.result xs zs
     c.default_action.ensures c.default_action-2.ensures c.group-base_group.ensures.named c.group-new_group.ensures.named
 
@@ -26,9 +24,7 @@ returns-then-not-new_entries_do-clause-told c =
     let b = rules_with c.default_action.result xs in
     let n = rules_with c.default_action-2.result zs in
     let fails : c.in_ok-new_entries_do.new_entries_do ≡ false = search (rules, tests) in
-    first_fails b n c.asked_of_new-of_new.result c.asked_of_base-of_base.result
-    (c.asked_of_new-of_new.ensures b n c.ranks-base_ranks.ensures c.ranks-new_ranks.ensures)
-    (c.asked_of_base-of_base.ensures b n c.ranks-base_ranks.ensures c.ranks-new_ranks.ensures)
-    c.in_ok-new_entries_do.new_entries_do c.in_ok-new_entries_do.ensures.told fails
+    sym fails ∙ c.in_ok-new_entries_do.ensures.told
+    ∙ and_else _ _ _ (c.between-of_new.ensures b n c.ranks-base_ranks.ensures c.ranks-new_ranks.ensures) (sym c.in_ok-new_entries_do.ensures.told ∙ fails)
     ∙ grouped_keeps c.args.base.now.filter.now c.args.new.now.filter.now c.args.name.now c.default_action.result c.default_action-2.result xs zs
     c.default_action.ensures c.default_action-2.ensures c.group-base_group.ensures.named c.group-new_group.ensures.named

@@ -1,8 +1,8 @@
-//! Digests as a command line writes them.
+//! Digests as requests and command lines write them.
 
 ghost use Rattle.std.specs.Prelude.{◌≡◌};
 ghost use Rattle.std.specs.List.{list_all};
-ghost use Rattle.founding_words.specs.Digests.{digest_of, is_lower_digit};
+ghost use Rattle.review_policy.specs.Digests.{digest_from_hex, is_lower_digit};
 
 use hex::FromHex;
 
@@ -21,9 +21,9 @@ fn has_lower_digits(bytes: &[u8]) -> bool
 }
 
 /// The 32 bytes that 64 lower-case hexadecimal digits write; none where the text is anything else.
-#[tactic(auto, unfolding(crate::specs::Digests::digest_of))]
-pub(crate) fn digest_of(text: &str) -> Option<[u8; 32]>
-    ensures { result ≡ digest_of text.now }
+#[tactic(auto, unfolding(crate::specs::Digests::digest_from_hex))]
+pub fn digest_from_hex(text: &str) -> Option<[u8; 32]>
+    ensures { result ≡ digest_from_hex text.now }
 {
     if has_lower_digits(text.as_bytes()) {
         <[u8; 32] as FromHex>::from_hex(text).ok()

@@ -1,5 +1,5 @@
 use Rattle.office_commands.proofs.ServingFacts.{none_passed_on, none_served}
-use Rattle.office_commands.proofs.serving.serve_bound.Goals as goal
+use Rattle.office_commands.proofs.serve.serve_bound.Goals as goal
 
 pub returns-in_err-listener : goal.returns-in_err-listener
 returns-in_err-listener g c = none_passed_on _ _ c.from_residual.result _ c.from_residual.ensures.1
