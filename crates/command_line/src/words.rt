@@ -18,7 +18,7 @@ use crate::serve::{add_serve, serve_of};
 use clap::ArgMatches;
 use std::alloc::{AllocError, Global};
 
-// The version of the program: that of the newest heading of CHANGELOG.md, which the stored run of `office_examples` compares.
+// The version of the program: that of the newest heading of CHANGELOG.md, which the stored run of `office_transcripts` compares.
 const VERSION: &str = "0.1.0";
 
 const ABOUT: &str = "A review office for container sandbox profiles";

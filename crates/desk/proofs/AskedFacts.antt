@@ -1,20 +1,21 @@
 -- What a line of some length asks, and what comes of it.
 use Rattle.std.proofs.Common.{◌≡◌, ℕ, ◌<◌, ◌≤◌, List, Result, Err, length, refl, subst}
 use Rattle.std.proofs.lemmas.Bool.{lt-ltb, le-ltb}
-use Rattle.sqlite.specs.State.{State}
 use Rattle.review_policy.specs.declared.ask.Request.{Request}
 use Rattle.review_policy.specs.declared.answer.Answer.{Answer}
-use Rattle.office_desk.specs.Handled.{IsHandled as IsRequestHandled}
-use Rattle.request_lines.specs.declared.bad.BadLine.{BadLine}
-use Rattle.request_lines.specs.declared.bad.BadLine.TheVariants.{TooLong}
-use Rattle.request_lines.specs.declared.fault.LineFault.{LineFault}
-use Rattle.request_lines.specs.Faults.{Tells}
-use Rattle.request_lines.specs.Plain.{PlainRequest}
-use Rattle.request_lines.specs.Requests.{request_in, asked, Asks}
+use Rattle.office_policy.specs.Meaning.{Meaning}
+use Rattle.office_policy.specs.Handled.{IsHandled as IsRequestHandled}
+use Rattle.json_requests.specs.declared.bad.BadLine.{BadLine}
+use Rattle.json_requests.specs.declared.bad.BadLine.TheVariants.{TooLong}
+use Rattle.json_requests.specs.declared.fault.LineFault.{LineFault}
+use Rattle.json_requests.specs.Faults.{Tells}
+use Rattle.json_requests.specs.Plain.{PlainRequest}
+use Rattle.json_requests.specs.Requests.{request_in, asked, Asks}
 use Rattle.desk.specs.declared.outcome.Outcome.{Outcome}
 use Rattle.desk.specs.declared.outcome.Outcome.TheVariants.{Bad, NoMemory, Answered}
 use Rattle.desk.specs.Stands.{IsHandled}
-use Rattle.desk.proofs.LeftFacts.{left_by_one}
+use Rattle.office_policy.proofs.LeftFacts.{left_by_one}
+use Rattle.office_policy.proofs.SurvivalFacts.{survives_none}
 
 pub asked_long : (line : List ℕ) → 300000 < length line → asked line ≡ Err TooLong
 unfolding asked
@@ -24,39 +25,43 @@ pub asked_short : (line : List ℕ) → length line ≤ 300000 → asked line �
 unfolding asked
 asked_short line short = rw (le-ltb 300000 (length line) short) refl
 
--- ---- what comes of a line
+module _ {X : Type 0} (m : Meaning X) where
+  -- ---- what comes of a line
 
--- it is no request
-pub handled_bad : (s : State) (line : List ℕ) (fault : BadLine) → asked line ≡ Err fault → IsHandled s s line (Bad fault)
-handled_bad s line fault is = record {
-  clean = λ clean. clean;
-  policy = λ h office clean. is;
-  office = λ h office. office;
-  crash = λ h office clean trees may. may;
-}
+  -- it is no request
+  pub handled_bad : (s : X) (line : List ℕ) (fault : BadLine) → asked line ≡ Err fault → IsHandled m s s line (Bad fault)
+  handled_bad s line fault is = record {
+    survives = survives_none m s;
+    policy = λ h office clean. is;
+    office = λ h office. office;
+    stands = λ h office clean stood. stood;
+    crash = λ h office clean left may. may;
+  }
 
--- it is the same line
-pub handled_as : (old new : State) (line same : List ℕ) (outcome : Outcome) → line ≡ same → IsHandled old new line outcome → IsHandled old new same outcome
-handled_as old new line same outcome is handled = subst (λ (l : List ℕ). IsHandled old new l outcome) is handled
+  -- it is the same line
+  pub handled_as : (old new : X) (line same : List ℕ) (outcome : Outcome) → line ≡ same → IsHandled m old new line outcome → IsHandled m old new same outcome
+  handled_as old new line same outcome is handled = subst (λ (l : List ℕ). IsHandled m old new l outcome) is handled
 
--- it was not read
-pub handled_unread : (s : State) (line : List ℕ) → IsHandled s s line NoMemory
-handled_unread s line = record {
-  clean = λ clean. clean;
-  policy = λ h office clean. tt;
-  office = λ h office. office;
-  crash = λ h office clean trees may. may;
-}
+  -- it was not read
+  pub handled_unread : (s : X) (line : List ℕ) → IsHandled m s s line NoMemory
+  handled_unread s line = record {
+    survives = survives_none m s;
+    policy = λ h office clean. tt;
+    office = λ h office. office;
+    stands = λ h office clean stood. stood;
+    crash = λ h office clean left may. may;
+  }
 
--- its request was handled
-pub handled_answered : (old new : State) (line : List ℕ) (request : Request) (answer : Answer) → Asks line request → IsRequestHandled old new request answer
-    → IsHandled old new line (Answered request answer)
-handled_answered old new line request answer asks handled = record {
-  clean = handled.clean;
-  policy = λ h office clean. (asks, handled.answer h office clean);
-  office = handled.office;
-  crash = λ h office clean. left_by_one old.may_leave old new h request answer handled office clean (λ trees may. may);
-}
+  -- its request was handled
+  pub handled_answered : (old new : X) (line : List ℕ) (request : Request) (answer : Answer) → Asks line request → IsRequestHandled m old new request answer
+      → IsHandled m old new line (Answered request answer)
+  handled_answered old new line request answer asks handled = record {
+    survives = handled.survives;
+    policy = λ h office clean. (asks, handled.answer h office clean);
+    office = handled.office;
+    stands = handled.stands;
+    crash = λ h office clean. left_by_one m (m.may_leave old) old new h request answer handled office clean (λ left may. may);
+  }
 
 -- ---- the fault of a line
 

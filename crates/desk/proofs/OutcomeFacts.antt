@@ -2,17 +2,24 @@
 use Rattle.std.proofs.Common.{◌≡◌, ◌∙◌, ℕ, ◌<◌, List, [], ◌∷◌, ◌++◌, Option, length, take, refl, sym, ap, subst, arith, append-nil, append_assoc, length-append}
 use Rattle.std.proofs.KnownBytes.{Appends-nil, Appends-trans}
 use Rattle.std.specs.Io.KnownBytes.{Appends}
-use Rattle.counted_io.specs.Steps.{AppendsPart}
-use Rattle.sqlite.specs.State.{State}
+use Rattle.streams.specs.Steps.{AppendsPart}
 use Rattle.office_policy.specs.History.{History}
-use Rattle.office_desk.specs.Offices.{IsOffice}
-use Rattle.request_lines.specs.Answers.{line_of}
-use Rattle.request_lines.specs.Bad.{bad_line}
+use Rattle.office_policy.specs.Runs.{history_after}
+use Rattle.office_policy.specs.Meaning.{Meaning}
+use Rattle.office_policy.specs.Handled.{UnlessFaulty, Stands}
+use Rattle.office_policy.specs.Ran.{UnlessLastFaulty}
+use Rattle.office_policy.proofs.SurvivalFacts.{survives_on, survives_none}
+use Rattle.review_policy.specs.declared.ask.Request.{Request}
+use Rattle.review_policy.specs.declared.answer.Answer.{Answer}
+use Rattle.review_policy.specs.declared.answer.Answer.TheVariants.{Done, Denied, Fault}
+use Rattle.json_requests.specs.declared.bad.BadLine.{BadLine}
+use Rattle.json_requests.specs.Answers.{line_of}
+use Rattle.json_requests.specs.Bad.{bad_line}
 use Rattle.desk.specs.declared.outcome.Outcome.{Outcome}
 use Rattle.desk.specs.declared.outcome.Outcome.TheVariants.{Bad, NoMemory, Answered}
-use Rattle.desk.specs.Outcomes.{IsOutcome, history_after_line, told, AreOutcomes, history_after_lines, transcript}
+use Rattle.desk.specs.Outcomes.{IsOutcome, history_after_line, told, AreOutcomes, history_after_lines, answers_of, transcript}
 use Rattle.desk.specs.Left.{LeftAfterLines}
-use Rattle.desk.specs.Stands.{IsHandled, AreHandled, AreAnswered, AreCutShort}
+use Rattle.desk.specs.Stands.{StandsAfterLine, IsHandled, AreHandled, AreAnswered, AreCutShort}
 use Rattle.desk.proofs.LeftFacts.{left_more_lines, left_by_more}
 
 outcomes_more : (h : History) (lines : List (List ℕ)) (os : List Outcome) (line : List ℕ) (o : Outcome) → AreOutcomes h lines os
@@ -37,51 +44,109 @@ told_some (Bad fault) = omega (arith, length-append {A = ℕ})
 told_some NoMemory = omega (arith, length-append {A = ℕ})
 told_some (Answered request answer) = omega (arith, length-append {A = ℕ})
 
-pub handled_more : (old mid new : State) (lines : List (List ℕ)) (os : List Outcome) (line : List ℕ) (o : Outcome)
-    → AreHandled old mid lines os → IsHandled mid new line o → AreHandled old new (lines ++ line ∷ []) (os ++ o ∷ [])
-handled_more old mid new lines os line o s more = record {
-  clean = λ clean. s.clean (more.clean clean);
-  policy = λ h office clean.
-      outcomes_more h lines os line o (s.policy h office (more.clean clean)) (more.policy (history_after_lines h os) (s.office h office) clean);
-  office = λ h office. subst (λ (x : History). IsOffice x new) (sym (after_more h os o)) (more.office (history_after_lines h os) (s.office h office));
-  crash = λ h office clean trees may.
-      let left = more.crash (history_after_lines h os) (s.office h office) clean trees may in
-      let before = s.crash h office (more.clean clean) in
-      left_more_lines old.may_leave h os o trees (left_by_more mid.may_leave (LeftAfterLines old.may_leave h os) (history_after_lines h os) o before trees left);
-}
+-- a line that asks nothing adds no answer
+answers_bad : (os : List Outcome) (fault : BadLine) → answers_of (os ++ Bad fault ∷ []) ≡ answers_of os
+answers_bad [] fault = refl
+answers_bad (Bad other ∷ os) fault = answers_bad os fault
+answers_bad (NoMemory ∷ os) fault = answers_bad os fault
+answers_bad (Answered r a ∷ os) fault = ap (λ answers. a ∷ answers) (answers_bad os fault)
 
-pub none_handled : (s : State) → AreHandled s s [] []
-none_handled s = record { clean = λ clean. clean; policy = λ h office clean. tt; office = λ h office. office; crash = λ h office clean trees may. may }
+answers_unread : (os : List Outcome) → answers_of (os ++ NoMemory ∷ []) ≡ answers_of os
+answers_unread [] = refl
+answers_unread (Bad fault ∷ os) = answers_unread os
+answers_unread (NoMemory ∷ os) = answers_unread os
+answers_unread (Answered r a ∷ os) = ap (λ answers. a ∷ answers) (answers_unread os)
 
-pub answered_none : (s : State) (w : Option (List ℕ)) → AreAnswered s s w w []
-answered_none s w = record { outcomes = []; handled = none_handled s; written = Appends-nil w }
+answers_more : (os : List Outcome) (r : Request) (a : Answer) → answers_of (os ++ Answered r a ∷ []) ≡ answers_of os ++ a ∷ []
+answers_more [] r a = refl
+answers_more (Bad fault ∷ os) r a = answers_more os r a
+answers_more (NoMemory ∷ os) r a = answers_more os r a
+answers_more (Answered q b ∷ os) r a = ap (λ answers. b ∷ answers) (answers_more os r a)
 
-module _ (old mid new : State) (before between after : Option (List ℕ)) (lines : List (List ℕ)) (line : List ℕ) (o : Outcome)
-    (so_far : AreAnswered old mid before between lines) (more : IsHandled mid new line o) where
-  pub answered_more : Appends between after (told o) → AreAnswered old new before after (lines ++ line ∷ [])
-  answered_more writes = record {
-    outcomes = so_far.outcomes ++ o ∷ [];
-    handled = handled_more old mid new lines so_far.outcomes line o so_far.handled more;
-    written = rw transcript_more (Appends-trans before between after (transcript so_far.outcomes) (told o) so_far.written writes);
+-- what holds unless the last answer is a fault
+unless_last : (answers : List Answer) (a : Answer) (P : Type 0) → UnlessFaulty a P → UnlessLastFaulty (answers ++ a ∷ []) P
+unless_last [] a P p = p
+unless_last (b ∷ []) a P p = p
+unless_last (b ∷ c ∷ answers) a P p = unless_last (c ∷ answers) a P p
+
+unless_weaker : (answers : List Answer) (P Q : Type 0) → (P → Q) → UnlessLastFaulty answers P → UnlessLastFaulty answers Q
+unless_weaker [] P Q then p = tt
+unless_weaker (Done reply ∷ []) P Q then p = then p
+unless_weaker (Denied denial fault ∷ []) P Q then p = then p
+unless_weaker (Fault fault ∷ []) P Q then p = tt
+unless_weaker (a ∷ b ∷ answers) P Q then p = unless_weaker (b ∷ answers) P Q then p
+
+module _ {X : Type 0} (m : Meaning X) where
+  -- the last request was answered by no fault
+  stands_more : (mid new : X) (h : History) (os : List Outcome) (o : Outcome)
+      → UnlessLastFaulty (answers_of os) (Stands m (history_after_lines h os) mid)
+      → StandsAfterLine m (history_after_lines h os) mid new o
+      → UnlessLastFaulty (answers_of (os ++ o ∷ [])) (Stands m (history_after_lines h (os ++ o ∷ [])) new)
+  stands_more mid new h os (Bad fault) before last =
+      rw (after_more h os (Bad fault), answers_bad os fault)
+      (unless_weaker (answers_of os) (Stands m (history_after_lines h os) mid) (Stands m (history_after_lines h os) new) last before)
+  stands_more mid new h os NoMemory before last =
+      rw (after_more h os NoMemory, answers_unread os)
+      (unless_weaker (answers_of os) (Stands m (history_after_lines h os) mid) (Stands m (history_after_lines h os) new) last before)
+  stands_more mid new h os (Answered r a) before last =
+      rw (after_more h os (Answered r a), answers_more os r a)
+      (unless_last (answers_of os) a (Stands m (history_after (history_after_lines h os) r a) new) last)
+
+  pub handled_more : (old mid new : X) (lines : List (List ℕ)) (os : List Outcome) (line : List ℕ) (o : Outcome)
+      → AreHandled m old mid lines os → IsHandled m mid new line o → AreHandled m old new (lines ++ line ∷ []) (os ++ o ∷ [])
+  handled_more old mid new lines os line o s more = record {
+    survives = survives_on m old mid new s.survives more.survives;
+    policy = λ h office clean.
+        outcomes_more h lines os line o (s.policy h office (more.survives.clean clean)) (more.policy (history_after_lines h os) (s.office h office) clean);
+    office = λ h office. subst (λ (x : History). m.is_of x new) (sym (after_more h os o)) (more.office (history_after_lines h os) (s.office h office));
+    stands = λ h office clean.
+        let before = s.stands h office (more.survives.clean clean) in
+        let last = more.stands (history_after_lines h os) (s.office h office) clean in
+        stands_more mid new h os o before last;
+    crash = λ h office clean left may.
+        let after = more.crash (history_after_lines h os) (s.office h office) clean left may in
+        let before = s.crash h office (more.survives.clean clean) in
+        left_more_lines m (m.may_leave old) h os o left (left_by_more m (m.may_leave mid) (LeftAfterLines m (m.may_leave old) h os) (history_after_lines h os) o before left after);
   }
 
-  pub cut_short : AppendsPart between after (told o) → (count : ℕ) × AreCutShort old new before after (lines ++ line ∷ []) count
-  cut_short part = (
-    part.0,
-    record {
+  pub none_handled : (s : X) → AreHandled m s s [] []
+  none_handled s = record {
+    survives = survives_none m s;
+    policy = λ h office clean. tt;
+    office = λ h office. office;
+    stands = λ h office clean. tt;
+    crash = λ h office clean left may. may;
+  }
+
+  pub answered_none : (s : X) (w : Option (List ℕ)) → AreAnswered m s s w w []
+  answered_none s w = record { outcomes = []; handled = none_handled s; written = Appends-nil w }
+
+  module _ (old mid new : X) (before between after : Option (List ℕ)) (lines : List (List ℕ)) (line : List ℕ) (o : Outcome)
+      (so_far : AreAnswered m old mid before between lines) (more : IsHandled m mid new line o) where
+    pub answered_more : Appends between after (told o) → AreAnswered m old new before after (lines ++ line ∷ [])
+    answered_more writes = record {
+      outcomes = so_far.outcomes ++ o ∷ [];
+      handled = handled_more old mid new lines so_far.outcomes line o so_far.handled more;
+      written = rw transcript_more (Appends-trans before between after (transcript so_far.outcomes) (told o) so_far.written writes);
+    }
+
+    pub cut_short : AppendsPart between after (told o) → (count : ℕ) × AreCutShort m old new before after (lines ++ line ∷ []) count
+    cut_short part = (
+      part.0,
+      record {
+        outcomes = so_far.outcomes;
+        last = o;
+        handled = handled_more old mid new lines so_far.outcomes line o so_far.handled more;
+        count_below = part.1;
+        written = Appends-trans before between after (transcript so_far.outcomes) (take part.0 (told o)) so_far.written part.2;
+      },
+    )
+
+    pub cut_before : AreCutShort m old new before between (lines ++ line ∷ []) 0
+    cut_before = record {
       outcomes = so_far.outcomes;
       last = o;
       handled = handled_more old mid new lines so_far.outcomes line o so_far.handled more;
-      count_below = part.1;
-      written = Appends-trans before between after (transcript so_far.outcomes) (take part.0 (told o)) so_far.written part.2;
-    },
-  )
-
-  pub cut_before : AreCutShort old new before between (lines ++ line ∷ []) 0
-  cut_before = record {
-    outcomes = so_far.outcomes;
-    last = o;
-    handled = handled_more old mid new lines so_far.outcomes line o so_far.handled more;
-    count_below = told_some o;
-    written = rw append-nil so_far.written;
-  }
+      count_below = told_some o;
+      written = rw append-nil so_far.written;
+    }

@@ -1,193 +1,224 @@
 -- How far the answering of a stream has come, and what stands where it stops.
-use Rattle.std.proofs.Common.{◌≡◌, ◌∙◌, ℕ, zero, suc, ◌+◌, ◌<◌, ◌≤◌, List, [], ◌∷◌, ◌++◌, Option, Some}
-use Rattle.std.proofs.Common.{None, IfSome, Result, Ok, Err, length, take, refl, sym, ap, subst, arith, length-append, add-one}
+use Rattle.std.proofs.Common.{◌≡◌, ◌∙◌, ℕ, zero, suc, ◌+◌, ◌<◌, ◌≤◌, List, [], ◌∷◌, ◌++◌, Option, Some, None, IfSome, Result, Ok, Err, length, take, refl, sym, ap, subst, arith, length-append, append_assoc, add-one}
 use Rattle.std.specs.Prelude.{⊤, OnOk, IfErr, IsErrAnd}
 use Rattle.std.specs.Io.KnownBytes.{IsAtEnd}
-use Rattle.sqlite.specs.State.{State}
-use Rattle.line_input.specs.Handed.{Handed, KeepsHanded, HandsOut}
-use Rattle.line_input.specs.Held.{Held, Holds, HasLine, size}
-use Rattle.line_input.specs.Lines.{first_line, lines_of, NoFeed}
-use Rattle.line_input.proofs.HandedFacts.{all_handed, last_held, next_held}
-use Rattle.line_input.proofs.HeldFacts.{holds_no_feed}
+use Rattle.office_policy.specs.History.{History}
+use Rattle.office_policy.specs.Meaning.{Meaning}
+use Rattle.office_policy.specs.Handled.{LeavesOnly}
+use Rattle.streams.specs.Handed.{Handed, KeepsHanded, HandsOut}
+use Rattle.streams.specs.Held.{Held, Holds, HasLine, size}
+use Rattle.streams.specs.Lines.{first_line, lines_of, NoFeed}
+use Rattle.streams.proofs.HandedFacts.{all_handed, front_handed, last_held, next_held}
+use Rattle.streams.proofs.HeldFacts.{holds_no_feed}
 use Rattle.desk.specs.declared.fault.DeskFault.{DeskFault}
 use Rattle.desk.specs.declared.fault.DeskFault.TheVariants.{Read, Write, TooManyReads, NoMemory}
 use Rattle.desk.specs.declared.outcome.Outcome.{Outcome}
 use Rattle.desk.specs.Outcomes.{told}
 use Rattle.desk.specs.Stands.{IsHandled, HasHandled, AreAnswered, AreCutShort, StopsWriting, StandsAfter, IsUnfinished}
+use Rattle.desk.specs.Parts.{AreFirstOf}
+use Rattle.desk.specs.Left.{LeavesLast}
 use Rattle.desk.specs.Written.{IsServed}
+use Rattle.desk.proofs.LeftFacts.{leaves_last}
 use Rattle.desk.proofs.OutcomeFacts.{answered_none, answered_more, cut_short, cut_before, none_handled, handled_more}
-
--- the lines that were handed out are answered
-pub record Progress (old now : State) (held : Held) (unread rest before current : Option (List ℕ)) (number : ℕ) : Type 0 where
-  pub lines : List (List ℕ)
-  pub handed : Handed held unread rest lines
-  pub count : number ≡ length lines
-  pub answered : AreAnswered old now before current lines
-
-pub progress_none : (s : State) (held : Held) (stream w : Option (List ℕ)) → ((any : Option (List ℕ)) → Handed held any any [])
-    → Progress s s held stream stream w w 0
-progress_none s held stream w none = record { lines = []; handed = none stream; count = refl; answered = answered_none s w }
-
--- more is read, and nothing else happens
-pub progress_read : (old now : State) (held next : Held) (unread was rest before current : Option (List ℕ)) (number : ℕ)
-    → Progress old now held unread was before current number
-    → KeepsHanded held next was rest → Progress old now next unread rest before current number
-progress_read old now held next unread was rest before current number p keeps =
-    record { lines = p.lines; handed = keeps unread p.lines p.handed; count = p.count; answered = p.answered }
-
--- the front of a list up to and with one more item
-front : (done others : List (List ℕ)) (first : List ℕ) → take (suc (length done)) (done ++ first ∷ others) ≡ done ++ first ∷ []
-front [] others first = refl
-front (l ∷ done) others first = ap (λ ls. l ∷ ls) (front done others first)
-
-pub none_has : (s : State) → HasHandled s s
-none_has s = record { lines = []; outcomes = []; handled = none_handled s }
 
 -- what an exit of `?` passes on
 pub passed_on : (r : Result ⊤ DeskFault) (e : DeskFault) → IsErrAnd r (λ x. x ≡ e) → r ≡ Err e
 passed_on (Ok x) e is = absurd is
 passed_on (Err x) e is = ap Err is
 
--- the first line that is held is handled, and this is written for it
-abbrev pub ServesFirst : (mid new : State) → Held → (between after : Option (List ℕ)) → ℕ → Result ⊤ DeskFault → Type 0
-ServesFirst mid new held between after number result =
-    (bytes : List ℕ) → Holds held bytes → (o : Outcome) × IsHandled mid new (first_line bytes) o × IsServed between after (told o) number result
+none_first : (u : Option (List ℕ)) → AreFirstOf u []
+none_first None = tt
+none_first (Some input) = (lines_of input, refl)
 
--- ---- where the reading stops
+more_first : (u : Option (List ℕ)) (lines : List (List ℕ)) (line : List ℕ)
+    → IfSome u (λ input. (more : List (List ℕ)) × (lines_of input ≡ lines ++ line ∷ more)) → AreFirstOf u (lines ++ line ∷ [])
+more_first None lines line next = tt
+more_first (Some input) lines line next = (next.0, next.1 ∙ sym (append_assoc lines (line ∷ []) next.0))
 
-module _ (old now : State) (held : Held) (unread rest before current : Option (List ℕ)) (number : ℕ)
-    (p : Progress old now held unread rest before current number) where
-  pub some_handled : HasHandled old now
-  some_handled = record { lines = p.lines; outcomes = p.answered.outcomes; handled = p.answered.handled }
+module _ {X : Type 0} (m : Meaning X) where
+  -- what a crash may leave, where it could leave only the office before
+  abbrev pub LeavesIt : (old new : X) → (unread : Option (List ℕ)) → Type 0
+  LeavesIt old new unread = (h : History) → m.is_of h old → LeavesOnly m h old → m.is_clean new → LeavesLast m h new unread
 
-  pub all_answered : size held ≡ 0 → IsAtEnd rest → IfSome unread (λ input. AreAnswered old now before current (lines_of input))
-  all_answered none end = with_all unread (all_handed held unread rest p.lines p.handed none end)
-    where
-      with_all : (u : Option (List ℕ)) → IfSome u (λ input. lines_of input ≡ p.lines) → IfSome u (λ input. AreAnswered old now before current (lines_of input))
-      with_all None all = tt
-      with_all (Some input) all = subst (λ (ls : List (List ℕ)). AreAnswered old now before current ls) (sym all) p.answered
+  -- the lines that were handed out are answered
+  pub record Progress (old now : X) (held : Held) (unread rest before current : Option (List ℕ)) (number : ℕ) : Type 0 where
+    pub lines : List (List ℕ)
+    pub handed : Handed held unread rest lines
+    pub count : number ≡ length lines
+    pub answered : AreAnswered m old now before current lines
 
-  -- what is held is a part of a line, of which nothing is handled
-  pub unfinished : NoFeed held.bytes → IsUnfinished old now unread rest before current (number + 1)
-  unfinished none = record {
-    bytes = p.handed.whole ++ p.handed.rest;
-    whole = p.handed.whole;
-    unfinished = p.handed.rest;
-    read = p.handed.read;
-    cut = record { parts = refl; ended = p.handed.ended; no_feed = holds_no_feed held p.handed.rest p.handed.holds none };
-    number = add-one number ∙ ap suc (p.count ∙ ap length p.handed.lines_are);
-    answered = subst (λ (ls : List (List ℕ)). AreAnswered old now before current ls) p.handed.lines_are p.answered;
-  }
+  pub progress_none : (s : X) (held : Held) (stream w : Option (List ℕ)) → ((any : Option (List ℕ)) → Handed held any any [])
+      → Progress s s held stream stream w w 0
+  progress_none s held stream w none = record { lines = []; handed = none stream; count = refl; answered = answered_none m s w }
 
-  -- what is held is the next line of the stream
-  abbrev pub IsNext : Type 0
-  IsNext = IfSome unread (λ input. (more : List (List ℕ)) × (lines_of input ≡ p.lines ++ first_line p.handed.rest ∷ more))
+  -- more is read, and nothing else happens
+  pub progress_read : (old now : X) (held next : Held) (unread was rest before current : Option (List ℕ)) (number : ℕ)
+      → Progress old now held unread was before current number
+      → KeepsHanded held next was rest → Progress old now next unread rest before current number
+  progress_read old now held next unread was rest before current number p keeps =
+      record { lines = p.lines; handed = keeps unread p.lines p.handed; count = p.count; answered = p.answered }
 
-  pub next_whole : HasLine held.bytes → IsNext
-  next_whole has = next_held held unread rest p.lines p.handed has
+  -- the front of a list up to and with one more item
+  front : (done others : List (List ℕ)) (first : List ℕ) → take (suc (length done)) (done ++ first ∷ others) ≡ done ++ first ∷ []
+  front [] others first = refl
+  front (l ∷ done) others first = ap (λ ls. l ∷ ls) (front done others first)
 
-  pub next_last : NoFeed held.bytes → 0 < size held → IsAtEnd rest → IsNext
-  next_last none some end = with_last unread (last_held held unread rest p.lines p.handed none some end)
-    where
-      with_last : (u : Option (List ℕ)) → IfSome u (λ input. lines_of input ≡ p.lines ++ first_line p.handed.rest ∷ [])
-          → IfSome u (λ input. (more : List (List ℕ)) × (lines_of input ≡ p.lines ++ first_line p.handed.rest ∷ more))
-      with_last None all = tt
-      with_last (Some input) all = ([], all)
+  pub none_has : (s : X) → HasHandled m s s
+  none_has s = record { lines = []; outcomes = []; handled = none_handled m s }
 
--- ---- the line that is held
+  pub none_leaves : (s : X) (unread : Option (List ℕ)) → LeavesIt s s unread
+  none_leaves s unread = leaves_last m s s unread [] [] (none_handled m s) (none_first unread)
 
-module _ (old mid new : State) (held : Held) (unread rest before between after : Option (List ℕ)) (number : ℕ)
-    (p : Progress old mid held unread rest before between number) where
-  abbrev line : List ℕ
-  line = first_line p.handed.rest
+  -- the first line that is held is handled, and this is written for it
+  abbrev pub ServesFirst : (mid new : X) → Held → (between after : Option (List ℕ)) → ℕ → Result ⊤ DeskFault → Type 0
+  ServesFirst mid new held between after number result =
+      (bytes : List ℕ) → Holds held bytes → (o : Outcome) × IsHandled m mid new (first_line bytes) o × IsServed between after (told o) number result
 
-  pub served_handled : (result : Result ⊤ DeskFault) → ServesFirst mid new held between after (number + 1) result → HasHandled old new
-  served_handled result serves =
-      let so = serves p.handed.rest p.handed.holds in
-      record {
-        lines = p.lines ++ line ∷ [];
-        outcomes = p.answered.outcomes ++ so.0 ∷ [];
-        handled = handled_more old mid new p.lines p.answered.outcomes line so.0 p.answered.handled so.1;
-      }
+  -- ---- where the reading stops
 
-  -- its number is not 0
-  pub served_later : (result : Result ⊤ DeskFault) → ServesFirst mid new held between after (number + 1) result → result ≡ Err (NoMemory 0) → ⊥
-  served_later result serves is =
-      let none : ServesFirst mid new held between after (number + 1) (Err (NoMemory 0)) =
-      subst (λ (r : Result ⊤ DeskFault). ServesFirst mid new held between after (number + 1) r) is serves in
-      omega (arith, (none p.handed.rest p.handed.holds).2.0)
+  module _ (old now : X) (held : Held) (unread rest before current : Option (List ℕ)) (number : ℕ)
+      (p : Progress old now held unread rest before current number) where
+    pub some_handled : HasHandled m old now
+    some_handled = record { lines = p.lines; outcomes = p.answered.outcomes; handled = p.answered.handled }
 
-  served_whole : ServesFirst mid new held between after (number + 1) (Ok tt) → AreAnswered old new before after (p.lines ++ line ∷ [])
-  served_whole serves =
-      let so = serves p.handed.rest p.handed.holds in
-      answered_more old mid new before between after p.lines line so.0 p.answered so.1 so.2
+    pub some_leaves : LeavesIt old now unread
+    some_leaves = leaves_last m old now unread p.lines p.answered.outcomes p.answered.handled (front_handed held unread rest p.lines p.handed)
 
-  pub progress_more : (next : Held) → HandsOut held next → ServesFirst mid new held between after (number + 1) (Ok tt)
-      → Progress old new next unread rest before after (number + 1)
-  progress_more next hands serves = record {
-    lines = p.lines ++ line ∷ [];
-    handed = hands unread rest p.lines p.handed;
-    count = ap (λ n. n + 1) p.count ∙ sym (length-append p.lines (line ∷ []));
-    answered = served_whole serves;
-  }
+    pub all_answered : size held ≡ 0 → IsAtEnd rest → IfSome unread (λ input. AreAnswered m old now before current (lines_of input))
+    all_answered none end = with_all unread (all_handed held unread rest p.lines p.handed none end)
+      where
+        with_all : (u : Option (List ℕ)) → IfSome u (λ input. lines_of input ≡ p.lines) → IfSome u (λ input. AreAnswered m old now before current (lines_of input))
+        with_all None all = tt
+        with_all (Some input) all = subst (λ (ls : List (List ℕ)). AreAnswered m old now before current ls) (sym all) p.answered
 
-  pub last_answered : (result : Result ⊤ DeskFault) → NoFeed held.bytes → 0 < size held → IsAtEnd rest
-      → ServesFirst mid new held between after (number + 1) result
-      → OnOk result (IfSome unread (λ input. AreAnswered old new before after (lines_of input)))
-  last_answered (Err e) none some end serves = tt
-  last_answered (Ok u) none some end serves = with_last unread (last_held held unread rest p.lines p.handed none some end)
-    where
-      with_last : (u : Option (List ℕ)) → IfSome u (λ input. lines_of input ≡ p.lines ++ first_line p.handed.rest ∷ [])
-          → IfSome u (λ input. AreAnswered old new before after (lines_of input))
-      with_last None all = tt
-      with_last (Some input) all = subst (λ (ls : List (List ℕ)). AreAnswered old new before after ls) (sym all) (served_whole serves)
+    -- what is held is a part of a line, of which nothing is handled
+    pub unfinished : NoFeed held.bytes → IsUnfinished m old now unread rest before current (number + 1)
+    unfinished none = record {
+      bytes = p.handed.whole ++ p.handed.rest;
+      whole = p.handed.whole;
+      unfinished = p.handed.rest;
+      read = p.handed.read;
+      cut = record { parts = refl; ended = p.handed.ended; no_feed = holds_no_feed held p.handed.rest p.handed.holds none };
+      number = add-one number ∙ ap suc (p.count ∙ ap length p.handed.lines_are);
+      answered = subst (λ (ls : List (List ℕ)). AreAnswered m old now before current ls) p.handed.lines_are p.answered;
+    }
 
-  module _ (input : List ℕ) (more : List (List ℕ)) (all : lines_of input ≡ p.lines ++ first_line p.handed.rest ∷ more) where
-    within : number + 1 ≤ length (lines_of input)
-    within = omega (arith, ap length all, length-append p.lines (first_line p.handed.rest ∷ more), p.count)
+    -- what is held is the next line of the stream
+    abbrev pub IsNext : Type 0
+    IsNext = IfSome unread (λ input. (more : List (List ℕ)) × (lines_of input ≡ p.lines ++ first_line p.handed.rest ∷ more))
 
-    up_to : take (number + 1) (lines_of input) ≡ p.lines ++ line ∷ []
-    up_to =
-        ap (λ n. take n (lines_of input)) (add-one number ∙ ap suc p.count) ∙ ap (λ ls. take (suc (length p.lines)) ls) all
-        ∙ front p.lines more (first_line p.handed.rest)
+    pub next_whole : HasLine held.bytes → IsNext
+    next_whole has = next_held held unread rest p.lines p.handed has
 
-    stops : (e : DeskFault) (o : Outcome) → IsHandled mid new line o → IsServed between after (told o) (number + 1) (Err e)
-        → StopsWriting old new before after (lines_of input) e
-    stops (Write n) o handled served =
-        let cut : (count : ℕ) × AreCutShort old new before after (p.lines ++ line ∷ []) count =
-        cut_short old mid new before between after p.lines line o p.answered handled served.1 in
-        rw (served.0) (omega arith, within, cut.0, rw up_to cut.1)
-    stops (NoMemory n) o handled served =
-        rw (served.0) (omega arith, within, rw (up_to, served.1) (cut_before old mid new before between after p.lines line o p.answered handled))
-    stops (Read n) o handled served = absurd served
-    stops (TooManyReads n) o handled served = absurd served
+    pub next_last : NoFeed held.bytes → 0 < size held → IsAtEnd rest → IsNext
+    next_last none some end = with_last unread (last_held held unread rest p.lines p.handed none some end)
+      where
+        with_last : (u : Option (List ℕ)) → IfSome u (λ input. lines_of input ≡ p.lines ++ first_line p.handed.rest ∷ [])
+            → IfSome u (λ input. (more : List (List ℕ)) × (lines_of input ≡ p.lines ++ first_line p.handed.rest ∷ more))
+        with_last None all = tt
+        with_last (Some input) all = ([], all)
 
-  stops_in : (u : Option (List ℕ)) → IfSome u (λ input. (more : List (List ℕ)) × (lines_of input ≡ p.lines ++ first_line p.handed.rest ∷ more))
-      → (e : DeskFault) (o : Outcome) → IsHandled mid new line o → IsServed between after (told o) (number + 1) (Err e)
-      → IfSome u (λ input. StopsWriting old new before after (lines_of input) e)
-  stops_in None next e o handled served = tt
-  stops_in (Some input) next e o handled served = stops input next.0 next.1 e o handled served
+  -- ---- the line that is held
 
-  -- its answer was not written whole
-  pub stands_served : IsNext old mid held unread rest before between number p → (e : DeskFault)
-      → ServesFirst mid new held between after (number + 1) (Err e) → StandsAfter old new unread rest before after e
-  stands_served next e serves = let so = serves p.handed.rest p.handed.holds in stands e so.0 so.1 so.2
-    where
-      stands : (e : DeskFault) (o : Outcome) → IsHandled mid new line o → IsServed between after (told o) (number + 1) (Err e)
-          → StandsAfter old new unread rest before after e
-      stands (Write n) o handled served = stops_in unread next (Write n) o handled served
-      stands (NoMemory zero) o handled served = absurd (omega (arith, served.0))
-      stands (NoMemory (suc k)) o handled served = stops_in unread next (NoMemory (suc k)) o handled served
-      stands (Read n) o handled served = absurd served
-      stands (TooManyReads n) o handled served = absurd served
+  module _ (old mid new : X) (held : Held) (unread rest before between after : Option (List ℕ)) (number : ℕ)
+      (p : Progress old mid held unread rest before between number) where
+    abbrev line : List ℕ
+    line = first_line p.handed.rest
 
-  pub stands_passed : IsNext old mid held unread rest before between number p → (result : Result ⊤ DeskFault) (e : DeskFault) → result ≡ Err e
-      → ServesFirst mid new held between after (number + 1) (Err e)
-      → IfErr result (StandsAfter old new unread rest before after)
-  stands_passed next result e is serves =
-      subst (λ (r : Result ⊤ DeskFault). IfErr r (StandsAfter old new unread rest before after)) (sym is) (stands_served next e serves)
+    pub served_handled : (result : Result ⊤ DeskFault) → ServesFirst mid new held between after (number + 1) result → HasHandled m old new
+    served_handled result serves =
+        let so = serves p.handed.rest p.handed.holds in
+        record {
+          lines = p.lines ++ line ∷ [];
+          outcomes = p.answered.outcomes ++ so.0 ∷ [];
+          handled = handled_more m old mid new p.lines p.answered.outcomes line so.0 p.answered.handled so.1;
+        }
 
-  pub stands_last : IsNext old mid held unread rest before between number p → (result : Result ⊤ DeskFault)
-      → ServesFirst mid new held between after (number + 1) result → IfErr result (StandsAfter old new unread rest before after)
-  stands_last next (Ok u) serves = tt
-  stands_last next (Err e) serves = stands_served next e serves
+    pub served_leaves : IsNext old mid held unread rest before between number p → (result : Result ⊤ DeskFault)
+        → ServesFirst mid new held between after (number + 1) result → LeavesIt old new unread
+    served_leaves next result serves =
+        let so = serves p.handed.rest p.handed.holds in
+        leaves_last m old new unread (p.lines ++ line ∷ []) (p.answered.outcomes ++ so.0 ∷ [])
+        (handled_more m old mid new p.lines p.answered.outcomes line so.0 p.answered.handled so.1) (more_first unread p.lines line next)
+
+    -- its number is not 0
+    pub served_later : (result : Result ⊤ DeskFault) → ServesFirst mid new held between after (number + 1) result → result ≡ Err (NoMemory 0) → ⊥
+    served_later result serves is =
+        let none : ServesFirst mid new held between after (number + 1) (Err (NoMemory 0)) =
+        subst (λ (r : Result ⊤ DeskFault). ServesFirst mid new held between after (number + 1) r) is serves in
+        omega (arith, (none p.handed.rest p.handed.holds).2.0)
+
+    served_whole : ServesFirst mid new held between after (number + 1) (Ok tt) → AreAnswered m old new before after (p.lines ++ line ∷ [])
+    served_whole serves =
+        let so = serves p.handed.rest p.handed.holds in
+        answered_more m old mid new before between after p.lines line so.0 p.answered so.1 so.2
+
+    pub progress_more : (next : Held) → HandsOut held next → ServesFirst mid new held between after (number + 1) (Ok tt)
+        → Progress old new next unread rest before after (number + 1)
+    progress_more next hands serves = record {
+      lines = p.lines ++ line ∷ [];
+      handed = hands unread rest p.lines p.handed;
+      count = ap (λ n. n + 1) p.count ∙ sym (length-append p.lines (line ∷ []));
+      answered = served_whole serves;
+    }
+
+    pub last_answered : (result : Result ⊤ DeskFault) → NoFeed held.bytes → 0 < size held → IsAtEnd rest
+        → ServesFirst mid new held between after (number + 1) result
+        → OnOk result (IfSome unread (λ input. AreAnswered m old new before after (lines_of input)))
+    last_answered (Err e) none some end serves = tt
+    last_answered (Ok u) none some end serves = with_last unread (last_held held unread rest p.lines p.handed none some end)
+      where
+        with_last : (u : Option (List ℕ)) → IfSome u (λ input. lines_of input ≡ p.lines ++ first_line p.handed.rest ∷ [])
+            → IfSome u (λ input. AreAnswered m old new before after (lines_of input))
+        with_last None all = tt
+        with_last (Some input) all = subst (λ (ls : List (List ℕ)). AreAnswered m old new before after ls) (sym all) (served_whole serves)
+
+    module _ (input : List ℕ) (more : List (List ℕ)) (all : lines_of input ≡ p.lines ++ first_line p.handed.rest ∷ more) where
+      within : number + 1 ≤ length (lines_of input)
+      within = omega (arith, ap length all, length-append p.lines (first_line p.handed.rest ∷ more), p.count)
+
+      up_to : take (number + 1) (lines_of input) ≡ p.lines ++ line ∷ []
+      up_to =
+          ap (λ n. take n (lines_of input)) (add-one number ∙ ap suc p.count) ∙ ap (λ ls. take (suc (length p.lines)) ls) all
+          ∙ front p.lines more (first_line p.handed.rest)
+
+      stops : (e : DeskFault) (o : Outcome) → IsHandled m mid new line o → IsServed between after (told o) (number + 1) (Err e)
+          → StopsWriting m old new before after (lines_of input) e
+      stops (Write n) o handled served =
+          let cut : (count : ℕ) × AreCutShort m old new before after (p.lines ++ line ∷ []) count =
+          cut_short m old mid new before between after p.lines line o p.answered handled served.1 in
+          rw (served.0) (omega arith, within, cut.0, rw up_to cut.1)
+      stops (NoMemory n) o handled served =
+          rw (served.0) (omega arith, within, rw (up_to, served.1) (cut_before m old mid new before between after p.lines line o p.answered handled))
+      stops (Read n) o handled served = absurd served
+      stops (TooManyReads n) o handled served = absurd served
+
+    stops_in : (u : Option (List ℕ)) → IfSome u (λ input. (more : List (List ℕ)) × (lines_of input ≡ p.lines ++ first_line p.handed.rest ∷ more))
+        → (e : DeskFault) (o : Outcome) → IsHandled m mid new line o → IsServed between after (told o) (number + 1) (Err e)
+        → IfSome u (λ input. StopsWriting m old new before after (lines_of input) e)
+    stops_in None next e o handled served = tt
+    stops_in (Some input) next e o handled served = stops input next.0 next.1 e o handled served
+
+    -- its answer was not written whole
+    pub stands_served : IsNext old mid held unread rest before between number p → (e : DeskFault)
+        → ServesFirst mid new held between after (number + 1) (Err e) → StandsAfter m old new unread rest before after e
+    stands_served next e serves = let so = serves p.handed.rest p.handed.holds in stands e so.0 so.1 so.2
+      where
+        stands : (e : DeskFault) (o : Outcome) → IsHandled m mid new line o → IsServed between after (told o) (number + 1) (Err e)
+            → StandsAfter m old new unread rest before after e
+        stands (Write n) o handled served = stops_in unread next (Write n) o handled served
+        stands (NoMemory zero) o handled served = absurd (omega (arith, served.0))
+        stands (NoMemory (suc k)) o handled served = stops_in unread next (NoMemory (suc k)) o handled served
+        stands (Read n) o handled served = absurd served
+        stands (TooManyReads n) o handled served = absurd served
+
+    pub stands_passed : IsNext old mid held unread rest before between number p → (result : Result ⊤ DeskFault) (e : DeskFault) → result ≡ Err e
+        → ServesFirst mid new held between after (number + 1) (Err e)
+        → IfErr result (StandsAfter m old new unread rest before after)
+    stands_passed next result e is serves =
+        subst (λ (r : Result ⊤ DeskFault). IfErr r (StandsAfter m old new unread rest before after)) (sym is) (stands_served next e serves)
+
+    pub stands_last : IsNext old mid held unread rest before between number p → (result : Result ⊤ DeskFault)
+        → ServesFirst mid new held between after (number + 1) result → IfErr result (StandsAfter m old new unread rest before after)
+    stands_last next (Ok u) serves = tt
+    stands_last next (Err e) serves = stands_served next e serves

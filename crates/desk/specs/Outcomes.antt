@@ -1,16 +1,19 @@
 -- What comes of lines, each handled on what the ones before it left, and what is written for them.
 use Rattle.std.specs.Prelude.{◌≡◌, ℕ, List, [], ◌∷◌, ◌++◌, Err}
+use Rattle.review_policy.specs.declared.ask.Request.{Request}
+use Rattle.review_policy.specs.declared.answer.Answer.{Answer}
 use Rattle.review_policy.specs.declared.answer.Answer.TheVariants.{Fault}
 use Rattle.review_policy.specs.declared.answer.Fault.TheVariants.{Memory}
 use Rattle.office_policy.specs.History.{History}
 use Rattle.office_policy.specs.Runs.{IsAnswer, history_after}
-use Rattle.request_lines.specs.Answers.{line_of}
-use Rattle.request_lines.specs.Bad.{bad_line}
-use Rattle.request_lines.specs.Requests.{asked, Asks}
+use Rattle.json_requests.specs.Answers.{line_of}
+use Rattle.json_requests.specs.Bad.{bad_line}
+use Rattle.json_requests.specs.Requests.{asked, Asks}
 use Rattle.desk.specs.declared.outcome.Outcome.{Outcome}
 use Rattle.desk.specs.declared.outcome.Outcome.TheVariants.{Bad, NoMemory, Answered}
 
--- this may come of the line: it is no request, there was no memory to read it, or the request that it asks has this answer
+-- this may come of the line: it is no request, there was no memory to read it, or the request that
+-- it asks has this answer
 abbrev pub IsOutcome : History → List ℕ → Outcome → Type 0
 IsOutcome h line (Bad fault) = asked line ≡ Err fault
 IsOutcome h line NoMemory = Unit {0}
@@ -28,17 +31,33 @@ told (Bad fault) = bad_line fault
 told NoMemory = line_of (Fault Memory)
 told (Answered request answer) = line_of answer
 
+-- the requests that were asked, in their order
+abbrev pub requests_of : List Outcome → List Request
+requests_of [] = []
+requests_of (Bad fault ∷ outcomes) = requests_of outcomes
+requests_of (NoMemory ∷ outcomes) = requests_of outcomes
+requests_of (Answered request answer ∷ outcomes) = request ∷ requests_of outcomes
+
+-- and the answer to each
+abbrev pub answers_of : List Outcome → List Answer
+answers_of [] = []
+answers_of (Bad fault ∷ outcomes) = answers_of outcomes
+answers_of (NoMemory ∷ outcomes) = answers_of outcomes
+answers_of (Answered request answer ∷ outcomes) = answer ∷ answers_of outcomes
+
 -- there is one outcome to each line, on the history that the lines before it left
 abbrev pub AreOutcomes : History → List (List ℕ) → List Outcome → Type 0
 AreOutcomes h [] [] = Unit {0}
-AreOutcomes h (line ∷ lines) (outcome ∷ outcomes) = IsOutcome h line outcome × AreOutcomes (history_after_line h outcome) lines outcomes
+AreOutcomes h (line ∷ lines) (outcome ∷ outcomes) =
+    IsOutcome h line outcome × AreOutcomes (history_after_line h outcome) lines outcomes
 AreOutcomes h [] (outcome ∷ outcomes) = ⊥
 AreOutcomes h (line ∷ lines) [] = ⊥
 
 -- the history after all of them
 abbrev pub history_after_lines : History → List Outcome → History
 history_after_lines h [] = h
-history_after_lines h (outcome ∷ outcomes) = history_after_lines (history_after_line h outcome) outcomes
+history_after_lines h (outcome ∷ outcomes) =
+    history_after_lines (history_after_line h outcome) outcomes
 
 -- the transcript: the lines that tell them, one after the other
 abbrev pub transcript : List Outcome → List ℕ

@@ -1,77 +1,106 @@
 -- What the desk leaves of an office, a reader and a writer.
 use Rattle.std.specs.Prelude.{◌≡◌, ℕ, zero, suc, ◌<◌, ◌≤◌, List, [], ◌∷◌, ◌++◌, Option, IfSome, length, take}
 use Rattle.std.specs.Io.KnownBytes.{Keeps, Appends, Consumes}
-use Rattle.sqlite.specs.State.{State, HasCleanDisk}
-use Rattle.sqlite_trees.specs.Tree.{Trees}
 use Rattle.office_policy.specs.History.{History}
-use Rattle.office_desk.specs.Offices.{IsOffice}
-use Rattle.line_input.specs.Lines.{lines_of}
+use Rattle.office_policy.specs.Runs.{history_after}
+use Rattle.office_policy.specs.Meaning.{Meaning}
+use Rattle.office_policy.specs.Handled.{UnlessFaulty, Stands, Survives}
+use Rattle.office_policy.specs.Ran.{UnlessLastFaulty}
+use Rattle.streams.specs.Lines.{lines_of}
 use Rattle.desk.specs.declared.outcome.Outcome.{Outcome}
-use Rattle.desk.specs.Left.{LeftAfterLine, LeftAfterLines}
-use Rattle.desk.specs.Outcomes.{IsOutcome, history_after_line, AreOutcomes, history_after_lines, told, transcript}
+use Rattle.desk.specs.declared.outcome.Outcome.TheVariants as came
+use Rattle.desk.specs.Left.{LeavesWithin, LeftAfterLine, LeftAfterLines}
+use Rattle.desk.specs.Outcomes.{IsOutcome, history_after_line, AreOutcomes, history_after_lines, answers_of, told, transcript}
 use Rattle.desk.specs.Parts.{IsCut}
 use Rattle.desk.specs.declared.fault.DeskFault.{DeskFault}
 use Rattle.desk.specs.declared.fault.DeskFault.TheVariants.{Read, Write, TooManyReads, NoMemory}
 
--- the line was handled, and this is what came of it
-pub record IsHandled (old new : State) (line : List ℕ) (outcome : Outcome) : Type 0 where
-  -- a disk that is clean was clean before
-  pub clean : HasCleanDisk new → HasCleanDisk old
-  pub policy : (h : History) → IsOffice h old → HasCleanDisk new → IsOutcome h line outcome
-  pub office : (h : History) → IsOffice h old → IsOffice (history_after_line h outcome) new
-  -- what a crash may leave
-  pub crash : (h : History) → IsOffice h old → HasCleanDisk new → (trees : Trees) → new.may_leave trees → LeftAfterLine old.may_leave h outcome trees
+-- bytes, and bytes that may be known
+abbrev Bytes : Type 0
+Bytes = List ℕ
 
--- the lines were handled one after the other, and these are what came of them
-pub record AreHandled (old new : State) (lines : List (List ℕ)) (outcomes : List Outcome) : Type 0 where
-  pub clean : HasCleanDisk new → HasCleanDisk old
-  pub policy : (h : History) → IsOffice h old → HasCleanDisk new → AreOutcomes h lines outcomes
-  pub office : (h : History) → IsOffice h old → IsOffice (history_after_lines h outcomes) new
-  pub crash : (h : History) → IsOffice h old → HasCleanDisk new → (trees : Trees) → new.may_leave trees → LeftAfterLines old.may_leave h outcomes trees
+abbrev Known : Type 0
+Known = Option Bytes
 
--- some lines were handled, whatever was told of the stream that they are of
-pub record HasHandled (old new : State) : Type 0 where
-  pub lines : List (List ℕ)
-  pub outcomes : List Outcome
-  pub handled : AreHandled old new lines outcomes
+module _ {X : Type 0} (m : Meaning X) where
+  -- it stands where the request was answered by no fault; a line that asks nothing leaves it so
+  abbrev pub StandsAfterLine : History → (old new : X) → Outcome → Type 0
+  StandsAfterLine h old new (came.Bad fault) = Stands m h old → Stands m h new
+  StandsAfterLine h old new came.NoMemory = Stands m h old → Stands m h new
+  StandsAfterLine h old new (came.Answered request answer) =
+      UnlessFaulty answer (Stands m (history_after h request answer) new)
 
--- the lines were handled, and just their transcript was written
-pub record AreAnswered (old new : State) (before after : Option (List ℕ)) (lines : List (List ℕ)) : Type 0 where
-  pub outcomes : List Outcome
-  pub handled : AreHandled old new lines outcomes
-  pub written : Appends before after (transcript outcomes)
+  -- the line was handled, and this is what came of it
+  pub record IsHandled (old new : X) (line : List ℕ) (outcome : Outcome) : Type 0 where
+    pub survives : Survives m old new
+    pub policy : (h : History) → m.is_of h old → m.is_clean new → IsOutcome h line outcome
+    pub office : (h : History) → m.is_of h old → m.is_of (history_after_line h outcome) new
+    pub stands : (h : History) → m.is_of h old → m.is_clean new → StandsAfterLine h old new outcome
+    -- what a crash may leave
+    pub crash : (h : History) → m.is_of h old → m.is_clean new
+        → LeavesWithin m new (LeftAfterLine m (m.may_leave old) h outcome)
 
--- the lines were handled, and just the transcript of all but the last was written, with the first `count` bytes of the
--- line that tells the last, and not all of them
-pub record AreCutShort (old new : State) (before after : Option (List ℕ)) (lines : List (List ℕ)) (count : ℕ) : Type 0 where
-  pub outcomes : List Outcome
-  pub last : Outcome
-  pub handled : AreHandled old new lines (outcomes ++ last ∷ [])
-  pub count_below : count < length (told last)
-  pub written : Appends before after (transcript outcomes ++ take count (told last))
+  -- the lines were handled one after the other, and these are what came of them
+  pub record AreHandled (old new : X) (lines : List Bytes) (outcomes : List Outcome) : Type 0 where
+    pub survives : Survives m old new
+    pub policy : (h : History) → m.is_of h old → m.is_clean new → AreOutcomes h lines outcomes
+    pub office : (h : History) → m.is_of h old → m.is_of (history_after_lines h outcomes) new
+    -- it stands where the last request that was asked was answered by no fault
+    pub stands : (h : History) → m.is_of h old → m.is_clean new
+        → UnlessLastFaulty (answers_of outcomes) (Stands m (history_after_lines h outcomes) new)
+    pub crash : (h : History) → m.is_of h old → m.is_clean new
+        → LeavesWithin m new (LeftAfterLines m (m.may_leave old) h outcomes)
 
--- of these lines those up to a number were handled, and of the answer to the last of them only a part was written
-abbrev pub StopsWriting : State → State → Option (List ℕ) → Option (List ℕ) → List (List ℕ) → DeskFault → Type 0
-StopsWriting old new before after lines (Write line) = (0 < line) × (line ≤ length lines) × (count : ℕ) × AreCutShort old new before after (take line lines) count
-StopsWriting old new before after lines (NoMemory line) = (0 < line) × (line ≤ length lines) × AreCutShort old new before after (take line lines) 0
-StopsWriting old new before after lines (Read line) = ⊥
-StopsWriting old new before after lines (TooManyReads line) = ⊥
+  -- some lines were handled, whatever was told of the stream that they are of
+  pub record HasHandled (old new : X) : Type 0 where
+    pub lines : List (List ℕ)
+    pub outcomes : List Outcome
+    pub handled : AreHandled old new lines outcomes
 
-module _ (old new : State) (unread rest before after : Option (List ℕ)) where
-  -- the lines that were read whole are answered, and nothing of the unfinished one, which has this number, is handled
-  pub record IsUnfinished (line : ℕ) : Type 0 where
-    pub bytes : List ℕ
-    pub whole : List ℕ
-    pub unfinished : List ℕ
-    pub read : Consumes unread rest bytes
-    pub cut : IsCut bytes whole unfinished
-    pub number : line ≡ suc (length (lines_of whole))
-    pub answered : AreAnswered old new before after (lines_of whole)
+  -- the lines were handled, and just their transcript was written
+  pub record AreAnswered (old new : X) (before after : Known) (lines : List Bytes) : Type 0 where
+    pub outcomes : List Outcome
+    pub handled : AreHandled old new lines outcomes
+    pub written : Appends before after (transcript outcomes)
 
-  -- what stands after a fault; where memory was wanted before the first line was read, nothing is written
-  abbrev pub StandsAfter : DeskFault → Type 0
-  StandsAfter (Read line) = IsUnfinished line
-  StandsAfter (TooManyReads line) = IsUnfinished line
-  StandsAfter (Write line) = IfSome unread (λ input. StopsWriting old new before after (lines_of input) (Write line))
-  StandsAfter (NoMemory zero) = Keeps before after
-  StandsAfter (NoMemory (suc k)) = IfSome unread (λ input. StopsWriting old new before after (lines_of input) (NoMemory (suc k)))
+  -- the lines were handled, and just the transcript of all but the last was written, with the first
+  -- `count` bytes of the line that tells the last, and not all of them
+  pub record AreCutShort (old new : X) (before after : Known) (lines : List Bytes) (count : ℕ)
+      : Type 0 where
+    pub outcomes : List Outcome
+    pub last : Outcome
+    pub handled : AreHandled old new lines (outcomes ++ last ∷ [])
+    pub count_below : count < length (told last)
+    pub written : Appends before after (transcript outcomes ++ take count (told last))
+
+  -- of these lines those up to a number were handled, and of the answer to the last of them only a
+  -- part was written
+  abbrev pub StopsWriting : X → X → Known → Known → List Bytes → DeskFault → Type 0
+  StopsWriting old new before after lines (Write line) = (0 < line) × (line ≤ length lines)
+      × (count : ℕ) × AreCutShort old new before after (take line lines) count
+  StopsWriting old new before after lines (NoMemory line) = (0 < line) × (line ≤ length lines)
+      × AreCutShort old new before after (take line lines) 0
+  StopsWriting old new before after lines (Read line) = ⊥
+  StopsWriting old new before after lines (TooManyReads line) = ⊥
+
+  module _ (old new : X) (unread rest before after : Known) where
+    -- the lines that were read whole are answered, and nothing of the unfinished one, which has
+    -- this number, is handled
+    pub record IsUnfinished (line : ℕ) : Type 0 where
+      pub bytes : List ℕ
+      pub whole : List ℕ
+      pub unfinished : List ℕ
+      pub read : Consumes unread rest bytes
+      pub cut : IsCut bytes whole unfinished
+      pub number : line ≡ suc (length (lines_of whole))
+      pub answered : AreAnswered old new before after (lines_of whole)
+
+    -- what stands after a fault; out of memory before the first line was read, nothing is written
+    abbrev pub StandsAfter : DeskFault → Type 0
+    StandsAfter (Read line) = IsUnfinished line
+    StandsAfter (TooManyReads line) = IsUnfinished line
+    StandsAfter (Write line) =
+        IfSome unread (λ input. StopsWriting old new before after (lines_of input) (Write line))
+    StandsAfter (NoMemory zero) = Keeps before after
+    StandsAfter (NoMemory (suc k)) =
+        IfSome unread (λ input. StopsWriting old new before after (lines_of input) (NoMemory (suc k)))

@@ -1,15 +1,17 @@
 -- What the writing of an answer leaves of a writer.
 use Rattle.std.specs.Prelude.{◌≡◌, ℕ, List, Option, ⊤, Result, Ok, Err}
 use Rattle.std.specs.Io.KnownBytes.{Appends}
-use Rattle.counted_io.specs.Counts.{one_more}
-use Rattle.counted_io.specs.Steps.{AppendsPart}
+use Rattle.streams.specs.Counts.{one_more}
+use Rattle.streams.specs.Steps.{AppendsPart}
 use Rattle.desk.specs.declared.fault.DeskFault.{DeskFault}
 use Rattle.desk.specs.declared.fault.DeskFault.TheVariants as fault
 
--- the line that tells a line of the input is written, or the fault has the number of that line and says what is
+-- the line that tells a line of the input is written, or the fault has the number of that line and
+-- says what is
 abbrev pub IsServed : Option (List ℕ) → Option (List ℕ) → List ℕ → ℕ → Result ⊤ DeskFault → Type 0
 IsServed before after text number (Ok u) = Appends before after text
-IsServed before after text number (Err (fault.Write line)) = (line ≡ number) × AppendsPart before after text
+IsServed before after text number (Err (fault.Write line)) =
+    (line ≡ number) × AppendsPart before after text
 IsServed before after text number (Err (fault.NoMemory line)) = (line ≡ number) × (after ≡ before)
 IsServed before after text number (Err (fault.Read line)) = ⊥
 IsServed before after text number (Err (fault.TooManyReads line)) = ⊥

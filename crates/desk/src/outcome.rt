@@ -1,16 +1,14 @@
 //! What comes of a line.
 
 ghost use Rattle.std.specs.Prelude.{List, ℕ};
-ghost use Rattle.sqlite.specs.Held.{state};
-ghost use Rattle.line_input.specs.Held.{Holds};
-ghost use Rattle.line_input.specs.Lines.{first_line};
+ghost use Rattle.streams.specs.Held.{Holds};
+ghost use Rattle.streams.specs.Lines.{first_line};
 
-use line_input::{Lines, MAX_LINE};
-use office_desk::Office;
-use request_lines::{BadLine, LineFault, read_line};
+use json_requests::{BadLine, LineFault, read_line};
+use office_policy::Handler;
 use review_policy::{Answer, Request};
-use sqlite::Alter;
 use std::alloc::Global;
+use streams::{Lines, MAX_LINE};
 
 /// What came of a line.
 #[derive(Debug, Drop)]
@@ -27,8 +25,8 @@ impl Outcome {
     ghost use Rattle.desk.specs.Stands.{IsHandled};
 
     /// Handles a line, given without its line feed.
-    pub fn of_line<S: Alter>(office: &mut Office<S>, alloc: Global, line: &[u8]) -> Outcome
-        ensures { IsHandled (state S.Store office.old) (state S.Store office.new) line.now result }
+    pub fn of_line<H: Handler>(office: &mut H, alloc: Global, line: &[u8]) -> Outcome
+        ensures { IsHandled H.meaning office.old office.new line.now result }
     {
         if line.len() > MAX_LINE {
             return Outcome::Bad(BadLine::TooLong);
@@ -44,12 +42,9 @@ impl Outcome {
         }
     }
     // Handles the first line that is held.
-    pub(crate) fn of_first<S: Alter>(
-        office: &mut Office<S>,
-        alloc: Global,
-        lines: &Lines,
-    ) -> Outcome
-        ensures { (bytes : List ℕ) → Holds lines.now bytes → IsHandled (state S.Store office.old) (state S.Store office.new) (first_line bytes) result }
+    pub(crate) fn of_first<H: Handler>(office: &mut H, alloc: Global, lines: &Lines) -> Outcome
+        ensures { (bytes : List ℕ) → Holds lines.now bytes →
+            IsHandled H.meaning office.old office.new (first_line bytes) result }
     {
         match lines.line() {
             Ok(line) => Outcome::of_line(office, alloc, line),

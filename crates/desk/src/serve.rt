@@ -1,10 +1,12 @@
 //! Lines in, answers out.
 
 ghost use Rattle.std.specs.Prelude.{◌≡◌, ◌+◌, ◌≤◌, ◌^◌, ◌<◌, ℕ, List, IfErr, OnOk, IfSome};
-ghost use Rattle.sqlite.specs.Held.{state};
-ghost use Rattle.line_input.specs.Held.{Holds};
-ghost use Rattle.line_input.specs.Lines.{first_line, lines_of};
-ghost use Rattle.request_lines.specs.Answers.{line_of};
+ghost use Rattle.office_policy.specs.History.{History};
+ghost use Rattle.office_policy.specs.Handled.{LeavesOnly};
+ghost use Rattle.streams.specs.Held.{Holds};
+ghost use Rattle.streams.specs.Lines.{first_line, lines_of};
+ghost use Rattle.json_requests.specs.Answers.{line_of};
+ghost use Rattle.desk.specs.Left.{LeavesLast};
 ghost use Rattle.desk.specs.Outcomes.{told};
 ghost use Rattle.desk.specs.declared.outcome.Outcome.{Outcome};
 ghost use Rattle.desk.specs.Stands.{IsHandled, HasHandled, AreAnswered, StandsAfter};
@@ -12,20 +14,18 @@ ghost use Rattle.desk.specs.Written.{IsServed, CountsServed};
 
 use crate::fault::DeskFault;
 use crate::outcome::Outcome;
-use counted_io::{Counted, write_whole};
-use line_input::{Found, Lines};
-use office_desk::Office;
-use request_lines::line;
+use json_requests::line;
+use office_policy::Handler;
 use review_policy::{Answer, Fault};
-use sqlite::Alter;
 use std::alloc::Global;
 use std::io::{Read, Write};
+use streams::{Counted, Found, Lines, write_whole};
 
 /// How often a reader may be called.
 pub const MAX_READS: u64 = 4_194_304;
 
-// The line that tells want of memory.
-#[tactic(auto, unfolding(request_lines::specs::Answers::line_of, request_lines::specs::Answers::answer_text, serde_json::proofs::OnLiterals::serde_json_on_literals))]
+// The line that says that it is out of memory.
+#[tactic(auto, unfolding(json_requests::specs::Answers::line_of, json_requests::specs::Answers::answer_text, serde_json::proofs::OnLiterals::serde_json_on_literals))]
 fn memory_line() -> &'static str
     ensures { result.now ≡ line_of (Answer.Fault Fault.Memory) }
 {
@@ -39,7 +39,8 @@ fn tell<W: Write>(
     writer: &mut Counted<W>,
     number: u64,
 ) -> Result<(), DeskFault>
-    ensures told { IsServed (W.contents writer.old.inner) (W.contents writer.new.inner) (told outcome.now) number result }
+    ensures told { IsServed (W.contents writer.old.inner) (W.contents writer.new.inner)
+        (told outcome.now) number result }
     ensures faults { CountsServed writer.old.faults writer.new.faults result }
 {
     let written = match outcome {
@@ -54,16 +55,17 @@ fn tell<W: Write>(
 }
 
 // Handles the first line that is held, and writes the line that tells what came of it.
-fn serve_first<S: Alter, W: Write>(
-    office: &mut Office<S>,
+fn serve_first<H: Handler, W: Write>(
+    office: &mut H,
     alloc: Global,
     lines: &Lines,
     writer: &mut Counted<W>,
     number: u64,
 ) -> Result<(), DeskFault>
     ensures told { (bytes : List ℕ) → Holds lines.now bytes → (outcome : Outcome)
-        × IsHandled (state S.Store office.old) (state S.Store office.new) (first_line bytes) outcome
-        × IsServed (W.contents writer.old.inner) (W.contents writer.new.inner) (told outcome) number result }
+        × IsHandled H.meaning office.old office.new (first_line bytes) outcome
+        × IsServed (W.contents writer.old.inner) (W.contents writer.new.inner)
+        (told outcome) number result }
     ensures faults { CountsServed writer.old.faults writer.new.faults result }
 {
     let outcome = Outcome::of_first(office, alloc, lines);
@@ -74,14 +76,17 @@ fn serve_first<S: Alter, W: Write>(
 ///
 /// A line is what stands between line feeds; a last one without a line feed is a line where it isn't empty and the
 /// stream ends. How the reader cuts the stream doesn't matter. Each line is answered before the reader is called again.
-/// A line whose reading meets want of memory is answered by that fault, and so is a request that meets it; both change
-/// nothing.
+/// A line that is out of memory to be read is answered by that fault, and so is a request that runs out of it; both
+/// change nothing.
+///
+/// After a crash what is left is the office of the last history, or that office with one event more: that of a request
+/// among the lines of this call that was answered by a fault, as a fault may come once what was asked for is written.
 ///
 /// # Errors
 ///
 /// [`DeskFault`] says what stands then. The reader is called at most [`MAX_READS`] times.
-pub fn desk<S: Alter, R: Read, W: Write>(
-    office: &mut Office<S>,
+pub fn desk<H: Handler, R: Read, W: Write>(
+    office: &mut H,
     alloc: Global,
     reader: &mut Counted<R>,
     writer: &mut Counted<W>,
@@ -90,17 +95,24 @@ pub fn desk<S: Alter, R: Read, W: Write>(
     requires read_faults { reader.old.faults ≤ 2 ^ 62 }
     requires write_faults { writer.old.faults ≤ 2 ^ 62 }
     ensures answered { OnOk result (IfSome (R.remaining reader.old.inner) (λ input.
-        AreAnswered (state S.Store office.old) (state S.Store office.new) (W.contents writer.old.inner) (W.contents writer.new.inner) (lines_of input))) }
-    ensures stopped { IfErr result (StandsAfter (state S.Store office.old) (state S.Store office.new) (R.remaining reader.old.inner)
-        (R.remaining reader.new.inner)
+        AreAnswered H.meaning office.old office.new
+        (W.contents writer.old.inner) (W.contents writer.new.inner) (lines_of input))) }
+    ensures stopped { IfErr result (StandsAfter H.meaning office.old office.new
+        (R.remaining reader.old.inner) (R.remaining reader.new.inner)
         (W.contents writer.old.inner) (W.contents writer.new.inner)) }
-    ensures handled { HasHandled (state S.Store office.old) (state S.Store office.new) }
+    ensures handled { HasHandled H.meaning office.old office.new }
+    ensures left { (h : History) → H.meaning.is_of h office.old → LeavesOnly H.meaning h office.old
+        → H.meaning.is_clean office.new
+        → LeavesLast H.meaning h office.new (R.remaining reader.old.inner) }
     ensures nothing { result ≡ Err (DeskFault.NoMemory 0) → office.new ≡ office.old }
-    ensures read { IfErr result (λ e. (line : ℕ) → e ≡ DeskFault.Read line → reader.old.faults < reader.new.faults) }
-    ensures write { IfErr result (λ e. (line : ℕ) → e ≡ DeskFault.Write line → writer.old.faults < writer.new.faults) }
+    ensures read { IfErr result (λ e. (line : ℕ) → e ≡ DeskFault.Read line →
+        reader.old.faults < reader.new.faults) }
+    ensures write { IfErr result (λ e. (line : ℕ) → e ≡ DeskFault.Write line →
+        writer.old.faults < writer.new.faults) }
     ensures too_many { IfErr result (λ e. (line : ℕ) → e ≡ DeskFault.TooManyReads line →
         (reader.new.calls ≡ reader.old.calls + 4194304) × (reader.new.faults ≡ reader.old.faults)) }
-    ensures no_fault { OnOk result ((reader.new.faults ≡ reader.old.faults) × (writer.new.faults ≡ writer.old.faults)) }
+    ensures no_fault { OnOk result
+        ((reader.new.faults ≡ reader.old.faults) × (writer.new.faults ≡ writer.old.faults)) }
     ensures calls { reader.new.calls ≤ reader.old.calls + 4194304 }
 {
     let mut lines = match Lines::new(alloc) {

@@ -2,16 +2,16 @@
 use Rattle.std.specs.Prelude.{ℕ, List}
 use Rattle.review_policy.specs.declared.answer.Answer.TheVariants.{Fault}
 use Rattle.review_policy.specs.declared.answer.Fault.TheVariants.{Memory}
-use Rattle.http_message.specs.Message.{code_of}
-use Rattle.http_message.specs.declared.status.Status.{Status}
-use Rattle.http_answers.specs.Responses.{refusal_of, response_to, status_of}
-use Rattle.http_input.specs.Refusals.{refused_status, refused_word}
+use Rattle.http_requests.specs.Message.{code_of}
+use Rattle.http_requests.specs.declared.status.Status.{Status}
+use Rattle.http_requests.specs.Responses.{refusal_with, response_to, status_of}
+use Rattle.http_requests.specs.Refusals.{refused_status, refused_word}
 use Rattle.desk_http.specs.declared.outcome.Outcome.{Outcome}
 use Rattle.desk_http.specs.declared.outcome.Outcome.TheVariants.{Refused, NoMemory, Answered}
 
 -- the response that tells it
 abbrev pub told : Outcome → List ℕ
-told (Refused why) = refusal_of (refused_status why) (refused_word why)
+told (Refused why) = refusal_with (refused_status why) (refused_word why)
 told NoMemory = response_to (Fault Memory)
 told (Answered request answer) = response_to answer
 

@@ -1,56 +1,112 @@
 -- What an exchange leaves of an office, a reader and a writer.
-use Rattle.std.specs.Prelude.{◌≡◌, ◌⊎◌, ℕ, List, Option, Result, Ok, Err}
+use Rattle.std.specs.Prelude.{◌≡◌, ◌⊎◌, ℕ, List, [], ◌∷◌, Option, Result, Ok, Err, IfSome}
 use Rattle.std.specs.Io.KnownBytes.{Appends, IsAtEnd}
 use Rattle.review_policy.specs.declared.ask.Request.{Request}
 use Rattle.review_policy.specs.declared.answer.Answer.{Answer}
-use Rattle.counted_io.specs.Counts.{one_more}
-use Rattle.counted_io.specs.Steps.{AppendsPart}
-use Rattle.request_lines.specs.Plain.{plain}
-use Rattle.http_input.specs.Exchanges.{asks, refused, ended, IsExchange}
-use Rattle.http_input.specs.Heard.{HasCome}
+use Rattle.office_policy.specs.History.{History}
+use Rattle.office_policy.specs.Runs.{IsAnswer, history_after}
+use Rattle.office_policy.specs.Meaning.{Meaning}
+use Rattle.office_policy.specs.Handled.{LeavesOnly}
+use Rattle.office_policy.specs.Left.{AreLeft}
+use Rattle.streams.specs.Counts.{one_more}
+use Rattle.streams.specs.Steps.{AppendsPart}
+use Rattle.json_requests.specs.Plain.{plain}
+use Rattle.http_requests.specs.Exchanges.{asks, refused, ended, IsExchange}
+use Rattle.http_requests.specs.Heard.{HasCome}
 use Rattle.desk_http.specs.Outcomes.{told, told_code}
 use Rattle.desk_http.specs.declared.fault.HttpFault.{HttpFault}
 use Rattle.desk_http.specs.declared.fault.HttpFault.TheVariants as fault
 use Rattle.desk_http.specs.declared.outcome.Outcome.{Outcome}
 use Rattle.desk_http.specs.declared.outcome.Outcome.TheVariants.{Refused, NoMemory, Answered}
 
--- the response is written whole; or the writer failed, and a part of it is; or there was no memory for it, and nothing is
+-- the response is written whole; or the writer failed, and a part of it is; or there was no memory
+-- for it, and nothing is
 abbrev pub IsWritten : Option (List ℕ) → Option (List ℕ) → List ℕ → ℕ → Result ℕ HttpFault → Type 0
 IsWritten before after response code (Ok status) = (status ≡ code) × Appends before after response
-IsWritten before after response code (Err (fault.Write status)) = (status ≡ code) × AppendsPart before after response
-IsWritten before after response code (Err (fault.NoMemory status)) = (status ≡ code) × (after ≡ before)
+IsWritten before after response code (Err (fault.Write status)) =
+    (status ≡ code) × AppendsPart before after response
+IsWritten before after response code (Err (fault.NoMemory status)) =
+    (status ≡ code) × (after ≡ before)
 IsWritten before after response code (Err _) = ⊥
 
 -- so is the response that tells it, with its status
 abbrev pub IsTold : Option (List ℕ) → Option (List ℕ) → Outcome → Result ℕ HttpFault → Type 0
-IsTold before after outcome result = IsWritten before after (told outcome) (told_code outcome) result
+IsTold before after outcome result =
+    IsWritten before after (told outcome) (told_code outcome) result
 
--- where nothing was handled this is `Same`, and where a request was handled with an answer it is `Handled` of these two
+-- where nothing was handled this is `Same`, and where a request was handled with an answer it is
+-- `Handled` of these two
 module _ (Same : Type 0) (Handled : Request → Answer → Type 0) where
-  -- what was read of the stream is refused so; or it asks this request, which was handled with this answer; or it is too little, and
-  -- the stream ended, or couldn't be read on; of want of memory is only said that nothing was handled
+  -- what was read of the stream is refused so; or it asks this request, which was handled with this
+  -- answer; or it is too little, and the stream ended, or couldn't be read on; where it is out of memory, it is only
+  -- said that nothing was handled
   abbrev pub HasOutcome : Option (List ℕ) → Option (List ℕ) → Result Outcome HttpFault → Type 0
   HasOutcome unread rest (Ok (Refused why)) = HasCome unread rest IsExchange (refused why) × Same
-  HasOutcome unread rest (Ok (Answered request answer)) = HasCome unread rest IsExchange (asks (plain request)) × Handled request answer
+  HasOutcome unread rest (Ok (Answered request answer)) =
+      HasCome unread rest IsExchange (asks (plain request)) × Handled request answer
   HasOutcome unread rest (Ok NoMemory) = Same
-  HasOutcome unread rest (Err fault.Ended) = HasCome unread rest IsExchange ended × IsAtEnd rest × Same
+  HasOutcome unread rest (Err fault.Ended) =
+      HasCome unread rest IsExchange ended × IsAtEnd rest × Same
   HasOutcome unread rest (Err fault.Read) = HasCome unread rest IsExchange ended × Same
   HasOutcome unread rest (Err fault.TooManyReads) = HasCome unread rest IsExchange ended × Same
   HasOutcome unread rest (Err _) = ⊥
 
-  -- there is none, and nothing was written; or there is one, and it is told
+  -- the same by the whole stream: it is refused so, or asks this request, or ends too soon, whatever
+  -- was read of it
+  abbrev pub HasOutcomeOf : List ℕ → Result Outcome HttpFault → Type 0
+  HasOutcomeOf input (Ok (Refused why)) = IsExchange input (refused why) × Same
+  HasOutcomeOf input (Ok (Answered request answer)) =
+      IsExchange input (asks (plain request)) × Handled request answer
+  HasOutcomeOf input (Ok NoMemory) = Same
+  HasOutcomeOf input (Err fault.Ended) = IsExchange input ended × Same
+  HasOutcomeOf input (Err fault.Read) = Same
+  HasOutcomeOf input (Err fault.TooManyReads) = Same
+  HasOutcomeOf input (Err _) = ⊥
+
+-- there is no outcome, and nothing was written; or there is one, and it is told
+abbrev pub IsServedAs : (Has : Result Outcome HttpFault → Type 0)
+    → (before after : Option (List ℕ)) → Result ℕ HttpFault → Type 0
+IsServedAs Has before after result =
+    ((e : HttpFault) × (result ≡ Err e) × Has (Err e) × (after ≡ before))
+    ⊎ ((outcome : Outcome) × Has (Ok outcome) × IsTold before after outcome result)
+
+module _ (Same : Type 0) (Handled : Request → Answer → Type 0) where
+  -- so by what was read of a stream
   abbrev pub IsServed : (unread rest before after : Option (List ℕ)) → Result ℕ HttpFault → Type 0
   IsServed unread rest before after result =
-      ((e : HttpFault) × (result ≡ Err e) × HasOutcome unread rest (Err e) × (after ≡ before))
-      ⊎ ((outcome : Outcome) × HasOutcome unread rest (Ok outcome) × IsTold before after outcome result)
+      IsServedAs (HasOutcome Same Handled unread rest) before after result
+
+  -- and so by the whole stream, where that is known
+  abbrev pub IsServedOf : (unread before after : Option (List ℕ)) → Result ℕ HttpFault → Type 0
+  IsServedOf unread before after result =
+      IfSome unread (λ input. IsServedAs (HasOutcomeOf Same Handled input) before after result)
+
+-- ---- what a crash leaves, where it left the office of a history and no other before the exchange
+
+module _ {X : Type 0} (m : Meaning X) (h : History) (new : X) where
+  -- it is the office of that history, and a crash leaves just that
+  abbrev pub StaysWhole : Type 0
+  StaysWhole = m.is_of h new × LeavesOnly m h new
+
+  -- it is the office of the history after the request; a crash leaves just that, or after a fault
+  -- that with the event of the request
+  abbrev pub LeftByOne : Request → Answer → Type 0
+  LeftByOne request answer =
+      IsAnswer h request answer × m.is_of (history_after h request answer) new
+      × ((left : m.Left) → m.may_leave new left
+      → AreLeft m (history_after h request answer) (request ∷ []) (answer ∷ []) left)
 
 -- only where the writer failed is there one fault more
 abbrev pub TellCounts : ℕ → ℕ → Result ℕ HttpFault → Type 0
 TellCounts old new (Err (fault.Write status)) = new ≡ one_more old
 TellCounts old new _ = new ≡ old
 
--- one call of the reader failed just where that is told, and there were as many as are allowed where that is
-abbrev pub ReadCounts : {X : Type 0} → (calls calls_after most faults faults_after : ℕ) → Result X HttpFault → Type 0
-ReadCounts calls calls_after most faults faults_after (Err fault.Read) = faults_after ≡ one_more faults
-ReadCounts calls calls_after most faults faults_after (Err fault.TooManyReads) = (calls_after ≡ most) × (faults_after ≡ faults)
+-- one call of the reader failed just where that is told, and there were as many as are allowed where
+-- that is
+abbrev pub ReadCounts : {X : Type 0} → (calls calls_after most faults faults_after : ℕ)
+    → Result X HttpFault → Type 0
+ReadCounts calls calls_after most faults faults_after (Err fault.Read) =
+    faults_after ≡ one_more faults
+ReadCounts calls calls_after most faults faults_after (Err fault.TooManyReads) =
+    (calls_after ≡ most) × (faults_after ≡ faults)
 ReadCounts calls calls_after most faults faults_after _ = faults_after ≡ faults

@@ -1,19 +1,15 @@
 //! What came of an exchange.
 
 ghost use Rattle.std.specs.Prelude.{◌≡◌, ◌≤◌, ◌<◌, ◌-◌, ◌^◌};
-ghost use Rattle.sqlite.specs.Held.{state};
-ghost use Rattle.office_desk.specs.Handled.{IsHandled};
+ghost use Rattle.office_policy.specs.Handled.{IsHandled};
 
 use crate::fault::HttpFault;
-use counted_io::Counted;
-use http_answers::status_of;
-use http_input::{Refusal, Unheard, hear};
-use http_message::Status;
-use office_desk::Office;
+use http_requests::{OfficeRouter, Refusal, Status, Unheard, answer_status, hear};
+use office_policy::Handler;
 use review_policy::{Answer, Request};
-use sqlite::Alter;
 use std::alloc::Global;
 use std::io::Read;
+use streams::{Counted, Unread};
 
 /// What came of an exchange.
 #[derive(Debug, Drop)]
@@ -31,30 +27,32 @@ impl Outcome {
     ghost use Rattle.desk_http.specs.Served.{HasOutcome, ReadCounts};
 
     // Hears the request that a stream begins with, and handles it.
-    pub(crate) fn of_stream<S: Alter, R: Read>(
-        office: &mut Office<S>,
+    pub(crate) fn of_stream<H: Handler, R: Read>(
+        office: &mut H,
         alloc: Global,
+        router: &OfficeRouter,
         reader: &mut Counted<R>,
         most_calls: u64,
     ) -> Result<Outcome, HttpFault>
         requires countable { most_calls < 2 ^ 64 - 1 }
         requires calls { reader.old.calls ≤ most_calls }
-        ensures outcome { HasOutcome (office.new ≡ office.old) (IsHandled (state S.Store office.old) (state S.Store office.new))
-            (R.remaining reader.old.inner) (R.remaining reader.new.inner)
-            result }
-        ensures read { ReadCounts reader.old.calls reader.new.calls most_calls reader.old.faults reader.new.faults result }
+        ensures outcome { HasOutcome (office.new ≡ office.old)
+            (IsHandled H.meaning office.old office.new)
+            (R.remaining reader.old.inner) (R.remaining reader.new.inner) result }
+        ensures read { ReadCounts reader.old.calls reader.new.calls most_calls
+            reader.old.faults reader.new.faults result }
         ensures calls { reader.new.calls ≤ most_calls }
     {
-        match hear(alloc, reader, most_calls) {
+        match hear(alloc, router, reader, most_calls) {
             Ok(request) => {
                 let answer = office.handle(alloc, &request);
                 Ok(Outcome::Answered { request, answer })
             }
             Err(Unheard::Refused(refusal)) => Ok(Outcome::Refused(refusal)),
-            Err(Unheard::NoMemory) => Ok(Outcome::NoMemory),
             Err(Unheard::Ended) => Err(HttpFault::Ended),
-            Err(Unheard::Failed) => Err(HttpFault::Read),
-            Err(Unheard::TooManyReads) => Err(HttpFault::TooManyReads),
+            Err(Unheard::Unread(Unread::Failed)) => Err(HttpFault::Read),
+            Err(Unheard::Unread(Unread::TooManyReads)) => Err(HttpFault::TooManyReads),
+            Err(Unheard::Unread(Unread::NoMemory)) => Ok(Outcome::NoMemory),
         }
     }
 
@@ -65,7 +63,7 @@ impl Outcome {
         match self {
             Outcome::Refused(refusal) => refusal.status(),
             Outcome::NoMemory => Status::ServiceUnavailable,
-            Outcome::Answered { request: _, answer } => status_of(answer),
+            Outcome::Answered { request: _, answer } => answer_status(answer),
         }
     }
 }

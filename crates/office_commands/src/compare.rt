@@ -1,12 +1,12 @@
 //! `compare`: what one document permits more than another.
 
 use crate::fault::CommandFault;
-use counted_io::Counted;
 use profile_commands::compare_documents;
 use std::alloc::Global;
 use std::fs::Files;
 use std::io::{ErrorKind, Read};
 use std::{fs, io};
+use streams::Counted;
 
 // A file, or what stands for one that can't be opened: a reader that fails.
 #[derive(Drop)]

@@ -1,7 +1,7 @@
 //! Why a command is refused or failed.
 
+use crate::founding_fault::FoundingWordsFault;
 use desk::DeskFault;
-use founding_words::FoundingWordsFault;
 use office_store::FoundingFault;
 use office_tables::StoreFault;
 use profile_commands::{ComparedFault, ExecutionFault, FileFault};

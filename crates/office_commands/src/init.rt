@@ -2,9 +2,9 @@
 
 use crate::databases::Databases;
 use crate::fault::CommandFault;
+use crate::founding::founding_of;
 use crate::opening::{close, open};
 use command_line::InitWords;
-use founding_words::founding_of;
 use office_desk::Office;
 use sqlite::{Alter, Connection};
 use std::alloc::Global;

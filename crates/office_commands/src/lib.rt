@@ -4,6 +4,9 @@
 mod compare;
 mod databases;
 mod fault;
+mod founding;
+mod founding_fault;
+mod host;
 mod init;
 mod lines;
 mod opening;
@@ -13,5 +16,8 @@ mod stored;
 mod trial;
 
 pub use databases::Databases;
+pub use founding::{Founding, founding_of};
+pub use founding_fault::FoundingWordsFault;
+pub use host::run_here;
 pub use run::run_words;
 pub use serve::Network;

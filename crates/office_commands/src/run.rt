@@ -2,7 +2,7 @@
 
 ghost use Rattle.std.specs.Prelude.{◌≡◌, IfErr, IfOk, OnOk};
 ghost use Rattle.std.specs.Io.KnownBytes.{Appends};
-ghost use Rattle.counted_io.specs.Counts.{one_more};
+ghost use Rattle.streams.specs.Counts.{one_more};
 
 use crate::compare::compare_files;
 use crate::databases::Databases;
@@ -12,13 +12,13 @@ use crate::serve::{Network, serve_http};
 use crate::stored::serve_stored;
 use crate::trial::serve_trial;
 use command_line::{Command, ExecveWords, WordsFault, read_words};
-use counted_io::{Counted, write_whole};
 use profile_commands::{Outcome, check_document, execution_of, execve_document};
 use sqlite::{Alter, Connection};
 use std::alloc::Global;
 use std::fs;
 use std::fs::Files;
 use std::io::{Read, Write};
+use streams::{Counted, write_whole};
 
 // The file at this path, for reading.
 fn open<F: Files>(files: &F, path: &str) -> Result<Counted<F::File>, CommandFault>

@@ -1,21 +1,20 @@
 //! `serve`: an office in a file, over HTTP on loopback.
 
-ghost use Rattle.sqlite.specs.Held.{state};
 ghost use Rattle.office_commands.specs.Serving.{HasServed};
 
 use crate::databases::Databases;
 use crate::fault::CommandFault;
 use crate::opening::{close, office_at};
 use command_line::ServeWords;
-use counted_io::{Counted, write_whole};
-use http_serving::serve_all;
-use office_desk::Office;
+use desk_http::Server;
+use office_policy::Handler;
 use sqlite::{Alter, Connection};
 use std::alloc::Global;
 use std::fs::Files;
 use std::io::Write;
 use std::net::{Ipv4Addr, Net, SocketAddr, TcpListener, TcpStream};
 use std::time::{Clock, Duration};
+use streams::{Counted, WriteFailed, write_whole};
 
 // How long an exchange may last, in seconds.
 const LONGEST: u64 = 10;
@@ -38,15 +37,19 @@ fn bind<N: Network>(network: &N, port: u16) -> Result<(TcpListener, u16), Comman
 }
 
 // Says at which port it listens, and serves the exchanges.
-fn serve_bound<N: Network, S: Alter, O: Write>(
+fn serve_bound<N: Network, H: Handler, O: Write>(
     network: &N,
-    office: &mut Office<S>,
+    office: &mut H,
     alloc: Global,
     words: &ServeWords<'_>,
     output: &mut O,
 ) -> Result<(), CommandFault>
-    ensures { HasServed (state S.Store office.old) (state S.Store office.new) words.now.requests result }
+    ensures { HasServed H.meaning office.old office.new words.now.requests result }
 {
+    let longest = Duration::from_secs(LONGEST);
+    let Ok(server) = Server::new(network, alloc, longest) else {
+        return Err(CommandFault::NoMemory);
+    };
     let (listener, port) = bind(network, words.port)?;
     let Ok(listening) = format!(in alloc; "listening {}:{port}\n", Ipv4Addr::LOCALHOST) else {
         return Err(CommandFault::NoMemory);
@@ -54,18 +57,9 @@ fn serve_bound<N: Network, S: Alter, O: Write>(
     if write_whole(&mut Counted::new(&mut *output), listening.as_bytes()).is_err() {
         return Err(CommandFault::Write);
     }
-    let longest = Duration::from_secs(LONGEST);
-    match serve_all(
-        network,
-        office,
-        alloc,
-        &listener,
-        words.requests,
-        longest,
-        output,
-    ) {
-        0 => Ok(()),
-        _ => Err(CommandFault::Write),
+    match server.serve_all(office, &listener, words.requests, output) {
+        Ok(()) => Ok(()),
+        Err(WriteFailed) => Err(CommandFault::Write),
     }
 }
 

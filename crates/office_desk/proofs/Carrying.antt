@@ -19,7 +19,7 @@ use Rattle.office_policy.specs.TablesOf.{tables_of}
 use Rattle.office_policy.specs.Runs.{answer_of}
 use Rattle.office_desk.specs.declared.refusal.Refusal.{Refusal}
 use Rattle.office_desk.specs.declared.refusal.Refusal.TheVariants as refusals
-use Rattle.office_desk.specs.Carries.{Tells, after, AreWithEvent, CarriesFor, CarriesOut}
+use Rattle.office_desk.specs.Carries.{Tells, after, AreWithEvent, CarriesFor, CarriesOut, IsKept, ReadsOut}
 
 never_both : {P : Type 0} (b : Bool) → IsTrue b → b ≡ false → P
 never_both true is_open shut = absurd cc
@@ -30,6 +30,11 @@ pub left : {Of : History → Type 0} (judge : History → Verdict) (old new : St
     → IsErrAnd result (λ r. r ≡ refusal) → CarriesFor Of old new (Err refusal) judge → CarriesFor Of old new result judge
 left {Of = Of} judge old new (Ok reply) refusal is carried = absurd is
 left {Of = Of} judge old new (Err r) refusal is carried = subst (λ e. CarriesFor Of old new (Err e) judge) (sym is) carried
+
+-- the same of a request that only reads
+pub left_reading : (judge : History → Verdict) (old new : State) (result : Result Reply Refusal) (refusal : Refusal)
+    → IsErrAnd result (λ r. r ≡ refusal) → CarriesOut old new (Err refusal) judge → ReadsOut old new result judge
+left_reading judge old new result refusal is carried = record { carried = left judge old new result refusal is carried; same = carried.same }
 
 -- and the same of a read
 pub read_left : {A : Type 0} (old new : State) (F : Tables → A → Type 0) (result : Result A StoreFault) (f : StoreFault) → IsErrAnd result (λ e. e ≡ f)
@@ -363,6 +368,15 @@ pub then_carries : (judge first : History → Verdict) {A : Type 0} (old mid new
     → ((h : History) → IsLawfulHistory h → F (tables_of h) a → first h ≡ judge h) → CarriesOut mid new result first → CarriesOut old new result judge
 then_carries judge first old mid new F a read result is rest =
     then_carries_for IsLawfulHistory IsLawfulHistory judge first old mid new F a read result (λ h lawful found. lawful) is rest
+
+-- what a read keeps, what comes after it may keep
+pub kept_then : {A : Type 0} (old mid new : State) (F : Tables → A → Type 0) (a : A) → IsRead old mid (Ok a) F → (HasCleanDisk new → HasCleanDisk mid) → IsKept mid new → IsKept old new
+kept_then old mid new F a read back then settled clean is_open =
+    let before = back clean in
+    let kept = read.same settled before (read.leaves.answered before).1 in
+    let between : mid.now ≡ mid.committed = kept.0 ∙ settled ∙ sym kept.1 in
+    let last = then between clean is_open in
+    (last.0 ∙ kept.0, last.1 ∙ kept.1)
 
 -- what is so of many histories is so of fewer
 pub for_fewer : (Of Less : History → Type 0) (old new : State) (result : Result Reply Refusal) (judge : History → Verdict)

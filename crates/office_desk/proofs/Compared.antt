@@ -9,7 +9,7 @@ use Rattle.office_store.specs.Adopted.{baseline_of}
 use Rattle.office_store.specs.Calls.{IsRead}
 use Rattle.office_policy.specs.Revisions.{revision_of}
 use Rattle.office_policy.specs.Baseline.{adoption_of, adopted_revision, listed_of, standing_adoption, unless_withdrawn}
-use Rattle.office_history.specs.LooksBack.{LooksBack}
+use Rattle.office_policy.specs.LooksBack.{LooksBack}
 use Rattle.office_desk.specs.Compared.{compared_at}
 use Rattle.office_desk.proofs.Carrying.{read_both}
 

@@ -15,7 +15,7 @@ use Rattle.office_policy.specs.History.{Event, History}
 use Rattle.office_policy.specs.Verdict.{accepted, denied, rules_of, done_of, fault_beside, verdict_of}
 use Rattle.office_policy.specs.Lawful.{IsLawfulHistory}
 use Rattle.office_policy.specs.TablesOf.{tables_of}
-use Rattle.office_history.specs.LooksBack.{LooksBack}
+use Rattle.office_policy.specs.LooksBack.{LooksBack}
 use Rattle.office_desk.specs.declared.refusal.Refusal.TheVariants as refusals
 use Rattle.office_desk.specs.Carries.{CarriesFor}
 use Rattle.office_desk.proofs.Carrying.{Adds, refused_at_once, refused_after, told_after, written, write_fails}

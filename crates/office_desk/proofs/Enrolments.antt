@@ -1,5 +1,5 @@
 -- How an enrolment meets its verdict.
-use Rattle.std.proofs.Common.{◌≡◌, ◌∙◌, ℕ, List, ◌∷◌, Bool, true, false, not, Option, Some, None, Err, Ok, refl, sym, ap, subst}
+use Rattle.std.proofs.Common.{◌≡◌, ◌∙◌, ℕ, List, Bool, true, false, not, Option, Some, None, Err, Ok, sym, ap, subst}
 use Rattle.std.specs.Prelude.{Result, ⊤}
 use Rattle.review_policy.specs.declared.ask.Ask.TheVariants as ask
 use Rattle.review_policy.specs.declared.answer.Reply.TheVariants.{Enrolled}
@@ -17,10 +17,9 @@ use Rattle.office_policy.specs.Users.{user_of, user_showing, is_named}
 use Rattle.office_policy.specs.Facts.{enrol_facts, is_elsewhere, is_another}
 use Rattle.office_policy.specs.Verdict.{denied, verdict_of}
 use Rattle.office_policy.specs.TablesOf.{tables_of}
-use Rattle.office_policy.specs.Lawful.{IsLawfulHistory}
-use Rattle.office_history.specs.LooksBack.{LooksBack}
-use Rattle.office_history.proofs.EventFacts.{enrolled_tables}
-use Rattle.office_history.proofs.LookUps.{shower_is}
+use Rattle.office_policy.specs.LooksBack.{LooksBack}
+use Rattle.office_policy.proofs.EventFacts.{enrolled_tables}
+use Rattle.office_policy.proofs.LookUps.{shower_is}
 use Rattle.office_desk.proofs.Carrying.{Adds}
 use Rattle.office_desk.proofs.Handling.{denied_is, allowed_is}
 

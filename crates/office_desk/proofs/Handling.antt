@@ -1,6 +1,9 @@
 -- How a request meets its verdict, and what it leaves of an office.
-use Rattle.std.proofs.Common.{◌≡◌, ◌≢◌, ◌∙◌, ℕ, List, Bool, true, false, Option, Some, None, Result, Ok, Err, IsTrue, refl, sym, ap, subst}
+use Rattle.std.proofs.Common.{◌⊎◌, inl, inr, ◌≡◌, ◌≢◌, ◌∙◌, ℕ, List, Bool, true, false, Option, Some, None, Result, Ok, Err, IsTrue, refl, sym, ap, subst}
+use Rattle.sqlite.specs.Held.{Held, state}
 use Rattle.sqlite.specs.State.{State, HasCleanDisk}
+use Rattle.sqlite.specs.Store.{Ghosts}
+use Rattle.sqlite_trees.specs.Tree.{Trees}
 use Rattle.review_policy.specs.Words.{is_token}
 use Rattle.review_policy.specs.Rules.{first_denial}
 use Rattle.review_policy.specs.declared.ask.Ask.{Ask}
@@ -17,7 +20,7 @@ use Rattle.office_tables.specs.declared.row.UserRow.{UserRow}
 use Rattle.office_tables.specs.Reads.{IsUserShowing}
 use Rattle.profile_text.specs.Digest.{digest_of}
 use Rattle.office_policy.specs.Users.{user_showing}
-use Rattle.office_history.proofs.LookUps.{shower_is}
+use Rattle.office_policy.proofs.LookUps.{shower_is}
 use Rattle.office_store.specs.Shown.{ShowsIfOpen}
 use Rattle.office_policy.specs.History.{History}
 use Rattle.office_policy.specs.Verdict.{Verdict, accepted, denied, rules_of, done_of, fault_beside, judged, verdict_of, verdict}
@@ -25,14 +28,16 @@ use Rattle.office_policy.specs.Formed.{HasForms}
 use Rattle.office_policy.specs.Lawful.{IsLawfulHistory}
 use Rattle.office_policy.specs.TablesOf.{tables_of}
 use Rattle.office_policy.specs.Runs.{answer_of, event_of, with_event, IsAnswer}
+use Rattle.office_policy.specs.Handled.{AreWithEvent as AreSeenWithEvent, IsHandled, Stands, Survives, only_reads}
+use Rattle.office_policy.proofs.HeadlineFacts.{given_out_approved}
 use Rattle.office_policy.proofs.LawFacts.{lawful_more}
 use Rattle.office_policy.proofs.Numbered.{numbered}
 use Rattle.office_desk.specs.declared.refusal.Refusal.{Refusal}
 use Rattle.office_desk.specs.declared.refusal.Refusal.TheVariants as refusals
 use Rattle.office_desk.specs.Offices.{IsOffice}
 use Rattle.office_desk.specs.Told.{told_of, answer_to}
-use Rattle.office_desk.specs.Carries.{UnlessFault, IsSettled, CarriesFor, CarriesOut, Knows}
-use Rattle.office_desk.specs.Handled.{IsHandled}
+use Rattle.office_desk.specs.Carries.{AreWithEvent, UnlessFault, IsSettled, CarriesFor, CarriesOut, Knows, IsKept, ReadsOut, CarriesAsk}
+use Rattle.office_desk.specs.Meant.{Keeps, meaning_over}
 use Rattle.office_desk.proofs.Carrying.{for_fewer}
 
 -- ---- verdicts
@@ -60,19 +65,30 @@ stranger h (ask.Fetch p) = refl
 stranger h (ask.Hold p) = refl
 stranger h (ask.Release p) = refl
 
--- what is asked is carried out, of the histories that know its caller
-pub asked_known : (old new : State) (result : Result Reply Refusal) (caller : UserRow) (a b : Ask) → b ≡ a
+-- what is asked is carried out, of the histories that know its caller; it is no request that only reads
+pub asked_known : (old new : State) (result : Result Reply Refusal) (caller : UserRow) (a b : Ask) → b ≡ a → only_reads a ≡ false
     → CarriesFor (Knows caller) old new result (λ h. verdict_of h (Some caller) a)
-    → CarriesFor (Knows caller) old new result (λ h. verdict_of h (Some caller) b)
-asked_known old new result caller a b is carried =
-    subst (λ x. CarriesFor (Knows caller) old new result (λ h. verdict_of h (Some caller) x)) (sym is) carried
+    → CarriesAsk caller old new result b
+asked_known old new result caller a b is changes carried = record {
+  carried = subst (λ x. CarriesFor (Knows caller) old new result (λ h. verdict_of h (Some caller) x)) (sym is) carried;
+  same = λ reads. absurd (let k : only_reads b ≡ true = reads in let c : true ≡ false = sym k ∙ ap only_reads is ∙ changes in cc);
+}
 
--- and what is carried out of all lawful ones
-pub asked : (old new : State) (result : Result Reply Refusal) (caller : UserRow) (a b : Ask) → b ≡ a
-    → CarriesOut old new result (λ h. verdict_of h (Some caller) a) → CarriesFor (Knows caller) old new result (λ h. verdict_of h (Some caller) b)
-asked old new result caller a b is carried =
-    asked_known old new result caller a b is
+-- the same of what is carried out of all lawful ones
+pub asked : (old new : State) (result : Result Reply Refusal) (caller : UserRow) (a b : Ask) → b ≡ a → only_reads a ≡ false
+    → CarriesOut old new result (λ h. verdict_of h (Some caller) a) → CarriesAsk caller old new result b
+asked old new result caller a b is changes carried =
+    asked_known old new result caller a b is changes
     (for_fewer IsLawfulHistory (Knows caller) old new result (λ h. verdict_of h (Some caller) a) (λ h knows. knows.lawful) carried)
+
+-- and of a request that only reads
+pub asked_reading : (old new : State) (result : Result Reply Refusal) (caller : UserRow) (a b : Ask) → b ≡ a
+    → ReadsOut old new result (λ h. verdict_of h (Some caller) a) → CarriesAsk caller old new result b
+asked_reading old new result caller a b is read = record {
+  carried = subst (λ x. CarriesFor (Knows caller) old new result (λ h. verdict_of h (Some caller) x)) (sym is)
+      (for_fewer IsLawfulHistory (Knows caller) old new result (λ h. verdict_of h (Some caller) a) (λ h knows. knows.lawful) read.carried);
+  same = λ reads. read.same;
+}
 
 -- a history knows the user who was found
 pub known : (h : History) → IsLawfulHistory h → (digest : List ℕ) (user : Option UserRow) (caller : UserRow) → user ≡ Some caller → IsUserShowing (tables_of h) digest user
@@ -111,76 +127,111 @@ passing h r Disk passes = tt
 passing h r Full passes = tt
 passing h r NotAnOffice passes = absurd (passes refl)
 
-module _ (old new : State) (r : Request) (token : is_token r.token ≡ true) (forms : HasForms r.ask) where
-  -- it was carried out
-  pub handled_done : (reply : Reply) → CarriesOut old new (Ok reply) (λ h. verdict h r) → (HasCleanDisk new → IsTrue old.is_open) → IsSettled new → IsHandled old new r (Done reply)
-  handled_done reply carried was_open settled = record {
-    idle = carried.idle;
+event_seen : {S : Type 0} (g : Ghosts S) (h : History) (v : Verdict) (trees : Trees) → AreWithEvent h v trees → AreSeenWithEvent (meaning_over g) h v trees
+event_seen g h (accepted reply (Some e)) trees left = left
+event_seen g h (accepted reply None) trees left = absurd left
+event_seen g h (denied denial fault) trees left = absurd left
+
+module _ {S : Type 0} (g : Ghosts S) (old new : Held S) (r : Request) (token : is_token r.token ≡ true) (forms : HasForms r.ask) where
+  -- what was carried out survives, and a connection that was shut stays so
+  survives : (result : Result Reply Refusal) → CarriesOut (state g old) (state g new) result (λ h. verdict h r) → Survives (meaning_over g) old new
+  survives result carried = record {
     clean = carried.clean;
-    shut = λ clean is_open. was_open clean;
-    answer = λ h office clean. sym (carried.told h office.lawful (office.tables (carried.clean clean)) clean);
-    office = λ h office. record {
-      idle = carried.idle;
-      lawful = lawful_after h r (verdict h r) token forms refl office.lawful;
-      tables = λ clean. carried.shown h office.lawful (office.tables (carried.clean clean)) clean;
-    };
-    stands = λ h office clean.
-        let shows = carried.shown h office.lawful (office.tables (carried.clean clean)) clean (carried.stays clean (was_open clean)) in
-        record { shows = shows; leaves = settled (tables_of (with_event (event_of (verdict h r)) h)) shows };
-    same = λ settled clean. tt;
-    crash = λ h office clean. carried.crash h office.lawful (office.tables (carried.clean clean)) clean;
+    counts = carried.survives.counts;
+    closes = carried.survives.closes;
+    shut = λ clean. was_open_by (state g old).is_open (state g new).is_open (carried.shut clean);
   }
 
-  -- a rule refused it
-  pub handled_denied : (d : Denial) (fault : Option (List ℕ)) → CarriesOut old new (Err (refusals.Denied d fault)) (λ h. verdict h r) → (HasCleanDisk new → IsTrue old.is_open) → IsSettled new
-      → IsHandled old new r (Denied d fault)
-  handled_denied d fault carried was_open settled =
-      let none : (h : History) → IsOffice h old → HasCleanDisk new → with_event (event_of (verdict h r)) h ≡ h = λ h office clean.
-      ap (λ e. with_event e h) (none_added (verdict h r) d fault (carried.told h office.lawful (office.tables (carried.clean clean)) clean)) in
-      let shown : (h : History) → IsOffice h old → HasCleanDisk new → ShowsIfOpen new (tables_of (with_event (event_of (verdict h r)) h)) = λ h office clean.
-      subst (λ k. ShowsIfOpen new (tables_of k)) (sym (none h office clean)) (carried.shown h office.lawful (office.tables (carried.clean clean)) clean) in
-      record {
+  keeps : (result : Result Reply Refusal) → CarriesOut (state g old) (state g new) result (λ h. verdict h r) → IsKept (state g old) (state g new)
+      → HasCleanDisk (state g new) → Keeps (state g old) (state g new)
+  keeps result carried same clean = record { shut = (survives result carried).shut clean; same = λ settled. same settled clean }
+
+  crash : (result : Result Reply Refusal) → CarriesOut (state g old) (state g new) result (λ h. verdict h r)
+      → (h : History) → IsOffice h (state g old) → HasCleanDisk (state g new) → (trees : Trees) → (state g new).may_leave trees
+      → (state g old).may_leave trees ⊎ AreSeenWithEvent (meaning_over g) h (verdict h r) trees
+  crash result carried h office clean trees may =
+      elim (carried.crash h office.lawful (office.tables (carried.clean clean)) clean trees may) [
+        | inl before ↦ inl before
+        | inr with_event ↦ inr (event_seen g h (verdict h r) trees with_event)
+      ]
+
+  stands : (result : Result Reply Refusal) → CarriesOut (state g old) (state g new) result (λ h. verdict h r) → IsSettled (state g new)
+      → (h : History) → IsOffice h (state g new) → HasCleanDisk (state g new) → IsTrue (state g new).is_open → Stands (meaning_over g) h new
+  stands result carried settled h office clean is_open =
+      record { is_of = office; is_open = is_open; leaves = settled (tables_of h) (office.tables clean is_open) }
+
+  -- it was carried out
+  handled_done : (reply : Reply) → CarriesOut (state g old) (state g new) (Ok reply) (λ h. verdict h r) → (HasCleanDisk (state g new) → IsTrue (state g old).is_open)
+      → IsSettled (state g new) → (IsTrue (only_reads r.ask) → IsKept (state g old) (state g new)) → IsHandled (meaning_over g) old new r (Done reply)
+  handled_done reply carried was_open settled same =
+      let answer : (h : History) → IsOffice h (state g old) → HasCleanDisk (state g new) → IsAnswer h r (Done reply) = λ h office clean.
+      sym (carried.told h office.lawful (office.tables (carried.clean clean)) clean) in
+      let office : (h : History) → IsOffice h (state g old) → IsOffice (with_event (event_of (verdict h r)) h) (state g new) = λ h office. record {
         idle = carried.idle;
-        clean = carried.clean;
-        shut = λ clean is_open. was_open clean;
+        lawful = lawful_after h r (verdict h r) token forms refl office.lawful;
+        tables = λ clean. carried.shown h office.lawful (office.tables (carried.clean clean)) clean;
+      } in
+      record {
+        survives = survives (Ok reply) carried;
+        answer = answer;
+        approved = λ h office clean. given_out_approved h r (Done reply) office.lawful (answer h office clean);
+        office = office;
+        stands = λ h of clean. stands (Ok reply) carried settled (with_event (event_of (verdict h r)) h) (office h of) clean (carried.stays clean (was_open clean));
+        kept = λ clean reads. keeps (Ok reply) carried (same reads) clean;
+        crash = crash (Ok reply) carried;
+      }
+
+  -- a rule refused it
+  handled_denied : (d : Denial) (fault : Option (List ℕ)) → CarriesOut (state g old) (state g new) (Err (refusals.Denied d fault)) (λ h. verdict h r)
+      → (HasCleanDisk (state g new) → IsTrue (state g old).is_open) → IsSettled (state g new) → IsHandled (meaning_over g) old new r (Denied d fault)
+  handled_denied d fault carried was_open settled =
+      let refused : Result Reply Refusal = Err (refusals.Denied d fault) in
+      let none : (h : History) → IsOffice h (state g old) → HasCleanDisk (state g new) → with_event (event_of (verdict h r)) h ≡ h = λ h office clean.
+      ap (λ e. with_event e h) (none_added (verdict h r) d fault (carried.told h office.lawful (office.tables (carried.clean clean)) clean)) in
+      let shown : (h : History) → IsOffice h (state g old) → HasCleanDisk (state g new) → ShowsIfOpen (state g new) (tables_of (with_event (event_of (verdict h r)) h)) = λ h office clean.
+      subst (λ k. ShowsIfOpen (state g new) (tables_of k)) (sym (none h office clean)) (carried.shown h office.lawful (office.tables (carried.clean clean)) clean) in
+      let office : (h : History) → IsOffice h (state g old) → IsOffice (with_event (event_of (verdict h r)) h) (state g new) = λ h office. record {
+        idle = carried.idle;
+        lawful = lawful_after h r (verdict h r) token forms refl office.lawful;
+        tables = shown h office;
+      } in
+      record {
+        survives = survives refused carried;
         answer = λ h office clean. sym (carried.told h office.lawful (office.tables (carried.clean clean)) clean);
-        office = λ h office. record {
-          idle = carried.idle;
-          lawful = lawful_after h r (verdict h r) token forms refl office.lawful;
-          tables = shown h office;
-        };
-        stands = λ h office clean.
-            let shows = shown h office clean (carried.stays clean (was_open clean)) in
-            record { shows = shows; leaves = settled (tables_of (with_event (event_of (verdict h r)) h)) shows };
-        same = carried.same;
-        crash = λ h office clean. carried.crash h office.lawful (office.tables (carried.clean clean)) clean;
+        approved = λ h office clean. tt;
+        office = office;
+        stands = λ h of clean. stands refused carried settled (with_event (event_of (verdict h r)) h) (office h of) clean (carried.stays clean (was_open clean));
+        kept = λ clean. keeps refused carried carried.same clean;
+        crash = crash refused carried;
       }
 
   -- there was a fault
-  pub handled_fault : (fault : StoreFault) → CarriesOut old new (Err (refusals.Fault fault)) (λ h. verdict h r) → (HasCleanDisk new → IsTrue new.is_open → IsTrue old.is_open)
-      → IsHandled old new r (Fault (told_of fault))
-  handled_fault fault carried shut = record {
-    idle = carried.idle;
-    clean = carried.clean;
-    shut = shut;
-    answer = λ h office clean. passing h r fault (carried.told h office.lawful (office.tables (carried.clean clean)) clean);
-    office = λ h office. record {
-      idle = carried.idle;
-      lawful = office.lawful;
-      tables = λ clean. carried.shown h office.lawful (office.tables (carried.clean clean)) clean;
-    };
-    stands = λ h office clean. tt;
-    same = carried.same;
-    crash = λ h office clean. carried.crash h office.lawful (office.tables (carried.clean clean)) clean;
-  }
+  handled_fault : (fault : StoreFault) → CarriesOut (state g old) (state g new) (Err (refusals.Fault fault)) (λ h. verdict h r)
+      → IsHandled (meaning_over g) old new r (Fault (told_of fault))
+  handled_fault fault carried =
+      let failed : Result Reply Refusal = Err (refusals.Fault fault) in
+      record {
+        survives = survives failed carried;
+        answer = λ h office clean. passing h r fault (carried.told h office.lawful (office.tables (carried.clean clean)) clean);
+        approved = λ h office clean. tt;
+        office = λ h office. record {
+          idle = carried.idle;
+          lawful = office.lawful;
+          tables = λ clean. carried.shown h office.lawful (office.tables (carried.clean clean)) clean;
+        };
+        stands = λ h office clean. tt;
+        kept = λ clean. keeps failed carried carried.same clean;
+        crash = crash failed carried;
+      }
 
   -- whatever it came to
-  pub handled : (result : Result Reply Refusal) (told : Answer) → told ≡ answer_to result → CarriesOut old new result (λ h. verdict h r) → (HasCleanDisk new → UnlessFault result (IsTrue old.is_open)) → IsSettled new
-      → IsHandled old new r told
-  handled result told is carried was_open settled = subst (IsHandled old new r) (sym is) (by_result result carried was_open settled)
+  pub handled : (result : Result Reply Refusal) (told : Answer) → told ≡ answer_to result → CarriesOut (state g old) (state g new) result (λ h. verdict h r)
+      → (HasCleanDisk (state g new) → UnlessFault result (IsTrue (state g old).is_open)) → IsSettled (state g new)
+      → (IsTrue (only_reads r.ask) → IsKept (state g old) (state g new)) → IsHandled (meaning_over g) old new r told
+  handled result told is carried was_open settled same = subst (IsHandled (meaning_over g) old new r) (sym is) (by_result result carried was_open)
     where
-      by_result : (result : Result Reply Refusal) → CarriesOut old new result (λ h. verdict h r) → (HasCleanDisk new → UnlessFault result (IsTrue old.is_open)) → IsSettled new
-          → IsHandled old new r (answer_to result)
-      by_result (Ok reply) carried was_open settled = handled_done reply carried was_open settled
-      by_result (Err (refusals.Denied d fault)) carried was_open settled = handled_denied d fault carried was_open settled
-      by_result (Err (refusals.Fault fault)) carried was_open settled = handled_fault fault carried (λ clean. was_open_by old.is_open new.is_open (carried.shut clean))
+      by_result : (result : Result Reply Refusal) → CarriesOut (state g old) (state g new) result (λ h. verdict h r)
+          → (HasCleanDisk (state g new) → UnlessFault result (IsTrue (state g old).is_open)) → IsHandled (meaning_over g) old new r (answer_to result)
+      by_result (Ok reply) carried was_open = handled_done reply carried was_open settled same
+      by_result (Err (refusals.Denied d fault)) carried was_open = handled_denied d fault carried was_open settled
+      by_result (Err (refusals.Fault fault)) carried was_open = handled_fault fault carried

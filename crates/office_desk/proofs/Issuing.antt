@@ -27,9 +27,9 @@ use Rattle.office_policy.specs.Facts.{issue_facts}
 use Rattle.office_policy.specs.Verdict.{accepted, denied, of_revision, verdict_of}
 use Rattle.office_policy.proofs.RuleFacts.{none_refuses}
 use Rattle.office_policy.proofs.VoterFacts.{tally_is}
-use Rattle.office_history.specs.LooksBack.{LooksBack}
-use Rattle.office_history.proofs.EventFacts.{issued_tables}
-use Rattle.office_history.proofs.LookUps.{author_is}
+use Rattle.office_policy.specs.LooksBack.{LooksBack}
+use Rattle.office_policy.proofs.EventFacts.{issued_tables}
+use Rattle.office_policy.proofs.LookUps.{author_is}
 use Rattle.office_desk.specs.declared.baseline.Comparison.{Comparison}
 use Rattle.office_desk.specs.declared.issue.Looked.{Looked}
 use Rattle.office_desk.specs.Compared.{compared_at}

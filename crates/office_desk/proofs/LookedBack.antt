@@ -8,14 +8,14 @@ use Rattle.office_tables.specs.declared.listed.ListedRevision.{ListedRevision}
 use Rattle.office_tables.specs.Tables.{Tables}
 use Rattle.office_tables.specs.Lists.{IsAuthor, AreRevisionsOf}
 use Rattle.office_store.specs.Calls.{IsRead}
-use Rattle.office_store.specs.Reads.{HasRevision, IsIssued}
+use Rattle.office_tables.specs.Reads.{HasRevision, IsIssued}
 use Rattle.office_policy.specs.Revisions.{revision_of, revision_count}
 use Rattle.office_policy.specs.Listing.{listing_of}
-use Rattle.office_history.specs.Grouped.{profiles_in}
-use Rattle.office_history.specs.LooksBack.{LooksBack}
-use Rattle.office_history.proofs.LookUps.{author_is, found_is}
-use Rattle.office_history.proofs.IssuedFacts.{issued_is}
-use Rattle.office_history.proofs.ListingFacts.{listing_is}
+use Rattle.office_policy.specs.Grouped.{profiles_in}
+use Rattle.office_policy.specs.LooksBack.{LooksBack}
+use Rattle.office_policy.proofs.LookUps.{author_is, found_is}
+use Rattle.office_policy.proofs.IssuedFacts.{issued_is}
+use Rattle.office_policy.proofs.GroupedFacts.{listing_is}
 use Rattle.office_desk.specs.Looked.{authored_at, issued_at, hold_at}
 use Rattle.office_desk.proofs.Carrying.{read_as}
 

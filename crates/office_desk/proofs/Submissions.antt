@@ -20,8 +20,7 @@ use Rattle.office_tables.specs.declared.fault.StoreFault.TheVariants.{NoMemory, 
 use Rattle.office_tables.specs.declared.row.UserRow.{UserRow}
 use Rattle.office_tables.specs.declared.row.RevisionRow.{RevisionRow}
 use Rattle.office_tables.specs.Lists.{holds_role}
-use Rattle.office_tables.specs.Reads.{IsLast}
-use Rattle.office_store.specs.Reads.{Submits}
+use Rattle.office_tables.specs.Reads.{IsLast, Submits}
 use Rattle.office_store.specs.Shown.{IsIdle}
 use Rattle.office_policy.specs.History.{History, submitted}
 use Rattle.office_policy.specs.Users.{is_of_team}
@@ -30,7 +29,7 @@ use Rattle.office_policy.specs.Facts.{canonical, is_text_of, submit_facts}
 use Rattle.office_policy.specs.Verdict.{Verdict, accepted, denied, fault_told, new_revision, verdict_of}
 use Rattle.office_policy.specs.Lawful.{IsLawfulHistory}
 use Rattle.office_policy.specs.TablesOf.{tables_of}
-use Rattle.office_history.proofs.Submissions.{last_found, last_number, submits}
+use Rattle.office_policy.proofs.Submissions.{last_found, last_number, submits}
 use Rattle.office_desk.specs.declared.refusal.Refusal.{Refusal}
 use Rattle.office_desk.specs.declared.refusal.Refusal.TheVariants as refusals
 use Rattle.office_desk.specs.AtOnce.{IsRefusedAtOnce}

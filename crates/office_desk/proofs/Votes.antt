@@ -17,7 +17,7 @@ use Rattle.office_policy.specs.History.{voted, History}
 use Rattle.office_policy.specs.Revisions.{state_in}
 use Rattle.office_policy.specs.Facts.{vote_facts, has_digest}
 use Rattle.office_policy.specs.TablesOf.{tables_of}
-use Rattle.office_history.proofs.EventFacts.{voted_tables}
+use Rattle.office_policy.proofs.EventFacts.{voted_tables}
 use Rattle.office_desk.specs.Carries.{Knows}
 use Rattle.office_desk.specs.Looked.{authored_at}
 use Rattle.office_desk.proofs.Deciding.{Kind}

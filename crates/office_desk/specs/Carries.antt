@@ -2,6 +2,7 @@
 use Rattle.std.specs.Prelude.{◌≡◌, ◌≢◌, ◌∷◌, false, Some, None, Result, Ok, Err, IsTrue, OnErr}
 use Rattle.sqlite.specs.State.{State, HasCleanDisk, Survives}
 use Rattle.sqlite_trees.specs.Tree.{Trees}
+use Rattle.review_policy.specs.declared.ask.Ask.{Ask}
 use Rattle.review_policy.specs.declared.answer.Answer.TheVariants.{Done, Denied}
 use Rattle.review_policy.specs.declared.answer.Reply.{Reply}
 use Rattle.office_tables.specs.declared.fault.StoreFault.TheVariants.{NotAnOffice}
@@ -11,10 +12,11 @@ use Rattle.office_rows.specs.Queries.{IsAsItWas}
 use Rattle.office_store.specs.Shown.{IsIdle, Shows, ShowsIfOpen, AreOffice, LeavesOnly, MayLeave}
 use Rattle.office_policy.specs.History.{History}
 use Rattle.office_policy.specs.Users.{user_of}
-use Rattle.office_policy.specs.Verdict.{Verdict, accepted, denied}
+use Rattle.office_policy.specs.Verdict.{Verdict, accepted, denied, verdict_of}
 use Rattle.office_policy.specs.Lawful.{IsLawfulHistory}
 use Rattle.office_policy.specs.TablesOf.{tables_of}
 use Rattle.office_policy.specs.Runs.{answer_of, event_of, with_event}
+use Rattle.office_policy.specs.Handled.{only_reads}
 use Rattle.office_desk.specs.declared.refusal.Refusal.{Refusal}
 use Rattle.office_desk.specs.declared.refusal.Refusal.TheVariants as refusals
 
@@ -77,3 +79,17 @@ CarriesOut = CarriesFor IsLawfulHistory
 pub record Knows (user : UserRow) (h : History) : Type 0 where
   pub lawful : IsLawfulHistory h
   pub row : user_of h user.name ≡ Some user
+
+-- the connection has what it had, whatever that is
+abbrev pub IsKept : State → State → Type 0
+IsKept old new = old.now ≡ old.committed → HasCleanDisk new → IsAsItWas old new
+
+-- so is a request that only reads, which leaves any connection with what it had
+pub record ReadsOut (old new : State) (result : Result Reply Refusal) (judge : History → Verdict) : Type 0 where
+  pub carried : CarriesOut old new result judge
+  pub same : IsKept old new
+
+-- what is asked is carried out of the histories that know its caller, and where it only reads the connection has what it had
+pub record CarriesAsk (caller : UserRow) (old new : State) (result : Result Reply Refusal) (a : Ask) : Type 0 where
+  pub carried : CarriesFor (Knows caller) old new result (λ h. verdict_of h (Some caller) a)
+  pub same : IsTrue (only_reads a) → IsKept old new

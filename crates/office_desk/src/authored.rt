@@ -3,7 +3,7 @@
 ghost use Rattle.sqlite.specs.Held.{state};
 ghost use Rattle.office_store.specs.Calls.{IsRead};
 ghost use Rattle.office_store.specs.Shown.{IsIdle};
-ghost use Rattle.office_history.specs.LooksBack.{LooksBack};
+ghost use Rattle.office_policy.specs.LooksBack.{LooksBack};
 ghost use Rattle.office_desk.specs.Looked.{authored_at};
 
 use office_store::{is_author, revision};

@@ -7,7 +7,7 @@ ghost use Rattle.office_store.specs.Calls.{IsRead};
 ghost use Rattle.office_policy.specs.Baseline.{adopted_revision, document_or_closed, unless_withdrawn};
 ghost use Rattle.office_policy.specs.Documents.{document_of};
 ghost use Rattle.office_policy.specs.Need.{need_against};
-ghost use Rattle.office_history.specs.LooksBack.{LooksBack};
+ghost use Rattle.office_policy.specs.LooksBack.{LooksBack};
 ghost use Rattle.office_desk.specs.Compared.{compared_at};
 
 use crate::need::{document, need_against};

@@ -1,11 +1,12 @@
 // What each kind of request does.
 
-ghost use Rattle.std.specs.Prelude.{◌≡◌, Some, IsTrue};
+ghost use Rattle.std.specs.Prelude.{◌≡◌, IsTrue};
 ghost use Rattle.sqlite.specs.Held.{state};
 ghost use Rattle.sqlite.specs.State.{HasCleanDisk};
 ghost use Rattle.office_store.specs.Shown.{IsIdle};
-ghost use Rattle.office_policy.specs.Verdict.{verdict_of, verdict};
-ghost use Rattle.office_desk.specs.Carries.{UnlessFault, IsSettled, CarriesFor, CarriesOut, Knows};
+ghost use Rattle.office_policy.specs.Handled.{only_reads};
+ghost use Rattle.office_policy.specs.Verdict.{verdict};
+ghost use Rattle.office_desk.specs.Carries.{UnlessFault, IsKept, IsSettled, CarriesAsk, CarriesOut};
 
 use crate::adopt::adopt;
 use crate::enrol::enrol;
@@ -34,7 +35,7 @@ fn carry_out_for<S: Alter>(
     ask: &Ask,
 ) -> Result<Reply, Refusal>
     requires { IsIdle (state S.Store conn.old) }
-    ensures { CarriesFor (Knows caller.now) (state S.Store conn.old) (state S.Store conn.new) result (λ h. verdict_of h (Some caller.now) ask.now) }
+    ensures { CarriesAsk caller.now (state S.Store conn.old) (state S.Store conn.new) result ask.now }
 {
     match ask {
         Ask::Enrol {
@@ -72,6 +73,7 @@ pub(crate) fn carry_out<S: Alter>(
     ensures carried { CarriesOut (state S.Store conn.old) (state S.Store conn.new) result (λ h. verdict h request.now) }
     ensures open { HasCleanDisk (state S.Store conn.new) → UnlessFault result (IsTrue (state S.Store conn.old).is_open) }
     ensures settled { IsSettled (state S.Store conn.new) }
+    ensures same { IsTrue (only_reads request.now.ask) → IsKept (state S.Store conn.old) (state S.Store conn.new) }
 {
     let token = digest(request.token.as_str().as_bytes());
     let Some(caller) = user_by_token(alloc, conn, &token)? else {

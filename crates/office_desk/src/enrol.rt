@@ -8,7 +8,7 @@ ghost use Rattle.office_store.specs.Shown.{IsIdle};
 ghost use Rattle.office_policy.specs.Users.{user_of, user_showing};
 ghost use Rattle.office_policy.specs.Facts.{enrol_facts, is_elsewhere, is_another};
 ghost use Rattle.office_policy.specs.Verdict.{verdict_of};
-ghost use Rattle.office_history.specs.LooksBack.{LooksBack};
+ghost use Rattle.office_policy.specs.LooksBack.{LooksBack};
 ghost use Rattle.office_desk.specs.Carries.{CarriesOut};
 
 use crate::refusal::Refusal;

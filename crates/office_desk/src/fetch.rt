@@ -7,9 +7,9 @@ ghost use Rattle.office_store.specs.Calls.{IsRead};
 ghost use Rattle.office_store.specs.Shown.{IsIdle};
 ghost use Rattle.office_policy.specs.Facts.{fetch_facts};
 ghost use Rattle.office_policy.specs.Verdict.{verdict_of};
-ghost use Rattle.office_history.specs.LooksBack.{LooksBack};
+ghost use Rattle.office_policy.specs.LooksBack.{LooksBack};
 ghost use Rattle.office_desk.specs.Looked.{issued_at};
-ghost use Rattle.office_desk.specs.Carries.{CarriesOut};
+ghost use Rattle.office_desk.specs.Carries.{ReadsOut};
 
 use crate::refusal::Refusal;
 use office_store::{held, issued};
@@ -53,7 +53,7 @@ pub(crate) fn fetch<S: Alter>(
     name: &ProfileName,
 ) -> Result<Reply, Refusal>
     requires { IsIdle (state S.Store conn.old) }
-    ensures { CarriesOut (state S.Store conn.old) (state S.Store conn.new) result (λ h. verdict_of h (Some caller.now) (ask.Fetch name.now)) }
+    ensures { ReadsOut (state S.Store conn.old) (state S.Store conn.new) result (λ h. verdict_of h (Some caller.now) (ask.Fetch name.now)) }
 {
     decide_fetch(&fetch_facts(caller, &name.team, false, false))?;
     let (found, is_held) = look_at(alloc, conn, name)?;

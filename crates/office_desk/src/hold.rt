@@ -7,7 +7,7 @@ ghost use Rattle.office_store.specs.Calls.{IsRead};
 ghost use Rattle.office_store.specs.Shown.{IsIdle};
 ghost use Rattle.office_policy.specs.Facts.{hold_facts, release_facts};
 ghost use Rattle.office_policy.specs.Verdict.{verdict_of};
-ghost use Rattle.office_history.specs.LooksBack.{LooksBack};
+ghost use Rattle.office_policy.specs.LooksBack.{LooksBack};
 ghost use Rattle.office_desk.specs.Looked.{hold_at};
 ghost use Rattle.office_desk.specs.Carries.{CarriesOut};
 

@@ -9,7 +9,7 @@ ghost use Rattle.office_store.specs.Shown.{IsIdle};
 ghost use Rattle.office_store.specs.Calls.{IsRead};
 ghost use Rattle.office_policy.specs.Facts.{issue_facts};
 ghost use Rattle.office_policy.specs.Verdict.{verdict_of};
-ghost use Rattle.office_history.specs.LooksBack.{LooksBack};
+ghost use Rattle.office_policy.specs.LooksBack.{LooksBack};
 ghost use Rattle.office_desk.specs.Carries.{CarriesOut};
 ghost use Rattle.office_desk.specs.Issuing.{looked_at, one_approval};
 

@@ -10,6 +10,7 @@ mod carry_out;
 mod enrol;
 mod fetch;
 mod forms;
+mod grouping;
 mod hold;
 mod issue;
 mod list;

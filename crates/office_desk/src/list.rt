@@ -5,11 +5,11 @@ ghost use Rattle.sqlite.specs.Held.{state};
 ghost use Rattle.review_policy.specs.declared.ask.Ask.TheVariants as ask;
 ghost use Rattle.office_store.specs.Shown.{IsIdle};
 ghost use Rattle.office_policy.specs.Verdict.{verdict_of};
-ghost use Rattle.office_desk.specs.Carries.{CarriesOut};
+ghost use Rattle.office_desk.specs.Carries.{ReadsOut};
 
+use crate::grouping::profiles_in;
 use crate::reading::read_facts;
 use crate::refusal::Refusal;
-use office_history::grouping::profiles_in;
 use office_store::revisions_of;
 use office_tables::UserRow;
 use review_policy::{Reply, Word, decide_read};
@@ -24,7 +24,7 @@ pub(crate) fn list<S: Alter>(
     team: &Word,
 ) -> Result<Reply, Refusal>
     requires { IsIdle (state S.Store conn.old) }
-    ensures { CarriesOut (state S.Store conn.old) (state S.Store conn.new) result (λ h. verdict_of h (Some caller.now) (ask.List team.now)) }
+    ensures { ReadsOut (state S.Store conn.old) (state S.Store conn.new) result (λ h. verdict_of h (Some caller.now) (ask.List team.now)) }
 {
     decide_read(&read_facts(caller, team, false))?;
     let revisions = revisions_of(alloc, conn, team)?;

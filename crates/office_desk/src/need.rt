@@ -3,7 +3,6 @@
 ghost use Rattle.std.specs.Prelude.{◌≡◌, IfOk};
 ghost use Rattle.office_policy.specs.Documents.{document_of};
 ghost use Rattle.office_policy.specs.Need.{need_against};
-ghost use Rattle.review_sheet.specs.Review.{holds_listed};
 
 use cap_sets::Caps;
 use profile_text::{DocFault, Profile, read};
@@ -22,16 +21,6 @@ pub(crate) fn document(alloc: Global, body: &Text) -> Result<Profile, AllocError
     }
 }
 
-// Whether a document has a listed capability in any of its five sets.
-fn holds_listed(listed: Caps, shown: &Profile) -> bool
-    ensures { result ≡ holds_listed listed shown.now }
-{
-    let caps = &shown.caps;
-    let kept = caps.inheritable.bits() | (caps.bounding.bits() | caps.ambient.bits());
-    let held = caps.effective.bits() | (caps.permitted.bits() | kept);
-    listed.bits() & held != 0
-}
-
 // How many approvals a document needs against another.
 pub(crate) fn need_against(
     alloc: Global,
@@ -42,5 +31,5 @@ pub(crate) fn need_against(
     ensures { IfOk result (λ need. need ≡ need_against listed base.now shown.now) }
 {
     let found = findings(alloc, base, shown)?;
-    Ok(need(!found.is_empty(), holds_listed(listed, shown)))
+    Ok(need(!found.is_empty(), shown.holds_listed(listed)))
 }

@@ -6,6 +6,7 @@ use crate::answer::answer_to;
 use crate::carry_out::carry_out;
 use crate::forms::{founding_forms, request_forms};
 use cap_sets::Caps;
+use office_policy::Handler;
 use office_store::{FoundingFault, check_office, found};
 use office_tables::StoreFault;
 use review_policy::{Answer, Request, Word};
@@ -33,19 +34,20 @@ impl<S: Alter> Model for Office<S> {
 }
 
 impl<S: Alter> Office<S> {
-    ghost use Rattle.std.specs.Prelude.{◌≡◌, ◌≢◌, ◌↔◌, ℕ, [], ◌∷◌, IsTrue, IfOk, IfErr, OnOk};
+    ghost use Rattle.std.specs.Prelude.{◌≡◌, ◌≢◌, ◌↔◌, ℕ, false, true, [], ◌∷◌, Err, IsTrue, IfOk, IfErr, OnOk};
     ghost use Rattle.sqlite.specs.Held.{state};
     ghost use Rattle.sqlite.specs.State.{HasCleanDisk};
     ghost use Rattle.office_rows.specs.Queries.{IsAsItWas};
-    ghost use Rattle.office_store.specs.Form.{HasForm};
-    ghost use Rattle.office_store.specs.Founding.{has_table, IsForeign};
+    ghost use Rattle.office_store.specs.Form.{HasForm, TellsOfficeRow, has_tables};
+    ghost use Rattle.office_store.specs.Founding.{has_table, IsForeign, first_user, FailsToFound};
     ghost use Rattle.office_store.specs.Schema.{no_schema};
     ghost use Rattle.office_store.specs.Shown.{IsIdle, Shows, AreOffice, LeavesNoMore, MayLeave};
     ghost use Rattle.office_policy.specs.History.{History, founded};
     ghost use Rattle.office_policy.specs.Lawful.{IsLawfulHistory};
     ghost use Rattle.office_policy.specs.TablesOf.{tables_of};
+    ghost use Rattle.office_policy.specs.Handled.{Stands};
     ghost use Rattle.office_desk.specs.Offices.{IsOffice};
-    ghost use Rattle.office_desk.specs.Handled.{Stands, IsHandled};
+    ghost use Rattle.office_desk.specs.Meant.{meaning_over};
 
     /// Founds an office in an empty store, with its first user, who is a registrar and shows the token of this digest, and
     /// with the listed capabilities: a document that holds one of them needs two approvals.
@@ -66,8 +68,10 @@ impl<S: Alter> Office<S> {
         requires { IsIdle (state S.Store conn) }
         ensures founded { IfOk result (λ office. IsOffice (founded name.now team.now digest.now listed ∷ []) (state S.Store office)) }
         ensures stands { IfOk result (λ office. HasCleanDisk (state S.Store office)
-            → Stands (founded name.now team.now digest.now listed ∷ []) (state S.Store office)) }
+            → Stands (meaning_over S.Store) (founded name.now team.now digest.now listed ∷ []) office) }
         ensures empty { OnOk result ((state S.Store conn).now.schema ≡ no_schema) }
+        ensures cause { IfErr result (λ refusal. HasCleanDisk (state S.Store refusal.1)
+            → FailsToFound S.Store (first_user name.now team.now digest.now) listed conn refusal.0) }
         ensures already { IfErr result (λ refusal. refusal.0 ≡ FoundingFault.AlreadyFounded ↔ IsTrue (has_table (state S.Store conn).now.schema)) }
         ensures foreign { IfErr result (λ refusal. HasCleanDisk (state S.Store refusal.1)
             → refusal.0 ≡ FoundingFault.Store StoreFault.NotAnOffice ↔ IsForeign (state S.Store conn).now.schema) }
@@ -97,6 +101,13 @@ impl<S: Alter> Office<S> {
             → (listed : ℕ) × HasForm (state S.Store conn) (state S.Store office) listed) }
         ensures office { (h : History) → IsLawfulHistory h → Shows (state S.Store conn) (tables_of h)
             → IfOk result (λ office. IsOffice h (state S.Store office)) }
+        ensures stands { (h : History) → IsLawfulHistory h → Shows (state S.Store conn) (tables_of h)
+            → IfOk result (λ office. HasCleanDisk (state S.Store office) → Stands (meaning_over S.Store) h office) }
+        ensures foreign { has_tables (state S.Store conn).now.schema ≡ false
+            → IfErr result (λ refusal. refusal.0 ≡ StoreFault.NotAnOffice) }
+        ensures told { has_tables (state S.Store conn).now.schema ≡ true
+            → IfErr result (λ refusal. HasCleanDisk (state S.Store refusal.1)
+            → TellsOfficeRow (state S.Store conn) (state S.Store refusal.1) (Err refusal.0)) }
         ensures known { (h : History) → IsLawfulHistory h → Shows (state S.Store conn) (tables_of h)
             → IfErr result (λ refusal. HasCleanDisk (state S.Store refusal.1) → refusal.0 ≢ StoreFault.NotAnOffice) }
         ensures same { (state S.Store conn).now ≡ (state S.Store conn).committed
@@ -112,16 +123,6 @@ impl<S: Alter> Office<S> {
         }
     }
 
-    /// Carries a request out where every rule of the policy allows it, and else names the first rule that refuses it.
-    ///
-    /// A [`Fault`](review_policy::Fault) says that nothing changed.
-    pub fn handle(&mut self, alloc: Global, request: &Request) -> Answer
-        ensures { IsHandled (state S.Store self.old) (state S.Store self.new) request.now result }
-    {
-        request_forms(request);
-        answer_to(carry_out(alloc, &mut self.conn, request))
-    }
-
     /// The connection, as the last call left it.
     pub fn into_connection(self) -> Connection<S>
         ensures connection { result ≡ self }
@@ -129,5 +130,16 @@ impl<S: Alter> Office<S> {
     {
         let Office { conn } = self;
         conn
+    }
+}
+
+impl<S: Alter> Handler for Office<S> {
+    ghost use Rattle.office_desk.specs.Meant.{meaning_over};
+
+    ghost meaning = { meaning_over S.Store };
+
+    fn handle(&mut self, alloc: Global, request: &Request) -> Answer {
+        request_forms(request);
+        answer_to(carry_out(alloc, &mut self.conn, request))
     }
 }

@@ -1,16 +1,13 @@
 -- A standing vote on the last revision of a profile, as it was cast.
-use Rattle.std.proofs.Common.{◌≡◌, ◌∙◌, ◌<◌, ◌≤◌, ◌==◌, ◌&&◌, ◌||◌, ℕ, suc, List, [], ◌∷◌, ◌++◌, Bool, true, false, cond, Some, None, Option, refl, sym, ap, subst, arith, eqb-true}
+use Rattle.std.proofs.Common.{◌≡◌, ◌∙◌, ◌≤◌, ◌==◌, ◌&&◌, ◌||◌, ℕ, suc, List, [], ◌∷◌, ◌++◌, Bool, true, false, cond, Some, None, Option, refl, sym, ap, subst, arith, eqb-true}
 use Rattle.std.specs.Prelude.{is_none, bytes_eq}
 use Rattle.std.specs.List.{list_any}
-use Rattle.profile_text.specs.Digest.{digest_of}
 use Rattle.review_policy.specs.declared.ask.ProfileName.{ProfileName}
 use Rattle.review_policy.specs.declared.revision.State.{State}
-use Rattle.review_policy.specs.declared.revision.State.TheVariants.{Open, Closed, Issued, Replaced, Withdrawn}
 use Rattle.review_policy.specs.Rules.{is_open}
-use Rattle.office_tables.specs.declared.row.RevisionRow.{RevisionRow}
 use Rattle.office_tables.specs.Tables.{is_profile}
 use Rattle.office_policy.specs.History.{Event, founded, enrolled, submitted, voted, issued, withdrawn, adopted, held, released, History}
-use Rattle.office_policy.specs.Revisions.{Submission, submits, submission_of, revision_of, revision_count, is_submission_by, is_author, state_in}
+use Rattle.office_policy.specs.Revisions.{submits, submission_of, revision_of, revision_count, is_author, state_in}
 use Rattle.office_policy.specs.Votes.{CastVote, vote_of}
 use Rattle.office_policy.specs.Lawful.{IsLawfulHistory}
 use Rattle.office_policy.proofs.UserFacts.{same_bytes}

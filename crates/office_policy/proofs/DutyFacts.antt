@@ -1,6 +1,6 @@
 -- Separation of duty.
-use Rattle.std.proofs.Common.{◌≡◌, ◌≢◌, ◌∙◌, ◌⊎◌, inl, inr, ◌<◌, ◌≤◌, ◌==◌, ◌&&◌, ◌||◌, ℕ, zero, suc, List, [], ◌∷◌, ◌++◌, length, get_or, Bool, true, false, not, cond, Some, None, Option, refl, sym, ap, subst, arith, eqb-true}
-use Rattle.std.specs.Prelude.{option_map, filter, nat_lt, bytes_eq}
+use Rattle.std.proofs.Common.{◌≡◌, ◌≢◌, ◌∙◌, ◌⊎◌, inl, inr, ◌<◌, ◌≤◌, ◌==◌, ◌&&◌, ℕ, zero, suc, List, [], ◌∷◌, length, get_or, Bool, true, false, not, cond, Some, None, Option, refl, sym, ap, subst, arith, eqb-true}
+use Rattle.std.specs.Prelude.{option_map, filter}
 use Rattle.std.specs.List.{AllPairs, Contains}
 use Rattle.std.specs.Int.RustNames.{bit_and, bit_or}
 use Rattle.std.proofs.lemmas.Bool.{ltb-false, eqb-false}
@@ -17,16 +17,14 @@ use Rattle.review_policy.specs.declared.denial.Need.{Need}
 use Rattle.review_policy.specs.declared.denial.Need.TheVariants.{One, TwoWithSecurity}
 use Rattle.review_policy.specs.declared.revision.State.{State}
 use Rattle.review_policy.specs.declared.revision.State.TheVariants.{Open, Closed, Issued, Replaced, Withdrawn}
-use Rattle.review_policy.specs.declared.revision.VoteRow.{VoteRow}
 use Rattle.review_policy.specs.declared.role.Role.TheVariants.{Reviewer}
 use Rattle.review_policy.specs.Rules.{is_open, need_of, approvals_of, asks_security}
-use Rattle.office_tables.specs.declared.row.RevisionRow.{RevisionRow}
 use Rattle.office_tables.specs.Lists.{holds_role, standing_vote}
 use Rattle.office_tables.proofs.Members.{Has as IsIn, AreOnce, has_contained}
 use Rattle.widening.specs.Findings.{is_wider}
 use Rattle.widening.proofs.Permitted.{no_wider_by_test}
-use Rattle.review_sheet.specs.Review.{all_sets, holds_listed}
-use Rattle.office_policy.specs.History.{Event, issued, voted, History}
+use Rattle.profile_text.specs.Profile.{all_sets, holds_listed}
+use Rattle.office_policy.specs.History.{issued, voted, History}
 use Rattle.office_policy.specs.Users.{user_of}
 use Rattle.office_policy.specs.Revisions.{Submission, submission_of, revision_of, revision_count, state_of, is_author, state_in}
 use Rattle.office_policy.specs.Votes.{CastVote, vote_of, kept_vote, standing_at, voters_of, passes, approvals, secure_approvals}
@@ -35,7 +33,7 @@ use Rattle.office_policy.specs.Baseline.{baseline_of, listed_of}
 use Rattle.office_policy.specs.Need.{need_against, need_of_row, need_at}
 use Rattle.office_policy.specs.Facts.{has_digest}
 use Rattle.office_policy.specs.Lawful.{IsLawfulHistory}
-use Rattle.office_policy.specs.Duty.{AreOthers, NamesTheText, AreOfTheText, AreEnough, LacksTwo, IsPlain, IsPlainRevision}
+use Rattle.office_policy.specs.Duty.{AreOthers, AreOfTheText, AreEnough, LacksTwo, IsPlainRevision}
 use Rattle.office_policy.proofs.VoterFacts.{once_ordered, voters_ordered}
 use Rattle.office_policy.proofs.UserFacts.{same_bytes}
 use Rattle.office_policy.proofs.Histories.{open_last}
@@ -145,9 +143,8 @@ approval_of h p n name is =
 cast_of : (h : History) (p : ProfileName) (n : ℕ) (name : List ℕ) (v : CastVote) → IsLawfulHistory h → is_open (state_in (revision_of h p n)) ≡ true → vote_of h p n name ≡ Some v → IsCastOn h p n name v
 cast_of h p n name v lawful opened at = (voted_on h lawful p n name v at).on_last (open_submission h p n opened).last
 
-pub by_others : (h : History) (issuer : List ℕ) (p : ProfileName) (n : ℕ) → IsLawfulHistory (issued issuer p n ∷ h) → AreOthers h issuer p n
-by_others h issuer p n lawful =
-    let is = issue_of h issuer p n lawful in
+pub others_at : (h : History) (issuer : List ℕ) (p : ProfileName) (n : ℕ) → IsIssue h issuer p n → AreOthers h issuer p n
+others_at h issuer p n is =
     record {
       distinct = distinct_approvals h p n;
       reviewers_then = λ name v approves at. (cast_of h p n name v is.lawful is.allowed.still_open at).allowed.reviewer;
@@ -159,14 +156,16 @@ by_others h issuer p n lawful =
       issuer_no_author = is.allowed.no_author;
     }
 
+pub by_others : (h : History) (issuer : List ℕ) (p : ProfileName) (n : ℕ) → IsLawfulHistory (issued issuer p n ∷ h) → AreOthers h issuer p n
+by_others h issuer p n lawful = others_at h issuer p n (issue_of h issuer p n lawful)
+
 -- a digest that a revision has is that of its text
 named_text : (h : History) (p : ProfileName) (n : ℕ) (s : Submission) (digest : List ℕ) → submission_of h p n ≡ Some s → has_digest (revision_of h p n) digest ≡ true → digest ≡ digest_of s.text
 named_text h p n s digest at named =
     sym (same_bytes (digest_of s.text) digest (subst (λ o. has_digest (option_map (row_of h p n) o) digest ≡ true) at named))
 
-pub of_the_text : (h : History) (issuer : List ℕ) (p : ProfileName) (n : ℕ) → IsLawfulHistory (issued issuer p n ∷ h) → AreOfTheText h p n
-of_the_text h issuer p n lawful =
-    let is = issue_of h issuer p n lawful in
+pub texts_at : (h : History) (issuer : List ℕ) (p : ProfileName) (n : ℕ) → IsIssue h issuer p n → AreOfTheText h p n
+texts_at h issuer p n is =
     let last = open_submission h p n is.allowed.still_open in
     record {
       submission = last.submission;
@@ -189,11 +188,13 @@ of_the_text h issuer p n lawful =
           };
     }
 
+pub of_the_text : (h : History) (issuer : List ℕ) (p : ProfileName) (n : ℕ) → IsLawfulHistory (issued issuer p n ∷ h) → AreOfTheText h p n
+of_the_text h issuer p n lawful = texts_at h issuer p n (issue_of h issuer p n lawful)
+
 -- ---- the need
 
-pub enough : (h : History) (issuer : List ℕ) (p : ProfileName) (n : ℕ) → IsLawfulHistory (issued issuer p n ∷ h) → AreEnough h p n
-enough h issuer p n lawful =
-    let is = issue_of h issuer p n lawful in
+pub enough_at : (h : History) (issuer : List ℕ) (p : ProfileName) (n : ℕ) → IsIssue h issuer p n → AreEnough h p n
+enough_at h issuer p n is =
     record {
       count = ltb-false (length (approvals h p n)) (approvals_of (need_at h p n)) is.allowed.enough;
       secured = λ two. some (length (secure_approvals h p n)) (subst (λ x. (asks_security x && (length (secure_approvals h p n) == 0)) ≡ false) two is.allowed.secured);
@@ -201,6 +202,9 @@ enough h issuer p n lawful =
   where
     some : (k : ℕ) → (k == 0) ≡ false → 0 < k
     some k e = let other = eqb-false k 0 e in omega arith
+
+pub enough : (h : History) (issuer : List ℕ) (p : ProfileName) (n : ℕ) → IsLawfulHistory (issued issuer p n ∷ h) → AreEnough h p n
+enough h issuer p n lawful = enough_at h issuer p n (issue_of h issuer p n lawful)
 
 -- what needs one approval alone is neither wider nor holds a listed capability
 one_needed : (a b : Bool) → need_of a b ≡ One → (a ≡ false) × (b ≡ false)

@@ -1,6 +1,6 @@
 -- What is shown and fetched was submitted, and nothing of a held profile is given out.
-use Rattle.std.proofs.Common.{◌≡◌, ◌∙◌, ℕ, List, Bool, true, false, cond, Some, None, Option, Ok, Err, refl, sym, ap, subst}
-use Rattle.std.specs.Prelude.{Result, ⊤, is_none, option_map, option_and_then, nat_lt}
+use Rattle.std.proofs.Common.{◌≡◌, ◌∙◌, ℕ, List, true, false, cond, Some, None, Option, Ok, Err, refl, sym, ap, subst}
+use Rattle.std.specs.Prelude.{option_map, option_and_then, nat_lt}
 use Rattle.std.specs.List.{list_any}
 use Rattle.profile_text.specs.Digest.{digest_of}
 use Rattle.review_policy.specs.declared.ask.ProfileName.{ProfileName}
@@ -9,7 +9,6 @@ use Rattle.review_policy.specs.declared.ask.Ask.TheVariants as ask
 use Rattle.review_policy.specs.declared.ask.Request.{Request}
 use Rattle.review_policy.specs.declared.answer.Reply.{Reply}
 use Rattle.review_policy.specs.declared.answer.Reply.TheVariants as reply
-use Rattle.review_policy.specs.declared.denial.Denial.{Denial}
 use Rattle.review_policy.specs.declared.revision.State.{State}
 use Rattle.review_policy.specs.declared.revision.State.TheVariants.{Open, Closed, Issued, Replaced, Withdrawn}
 use Rattle.review_policy.specs.Rules.{is_issued, issue_rules, fetch_rules, first_denial}
@@ -22,7 +21,7 @@ use Rattle.office_policy.specs.Votes.{tally_at}
 use Rattle.office_policy.specs.Holds.{is_held}
 use Rattle.office_policy.specs.Need.{need_at}
 use Rattle.office_policy.specs.Facts.{issue_facts, fetch_facts}
-use Rattle.office_policy.specs.Verdict.{Verdict, accepted, denied, of_revision, rules_of, done_of, judged, verdict_of, verdict}
+use Rattle.office_policy.specs.Verdict.{Verdict, accepted, of_revision, rules_of, done_of, judged, verdict_of, verdict}
 use Rattle.office_policy.specs.Duty.{IsTextOf, IsDigestOf, IsFetched}
 use Rattle.office_policy.proofs.RuleFacts.{none_refuses}
 use Rattle.office_policy.proofs.Histories.{issued_by}

@@ -4,6 +4,8 @@ use Rattle.std.specs.Prelude.{Result, is_none, nat_lt, nat_le, bytes_eq}
 use Rattle.review_policy.specs.declared.ask.ProfileName.{ProfileName}
 use Rattle.review_policy.specs.declared.ask.Ask.{Ask}
 use Rattle.review_policy.specs.declared.ask.Ask.TheVariants as ask
+use Rattle.review_policy.specs.declared.ask.Request.{Request}
+use Rattle.review_policy.specs.declared.answer.Reply.{Reply}
 use Rattle.review_policy.specs.declared.answer.Reply.TheVariants as reply
 use Rattle.review_policy.specs.declared.role.Role.{Role}
 use Rattle.review_policy.specs.declared.role.Role.TheVariants.{Author, Reviewer, Security, Issuer}
@@ -26,7 +28,7 @@ use Rattle.office_policy.specs.Holds.{is_held}
 use Rattle.office_policy.specs.Need.{need_at}
 use Rattle.office_policy.specs.Sheets.{sheet_of}
 use Rattle.office_policy.specs.Facts.{is_elsewhere, is_another, has_digest, enrol_facts, submit_facts, vote_facts, issue_facts, withdraw_facts, adopt_facts}
-use Rattle.office_policy.specs.Verdict.{Verdict, accepted, denied, unreached, of_revision, new_revision, verdict_of, judged, rules_of, done_of}
+use Rattle.office_policy.specs.Verdict.{Verdict, accepted, denied, unreached, of_revision, new_revision, verdict_of, verdict, judged, rules_of, done_of}
 use Rattle.office_policy.specs.Lawful.{IsLawfulHistory, IsAllowed}
 use Rattle.office_policy.specs.Laws.{AreApart}
 use Rattle.office_policy.proofs.RuleFacts.{none_refuses}
@@ -174,11 +176,15 @@ module _ (h : History) (caller : Option UserRow) (named : is_none caller ≡ fal
         | Err d ↦ λ e. tt
       ] refl
 
+-- what the event of a verdict follows
+pub event_follows : (h : History) (r : Request) (reply : Reply) (e : Event) → verdict h r ≡ accepted reply (Some e) → Follows h e
+event_follows h r reply e is =
+    let token = digest_of r.token in
+    subst (FollowsIn h) is (verdict_of_follows h (user_showing h token) (known_caller h token) r.ask)
+
 -- what an allowed event follows
 pub allowed_follows : (h : History) (e : Event) → IsAllowed h e → Follows h e
-allowed_follows h e is =
-    let token = digest_of is.request.token in
-    subst (FollowsIn h) is.allowed (verdict_of_follows h (user_showing h token) (known_caller h token) is.request.ask)
+allowed_follows h e is = event_follows h is.request is.reply e is.allowed
 
 -- a lawful history goes on lawfully by an allowed event
 pub lawful_more : (h : History) (e : Event) → IsLawfulHistory h → IsAllowed h e → IsLawfulHistory (e ∷ h)

@@ -1,7 +1,6 @@
 -- Listings are in order, and have each profile.
 use Rattle.std.proofs.Common.{◌≡◌, ◌∙◌, ℕ, suc, List, [], ◌∷◌, length, Bool, true, false, ◌&&◌, ◌||◌, cond, refl, sym, ap, subst, arith}
 use Rattle.std.specs.Prelude.{map, filter, nat_lt, bytes_eq}
-use Rattle.std.specs.List.{list_any}
 use Rattle.std.specs.List.Sorted.{IsStrictlySortedBy}
 use Rattle.std.specs.Ordering.{nat_cmp}
 use Rattle.std.specs.Cmp.Lexicographic.{slice_cmp}

@@ -1,6 +1,6 @@
 -- The revisions that allowed requests name have numbers from 1 to 9,999.
-use Rattle.std.proofs.Common.{◌≡◌, ◌∙◌, ◌≤◌, ◌<◌, ℕ, suc, List, [], ◌∷◌, Bool, true, false, cond, Some, None, Option, Ok, Err, refl, sym, ap, subst, arith}
-use Rattle.std.specs.Prelude.{Result, ⊤, is_none, is_some, nat_le, option_map}
+use Rattle.std.proofs.Common.{◌≡◌, ◌≤◌, ℕ, suc, [], ◌∷◌, true, false, cond, Some, None, Option, Ok, Err, refl, sym, subst, arith}
+use Rattle.std.specs.Prelude.{Result, is_none, is_some, nat_le, option_map}
 use Rattle.std.proofs.lemmas.Bool.{leb-false}
 use Rattle.review_policy.specs.declared.ask.ProfileName.{ProfileName}
 use Rattle.review_policy.specs.declared.ask.Ask.{Ask}
@@ -17,7 +17,7 @@ use Rattle.profile_text.specs.declared.fault.DocFault.{DocFault}
 use Rattle.office_tables.specs.declared.row.UserRow.{UserRow}
 use Rattle.office_tables.specs.declared.row.RevisionRow.{RevisionRow}
 use Rattle.office_tables.specs.Tables.{is_profile}
-use Rattle.office_policy.specs.History.{Event, founded, enrolled, submitted, voted, issued, withdrawn, adopted, held, released, History}
+use Rattle.office_policy.specs.History.{Event, founded, submitted, issued, History}
 use Rattle.office_policy.specs.Users.{user_showing, name_of}
 use Rattle.office_policy.specs.Revisions.{Submission, revision_of, revision_count, submission_of, issued_revision, is_author, state_in}
 use Rattle.office_policy.specs.Votes.{tally_at}
@@ -25,7 +25,7 @@ use Rattle.office_policy.specs.Holds.{is_held}
 use Rattle.office_policy.specs.Need.{need_at}
 use Rattle.office_policy.specs.Sheets.{sheet_of}
 use Rattle.office_policy.specs.Facts.{vote_facts, issue_facts, withdraw_facts, adopt_facts}
-use Rattle.office_policy.specs.Verdict.{Verdict, accepted, denied, unreached, of_revision, new_revision, verdict_of, verdict, judged, rules_of, done_of}
+use Rattle.office_policy.specs.Verdict.{Verdict, accepted, denied, new_revision, verdict_of, verdict, judged, rules_of, done_of}
 use Rattle.office_policy.specs.Formed.{IsNumber, HasNumber}
 use Rattle.office_policy.specs.Lawful.{IsLawfulHistory}
 use Rattle.office_policy.proofs.RuleFacts.{none_refuses}

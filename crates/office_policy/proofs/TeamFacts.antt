@@ -11,10 +11,8 @@ use Rattle.review_policy.specs.declared.ask.ProfileName.{ProfileName}
 use Rattle.review_policy.specs.declared.ask.Ask.{Ask}
 use Rattle.review_policy.specs.declared.ask.Ask.TheVariants as ask
 use Rattle.review_policy.specs.declared.ask.Request.{Request}
-use Rattle.review_policy.specs.declared.answer.ListedProfile.{ListedProfile}
 use Rattle.review_policy.specs.declared.answer.Reply.TheVariants as reply
 use Rattle.review_policy.specs.declared.denial.Denial.{Denial}
-use Rattle.review_policy.specs.declared.revision.State.{State}
 use Rattle.review_policy.specs.declared.role.Role.TheVariants.{Security}
 use Rattle.review_policy.specs.Rules.{first_denial, enrol_rules, submit_rules, vote_rules, issue_rules, withdraw_rules, adopt_rules, read_rules, fetch_rules, hold_rules, release_rules}
 use Rattle.review_sheet.specs.Sheet.{sheet_text}
@@ -31,10 +29,10 @@ use Rattle.office_policy.specs.Holds.{is_held}
 use Rattle.office_policy.specs.Documents.{document_of}
 use Rattle.office_policy.specs.Baseline.{listed_of, adoption_of, unless_withdrawn, standing_adoption, adopted_revision, document_or_closed, baseline_of}
 use Rattle.office_policy.specs.Need.{need_against, need_of_row, need_at}
-use Rattle.office_policy.specs.Listing.{profiles_of, listed_profile, listing_of}
+use Rattle.office_policy.specs.Listing.{profiles_of, listing_of}
 use Rattle.office_policy.specs.Sheets.{sheet_of}
 use Rattle.office_policy.specs.Facts.{enrol_facts, submit_facts, vote_facts, issue_facts, withdraw_facts, adopt_facts, read_facts, fetch_facts, hold_facts, release_facts}
-use Rattle.office_policy.specs.Verdict.{Verdict, accepted, denied, of_revision, new_revision, rules_of, done_of, judged, verdict_of, verdict}
+use Rattle.office_policy.specs.Verdict.{accepted, of_revision, new_revision, rules_of, done_of, judged, verdict_of, verdict}
 use Rattle.office_policy.specs.Teams.{concerns, team_of}
 use Rattle.office_policy.proofs.RevisionFacts.{count_more}
 use Rattle.office_policy.proofs.StateFacts.{state_by}

@@ -1,5 +1,5 @@
 -- Each text of a lawful history reads back as the document whose canonical text it is.
-use Rattle.std.proofs.Common.{◌≡◌, ◌∙◌, ◌&&◌, ◌==◌, ℕ, suc, List, [], ◌∷◌, Bool, true, false, cond, Some, None, Option, Ok, refl, sym, ap, subst}
+use Rattle.std.proofs.Common.{◌≡◌, ◌∙◌, ◌&&◌, ◌==◌, ℕ, suc, List, [], ◌∷◌, true, false, cond, Some, Ok, sym, ap, subst}
 use Rattle.serde_json.specs.Data.{Data, null, boolean, number, string, array, object}
 use Rattle.cap_sets.specs.declared.state.CapState.{CapState}
 use Rattle.profile_text.specs.declared.profile.Profile.{Profile}
@@ -11,7 +11,6 @@ use Rattle.profile_text.specs.Text.{text_of}
 use Rattle.profile_text.proofs.KnownCaps.{known_set}
 use Rattle.profile_text.proofs.ReadsFacts.{reads_from}
 use Rattle.std.specs.Prelude.{codes}
-use Rattle.review_policy.specs.declared.ask.ProfileName.{ProfileName}
 use Rattle.office_tables.specs.Tables.{is_profile}
 use Rattle.office_policy.specs.History.{Event, founded, submitted, History}
 use Rattle.office_policy.specs.Revisions.{Submission, submission_of, revision_count}

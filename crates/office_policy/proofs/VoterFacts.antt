@@ -1,7 +1,7 @@
 -- The voters of a revision are those that the tables have, and so are the counts of its votes.
-use Rattle.std.proofs.Common.{◌≡◌, ◌∙◌, ◌⊎◌, inl, inr, ◌==◌, ◌&&◌, ◌||◌, ℕ, List, [], ◌∷◌, Bool, true, false, cond, Some, None, Option, Less, Equal, refl, sym, ap, subst}
+use Rattle.std.proofs.Common.{◌≡◌, ◌∙◌, ◌⊎◌, inl, inr, ◌==◌, ◌&&◌, ◌||◌, ℕ, List, [], ◌∷◌, Bool, true, false, cond, Some, None, Option, Less, Equal, refl, sym, subst}
 use Rattle.std.specs.Prelude.{option_map, bytes_eq}
-use Rattle.std.specs.List.{AllByRecursion, list_any}
+use Rattle.std.specs.List.{AllByRecursion}
 use Rattle.std.specs.List.Sorted.{IsStrictlySortedBy}
 use Rattle.std.specs.Ordering.{nat_cmp}
 use Rattle.std.specs.Cmp.Lexicographic.{slice_cmp}
@@ -14,11 +14,10 @@ use Rattle.office_tables.proofs.Members.{Has as IsIn, AreOnce}
 use Rattle.office_tables.proofs.Tallies.{AreVoters, tallied}
 use Rattle.office_policy.specs.History.{voted, History}
 use Rattle.office_policy.specs.Names.{with_name}
-use Rattle.office_policy.specs.Votes.{CastVote, kept_vote, vote_of, kept_vote_of, voters_of, tally_at}
+use Rattle.office_policy.specs.Votes.{CastVote, kept_vote, vote_of, voters_of, tally_at}
 use Rattle.office_policy.specs.TablesOf.{tables_of}
 use Rattle.office_policy.proofs.NameFacts.{ordered_more, has, among_more}
 use Rattle.office_policy.proofs.UserFacts.{same_bytes, bytes_same}
-use Rattle.office_policy.proofs.StateFacts.{both}
 
 pub once_ordered : (names : List (List ℕ)) → IsStrictlySortedBy (slice_cmp nat_cmp) names → AreOnce names
 unfolding IsStrictlySortedBy

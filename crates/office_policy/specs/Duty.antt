@@ -1,5 +1,6 @@
 -- Separation of duty: what holds of each issue that the policy allows, on the events before it, and of what is given out.
-use Rattle.std.specs.Prelude.{◌≡◌, ◌≢◌, ◌<◌, ◌≤◌, ◌⊎◌, ℕ, List, ◌∷◌, ◌++◌, Bool, true, false, Option, Some, length, AllPairs, Contains, Result, Ok}
+use Rattle.std.specs.Prelude.{◌≡◌, ◌≢◌, ◌<◌, ◌≤◌, ◌⊎◌, ℕ, suc, List, ◌∷◌, ◌++◌, true, false, Option, Some, length, AllPairs, Contains, Ok, Vec}
+use Rattle.std.specs.declared.alloc.Global.{Global}
 use Rattle.std.specs.List.{list_any}
 use Rattle.cap_sets.specs.Capability.{Has}
 use Rattle.profile_text.specs.Digest.{digest_of}
@@ -9,17 +10,17 @@ use Rattle.profile_text.specs.Text.{text_of}
 use Rattle.profile_text.specs.declared.profile.Profile.{Profile}
 use Rattle.profile_text.specs.declared.sets.CapSet.{CapSet}
 use Rattle.review_policy.specs.declared.ask.ProfileName.{ProfileName}
-use Rattle.review_policy.specs.declared.denial.Need.{Need}
+use Rattle.review_policy.specs.declared.ask.Ask.{Ask}
+use Rattle.review_policy.specs.declared.ask.Ask.TheVariants as ask
 use Rattle.review_policy.specs.declared.denial.Need.TheVariants.{TwoWithSecurity}
-use Rattle.review_policy.specs.declared.revision.State.{State}
 use Rattle.review_policy.specs.declared.revision.State.TheVariants.{Issued}
 use Rattle.review_policy.specs.declared.role.Role.TheVariants.{Reviewer}
 use Rattle.review_policy.specs.Rules.{approvals_of}
 use Rattle.office_tables.specs.Lists.{holds_role}
 use Rattle.widening.specs.Permits.{IsNoWider}
-use Rattle.office_policy.specs.History.{voted, History}
+use Rattle.office_policy.specs.History.{Event, submitted, voted, History}
 use Rattle.office_policy.specs.Users.{user_of}
-use Rattle.office_policy.specs.Revisions.{Submission, submits, submission_of, state_of, issues, is_author}
+use Rattle.office_policy.specs.Revisions.{Submission, submits, submission_of, revision_count, state_of, issues, is_author}
 use Rattle.office_policy.specs.Votes.{CastVote, vote_of, approvals, secure_approvals}
 use Rattle.office_policy.specs.Documents.{document_of}
 use Rattle.office_policy.specs.Baseline.{baseline_of, listed_of}
@@ -82,6 +83,20 @@ pub record IsPlainRevision (h : History) (p : ProfileName) (n : ℕ) : Type 0 wh
   pub plain : IsPlain (listed_of h) (baseline_of h p.team) (document_of submission.text)
 
 -- ---- what is given out
+
+-- a document was handed in that reads as a profile, whose canonical text becomes the next revision;
+-- its digest is told
+pub record IsSubmission
+    (h : History) (caller : List ℕ) (a : Ask)
+    (digest : List ℕ) (n : ℕ) (e : Option Event) : Type 0 where
+  pub profile : ProfileName
+  pub document : Vec ℕ Global
+  pub asked : a ≡ ask.Submit profile document
+  pub read : Profile
+  pub reads : reading_of document.items ≡ Ok read
+  pub of_its_text : digest ≡ digest_of (text_of read)
+  pub next : n ≡ suc (revision_count h profile)
+  pub happened : e ≡ Some (submitted caller profile (text_of read))
 
 -- the text is what the submission of that number carried, and the digest is its
 pub record IsTextOf (h : History) (p : ProfileName) (n : ℕ) (digest text : List ℕ) : Type 0 where

@@ -1,5 +1,5 @@
 -- An office in which things have happened, to show what looking back says of it.
-use Rattle.std.specs.Prelude.{ℕ, List, [], ◌∷◌, Bool, true, false, Some, None, codes, map, Result, Err, ⊤}
+use Rattle.std.specs.Prelude.{ℕ, List, [], ◌∷◌, true, false, Some, None, codes, map, Result, Err, ⊤}
 use Rattle.cap_sets.specs.declared.state.CapState.{CapState}
 use Rattle.cap_sets.proofs.Bits.{none_in_zero}
 use Rattle.seccomp_doc.specs.declared.action.Action.TheVariants.{Allow, Errno}
@@ -116,6 +116,17 @@ releases = released sue web
 -- root gives a user of the desk's team other roles
 abbrev pub has_roles : List ℕ → ℕ → (digest : List ℕ) → Event
 has_roles who roles digest = enrolled root who desk roles digest
+
+-- the founding alone
+abbrev pub founding : History
+founding = founded root desk (0 ∷ []) listed ∷ []
+
+-- rob of another team is enrolled with these roles
+abbrev pub rob : List ℕ
+rob = codes "rob"
+
+abbrev pub enrols_rob : ℕ → Event
+enrols_rob roles = enrolled root rob red roles (10 ∷ [])
 
 -- a revision that rev and sue approve, is issued and adopted, and one after it that rev approves
 abbrev pub one_submitted : History

@@ -17,5 +17,16 @@ pub mod TablesOf
 pub mod Runs
 pub mod Laws
 pub mod Teams
+pub mod Callers
 pub mod Duty
+pub mod Headline
 pub mod Examples
+pub mod CallerTable
+pub mod Submitting
+pub mod LawExamples
+pub mod Grouped
+pub mod LooksBack
+pub mod Meaning
+pub mod Handled
+pub mod Left
+pub mod Ran

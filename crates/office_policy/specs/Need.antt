@@ -7,7 +7,7 @@ use Rattle.review_policy.specs.declared.denial.Need.TheVariants.{One}
 use Rattle.review_policy.specs.Rules.{need_of}
 use Rattle.office_tables.specs.declared.row.RevisionRow.{RevisionRow}
 use Rattle.widening.specs.Findings.{is_wider}
-use Rattle.review_sheet.specs.Review.{holds_listed}
+use Rattle.profile_text.specs.Profile.{holds_listed}
 use Rattle.office_policy.specs.History.{History}
 use Rattle.office_policy.specs.Revisions.{revision_of}
 use Rattle.office_policy.specs.Documents.{document_of}

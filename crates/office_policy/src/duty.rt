@@ -2,6 +2,7 @@
 //! nothing.
 
 ghost use Rattle.std.specs.Prelude.{◌≡◌, ◌∷◌, false, List, ℕ, Option, filter};
+ghost use Rattle.profile_text.specs.Digest.{digest_of};
 ghost use Rattle.review_policy.specs.declared.ask.Ask.TheVariants as ask;
 ghost use Rattle.review_policy.specs.declared.ask.ProfileName.{ProfileName};
 ghost use Rattle.review_policy.specs.declared.ask.Request.{Request};
@@ -9,12 +10,22 @@ ghost use Rattle.review_policy.specs.declared.answer.Reply.{Reply};
 ghost use Rattle.review_policy.specs.declared.answer.Reply.TheVariants as reply;
 ghost use Rattle.review_policy.specs.declared.revision.State.{State};
 ghost use Rattle.office_policy.specs.History.{Event, History, issued};
+ghost use Rattle.office_policy.specs.Users.{user_showing, name_of};
 ghost use Rattle.office_policy.specs.Revisions.{state_of};
 ghost use Rattle.office_policy.specs.Holds.{is_held};
 ghost use Rattle.office_policy.specs.Verdict.{verdict, accepted};
 ghost use Rattle.office_policy.specs.Lawful.{IsLawfulHistory};
 ghost use Rattle.office_policy.specs.Teams.{concerns, team_of};
-ghost use Rattle.office_policy.specs.Duty.{AreOthers, AreOfTheText, AreEnough, LacksTwo, IsPlainRevision, IsTextOf, IsDigestOf, IsFetched, ReadsBack};
+ghost use Rattle.office_policy.specs.Duty.{IsSubmission, AreOthers, AreOfTheText, AreEnough, LacksTwo, IsPlainRevision, IsTextOf, IsDigestOf, IsFetched, ReadsBack};
+ghost use Rattle.office_policy.specs.Headline.{IsOfApproved, WasApproved};
+
+/// What is submitted is told by the digest of the text that happens, the canonical text of the
+/// document that was handed in, and by the next number of its profile; it is of the caller.
+pub fn what_is_submitted_is_told()
+    ensures { (h : History) (r : Request) (digest : List ℕ) (n : ℕ) (e : Option Event)
+        → verdict h r ≡ accepted (reply.Submitted digest n) e
+        → IsSubmission h (name_of (user_showing h (digest_of r.token))) r.ask digest n e }
+{}
 
 /// What is shown is the text that the submission of that number carried.
 pub fn what_is_shown_was_submitted()
@@ -64,6 +75,24 @@ pub fn approvals_are_by_others()
 pub fn issues_have_the_approvals_that_they_need()
     ensures enough { (h : History) (issuer : List ℕ) (p : ProfileName) (n : ℕ) → IsLawfulHistory (issued issuer p n ∷ h) → AreEnough h p n }
     ensures plain { (h : History) (issuer : List ℕ) (p : ProfileName) (n : ℕ) → IsLawfulHistory (issued issuer p n ∷ h) → LacksTwo h p n → IsPlainRevision h p n }
+{}
+
+/// What is issued was approved: on the events before it the approvals are of distinct names, none
+/// an author of the profile, each for exactly the text whose digest is told, as many and as secure
+/// as it needs there.
+pub fn what_is_issued_is_approved()
+    ensures { (h : History) (r : Request) (digest : List ℕ) (e : Option Event)
+        → IsLawfulHistory h → verdict h r ≡ accepted (reply.Issued digest) e
+        → IsOfApproved h r digest }
+{}
+
+/// What is fetched was approved: it was issued before, and on the events before that issue the
+/// approvals are of distinct names, none an author of the profile, each for exactly the fetched
+/// text, as many and as secure as it needed there.
+pub fn what_is_fetched_was_approved()
+    ensures { (h : History) (r : Request) (digest text : List ℕ) (n : ℕ) (e : Option Event)
+        → IsLawfulHistory h → verdict h r ≡ accepted (reply.Fetched digest text n) e
+        → WasApproved h r.ask digest text n }
 {}
 
 /// A request has the same verdict on two histories that have the same events that concern the team that it names, in the same

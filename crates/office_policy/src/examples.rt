@@ -12,9 +12,9 @@ ghost use Rattle.review_policy.specs.declared.denial.Need.TheVariants.{One, TwoW
 ghost use Rattle.review_policy.specs.declared.denial.Rule.TheVariants as rule;
 ghost use Rattle.review_policy.specs.declared.revision.State.TheVariants.{Open, Closed, Issued, Replaced, Withdrawn};
 ghost use Rattle.review_policy.specs.Rules.{first_denial, submit_rules};
-ghost use Rattle.review_sheet.specs.Review.{holds_listed};
+ghost use Rattle.profile_text.specs.Profile.{holds_listed};
 ghost use Rattle.office_policy.specs.History.{enrolled, submitted, voted, issued, withdrawn, adopted, held, released, History};
-ghost use Rattle.office_policy.specs.Users.{user_of};
+ghost use Rattle.office_policy.specs.Users.{user_of, user_showing};
 ghost use Rattle.office_policy.specs.Revisions.{state_of, revision_of, revision_count, last_revision, issued_revision, number_of};
 ghost use Rattle.office_policy.specs.Votes.{voters_of, kept_vote_of, standing_votes, approvals, secure_approvals, rejections};
 ghost use Rattle.office_policy.specs.Documents.{document_of};
@@ -25,7 +25,7 @@ ghost use Rattle.office_policy.specs.Listing.{listing_of};
 ghost use Rattle.office_policy.specs.Facts.{submit_facts};
 ghost use Rattle.office_policy.specs.Verdict.{accepted};
 ghost use Rattle.office_policy.specs.Examples.{blue, red, desk, root, ann, ben, rev, ray, sue, iss, blue_machine, red_machine, web, unknown_profile, listed, office, text};
-ghost use Rattle.office_policy.specs.Examples.{submits, approves, rejects, issues, withdraws, adopts, holds, releases, has_roles, one_submitted, both_approve, first_issued, second_approved, baseline_withdrawn, second_issued, second_withdrawn, held_when_issued, approved_while_held, released_then, issued_then, refused, decision, told, issue_by, issue, vote_naming, open_row, after_an_adoption, caps_of, with_effective, with_ambient, with_caps, allows};
+ghost use Rattle.office_policy.specs.Examples.{submits, approves, rejects, issues, withdraws, adopts, holds, releases, has_roles, founding, rob, enrols_rob, one_submitted, both_approve, first_issued, second_approved, baseline_withdrawn, second_issued, second_withdrawn, held_when_issued, approved_while_held, released_then, issued_then, refused, decision, told, issue_by, issue, vote_naming, open_row, after_an_adoption, caps_of, with_effective, with_ambient, with_caps, allows};
 
 /// A revision that was closed by a later one isn't issued, and its votes are no votes on the later one; a name that votes
 /// again has one vote; a rejection is asked for before approvals.
@@ -115,7 +115,7 @@ pub fn examples_of_withdrawals()
     ensures twice { decision (withdraws 1 ∷ first_issued) sue (ask.Withdraw web 1) ≡ refused 5 rule.NotStanding }
     ensures of_the_closed { decision (submits ann ∷ one_submitted) sue (ask.Withdraw web 1) ≡ refused 5 rule.NotStanding }
     ensures of_the_replaced { decision second_issued sue (ask.Withdraw web 1) ≡ refused 5 rule.NotStanding }
-    ensures other_team { decision (enrolled root (codes "rob") red 2 (10 ∷ []) ∷ first_issued) (codes "rob") (ask.Withdraw web 1)
+    ensures other_team { decision (enrols_rob 2 ∷ first_issued) rob (ask.Withdraw web 1)
         ≡ refused 3 rule.OtherTeam }
     ensures no_revision { decision first_issued sue (ask.Withdraw web 2) ≡ refused 4 rule.NoRevision }
     ensures no_role { decision first_issued rev (ask.Withdraw web 1) ≡ refused 2 rule.RoleMissing }
@@ -193,6 +193,29 @@ pub fn examples_of_holds()
     ensures nothing_issued_before_held { decision (holds ∷ one_submitted) blue_machine (ask.Fetch web) ≡ refused 4 rule.NothingIssued }
 {}
 
+/// Security releases a profile that has a revision and is held.
+pub fn examples_of_releases()
+    ensures stranger { decision held_when_issued (codes "nobody") (ask.Release web)
+        ≡ refused 1 rule.CallerUnknown }
+    ensures no_security { decision held_when_issued rev (ask.Release web)
+        ≡ refused 2 rule.RoleMissing }
+    ensures no_profile { decision held_when_issued sue (ask.Release unknown_profile)
+        ≡ refused 3 rule.NoProfile }
+    ensures never_held { decision first_issued sue (ask.Release web) ≡ refused 4 rule.NotHeld }
+    ensures of_other_team { decision (enrols_rob 8 ∷ held_when_issued) rob (ask.Release web) ≡ Ok tt }
+{}
+
+/// The founding enrols one user, who is registrar and no more.
+pub fn examples_of_foundings()
+    ensures first_user { user_of founding root
+        ≡ Some (record { name = root; team = desk; roles = 1; digest = 0 ∷ [] }) }
+    ensures nobody_else { user_of founding ann ≡ None }
+    ensures shown { user_showing founding (0 ∷ []) ≡ user_of founding root }
+    ensures enrols { decision founding root (ask.Enrol ann blue 2 (1 ∷ [])) ≡ Ok tt }
+    ensures holds_nothing { decision founding root (ask.Hold web) ≡ refused 2 rule.RoleMissing }
+    ensures listed_then { listed_of founding ≡ 2097152 }
+{}
+
 /// A registrar enrols; a name keeps its team, and a token is of one user.
 pub fn examples_of_enrolments()
     ensures enrolled_anew { told office root (ask.Enrol ann blue 0 (1 ∷ [])) ≡ accepted reply.Enrolled (Some (enrolled root ann blue 0 (1 ∷ []))) }
@@ -212,6 +235,32 @@ pub fn examples_of_enrolments()
     ensures no_document { first_denial (submit_rules (submit_facts (user_of office ann) blue (Err TooLong) None 0)) ≡ refused 4 rule.Document }
 {}
 
+/// Authors of the team, and reviewers, security and issuers of any, are shown a revision that is
+/// there, and its sheet.
+pub fn examples_of_shows()
+    ensures to_an_author { told first_issued ann (ask.Show web 1)
+        ≡ accepted (reply.Shown (digest_of text) text Issued) None }
+    ensures stranger { decision first_issued (codes "nobody") (ask.Show web 1)
+        ≡ refused 1 rule.CallerUnknown }
+    ensures no_reader { decision first_issued root (ask.Show web 1) ≡ refused 2 rule.RoleMissing }
+    ensures other_team { decision (enrols_rob 2 ∷ first_issued) rob (ask.Show web 1)
+        ≡ refused 3 rule.OtherTeam }
+    ensures other_team_of_nothing { decision (enrols_rob 2 ∷ office) rob (ask.Show web 1)
+        ≡ refused 3 rule.OtherTeam }
+    ensures reviewer_of_another_team { decision (enrols_rob 6 ∷ first_issued) rob (ask.Show web 1)
+        ≡ Ok tt }
+    ensures machine_that_is_author { decision (enrols_rob 34 ∷ first_issued) rob (ask.Show web 1)
+        ≡ refused 3 rule.OtherTeam }
+    ensures no_revision { decision first_issued rev (ask.Show web 2) ≡ refused 4 rule.NoRevision }
+    ensures number_zero { decision first_issued rev (ask.Show web 0) ≡ refused 4 rule.NoRevision }
+    ensures no_profile { decision first_issued rev (ask.Show unknown_profile 1)
+        ≡ refused 4 rule.NoRevision }
+    ensures sheet_of_no_revision { decision first_issued rev (ask.Sheet web 2)
+        ≡ refused 4 rule.NoRevision }
+    ensures sheet_of_another_team { decision (enrols_rob 2 ∷ first_issued) rob (ask.Sheet web 2)
+        ≡ refused 3 rule.OtherTeam }
+{}
+
 /// A team's profiles are listed with their last revision's number and state, and the number that is issued now, or 0.
 pub fn examples_of_listings()
     ensures nothing { told office sue (ask.List blue) ≡ accepted (reply.Listed []) None }
@@ -227,6 +276,15 @@ pub fn examples_of_listings()
         ∷ record { profile = codes "web"; issued = 0; revisions = 1; state = Open } ∷ [] }
     ensures of_another_team { listing_of first_issued red ≡ [] }
     ensures no_reader { decision first_issued blue_machine (ask.List blue) ≡ refused 2 rule.RoleMissing }
+    ensures stranger { decision first_issued (codes "nobody") (ask.List blue)
+        ≡ refused 1 rule.CallerUnknown }
+    ensures no_registrar { decision first_issued root (ask.List blue) ≡ refused 2 rule.RoleMissing }
+    ensures other_team { decision (enrols_rob 2 ∷ first_issued) rob (ask.List blue)
+        ≡ refused 3 rule.OtherTeam }
+    ensures own_team { told (enrols_rob 2 ∷ first_issued) rob (ask.List red)
+        ≡ accepted (reply.Listed []) None }
+    ensures team_of_nobody { told first_issued sue (ask.List (codes "green"))
+        ≡ accepted (reply.Listed []) None }
     ensures no_machine_shows { decision first_issued blue_machine (ask.Show web 1) ≡ refused 2 rule.RoleMissing }
 {}
 

@@ -1,6 +1,18 @@
-//! The policy of an office, as definitions over what has happened in it, and the laws that follow from them.
+//! The policy of an office, as definitions over what has happened in it, the laws that follow from them, what the tables of a
+//! history are to it, and the trait by which others see an office.
 #![tactic(auto)]
 
+pub mod callers;
 pub mod duty;
+pub mod events;
 pub mod examples;
+mod handler;
+pub mod issued;
+pub mod law_examples;
 pub mod laws;
+pub mod listing;
+pub mod reads;
+pub mod standing;
+pub mod submission_examples;
+
+pub use handler::Handler;

@@ -2,7 +2,7 @@
 //! ask for.
 #![tactic(auto)]
 
-use office_commands::run_words;
+use office_commands::run_here;
 use std::io::ErrorKind;
 use std::process::ExitCode;
 use std::{env, io};
@@ -25,11 +25,8 @@ fn without_words(rt: &HostRuntime, error: &io::Error) -> u8 {
 
 fn main(rt: HostRuntime) -> ExitCode {
     let status = match words_given(&rt) {
-        Ok(words) => run_words(
+        Ok(words) => run_here(
             &rt,
-            &rt,
-            &rt,
-            rt.alloc(),
             &words,
             &mut rt.reader(),
             &mut io::writer(&rt),

@@ -6,12 +6,12 @@ use Rattle.review_policy.specs.declared.ask.ProfileName.{ProfileName}
 use Rattle.office_tables.specs.declared.row.RevisionRow.{RevisionRow}
 use Rattle.office_tables.specs.declared.fault.StoreFault.{StoreFault}
 use Rattle.office_tables.specs.Tables.{Tables}
-use Rattle.office_tables.specs.Reads.{IsLast, next_number}
+use Rattle.office_tables.specs.Reads.{IsLast, next_number, IsNextNumber}
 use Rattle.sqlite.specs.Order.{Row}
 use Rattle.office_tables.specs.declared.fault.StoreFault.TheVariants.{NotAnOffice}
 use Rattle.office_store.specs.Adding.{IsNumber, IsAfter, TellsNext}
 use Rattle.office_store.specs.Entries.{number_row}
-use Rattle.office_store.specs.Reads.{IsLastNumberRow, IsNextNumber}
+use Rattle.office_store.specs.Reads.{IsLastNumberRow}
 
 neither_less : (a b : ℕ) → (a < b → ⊥) → (b < a → ⊥) → a ≡ b
 neither_less a b up down = go (nat_lt a b) (nat_lt b a) refl refl

@@ -25,7 +25,7 @@ use Rattle.office_tables.specs.declared.row.RevisionRow.{RevisionRow}
 use Rattle.office_tables.specs.declared.fault.StoreFault.{StoreFault}
 use Rattle.office_tables.specs.declared.fault.StoreFault.TheVariants.{NotAnOffice}
 use Rattle.office_tables.specs.Tables.{Tables, is_profile}
-use Rattle.office_tables.specs.Reads.{IsLast}
+use Rattle.office_tables.specs.Reads.{IsLast, HasRevision}
 use Rattle.office_rows.specs.Faults.{FindsRow}
 use Rattle.office_rows.proofs.Plain.{plain_query, Means}
 use Rattle.office_rows.proofs.Stored.{find_own}
@@ -34,7 +34,7 @@ use Rattle.office_rows.proofs.Ordered.{first_query, IsFirst, IsFirstRow, finds_f
 use Rattle.office_store.specs.declared.revisions.TheConstants.{REVISION_AT, ISSUED_OF, LAST_OF, LAST_NUMBER, REVISION_OF}
 use Rattle.office_store.specs.Schema.{office_schema}
 use Rattle.office_store.specs.Entries.{Revision, same_revision, revision_key, revision_row, revision_columns, number_row, IsRevision, state_number}
-use Rattle.office_store.specs.Reads.{IsIssuedRow, IsLastRow, IsLastNumberRow, HasRevision}
+use Rattle.office_store.specs.Reads.{IsIssuedRow, IsLastRow, IsLastNumberRow}
 use Rattle.office_store.specs.Shown.{Shows, ShowsIfOpen}
 use Rattle.office_store.proofs.Kept.{still_shows, answered_shows, map_of_map, some_shown}
 use Rattle.office_store.proofs.Profiles.{profile_params, revision_params, at_profile, profile_tested, at_revision, revision_tested, in_state_of, is_in_state, state_tested, revisions_decide, profiles_decide, both_true, same_profile, same_state}

@@ -11,7 +11,7 @@ use Rattle.office_rows.specs.Told.{IsUnread, TellsRow}
 use Rattle.office_store.specs.declared.revisions.TheConstants.{LAST_NUMBER}
 use Rattle.office_store.specs.Entries.{number_row}
 use Rattle.office_store.specs.Keys.{profile_params}
-use Rattle.office_store.specs.Reads.{submitted}
+use Rattle.office_tables.specs.Reads.{submitted}
 use Rattle.office_store.specs.Writes.{adding_revision}
 
 -- no number is above the greatest of its type

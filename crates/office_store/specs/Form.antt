@@ -1,12 +1,14 @@
 -- When a store is an office.
-use Rattle.std.specs.Prelude.{◌≡◌, ◌<◌, ◌^◌, ◌&&◌, ℕ, pos, Bool, true, List, [], ◌∷◌, Some, Ok, option_and_then, slice_get, is_some, codes}
+use Rattle.std.specs.Prelude.{◌≡◌, ◌<◌, ◌^◌, ◌&&◌, ℕ, pos, Bool, true, List, [], ◌∷◌, Option, Some, Result, Ok, option_and_then, slice_get, is_some, codes}
 use Rattle.std.specs.List.{list_all, Contains}
 use Rattle.sqlite.specs.declared.types.Value.TheVariants.{Int}
 use Rattle.sqlite.specs.Order.{Row}
 use Rattle.sqlite.specs.Schema.{Schema}
 use Rattle.sqlite.specs.State.{State}
 use Rattle.sqlite_schema.specs.Names.{table_named, column_named}
+use Rattle.office_tables.specs.declared.fault.StoreFault.{StoreFault}
 use Rattle.office_rows.specs.Faults.{FindsRow}
+use Rattle.office_rows.specs.Told.{TellsOnly, TellsRow}
 use Rattle.sqlite_value.specs.Order.{column}
 use Rattle.office_store.specs.Schema.{office_schema}
 use Rattle.office_store.specs.declared.form.TheConstants.{OFFICE_ROW}
@@ -53,3 +55,11 @@ pub record HasForm (old new : State) (listed : ℕ) : Type 0 where
   pub row : FindsRow OFFICE_ROW.now [] old new (Ok (Some (form_row listed)))
   -- and it stands in its table, where the tables are those that a founding makes
   pub stands : old.now.schema ≡ office_schema → HasOfficeRow (old.now.trees 0) listed
+
+-- what the row of the office says: its listed capabilities, or that it isn't of its form
+abbrev pub TellsForm : Option Row → Result ℕ StoreFault → Type 0
+TellsForm = TellsOnly form_row AreCaps
+
+-- the result is what the query for the row of the office found, or the fault that SQLite named
+abbrev pub TellsOfficeRow : State → State → Result ℕ StoreFault → Type 0
+TellsOfficeRow old new result = TellsRow OFFICE_ROW.now [] old new TellsForm result

@@ -1,14 +1,12 @@
 -- What the rows that a read found stand for.
-use Rattle.std.specs.Prelude.{◌≡◌, ◌≢◌, ℕ, pos, List, [], ◌∷◌, Option, None, Some}
+use Rattle.std.specs.Prelude.{◌≡◌, ℕ, pos, List, [], ◌∷◌, Option, None, Some}
 use Rattle.sqlite.specs.declared.types.Value.TheVariants.{Int}
 use Rattle.sqlite.specs.Order.{Row}
 use Rattle.review_policy.specs.declared.ask.ProfileName.{ProfileName}
-use Rattle.review_policy.specs.declared.revision.State.TheVariants.{Open, Issued}
 use Rattle.office_tables.specs.declared.row.UserRow.{UserRow}
 use Rattle.office_tables.specs.declared.row.RevisionRow.{RevisionRow}
 use Rattle.office_tables.specs.Tables.{Tables}
-use Rattle.office_tables.specs.Changes.{with_revision}
-use Rattle.office_tables.specs.Reads.{IsUserShowing, IsLast, next_number}
+use Rattle.office_tables.specs.Reads.{IsUserShowing, IsLast, IsIssued}
 use Rattle.office_store.specs.Entries.{user_row, revision_columns, number_row}
 use Rattle.office_store.specs.Form.{form_row}
 
@@ -16,11 +14,6 @@ use Rattle.office_store.specs.Form.{form_row}
 abbrev pub IsRowShowing : Tables → List ℕ → Option Row → Type 0
 IsRowShowing t digest None = IsUserShowing t digest None
 IsRowShowing t digest (Some row) = (u : UserRow) × IsUserShowing t digest (Some u) × (row ≡ user_row u)
-
--- a revision of the profile that is issued, or that there is none
-abbrev pub IsIssued : Tables → ProfileName → Option RevisionRow → Type 0
-IsIssued t p None = (n : ℕ) (r : RevisionRow) → t.revisions p n ≡ Some r → r.state ≢ Issued
-IsIssued t p (Some r) = (t.revisions p r.number ≡ Some r) × (r.state ≡ Issued)
 
 -- the row of such a revision, or that there is none
 abbrev pub IsIssuedRow : Tables → ProfileName → Option Row → Type 0
@@ -36,28 +29,6 @@ IsLastRow t p (Some row) = (r : RevisionRow) × IsLast t p (Some r) × (row ≡ 
 abbrev pub IsLastNumberRow : Tables → ProfileName → Option Row → Type 0
 IsLastNumberRow t p None = IsLast t p None
 IsLastNumberRow t p (Some row) = (r : RevisionRow) × IsLast t p (Some r) × (row ≡ number_row r.number)
-
--- a revision of the profile
-pub record HasRevision (t : Tables) (p : ProfileName) : Type 0 where
-  pub number : ℕ
-  pub revision : RevisionRow
-  pub there : t.revisions p number ≡ Some revision
-
--- the number after that of the last revision
-abbrev pub IsNextNumber : Tables → ProfileName → ℕ → Type 0
-IsNextNumber t p n = (last : Option RevisionRow) × IsLast t p last × (n ≡ next_number last)
-
--- a revision that is submitted
-abbrev pub submitted : ℕ → List ℕ → List ℕ → List ℕ → RevisionRow
-submitted number author body digest = record { number = number; author = author; state = Open; body = body; digest = digest }
-
--- a revision is added, whose number is free
-abbrev pub Adds : ProfileName → RevisionRow → Tables → Tables → Type 0
-Adds p r t u = (t.revisions p r.number ≡ None) × (u ≡ with_revision p r t)
-
--- a revision is submitted, under the next number
-abbrev pub Submits : ProfileName → List ℕ → List ℕ → List ℕ → Tables → Tables → Type 0
-Submits p author body digest t u = (n : ℕ) × IsNextNumber t p n × (u ≡ with_revision p (submitted n author body digest) t)
 
 -- the row of the listed capabilities
 abbrev pub IsRowListed : Tables → Option Row → Type 0

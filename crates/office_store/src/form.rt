@@ -5,9 +5,9 @@ ghost use Rattle.std.specs.List.{list_all};
 ghost use Rattle.sqlite.specs.Held.{state};
 ghost use Rattle.sqlite.specs.State.{HasCleanDisk};
 ghost use Rattle.office_rows.specs.Faults.{FindsRow};
-ghost use Rattle.office_rows.specs.Told.{IsOfRow, IsTold, TellsRow, TellsOnly};
+ghost use Rattle.office_rows.specs.Told.{IsOfRow, IsTold};
 ghost use Rattle.office_store.specs.Calls.{IsRead};
-ghost use Rattle.office_store.specs.Form.{has_column, has_tables, form_row, AreCaps, HasForm};
+ghost use Rattle.office_store.specs.Form.{has_column, has_tables, form_row, AreCaps, HasForm, TellsForm, TellsOfficeRow};
 ghost use Rattle.office_store.specs.Reads.{IsFormRow};
 ghost use Rattle.office_store.specs.Shown.{IsIdle};
 
@@ -78,7 +78,7 @@ fn read_form(row: &Row) -> Result<Caps, StoreFault>
 
 // The listed capabilities of the row that a query found.
 fn form_of(found: Result<Option<Row>, StoreFault>) -> Result<Caps, StoreFault>
-    ensures told { IsTold (TellsOnly form_row AreCaps) found result }
+    ensures told { IsTold TellsForm found result }
     ensures below { IfOk result AreCaps }
 {
     match found? {
@@ -104,7 +104,7 @@ pub fn check_office<S: Alter>(conn: &mut Connection<S>) -> Result<Caps, StoreFau
     ensures foreign { has_tables (state S.Store conn.old).now.schema ≡ false → (result ≡ Err StoreFault.NotAnOffice) × (conn.new ≡ conn.old) }
     ensures form { HasCleanDisk (state S.Store conn.new) → IfOk result (HasForm (state S.Store conn.old) (state S.Store conn.new)) }
     ensures told { has_tables (state S.Store conn.old).now.schema ≡ true → HasCleanDisk (state S.Store conn.new)
-        → TellsRow OFFICE_ROW.now [] (state S.Store conn.old) (state S.Store conn.new) (TellsOnly form_row AreCaps) result }
+        → TellsOfficeRow (state S.Store conn.old) (state S.Store conn.new) result }
     ensures idle { IsIdle (state S.Store conn.new) }
 {
     if !has_tables(conn.schema()) {

@@ -9,13 +9,13 @@ ghost use Rattle.office_rows.specs.Statements.{IsCause};
 ghost use Rattle.office_rows.specs.Told.{IsOfRow, IsTold, TellsRow, TellsOne, TellsWhether};
 ghost use Rattle.office_tables.specs.Tables.{Tables};
 ghost use Rattle.office_tables.specs.Changes.{with_issued, with_withdrawn};
-ghost use Rattle.office_tables.specs.Reads.{IsLast};
+ghost use Rattle.office_tables.specs.Reads.{IsLast, IsIssued, HasRevision, IsNextNumber, Adds, Submits};
 ghost use Rattle.office_tables.specs.declared.row.RevisionRow.{RevisionRow as Revision};
 ghost use Rattle.office_store.specs.Adding.{IsNumber, IsAfter, TellsNext, FailsToAdd};
 ghost use Rattle.office_store.specs.Calls.{IsRead, IsWrite, Into};
 ghost use Rattle.office_store.specs.Entries.{revision_columns, number_row, IsRevision, IsRevisionForm};
 ghost use Rattle.office_store.specs.Keys.{profile_params, revision_params};
-ghost use Rattle.office_store.specs.Reads.{IsIssued, IsIssuedRow, IsLastRow, IsLastNumberRow, HasRevision, IsNextNumber, Adds, Submits};
+ghost use Rattle.office_store.specs.Reads.{IsIssuedRow, IsLastRow, IsLastNumberRow};
 ghost use Rattle.office_store.specs.Shown.{IsIdle, ShowsIfOpen};
 ghost use Rattle.office_store.specs.Writes.{adding_revision, issuing, withdrawing};
 

@@ -103,13 +103,6 @@ pub fn standing<S: Alter>(
     read_votes(alloc, rows.as_slice())
 }
 
-// Whether a vote counts and approves.
-fn approves(vote: &VoteRow) -> bool
-    ensures { result ≡ (vote.now.counts && vote.now.approve) }
-{
-    vote.counts && vote.approve
-}
-
 // Whether a vote approves with security.
 fn approves_securely(vote: &VoteRow) -> bool
     ensures { result ≡ (vote.now.approve && vote.now.security) }
@@ -117,18 +110,11 @@ fn approves_securely(vote: &VoteRow) -> bool
     vote.approve && vote.security
 }
 
-// Whether a vote counts and rejects.
-fn rejects(vote: &VoteRow) -> bool
-    ensures { result ≡ (vote.now.counts && not vote.now.approve) }
-{
-    vote.counts && !vote.approve
-}
-
 // How many votes count and approve.
 fn approvals(votes: &[VoteRow]) -> usize
     ensures { result ≡ (tally_of votes.now).approvals }
 {
-    votes.iter().filter(|vote| approves(vote)).count()
+    votes.iter().filter(|vote| vote.is_approval()).count()
 }
 
 // How many votes approve with security.
@@ -142,7 +128,7 @@ fn secure_approvals(votes: &[VoteRow]) -> usize
 fn rejections(votes: &[VoteRow]) -> usize
     ensures { result ≡ (tally_of votes.now).rejections }
 {
-    votes.iter().filter(|vote| rejects(vote)).count()
+    votes.iter().filter(|vote| vote.is_rejection()).count()
 }
 
 // How the votes stand.

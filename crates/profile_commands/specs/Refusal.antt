@@ -1,8 +1,8 @@
 -- What a command says of the bytes of a file, and why it says nothing of them.
 use Rattle.std.specs.Prelude.{◌≡◌, ◌≢◌, ◌⊎◌, ◌+◌, ◌<◌, ℕ, List, [], ◌∷◌, ◌++◌, Result, Ok, Err, String, string_bytes}
 use Rattle.std.specs.declared.alloc.Global.{Global}
-use Rattle.counted_io.specs.declared.up_to.Unread.{Unread}
-use Rattle.counted_io.specs.declared.up_to.Unread.TheVariants as unread
+use Rattle.streams.specs.declared.up_to.Unread.{Unread}
+use Rattle.streams.specs.declared.up_to.Unread.TheVariants as unread
 use Rattle.profile_text.specs.declared.document.Document.{Document as ReadDocument}
 use Rattle.profile_text.specs.declared.fault.DocFault.{DocFault}
 use Rattle.profile_text.specs.declared.fault.DocFault.TheVariants as faults

@@ -5,9 +5,9 @@ ghost use Rattle.profile_commands.specs.Refusal.{AgreesWithReads, IsChecked};
 
 use crate::document::read_document;
 use crate::fault::FileFault;
-use counted_io::Counted;
 use std::alloc::{AllocError, Global};
 use std::io::Read;
+use streams::Counted;
 
 // A text and a line feed.
 fn line_of(text: String) -> Result<String, AllocError>

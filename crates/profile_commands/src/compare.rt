@@ -7,11 +7,11 @@ ghost use Rattle.profile_commands.specs.Comparing.{AgreesWithBase, AgreesWithNew
 
 use crate::document::read_document;
 use crate::fault::FileFault;
-use counted_io::Counted;
 use profile_text::Profile;
 use review_sheet::findings_text;
 use std::alloc::{AllocError, Global};
 use std::io::Read;
+use streams::Counted;
 use thiserror::Error;
 use widening::findings;
 

@@ -6,10 +6,10 @@ ghost use Rattle.profile_commands.specs.Refusal.{AgreesWithReads, IsReadAs};
 
 use crate::fault::FileFault;
 use crate::file_bytes::file_bytes;
-use counted_io::{Counted, Unread};
 use profile_text::{Document, read_with_text};
 use std::alloc::Global;
 use std::io::Read;
+use streams::{Counted, Unread};
 
 impl From<Unread> for FileFault {
     ghost use Rattle.std.specs.Prelude.{◌≡◌};

@@ -8,10 +8,10 @@ use crate::document::read_document;
 use crate::execution::Execution;
 use crate::fault::FileFault;
 use cap_sets::{CapState, execve, execve_root};
-use counted_io::Counted;
 use review_sheet::state_text;
 use std::alloc::{AllocError, Global};
 use std::io::Read;
+use streams::Counted;
 
 /// What comes of execve.
 #[derive(Debug, Drop)]

@@ -4,9 +4,9 @@ ghost use Rattle.std.specs.Prelude.{◌+◌, ◌^◌, ◌<◌, ◌≤◌, length
 ghost use Rattle.std.specs.Io.KnownBytes.{Consumes, IsAtEnd};
 ghost use Rattle.profile_commands.specs.Refusal.{ReadsAgree};
 
-use counted_io::{Counted, Unread, read_up_to};
 use std::alloc::Global;
 use std::io::Read;
+use streams::{Counted, Unread, read_up_to};
 
 /// How many bytes of a file are read at most: one more than a document may have.
 pub(crate) const MOST_BYTES: usize = 262_145;

@@ -1,5 +1,6 @@
 -- Profiles: a lawful state of the capability sets, and the filter, where there is one.
-use Rattle.std.specs.Prelude.{Some}
+use Rattle.std.specs.Prelude.{◌==◌, ℕ, Bool, not, Some}
+use Rattle.std.specs.Int.RustNames.{bit_and, bit_or}
 use Rattle.cap_sets.specs.declared.state.CapState.{CapState}
 use Rattle.seccomp_doc.specs.declared.action.Action.TheVariants.{KillProcess}
 use Rattle.seccomp_doc.specs.Meaning.{only_default}
@@ -19,3 +20,15 @@ no_caps = record {
 -- the profile that permits nothing: no capability, and each call ends the process
 abbrev pub closed_profile : Profile
 closed_profile = record { caps = no_caps; filter = Some (only_default KillProcess) }
+
+-- the capabilities that a state has in any of its five sets
+abbrev pub all_sets : CapState → ℕ
+all_sets s = bit_or s.effective (bit_or s.permitted (bit_or s.inheritable (bit_or s.bounding s.ambient)))
+
+-- the listed capabilities that a profile has in any set
+abbrev pub listed_in : ℕ → Profile → ℕ
+listed_in listed p = bit_and listed (all_sets p.caps)
+
+-- whether it has one
+abbrev pub holds_listed : ℕ → Profile → Bool
+holds_listed listed p = not (listed_in listed p == 0)

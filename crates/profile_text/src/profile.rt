@@ -15,7 +15,7 @@ pub struct Profile {
 }
 
 impl Profile {
-    ghost use Rattle.profile_text.specs.Profile.{closed_profile};
+    ghost use Rattle.profile_text.specs.Profile.{closed_profile, holds_listed, listed_in};
 
     /// The profile with these capability sets and this filter.
     pub fn new(caps: CapState, filter: Option<Filter>) -> Profile
@@ -41,5 +41,25 @@ impl Profile {
             },
             filter: Some(Filter::only_default(alloc, Action::KillProcess)),
         }
+    }
+
+    /// Those of the listed capabilities that it has in any of its five sets.
+    pub fn listed_in(&self, listed: Caps) -> Caps
+        ensures { result ≡ listed_in listed self.now }
+    {
+        let caps = &self.caps;
+        let kept = caps.inheritable.union(caps.bounding.union(caps.ambient));
+        let held = caps.effective.union(caps.permitted.union(kept));
+        match Caps::from_bits(listed.bits() & held.bits()) {
+            Some(caps) => caps,
+            None => Caps::empty(),
+        }
+    }
+
+    /// Whether it has a listed capability in any of its five sets.
+    pub fn holds_listed(&self, listed: Caps) -> bool
+        ensures { result ≡ holds_listed listed self.now }
+    {
+        self.listed_in(listed).bits() != 0
     }
 }

@@ -4,3 +4,4 @@ pub mod Role
 pub mod Rules
 pub mod FirstRefusal
 pub mod WordTables
+pub mod Votes

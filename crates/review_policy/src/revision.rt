@@ -50,3 +50,21 @@ pub struct VoteRow {
     /// Whether the voter is a reviewer now; else the vote has lapsed.
     pub counts: bool,
 }
+
+impl VoteRow {
+    ghost use Rattle.review_policy.specs.Votes.{is_approval, is_rejection};
+
+    /// Whether it counts and approves.
+    pub fn is_approval(&self) -> bool
+        ensures { result ≡ is_approval self.now }
+    {
+        self.counts && self.approve
+    }
+
+    /// Whether it counts and rejects.
+    pub fn is_rejection(&self) -> bool
+        ensures { result ≡ is_rejection self.now }
+    {
+        self.counts && !self.approve
+    }
+}

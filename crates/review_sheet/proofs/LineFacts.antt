@@ -8,7 +8,9 @@ use Rattle.widening.specs.Findings.{findings_of}
 use Rattle.review_sheet.specs.Facts.{SheetValue}
 use Rattle.review_sheet.specs.Filters.{seccomp_lines}
 use Rattle.review_sheet.specs.Laws.{CountsBelow, CountsVotes, HasPart, indented_first, is_indented, says_approve, says_reject}
-use Rattle.review_sheet.specs.Review.{finding_line, findings_lines, is_approval, is_rejection, listed_in, need_text, tally_lines, vote_line, vote_word, votes_lines}
+use Rattle.profile_text.specs.Profile.{listed_in}
+use Rattle.review_policy.specs.Votes.{is_approval, is_rejection}
+use Rattle.review_sheet.specs.Review.{finding_line, findings_lines, need_text, tally_lines, vote_line, vote_word, votes_lines}
 use Rattle.review_sheet.specs.Sets.{caps_lines, set_line}
 use Rattle.review_sheet.specs.Sheet.{head_lines, need_at, need_lines, sheet_lines}
 

@@ -1,12 +1,10 @@
--- The lines of what a reviewer decides by: the findings, the listed capabilities, the need and the votes.
+-- The lines of what a reviewer decides by: the findings, the need and the votes.
 use Rattle.std.specs.Prelude.{ℕ, List, [], ◌∷◌, ◌++◌, Bool, true, false, not, ◌&&◌, ◌==◌, if◌then◌else◌, codes, decimal, length, map, count_by}
-use Rattle.std.specs.Int.RustNames.{bit_and, bit_or}
 use Rattle.cap_sets.specs.Capability.{names_of, single}
-use Rattle.cap_sets.specs.declared.state.CapState.{CapState}
-use Rattle.profile_text.specs.declared.profile.Profile.{Profile}
 use Rattle.profile_text.specs.Sets.{set_name}
 use Rattle.review_policy.specs.declared.denial.Need.{Need}
 use Rattle.review_policy.specs.declared.denial.Need.TheVariants.{One, TwoWithSecurity}
+use Rattle.review_policy.specs.Votes.{is_approval, is_rejection}
 use Rattle.review_policy.specs.declared.revision.VoteRow.{VoteRow}
 use Rattle.widening.specs.declared.finding.Finding.{Finding}
 use Rattle.widening.specs.declared.finding.Finding.TheVariants.{Cap, NoSeccomp, AnyArch, Arch, Flag, Call, Default}
@@ -35,19 +33,7 @@ finding_line finding = codes "  " ++ finding_text finding
 unfoldable pub findings_lines : List Finding → List (List ℕ)
 findings_lines found = (codes "findings: " ++ decimal (length found)) ∷ map finding_line found
 
--- ---- listed capabilities and the need
-
--- the capabilities that a state has in any of its five sets
-abbrev pub all_sets : CapState → ℕ
-all_sets s = bit_or s.effective (bit_or s.permitted (bit_or s.inheritable (bit_or s.bounding s.ambient)))
-
--- the listed capabilities that a document holds in any set
-abbrev pub listed_in : ℕ → Profile → ℕ
-listed_in listed p = bit_and listed (all_sets p.caps)
-
--- whether it holds one
-abbrev pub holds_listed : ℕ → Profile → Bool
-holds_listed listed p = not (listed_in listed p == 0)
+-- ---- the need
 
 abbrev pub need_text : Need → List ℕ
 need_text One = codes "1"
@@ -65,13 +51,6 @@ vote_mark v = if v.counts then (if v.security then codes " security" else []) el
 
 abbrev pub vote_line : VoteRow → List ℕ
 vote_line v = codes "  " ++ v.voter ++ codes " " ++ vote_word v.approve ++ vote_mark v
-
--- a vote that counts and approves, and one that counts and rejects
-abbrev pub is_approval : VoteRow → Bool
-is_approval v = v.counts && v.approve
-
-abbrev pub is_rejection : VoteRow → Bool
-is_rejection v = v.counts && not v.approve
 
 unfoldable pub votes_lines : List VoteRow → List (List ℕ)
 votes_lines votes = (codes "votes: " ++ decimal (length votes)) ∷ map vote_line votes

@@ -9,7 +9,8 @@ use Rattle.review_sheet.specs.Facts.{SheetValue}
 use Rattle.review_sheet.specs.Layout.{joined}
 use Rattle.review_sheet.specs.Sets.{caps_lines, set_line}
 use Rattle.review_sheet.specs.Filters.{seccomp_lines}
-use Rattle.review_sheet.specs.Review.{findings_lines, listed_in, holds_listed, need_text, votes_lines, tally_lines}
+use Rattle.profile_text.specs.Profile.{holds_listed, listed_in}
+use Rattle.review_sheet.specs.Review.{findings_lines, need_text, votes_lines, tally_lines}
 
 -- the adopted revision by its profile and number, or that there is none
 abbrev pub baseline_text : Option (List ℕ × ℕ) → List ℕ

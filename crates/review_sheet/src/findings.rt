@@ -1,16 +1,15 @@
 //! The words of the findings, and the lines of the findings, of the listed capabilities and of the need.
 
 ghost use Rattle.std.specs.Prelude.{◌≡◌, ◌++◌, ◌∷◌, ◌==◌, [], not, IfOk, OnOk, codes, map, string_bytes};
-ghost use Rattle.std.specs.Int.RustNames.{bit_and};
 ghost use Rattle.cap_sets.specs.Capability.{names_of, single};
 ghost use Rattle.review_policy.specs.Rules.{need_of};
 ghost use Rattle.review_sheet.specs.Layout.{Adds, AddsLines, ended};
-ghost use Rattle.review_sheet.specs.Review.{all_sets, finding_line, finding_text, findings_lines, findings_text, need_text};
+ghost use Rattle.review_sheet.specs.Review.{finding_line, finding_text, findings_lines, findings_text, need_text};
 ghost use Rattle.review_sheet.specs.Sets.{set_line};
 ghost use Rattle.widening.specs.declared.finding.Finding.TheVariants as finding;
 
 use crate::layout::{push_count, push_line, push_names_line, push_set};
-use cap_sets::{CapState, Caps};
+use cap_sets::Caps;
 use review_policy::{Need, need};
 use std::alloc::{AllocError, Global};
 use widening::{CapSet, Finding};
@@ -93,18 +92,6 @@ fn push_capability(text: &mut String, set: CapSet, number: u8) -> Result<(), All
     write!(text, "capability {name} ")?;
     push_names_line(text, capability(number))?;
     Ok(())
-}
-
-/// The listed capabilities that the state holds in any set.
-pub(crate) fn listed_in(listed: Caps, state: &CapState) -> Caps
-    ensures { result ≡ bit_and listed (all_sets state.now) }
-{
-    let kept = state.inheritable.union(state.bounding.union(state.ambient));
-    let held = state.effective.union(state.permitted.union(kept));
-    match Caps::from_bits(listed.bits() & held.bits()) {
-        Some(caps) => caps,
-        None => Caps::empty(),
-    }
 }
 
 // The words of a need.

@@ -7,7 +7,7 @@ ghost use Rattle.review_sheet.specs.Sheet.{baseline_text, head_lines, sheet_text
 
 use crate::facts::SheetFacts;
 use crate::filter::push_seccomp;
-use crate::findings::{listed_in, push_findings, push_need};
+use crate::findings::{push_findings, push_need};
 use crate::layout::{push_count, push_line};
 use crate::sets::push_caps;
 use crate::votes::{push_tally, push_votes};
@@ -32,7 +32,7 @@ pub fn sheet(alloc: Global, facts: &SheetFacts<'_>) -> Result<String, AllocError
     push_caps(&mut text, &facts.shown.caps)?;
     push_seccomp(&mut text, &facts.shown.filter)?;
     push_findings(&mut text, found.as_slice())?;
-    let listed = listed_in(facts.listed, &facts.shown.caps);
+    let listed = facts.shown.listed_in(facts.listed);
     push_need(&mut text, listed, !found.is_empty())?;
     push_votes(&mut text, facts.votes.as_slice())?;
     push_tally(&mut text, facts.votes.as_slice())?;

@@ -1,8 +1,9 @@
 //! The lines of the votes.
 
 ghost use Rattle.std.specs.Prelude.{◌≡◌, OnOk, count_by, map};
+ghost use Rattle.review_policy.specs.Votes.{is_approval, is_rejection};
 ghost use Rattle.review_sheet.specs.Layout.{Adds, AddsLines, ended};
-ghost use Rattle.review_sheet.specs.Review.{is_approval, is_rejection, tally_lines, vote_line, vote_mark, vote_word, votes_lines};
+ghost use Rattle.review_sheet.specs.Review.{tally_lines, vote_line, vote_mark, vote_word, votes_lines};
 
 use crate::layout::push_count;
 use review_policy::VoteRow;
@@ -57,32 +58,18 @@ fn push_vote(text: &mut String, vote: &VoteRow) -> Result<(), AllocError>
     writeln!(text, "  {voter} {word}{mark}")
 }
 
-// Whether a vote counts and approves.
-fn is_approval(vote: &VoteRow) -> bool
-    ensures { result ≡ is_approval vote.now }
-{
-    vote.counts && vote.approve
-}
-
-// Whether a vote counts and rejects.
-fn is_rejection(vote: &VoteRow) -> bool
-    ensures { result ≡ is_rejection vote.now }
-{
-    vote.counts && !vote.approve
-}
-
 // How many votes count and approve.
 fn approvals(votes: &[VoteRow]) -> usize
     ensures { result ≡ count_by is_approval votes.now }
 {
-    votes.iter().filter(|vote| is_approval(vote)).count()
+    votes.iter().filter(|vote| vote.is_approval()).count()
 }
 
 // How many votes count and reject.
 fn rejections(votes: &[VoteRow]) -> usize
     ensures { result ≡ count_by is_rejection votes.now }
 {
-    votes.iter().filter(|vote| is_rejection(vote)).count()
+    votes.iter().filter(|vote| vote.is_rejection()).count()
 }
 
 /// Adds how many of the votes count, by what they say.

@@ -1,13 +1,12 @@
 use Rattle.std.proofs.Common.{◌≡◌, ◌+◌, ◌*◌, ◌≤◌}
-use Rattle.sqlite.specs.Held.{state}
-use Rattle.line_input.specs.Found.{work}
+use Rattle.streams.specs.Found.{work}
 use Rattle.desk.proofs.ServeFacts.{Progress}
 use Rattle.desk.proofs.serve.desk.Given as goal
 
 abbrev pub invariant-loop-office : goal.invariant-loop-office
 invariant-loop-office g l =
     record {
-      progress : Progress (state g.S.Store l.fn.office) (state g.S.Store l.office) l.lines
+      progress : Progress g.H.Handler.meaning l.fn.office l.office l.lines
           (g.R.Read.remaining l.fn.reader.inner) (g.R.Read.remaining l.reader.inner)
           (g.W.Write.contents l.fn.writer.inner) (g.W.Write.contents l.writer.inner) l.answered;
       calls : l.reader.calls ≤ l.most_calls;

@@ -6,7 +6,7 @@ use Rattle.office_policy.specs.Verdict.{verdict_of, verdict}
 use Rattle.office_policy.specs.Lawful.{IsLawfulHistory}
 use Rattle.office_desk.specs.declared.refusal.Refusal.TheVariants as refusals
 use Rattle.office_desk.specs.Carries.{Knows}
-use Rattle.office_desk.proofs.Carrying.{left, read_fails, refused_after, then_carries_for}
+use Rattle.office_desk.proofs.Carrying.{left, kept_then, read_fails, refused_after, then_carries_for}
 use Rattle.office_desk.proofs.Handling.{known, called, stranger}
 use Rattle.office_desk.proofs.carry_out.carry_out.Goals as goal
 
@@ -28,7 +28,18 @@ returns-clause-carried g c =
     (λ h lawful is. known h lawful c.digest-token.result c.in_ok-caller.field-0 c.in-Some.caller c.in-Some.is is)
     (λ h lawful is. ap (λ u. verdict_of h u c.args.request.now.ask) (sym c.in-Some.is)
     ∙ called h lawful c.args.request.now c.digest-token.result c.in_ok-caller.field-0 (c.digest-token.ensures ∙ ap digest_of (c.as_bytes.ensures.value ∙ c.as_str.ensures.text)) is)
-    c.carry_out_for.ensures
+    c.carry_out_for.ensures.carried
 
 pub returns-clause-settled : goal.returns-clause-settled
-returns-clause-settled g c = c.carry_out_for.ensures.settled c.in_ok-caller.ensures.read.leaves.settled
+returns-clause-settled g c = c.carry_out_for.ensures.carried.settled c.in_ok-caller.ensures.read.leaves.settled
+
+pub returns-in_err-caller-clause-same : goal.returns-in_err-caller-clause-same
+returns-in_err-caller-clause-same g c = λ reads. c.in_err-caller.ensures.read.same
+
+pub returns-in_default-clause-same : goal.returns-in_default-clause-same
+returns-in_default-clause-same g c = λ reads. c.in_ok-caller.ensures.read.same
+
+pub returns-clause-same : goal.returns-clause-same
+returns-clause-same g c = λ reads.
+    kept_then (state g.S.Store c.args.conn.now) (state g.S.Store c.user_by_token.new.conn) (state g.S.Store c.carry_out_for.new.conn) _ c.in_ok-caller.field-0
+    c.in_ok-caller.ensures.read c.carry_out_for.ensures.carried.clean (c.carry_out_for.ensures.same reads)

@@ -4,7 +4,7 @@ use Rattle.review_policy.specs.declared.answer.Reply.TheVariants as reply
 use Rattle.review_policy.specs.Rules.{first_denial, hold_rules}
 use Rattle.office_tables.specs.Changes.{with_hold}
 use Rattle.office_policy.specs.History.{held}
-use Rattle.office_history.proofs.EventFacts.{held_tables}
+use Rattle.office_policy.proofs.EventFacts.{held_tables}
 use Rattle.office_desk.specs.declared.refusal.Refusal.TheVariants as refusals
 use Rattle.office_desk.proofs.Carrying.{left, read_fails}
 use Rattle.office_desk.proofs.Deciding.{refuses_at_once, refuses, writes, fails_to_write}

@@ -5,7 +5,7 @@ use Rattle.profile_text.specs.Digest.{digest_of}
 use Rattle.office_tables.specs.declared.fault.StoreFault.TheVariants.{NoMemory}
 use Rattle.office_policy.specs.Revisions.{revision_count}
 use Rattle.office_policy.specs.TablesOf.{tables_of}
-use Rattle.office_history.proofs.Submissions.{next_is}
+use Rattle.office_policy.proofs.Submissions.{next_is}
 use Rattle.office_desk.specs.declared.refusal.Refusal.TheVariants as refusals
 use Rattle.office_desk.proofs.Carrying.{left, read_fails, fails_after, refused_after, answered, answer_fails}
 use Rattle.office_desk.proofs.Submissions.{asked, turned_away, refused, adds}

@@ -5,7 +5,7 @@ use Rattle.review_policy.specs.Rules.{first_denial, withdraw_rules}
 use Rattle.office_tables.specs.Changes.{with_withdrawn}
 use Rattle.office_policy.specs.History.{withdrawn}
 use Rattle.office_policy.specs.Facts.{withdraw_facts}
-use Rattle.office_history.proofs.EventFacts.{withdrawn_tables}
+use Rattle.office_policy.proofs.EventFacts.{withdrawn_tables}
 use Rattle.office_desk.specs.declared.refusal.Refusal.TheVariants as refusals
 use Rattle.office_desk.proofs.Carrying.{left, read_fails}
 use Rattle.office_desk.proofs.Deciding.{refuses_at_once, refuses, writes, fails_to_write}

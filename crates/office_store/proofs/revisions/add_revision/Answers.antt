@@ -1,7 +1,7 @@
 use Rattle.std.proofs.Common.{inl, inr, rules, refl, ◌∙◌, ap}
 use Rattle.sqlite.specs.Held.{state}
 use Rattle.office_tables.specs.Changes.{with_revision}
-use Rattle.office_store.specs.Reads.{Submits, submitted}
+use Rattle.office_tables.specs.Reads.{Submits, submitted}
 use Rattle.office_store.proofs.Calls.{err_of, read_stops, read_then_write, alike_failed}
 use Rattle.office_store.proofs.Numbers.{next_free, one_number}
 use Rattle.office_store.proofs.revisions.add_revision.Goals as goal

@@ -2,7 +2,7 @@ use Rattle.std.proofs.Common.{Some, sym, ◌∙◌, subst}
 use Rattle.sqlite.specs.Held.{state}
 use Rattle.office_tables.specs.declared.row.RevisionRow.{RevisionRow}
 use Rattle.office_store.specs.Entries.{revision_columns, IsRevisionForm}
-use Rattle.office_store.specs.Reads.{IsIssued}
+use Rattle.office_tables.specs.Reads.{IsIssued}
 use Rattle.office_store.proofs.RevisionReads.{revision_formed, same_columns}
 use Rattle.office_store.proofs.Told.{one_read}
 use Rattle.office_store.proofs.revisions.issued.Goals as goal

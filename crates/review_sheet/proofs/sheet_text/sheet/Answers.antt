@@ -4,7 +4,8 @@ use Rattle.review_policy.specs.Rules.{need_of}
 use Rattle.widening.specs.Findings.{findings_of, is_found}
 use Rattle.review_sheet.specs.Filters.{seccomp_lines}
 use Rattle.review_sheet.specs.Layout.{joined}
-use Rattle.review_sheet.specs.Review.{findings_lines, listed_in, need_text, tally_lines, votes_lines}
+use Rattle.profile_text.specs.Profile.{listed_in}
+use Rattle.review_sheet.specs.Review.{findings_lines, need_text, tally_lines, votes_lines}
 use Rattle.review_sheet.specs.Sets.{caps_lines, set_line}
 use Rattle.review_sheet.specs.Sheet.{head_lines, need_lines, sheet_lines, sheet_text}
 use Rattle.review_sheet.proofs.Adding.{found_some, then_lines}

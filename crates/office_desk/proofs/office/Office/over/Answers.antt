@@ -16,6 +16,17 @@ returns-in-Ok-clause-office g c = λ h lawful shows. record {
   tables = λ clean. (c.in-Ok.ensures.read (c.in-Ok.ensures.form clean).tables).shown (tables_of h) (λ is_open. shows) clean;
 }
 
+pub returns-in-Ok-clause-stands : goal.returns-in-Ok-clause-stands
+returns-in-Ok-clause-stands g c = λ h lawful shows clean.
+    let read = c.in-Ok.ensures.read (c.in-Ok.ensures.form clean).tables in
+    let shown = read.shown (tables_of h) (λ is_open. shows) clean in
+    let is_open = (read.leaves.answered clean).1 in
+    record {
+      is_of = record { idle = c.in-Ok.ensures.idle; lawful = lawful; tables = λ clean. shown };
+      is_open = is_open;
+      leaves = read.leaves.settled (tables_of h) (shown is_open);
+    }
+
 pub returns-in-Err-clause-known : goal.returns-in-Err-clause-known
 returns-in-Err-clause-known g c = λ h lawful shows clean is.
     (c.in-Err.ensures.read (ap has_tables shows.office.schema ∙ office_has_tables)).formed (tables_of h) (λ is_open. shows) clean (ap Err is)

@@ -1,4 +1,0 @@
-pub mod Counts
-pub mod Some
-pub mod Steps
-pub mod UpTo

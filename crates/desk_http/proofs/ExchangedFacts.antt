@@ -1,0 +1,149 @@
+-- What exchanges one after the other leave.
+use Rattle.std.proofs.Common.{false, ◌≡◌, ◌∙◌, ℕ, ◌+◌, List, [], ◌∷◌, ◌++◌, Option, Some, None, inl, inr, Result, Ok, Err, length, refl, sym, ap, subst, arith, append-nil, append_assoc, length-append}
+use Rattle.std.proofs.KnownBytes.{Appends-nil, Appends-trans}
+use Rattle.std.specs.Io.KnownBytes.{Appends}
+use Rattle.std.specs.Prelude.{OnOk}
+use Rattle.std.specs.Result.{is_err}
+use Rattle.office_policy.specs.Meaning.{Meaning}
+use Rattle.review_policy.specs.declared.ask.Request.{Request}
+use Rattle.review_policy.specs.declared.answer.Answer.{Answer}
+use Rattle.office_policy.specs.Handled.{IsHandled}
+use Rattle.office_policy.specs.Ran.{HaveRun}
+use Rattle.office_policy.proofs.RunFacts.{run_more}
+use Rattle.office_policy.proofs.SurvivalFacts.{survives_none}
+use Rattle.desk_http.specs.Served.{HasOutcome, IsServed, IsTold}
+use Rattle.desk_http.specs.declared.fault.HttpFault.{HttpFault}
+use Rattle.desk_http.specs.declared.fault.HttpFault.TheVariants as fault
+use Rattle.desk_http.specs.declared.outcome.Outcome.{Outcome}
+use Rattle.desk_http.specs.declared.outcome.Outcome.TheVariants.{Refused, NoMemory, Answered}
+use Rattle.desk_http.specs.Exchanged.{Tells, Leaves, IsExchanged, line_of, requests_in, answers_in, AreTold, lines_of, HaveExchanged}
+
+-- ---- one exchange
+
+module _ (Same : Type 0) (Handled : Request → Answer → Type 0) (unread rest : Option (List ℕ)) where
+  leaves_come : (outcome : Outcome) → HasOutcome Same Handled unread rest (Ok outcome) → Leaves Same Handled (Some outcome)
+  leaves_come (Refused why) has = has.1
+  leaves_come NoMemory has = has
+  leaves_come (Answered request answer) has = has.1
+
+  untold : (e : HttpFault) → HasOutcome Same Handled unread rest (Err e) → IsExchanged Same Handled (Err e)
+  untold fault.Ended has = (None, has.2, tt)
+  untold fault.Read has = (None, has.1, tt)
+  untold fault.TooManyReads has = (None, has.1, tt)
+  untold (fault.Write status) has = absurd has
+  untold (fault.NoMemory status) has = absurd has
+
+  told_so : (before after : Option (List ℕ)) (outcome : Outcome) (result : Result ℕ HttpFault) → HasOutcome Same Handled unread rest (Ok outcome)
+      → IsTold before after outcome result → IsExchanged Same Handled result
+  told_so before after outcome (Ok status) has told = (Some outcome, leaves_come outcome has, told.0)
+  told_so before after outcome (Err (fault.Write status)) has told = (Some outcome, leaves_come outcome has, told.0)
+  told_so before after outcome (Err (fault.NoMemory status)) has told = (Some outcome, leaves_come outcome has, told.0)
+  told_so before after outcome (Err fault.Ended) has told = absurd told
+  told_so before after outcome (Err fault.Read) has told = absurd told
+  told_so before after outcome (Err fault.TooManyReads) has told = absurd told
+
+  pub exchanged : (before after : Option (List ℕ)) (result : Result ℕ HttpFault) → IsServed Same Handled unread rest before after result
+      → IsExchanged Same Handled result
+  exchanged before after result (inl (e, is, has, kept)) = subst (λ (r : Result ℕ HttpFault). IsExchanged Same Handled r) (sym is) (untold e has)
+  exchanged before after result (inr (outcome, has, told)) = told_so before after outcome result has told
+
+-- it could not begin
+pub not_begun : (Same : Type 0) (Handled : Request → Answer → Type 0) → Same → IsExchanged Same Handled (Err fault.Read)
+not_begun Same Handled same = (None, same, tt)
+
+-- ---- one more
+
+of_ok : {X E : Type 0} (r : Result X E) (P : Type 0) → false ≡ is_err r → OnOk r P → P
+of_ok (Ok x) P no_error p = p
+of_ok (Err e) P no_error p = absurd cc
+
+requests_more : (came : List (Option Outcome)) (c : Option Outcome) → requests_in (came ++ c ∷ []) ≡ requests_in came ++ requests_in (c ∷ [])
+requests_more [] c = refl
+requests_more (Some (Answered request answer) ∷ came) c = ap (λ rs. request ∷ rs) (requests_more came c)
+requests_more (Some (Refused why) ∷ came) c = requests_more came c
+requests_more (Some NoMemory ∷ came) c = requests_more came c
+requests_more (None ∷ came) c = requests_more came c
+
+answers_more : (came : List (Option Outcome)) (c : Option Outcome) → answers_in (came ++ c ∷ []) ≡ answers_in came ++ answers_in (c ∷ [])
+answers_more [] c = refl
+answers_more (Some (Answered request answer) ∷ came) c = ap (λ answers. answer ∷ answers) (answers_more came c)
+answers_more (Some (Refused why) ∷ came) c = answers_more came c
+answers_more (Some NoMemory ∷ came) c = answers_more came c
+answers_more (None ∷ came) c = answers_more came c
+
+told_more : (came : List (Option Outcome)) (results : List (Result ℕ HttpFault)) (c : Option Outcome) (r : Result ℕ HttpFault) → AreTold came results
+    → Tells c r → AreTold (came ++ c ∷ []) (results ++ r ∷ [])
+told_more [] [] c r told tells = (tells, tt)
+told_more (x ∷ came) (y ∷ results) c r told tells = (told.0, told_more came results c r told.1 tells)
+told_more [] (y ∷ results) c r told tells = absurd told
+told_more (x ∷ came) [] c r told tells = absurd told
+
+lines_more : (results : List (Result ℕ HttpFault)) (r : Result ℕ HttpFault) → lines_of (results ++ r ∷ []) ≡ lines_of results ++ line_of r
+lines_more [] r = append-nil (line_of r)
+lines_more (x ∷ results) r = ap (λ t. line_of x ++ t) (lines_more results r) ∙ sym (append_assoc (line_of x) (lines_of results) (line_of r))
+
+module _ {X : Type 0} (m : Meaning X) where
+  none_run : (s : X) → HaveRun m s s [] []
+  none_run s = record {
+    count = refl;
+    survives = survives_none m s;
+    answers = λ h office clean. tt;
+    office = λ h office. office;
+    stands = λ h office clean. tt;
+    kept = λ clean none. m.keeps_itself s;
+    crash = λ h office clean left may. may;
+  }
+
+  module _ (old was now : X) where
+    kept : (requests : List Request) (answers : List Answer) → now ≡ was → HaveRun m old was requests answers
+        → HaveRun m old now requests answers
+    kept requests answers same ran = subst (λ (a : X). HaveRun m old a requests answers) (sym same) ran
+
+    -- an exchange that handled nothing adds nothing
+    by_none : (came : List (Option Outcome)) (c : Option Outcome) → requests_in (c ∷ []) ≡ [] → answers_in (c ∷ []) ≡ [] → now ≡ was
+        → HaveRun m old was (requests_in came) (answers_in came) → HaveRun m old now (requests_in (came ++ c ∷ [])) (answers_in (came ++ c ∷ []))
+    by_none came c no_request no_answer same ran =
+        rw (requests_more came c, answers_more came c, no_request, no_answer, append-nil (requests_in came), append-nil (answers_in came))
+        (kept (requests_in came) (answers_in came) same ran)
+
+    ran_more : (came : List (Option Outcome)) (c : Option Outcome) → HaveRun m old was (requests_in came) (answers_in came)
+        → Leaves (now ≡ was) (IsHandled m was now) c → HaveRun m old now (requests_in (came ++ c ∷ [])) (answers_in (came ++ c ∷ []))
+    ran_more came (Some (Answered request answer)) ran handled =
+        rw (requests_more came (Some (Answered request answer)), answers_more came (Some (Answered request answer)))
+        (run_more m old was now (requests_in came) (answers_in came) request answer ran handled)
+    ran_more came (Some (Refused why)) ran same = by_none came (Some (Refused why)) refl refl same ran
+    ran_more came (Some NoMemory) ran same = by_none came (Some NoMemory) refl refl same ran
+    ran_more came None ran same = by_none came None refl refl same ran
+
+  -- so many exchanges, with a line for each
+  pub record Progress (old now : X) (before current : Option (List ℕ)) (count : ℕ) : Type 0 where
+    pub results : List (Result ℕ HttpFault)
+    pub exchanged : HaveExchanged m old now results
+    pub count_is : length results ≡ count
+    pub written : Appends before current (lines_of results)
+
+  pub progress_none : (s : X) (w : Option (List ℕ)) → Progress s s w w 0
+  progress_none s w = record { results = []; exchanged = record { came = []; told = tt; handled = none_run s }; count_is = refl; written = Appends-nil w }
+
+  -- one more
+  module _ (old was now : X) (before between : Option (List ℕ)) (count : ℕ) (r : Result ℕ HttpFault)
+      (p : Progress old was before between count) (step : IsExchanged (now ≡ was) (IsHandled m was now) r) where
+    pub next_exchanged : HaveExchanged m old now (p.results ++ r ∷ [])
+    next_exchanged = record {
+      came = p.exchanged.came ++ step.0 ∷ [];
+      told = told_more p.exchanged.came p.results step.0 r p.exchanged.told step.2;
+      handled = ran_more old was now p.exchanged.came step.0 p.exchanged.handled step.1;
+    }
+
+    pub next_count : length (p.results ++ r ∷ []) ≡ count + 1
+    next_count = omega (arith, length-append p.results (r ∷ []), p.count_is)
+
+    pub progress_more : {X E : Type 0} (after : Option (List ℕ)) (wrote : Result X E) → false ≡ is_err wrote → OnOk wrote (Appends between after (line_of r))
+        → Progress old now before after (count + 1)
+    progress_more after wrote no_error writes = record {
+      results = p.results ++ r ∷ [];
+      exchanged = next_exchanged;
+      count_is = next_count;
+      written = rw (lines_more p.results r)
+          (Appends-trans before between after (lines_of p.results) (line_of r) p.written (of_ok wrote (Appends between after (line_of r)) no_error writes));
+    }

@@ -1,4 +1,0 @@
-pub mod Ends
-pub mod Fields
-pub mod Heads
-pub mod Refusals

@@ -1,2 +1,0 @@
-pub mod HeadFacts
-pub mod HearFacts

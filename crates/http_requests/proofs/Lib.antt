@@ -1,0 +1,11 @@
+pub mod TextFacts
+pub mod Named
+pub mod Walks
+pub mod RouterLaw
+pub mod Inserts
+pub mod Split
+pub mod OnLiterals
+pub mod HeadFacts
+pub mod HearFacts
+pub mod FillFacts
+pub mod ExchangeFacts

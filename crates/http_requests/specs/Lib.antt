@@ -1,0 +1,13 @@
+pub mod Message
+pub mod Refusals
+pub mod Numbers
+pub mod Ends
+pub mod Fields
+pub mod Heads
+pub mod Parts
+pub mod Table
+pub mod Targets
+pub mod Asks
+pub mod Exchanges
+pub mod Heard
+pub mod Responses

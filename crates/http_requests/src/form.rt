@@ -1,0 +1,16 @@
+//! The forms of routes.
+
+use crate::route::{ProfileAct, RevisionAct};
+
+/// What a route asks for, before its parameters are looked at.
+#[derive(Clone, Copy, Debug, PartialEq, Eq)]
+pub(crate) enum Form {
+    /// To enrol a user.
+    OfUsers,
+    /// To see the profiles of a team.
+    OfTeam,
+    /// This of a profile.
+    OfProfile(ProfileAct),
+    /// This of a revision.
+    OfRevision(RevisionAct),
+}

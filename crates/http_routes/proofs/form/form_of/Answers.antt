@@ -1,6 +1,0 @@
-use Rattle.std.proofs.Common.{◌∙◌, arith}
-use Rattle.http_routes.proofs.RouterLaw.{text_law}
-use Rattle.http_routes.proofs.form.form_of.Goals as goal
-
-pub returns : goal.returns
-returns c = c.look_up.ensures ∙ text_law c.args.path.now (λ k. omega (arith, c.type_inv.path k))

@@ -1,0 +1,29 @@
+-- The kind of a word.
+use Rattle.std.proofs.Common.{◌≡◌, ℕ, List, Some, refl, subst}
+use Rattle.std.specs.Prelude.{IfSome}
+use Rattle.review_policy.proofs.WordFacts.{found_by_word}
+use Rattle.json_requests.specs.declared.kind.Kind.{Kind}
+use Rattle.json_requests.specs.declared.kind.Kind.TheVariants as kinds
+use Rattle.json_requests.specs.Kinds.{all_kinds, kind_of, kind_word}
+
+-- a kind that is found has the word
+pub found_kind : (text : List ℕ) → IfSome (kind_of text) (λ kind. kind_word kind ≡ text)
+found_kind text = found_by_word kind_word text all_kinds
+
+each_found : (kind : Kind) → kind_of (kind_word kind) ≡ Some kind
+each_found kinds.Enrol = refl
+each_found kinds.Submit = refl
+each_found kinds.Vote = refl
+each_found kinds.Issue = refl
+each_found kinds.Withdraw = refl
+each_found kinds.Adopt = refl
+each_found kinds.Show = refl
+each_found kinds.Sheet = refl
+each_found kinds.List = refl
+each_found kinds.Fetch = refl
+each_found kinds.Hold = refl
+each_found kinds.Release = refl
+
+-- and each kind is found by its word
+pub known_kind : (text : List ℕ) (kind : Kind) → kind_word kind ≡ text → kind_of text ≡ Some kind
+known_kind text kind is = subst (λ (t : List ℕ). kind_of t ≡ Some kind) is (each_found kind)

@@ -1,0 +1,7 @@
+use Rattle.std.proofs.Common.{◌≡◌}
+use Rattle.serde_json.specs.View.{members_view}
+use Rattle.json_requests.specs.Shapes.{all_belong}
+use Rattle.json_requests.proofs.shape.all_belong.Given as goal
+
+abbrev pub invariant-loop-name : goal.invariant-loop-name
+invariant-loop-name l = all_belong l.shape (members_view l.fn.members.entries) ≡ all_belong l.shape (members_view l.name-iterator)

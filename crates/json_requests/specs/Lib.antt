@@ -1,0 +1,9 @@
+pub mod Bad
+pub mod Answers
+pub mod Kinds
+pub mod Plain
+pub mod Members
+pub mod Requests
+pub mod Shapes
+pub mod Bodies
+pub mod Faults

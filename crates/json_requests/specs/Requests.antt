@@ -1,0 +1,110 @@
+-- What a line asks.
+use Rattle.std.specs.Prelude.{◌≡◌, ℕ, List, Option, Some, None, Result, Ok, Err, if◌then◌else◌, option_and_then, codes, length, nat_lt}
+use Rattle.std.specs.Str.{is_utf8}
+use Rattle.serde_json.specs.Data.{Data}
+use Rattle.serde_json.specs.Read.{read}
+use Rattle.review_policy.specs.declared.ask.ProfileName.{ProfileName}
+use Rattle.review_policy.specs.declared.ask.Request.{Request}
+use Rattle.json_requests.specs.declared.bad.BadLine.{BadLine}
+use Rattle.json_requests.specs.declared.bad.BadLine.TheVariants as bad
+use Rattle.json_requests.specs.declared.kind.Kind.{Kind}
+use Rattle.json_requests.specs.declared.kind.Kind.TheVariants as kinds
+use Rattle.json_requests.specs.Kinds.{kind_of}
+use Rattle.json_requests.specs.Members.{◌>>=◌, text_at, word_at, token_at, name_at, revision_at, digest_at, vote_at, roles_at}
+use Rattle.json_requests.specs.Shapes.{has_no_other}
+use Rattle.json_requests.specs.declared.shape.Shape.TheVariants.{Line}
+use Rattle.json_requests.specs.Plain.{PlainAsk, PlainRequest, plain, enrol, submit, vote, issue, withdraw, adopt, show, sheet, list, fetch, hold, release}
+
+-- ---- by kind, from the members of the kind
+
+unfoldable pub enrol_at : Data → Option PlainAsk
+enrol_at d = do
+  user ← word_at (codes "user") d
+  team ← word_at (codes "team") d
+  roles ← roles_at d
+  digest ← digest_at d
+  Some (enrol user team roles digest)
+
+unfoldable pub submit_at : Data → Option PlainAsk
+submit_at d = do
+  name ← name_at d
+  document ← text_at (codes "document") d
+  Some (submit name document)
+
+unfoldable pub vote_on : Data → Option PlainAsk
+vote_on d = do
+  name ← name_at d
+  revision ← revision_at d
+  digest ← digest_at d
+  approve ← vote_at d
+  Some (vote name revision digest approve)
+
+-- an ask that names a revision
+unfoldable pub of_revision : (ProfileName → ℕ → PlainAsk) → Data → Option PlainAsk
+of_revision ask d = do
+  name ← name_at d
+  revision ← revision_at d
+  Some (ask name revision)
+
+unfoldable pub list_at : Data → Option PlainAsk
+list_at d = do
+  team ← word_at (codes "team") d
+  Some (list team)
+
+-- an ask that names a profile
+unfoldable pub of_profile : (ProfileName → PlainAsk) → Data → Option PlainAsk
+of_profile ask d = do
+  name ← name_at d
+  Some (ask name)
+
+abbrev pub ask_at : Kind → Data → Option PlainAsk
+ask_at kinds.Enrol d = enrol_at d
+ask_at kinds.Submit d = submit_at d
+ask_at kinds.Vote d = vote_on d
+ask_at kinds.Issue d = of_revision issue d
+ask_at kinds.Withdraw d = of_revision withdraw d
+ask_at kinds.Adopt d = of_revision adopt d
+ask_at kinds.Show d = of_revision show d
+ask_at kinds.Sheet d = of_revision sheet d
+ask_at kinds.List d = list_at d
+ask_at kinds.Fetch d = of_profile fetch d
+ask_at kinds.Hold d = of_profile hold d
+ask_at kinds.Release d = of_profile release d
+
+-- ---- a whole line
+
+-- the kind that `ask` names
+unfoldable pub kind_at : Data → Option Kind
+kind_at d = option_and_then kind_of (text_at (codes "ask") d)
+
+-- an object with just `ask`, `token` and the members of its kind, each of its form
+unfoldable pub request_at : Data → Option PlainRequest
+request_at d = do
+  kind ← kind_at d
+  token ← token_at d
+  ask ← ask_at kind d
+  if has_no_other (Line kind) d then Some (record { token = token; ask = ask }) else None
+
+-- the value that a line is, as JSON
+abbrev pub value_of : List ℕ → Option Data
+value_of line = if is_utf8 line then read line else None
+
+abbrev pub or_not_a_request : Option PlainRequest → Result PlainRequest BadLine
+or_not_a_request None = Err bad.NotARequest
+or_not_a_request (Some r) = Ok r
+
+abbrev pub request_of : Option Data → Result PlainRequest BadLine
+request_of None = Err bad.NotJson
+request_of (Some d) = or_not_a_request (request_at d)
+
+-- what a line of any length asks
+unfoldable pub request_in : List ℕ → Result PlainRequest BadLine
+request_in line = request_of (value_of line)
+
+-- what a line asks: it is too long, or not JSON, or no request, or a request, the first that holds
+unfoldable pub asked : List ℕ → Result PlainRequest BadLine
+asked line = if nat_lt 300000 (length line) then Err bad.TooLong else request_in line
+
+-- the line asks this request
+abbrev pub Asks : List ℕ → Request → Type 0
+Asks line r = asked line ≡ Ok (plain r)

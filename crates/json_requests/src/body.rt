@@ -1,0 +1,91 @@
+//! The bodies of requests, with just the members that neither a path nor a field tells.
+
+ghost use Rattle.serde_json.specs.View.{view};
+ghost use Rattle.json_requests.specs.Bodies.{enrol_body, vote_body, enrol_in, vote_in};
+ghost use Rattle.json_requests.specs.Faults.{Gives};
+ghost use Rattle.json_requests.specs.Plain.{plain_ask};
+ghost use Rattle.json_requests.specs.Requests.{value_of};
+
+use crate::ask::enrol_of;
+use crate::fault::LineFault;
+use crate::member::{digest_of, vote_of};
+use crate::shape::{Shape, has_no_other};
+use review_policy::{Ask, ProfileName};
+use serde_json::Value;
+use std::alloc::Global;
+
+// The value that a body is.
+fn value_of(alloc: Global, body: &[u8]) -> Result<Value, LineFault>
+    ensures { Gives view result (value_of body.now) }
+{
+    match Value::from_slice(alloc, body) {
+        Ok(value) => Ok(value),
+        Err(error) => {
+            if error.is_memory() {
+                Err(LineFault::NoMemory)
+            } else {
+                Err(LineFault::NotARequest)
+            }
+        }
+    }
+}
+
+// The enrolment that a value is.
+#[tactic(auto, unfolding(crate::specs::Bodies::enrol_body))]
+fn enrol_at(alloc: Global, value: &Value) -> Result<Ask, LineFault>
+    ensures { Gives plain_ask result (enrol_body (view value.now)) }
+{
+    if has_no_other(Shape::EnrolBody, value) {
+        enrol_of(alloc, value)
+    } else {
+        Err(LineFault::NotARequest)
+    }
+}
+
+// The vote on a revision that a value is.
+#[tactic(auto, unfolding(crate::specs::Bodies::vote_body))]
+fn vote_at(name: ProfileName, revision: u32, value: &Value) -> Result<Ask, LineFault>
+    ensures { Gives plain_ask result (vote_body name revision (view value.now)) }
+{
+    let digest = digest_of(value)?;
+    let approve = vote_of(value)?;
+    if has_no_other(Shape::VoteBody, value) {
+        Ok(Ask::Vote {
+            name,
+            revision,
+            digest,
+            approve,
+        })
+    } else {
+        Err(LineFault::NotARequest)
+    }
+}
+
+/// The enrolment that a body asks: an object of just `user`, `team`, `roles` and `digest`, each as in a line.
+///
+/// # Errors
+///
+/// `NotARequest` where it is none, also where it is no JSON; `NoMemory`, which may stand in place of any answer.
+pub fn read_enrol(alloc: Global, body: &[u8]) -> Result<Ask, LineFault>
+    ensures { Gives plain_ask result (enrol_in body.now) }
+{
+    let value = value_of(alloc, body)?;
+    enrol_at(alloc, &value)
+}
+
+/// The vote on this revision that a body asks: an object of just `digest` and `vote`, each as in a line.
+///
+/// # Errors
+///
+/// `NotARequest` where it is none, also where it is no JSON; `NoMemory`, which may stand in place of any answer.
+pub fn read_vote(
+    alloc: Global,
+    name: ProfileName,
+    revision: u32,
+    body: &[u8],
+) -> Result<Ask, LineFault>
+    ensures { Gives plain_ask result (vote_in name revision body.now) }
+{
+    let value = value_of(alloc, body)?;
+    vote_at(name, revision, &value)
+}

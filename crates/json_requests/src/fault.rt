@@ -1,0 +1,29 @@
+//! Why no request was read of a line.
+
+use std::alloc::AllocError;
+use thiserror::Error;
+
+/// Why no request was read of a line.
+#[derive(Clone, Copy, Debug, Drop, Error)]
+pub enum LineFault {
+    /// The line isn't JSON.
+    #[error("not-json")]
+    NotJson,
+    /// It is JSON, and not of the form of a request.
+    #[error("not-a-request")]
+    NotARequest,
+    /// There was no memory to read it. No contract can say when.
+    #[error("memory")]
+    NoMemory,
+}
+
+impl From<AllocError> for LineFault {
+    ghost use Rattle.std.specs.Prelude.{◌≡◌};
+    ghost use Rattle.json_requests.specs.declared.fault.LineFault.TheVariants.{NoMemory};
+
+    ghost from_gives = { λ _ e. e ≡ NoMemory };
+
+    fn from(_error: AllocError) -> LineFault {
+        LineFault::NoMemory
+    }
+}

@@ -1,0 +1,149 @@
+//! The members of a request's line, each of its form.
+
+ghost use Rattle.std.specs.Prelude.{◌≡◌, codes, option_and_then, option_map};
+ghost use Rattle.serde_json.specs.Find.{as_str};
+ghost use Rattle.serde_json.specs.View.{view, items_view};
+ghost use Rattle.review_policy.specs.WordTables.{role_of};
+ghost use Rattle.json_requests.specs.Faults.{Gives};
+ghost use Rattle.json_requests.specs.Members.{text_at, word_at, token_at, name_at, revision_at, digest_at, vote_at, roles_of, roles_at};
+
+use crate::fault::LineFault;
+use review_policy::{ProfileName, Role, Roles, Token, Word, WordFault, digest_from_hex};
+use serde_json::Value;
+use std::alloc::Global;
+
+/// The text under a name.
+fn text_of<'v>(value: &'v Value, name: &str) -> Option<&'v str>
+    ensures { option_map (λ text. text.now) result ≡ text_at name.now (view value.now) }
+{
+    value.get(name).and_then(Value::as_str)
+}
+
+/// The word under a name.
+#[tactic(auto, unfolding(crate::specs::Members::word_at))]
+pub(crate) fn word_of(alloc: Global, value: &Value, name: &str) -> Result<Word, LineFault>
+    ensures { Gives (λ word. word) result (word_at name.now (view value.now)) }
+{
+    match text_of(value, name) {
+        None => Err(LineFault::NotARequest),
+        Some(text) => match Word::new(alloc, text) {
+            Ok(word) => Ok(word),
+            Err(WordFault::NotAWord) => Err(LineFault::NotARequest),
+            Err(WordFault::NoMemory) => Err(LineFault::NoMemory),
+        },
+    }
+}
+
+/// The token that the caller shows.
+#[tactic(auto, unfolding(crate::specs::Members::token_at))]
+pub(crate) fn token_of(alloc: Global, value: &Value) -> Result<Token, LineFault>
+    ensures { Gives (λ token. token) result (token_at (view value.now)) }
+{
+    match text_of(value, "token") {
+        None => Err(LineFault::NotARequest),
+        Some(text) => match Token::new(alloc, text) {
+            Ok(token) => Ok(token),
+            Err(WordFault::NotAWord) => Err(LineFault::NotARequest),
+            Err(WordFault::NoMemory) => Err(LineFault::NoMemory),
+        },
+    }
+}
+
+/// The profile that is named.
+#[tactic(auto, unfolding(crate::specs::Members::name_at))]
+pub(crate) fn name_of(alloc: Global, value: &Value) -> Result<ProfileName, LineFault>
+    ensures { Gives (λ name. name) result (name_at (view value.now)) }
+{
+    let team = word_of(alloc, value, "team")?;
+    let profile = word_of(alloc, value, "profile")?;
+    Ok(ProfileName { team, profile })
+}
+
+/// The number of a revision, 1 to 9,999.
+#[tactic(auto, unfolding(crate::specs::Members::revision_at))]
+pub(crate) fn revision_of(value: &Value) -> Result<u32, LineFault>
+    ensures { Gives (λ number. number) result (revision_at (view value.now)) }
+{
+    match value.get("revision").and_then(Value::as_u64) {
+        None => Err(LineFault::NotARequest),
+        Some(number) => {
+            if 1 <= number && number <= 9999 {
+                Ok(number as u32)
+            } else {
+                Err(LineFault::NotARequest)
+            }
+        }
+    }
+}
+
+/// A digest of 64 lower-case hexadecimal digits.
+#[tactic(auto, unfolding(crate::specs::Members::digest_at))]
+pub(crate) fn digest_of(value: &Value) -> Result<[u8; 32], LineFault>
+    ensures { Gives (λ digest. digest) result (digest_at (view value.now)) }
+{
+    match text_of(value, "digest") {
+        None => Err(LineFault::NotARequest),
+        Some(text) => match digest_from_hex(text) {
+            Some(digest) => Ok(digest),
+            None => Err(LineFault::NotARequest),
+        },
+    }
+}
+
+/// Whether a vote approves.
+#[tactic(auto, unfolding(crate::specs::Members::vote_at))]
+pub(crate) fn vote_of(value: &Value) -> Result<bool, LineFault>
+    ensures { Gives (λ approve. approve) result (vote_at (view value.now)) }
+{
+    match text_of(value, "vote") {
+        Some("approve") => Ok(true),
+        Some("reject") => Ok(false),
+        _ => Err(LineFault::NotARequest),
+    }
+}
+
+/// The bytes of a document.
+pub(crate) fn document_of(alloc: Global, value: &Value) -> Result<Vec<u8>, LineFault>
+    ensures { Gives (λ document. document.items) result
+        (text_at (codes "document") (view value.now)) }
+{
+    match text_of(value, "document") {
+        None => Err(LineFault::NotARequest),
+        Some(text) => Ok(Vec::from_slice(alloc, text.as_bytes())?),
+    }
+}
+
+// The role whose word a value is.
+fn role_of(value: &Value) -> Option<Role>
+    ensures { result ≡ option_and_then role_of (as_str (view value.now)) }
+{
+    value.as_str().and_then(Role::from_word)
+}
+
+// The set of the roles whose words are listed.
+fn roles_in(values: &[Value]) -> Option<Roles>
+    ensures { result ≡ roles_of (items_view values.now) }
+{
+    let mut roles = Roles::empty();
+    for value in values {
+        match role_of(value) {
+            Some(role) => roles = roles.with(role),
+            None => return None,
+        }
+    }
+    Some(roles)
+}
+
+/// The roles that are listed.
+#[tactic(auto, unfolding(crate::specs::Members::roles_at))]
+pub(crate) fn roles_of(value: &Value) -> Result<Roles, LineFault>
+    ensures { Gives (λ roles. roles) result (roles_at (view value.now)) }
+{
+    match value.get("roles") {
+        Some(Value::Array(values)) => match roles_in(values) {
+            Some(roles) => Ok(roles),
+            None => Err(LineFault::NotARequest),
+        },
+        _ => Err(LineFault::NotARequest),
+    }
+}

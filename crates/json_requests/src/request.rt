@@ -1,0 +1,64 @@
+//! The request of a line.
+
+ghost use Rattle.std.specs.Prelude.{◌≤◌, length};
+ghost use Rattle.serde_json.specs.View.{view};
+ghost use Rattle.json_requests.specs.Faults.{Gives, Reads};
+ghost use Rattle.json_requests.specs.Plain.{plain};
+ghost use Rattle.json_requests.specs.Requests.{asked, kind_at, request_at, request_in};
+
+use crate::ask::ask_of;
+use crate::fault::LineFault;
+use crate::kind::Kind;
+use crate::member::token_of;
+use crate::shape::{Shape, has_no_other};
+use review_policy::Request;
+use serde_json::Value;
+use std::alloc::Global;
+
+// The kind that a line names.
+#[tactic(auto, unfolding(crate::specs::Requests::kind_at))]
+fn kind_of(value: &Value) -> Result<Kind, LineFault>
+    ensures { Gives (λ kind. kind) result (kind_at (view value.now)) }
+{
+    match value
+        .get("ask")
+        .and_then(Value::as_str)
+        .and_then(Kind::from_word)
+    {
+        Some(kind) => Ok(kind),
+        None => Err(LineFault::NotARequest),
+    }
+}
+
+// The request that a value is.
+#[tactic(auto, unfolding(crate::specs::Requests::request_at))]
+fn request_of(alloc: Global, value: &Value) -> Result<Request, LineFault>
+    ensures { Gives plain result (request_at (view value.now)) }
+{
+    let kind = kind_of(value)?;
+    if has_no_other(Shape::Line(kind), value) {
+        let token = token_of(alloc, value)?;
+        let ask = ask_of(alloc, kind, value)?;
+        Ok(Request { token, ask })
+    } else {
+        Err(LineFault::NotARequest)
+    }
+}
+
+/// The request of a line, which is passed without its line feed. The length of the line isn't looked at: one that is
+/// longer than 300,000 bytes is answered as [`BadLine::TooLong`](crate::BadLine) before it gets here.
+pub fn read_line(alloc: Global, line: &[u8]) -> Result<Request, LineFault>
+    ensures request { Reads result (request_in line.now) }
+    ensures asked { length line.now ≤ 300000 → Reads result (asked line.now) }
+{
+    match Value::from_slice(alloc, line) {
+        Ok(value) => request_of(alloc, &value),
+        Err(error) => {
+            if error.is_memory() {
+                Err(LineFault::NoMemory)
+            } else {
+                Err(LineFault::NotJson)
+            }
+        }
+    }
+}

@@ -1,0 +1,9 @@
+//! Tests of the libraries that need no store, where no command, no line and no exchange shows what is tried. What documents read
+//! as, what requests are answered and what is refused over HTTP stands in the transcripts of `office_transcripts`.
+#![tactic(auto)]
+
+pub mod lines;
+#[cfg(test)]
+mod profiles;
+#[cfg(test)]
+mod requests;

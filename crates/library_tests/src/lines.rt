@@ -1,0 +1,7 @@
+//! The lines of a stream, told one after the other, and readers and writers that fail midway.
+
+#[cfg(test)]
+mod counted;
+#[cfg(test)]
+mod tests;
+pub(crate) mod told;

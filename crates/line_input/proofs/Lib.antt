@@ -1,4 +1,0 @@
-pub mod BufferFacts
-pub mod HandedFacts
-pub mod HeldFacts
-pub mod LineFacts

@@ -1,5 +1,0 @@
-use Rattle.line_input.proofs.HandedFacts.{handed_none}
-use Rattle.line_input.proofs.lines.Lines.new.Goals as goal
-
-pub returns-clause-handed : goal.returns-clause-handed
-returns-clause-handed c = λ stream. handed_none stream

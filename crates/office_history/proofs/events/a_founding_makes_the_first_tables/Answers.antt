@@ -1,5 +1,0 @@
-use Rattle.office_history.proofs.EventFacts.{founding_tables}
-use Rattle.office_history.proofs.events.a_founding_makes_the_first_tables.Goals as goal
-
-pub returns : goal.returns
-returns c = founding_tables

@@ -1,5 +1,0 @@
-use Rattle.office_history.proofs.LookUps.{found_is}
-use Rattle.office_history.proofs.reads.a_submitted_profile_has_a_revision.Goals as goal
-
-pub returns : goal.returns
-returns c = found_is

@@ -1,5 +1,0 @@
-use Rattle.office_history.proofs.StandingFacts.{by_voter}
-use Rattle.office_history.proofs.standing.standing_votes_are_by_voter.Goals as goal
-
-pub returns : goal.returns
-returns c = by_voter

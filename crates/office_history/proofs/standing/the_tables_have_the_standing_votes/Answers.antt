@@ -1,5 +1,0 @@
-use Rattle.office_history.proofs.StandingFacts.{standing_is}
-use Rattle.office_history.proofs.standing.the_tables_have_the_standing_votes.Goals as goal
-
-pub returns : goal.returns
-returns c = standing_is

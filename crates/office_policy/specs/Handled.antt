@@ -1,0 +1,82 @@
+-- What a request leaves of an office, and what it is answered.
+use Rattle.std.specs.Prelude.{◌⊎◌, ◌+◌, ◌-◌, ◌^◌, ◌≤◌, ℕ, min, Bool, true, false, ◌∷◌, Some, None, IsTrue}
+use Rattle.review_policy.specs.declared.ask.Ask.{Ask}
+use Rattle.review_policy.specs.declared.ask.Ask.TheVariants as ask
+use Rattle.review_policy.specs.declared.ask.Request.{Request}
+use Rattle.review_policy.specs.declared.answer.Answer.{Answer}
+use Rattle.review_policy.specs.declared.answer.Answer.TheVariants.{Done, Denied, Fault}
+use Rattle.office_policy.specs.History.{History}
+use Rattle.office_policy.specs.Verdict.{Verdict, accepted, denied, verdict}
+use Rattle.office_policy.specs.Runs.{IsAnswer, history_after}
+use Rattle.office_policy.specs.Headline.{GivesOutApproved}
+use Rattle.office_policy.specs.Meaning.{Meaning}
+
+-- whether what is asked changes nothing, whatever it is answered
+abbrev pub only_reads : Ask → Bool
+only_reads (ask.Show p n) = true
+only_reads (ask.Sheet p n) = true
+only_reads (ask.List team) = true
+only_reads (ask.Fetch p) = true
+only_reads _ = false
+
+-- this holds where nothing was changed: what was asked was refused, met a fault, or only reads
+abbrev pub UnlessChanged : Ask → Answer → Type 0 → Type 0
+UnlessChanged a (Done reply) P = IsTrue (only_reads a) → P
+UnlessChanged a (Denied denial fault) P = P
+UnlessChanged a (Fault fault) P = P
+
+-- this holds where no fault was answered
+abbrev pub UnlessFaulty : Answer → Type 0 → Type 0
+UnlessFaulty (Done reply) P = P
+UnlessFaulty (Denied denial fault) P = P
+UnlessFaulty (Fault fault) P = Unit {0}
+
+-- a count of faults rose, or stands at the greatest u64
+abbrev pub HasRisen : ℕ → ℕ → Type 0
+HasRisen old new = min (old + 1) (2 ^ 64 - 1) ≤ new
+
+module _ {X : Type 0} (m : Meaning X) where
+  -- what is left is the office of the history with the event of the verdict, where it has one
+  abbrev pub AreWithEvent : History → Verdict → m.Left → Type 0
+  AreWithEvent h (accepted reply (Some e)) left = m.are_of (e ∷ h) left
+  AreWithEvent h (accepted reply None) left = ⊥
+  AreWithEvent h (denied denial fault) left = ⊥
+
+  -- a crash leaves the office of this history and no other
+  abbrev pub LeavesOnly : History → X → Type 0
+  LeavesOnly h x = (left : m.Left) → m.may_leave x left → m.are_of h left
+
+  -- it is open, and a crash leaves what it is
+  pub record Stands (h : History) (x : X) : Type 0 where
+    pub is_of : m.is_of h x
+    pub is_open : m.is_open x
+    pub leaves : LeavesOnly h x
+
+  -- what a call leaves of an office, whatever it was asked
+  pub record Survives (old new : X) : Type 0 where
+    -- what is clean was clean before
+    pub clean : m.is_clean new → m.is_clean old
+    -- no fault is forgotten
+    pub counts : m.faults old ≤ m.faults new
+    -- only a fault shuts it
+    pub closes : m.is_clean new → m.is_open old → m.is_open new ⊎ HasRisen (m.faults old) (m.faults new)
+    -- and what is open was open before
+    pub shut : m.is_clean new → m.is_open new → m.is_open old
+
+  -- a request was handled, and answered by this
+  pub record IsHandled (old new : X) (request : Request) (told : Answer) : Type 0 where
+    pub survives : Survives old new
+    -- the answer is that of the verdict, or a fault of memory, of the disk or of room on it
+    pub answer : (h : History) → m.is_of h old → m.is_clean new → IsAnswer h request told
+    -- what it gives out was approved: bytewise, by others, and by as many as its widening asked for
+    pub approved : (h : History) → m.is_of h old → m.is_clean new → GivesOutApproved h request told
+    -- the office is of the history with the event of what was carried out
+    pub office : (h : History) → m.is_of h old → m.is_of (history_after h request told) new
+    -- and stands so where no fault was answered
+    pub stands : (h : History) → m.is_of h old → m.is_clean new
+        → UnlessFaulty told (Stands (history_after h request told) new)
+    -- where nothing was changed it has what it had, whatever that is
+    pub kept : m.is_clean new → UnlessChanged request.ask told (m.keeps old new)
+    -- a crash may leave what it could leave before, or the office with the event of the verdict, where it has one
+    pub crash : (h : History) → m.is_of h old → m.is_clean new → (left : m.Left) → m.may_leave new left
+        → m.may_leave old left ⊎ AreWithEvent h (verdict h request) left

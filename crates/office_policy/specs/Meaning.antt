@@ -1,0 +1,25 @@
+-- What an office is to those who see no store.
+use Rattle.std.specs.Prelude.{ℕ}
+use Rattle.office_policy.specs.History.{History}
+use Rattle.office_policy.specs.Lawful.{IsLawfulHistory}
+
+-- what is meant by a value that handles requests
+pub record Meaning (X : Type 0) : Type 1 where
+  -- what it keeps its tables in has returned what was written
+  pub is_clean : X → Type 0
+  -- no fault has shut it
+  pub is_open : X → Type 0
+  -- how many times what it keeps its tables in has failed or refused, up to the greatest u64
+  pub faults : X → ℕ
+  -- it is the office of this history, unless a fault has shut it
+  pub is_of : History → X → Type 0
+  -- the second has what the first had, unless a fault has shut it
+  pub keeps : X → X → Type 0
+  -- what may be left of it after a crash, and when that is the office of a history
+  pub Left : Type 0
+  pub may_leave : X → Left → Type 0
+  pub are_of : History → Left → Type 0
+  -- the laws of these
+  pub lawful : (h : History) (x : X) → is_of h x → IsLawfulHistory h
+  pub keeps_itself : (x : X) → keeps x x
+  pub keeps_on : (x y z : X) → keeps x y → keeps y z → keeps x z

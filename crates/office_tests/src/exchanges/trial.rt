@@ -1,0 +1,98 @@
+// An office in memory, whose exchanges are compared.
+
+use crate::exchanges::messages::{DONE, ENROLMENT};
+use crate::fake_streams::{Sink, Taking};
+use crate::offices::trial_office;
+use desk_http::{HttpFault, serve_one};
+use http_requests::OfficeRouter;
+use office_desk::Office;
+use sqlite::MemStore;
+use std::alloc::Global;
+use std::io::{Read, Write};
+use std::process::Abort;
+use std::test::Fail;
+use streams::Counted;
+
+// What came of an exchange.
+#[derive(Clone, Copy)]
+pub struct Exchange {
+    pub served: Result<u16, HttpFault>,
+    // How often the reader was called.
+    pub calls: u64,
+    // How often the reader failed, and the writer.
+    pub faults: (u64, u64),
+}
+
+#[derive(Drop)]
+pub struct Trial {
+    pub alloc: Global,
+    pub office: Office<MemStore>,
+    router: OfficeRouter,
+}
+
+impl Trial {
+    // One in which root may enrol users.
+    pub(crate) fn new(alloc: Global) -> Result<Trial, Fail> {
+        let office = trial_office(alloc)?;
+        let router = OfficeRouter::new(alloc)?;
+        Ok(Trial {
+            alloc,
+            office,
+            router,
+        })
+    }
+
+    // One in which root has enrolled ann.
+    pub(crate) fn with_ann(rt: &impl Abort, alloc: Global) -> Result<Trial, Fail> {
+        let mut trial = Trial::new(alloc)?;
+        trial.assert_served(
+            rt,
+            ENROLMENT.as_bytes(),
+            Taking::All,
+            Ok(200),
+            DONE.as_bytes(),
+        );
+        Ok(trial)
+    }
+
+    // Serves an exchange.
+    pub(crate) fn serve<R: Read + Drop, W: Write>(&mut self, input: R, output: &mut W) -> Exchange {
+        let mut reader = Counted::new(input);
+        let mut writer = Counted::new(output);
+        let served = serve_one(
+            &mut self.office,
+            self.alloc,
+            &self.router,
+            &mut reader,
+            &mut writer,
+        );
+        Exchange {
+            served,
+            calls: reader.calls(),
+            faults: (reader.faults(), writer.faults()),
+        }
+    }
+
+    // That an exchange is served so, and that this is written, to a writer that takes its bytes so. Gives how often the
+    // reader was called.
+    pub(crate) fn assert_served<R: Read + Drop>(
+        &mut self,
+        rt: &impl Abort,
+        input: R,
+        taking: Taking,
+        served: Result<u16, HttpFault>,
+        written: &[u8],
+    ) -> u64 {
+        let mut output = Sink::new(Vec::new(self.alloc), taking);
+        let exchange = self.serve(input, &mut output);
+        let faults = match served {
+            Err(HttpFault::Read) => (1, 0),
+            Err(HttpFault::Write { status: _ }) => (0, 1),
+            _ => (0, 0),
+        };
+        assert_eq!(rt; exchange.served, served);
+        assert_eq!(rt; exchange.faults, faults);
+        assert_eq!(rt; output.held.as_slice(), written);
+        exchange.calls
+    }
+}

@@ -1,0 +1,36 @@
+// What the desk does in an office.
+
+use desk::{DeskFault, desk};
+use office_policy::Handler;
+use std::alloc::Global;
+use std::io::{Read, Write};
+use streams::Counted;
+
+// How the desk ended.
+#[derive(Clone, Copy)]
+pub struct End {
+    pub result: Result<(), DeskFault>,
+    // How often the reader was called, how many of these calls failed, and how many of those of the writer.
+    pub reads: u64,
+    pub failed_reads: u64,
+    pub failed_writes: u64,
+}
+
+// Has the desk serve a stream, and hands the writer back.
+pub(crate) fn serve<H: Handler, R: Read + Drop, W: Write + Drop>(
+    alloc: Global,
+    office: &mut H,
+    reader: R,
+    writer: W,
+) -> (End, W) {
+    let mut reader = Counted::new(reader);
+    let mut writer = Counted::new(writer);
+    let result = desk(office, alloc, &mut reader, &mut writer);
+    let end = End {
+        result,
+        reads: reader.calls(),
+        failed_reads: reader.faults(),
+        failed_writes: writer.faults(),
+    };
+    (end, writer.into_inner())
+}

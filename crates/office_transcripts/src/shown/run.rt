@@ -1,0 +1,25 @@
+//! The program over a command line.
+
+use anyhow::Result;
+use office_commands::run_here;
+use std::alloc::{AllocError, Global};
+
+// The words of a command line, which spaces part. The word `''` is empty.
+fn words_of(alloc: Global, line: &str) -> Result<Vec<String>, AllocError> {
+    let mut words = Vec::new(alloc);
+    for word in line.split_whitespace() {
+        let word = if word == "''" { "" } else { word };
+        words.push(String::from_str(alloc, word)?)?;
+    }
+    Ok(words)
+}
+
+/// Writes what `office` prints over this input, standard output before standard error, and gives its status.
+pub fn say_line(rt: &HostRuntime, line: &str, input: &[u8], said: &mut Vec<u8>) -> Result<u8> {
+    let words = words_of(rt.alloc(), line)?;
+    let mut input = input;
+    let mut errors = Vec::new(rt.alloc());
+    let status = run_here(rt, &words, &mut input, said, &mut errors);
+    said.extend_from_slice(&errors)?;
+    Ok(status)
+}

@@ -1,0 +1,5 @@
+pub mod WholeFacts
+pub mod BufferFacts
+pub mod HandedFacts
+pub mod HeldFacts
+pub mod LineFacts

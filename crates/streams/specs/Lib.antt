@@ -1,0 +1,9 @@
+pub mod Counts
+pub mod Some
+pub mod Steps
+pub mod UpTo
+pub mod Filled
+pub mod Found
+pub mod Handed
+pub mod Held
+pub mod Lines
