@@ -1,4 +1,4 @@
-//! The commands over the host: the one place where they are made for its files and its network.
+//! The commands over the host: its files, its databases and its network.
 
 use crate::run::run_words;
 use std::io::{Read, Write};
