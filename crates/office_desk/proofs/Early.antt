@@ -18,6 +18,13 @@ named_before n [] passing later d none e = let never : Ok tt ≡ Err d = sym (no
 named_before n ((rule, true) ∷ before) passing later d none e = e
 named_before n ((rule, false) ∷ before) passing later d none e = named_before (suc n) before passing later d none e
 
+-- lists that begin alike are decided alike where what follows is
+pub alike_behind : (n : ℕ) (before later other : List (Rule × Bool)) → ((m : ℕ) → first_from m later ≡ first_from m other)
+    → first_from n (before ++ later) ≡ first_from n (before ++ other)
+alike_behind n [] later other same = same n
+alike_behind n ((rule, true) ∷ before) later other same = refl
+alike_behind n ((rule, false) ∷ before) later other same = alike_behind (suc n) before later other same
+
 -- a rule that is named before others that pass is named before any others
 pub refused_early : (before passing later : List (Rule × Bool)) (d : Denial) → any_refuses passing ≡ false → first_denial (before ++ passing) ≡ Err d
     → first_denial (before ++ later) ≡ Err d

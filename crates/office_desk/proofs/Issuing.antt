@@ -1,14 +1,15 @@
 -- How an issue meets its verdict.
-use Rattle.std.proofs.Common.{◌≡◌, ◌∙◌, ◌↔◌, ℕ, List, Bool, true, false, not, Option, Some, None, Ok, Err, take, drop, refl, sym, ap, subst}
+use Rattle.std.proofs.Common.{arith, ◌≡◌, ◌∙◌, ◌↔◌, ℕ, List, Bool, true, false, not, ◌&&◌, Option, Some, None, Ok, Err, take, drop, refl, sym, ap, subst}
+use Rattle.std.specs.Prelude.{nat_lt, ◌==◌}
 use Rattle.review_policy.specs.declared.ask.Ask.TheVariants as ask
 use Rattle.review_policy.specs.declared.ask.ProfileName.{ProfileName}
 use Rattle.review_policy.specs.declared.answer.Reply.TheVariants as reply
 use Rattle.review_policy.specs.declared.denial.Denial.{Denial}
 use Rattle.review_policy.specs.declared.denial.Need.{Need}
-use Rattle.review_policy.specs.declared.denial.Need.TheVariants.{One}
+use Rattle.review_policy.specs.declared.denial.Need.TheVariants.{One, TwoWithSecurity}
 use Rattle.review_policy.specs.declared.facts.IssueFacts.{IssueFacts}
 use Rattle.review_policy.specs.declared.revision.State.TheVariants.{Open}
-use Rattle.review_policy.specs.Rules.{first_denial, issue_rules, is_open}
+use Rattle.review_policy.specs.Rules.{first_denial, first_from, issue_rules, is_open}
 use Rattle.office_tables.specs.declared.row.UserRow.{UserRow}
 use Rattle.office_tables.specs.declared.row.RevisionRow.{RevisionRow}
 use Rattle.office_tables.specs.declared.listed.Tally.{Tally}
@@ -33,9 +34,9 @@ use Rattle.office_policy.proofs.LookUps.{author_is}
 use Rattle.office_desk.specs.declared.baseline.Comparison.{Comparison}
 use Rattle.office_desk.specs.declared.issue.Looked.{Looked}
 use Rattle.office_desk.specs.Compared.{compared_at}
-use Rattle.office_desk.specs.Issuing.{looked_at, one_approval}
+use Rattle.office_desk.specs.Issuing.{deciding_need, is_enough_for_any, looked_at, one_approval}
 use Rattle.office_desk.proofs.Carrying.{Adds}
-use Rattle.office_desk.proofs.Early.{refused_early}
+use Rattle.office_desk.proofs.Early.{alike_behind, refused_early}
 use Rattle.office_desk.proofs.Handling.{denied_is, allowed_is}
 
 -- ---- what is looked up
@@ -62,6 +63,38 @@ facts_early caller l = issue_facts (Some caller) l.revision l.by_author (one_app
 
 abbrev pub facts_of_caller : UserRow → IssueFacts
 facts_of_caller caller = record (issue_facts (Some caller) None false (one_approval 0) One false) { state = Some Open }
+
+-- ---- a need that can't matter
+
+both_not : (a b : Bool) → (not a && not b) ≡ true → (a ≡ false) × (b ≡ false)
+both_not false false e = (refl, refl)
+both_not false true e = absurd cc
+both_not true b e = absurd cc
+
+fewer : (a : ℕ) → nat_lt a 2 ≡ false → nat_lt a 1 ≡ false
+fewer a e = grind arith
+
+-- behind the rejections two needs decide alike where there is enough for any
+enough_alike : (caller : UserRow) (l : Looked) → is_enough_for_any l.tally ≡ true → (m : ℕ)
+    → first_from m (drop 6 (issue_rules (facts_by caller l One))) ≡ first_from m (drop 6 (issue_rules (facts_by caller l TwoWithSecurity)))
+enough_alike caller l enough m =
+    let told = both_not (nat_lt l.tally.approvals 2) (l.tally.secure == 0) enough in
+    rw told.0 (rw told.1 (rw (fewer l.tally.approvals told.0) refl))
+
+decided_by : (caller : UserRow) (l : Looked) (need : Need) (b : Bool) → is_enough_for_any l.tally ≡ b
+    → first_denial (issue_rules (facts_by caller l (deciding_need l.tally need))) ≡ first_denial (issue_rules (facts_by caller l need))
+decided_by caller l need false e = rw e refl
+decided_by caller l One true e = rw e refl
+decided_by caller l TwoWithSecurity true e =
+    rw e (alike_behind 1 (take 6 (issue_rules (facts_by caller l One))) (drop 6 (issue_rules (facts_by caller l One)))
+    (drop 6 (issue_rules (facts_by caller l TwoWithSecurity))) (enough_alike caller l e))
+
+-- the rules decide by it as by the need itself
+pub decided_alike : (caller : UserRow) (l : Looked) (need : Need)
+    → first_denial (issue_rules (facts_by caller l (deciding_need l.tally need))) ≡ first_denial (issue_rules (facts_by caller l need))
+decided_alike caller l need = decided_by caller l need (is_enough_for_any l.tally) refl
+
+-- ---- how it is decided
 
 is_so : (b : Bool) → not b ≡ false → b ≡ true
 is_so true e = refl
@@ -90,29 +123,37 @@ module _ (h : History) (caller : UserRow) (p : ProfileName) (n : ℕ) where
         denied_by d (refused_early (take 6 all) (drop 6 (issue_rules (facts_early caller l))) (drop 6 all) d refl e)
 
     -- the need of the revision
-    module _ (r : RevisionRow) (there : l.revision ≡ Some r) (c : Comparison) (is_compared : c ≡ compared_at h p.team) (need : Need)
-        (is_need : need ≡ need_against c.listed (document_or_closed c.adopted) (document_of r.body)) where
+    module _ (r : RevisionRow) (there : l.revision ≡ Some r) (c : Comparison) (is_compared : c ≡ compared_at h p.team) (asked : Need)
+        (is_asked : asked ≡ deciding_need l.tally (need_against c.listed (document_or_closed c.adopted) (document_of r.body))) where
       row_is : revision_of h p n ≡ Some r
       row_is = sym (ap (λ k. k.revision) is) ∙ there
 
+      abbrev need : Need
+      need = need_against c.listed (document_or_closed c.adopted) (document_of r.body)
+
       need_is : need ≡ need_at h p n
       need_is =
-          is_need ∙ ap (λ k. need_against k.listed (document_or_closed k.adopted) (document_of r.body)) is_compared
+          ap (λ k. need_against k.listed (document_or_closed k.adopted) (document_of r.body)) is_compared
           ∙ ap (need_of_row h p.team) (sym row_is)
 
-      pub refused_by_need : (d : Denial) → first_denial (issue_rules (facts_by caller l need)) ≡ Err d
+      decides : first_denial (issue_rules (facts_by caller l (need_at h p n))) ≡ first_denial (issue_rules (facts_by caller l asked))
+      decides =
+          sym
+          (ap (λ k. first_denial (issue_rules (facts_by caller l k))) is_asked ∙ decided_alike caller l need
+          ∙ ap (λ k. first_denial (issue_rules (facts_by caller l k))) need_is)
+
+      pub refused_by_need : (d : Denial) → first_denial (issue_rules (facts_by caller l asked)) ≡ Err d
           → verdict_of h (Some caller) (ask.Issue p n) ≡ denied d None
-      refused_by_need d e = denied_by d (subst (λ k. first_denial (issue_rules (facts_by caller l k)) ≡ Err d) need_is e)
+      refused_by_need d e = denied_by d (decides ∙ e)
 
       -- an issue that is allowed adds its event
-      pub issue_adds : first_denial (issue_rules (facts_by caller l need)) ≡ Ok tt
+      pub issue_adds : first_denial (issue_rules (facts_by caller l asked)) ≡ Ok tt
           → Adds h (verdict_of h (Some caller) (ask.Issue p n)) (reply.Issued r.digest) (Into (with_issued p n))
       issue_adds e =
-          let none = none_refuses 1 (issue_rules (facts_by caller l need)) e in
+          let allowed : first_denial (issue_rules (facts_by caller l (need_at h p n))) ≡ Ok tt = decides ∙ e in
+          let none = none_refuses 1 (issue_rules (facts_by caller l (need_at h p n))) allowed in
           let still_open : is_open (state_in (revision_of h p n)) ≡ true =
           subst (λ k. is_open (state_in k.revision) ≡ true) is (is_so (is_open (state_in l.revision)) none.1.1.1.1.0) in
-          let allowed : first_denial (issue_rules (facts_by caller l (need_at h p n))) ≡ Ok tt =
-          subst (λ k. first_denial (issue_rules (facts_by caller l k)) ≡ Ok tt) need_is e in
           record {
             event = issued caller.name p n;
             is =

@@ -1,5 +1,7 @@
 -- What is looked up for an issue, by looking back.
-use Rattle.std.specs.Prelude.{ℕ, List}
+use Rattle.std.specs.Prelude.{ℕ, List, Bool, not, nat_lt, ◌&&◌, ◌==◌, if◌then◌else◌}
+use Rattle.review_policy.specs.declared.denial.Need.{Need}
+use Rattle.review_policy.specs.declared.denial.Need.TheVariants.{One}
 use Rattle.review_policy.specs.declared.ask.ProfileName.{ProfileName}
 use Rattle.office_tables.specs.declared.listed.Tally.{Tally}
 use Rattle.office_policy.specs.History.{History}
@@ -20,3 +22,11 @@ looked_at h p n name = record {
 -- as many approvals as a revision needs that is no wider, and these rejections
 abbrev pub one_approval : (rejections : ℕ) → Tally
 one_approval rejections = record { approvals = 1; secure = 0; rejections = rejections }
+
+-- as many approvals as any revision needs, one of them with security
+abbrev pub is_enough_for_any : Tally → Bool
+is_enough_for_any tally = not (nat_lt tally.approvals 2) && not (tally.secure == 0)
+
+-- a need by which the rules decide as by this one: with enough for any it doesn't matter which
+abbrev pub deciding_need : Tally → Need → Need
+deciding_need tally need = if is_enough_for_any tally then One else need

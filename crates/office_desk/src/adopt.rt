@@ -8,9 +8,8 @@ ghost use Rattle.office_policy.specs.Facts.{adopt_facts};
 ghost use Rattle.office_policy.specs.Verdict.{verdict_of};
 ghost use Rattle.office_desk.specs.Carries.{CarriesOut};
 
-use crate::authored::authored;
 use crate::refusal::Refusal;
-use crate::rows::state_in;
+use crate::revisions::{authored, state_in};
 use office_store::put_baseline;
 use office_tables::UserRow;
 use review_policy::{AdoptFacts, ProfileName, Reply, Role, State, decide_adopt};

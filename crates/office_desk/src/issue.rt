@@ -1,26 +1,29 @@
 // Revisions that are issued.
 
-ghost use Rattle.std.specs.Prelude.{◌≡◌, Some, None, false};
+ghost use Rattle.std.specs.Prelude.{◌≡◌, Some, None, false, IfOk};
 ghost use Rattle.sqlite.specs.Held.{state};
 ghost use Rattle.review_policy.specs.declared.ask.Ask.TheVariants as ask;
 ghost use Rattle.review_policy.specs.declared.denial.Need.TheVariants as needs;
 ghost use Rattle.review_policy.specs.declared.revision.State.TheVariants as states;
 ghost use Rattle.office_store.specs.Shown.{IsIdle};
 ghost use Rattle.office_store.specs.Calls.{IsRead};
+ghost use Rattle.office_policy.specs.Baseline.{document_or_closed};
+ghost use Rattle.office_policy.specs.Documents.{document_of};
 ghost use Rattle.office_policy.specs.Facts.{issue_facts};
+ghost use Rattle.office_policy.specs.Need.{need_against};
 ghost use Rattle.office_policy.specs.Verdict.{verdict_of};
 ghost use Rattle.office_policy.specs.LooksBack.{LooksBack};
 ghost use Rattle.office_desk.specs.Carries.{CarriesOut};
-ghost use Rattle.office_desk.specs.Issuing.{looked_at, one_approval};
+ghost use Rattle.office_desk.specs.Issuing.{deciding_need, is_enough_for_any, looked_at, one_approval};
 
-use crate::baseline::{compared_with, need_of};
+use crate::baseline::{Comparison, compared_with, need_of};
 use crate::refusal::Refusal;
-use crate::rows::state_in;
+use crate::revisions::state_in;
 use office_store::{held, is_author, revision, set_issued, tally};
 use office_tables::{RevisionRow, StoreFault, Tally, UserRow};
-use review_policy::{IssueFacts, Need, ProfileName, Reply, Role, State, decide_issue};
+use review_policy::{IssueFacts, Need, ProfileName, Reply, Role, State, Text, decide_issue};
 use sqlite::{Alter, Connection};
-use std::alloc::Global;
+use std::alloc::{AllocError, Global};
 
 // What the rules ask of a revision, its profile and the caller, besides the need.
 #[derive(Drop)]
@@ -96,7 +99,30 @@ fn all_facts(caller: &UserRow, looked: &Looked, need: Need) -> IssueFacts
     }
 }
 
-// Issues a revision. Its need is worked out where nothing else refuses it.
+// Whether there are as many approvals as any revision needs, one of them with security.
+fn is_enough_for_any(tally: &Tally) -> bool
+    ensures { result ≡ is_enough_for_any tally.now }
+{
+    tally.approvals >= 2 && tally.secure > 0
+}
+
+// A need by which the rules decide as by that of the text, which is worked out only where it can matter.
+fn deciding_need(
+    alloc: Global,
+    tally: &Tally,
+    compared: &Comparison,
+    body: &Text,
+) -> Result<Need, AllocError>
+    ensures { IfOk result (λ need. need ≡ deciding_need tally.now
+        (need_against compared.now.listed (document_or_closed compared.now.adopted) (document_of body.now))) }
+{
+    if is_enough_for_any(tally) {
+        return Ok(Need::One);
+    }
+    need_of(alloc, compared, body)
+}
+
+// Issues a revision. Its need is asked for where nothing else refuses it.
 pub(crate) fn issue<S: Alter>(
     alloc: Global,
     conn: &mut Connection<S>,
@@ -114,7 +140,7 @@ pub(crate) fn issue<S: Alter>(
         unreachable!()
     };
     let compared = compared_with(alloc, conn, &name.team)?;
-    let need = need_of(alloc, &compared, &row.body)?;
+    let need = deciding_need(alloc, &looked.tally, &compared, &row.body)?;
     decide_issue(&all_facts(caller, &looked, need))?;
     set_issued(conn, name, number)?;
     Ok(Reply::Issued { digest: row.digest })

@@ -3,7 +3,6 @@
 
 mod adopt;
 mod answer;
-mod authored;
 mod baseline;
 mod caller;
 mod carry_out;
@@ -19,7 +18,7 @@ mod office;
 mod reading;
 mod refusal;
 pub mod reopening;
-mod rows;
+mod revisions;
 mod sheet;
 mod show;
 mod submit;

@@ -8,9 +8,8 @@ ghost use Rattle.office_policy.specs.Facts.{vote_facts, has_digest};
 ghost use Rattle.office_policy.specs.Verdict.{verdict_of};
 ghost use Rattle.office_desk.specs.Carries.{CarriesFor, Knows};
 
-use crate::authored::authored;
 use crate::refusal::Refusal;
-use crate::rows::state_in;
+use crate::revisions::{authored, state_in};
 use office_store::{Ballot, put_vote};
 use office_tables::{RevisionRow, UserRow};
 use review_policy::{ProfileName, Reply, Role, State, VoteFacts, decide_vote};

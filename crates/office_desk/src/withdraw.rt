@@ -9,7 +9,7 @@ ghost use Rattle.office_policy.specs.Verdict.{verdict_of};
 ghost use Rattle.office_desk.specs.Carries.{CarriesOut};
 
 use crate::refusal::Refusal;
-use crate::rows::state_in;
+use crate::revisions::state_in;
 use office_store::{revision, set_withdrawn};
 use office_tables::UserRow;
 use review_policy::{ProfileName, Reply, Role, State, WithdrawFacts, Word, decide_withdraw};

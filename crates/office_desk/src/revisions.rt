@@ -1,16 +1,28 @@
-// Revisions, with whether a user is an author of their profile.
+// What the rules ask of a revision: its state, and whether a user is an author of its profile.
 
+ghost use Rattle.std.specs.Prelude.{◌≡◌};
 ghost use Rattle.sqlite.specs.Held.{state};
 ghost use Rattle.office_store.specs.Calls.{IsRead};
 ghost use Rattle.office_store.specs.Shown.{IsIdle};
 ghost use Rattle.office_policy.specs.LooksBack.{LooksBack};
+ghost use Rattle.office_policy.specs.Revisions.{state_in};
 ghost use Rattle.office_desk.specs.Looked.{authored_at};
 
 use office_store::{is_author, revision};
 use office_tables::{RevisionRow, StoreFault};
-use review_policy::{ProfileName, Word};
+use review_policy::{ProfileName, State, Word};
 use sqlite::{Alter, Connection};
 use std::alloc::Global;
+
+// The state of a revision that is there.
+pub(crate) fn state_in(revision: &Option<RevisionRow>) -> Option<State>
+    ensures { result ≡ state_in revision.now }
+{
+    match revision {
+        Some(row) => Some(row.state),
+        None => None,
+    }
+}
 
 // A revision of a profile, and whether a user of that name is an author of the profile.
 pub(crate) fn authored<S: Alter>(

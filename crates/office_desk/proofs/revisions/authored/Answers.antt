@@ -1,7 +1,7 @@
 use Rattle.sqlite.specs.Held.{state}
 use Rattle.office_desk.proofs.Carrying.{read_left, read_both, second_fails}
 use Rattle.office_desk.proofs.LookedBack.{authored}
-use Rattle.office_desk.proofs.authored.authored.Goals as goal
+use Rattle.office_desk.proofs.revisions.authored.Goals as goal
 
 pub returns-in_err-is_author : goal.returns-in_err-is_author
 returns-in_err-is_author g c =
