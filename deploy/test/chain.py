@@ -158,6 +158,8 @@ class Chain:
         text = replaced(text, r"    # green .*", "".join(f"    {team} office_{n};\n" for team, n in (teams or {}).items()))
         servers = "".join(f"upstream office_{n} {{ server 127.0.0.1:{up}; }}\n" for n, up in enumerate(upstreams, 1))
         text = replaced(text, r"^upstream office_1 .*$", servers)
+        if len(upstreams) > 1:
+            text = replaced(text, r"proxy_pass http://office_1;", "return 403;")
         if unlimited:
             text = replaced(text, r"rate=\d+r/s", "rate=1000000r/s")
             text = replaced(text, r"burst=\d+", "burst=100000")
