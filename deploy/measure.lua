@@ -12,7 +12,11 @@ function request()
         return wrk.format("POST", target, { Authorization = "Bearer t-bea" }, os.getenv("OFFICE_VOTE"))
     end
     local team = target:match("^/issued/([a-z]+)/")
-    return wrk.format("GET", target, team and { Authorization = "Bearer t-" .. team .. "-host" })
+    local fields = { Connection = os.getenv("OFFICE_CONNECTION") }
+    if team then
+        fields.Authorization = "Bearer t-" .. team .. "-host"
+    end
+    return wrk.format("GET", target, fields)
 end
 
 function done(summary, latency, requests)
