@@ -20,6 +20,16 @@ NAME = os.path.basename(sys.argv[0])
 os.environ["PATH"] += ":/usr/sbin:/sbin"
 
 
+# Shows the use where it is asked for, or where the words aren't a program and numbers, at most this many with the script's name.
+def use(text, most):
+    if sys.argv[1:] in (["-h"], ["--help"]):
+        print(text)
+        sys.exit(0)
+    if len(sys.argv) > most or sys.argv[1:2] and sys.argv[1].startswith("-") or not all(word.isdigit() for word in sys.argv[2:]):
+        print(text, file=sys.stderr)
+        sys.exit(2)
+
+
 # Ends with 77 where a tool is missing.
 def need(*tools):
     for tool in tools:
