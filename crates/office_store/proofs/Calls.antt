@@ -24,20 +24,20 @@ use Rattle.office_store.specs.Steps.{AreSteps}
 use Rattle.office_store.specs.Calls.{Leaves, IsRead, IsWrite, Into}
 use Rattle.office_store.proofs.Committed.{trees_of, all_made, none_made, on_err}
 
-never_both : {P : Type 0} (b : Bool) → IsTrue b → b ≡ false → P
+pub never_both : {P : Type 0} (b : Bool) → IsTrue b → b ≡ false → P
 never_both true is_open shut = absurd cc
 never_both false is_open shut = absurd cc
 
 -- a connection that is open was open
-opened : (old new : Bool) → IsTrue new → (old ≡ false → new ≡ false) → IsTrue old
+pub opened : (old new : Bool) → IsTrue new → (old ≡ false → new ≡ false) → IsTrue old
 opened true new is_open shut = refl
 opened false new is_open shut = never_both new is_open (shut refl)
 
-by_open : (b : Bool) (P : Type 0) → (IsTrue b → P) → (b ≡ false → P) → P
+pub by_open : (b : Bool) (P : Type 0) → (IsTrue b → P) → (b ≡ false → P) → P
 by_open true P f g = f refl
 by_open false P f g = g refl
 
-if_open : {A : Type 0} (P Q : Type 0) (r : Result A StoreFault) (R : A → Type 0) → OnOk r (P × Q) → (P → IfOk r R) → IfOk r R
+pub if_open : {A : Type 0} (P Q : Type 0) (r : Result A StoreFault) (R : A → Type 0) → OnOk r (P × Q) → (P → IfOk r R) → IfOk r R
 if_open P Q (Ok a) R both f = f both.0
 if_open P Q (Err f) R both g = tt
 
@@ -100,13 +100,13 @@ rows_read items sql query given params old new r Found idle mode law survives ro
 -- ---- what is told of what was read
 
 module _ {X A : Type 0} (Tells : X → Result A StoreFault → Type 0) where
-  told_ok : (P : Type 0) (row : Result X StoreFault) (r : Result A StoreFault) → IsTold Tells row r → OnOk row P → OnOk r P
+  pub told_ok : (P : Type 0) (row : Result X StoreFault) (r : Result A StoreFault) → IsTold Tells row r → OnOk row P → OnOk r P
   told_ok P (Ok x) (Ok a) told p = p
   told_ok P (Ok x) (Err f) told p = tt
   told_ok P (Err e) (Ok a) told p = absurd cc
   told_ok P (Err e) (Err f) told p = tt
 
-  told_found : (FoundRow : X → Type 0) (Found : A → Type 0) (row : Result X StoreFault) (r : Result A StoreFault) → IsTold Tells row r → IfOk row FoundRow
+  pub told_found : (FoundRow : X → Type 0) (Found : A → Type 0) (row : Result X StoreFault) (r : Result A StoreFault) → IsTold Tells row r → IfOk row FoundRow
       → ((x : X) → FoundRow x → (a : A) → Tells x (Ok a) → Found a) → IfOk r Found
   told_found FoundRow Found (Ok x) (Ok a) told row f = f x row a told
   told_found FoundRow Found (Ok x) (Err e) told row f = tt
@@ -116,12 +116,12 @@ module _ {X A : Type 0} (Tells : X → Result A StoreFault → Type 0) where
   passed_on : (e : StoreFault) (r : Result A StoreFault) → r ≡ Err e → ◌≢◌ {A = Result X StoreFault} (Err e) (Err NotAnOffice) → r ≢ Err NotAnOffice
   passed_on e r told other same = other (let k : e ≡ NotAnOffice = cc in ap Err k)
 
-  told_formed : (FoundRow : X → Type 0) (row : Result X StoreFault) (r : Result A StoreFault) → IsTold Tells row r → row ≢ Err NotAnOffice → IfOk row FoundRow
+  pub told_formed : (FoundRow : X → Type 0) (row : Result X StoreFault) (r : Result A StoreFault) → IsTold Tells row r → row ≢ Err NotAnOffice → IfOk row FoundRow
       → ((x : X) → FoundRow x → Tells x (Err NotAnOffice) → ⊥) → r ≢ Err NotAnOffice
   told_formed FoundRow (Ok x) r told other row none same = none x row (subst (Tells x) same told)
   told_formed FoundRow (Err e) r told other row none same = passed_on e r told other same
 
-  told_shut : (Q : Type 0) (b : Bool) (row : Result X StoreFault) (r : Result A StoreFault) → IsTold Tells row r → OnOk row (IsTrue b × Q) → b ≡ false → row ≢ Err NotAnOffice → r ≢ Err NotAnOffice
+  pub told_shut : (Q : Type 0) (b : Bool) (row : Result X StoreFault) (r : Result A StoreFault) → IsTold Tells row r → OnOk row (IsTrue b × Q) → b ≡ false → row ≢ Err NotAnOffice → r ≢ Err NotAnOffice
   told_shut Q b (Ok x) r told both shut other = never_both b both.0 shut
   told_shut Q b (Err e) r told both shut other = passed_on e r told other
 
@@ -181,7 +181,7 @@ pub write_into : {S A : Type 0} (g : Ghosts S) (ss : List Statement) (old new : 
     → IsWrite old new r (Into change)
 write_into g ss old new r change steps = write_as old new r (AreSteps g ss) (Into change) (λ t u is. subst (λ v. AreSteps g ss t v) (sym is) (steps t))
 
-no_answer : {A : Type 0} (P : Type 0) (r : Result A StoreFault) (f : StoreFault) → r ≡ Err f → OnOk r P
+pub no_answer : {A : Type 0} (P : Type 0) (r : Result A StoreFault) (f : StoreFault) → r ≡ Err f → OnOk r P
 no_answer P (Ok a) f same = absurd cc
 no_answer P (Err e) f same = tt
 

@@ -54,7 +54,7 @@ with_revisions = created with_users (revisions_table 0)
 abbrev with_votes : Schema
 with_votes = created with_revisions (votes_table 0)
 
-abbrev with_baselines : Schema
+abbrev pub with_baselines : Schema
 with_baselines = created with_votes (baselines_table 0)
 
 office_made : MakesTable no_schema CREATE_OFFICE.now (office_table 0)
@@ -77,18 +77,18 @@ baselines_made : MakesTable with_votes CREATE_BASELINES.now (baselines_table 0)
 unfolding understood everything
 baselines_made = record { means = record { is = refl; plain = (refl, refl); unlisted = refl }; defined = refl; lacks = refl }
 
-holds_made : MakesTable with_baselines CREATE_HOLDS.now (holds_table 0)
+pub holds_made : MakesTable with_baselines CREATE_HOLDS.now (holds_table 0)
 unfolding understood everything
 holds_made = record { means = record { is = refl; plain = (refl, refl); unlisted = refl }; defined = refl; lacks = refl }
 
-abbrev with_states : Schema
+abbrev pub with_states : Schema
 with_states = indexed tables_schema (revisions_table 4) by_state
 
-states_made : MakesIndexOn tables_schema 2 (revisions_table 4) CREATE_BY_STATE.now by_state
+pub states_made : MakesIndexOn tables_schema 2 (revisions_table 4) CREATE_BY_STATE.now by_state
 unfolding understood everything
 states_made = record { there = refl; means = record { is = refl; plain = (refl, refl); unlisted = refl }; defined = refl }
 
-authors_made : MakesIndexOn with_states 2 (revisions_table 4) CREATE_BY_AUTHOR.now by_author
+pub authors_made : MakesIndexOn with_states 2 (revisions_table 4) CREATE_BY_AUTHOR.now by_author
 unfolding understood everything
 authors_made = record { there = refl; means = record { is = refl; plain = (refl, refl); unlisted = refl }; defined = refl }
 
@@ -98,10 +98,10 @@ authors_made = record { there = refl; means = record { is = refl; plain = (refl,
 abbrev no_tables : ℕ → Tables
 no_tables listed = record { listed = listed; users = λ name. None; revisions = λ p n. None; votes = λ p n voter. None; baselines = λ team. None; holds = λ p. false }
 
-abbrev none_stored : {K X : Type 0} {encode : X → Row} {is_at : K → X → Bool} {IsFormed : X → Type 0} (rows : List Row) → rows ≡ [] → Stores encode is_at IsFormed rows
+abbrev pub none_stored : {K X : Type 0} {encode : X → Row} {is_at : K → X → Bool} {IsFormed : X → Type 0} (rows : List Row) → rows ≡ [] → Stores encode is_at IsFormed rows
 none_stored rows is = record { entries = []; kept = record { kept = []; rows_are = is; apart = tt; same = IsPermutation-refl [] }; own_keys = tt; formed = tt }
 
-is_offices : IsTableOf office_schema 0 (office_table 0)
+pub is_offices : IsTableOf office_schema 0 (office_table 0)
 is_offices = record { there = refl; uncounted = refl; plainly = λ trees. refl; free = λ gone news keys. refl }
 
 abbrev office_terms : List Term

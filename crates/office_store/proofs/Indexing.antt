@@ -1,4 +1,4 @@
--- What a CREATE INDEX of a known text makes of a database whose tables are empty.
+-- What a CREATE INDEX of a known text makes of a database, whatever the rows of its tables.
 use Rattle.std.proofs.Common.{inl, inr, ◌≡◌, ℕ, List, [], ◌∷◌, Option, None, Some, Ok, Err, Result, sym, ap, subst, ◌∙◌}
 use Rattle.std.specs.Prelude.{slice_get}
 use Rattle.std.specs.List.{AllByRecursion}
@@ -14,7 +14,7 @@ use Rattle.sqlite.specs.declared.run.Mode.{Mode}
 use Rattle.sqlite.specs.Change.{indexed, KeepsRows}
 use Rattle.sqlite.specs.Compile.{index_defined_by}
 use Rattle.sqlite.specs.Does.{Tally, Does, AtPlace, Defines, MakesIndex}
-use Rattle.sqlite.specs.Effect.{Database, alter_error}
+use Rattle.sqlite.specs.Effect.{Database, IsDatabase, alter_error}
 use Rattle.sqlite.specs.Held.{state}
 use Rattle.sqlite.specs.Listing.{understood}
 use Rattle.sqlite.specs.Rows.{Part}
@@ -45,18 +45,27 @@ module _ (schema : Schema) (at : ℕ) (table : Table) (sql : List ℕ) (index : 
   abbrev text : List ℕ
   text = statement_of sql (understood schema sql)
 
-  -- the index is there, and the tables are empty as before
-  adds : (params : Row) (old new : State) (count : ℕ) → HasEmptyTables schema old.now → Executes sql params old new (Ok count) → HasEmptyTables (indexed schema table index) new.now
-  adds params old new count before ran =
-      let w : Writes old new None (CreateIndex at) text params count = runs_as sql params old new schema before.schema_is (CreateIndex at) makes.means.is makes.means.plain count ran in
-      let placed = subst (λ (o : Option Table). AtPlace (λ t. Defines (mode_of old) (MakesIndex text old.now t)) o (Ok (w.tally, new.now))) (ap (λ (s : Schema). slice_get s.tables at) before.schema_is ∙ makes.there) w.changed in
+  -- the index is there, the trees list the schema and obey it, and its tables have the rows that they had
+  pub record Indexes (old new : Database) : Type 0 where
+    pub schema_is : new.schema ≡ indexed schema table index
+    pub sound : IsDatabase new
+    pub rows : KeepsRows schema.tables old.trees new.trees
+
+  indexes : (params : Row) (old new : State) (count : ℕ) → old.now.schema ≡ schema → Executes sql params old new (Ok count) → Indexes old.now new.now
+  indexes params old new count has ran =
+      let w : Writes old new None (CreateIndex at) text params count = runs_as sql params old new schema has (CreateIndex at) makes.means.is makes.means.plain count ran in
+      let placed = subst (λ (o : Option Table). AtPlace (λ t. Defines (mode_of old) (MakesIndex text old.now t)) o (Ok (w.tally, new.now))) (ap (λ (s : Schema). slice_get s.tables at) has ∙ makes.there) w.changed in
       let all = went placed in
       let made = all.1 in
       let both : ◌≡◌ {A = Result Index CompileError} (Ok made.index) (Ok index) = sym made.defined ∙ makes.defined in
-      let is : all.0.schema ≡ indexed schema table index = made.is ∙ ap (λ s. indexed s table made.index) before.schema_is ∙ ap (indexed schema table) (same_value both) in
+      let is : all.0.schema ≡ indexed schema table index = made.is ∙ ap (λ s. indexed s table made.index) has ∙ ap (indexed schema table) (same_value both) in
       let now : new.now ≡ all.0 = ap (λ (p : Tally × Database). p.1) (same_value all.2) in
-      let rows : KeepsRows schema.tables old.now.trees all.0.trees = subst (λ (s : Schema). KeepsRows s.tables old.now.trees all.0.trees) before.schema_is made.rows in
-      subst (HasEmptyTables (indexed schema table index)) (sym now) (record { schema_is = is; empty = still_empty schema.tables old.now.trees all.0.trees rows before.empty })
+      let rows : KeepsRows schema.tables old.now.trees all.0.trees = subst (λ (s : Schema). KeepsRows s.tables old.now.trees all.0.trees) has made.rows in
+      record {
+        schema_is = ap (λ (d : Database). d.schema) now ∙ is;
+        sound = w.sound;
+        rows = subst (λ (d : Database). KeepsRows schema.tables old.now.trees d.trees) (sym now) rows;
+      }
 
   index_of_machine : (db : Database) (e : Error) → MakesIndex text db table (Err (Some e)) → IsOfMachine e
   index_of_machine db e (inl no_text) = rw no_text.1 (λ h. cc, λ h. cc)
@@ -80,8 +89,16 @@ module _ (schema : Schema) (at : ℕ) (table : Table) (sql : List ℕ) (index : 
       defines_of_machine mode (MakesIndex text db table) (index_of_machine db) e
       (subst (λ (o : Option Table). AtPlace (λ t. Defines mode (MakesIndex text db t)) o (Err (Some e))) (ap (λ (s : Schema). slice_get s.tables at) has ∙ makes.there) h)
 
-  pub indexed_step : {S : Type 0} (g : Ghosts S) → Makes g (record { sql = sql; params = [] }) (HasEmptyTables schema) (HasEmptyTables (indexed schema table index))
-  indexed_step g = record {
-    ok = λ old new count before ran. adds [] (state g old) (state g new) count before ran;
-    err = λ old new e before failed. write_failed schema sql [] (CreateIndex at) does_index (state g old) (state g new) e before.schema_is makes.means failed;
+  -- a step from any databases of the schema to what the index leaves of them
+  pub index_step : {S : Type 0} (g : Ghosts S) (First Second : Database → Type 0) → ((db : Database) → First db → db.schema ≡ schema) → ((old new : Database) → First old → Indexes old new → Second new)
+      → Makes g (record { sql = sql; params = [] }) First Second
+  index_step g First Second has leaves = record {
+    ok = λ old new count before ran. leaves (state g old).now (state g new).now before (indexes [] (state g old) (state g new) count (has (state g old).now before) ran);
+    err = λ old new e before failed. write_failed schema sql [] (CreateIndex at) does_index (state g old) (state g new) e (has (state g old).now before) makes.means failed;
   }
+
+  -- the tables are empty as before
+  pub indexed_step : {S : Type 0} (g : Ghosts S) → Makes g (record { sql = sql; params = [] }) (HasEmptyTables schema) (HasEmptyTables (indexed schema table index))
+  indexed_step g =
+      index_step g (HasEmptyTables schema) (HasEmptyTables (indexed schema table index)) (λ db before. before.schema_is)
+      (λ old new before it. record { schema_is = it.schema_is; empty = still_empty schema.tables old.trees new.trees it.rows before.empty })

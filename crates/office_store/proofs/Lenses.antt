@@ -29,7 +29,7 @@ pub is_holds : IsTableOf office_schema 5 (holds_table 10)
 is_holds = record { there = refl; uncounted = refl; plainly = λ trees. refl; free = λ gone news keys. refl }
 
 -- the same entries, in rows that are the same
-abbrev moved : {K X : Type 0} {encode : X → Row} {is_at : K → X → Bool} {IsFormed : X → Type 0} (rows next : List Row) → next ≡ rows → Stores encode is_at IsFormed rows → Stores encode is_at IsFormed next
+abbrev pub moved : {K X : Type 0} {encode : X → Row} {is_at : K → X → Bool} {IsFormed : X → Type 0} (rows next : List Row) → next ≡ rows → Stores encode is_at IsFormed rows → Stores encode is_at IsFormed next
 moved rows next same s = record {
   entries = s.entries;
   kept = record { kept = s.kept.kept; rows_are = same ∙ s.kept.rows_are; apart = s.kept.apart; same = s.kept.same };

@@ -18,6 +18,9 @@ pub mod VoteReads
 pub mod Indexing
 pub mod FoundingSteps
 pub mod FormReads
+pub mod OldReads
+pub mod MigrationSteps
+pub mod Migrating
 pub mod Numbers
 pub mod Reopened
 pub mod Calls

@@ -11,4 +11,5 @@ pub mod Adding
 pub mod Adopted
 pub mod Lists
 pub mod Founding
+pub mod Migration
 pub mod Reopening

@@ -63,10 +63,13 @@ holds_table tree = table (codes "holds") tree (column (codes "team") Text ∷ co
 abbrev pub no_schema : Schema
 no_schema = record { tables = []; indexes = []; views = [] }
 
--- as the texts of the six tables make it, one after the other
+-- as the texts of the five tables of schema 1 make it, one after the other
+abbrev pub old_schema : Schema
+old_schema = created (created (created (created (created no_schema (office_table 0)) (users_table 0)) (revisions_table 0)) (votes_table 0)) (baselines_table 0)
+
+-- with the sixth, which holds profiles
 abbrev pub tables_schema : Schema
-tables_schema =
-    created (created (created (created (created (created no_schema (office_table 0)) (users_table 0)) (revisions_table 0)) (votes_table 0)) (baselines_table 0)) (holds_table 0)
+tables_schema = created old_schema (holds_table 0)
 
 -- an index of these columns of the revisions, each in rising order
 abbrev pub revisions_index : List ℕ → List ℕ → Index

@@ -1,4 +1,4 @@
-//! Why no office is founded.
+//! Why no office is founded, and why one isn't migrated.
 
 use office_tables::StoreFault;
 use thiserror::Error;
@@ -10,6 +10,17 @@ pub enum FoundingFault {
     #[error("already-founded")]
     AlreadyFounded,
     /// The store failed, or something else is there: `NotAnOffice`.
+    #[error("{0}")]
+    Store(StoreFault),
+}
+
+/// Why an office of schema 1 isn't made one of schema 2. Where the store is still open, it is as it was.
+#[derive(Clone, Copy, Debug, Drop, PartialEq, Eq, Error)]
+pub enum MigrationFault {
+    /// The office is of schema 2.
+    #[error("already-migrated")]
+    AlreadyMigrated,
+    /// The store failed, or is no office of schema 1 or 2: `NotAnOffice`.
     #[error("{0}")]
     Store(StoreFault),
 }

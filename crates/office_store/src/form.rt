@@ -33,8 +33,8 @@ fn has_column(schema: &Schema, table: &str, column: &str) -> bool
     }
 }
 
-// Whether the schema has a table of this name with each of the columns.
-fn has_columns(schema: &Schema, table: &str, columns: &[&str]) -> bool
+/// Whether the schema has a table of this name with each of the columns.
+pub(crate) fn has_columns(schema: &Schema, table: &str, columns: &[&str]) -> bool
     ensures { result ≡ list_all (λ column. has_column schema.now table.now column.now) columns.now }
 {
     columns
@@ -87,8 +87,8 @@ fn form_of(found: Result<Option<Row>, StoreFault>) -> Result<Caps, StoreFault>
     }
 }
 
-// The row of the office.
-fn office_form<S: Alter>(conn: &mut Connection<S>) -> Result<Option<Row>, StoreFault>
+/// The row of the office.
+pub(crate) fn office_form<S: Alter>(conn: &mut Connection<S>) -> Result<Option<Row>, StoreFault>
     requires { IsIdle (state S.Store conn.old) }
     ensures read { IsRead (state S.Store conn.old) (state S.Store conn.new) result (λ t row. IsFormRow t row) }
     ensures row { HasCleanDisk (state S.Store conn.new) → FindsRow OFFICE_ROW.now [] (state S.Store conn.old) (state S.Store conn.new) result }

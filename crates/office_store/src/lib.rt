@@ -11,6 +11,7 @@ pub mod form;
 pub mod founding;
 pub mod holds;
 pub mod listing;
+pub mod migration;
 pub mod office;
 pub mod reopening;
 pub mod revisions;
@@ -22,11 +23,12 @@ mod write;
 
 pub use author::{authors, is_author};
 pub use baselines::{Adopted, baseline, put_baseline};
-pub use fault::FoundingFault;
+pub use fault::{FoundingFault, MigrationFault};
 pub use form::check_office;
 pub use founding::found;
 pub use holds::{delete_hold, held, put_hold};
 pub use listing::revisions_of;
+pub use migration::migrate;
 pub use office::listed;
 pub use revisions::{
     add_revision, has_revision, issued, last, revision, set_issued, set_withdrawn,

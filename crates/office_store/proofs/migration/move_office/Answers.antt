@@ -1,0 +1,18 @@
+use Rattle.std.proofs.Common.{◌≡◌}
+use Rattle.office_tables.specs.declared.fault.StoreFault.TheVariants.{NotAnOffice}
+use Rattle.office_store.proofs.Migrating.{all_ran, none_ran, never_unformed}
+use Rattle.office_store.proofs.migration.move_office.Goals as goal
+
+pub returns-in-Ok-clause-migration : goal.returns-in-Ok-clause-migration
+returns-in-Ok-clause-migration g c =
+    all_ran g.S.Store c.args.conn.now c.run_migration.new.conn c.requires c.run_migration.ensures.mode (g.met.S.Store.settled c.args.conn.now.store) (g.met.S.Store.settled c.run_migration.new.conn.store)
+    c.run_migration.ensures.was_open c.run_migration.ensures.crash _ c.in-Ok.ensures.all
+
+pub returns-in-Err-clause-migration : goal.returns-in-Err-clause-migration
+returns-in-Err-clause-migration g c =
+    none_ran g.S.Store c.args.conn.now c.run_migration.new.conn c.requires c.run_migration.ensures.mode (g.met.S.Store.settled c.args.conn.now.store) (g.met.S.Store.settled c.run_migration.new.conn.store)
+    c.run_migration.ensures.was_open c.run_migration.ensures.crash c.in-Err.ensures.none _ _
+
+pub returns-in-Err-clause-formed : goal.returns-in-Err-clause-formed
+returns-in-Err-clause-formed g c t shows clean same =
+    never_unformed g.S.Store c.args.conn.now c.in-Err.error c.fault_of_error.result t shows (c.in-Err.ensures.cause clean) c.fault_of_error.ensures (let k : c.fault_of_error.result ≡ NotAnOffice = cc in k)

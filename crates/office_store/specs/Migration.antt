@@ -1,0 +1,140 @@
+-- A store of schema 1, and the statements that make it one of schema 2.
+use Rattle.std.specs.Prelude.{◌≡◌, ◌⊎◌, ◌<◌, ◌^◌, ◌&&◌, cond, Bool, true, false, ℕ, pos, List, [], ◌∷◌, find, option_map, bytes_eq, codes, IsTrue, Option, Some, Result, Ok, Err, OnOk, OnErr}
+use Rattle.std.specs.List.{list_all}
+use Rattle.sqlite.specs.declared.types.Value.TheVariants.{Null, Int}
+use Rattle.sqlite.specs.Order.{Row}
+use Rattle.sqlite.specs.Schema.{Schema}
+use Rattle.sqlite.specs.Effect.{Database, IsDatabase}
+use Rattle.sqlite.specs.Store.{Ghosts}
+use Rattle.sqlite.specs.Held.{Held, state}
+use Rattle.sqlite.specs.State.{State, HasCleanDisk, Survives}
+use Rattle.sqlite_trees.specs.Tree.{Trees}
+use Rattle.review_policy.specs.declared.ask.ProfileName.{ProfileName}
+use Rattle.office_tables.specs.declared.fault.StoreFault.{StoreFault}
+use Rattle.office_tables.specs.declared.fault.StoreFault.TheVariants.{NotAnOffice}
+use Rattle.office_tables.specs.Tables.{Tables}
+use Rattle.office_rows.specs.Faults.{FindsRow}
+use Rattle.office_rows.specs.Queries.{IsAsItWas}
+use Rattle.office_rows.specs.Statements.{Statement, IsCause}
+use Rattle.office_rows.specs.Told.{TellsOnly, TellsRow}
+use Rattle.office_store.specs.declared.fault.MigrationFault.{MigrationFault}
+use Rattle.office_store.specs.declared.fault.MigrationFault.TheVariants.{AlreadyMigrated, Store}
+use Rattle.office_store.specs.declared.form.TheConstants.{OFFICE_ROW}
+use Rattle.office_store.specs.declared.migration.Form.{Form}
+use Rattle.office_store.specs.declared.migration.TheConstants.{RENUMBER}
+use Rattle.office_store.specs.declared.schema.TheConstants.{CREATE_HOLDS, CREATE_BY_STATE, CREATE_BY_AUTHOR}
+use Rattle.office_store.specs.Schema.{old_schema}
+use Rattle.office_store.specs.Entries.{is_named, same_revision, revision_key, same_vote}
+use Rattle.office_store.specs.Form.{has_column, AreCaps}
+use Rattle.office_store.specs.Shown.{Users, Revisions, Votes, Baselines, IsIdle, Shows, AreOffice, LeavesOnly, LeavesNoMore, MayLeave}
+use Rattle.office_store.specs.Steps.{statement}
+
+-- whether the schema has the five tables of schema 1 with their columns
+abbrev pub has_old_tables : Schema → Bool
+has_old_tables schema =
+    list_all (has_column schema (codes "office")) (codes "key" ∷ codes "schema" ∷ codes "listed" ∷ [])
+    && list_all (has_column schema (codes "users")) (codes "name" ∷ codes "team" ∷ codes "roles" ∷ codes "token" ∷ [])
+    && list_all (has_column schema (codes "revisions")) (codes "team" ∷ codes "profile" ∷ codes "number" ∷ codes "author" ∷ codes "state" ∷ codes "body" ∷ codes "digest" ∷ [])
+    && list_all (has_column schema (codes "votes")) (codes "team" ∷ codes "profile" ∷ codes "number" ∷ codes "voter" ∷ codes "approve" ∷ codes "security" ∷ [])
+    && list_all (has_column schema (codes "baselines")) (codes "team" ∷ codes "profile" ∷ codes "number" ∷ [])
+
+-- its key, the number of the schema, and the listed capabilities
+abbrev pub old_office_row : ℕ → Row
+old_office_row listed = Int (pos 1) ∷ Null ∷ Int (pos 1) ∷ Int (pos listed) ∷ []
+
+-- the database has schema 1, which its trees list and obey, and at each key what the tables have there, which hold no profile
+pub record IsOldOffice (db : Database) (t : Tables) : Type 0 where
+  pub schema : db.schema ≡ old_schema
+  pub sound : IsDatabase db
+  pub office : db.trees 0 ≡ old_office_row t.listed ∷ []
+  pub listed : t.listed < 2 ^ 41
+  pub users : Users (db.trees 1)
+  pub users_are : (name : List ℕ) → t.users name ≡ find (is_named name) users.entries
+  pub revisions : Revisions (db.trees 4)
+  pub revisions_are : (p : ProfileName) (n : ℕ) → t.revisions p n ≡ option_map (λ e. e.1) (find (λ e. same_revision (p, n) (revision_key e)) revisions.entries)
+  pub votes : Votes (db.trees 6)
+  pub votes_are : (p : ProfileName) (n : ℕ) (voter : List ℕ)
+      → t.votes p n voter ≡ option_map (λ e. e.1) (find (λ e. same_vote (record { profile = p; number = n; voter = voter }) e.0) votes.entries)
+  pub baselines : Baselines (db.trees 8)
+  pub baselines_are : (team : List ℕ) → t.baselines team ≡ option_map (λ e. e.1) (find (λ e. bytes_eq team e.0) baselines.entries)
+  pub none_held : (p : ProfileName) → t.holds p ≡ false
+
+-- the connection is open, and its database is that of the tables under schema 1
+pub record ShowsOld (s : State) (t : Tables) : Type 0 where
+  pub is_open : IsTrue s.is_open
+  pub settled : s.now ≡ s.committed
+  pub office : IsOldOffice s.now t
+
+-- the same, unless a fault of the disk has shut the connection
+abbrev pub ShowsOldIfOpen : State → Tables → Type 0
+ShowsOldIfOpen s t = IsTrue s.is_open → ShowsOld s t
+
+-- what a crash may leave is these tables, under schema 1
+abbrev pub AreOldOffice : Trees → Tables → Type 0
+AreOldOffice trees t = IsOldOffice (record { schema = old_schema; trees = trees }) t
+
+-- a migration of the store
+pub record IsMigration {A E : Type 0} (old new : State) (result : Result A E) : Type 0 where
+  -- no transaction is open, and no limit on steps is set
+  pub idle : IsIdle new
+  -- a disk that is clean was clean before
+  pub clean : HasCleanDisk new → HasCleanDisk old
+  -- no fault is forgotten, and only a fault of the disk shuts the connection
+  pub survives : Survives old new (λ _. Unit {0})
+  -- it is done over an open connection, which stays open
+  pub answered : HasCleanDisk new → OnOk result (IsTrue old.is_open × IsTrue new.is_open)
+  -- one that a fault has shut stays shut
+  pub shut : HasCleanDisk new → old.is_open ≡ false → new.is_open ≡ false
+  -- where it is done, the tables that were shown under schema 1 are shown under schema 2, and a crash leaves them and no others
+  pub done : (t : Tables) → ShowsOldIfOpen old t → HasCleanDisk new → OnOk result (Shows new t × LeavesOnly new t)
+  -- where it isn't, they are shown under schema 1, unless a fault of the disk has shut the connection
+  pub undone : (t : Tables) → ShowsOldIfOpen old t → HasCleanDisk new → OnErr result (ShowsOldIfOpen new t)
+  -- and the connection has what it had, whatever that is
+  pub same : old.now ≡ old.committed → HasCleanDisk new → OnErr result (IsAsItWas old new)
+  -- a crash leaves the tables under schema 1 or under schema 2
+  pub crash : (t : Tables) → ShowsOld old t → HasCleanDisk new → (trees : Trees) → new.may_leave trees → AreOldOffice trees t ⊎ AreOffice trees t
+  -- it leaves nothing under schema 2 that it couldn't leave before but these tables
+  pub adds : (t : Tables) → ShowsOldIfOpen old t → MayLeave old new (λ trees. AreOffice trees t)
+  -- and over a connection that was shut nothing new
+  pub lost : old.is_open ≡ false → LeavesNoMore old new
+
+-- the table of held profiles, the indexes and the number of the schema
+abbrev pub migration : Row → List Statement
+migration none = statement CREATE_HOLDS.now none ∷ statement CREATE_BY_STATE.now none ∷ statement CREATE_BY_AUTHOR.now none ∷ statement RENUMBER.now none ∷ []
+
+-- the key, the number of the schema, which is 1 or 2, and the listed capabilities, as a query shows them
+abbrev pub numbered_row : Form → Row
+numbered_row form = Int (pos 1) ∷ Int (pos (cond form.is_old 1 2)) ∷ Int (pos form.listed) ∷ []
+
+-- no bit but those of capabilities
+abbrev pub HasCaps : Form → Type 0
+HasCaps form = AreCaps form.listed
+
+-- what the row of the office says: the number of its schema and its listed capabilities, or that it isn't of its form
+abbrev pub TellsNumber : Option Row → Result Form StoreFault → Type 0
+TellsNumber = TellsOnly numbered_row HasCaps
+
+abbrev pub old_form : ℕ → Form
+old_form listed = record { is_old = true; listed = listed }
+
+abbrev pub new_form : ℕ → Form
+new_form listed = record { is_old = false; listed = listed }
+
+-- the five tables are there, and the row of the office is of this form
+pub record FindsForm {S : Type 0} (g : Ghosts S) (old mid : Held S) (form : Form) : Type 0 where
+  pub tables : has_old_tables (state g old).now.schema ≡ true
+  pub caps : HasCaps form
+  pub row : FindsRow OFFICE_ROW.now [] (state g old) (state g mid) (Ok (Some (numbered_row form)))
+
+-- it was an office of schema 1
+abbrev pub WasOld : {S : Type 0} → Ghosts S → Held S → Type 0
+WasOld {S} g old = (mid : Held S) × (listed : ℕ) × FindsForm g old mid (old_form listed)
+
+-- the schema is 2; one of the five tables isn't there; the row of the office isn't found or not of its form; or the schema is
+-- 1, and one of the statements failed or their commit
+abbrev pub FailsToMigrate : {S : Type 0} → Ghosts S → Held S → MigrationFault → Type 0
+FailsToMigrate {S} g old AlreadyMigrated = (mid : Held S) × (listed : ℕ) × FindsForm g old mid (new_form listed)
+FailsToMigrate {S} g old (Store f) =
+    ((has_old_tables (state g old).now.schema ≡ false) × (f ≡ NotAnOffice))
+    ⊎ (((has_old_tables (state g old).now.schema ≡ true) × (mid : Held S) × TellsRow OFFICE_ROW.now [] (state g old) (state g mid) TellsNumber (Err f))
+    ⊎ ((mid : Held S) × (listed : ℕ) × FindsForm g old mid (old_form listed) × IsCause g (migration []) mid f))
