@@ -1,5 +1,13 @@
 -- The founding that words describe, or why they describe none.
-use Rattle.std.specs.Prelude.{◌≡◌, ℕ, ◌&&◌, List, Option, Some, None, Result, Ok, Err, if◌then◌else◌}
+use Rattle.std.specs.Prelude.{◌≡◌, ℕ, ◌&&◌, List, [], ◌∷◌, map, Option, Some, None, Result, Ok, Err, if◌then◌else◌}
+use Rattle.sqlite.specs.Held.{Held, state}
+use Rattle.sqlite.specs.Store.{Ghosts}
+use Rattle.sqlite.specs.State.{HasCleanDisk}
+use Rattle.command_line.specs.declared.command.InitWords.{InitWords}
+use Rattle.office_policy.specs.History.{History, founded}
+use Rattle.office_policy.specs.Handled.{Stands}
+use Rattle.office_desk.specs.Offices.{IsOffice}
+use Rattle.office_desk.specs.Meant.{meaning_over}
 use Rattle.cap_sets.specs.Capability.{set_named}
 use Rattle.review_policy.specs.Digests.{digest_from_hex}
 use Rattle.review_policy.specs.Words.{is_word}
@@ -8,6 +16,8 @@ use Rattle.review_policy.specs.declared.word.WordFault.TheVariants as words
 use Rattle.office_commands.specs.declared.founding_fault.FoundingWordsFault.{FoundingWordsFault}
 use Rattle.office_commands.specs.declared.founding_fault.FoundingWordsFault.TheVariants.{BadWord, UnknownCapability, NoMemory}
 use Rattle.office_commands.specs.declared.founding.Founding.{Founding}
+use Rattle.office_commands.specs.declared.fault.CommandFault.{CommandFault}
+use Rattle.office_commands.specs.declared.fault.CommandFault.TheVariants as fault
 
 -- the founding by these two words, where DIGEST is one and each CAP is a capability's name
 abbrev pub founding_by : List ℕ → List ℕ → Option (List ℕ) → Option ℕ → Result Founding FoundingWordsFault
@@ -31,3 +41,35 @@ Gives (Err NoMemory) described = Unit {0}
 abbrev pub IsFaultOfWord : WordFault → FoundingWordsFault → Type 0
 IsFaultOfWord words.NotAWord told = told ≡ BadWord
 IsFaultOfWord words.NoMemory told = told ≡ NoMemory
+
+-- the founding that the words of `init` describe
+abbrev pub founding_of_words : InitWords → Result Founding FoundingWordsFault
+founding_of_words words = founding_of words.name.now words.team.now words.digest.now (map (λ capability. capability.now) words.capabilities.items)
+
+-- a history that is just this founding
+abbrev pub history_of : Founding → History
+history_of founding = founded founding.name founding.team founding.digest founding.listed ∷ []
+
+-- what was founded is the office of just this founding, and stands
+abbrev pub IsFoundedBy : {S : Type 0} → Ghosts S → Founding → Held S → Type 0
+IsFoundedBy g founding office =
+    IsOffice (history_of founding) (state g office)
+    × (HasCleanDisk (state g office) → Stands (meaning_over g) (history_of founding) office)
+
+-- the same, of the founding that words describe; where they describe none, nothing is founded
+abbrev pub IsFoundedAs : {S : Type 0} → Ghosts S → Result Founding FoundingWordsFault → Held S → Type 0
+IsFoundedAs g (Ok founding) office = IsFoundedBy g founding office
+IsFoundedAs g (Err fault) office = ⊥
+
+-- words describe a founding
+abbrev pub IsDescribed : Result Founding FoundingWordsFault → Type 0
+IsDescribed (Ok founding) = Unit {0}
+IsDescribed (Err fault) = ⊥
+
+-- Why nothing is founded: by the words where they describe no founding, and by the store only where they describe one.
+-- Memory may have been refused in place of either.
+abbrev pub IsUnfoundedAs : Result Founding FoundingWordsFault → CommandFault → Type 0
+IsUnfoundedAs described (fault.FoundingWords why) = Gives (Err why) described
+IsUnfoundedAs described (fault.Founding why) = IsDescribed described
+IsUnfoundedAs described (fault.Store why) = IsDescribed described
+IsUnfoundedAs described _ = ⊥
