@@ -59,7 +59,16 @@ async function sha256(bytes) {
 }
 
 // Asks the office. The answer has `status`, `text` and `bytes`, and `json` where it is an answer of the office; status 0 is none.
+// What only reads is asked again, a few times, where the proxy says that one asked too often.
 async function ask(method, path, body) {
+  for (let times = 0; ; times++) {
+    const answer = await askOnce(method, path, body);
+    if (answer.status !== 429 || method !== 'GET' || times === 4) return answer;
+    await new Promise((on) => setTimeout(on, 1000));
+  }
+}
+
+async function askOnce(method, path, body) {
   try {
     const response = await fetch(path, {
       method, body, cache: 'no-store', credentials: 'omit', redirect: 'error', referrerPolicy: 'no-referrer',
@@ -172,8 +181,14 @@ const STORE_FAULTS = {
   full: 'There is no room on its disk. Those who run it have to make room; then ask again.',
   'not-an-office': 'Its tables aren’t those of an office. Those who run it have to restore its file.',
 };
-const PROXY_SAYS = { 413: 'What was sent is too long for it.', 429: 'You asked too often. Wait a little, and ask again.', 502: 'The office behind it doesn’t answer now. Wait a little, and look what stands before you ask again.',
-  503: 'It takes no more requests now. Wait a little, and ask again.', 504: 'The office behind it took too long. Look what stands before you ask again.' };
+const PROXY_SAYS = {
+  403: 'It doesn’t hand this on. Where there are several offices, those who run them enrol.',
+  413: 'What was sent is too long for it: a document has at most 262,144 bytes.',
+  429: 'You asked too often. Wait a little, and ask again.',
+  502: 'The office behind it doesn’t answer now. Wait a little, and look what stands before you ask again.',
+  503: 'It takes no more requests now. Wait a little, and look what stands before you ask again.',
+  504: 'The office behind it took too long. Look what stands before you ask again.',
+};
 
 // The sentence, the rule and the way out of an answer that isn't done.
 function refusal(kind, answer, about) {
@@ -184,6 +199,7 @@ function refusal(kind, answer, about) {
     return [sentence, `Refused by rule ${json.rule} of ${kind}: ${json.word}${fault}`, way];
   }
   if (json?.answer === 'fault') return ['The office couldn’t do it, and nothing was changed.', `Fault: ${json.word}`, STORE_FAULTS[json.word] ?? ''];
+  if (json?.word === 'too-large') return ['What was sent is too long.', `Status ${status}: too-large`, 'A document has at most 262,144 bytes.'];
   if (json?.answer === 'bad') return ['What the page sent is no request of the office.', `Status ${status}: ${json.word}`, 'Look whether the page and the office are of one version.'];
   if (status === 0) return ['No answer came.', '', 'Look whether you reach the office; then see what stands before you ask again.'];
   return [`The proxy answered, and not the office.`, `Status ${status}`, PROXY_SAYS[status] ?? 'Those who run it have to look.'];
@@ -278,15 +294,17 @@ const items = (node) => (node?.kind === 'list' ? node.inside.map((one) => plainl
 
 // ---- what differs --------------------------------------------------------------------------------------------------------
 
-// What is in the first list and not in the second, each as often as it is there more.
-function beyond(these, those) {
+// The items of the first list that the second has too, each as often as both have it, and those that it has beyond it.
+function parted(these, those) {
   const left = new Map();
   for (const one of those) left.set(one, (left.get(one) ?? 0) + 1);
-  return these.filter((one) => {
+  const [both, beyond] = [[], []];
+  for (const one of these) {
     const count = left.get(one) ?? 0;
-    if (count > 0) left.set(one, count - 1);
-    return count === 0;
-  });
+    left.set(one, count - 1);
+    (count > 0 ? both : beyond).push(one);
+  }
+  return { both, beyond };
 }
 
 function entriesOf(seccomp) {
@@ -295,7 +313,8 @@ function entriesOf(seccomp) {
     const args = (member(node, 'args')?.inside ?? []).map((one) => one.node);
     const errno = member(node, 'errnoRet');
     const action = plainly(member(node, 'action')) + (errno ? ` ${plainly(errno)}` : '');
-    return { number: index + 1, text: flat(node), names: items(member(node, 'names')), action, args, asked: args.map(flat).join(' ') };
+    const names = items(member(node, 'names'));
+    return { number: index + 1, text: flat(node), names, named: names.join(' '), has: new Set(names), action, args, asked: args.map(flat).join(' ') };
   });
 }
 
@@ -313,11 +332,10 @@ function differences(old, now) {
   const found = [];
   const put = (place, how, what) => found.push({ place, how, what });
   const lists = (place, before, after) => {
-    const gone = beyond(before, after);
-    const come = beyond(after, before);
-    if (come.length) put(place, 'added', come.join(' '));
-    if (gone.length) put(place, 'removed', gone.join(' '));
-    if (!gone.length && !come.length && before.join(' ') !== after.join(' ')) put(place, 'changed', `the order, now ${after.join(' ')}`);
+    const [was, is] = [parted(before, after), parted(after, before)];
+    if (is.beyond.length) put(place, 'added', is.beyond.join(' '));
+    if (was.beyond.length) put(place, 'removed', was.beyond.join(' '));
+    if (was.both.join(' ') !== is.both.join(' ')) put(place, 'changed', `the order, now ${is.both.join(' ')}`);
   };
   for (const set of SETS) lists(`capabilities, ${set}`, items(member(member(old, 'capabilities'), set)), items(member(member(now, 'capabilities'), set)));
   const [before, after] = [member(old, 'seccomp'), member(now, 'seccomp')];
@@ -337,13 +355,15 @@ function differences(old, now) {
 
 function entries(old, now, put, lists) {
   const texts = (list) => list.map((one) => one.text);
-  const moved = beyond(texts(old), texts(now)).length === 0 && old.length === now.length && texts(old).join() !== texts(now).join();
-  const without = (these, those) => {
-    const left = beyond(texts(these), texts(those));
-    return these.filter((one) => { const place = left.indexOf(one.text); if (place >= 0) left.splice(place, 1); return place >= 0; });
+  const [was, is] = [parted(texts(old), texts(now)), parted(texts(now), texts(old))];
+  // the entries of these texts, the last ones where a text stands more often
+  const of = (list, chosen) => {
+    const left = new Map();
+    for (const one of chosen) left.set(one, (left.get(one) ?? 0) + 1);
+    return [...list].reverse().filter((one) => { const count = left.get(one.text) ?? 0; left.set(one.text, count - 1); return count > 0; }).reverse();
   };
-  let gone = without(old, now);
-  let come = without(now, old);
+  let gone = of(old, was.beyond);
+  let come = of(now, is.beyond);
   // the entries that go together are told as one that was changed
   const pair = (alike, tell) => {
     for (const one of [...gone]) {
@@ -355,16 +375,16 @@ function entries(old, now, put, lists) {
     }
   };
   const numbers = (one, other) => `entry ${other.number}${one.number === other.number ? '' : ` (was ${one.number})`}`;
-  pair((one, other) => one.action === other.action && one.asked === other.asked && one.names.some((name) => other.names.includes(name)),
+  pair((one, other) => one.action === other.action && one.asked === other.asked && one.names.some((name) => other.has.has(name)),
     (one, other) => lists(`${numbers(one, other)}, names for ${other.action}, ${asked(other)}`, one.names, other.names));
-  pair((one, other) => one.names.join() === other.names.join() && (one.asked === other.asked || one.action === other.action), (one, other) => {
+  pair((one, other) => one.named === other.named && (one.asked === other.asked || one.action === other.action), (one, other) => {
     const place = `${numbers(one, other)}, ${other.names.join(' ')}`;
     if (one.action !== other.action) put(place, 'changed', `from ${one.action} to ${other.action}`);
     if (one.asked !== other.asked) put(place, 'changed', `from ${asked(one)} to ${asked(other)}`);
   });
   for (const one of come) put(`entry ${one.number}`, 'added', `${one.action} for ${one.names.join(' ')}, ${asked(one)}`);
   for (const one of gone) put(`entry ${one.number} of the issued one`, 'removed', `${one.action} for ${one.names.join(' ')}, ${asked(one)}`);
-  if (moved) put('entries', 'changed', 'the same entries stand in another order');
+  if (was.both.join() !== is.both.join()) put('entries', 'changed', 'those that both have stand in another order');
 }
 
 // ---- sheets --------------------------------------------------------------------------------------------------------------
@@ -464,7 +484,7 @@ async function draw(moved) {
   header(now);
   view.setAttribute('aria-busy', 'true');
   if (moved && memory.token) view.replaceChildren(el('p', { class: 'hint' }, 'Asking the office …'));
-  const parts = memory.token ? await VIEWS[now.view](now) : entrance();
+  const parts = memory.token ? await drawn(now) : entrance();
   if (mine !== turn) return;
   view.replaceChildren(...[parts].flat(Infinity).filter(Boolean));
   view.removeAttribute('aria-busy');
@@ -474,6 +494,15 @@ async function draw(moved) {
     window.scrollTo(0, 0);
     (view.querySelector('[data-first]') ?? view).focus();
   } else if (focused) (at(focused) ?? view).focus({ preventScroll: true });
+}
+
+// What a place shows; where an answer was of another form than an office gives, that is said.
+async function drawn(now) {
+  try {
+    return await VIEWS[now.view](now);
+  } catch {
+    return el('p', { class: 'notice refused inline' }, 'What came is no answer of an office of this version, so nothing of it is shown.');
+  }
 }
 
 function entrance() {
@@ -607,7 +636,7 @@ async function profileView(now) {
         el('div', {}, el('dt', {}, 'Still needed'), el('dd', { id: 'needed', class: needs.ready ? 'ready' : '' }, needs.text)),
         el('div', {}, el('dt', {}, 'Issued now'), el('dd', {}, own.issued ? own.issued === about.revision ? 'this revision' : ['revision ', link(`profile/${about.team}/${about.profile}/${own.issued}`, String(own.issued))] : 'no revision')),
         el('div', {}, el('dt', {}, 'Compared with'), el('dd', { id: 'baseline' }, baselineSaid(sheet, about))),
-        el('div', { class: 'wide' }, el('dt', {}, 'SHA-256 of the text below'), el('dd', {}, el('code', { id: 'digest', class: 'digest' }, reading.digest), el('span', { class: reading.same ? 'ready' : 'wrong' }, reading.same ? ' It is the digest that the sheet names.' : ' It is NOT the digest that the sheet names.')))),
+        el('div', { class: 'wide' }, el('dt', {}, 'SHA-256 of the text below'), el('dd', {}, el('code', { id: 'digest', class: 'digest' }, reading.digest), el('span', { class: `told ${reading.same ? 'ready' : 'wrong'}` }, reading.same ? 'It is the digest that the sheet names.' : reading.own ? 'It is not the digest that the sheet names.' : 'The sheet is of another revision.')))),
       el('p', { class: 'jump' }, button('to-decide', 'To the decision', () => { at('decide').scrollIntoView(); at('decide').focus({ preventScroll: true }); }, 'quiet'))),
     el('div', { class: 'beside' },
       el('div', {}, findingsCard(sheet), keepsCard(sheet)),
@@ -640,7 +669,7 @@ function revisionChoice(about, own) {
 
 function baselineSaid(sheet, about) {
   const [profile, number] = sheet.value('baseline').split(' ');
-  return number === undefined ? 'the closed profile: the team adopted none' : ['the team’s baseline, ', link(`profile/${about.team}/${profile}/${number}`, `${profile} ${number}`)];
+  return number === undefined ? 'the closed profile: no adopted revision stands' : ['the team’s baseline, ', link(`profile/${about.team}/${profile}/${number}`, `${profile} ${number}`)];
 }
 
 function names(text) {
@@ -707,7 +736,7 @@ async function differsCard(about, own, tree) {
   if (await sha256(answer.json.document) !== answer.json.digest) return card(el('p', { class: 'notice refused inline' }, 'The issued text isn’t the one that its digest names, so the page compares nothing.'));
   const found = differences(old, tree);
   const group = (how, sign) => found.filter((one) => one.how === how).map((one) => el('li', { class: how },
-    el('span', { class: 'sign' }, `${sign} ${how}`), ' ', el('span', { class: 'place' }, one.place), ': ', code(one.what)));
+    el('span', { class: 'sign' }, `${sign} ${how}`), el('div', {}, el('span', { class: 'place' }, one.place), ' ', code(one.what))));
   return card(el('p', { class: 'hint' }, 'Worked out in this page, entry by entry, and not by the office. Removals and error numbers are here too.'),
     found.length ? el('ul', { class: 'plain differences' }, group('added', '+'), group('removed', '−'), group('changed', '±')) : el('p', { class: 'empty' }, 'Nothing: the texts are the same.'));
 }
