@@ -33,7 +33,8 @@ function button(id, text, press, look) {
 function field(id, label, hint, attributes) {
   const input = el('input', { id, name: id, autocomplete: 'off', spellcheck: 'false', autocapitalize: 'none', ...attributes,
     'aria-describedby': hint ? `${id}-hint` : null });
-  return el('p', { class: 'field' }, el('label', { for: id }, label), input, hint && el('span', { class: 'hint', id: `${id}-hint` }, hint));
+  return el('p', { class: 'field' }, el('label', { for: id }, label), input,
+    hint && el('span', { class: 'hint', id: `${id}-hint` }, hint));
 }
 
 // ---- what is said --------------------------------------------------------------------------------------------------------
@@ -93,7 +94,8 @@ const path = (about, end) => `/p/${about.team}/${about.profile}/${about.revision
 
 const NEEDS_ROLE = {
   enrol: 'a registrar', submit: 'an author', vote: 'a reviewer', issue: 'an issuer', withdraw: 'an author or security',
-  adopt: 'security', hold: 'security', release: 'security', fetch: 'a machine', list: 'an author, a reviewer, security or an issuer',
+  adopt: 'security', hold: 'security', release: 'security', fetch: 'a machine',
+    list: 'an author, a reviewer, security or an issuer',
 };
 NEEDS_ROLE.show = NEEDS_ROLE.sheet = NEEDS_ROLE.list;
 const DOES = {
@@ -121,28 +123,39 @@ const REFUSALS = {
   'token-taken': () => ['Another user shows a token with this digest now.', 'Make another token, and enrol with its digest.'],
   'other-team': (kind, answer, about) => [`The user of this token is of another team than ${about.team}.`,
     { submit: 'An author hands in for the own team alone.', fetch: 'A machine fetches what is issued for the own team alone.',
-      withdraw: 'An author of that team or security has to withdraw it.' }[kind] ?? 'A reviewer, security or an issuer may read every team.'],
+      withdraw: 'An author of that team or security has to withdraw it.' }[kind]
+        ?? 'A reviewer, security or an issuer may read every team.'],
   'document': (kind, answer) => faultSaid(answer.fault),
-  'same-as-open': () => ['This is the text of the revision that is open already, so no revision was made.', 'Nothing is to be done: it waits for votes.'],
+  'same-as-open': () => ['This is the text of the revision that is open already, so no revision was made.',
+    'Nothing is to be done: it waits for votes.'],
   'revisions-full': () => ['This profile has 9,999 revisions, and takes no more.', 'Hand it in under another name of a profile.'],
-  'no-revision': (kind, answer, about) => [`${about.team}/${about.profile} has no revision ${about.revision}.`, 'Look at the list of the team’s profiles.'],
+  'no-revision': (kind, answer, about) => [`${about.team}/${about.profile} has no revision ${about.revision}.`,
+    'Look at the list of the team’s profiles.'],
   'author-votes': () => ['You handed in a revision of this profile, so you have no vote on it.', 'Other reviewers have to vote.'],
   'author-issues': () => ['You handed in a revision of this profile, so you can’t issue it.', 'Another issuer has to issue it.'],
-  'author-adopts': () => ['You handed in a revision of this profile, so you can’t adopt it.', 'Another user of security has to adopt it.'],
+  'author-adopts': () => ['You handed in a revision of this profile, so you can’t adopt it.',
+    'Another user of security has to adopt it.'],
   'not-open': (kind, answer, about) => [`Revision ${about.revision} isn’t open any more.`,
     'A later revision, an issue or a withdrawal came before; the page has read the present state anew.'],
   'other-bytes': () => ['The digest of the text on this screen isn’t that of the revision in the office. Your vote was not taken.',
     'What you were shown was changed on the way. Don’t vote from here, and tell those who run the proxy.'],
   'rejected': (kind, answer, about) => ['A reviewer rejects this revision, so it can’t be issued.',
     `${about.rejecting?.length ? listed(about.rejecting) : 'That reviewer'} may vote anew, or the author hands in another revision.`],
-  'approvals-short': (kind, answer, about) => [missing(answer.got, answer.need, about.secured), 'Reviewers who are no authors of the profile approve it on this page.'],
-  'security-missing': () => ['Enough reviewers approve, and none of them with security.', 'A reviewer who holds security too has to approve it.'],
-  'held': (kind) => [`This profile is held: nothing of it is issued or fetched.`,
-    kind === 'fetch' ? 'Security ends the hold by a release. Don’t run a text that was fetched before.' : 'Security ends the hold by a release.'],
-  'not-standing': (kind, answer, about) => [`Revision ${about.revision} is neither open nor issued, so there is nothing to withdraw.`, 'The page has read the present state anew.'],
-  'not-issued': (kind, answer, about) => [`Revision ${about.revision} isn’t issued now, so it can’t be a baseline.`, 'Adopt the revision that is issued.'],
-  'nothing-issued': (kind, answer, about) => [`No revision of ${about.team}/${about.profile} is issued now.`, 'An issuer issues one, once it has its approvals.'],
-  'no-profile': (kind, answer, about) => [`There is no profile ${about.team}/${about.profile}.`, 'Look at the list of the team’s profiles.'],
+  'approvals-short': (kind, answer, about) => [missing(answer.got, answer.need, about.secured),
+    'Reviewers who are no authors of the profile approve it on this page.'],
+  'security-missing': () => ['Enough reviewers approve, and none of them with security.',
+    'A reviewer who holds security too has to approve it.'],
+  'held': (kind) => ['This profile is held: nothing of it is issued or fetched.',
+    `Security ends the hold by a release.${kind === 'fetch' ? ' Ask them before you run what was fetched earlier.' : ''}`],
+  'not-standing': (kind, answer, about) => [
+    `Revision ${about.revision} is neither open nor issued, so there is nothing to withdraw.`,
+    'The page has read the present state anew.'],
+  'not-issued': (kind, answer, about) => [`Revision ${about.revision} isn’t issued now, so it can’t be a baseline.`,
+    'Adopt the revision that is issued.'],
+  'nothing-issued': (kind, answer, about) => [`No revision of ${about.team}/${about.profile} is issued now.`,
+    'An issuer issues one, once it has its approvals.'],
+  'no-profile': (kind, answer, about) => [`There is no profile ${about.team}/${about.profile}.`,
+    'Look at the list of the team’s profiles.'],
   'already-held': () => ['This profile is held already.', 'Nothing is to be done.'],
   'not-held': () => ['This profile isn’t held.', 'Nothing is to be done.'],
 };
@@ -151,21 +164,31 @@ const REFUSALS = {
 const FAULTS = {
   'too-long': ['has more than 262,144 bytes', 'Cut the profile out of the file: its capabilities and its seccomp.'],
   'not-json': ['is no JSON text', '“jq . FILE” says where it stops being one.'],
-  'wrong-shape': ['has a value of another kind, or lacks a required member, at', 'Write there the form that a document has; no capabilities at all are written as {}.'],
-  'unknown-member': ['has a member that documents don’t have, at', 'From a bundle’s config.json take process.capabilities and linux.seccomp alone; an engine’s own file has to be resolved first.'],
-  'unknown-word': ['has a word that names no capability, action, operator, architecture or flag, at', 'Write it with its prefix and in capitals, as CAP_NET_RAW or SCMP_ACT_ALLOW.'],
-  'not-in-profile': ['has a listener, which nobody could review, at', 'Take out listenerPath, listenerMetadata and the entries with SCMP_ACT_NOTIFY.'],
-  'bad-number': ['has a number that isn’t whole or is out of its bounds, at', 'Write a whole number from 0 to 18446744073709551615.'],
-  'effective-outside': ['has an effective capability that isn’t permitted, number', 'Add it to permitted, or take it out of effective.'],
-  'ambient-outside': ['has an ambient capability that isn’t both permitted and inheritable, number', 'Take it out of ambient, or add it to permitted and inheritable.'],
-  'too-many': ['has more entries, architectures, flags, names or comparisons than there may be', 'Put the names of one action and one list of comparisons into one entry.'],
+  'wrong-shape': ['has a value of another kind, or lacks a required member, at',
+    'Write there the form that a document has; no capabilities at all are written as {}.'],
+  'unknown-member': ['has a member that documents don’t have, at',
+    'From a bundle’s config.json take process.capabilities and linux.seccomp alone; an engine’s own file has to be resolved first.'],
+  'unknown-word': ['has a word that names no capability, action, operator, architecture or flag, at',
+    'Write it with its prefix and in capitals, as CAP_NET_RAW or SCMP_ACT_ALLOW.'],
+  'not-in-profile': ['has a listener, which nobody could review, at',
+    'Take out listenerPath, listenerMetadata and the entries with SCMP_ACT_NOTIFY.'],
+  'bad-number': ['has a number that isn’t whole or is out of its bounds, at',
+    'Write a whole number from 0 to 18446744073709551615.'],
+  'effective-outside': ['has an effective capability that isn’t permitted, number',
+    'Add it to permitted, or take it out of effective.'],
+  'ambient-outside': ['has an ambient capability that isn’t both permitted and inheritable, number',
+    'Take it out of ambient, or add it to permitted and inheritable.'],
+  'too-many': ['has more entries, architectures, flags, names or comparisons than there may be',
+    'Put the names of one action and one list of comparisons into one entry.'],
   'errno-not-taken': ['has an error number beside an action that takes none', 'Take the number out.'],
   'errno-too-large': ['has an error number above 65,535', '1 is EPERM, 38 is ENOSYS.'],
   'no-names': ['has an entry without a name', 'Take the entry out.'],
   'bad-call-name': ['has a name of a call that isn’t 1 to 64 of a-z, 0-9 and the underscore', 'Write it as in syscalls(2).'],
   'bad-index': ['has an index of an argument above 5', 'Arguments are counted from 0 to 5.'],
-  'index-twice': ['compares one argument twice in one entry', 'Make an entry for each comparison if one is to be enough; a range is said by a mask or the default.'],
-  'two-actions': ['has two entries with different actions for the call', 'Take the name out of the entries whose action isn’t meant.'],
+  'index-twice': ['compares one argument twice in one entry',
+    'Make an entry for each comparison if one is to be enough; a range is said by a mask or the default.'],
+  'two-actions': ['has two entries with different actions for the call',
+    'Take the name out of the entries whose action isn’t meant.'],
   'text-too-long': ['has a canonical text of more than 262,144 bytes', 'Join entries of one action.'],
 };
 
@@ -198,10 +221,14 @@ function refusal(kind, answer, about) {
     const fault = json.fault === undefined ? '' : `, ${json.fault}`;
     return [sentence, `Refused by rule ${json.rule} of ${kind}: ${json.word}${fault}`, way];
   }
-  if (json?.answer === 'fault') return ['The office couldn’t do it, and nothing was changed.', `Fault: ${json.word}`, STORE_FAULTS[json.word] ?? ''];
-  if (json?.word === 'too-large') return ['What was sent is too long.', `Status ${status}: too-large`, 'A document has at most 262,144 bytes.'];
-  if (json?.answer === 'bad') return ['What the page sent is no request of the office.', `Status ${status}: ${json.word}`, 'Look whether the page and the office are of one version.'];
-  if (status === 0) return ['No answer came.', '', 'Look whether you reach the office; then see what stands before you ask again.'];
+  if (json?.answer === 'fault') return ['The office couldn’t do it, and nothing was changed.', `Fault: ${json.word}`,
+    STORE_FAULTS[json.word] ?? ''];
+  if (json?.word === 'too-large') return ['What was sent is too long.', `Status ${status}: too-large`,
+    'A document has at most 262,144 bytes.'];
+  if (json?.answer === 'bad') return ['What the page sent is no request of the office.', `Status ${status}: ${json.word}`,
+    'Look whether the page and the office are of one version.'];
+  if (status === 0) return ['No answer came.', '',
+    'Look whether you reach the office; then see what stands before you ask again.'];
   return [`The proxy answered, and not the office.`, `Status ${status}`, PROXY_SAYS[status] ?? 'Those who run it have to look.'];
 }
 
@@ -314,7 +341,8 @@ function entriesOf(seccomp) {
     const errno = member(node, 'errnoRet');
     const action = plainly(member(node, 'action')) + (errno ? ` ${plainly(errno)}` : '');
     const names = items(member(node, 'names'));
-    return { number: index + 1, text: flat(node), names, named: names.join(' '), has: new Set(names), action, args, asked: args.map(flat).join(' ') };
+    return { number: index + 1, text: flat(node), names, named: names.join(' '), has: new Set(names), action, args,
+      asked: args.map(flat).join(' ') };
   });
 }
 
@@ -337,19 +365,22 @@ function differences(old, now) {
     if (was.beyond.length) put(place, 'removed', was.beyond.join(' '));
     if (was.both.join(' ') !== is.both.join(' ')) put(place, 'changed', `the order, now ${is.both.join(' ')}`);
   };
-  for (const set of SETS) lists(`capabilities, ${set}`, items(member(member(old, 'capabilities'), set)), items(member(member(now, 'capabilities'), set)));
+  for (const set of SETS) lists(`capabilities, ${set}`, items(member(member(old, 'capabilities'), set)),
+    items(member(member(now, 'capabilities'), set)));
   const [before, after] = [member(old, 'seccomp'), member(now, 'seccomp')];
   if (!before && after) put('seccomp', 'added', 'there was no filter, so every call was allowed');
   if (before && !after) put('seccomp', 'removed', 'there is no filter now, so every call is allowed');
   if (before || after) {
     for (const name of ['defaultAction', 'defaultErrnoRet']) {
       const [was, is] = [plainly(member(before, name)), plainly(member(after, name))];
-      if (was !== is) put(name === 'defaultAction' ? 'default action' : 'errno of the default', 'changed', `from ${was} to ${is}`);
+      if (was !== is) put(name === 'defaultAction' ? 'default action' : 'errno of the default', 'changed',
+        `from ${was} to ${is}`);
     }
     for (const name of ['architectures', 'flags']) lists(name, items(member(before, name)), items(member(after, name)));
     entries(entriesOf(before), entriesOf(after), put, lists);
   }
-  if (!found.length && flat(old) !== flat(now)) put('document', 'changed', 'the texts differ in a way that the page has no words for: read both');
+  if (!found.length && flat(old) !== flat(now)) put('document', 'changed',
+    'the texts differ in a way that the page has no words for: read both');
   return found;
 }
 
@@ -360,7 +391,8 @@ function entries(old, now, put, lists) {
   const of = (list, chosen) => {
     const left = new Map();
     for (const one of chosen) left.set(one, (left.get(one) ?? 0) + 1);
-    return [...list].reverse().filter((one) => { const count = left.get(one.text) ?? 0; left.set(one.text, count - 1); return count > 0; }).reverse();
+    return [...list].reverse().filter((one) => { const count = left.get(one.text)
+      ?? 0; left.set(one.text, count - 1); return count > 0; }).reverse();
   };
   let gone = of(old, was.beyond);
   let come = of(now, is.beyond);
@@ -383,7 +415,8 @@ function entries(old, now, put, lists) {
     if (one.asked !== other.asked) put(place, 'changed', `from ${asked(one)} to ${asked(other)}`);
   });
   for (const one of come) put(`entry ${one.number}`, 'added', `${one.action} for ${one.names.join(' ')}, ${asked(one)}`);
-  for (const one of gone) put(`entry ${one.number} of the issued one`, 'removed', `${one.action} for ${one.names.join(' ')}, ${asked(one)}`);
+  for (const one of gone) put(`entry ${one.number} of the issued one`, 'removed',
+    `${one.action} for ${one.names.join(' ')}, ${asked(one)}`);
   if (was.both.join() !== is.both.join()) put('entries', 'changed', 'those that both have stand in another order');
 }
 
@@ -426,9 +459,11 @@ function readSheet(text) {
 function still(sheet) {
   const state = sheet.value('state');
   if (state !== 'open') return { ready: false, text: `Revision ${sheet.value('revision')} is ${state}: it takes no votes.` };
-  if (sheet.rejecting.length) return { ready: false, text: `${listed(sheet.rejecting)} ${sheet.rejecting.length === 1 ? 'rejects' : 'reject'} it: it can’t be issued while that stands.` };
+  if (sheet.rejecting.length) return { ready: false,
+    text: `${listed(sheet.rejecting)} ${sheet.rejecting.length === 1 ? 'rejects' : 'reject'} it: it can’t be issued while that stands.` };
   if (sheet.approvals < sheet.need) return { ready: false, text: missing(sheet.approvals, sheet.need, sheet.secured) };
-  if (sheet.need === 2 && !sheet.secured) return { ready: false, text: `${sheet.approvals} of 2 approvals, and none with security: one with security is needed.` };
+  if (sheet.need === 2 && !sheet.secured) return { ready: false,
+    text: `${sheet.approvals} of 2 approvals, and none with security: one with security is needed.` };
   return { ready: true, text: 'It has the approvals that it needs: an issuer who is no author of it may issue it.' };
 }
 
@@ -446,7 +481,8 @@ function place() {
     return { view: 'profile', team: parts[1], profile: parts[2], revision: Number(parts[3] || 0), teams: [parts[1]] };
   }
   const view = ['queue', 'profiles', 'hand-in', 'enrol', 'fetch'].includes(parts[0]) ? parts[0] : 'queue';
-  return { view, team: WORD.test(parts[1]) ? parts[1] : '', profile: WORD.test(parts[2]) ? parts[2] : '', teams: [...new Set(names)] };
+  return { view, team: WORD.test(parts[1]) ? parts[1] : '', profile: WORD.test(parts[2]) ? parts[2] : '',
+    teams: [...new Set(names)] };
 }
 
 let teams = [];
@@ -460,10 +496,12 @@ function header(now) {
   at('places').hidden = at('who').hidden = !known;
   if (!known) return;
   const named = teams.join(',');
-  const targets = [['queue', 'Queue', `queue/${named}`], ['profiles', 'Profiles', `profiles/${named}`], ['hand-in', 'Hand in', 'hand-in'], ['enrol', 'Enrol', 'enrol'], ['fetch', 'Fetch', 'fetch']];
+  const targets = [['queue', 'Queue', `queue/${named}`], ['profiles', 'Profiles', `profiles/${named}`],
+    ['hand-in', 'Hand in', 'hand-in'], ['enrol', 'Enrol', 'enrol'], ['fetch', 'Fetch', 'fetch']];
   at('places').replaceChildren(el('ul', {}, targets.map(([view, text, target]) => el('li', {}, link(target, text, {
     id: `to-${view}`, 'aria-current': view === now.view || (view === 'profiles' && now.view === 'profile') ? 'page' : null })))));
-  at('who').replaceChildren(memory.name ? el('span', {}, memory.name) : el('span', {}, 'Token in memory'), ' ', button('forget', 'Forget the token', forget, 'quiet'));
+  at('who').replaceChildren(memory.name ? el('span', {}, memory.name) : el('span', {}, 'Token in memory'), ' ',
+    button('forget', 'Forget the token', forget, 'quiet'));
 }
 
 function forget() {
@@ -501,7 +539,8 @@ async function drawn(now) {
   try {
     return await VIEWS[now.view](now);
   } catch {
-    return el('p', { class: 'notice refused inline' }, 'What came is no answer of an office of this version, so nothing of it is shown.');
+    return el('p', { class: 'notice refused inline' },
+      'What came is no answer of an office of this version, so nothing of it is shown.');
   }
 }
 
@@ -511,8 +550,10 @@ function entrance() {
     const [token, name, named] = ['token', 'name', 'teams'].map((id) => at(id).value.trim());
     const list = named.split(/[\s,]+/).filter(Boolean);
     const bad = [...list, ...(name ? [name] : [])].find((one) => !WORD.test(one));
-    if (!TOKEN.test(token)) return say('refused', 'A token is 1 to 128 characters without spaces.', '', 'Enter the one that you were given.');
-    if (bad !== undefined) return say('refused', `“${bad}” is no name of a user or a team.`, '', 'A name is 1 to 64 of a-z, 0-9 and the hyphen.');
+    if (!TOKEN.test(token)) return say('refused', 'A token is 1 to 128 characters without spaces.', '',
+      'Enter the one that you were given.');
+    if (bad !== undefined) return say('refused', `“${bad}” is no name of a user or a team.`, '',
+      'A name is 1 to 64 of a-z, 0-9 and the hyphen.');
     memory.token = token;
     memory.name = name;
     at('token').value = '';
@@ -527,8 +568,10 @@ function entrance() {
     el('p', {}, 'Show your token, and name the teams whose profiles you work on. The token stays in the memory of this page alone, and is gone with the tab.'),
     el('form', { id: 'entrance', submit: enter },
       field('token', 'Token', null, { type: 'password', required: true, maxlength: '128', 'data-first': true }),
-      field('name', 'Your name in the office', 'Optional. The page finds your votes by it; the office knows you by your token.', { maxlength: '64' }),
-      field('teams', 'Teams', 'Optional, with commas between them, as: blue, green', { value: place().teams.join(', ') || teams.join(', ') }),
+      field('name', 'Your name in the office',
+        'Optional. The page finds your votes by it; the office knows you by your token.', { maxlength: '64' }),
+      field('teams', 'Teams', 'Optional, with commas between them, as: blue, green',
+        { value: place().teams.join(', ') || teams.join(', ') }),
       el('p', {}, el('button', { id: 'enter', class: 'main' }, 'Enter'))));
 }
 
@@ -537,17 +580,20 @@ function teamsForm(view) {
     event.preventDefault();
     const list = at('teams').value.split(/[\s,]+/).filter(Boolean);
     const bad = list.find((one) => !WORD.test(one));
-    if (bad !== undefined) return say('refused', `“${bad}” is no name of a team.`, '', 'A name is 1 to 64 of a-z, 0-9 and the hyphen.');
+    if (bad !== undefined) return say('refused', `“${bad}” is no name of a team.`, '',
+      'A name is 1 to 64 of a-z, 0-9 and the hyphen.');
     hush();
     to(`${view}/${[...new Set(list)].join(',')}`);
   };
-  return el('form', { class: 'row', id: 'teams-form', submit: go }, field('teams', 'Teams', null, { value: teams.join(', '), placeholder: 'blue, green' }),
+  return el('form', { class: 'row', id: 'teams-form', submit: go },
+    field('teams', 'Teams', null, { value: teams.join(', '), placeholder: 'blue, green' }),
     el('button', { id: 'teams-show' }, 'Show'));
 }
 
 function refused(kind, answer, about) {
   const [sentence, rule, way] = refusal(kind, answer, about);
-  return el('div', { class: 'notice refused inline' }, el('p', { class: 'sentence' }, sentence), rule && el('p', { class: 'rule' }, rule), way && el('p', { class: 'way' }, way));
+  return el('div', { class: 'notice refused inline' }, el('p', { class: 'sentence' }, sentence),
+    rule && el('p', { class: 'rule' }, rule), way && el('p', { class: 'way' }, way));
 }
 
 const badge = (state) => el('span', { class: `badge ${state}` }, state);
@@ -560,19 +606,23 @@ async function profilesView() {
     const list = answer.json?.profiles;
     parts.push(el('section', { 'aria-labelledby': `team-${team}` }, el('h2', { id: `team-${team}` }, `Team ${team}`),
       !answer.done || !list ? refused('list', answer, { team })
-        : !list.length ? el('p', { class: 'empty' }, `The team ${team} has no profile. Look whether its name is spelt right: the office answers so for any name.`)
+        : !list.length ? el('p', { class: 'empty' },
+          `The team ${team} has no profile. Look whether its name is spelt right: the office answers so for any name.`)
           : el('ul', { class: 'cards' }, list.map((one) => el('li', { class: 'card item' },
-            link(`profile/${team}/${one.profile}/${one.revisions}`, one.profile, { class: 'name', id: `open-${team}-${one.profile}` }),
+            link(`profile/${team}/${one.profile}/${one.revisions}`, one.profile,
+              { class: 'name', id: `open-${team}-${one.profile}` }),
             el('dl', {},
               el('div', {}, el('dt', {}, 'Last revision'), el('dd', {}, `${one.revisions} `, badge(one.state))),
               el('div', {}, el('dt', {}, 'Issued'), el('dd', {}, one.issued ? `revision ${one.issued}` : 'none')),
-              el('div', {}, el('dt', {}, 'Waits for votes'), el('dd', {}, one.state === 'open' ? `revision ${one.revisions}` : 'nothing'))))))));
+              el('div', {}, el('dt', {}, 'Waits for votes'),
+                el('dd', {}, one.state === 'open' ? `revision ${one.revisions}` : 'nothing'))))))));
   }
   return parts;
 }
 
 async function queueView() {
-  const parts = [el('h1', { tabindex: '-1', 'data-first': true }, 'Queue'), el('p', { class: 'lead' }, 'What is open in these teams, and what it still needs.'), teamsForm('queue')];
+  const parts = [el('h1', { tabindex: '-1', 'data-first': true }, 'Queue'),
+    el('p', { class: 'lead' }, 'What is open in these teams, and what it still needs.'), teamsForm('queue')];
   if (!teams.length) return [parts, el('p', { class: 'empty' }, 'Name the teams whose open revisions you want to see.')];
   for (const team of teams) {
     const answer = await ask('GET', `/p/${team}`);
@@ -586,16 +636,20 @@ async function queueView() {
       const own = sheet?.votes.find((vote) => vote.name === memory.name);
       const needs = sheet && still(sheet);
       rows.push({ waits: !own, row: el('li', { class: 'card item' },
-        link(`profile/${team}/${one.profile}/${one.revisions}`, `${one.profile}, revision ${one.revisions}`, { class: 'name', id: `open-${team}-${one.profile}` }),
+        link(`profile/${team}/${one.profile}/${one.revisions}`, `${one.profile}, revision ${one.revisions}`,
+          { class: 'name', id: `open-${team}-${one.profile}` }),
         !sheet ? refused('sheet', got, about) : el('dl', {},
           el('div', { class: 'wide' }, el('dt', {}, 'Still needs'), el('dd', { class: needs.ready ? 'ready' : '' }, needs.text)),
           el('div', {}, el('dt', {}, 'New'), el('dd', {}, some(sheet.findings.length, 'finding'))),
-          memory.name && el('div', {}, el('dt', {}, 'Your vote'), el('dd', {}, own ? `you ${own.vote === 'approve' ? 'approved' : 'rejected'}${own.lapsed ? ', lapsed' : ''}` : 'not yet')))) });
+          memory.name && el('div', {}, el('dt', {}, 'Your vote'),
+            el('dd', {}, own ? `you ${own.vote === 'approve' ? 'approved' : 'rejected'}${own.lapsed ? ', lapsed' : ''}`
+            : 'not yet')))) });
     }
     rows.sort((one, other) => Number(other.waits) - Number(one.waits));
     parts.push(el('section', { 'aria-labelledby': `team-${team}` }, el('h2', { id: `team-${team}` }, `Team ${team}`),
       !answer.done || !list ? refused('list', answer, { team })
-        : !list.length ? el('p', { class: 'empty' }, `The team ${team} has no profile. Look whether its name is spelt right: the office answers so for any name.`)
+        : !list.length ? el('p', { class: 'empty' },
+          `The team ${team} has no profile. Look whether its name is spelt right: the office answers so for any name.`)
           : !open.length ? el('p', { class: 'empty' }, `Nothing is open. The team has ${some(list.length, 'profile')}.`)
             : el('ul', { class: 'cards' }, rows.map((one) => one.row))));
   }
@@ -617,11 +671,13 @@ async function profileView(now) {
   if (!shown.done || typeof shown.json?.document !== 'string') return [title, refused('show', shown, about)];
   const sheetAnswer = await ask('GET', path(about, '/sheet'));
   const sheet = sheetAnswer.done ? readSheet(sheetAnswer.text) : null;
-  if (!sheet) return [title, sheetAnswer.done ? el('p', { class: 'notice refused inline' }, 'What came as its sheet is no review sheet.') : refused('sheet', sheetAnswer, about)];
+  if (!sheet) return [title, sheetAnswer.done ? el('p', { class: 'notice refused inline' },
+    'What came as its sheet is no review sheet.') : refused('sheet', sheetAnswer, about)];
   const text = shown.json.document;
   let tree = null;
   try { tree = readJson(text); } catch { /* shown as it is */ }
-  const pre = el('pre', { id: 'document', tabindex: '0', role: 'region', 'aria-label': 'The document as indented JSON' }, tree ? indented(tree) : text);
+  const pre = el('pre', { id: 'document', tabindex: '0', role: 'region', 'aria-label': 'The document as indented JSON' },
+    tree ? indented(tree) : text);
   const reading = await verified(about, shown.json, sheet, pre, text);
   about.rejecting = sheet.rejecting;
   about.secured = sheet.secured;
@@ -634,18 +690,29 @@ async function profileView(now) {
       revisionChoice(about, own),
       el('dl', {},
         el('div', {}, el('dt', {}, 'Still needed'), el('dd', { id: 'needed', class: needs.ready ? 'ready' : '' }, needs.text)),
-        el('div', {}, el('dt', {}, 'Issued now'), el('dd', {}, own.issued ? own.issued === about.revision ? 'this revision' : ['revision ', link(`profile/${about.team}/${about.profile}/${own.issued}`, String(own.issued))] : 'no revision')),
+        el('div', {}, el('dt', {}, 'Issued now'), el('dd', {},
+          own.issued ? own.issued === about.revision ? 'this revision'
+          : ['revision ', link(`profile/${about.team}/${about.profile}/${own.issued}`, String(own.issued))] : 'no revision')),
         el('div', {}, el('dt', {}, 'Compared with'), el('dd', { id: 'baseline' }, baselineSaid(sheet, about))),
-        el('div', { class: 'wide' }, el('dt', {}, 'SHA-256 of the text below'), el('dd', {}, el('code', { id: 'digest', class: 'digest' }, reading.digest), el('span', { class: `told ${reading.same ? 'ready' : 'wrong'}` }, reading.same ? 'It is the digest that the sheet names.' : reading.own ? 'It is not the digest that the sheet names.' : 'The sheet is of another revision.')))),
-      el('p', { class: 'jump' }, button('to-decide', 'To the decision', () => { at('decide').scrollIntoView(); at('decide').focus({ preventScroll: true }); }, 'quiet'))),
+        el('div', { class: 'wide' }, el('dt', {}, 'SHA-256 of the text below'),
+          el('dd', {}, el('code', { id: 'digest', class: 'digest' }, reading.digest),
+          el('span', { class: `told ${reading.same ? 'ready' : 'wrong'}` },
+          reading.same ? 'It is the digest that the sheet names.' : reading.own
+          ? 'It is not the digest that the sheet names.' : 'The sheet is of another revision.')))),
+      el('p', { class: 'jump' }, button('to-decide', 'To the decision',
+        () => { at('decide').scrollIntoView(); at('decide').focus({ preventScroll: true }); }, 'quiet'))),
     el('div', { class: 'beside' },
       el('div', {}, findingsCard(sheet), keepsCard(sheet)),
       el('div', {}, await differsCard(about, own, tree), votesCard(sheet, needs))),
     grantsCard(sheet),
     el('section', { class: 'card', 'aria-labelledby': 'document-title' }, el('h2', { id: 'document-title' }, 'The document'),
-      el('p', { class: 'hint' }, tree ? `${some(new TextEncoder().encode(text).length, 'byte')}; only line feeds and indents are added here.` : 'This text is no JSON, so it is shown as it came.'), pre),
+      el('p', { class: 'hint' },
+        tree ? `${some(new TextEncoder().encode(text).length, 'byte')}; only line feeds and indents are added here.`
+        : 'This text is no JSON, so it is shown as it came.'), pre),
     decideCard(about, state, reading, own),
-    el('details', { class: 'card' }, el('summary', {}, 'The sheet as the office wrote it'), el('pre', { id: 'sheet', tabindex: '0', role: 'region', 'aria-label': 'The sheet as the office wrote it' }, sheet.text)),
+    el('details', { class: 'card' }, el('summary', {}, 'The sheet as the office wrote it'),
+      el('pre', { id: 'sheet', tabindex: '0', role: 'region', 'aria-label': 'The sheet as the office wrote it' },
+      sheet.text)),
   ];
 }
 
@@ -658,27 +725,33 @@ async function verified(about, json, sheet, pre, text) {
 }
 
 function revisionChoice(about, own) {
-  const select = el('select', { id: 'revision', change: (event) => to(`profile/${about.team}/${about.profile}/${event.target.value}`) });
+  const select = el('select',
+    { id: 'revision', change: (event) => to(`profile/${about.team}/${about.profile}/${event.target.value}`) });
   const last = Math.max(own.revisions, about.revision);
   for (let number = last; number >= 1; number--) {
-    const note = [number === own.revisions ? `last, ${own.state}` : '', number === own.issued && own.state !== 'issued' ? 'issued' : ''].filter(Boolean).join(', ');
-    select.append(el('option', { value: String(number), selected: number === about.revision }, note ? `${number} (${note})` : String(number)));
+    const note = [number === own.revisions ? `last, ${own.state}` : '',
+      number === own.issued && own.state !== 'issued' ? 'issued' : ''].filter(Boolean).join(', ');
+    select.append(el('option', { value: String(number), selected: number === about.revision },
+      note ? `${number} (${note})` : String(number)));
   }
   return el('p', { class: 'field' }, el('label', { for: 'revision' }, 'Revision'), select);
 }
 
 function baselineSaid(sheet, about) {
   const [profile, number] = sheet.value('baseline').split(' ');
-  return number === undefined ? 'the closed profile: no adopted revision stands' : ['the team’s baseline, ', link(`profile/${about.team}/${profile}/${number}`, `${profile} ${number}`)];
+  return number === undefined ? 'the closed profile: no adopted revision stands'
+    : ['the team’s baseline, ', link(`profile/${about.team}/${profile}/${number}`, `${profile} ${number}`)];
 }
 
 function names(text) {
-  return text === 'none' || text === '' ? el('span', { class: 'none' }, 'none') : el('span', { class: 'chips' }, text.split(' ').map((one) => [code(one), ' ']));
+  return text === 'none' || text === '' ? el('span', { class: 'none' }, 'none')
+    : el('span', { class: 'chips' }, text.split(' ').map((one) => [code(one), ' ']));
 }
 
 function findingsCard(sheet) {
   const calls = sheet.findings.filter((line) => line.startsWith('call ')).map((line) => line.slice(5));
-  const sets = SETS.map((set) => [set, sheet.findings.filter((line) => line.startsWith(`capability ${set} `)).map((line) => line.split(' ')[2])]).filter((one) => one[1].length);
+  const sets = SETS.map((set) => [set,
+    sheet.findings.filter((line) => line.startsWith(`capability ${set} `)).map((line) => line.split(' ')[2])]).filter((one) => one[1].length);
   const others = sheet.findings.filter((line) => !line.startsWith('call ') && !line.startsWith('capability '));
   const words = (line) => {
     if (line === 'no-seccomp') return 'There is no filter, and the baseline has one: every call is allowed.';
@@ -691,16 +764,20 @@ function findingsCard(sheet) {
   const calm = !sheet.findings.length;
   return el('section', { class: `card findings ${calm ? 'calm' : ''}`, 'aria-labelledby': 'findings-title' },
     el('h2', { id: 'findings-title' }, 'New against the baseline'),
-    el('p', { class: 'lead', id: 'findings-count' }, calm ? 'Nothing: no capability and no call is permitted more.' : `${some(sheet.findings.length, 'finding')}.`),
+    el('p', { class: 'lead', id: 'findings-count' }, calm ? 'Nothing: no capability and no call is permitted more.'
+      : `${some(sheet.findings.length, 'finding')}.`),
     el('ul', { class: 'plain' },
       sets.map(([set, caps]) => el('li', {}, el('span', { class: 'tag' }, `Capabilities, ${set}`), names(caps.join(' ')))),
       others.map((line) => el('li', {}, words(line))),
-      calls.length > 0 && el('li', {}, el('span', { class: 'tag' }, `${some(calls.length, 'call')} that may be permitted more`), names(calls.join(' ')))),
-    sheet.value('listed') !== 'none' && el('p', {}, el('span', { class: 'tag' }, 'Listed by this office, so two approvals are needed whatever is new'), names(sheet.value('listed'))));
+      calls.length > 0 && el('li', {}, el('span', { class: 'tag' },
+        `${some(calls.length, 'call')} that may be permitted more`), names(calls.join(' ')))),
+    sheet.value('listed') !== 'none' && el('p', {}, el('span', { class: 'tag' },
+      'Listed by this office, so two approvals are needed whatever is new'), names(sheet.value('listed'))));
 }
 
 function keepsCard(sheet) {
-  const rows = (who) => ['permitted', 'effective', 'ambient'].map((set) => el('tr', {}, el('th', { scope: 'row' }, set), el('td', {}, names(sheet.value(`${who} ${set}`)))));
+  const rows = (who) => ['permitted', 'effective', 'ambient'].map((set) => el('tr', {}, el('th', { scope: 'row' }, set),
+    el('td', {}, names(sheet.value(`${who} ${set}`)))));
   const table = (who, text) => el('table', {}, el('caption', {}, text), el('tbody', {}, rows(who)));
   return el('section', { class: 'card', 'aria-labelledby': 'keeps-title' }, el('h2', { id: 'keeps-title' }, 'What execve keeps'),
     table('plain', 'A process that starts a file without capabilities has'),
@@ -708,72 +785,103 @@ function keepsCard(sheet) {
 }
 
 function grantsCard(sheet) {
-  const rows = [...SETS.map((set) => [set, sheet.value(set)]), ['architectures', sheet.value('architectures')], ['flags', sheet.value('flags')]].filter((one) => one[1] !== '');
+  const rows = [...SETS.map((set) => [set, sheet.value(set)]), ['architectures', sheet.value('architectures')],
+    ['flags', sheet.value('flags')]].filter((one) => one[1] !== '');
   const filter = sheet.value('seccomp');
-  return el('section', { class: 'card', 'aria-labelledby': 'grants-title' }, el('h2', { id: 'grants-title' }, 'What the document grants'),
-    el('p', {}, 'Calls without an entry: ', filter === 'none' ? 'there is no filter, and every call is allowed.' : [code(filter), `, with ${some(Number(sheet.value('entries')), 'entry', 'entries')}.`]),
-    el('table', {}, el('caption', {}, 'Capabilities by set'), el('tbody', {}, rows.map(([name, value]) => el('tr', {}, el('th', { scope: 'row' }, name), el('td', {}, names(value)))))));
+  return el('section', { class: 'card', 'aria-labelledby': 'grants-title' },
+    el('h2', { id: 'grants-title' }, 'What the document grants'),
+    el('p', {}, 'Calls without an entry: ', filter === 'none' ? 'there is no filter, and every call is allowed.'
+      : [code(filter), `, with ${some(Number(sheet.value('entries')), 'entry', 'entries')}.`]),
+    el('table', {}, el('caption', {}, 'Capabilities by set'),
+      el('tbody', {}, rows.map(([name, value]) => el('tr', {}, el('th', { scope: 'row' }, name),
+      el('td', {}, names(value)))))));
 }
 
 function votesCard(sheet, needs) {
   return el('section', { class: 'card', 'aria-labelledby': 'votes-title' }, el('h2', { id: 'votes-title' }, 'Votes'),
-    sheet.votes.length ? el('ul', { class: 'plain', id: 'votes' }, sheet.votes.map((vote) => el('li', { class: vote.lapsed ? 'lapsed' : vote.vote },
-      el('strong', {}, vote.name), vote.name === memory.name ? ' (you) ' : ' ', voteSaid(vote)))) : el('p', { class: 'empty' }, 'Nobody has voted.'),
-    el('p', {}, `It needs ${sheet.need === 2 ? 'two approvals, at least one with security' : 'one approval'}. `, el('span', { class: needs.ready ? 'ready' : '' }, needs.text)));
+    sheet.votes.length ? el('ul', { class: 'plain', id: 'votes' },
+      sheet.votes.map((vote) => el('li', { class: vote.lapsed ? 'lapsed' : vote.vote },
+      el('strong', {}, vote.name), vote.name === memory.name ? ' (you) ' : ' ', voteSaid(vote))))
+        : el('p', { class: 'empty' }, 'Nobody has voted.'),
+    el('p', {}, `It needs ${sheet.need === 2 ? 'two approvals, at least one with security' : 'one approval'}. `,
+      el('span', { class: needs.ready ? 'ready' : '' }, needs.text)));
 }
 
 async function differsCard(about, own, tree) {
   const card = (...inside) => el('section', { class: 'card', id: 'differs', 'aria-labelledby': 'differs-title' },
-    el('h2', { id: 'differs-title' }, own.issued && own.issued !== about.revision ? `What differs from revision ${own.issued}, which is issued` : 'What differs from what is issued'), inside);
-  if (!own.issued) return card(el('p', { class: 'empty' }, 'No revision of this profile is issued, so there is nothing to compare.'));
+    el('h2', { id: 'differs-title' }, own.issued && own.issued !== about.revision
+      ? `What differs from revision ${own.issued}, which is issued` : 'What differs from what is issued'), inside);
+  if (!own.issued) return card(el('p', { class: 'empty' },
+    'No revision of this profile is issued, so there is nothing to compare.'));
   if (own.issued === about.revision) return card(el('p', { class: 'empty' }, 'This is the revision that is issued.'));
   const issued = { ...about, revision: own.issued };
   const answer = await ask('GET', path(issued));
   if (!answer.done || typeof answer.json?.document !== 'string') return card(refused('show', answer, issued));
   let old = null;
   try { old = readJson(answer.json.document); } catch { /* said below */ }
-  if (!old || !tree) return card(el('p', { class: 'notice refused inline' }, 'One of the two texts is no JSON, so the page can’t compare them.'));
-  if (await sha256(answer.json.document) !== answer.json.digest) return card(el('p', { class: 'notice refused inline' }, 'The issued text isn’t the one that its digest names, so the page compares nothing.'));
+  if (!old || !tree) return card(el('p', { class: 'notice refused inline' },
+    'One of the two texts is no JSON, so the page can’t compare them.'));
+  if (await sha256(answer.json.document) !== answer.json.digest) return card(el('p', { class: 'notice refused inline' },
+    'The issued text isn’t the one that its digest names, so the page compares nothing.'));
   const found = differences(old, tree);
   const group = (how, sign) => found.filter((one) => one.how === how).map((one) => el('li', { class: how },
-    el('span', { class: 'sign' }, `${sign} ${how}`), el('div', {}, el('span', { class: 'place' }, one.place), ' ', code(one.what))));
-  return card(el('p', { class: 'hint' }, 'Worked out in this page, entry by entry, and not by the office. Removals and error numbers are here too.'),
-    found.length ? el('ul', { class: 'plain differences' }, group('added', '+'), group('removed', '−'), group('changed', '±')) : el('p', { class: 'empty' }, 'Nothing: the texts are the same.'));
+    el('span', { class: 'sign' }, `${sign} ${how}`), el('div', {}, el('span', { class: 'place' }, one.place), ' ',
+      code(one.what))));
+  return card(el('p', { class: 'hint' },
+    'Worked out in this page, entry by entry, and not by the office. Removals and error numbers are here too.'),
+    found.length ? el('ul', { class: 'plain differences' }, group('added', '+'), group('removed', '−'),
+      group('changed', '±')) : el('p', { class: 'empty' }, 'Nothing: the texts are the same.'));
 }
 
 function decideCard(about, state, reading, own) {
   const whole = `${about.team}/${about.profile}`;
   const one = `revision ${about.revision} of ${whole}`;
-  const group = (id, who, ...inside) => el('div', { class: 'group', role: 'group', 'aria-labelledby': `${id}-group` }, el('h3', { id: `${id}-group` }, who), inside);
+  const group = (id, who, ...inside) => el('div', { class: 'group', role: 'group', 'aria-labelledby': `${id}-group` },
+    el('h3', { id: `${id}-group` }, who), inside);
   const votes = !reading.same
     ? el('div', { class: 'notice refused inline', role: 'alert', id: 'no-vote' },
-      el('p', { class: 'sentence' }, reading.own ? 'The text on this screen isn’t the one that the sheet names, so this page offers no vote.' : 'The sheet is of another revision than the one that was asked for, so this page offers no vote.'),
-      el('p', { class: 'rule' }, 'On the screen: ', code(reading.digest)), el('p', { class: 'rule' }, 'The sheet names: ', code(reading.named)),
+      el('p', { class: 'sentence' },
+        reading.own ? 'The text on this screen isn’t the one that the sheet names, so this page offers no vote.'
+        : 'The sheet is of another revision than the one that was asked for, so this page offers no vote.'),
+      el('p', { class: 'rule' }, 'On the screen: ', code(reading.digest)),
+        el('p', { class: 'rule' }, 'The sheet names: ', code(reading.named)),
       el('p', { class: 'way' }, 'It was changed on the way. Load it anew; if it stays so, tell those who run the proxy.'))
     : state !== 'open' ? el('p', { class: 'hint' }, `It is ${state}, so there is nothing to vote on.`)
       : [el('p', { class: 'hint' }, 'A vote is of the very text above, by its digest.'),
-        button('approve', 'Approve this text', () => vote(about, reading, 'approve'), 'main'), button('reject', 'Reject this text', () => vote(about, reading, 'reject'), 'danger')];
+        button('approve', 'Approve this text', () => vote(about, reading, 'approve'), 'main'),
+          button('reject', 'Reject this text', () => vote(about, reading, 'reject'), 'danger')];
   const act = (kind, id, text, method, sure, done, look) => button(id, text, async () => {
     if (await confirmed(text, sure)) await carry(kind, about, method[0], method[1], done);
   }, look);
-  return el('section', { class: 'card decide', id: 'decide', tabindex: '-1', 'aria-labelledby': 'decide-title' }, el('h2', { id: 'decide-title' }, 'Decide'),
+  return el('section', { class: 'card decide', id: 'decide', tabindex: '-1', 'aria-labelledby': 'decide-title' },
+    el('h2', { id: 'decide-title' }, 'Decide'),
     el('div', { class: 'groups' },
       group('vote', 'Reviewers vote', votes),
       group('issue', 'An issuer issues', state === 'open'
-        ? act('issue', 'issue', `Issue revision ${about.revision}`, ['POST', path(about, '/issue')], `Hosts of ${about.team} will fetch ${one}${own.issued ? `, in place of revision ${own.issued}` : ''}.`, `${cap(one)} is issued.`, '')
+        ? act('issue', 'issue', `Issue revision ${about.revision}`, ['POST', path(about, '/issue')],
+          `Hosts of ${about.team} will fetch ${one}${own.issued ? `, in place of revision ${own.issued}` : ''}.`,
+          `${cap(one)} is issued.`, '')
         : el('p', { class: 'hint' }, `It is ${state}; only an open revision is issued.`)),
       group('withdraw', 'An author of the team or security withdraws', state === 'open' || state === 'issued'
-        ? act('withdraw', 'withdraw', `Withdraw revision ${about.revision}`, ['POST', path(about, '/withdraw')], state === 'issued' ? `Hosts get nothing of ${whole} any more: no older revision comes back.` : `${cap(one)} takes no more votes, and can’t be issued.`, `${cap(one)} is withdrawn.`, 'danger')
+        ? act('withdraw', 'withdraw', `Withdraw revision ${about.revision}`, ['POST', path(about, '/withdraw')],
+          state === 'issued' ? `Hosts get nothing of ${whole} any more: no older revision comes back.`
+          : `${cap(one)} takes no more votes, and can’t be issued.`, `${cap(one)} is withdrawn.`, 'danger')
         : el('p', { class: 'hint' }, `It is ${state}; nothing is to be withdrawn.`)),
       group('adopt', 'Security adopts', state === 'issued'
-        ? act('adopt', 'adopt', `Adopt revision ${about.revision}`, ['POST', path(about, '/adopt')], `What the team ${about.team} hands in is compared with ${one} from now on.`, `${cap(one)} is the baseline of the team ${about.team}.`, '')
+        ? act('adopt', 'adopt', `Adopt revision ${about.revision}`, ['POST', path(about, '/adopt')],
+          `What the team ${about.team} hands in is compared with ${one} from now on.`,
+          `${cap(one)} is the baseline of the team ${about.team}.`, '')
         : el('p', { class: 'hint' }, `It is ${state}; only an issued revision becomes a baseline.`)),
       group('hold', 'Security holds and releases the whole profile',
         el('p', { class: 'hint' }, 'The office shows nowhere whether a profile is held; it says so when asked.'),
-        act('hold', 'hold', 'Hold', ['POST', `/hold/${whole}`], `Nothing of ${whole} is issued or fetched until it is released.`, `${whole} is held: nothing of it is issued or fetched.`, 'danger'),
-        act('release', 'release', 'Release', ['POST', `/release/${whole}`], `${whole} can be issued and fetched again.`, `${whole} is released: it can be issued and fetched again.`, '')),
+        act('hold', 'hold', 'Hold', ['POST', `/hold/${whole}`],
+          `Nothing of ${whole} is issued or fetched until it is released.`,
+          `${whole} is held: nothing of it is issued or fetched.`, 'danger'),
+        act('release', 'release', 'Release', ['POST', `/release/${whole}`], `${whole} can be issued and fetched again.`,
+          `${whole} is released: it can be issued and fetched again.`, '')),
       group('further', 'More',
-        el('p', {}, link(`hand-in/${whole}`, 'Hand in another revision'), ' · ', link(`fetch/${whole}`, 'Fetch what is issued')))));
+        el('p', {}, link(`hand-in/${whole}`, 'Hand in another revision'), ' · ',
+          link(`fetch/${whole}`, 'Fetch what is issued')))));
 }
 
 const cap = (text) => text[0].toUpperCase() + text.slice(1);
@@ -783,7 +891,8 @@ function confirmed(title, text) {
   const sure = at('sure');
   return new Promise((answer) => {
     sure.replaceChildren(el('h2', { id: 'sure-title' }, `${title}?`), el('p', { id: 'sure-text' }, text),
-      el('p', { class: 'buttons' }, button('sure-yes', title, () => sure.close('yes'), 'main'), button('sure-no', 'Go back', () => sure.close('no'), '')));
+      el('p', { class: 'buttons' }, button('sure-yes', title, () => sure.close('yes'), 'main'),
+        button('sure-no', 'Go back', () => sure.close('no'), '')));
     sure.returnValue = 'no';
     sure.addEventListener('close', () => answer(sure.returnValue === 'yes'), { once: true });
     sure.showModal();
@@ -818,15 +927,19 @@ function handInView(now) {
     const [team, profile] = [at('hand-team').value.trim(), at('hand-profile').value.trim()];
     const file = at('hand-file').files[0];
     const bad = [team, profile].find((one) => !WORD.test(one));
-    if (bad !== undefined) return say('refused', `“${bad}” is no name of a team or a profile.`, '', 'A name is 1 to 64 of a-z, 0-9 and the hyphen.');
+    if (bad !== undefined) return say('refused', `“${bad}” is no name of a team or a profile.`, '',
+      'A name is 1 to 64 of a-z, 0-9 and the hyphen.');
     if (!file) return say('refused', 'No file is chosen.', '', 'Choose the file of the document.');
-    if (file.size > MOST_BYTES) return say('refused', `${file.name} has ${file.size} bytes, so it wasn’t sent: a document has at most 262,144.`, 'too-long', FAULTS['too-long'][1]);
+    if (file.size > MOST_BYTES) return say('refused',
+      `${file.name} has ${file.size} bytes, so it wasn’t sent: a document has at most 262,144.`, 'too-long',
+      FAULTS['too-long'][1]);
     hush();
     const answer = await ask('POST', `/p/${team}/${profile}`, file);
     if (answer.done && answer.json?.answer === 'done') {
       const { revision, digest } = answer.json;
       say('done', `${file.name} is revision ${revision} of ${team}/${profile}. It is open, and its canonical text has the digest ${digest}.`);
-      at('hand-after').replaceChildren(el('p', {}, link(`profile/${team}/${profile}/${revision}`, `Look at revision ${revision}`, { id: 'hand-look' })));
+      at('hand-after').replaceChildren(el('p', {}, link(`profile/${team}/${profile}/${revision}`,
+        `Look at revision ${revision}`, { id: 'hand-look' })));
     } else {
       const [sentence, rule, way] = refusal('submit', answer, { team, profile });
       say('refused', `${file.name} was not taken. ${sentence}`, rule, way);
@@ -836,8 +949,10 @@ function handInView(now) {
   return el('section', { class: 'card narrow' }, el('h1', { tabindex: '-1', 'data-first': true }, 'Hand in a document'),
     el('p', {}, 'The office looks at the file first, as its command “check” does. One that reads is the next revision of the profile at once; else nothing changes, and you are told its first fault.'),
     el('form', { id: 'hand-in', submit: send },
-      field('hand-team', 'Team', null, { value: now.team || (teams.length === 1 ? teams[0] : ''), required: true, maxlength: '64' }),
-      field('hand-profile', 'Profile', 'A new name makes a new profile.', { value: now.profile, required: true, maxlength: '64' }),
+      field('hand-team', 'Team', null, { value: now.team || (teams.length === 1 ? teams[0] : ''), required: true,
+        maxlength: '64' }),
+      field('hand-profile', 'Profile', 'A new name makes a new profile.',
+        { value: now.profile, required: true, maxlength: '64' }),
       field('hand-file', 'File', 'JSON of “capabilities” and “seccomp”, at most 262,144 bytes.', { type: 'file' }),
       el('p', {}, el('button', { id: 'hand-send', class: 'main' }, 'Hand in'))),
     el('div', { id: 'hand-after' }));
@@ -851,7 +966,8 @@ function enrolView() {
     const token = [...bytes].map((byte) => byte.toString(16).padStart(2, '0')).join('');
     at('enrol-digest').value = await sha256(token);
     at('enrol-token').replaceChildren(el('div', { class: 'notice plain inline' },
-      el('p', { class: 'sentence' }, 'The token, shown this once. Give it to its user by a way that nobody else reads; neither this page nor the office keeps it.'),
+      el('p', { class: 'sentence' },
+        'The token, shown this once. Give it to its user by a way that nobody else reads; neither this page nor the office keeps it.'),
       el('p', {}, el('code', { id: 'made-token', class: 'digest' }, token)),
       button('made-away', 'I have it, hide it', () => { at('enrol-token').replaceChildren(); at('enrol-user').focus(); }, '')));
   };
@@ -860,7 +976,8 @@ function enrolView() {
     const [user, team, digest] = ['enrol-user', 'enrol-team', 'enrol-digest'].map((id) => at(id).value.trim());
     const roles = ROLES.filter((role) => at(`role-${role}`).checked);
     const bad = [user, team].find((one) => !WORD.test(one));
-    if (bad !== undefined) return say('refused', `“${bad}” is no name of a user or a team.`, '', 'A name is 1 to 64 of a-z, 0-9 and the hyphen.');
+    if (bad !== undefined) return say('refused', `“${bad}” is no name of a user or a team.`, '',
+      'A name is 1 to 64 of a-z, 0-9 and the hyphen.');
     if (!/^[0-9a-f]{64}$/.test(digest)) return say('refused', 'A digest is 64 digits 0-9 and a-f.', '', 'Make a token here, or enter the SHA-256 of the user’s own: printf TOKEN | sha256sum');
     hush();
     const answer = await ask('POST', '/users', JSON.stringify({ user, team, roles, digest }));
@@ -874,8 +991,11 @@ function enrolView() {
     el('form', { id: 'enrol', submit: send },
       field('enrol-user', 'User', null, { required: true, maxlength: '64' }),
       field('enrol-team', 'Team', 'A user stays in one team for good.', { required: true, maxlength: '64' }),
-      el('fieldset', {}, el('legend', {}, 'Roles'), ROLES.map((role) => el('label', { class: 'check' }, el('input', { type: 'checkbox', id: `role-${role}` }), ` ${role}`))),
-      field('enrol-digest', 'Digest of the token', 'SHA-256 of the token, 64 digits. Make a token here, or enter what its user gave you.', { required: true, maxlength: '64', class: 'digest' }),
+      el('fieldset', {}, el('legend', {}, 'Roles'), ROLES.map((role) => el('label', { class: 'check' },
+        el('input', { type: 'checkbox', id: `role-${role}` }), ` ${role}`))),
+      field('enrol-digest', 'Digest of the token',
+        'SHA-256 of the token, 64 digits. Make a token here, or enter what its user gave you.',
+        { required: true, maxlength: '64', class: 'digest' }),
       el('p', {}, button('enrol-make', 'Make a token', make, '')),
       el('div', { id: 'enrol-token', 'aria-live': 'polite' }),
       el('p', {}, el('button', { id: 'enrol-send', class: 'main' }, 'Enrol'))));
@@ -888,7 +1008,8 @@ function fetchView(now) {
     event.preventDefault();
     const [team, profile] = [at('fetch-team').value.trim(), at('fetch-profile').value.trim()];
     const bad = [team, profile].find((one) => !WORD.test(one));
-    if (bad !== undefined) return say('refused', `“${bad}” is no name of a team or a profile.`, '', 'A name is 1 to 64 of a-z, 0-9 and the hyphen.');
+    if (bad !== undefined) return say('refused', `“${bad}” is no name of a team or a profile.`, '',
+      'A name is 1 to 64 of a-z, 0-9 and the hyphen.');
     hush();
     at('fetched').replaceChildren();
     const answer = await ask('GET', `/issued/${team}/${profile}`);
@@ -896,26 +1017,31 @@ function fetchView(now) {
     const digest = await sha256(answer.bytes);
     let shown = answer.text;
     try { shown = indented(readJson(answer.text)); } catch { /* shown as it is */ }
-    at('fetched').replaceChildren(el('h2', {}, 'What was fetched'), el('p', {}, 'SHA-256 of it: ', el('code', { id: 'fetched-digest', class: 'digest' }, digest)),
-      el('p', { class: 'notice plain inline' }, 'This is a whole document. An engine that is given it as its seccomp file sets no filter at all, and says nothing: give it the member “seccomp” alone, and read back what the engine wrote.'),
+    at('fetched').replaceChildren(el('h2', {}, 'What was fetched'),
+      el('p', {}, 'SHA-256 of it: ', el('code', { id: 'fetched-digest', class: 'digest' }, digest)),
+      el('p', { class: 'notice plain inline' },
+        'This is a whole document. An engine that is given it as its seccomp file sets no filter at all, and says nothing: give it the member “seccomp” alone, and read back what the engine wrote.'),
       el('pre', { id: 'fetched-text', tabindex: '0', role: 'region', 'aria-label': 'What was fetched' }, shown));
     say('done', `${team}/${profile} was fetched: ${some(answer.bytes.byteLength, 'byte')}, with the digest ${digest}.`);
   };
   return el('section', { class: 'card narrow' }, el('h1', { tabindex: '-1', 'data-first': true }, 'Fetch what is issued'),
     el('p', {}, 'What a host gets, by the token of a machine of the team. Hosts do this by a script; here you see what they see.'),
     el('form', { id: 'fetch', submit: send },
-      field('fetch-team', 'Team', null, { value: now.team || (teams.length === 1 ? teams[0] : ''), required: true, maxlength: '64' }),
+      field('fetch-team', 'Team', null, { value: now.team || (teams.length === 1 ? teams[0] : ''), required: true,
+        maxlength: '64' }),
       field('fetch-profile', 'Profile', null, { value: now.profile, required: true, maxlength: '64' }),
       el('p', {}, el('button', { id: 'fetch-send', class: 'main' }, 'Fetch'))),
     el('div', { id: 'fetched' }));
 }
 
-const VIEWS = { queue: queueView, profiles: profilesView, profile: profileView, 'hand-in': handInView, enrol: enrolView, fetch: fetchView };
+const VIEWS = { queue: queueView, profiles: profilesView, profile: profileView, 'hand-in': handInView, enrol: enrolView,
+  fetch: fetchView };
 
 at('skip').addEventListener('click', (event) => { event.preventDefault(); at('view').focus(); });
 addEventListener('hashchange', () => { hush(); draw(true); });
 addEventListener('pagehide', () => { memory.token = memory.name = ''; });
 addEventListener('pageshow', (event) => { if (event.persisted) draw(true); });
 if (!globalThis.crypto?.subtle) {
-  at('view').replaceChildren(el('p', { class: 'notice refused inline' }, 'This page can’t take digests here, so it offers nothing: open it over https, or on the machine itself by 127.0.0.1.'));
+  at('view').replaceChildren(el('p', { class: 'notice refused inline' },
+    'This page can’t take digests here, so it offers nothing: open it over https, or on the machine itself by 127.0.0.1.'));
 } else draw(true);
