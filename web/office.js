@@ -137,10 +137,12 @@ const REFUSALS = {
     'Another user of security has to adopt it.'],
   'not-open': (kind, answer, about) => [`Revision ${about.revision} isn’t open any more.`,
     'A later revision, an issue or a withdrawal came before; the page has read the present state anew.'],
-  'other-bytes': () => ['The digest of the text on this screen isn’t that of the revision in the office. Your vote was not taken.',
+  'other-bytes': () => ['The digest of the text on this screen isn’t that of the revision in the office. Your vote was not '
+    + 'taken.',
     'What you were shown was changed on the way. Don’t vote from here, and tell those who run the proxy.'],
   'rejected': (kind, answer, about) => ['A reviewer rejects this revision, so it can’t be issued.',
-    `${about.rejecting?.length ? listed(about.rejecting) : 'That reviewer'} may vote anew, or the author hands in another revision.`],
+    `${about.rejecting?.length ? listed(about.rejecting) : 'That reviewer'} may vote anew, or the author hands in another `
+      + `revision.`],
   'approvals-short': (kind, answer, about) => [missing(answer.got, answer.need, about.secured),
     'Reviewers who are no authors of the profile approve it on this page.'],
   'security-missing': () => ['Enough reviewers approve, and none of them with security.',
@@ -167,7 +169,8 @@ const FAULTS = {
   'wrong-shape': ['has a value of another kind, or lacks a required member, at',
     'Write there the form that a document has; no capabilities at all are written as {}.'],
   'unknown-member': ['has a member that documents don’t have, at',
-    'From a bundle’s config.json take process.capabilities and linux.seccomp alone; an engine’s own file has to be resolved first.'],
+    'From a bundle’s config.json take process.capabilities and linux.seccomp alone; an engine’s own file has to be resolved '
+      + 'first.'],
   'unknown-word': ['has a word that names no capability, action, operator, architecture or flag, at',
     'Write it with its prefix and in capitals, as CAP_NET_RAW or SCMP_ACT_ALLOW.'],
   'not-in-profile': ['has a listener, which nobody could review, at',
@@ -460,7 +463,8 @@ function still(sheet) {
   const state = sheet.value('state');
   if (state !== 'open') return { ready: false, text: `Revision ${sheet.value('revision')} is ${state}: it takes no votes.` };
   if (sheet.rejecting.length) return { ready: false,
-    text: `${listed(sheet.rejecting)} ${sheet.rejecting.length === 1 ? 'rejects' : 'reject'} it: it can’t be issued while that stands.` };
+    text: `${listed(sheet.rejecting)} ${sheet.rejecting.length === 1 ? 'rejects' : 'reject'} it: it can’t be issued while `
+      + `that stands.` };
   if (sheet.approvals < sheet.need) return { ready: false, text: missing(sheet.approvals, sheet.need, sheet.secured) };
   if (sheet.need === 2 && !sheet.secured) return { ready: false,
     text: `${sheet.approvals} of 2 approvals, and none with security: one with security is needed.` };
@@ -468,7 +472,9 @@ function still(sheet) {
 }
 
 function voteSaid(vote) {
-  return `${vote.vote === 'approve' ? 'approves' : 'rejects'}${vote.security ? ', with security' : ''}${vote.lapsed ? ', lapsed: no reviewer now, so it doesn’t count' : ''}`;
+  const word = vote.vote === 'approve' ? 'approves' : 'rejects';
+  const note = vote.security ? ', with security' : vote.lapsed ? ', lapsed: no reviewer now, so it doesn’t count' : '';
+  return word + note;
 }
 
 // ---- places --------------------------------------------------------------------------------------------------------------
@@ -565,7 +571,8 @@ function entrance() {
   };
   return el('section', { class: 'card entrance' },
     el('h1', {}, 'Review container sandbox profiles'),
-    el('p', {}, 'Show your token, and name the teams whose profiles you work on. The token stays in the memory of this page alone, and is gone with the tab.'),
+    el('p', {}, 'Show your token, and name the teams whose profiles you work on. The token stays in the memory of this page '
+      + 'alone, and is gone with the tab.'),
     el('form', { id: 'entrance', submit: enter },
       field('token', 'Token', null, { type: 'password', required: true, maxlength: '128', 'data-first': true }),
       field('name', 'Your name in the office',
@@ -751,7 +758,8 @@ function names(text) {
 function findingsCard(sheet) {
   const calls = sheet.findings.filter((line) => line.startsWith('call ')).map((line) => line.slice(5));
   const sets = SETS.map((set) => [set,
-    sheet.findings.filter((line) => line.startsWith(`capability ${set} `)).map((line) => line.split(' ')[2])]).filter((one) => one[1].length);
+    sheet.findings.filter((line) => line.startsWith(`capability ${set} `)).map((line) => line.split(' ')[2])])
+    .filter((one) => one[1].length);
   const others = sheet.findings.filter((line) => !line.startsWith('call ') && !line.startsWith('capability '));
   const words = (line) => {
     if (line === 'no-seccomp') return 'There is no filter, and the baseline has one: every call is allowed.';
@@ -848,10 +856,10 @@ function decideCard(about, state, reading, own) {
       el('p', { class: 'way' }, 'It was changed on the way. Load it anew; if it stays so, tell those who run the proxy.'))
     : state !== 'open' ? el('p', { class: 'hint' }, `It is ${state}, so there is nothing to vote on.`)
       : [el('p', { class: 'hint' }, 'A vote is of the very text above, by its digest.'),
-        button('approve', 'Approve this text', () => vote(about, reading, 'approve'), 'main'),
-          button('reject', 'Reject this text', () => vote(about, reading, 'reject'), 'danger')];
+        button('approve', 'Approve this text', () => alone(() => vote(about, reading, 'approve')), 'main'),
+          button('reject', 'Reject this text', () => alone(() => vote(about, reading, 'reject')), 'danger')];
   const act = (kind, id, text, method, sure, done, look) => button(id, text, async () => {
-    if (await confirmed(text, sure)) await carry(kind, about, method[0], method[1], done);
+    if (await confirmed(text, sure)) await alone(() => carry(kind, about, method[0], method[1], done));
   }, look);
   return el('section', { class: 'card decide', id: 'decide', tabindex: '-1', 'aria-labelledby': 'decide-title' },
     el('h2', { id: 'decide-title' }, 'Decide'),
@@ -899,6 +907,19 @@ function confirmed(title, text) {
   });
 }
 
+// What is done by a button or a form isn't begun again before it has ended.
+let doing = false;
+
+async function alone(act) {
+  if (doing) return say('plain', 'The last request isn’t answered yet.');
+  doing = true;
+  try {
+    await act();
+  } finally {
+    doing = false;
+  }
+}
+
 // Carries out a request, draws the place anew, and says what came of it.
 async function carry(kind, about, method, target, done, body) {
   hush();
@@ -911,19 +932,20 @@ async function carry(kind, about, method, target, done, body) {
 
 async function vote(about, reading, word) {
   if (squeezed(at('document').textContent) !== reading.text || await sha256(reading.text) !== reading.named) {
-    say('refused', 'The text on this screen isn’t the one that the sheet names, so no vote was sent.', '', 'Load the page anew.');
+    say('refused', 'The text on this screen isn’t the one that the sheet names, so no vote was sent.', '',
+      'Load the page anew.');
     return;
   }
   await carry('vote', about, 'POST', path(about, '/vote'),
-    `Your ${word === 'approve' ? 'approval' : 'rejection'} of revision ${about.revision} of ${about.team}/${about.profile} stands, of the text with the digest ${reading.digest}.`,
+    `Your ${word === 'approve' ? 'approval' : 'rejection'} of revision ${about.revision} of ${about.team}/${about.profile} `
+      + `stands, of the text with the digest ${reading.digest}.`,
     JSON.stringify({ digest: reading.digest, vote: word }));
 }
 
 // ---- hand in -------------------------------------------------------------------------------------------------------------
 
 function handInView(now) {
-  const send = async (event) => {
-    event.preventDefault();
+  const send = async () => {
     const [team, profile] = [at('hand-team').value.trim(), at('hand-profile').value.trim()];
     const file = at('hand-file').files[0];
     const bad = [team, profile].find((one) => !WORD.test(one));
@@ -937,7 +959,8 @@ function handInView(now) {
     const answer = await ask('POST', `/p/${team}/${profile}`, file);
     if (answer.done && answer.json?.answer === 'done') {
       const { revision, digest } = answer.json;
-      say('done', `${file.name} is revision ${revision} of ${team}/${profile}. It is open, and its canonical text has the digest ${digest}.`);
+      say('done', `${file.name} is revision ${revision} of ${team}/${profile}. It is open, and its canonical text has the `
+        + `digest ${digest}.`);
       at('hand-after').replaceChildren(el('p', {}, link(`profile/${team}/${profile}/${revision}`,
         `Look at revision ${revision}`, { id: 'hand-look' })));
     } else {
@@ -947,8 +970,9 @@ function handInView(now) {
     }
   };
   return el('section', { class: 'card narrow' }, el('h1', { tabindex: '-1', 'data-first': true }, 'Hand in a document'),
-    el('p', {}, 'The office looks at the file first, as its command “check” does. One that reads is the next revision of the profile at once; else nothing changes, and you are told its first fault.'),
-    el('form', { id: 'hand-in', submit: send },
+    el('p', {}, 'The office looks at the file first, as its command “check” does. One that reads is the next revision of '
+      + 'the profile at once; else nothing changes, and you are told its first fault.'),
+    el('form', { id: 'hand-in', submit: (event) => { event.preventDefault(); alone(send); } },
       field('hand-team', 'Team', null, { value: now.team || (teams.length === 1 ? teams[0] : ''), required: true,
         maxlength: '64' }),
       field('hand-profile', 'Profile', 'A new name makes a new profile.',
@@ -967,28 +991,33 @@ function enrolView() {
     at('enrol-digest').value = await sha256(token);
     at('enrol-token').replaceChildren(el('div', { class: 'notice plain inline' },
       el('p', { class: 'sentence' },
-        'The token, shown this once. Give it to its user by a way that nobody else reads; neither this page nor the office keeps it.'),
+        'The token, shown this once. Give it to its user by a way that nobody else reads; neither this page nor the office '
+          + 'keeps it.'),
       el('p', {}, el('code', { id: 'made-token', class: 'digest' }, token)),
       button('made-away', 'I have it, hide it', () => { at('enrol-token').replaceChildren(); at('enrol-user').focus(); }, '')));
   };
-  const send = async (event) => {
-    event.preventDefault();
+  const send = async () => {
     const [user, team, digest] = ['enrol-user', 'enrol-team', 'enrol-digest'].map((id) => at(id).value.trim());
     const roles = ROLES.filter((role) => at(`role-${role}`).checked);
     const bad = [user, team].find((one) => !WORD.test(one));
     if (bad !== undefined) return say('refused', `“${bad}” is no name of a user or a team.`, '',
       'A name is 1 to 64 of a-z, 0-9 and the hyphen.');
-    if (!/^[0-9a-f]{64}$/.test(digest)) return say('refused', 'A digest is 64 digits 0-9 and a-f.', '', 'Make a token here, or enter the SHA-256 of the user’s own: printf TOKEN | sha256sum');
+    if (!/^[0-9a-f]{64}$/.test(digest)) {
+      return say('refused', 'A digest is 64 digits 0-9 and a-f.', '',
+        'Make a token here, or enter the SHA-256 of the user’s own: printf TOKEN | sha256sum');
+    }
     hush();
     const answer = await ask('POST', '/users', JSON.stringify({ user, team, roles, digest }));
     if (answer.done && answer.json?.answer === 'done') {
-      say('done', `${user} of the team ${team} is enrolled ${roles.length ? `as ${listed(roles)}` : 'without a role'}. Any roles and token from before are gone.`);
+      const given = roles.length ? `as ${listed(roles)}` : 'without a role';
+      say('done', `${user} of the team ${team} is enrolled ${given}. Any roles and token from before are gone.`);
       at('enrol-digest').value = '';
     } else say('refused', ...refusal('enrol', answer, { user, team }));
   };
   return el('section', { class: 'card narrow' }, el('h1', { tabindex: '-1', 'data-first': true }, 'Enrol a user'),
-    el('p', {}, 'An enrolment gives a user a team, all roles and one token, by its digest. It replaces what the user had, so name every role that is to stay.'),
-    el('form', { id: 'enrol', submit: send },
+    el('p', {}, 'An enrolment gives a user a team, all roles and one token, by its digest. It replaces what the user had, '
+      + 'so name every role that is to stay.'),
+    el('form', { id: 'enrol', submit: (event) => { event.preventDefault(); alone(send); } },
       field('enrol-user', 'User', null, { required: true, maxlength: '64' }),
       field('enrol-team', 'Team', 'A user stays in one team for good.', { required: true, maxlength: '64' }),
       el('fieldset', {}, el('legend', {}, 'Roles'), ROLES.map((role) => el('label', { class: 'check' },
@@ -1004,8 +1033,7 @@ function enrolView() {
 // ---- fetch ---------------------------------------------------------------------------------------------------------------
 
 function fetchView(now) {
-  const send = async (event) => {
-    event.preventDefault();
+  const send = async () => {
     const [team, profile] = [at('fetch-team').value.trim(), at('fetch-profile').value.trim()];
     const bad = [team, profile].find((one) => !WORD.test(one));
     if (bad !== undefined) return say('refused', `“${bad}” is no name of a team or a profile.`, '',
@@ -1020,13 +1048,15 @@ function fetchView(now) {
     at('fetched').replaceChildren(el('h2', {}, 'What was fetched'),
       el('p', {}, 'SHA-256 of it: ', el('code', { id: 'fetched-digest', class: 'digest' }, digest)),
       el('p', { class: 'notice plain inline' },
-        'This is a whole document. An engine that is given it as its seccomp file sets no filter at all, and says nothing: give it the member “seccomp” alone, and read back what the engine wrote.'),
+        'This is a whole document. An engine that is given it as its seccomp file sets no filter at all, and says nothing: '
+          + 'give it the member “seccomp” alone, and read back what the engine wrote.'),
       el('pre', { id: 'fetched-text', tabindex: '0', role: 'region', 'aria-label': 'What was fetched' }, shown));
     say('done', `${team}/${profile} was fetched: ${some(answer.bytes.byteLength, 'byte')}, with the digest ${digest}.`);
   };
   return el('section', { class: 'card narrow' }, el('h1', { tabindex: '-1', 'data-first': true }, 'Fetch what is issued'),
-    el('p', {}, 'What a host gets, by the token of a machine of the team. Hosts do this by a script; here you see what they see.'),
-    el('form', { id: 'fetch', submit: send },
+    el('p', {}, 'What a host gets, by the token of a machine of the team. Hosts do this by a script; here you see what they '
+      + 'see.'),
+    el('form', { id: 'fetch', submit: (event) => { event.preventDefault(); alone(send); } },
       field('fetch-team', 'Team', null, { value: now.team || (teams.length === 1 ? teams[0] : ''), required: true,
         maxlength: '64' }),
       field('fetch-profile', 'Profile', null, { value: now.profile, required: true, maxlength: '64' }),
