@@ -11,10 +11,10 @@ mod caps;
 mod finding;
 mod groups;
 mod laws;
-mod listed;
 mod listing;
 mod memo;
 mod ranks;
+mod text_lists;
 mod wider;
 
 pub use finding::Finding;

@@ -12,7 +12,7 @@ ghost use Rattle.widening.specs.Texts.{adds_a_text, lists};
 
 use crate::calls::keeps_to;
 use crate::caps::gains_a_cap;
-use crate::listed::{adds_a_text, is_emptied, lists};
+use crate::text_lists::{adds_a_text, is_emptied, lists};
 use profile_text::Profile;
 use seccomp_doc::{CallName, Entry, Filter};
 

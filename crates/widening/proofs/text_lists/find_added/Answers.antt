@@ -1,6 +1,6 @@
 use Rattle.std.proofs.Common.{ap, take, arith}
 use Rattle.widening.proofs.FoundFacts.{text_more}
-use Rattle.widening.proofs.listed.find_added.Goals as goal
+use Rattle.widening.proofs.text_lists.find_added.Goals as goal
 
 pub loop-i-preserved : goal.loop-i-preserved
 loop-i-preserved g c =
