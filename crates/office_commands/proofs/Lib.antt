@@ -1,1 +1,2 @@
 pub mod ServingFacts
+pub mod OpeningFacts

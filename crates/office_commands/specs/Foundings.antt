@@ -4,6 +4,7 @@ use Rattle.sqlite.specs.Held.{Held, state}
 use Rattle.sqlite.specs.Store.{Ghosts}
 use Rattle.sqlite.specs.State.{HasCleanDisk}
 use Rattle.command_line.specs.declared.command.InitWords.{InitWords}
+use Rattle.office_store.specs.Schema.{no_schema}
 use Rattle.office_policy.specs.History.{History, founded}
 use Rattle.office_policy.specs.Handled.{Stands}
 use Rattle.office_desk.specs.Offices.{IsOffice}
@@ -60,6 +61,19 @@ IsFoundedBy g founding office =
 abbrev pub IsFoundedAs : {S : Type 0} → Ghosts S → Result Founding FoundingWordsFault → Held S → Type 0
 IsFoundedAs g (Ok founding) office = IsFoundedBy g founding office
 IsFoundedAs g (Err fault) office = ⊥
+
+-- it was founded so in an empty database that was opened, of which this is known
+pub record IsFoundedIn {S : Type 0} (g : Ghosts S) (Opened : Held S → Type 0) (described : Result Founding FoundingWordsFault) (office : Held S) : Type 0 where
+  pub was : Held S
+  pub opened : Opened was
+  pub empty : (state g was).now.schema ≡ no_schema
+  pub founded : IsFoundedAs g described office
+
+-- and closed, of which this is known
+pub record WasFounded {S : Type 0} (g : Ghosts S) (Opened Closed : Held S → Type 0) (described : Result Founding FoundingWordsFault) : Type 0 where
+  pub office : Held S
+  pub founded : IsFoundedIn g Opened described office
+  pub closed : Closed office
 
 -- words describe a founding
 abbrev pub IsDescribed : Result Founding FoundingWordsFault → Type 0

@@ -1,3 +1,4 @@
 pub mod Openings
 pub mod Serving
 pub mod Foundings
+pub mod Lines

@@ -9,3 +9,11 @@ abbrev pub HasServed : {X A E : Type 0} → Meaning X → X → X → ℕ → Re
 HasServed m old new most result =
     (results : List (Result ℕ HttpFault)) × HaveExchanged m old new results × (length results ≤ most)
     × OnOk result (length results ≡ most)
+
+-- there were at most so many exchanges one after the other
+abbrev pub HasServedUpTo : {X : Type 0} → Meaning X → X → X → ℕ → Type 0
+HasServedUpTo m old new most = (results : List (Result ℕ HttpFault)) × HaveExchanged m old new results × (length results ≤ most)
+
+-- there were just so many
+abbrev pub HasServedAll : {X : Type 0} → Meaning X → X → X → ℕ → Type 0
+HasServedAll m old new most = (results : List (Result ℕ HttpFault)) × HaveExchanged m old new results × (length results ≡ most)

@@ -1,5 +1,7 @@
 //! Databases at paths.
 
+ghost use Rattle.std.specs.Prelude.{ℕ, List, ⊤, IfOk, OnOk};
+
 use sqlite::{Connection, Error, File, FileStore};
 
 /// The databases of SQLite at paths, so that a test can stand in for files.
@@ -7,11 +9,19 @@ pub trait Databases {
     /// A connection to one.
     type Database: Drop;
 
+    /// What is known of the database that was opened at a path.
+    ghost opened: { List ℕ → Self.Database → Type 0 } = { λ _ _. ⊤ };
+
+    /// What is known of the database that was closed.
+    ghost closed: { Self.Database → Type 0 } = { λ _. ⊤ };
+
     /// Opens the database at a path. Where nothing is there, an empty one is made.
-    fn open(&self, path: &str) -> Result<Self::Database, Error>;
+    fn open(&self, path: &str) -> Result<Self::Database, Error>
+        ensures { IfOk result (λ database. opened path.now database) };
 
     /// Closes a database, so that all of it stands in the one file at its path.
-    fn close(&self, database: Self::Database) -> Result<(), Error>;
+    fn close(&self, database: Self::Database) -> Result<(), Error>
+        ensures { OnOk result (closed database) };
 }
 
 impl Databases for HostRuntime {

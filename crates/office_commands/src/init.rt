@@ -4,8 +4,9 @@ ghost use Rattle.std.specs.Prelude.{◌≡◌, IfErr, IfOk, OnOk};
 ghost use Rattle.sqlite.specs.Held.{state};
 ghost use Rattle.sqlite.specs.State.{HasCleanDisk};
 ghost use Rattle.office_store.specs.Founding.{first_user, FailsToFound};
+ghost use Rattle.office_store.specs.Schema.{no_schema};
 ghost use Rattle.office_store.specs.Shown.{IsIdle};
-ghost use Rattle.office_commands.specs.Foundings.{founding_of_words, IsDescribed, IsFoundedAs, IsFoundedBy, IsUnfoundedAs};
+ghost use Rattle.office_commands.specs.Foundings.{founding_of_words, IsFoundedBy, IsFoundedIn, IsUnfoundedAs, WasFounded};
 
 use crate::databases::Databases;
 use crate::fault::CommandFault;
@@ -24,6 +25,7 @@ fn found_in<S: Alter>(
 ) -> Result<Office<S>, (FoundingFault, Connection<S>)>
     requires { IsIdle (state S.Store conn) }
     ensures founded { IfOk result (IsFoundedBy S.Store founding.now) }
+    ensures empty { OnOk result ((state S.Store conn).now.schema ≡ no_schema) }
     ensures cause { IfErr result (λ refusal. HasCleanDisk (state S.Store refusal.1)
         → FailsToFound S.Store (first_user founding.now.name founding.now.team founding.now.digest) founding.now.listed conn refusal.0) }
 {
@@ -44,7 +46,7 @@ fn founded_at<S: Alter + Drop, D: Databases<Database = Connection<S>>>(
     alloc: Global,
     words: &InitWords<'_>,
 ) -> Result<Office<S>, CommandFault>
-    ensures founded { IfOk result (IsFoundedAs S.Store (founding_of_words words.now)) }
+    ensures founded { IfOk result (IsFoundedIn S.Store (D.opened words.now.database.now) (founding_of_words words.now)) }
     ensures refused { IfErr result (IsUnfoundedAs (founding_of_words words.now)) }
 {
     let founding = match founding_of(
@@ -77,7 +79,7 @@ pub(crate) fn found_at<S: Alter + Drop, D: Databases<Database = Connection<S>>>(
     alloc: Global,
     words: &InitWords<'_>,
 ) -> Result<(), CommandFault>
-    ensures { OnOk result (IsDescribed (founding_of_words words.now)) }
+    ensures { OnOk result (WasFounded S.Store (D.opened words.now.database.now) D.closed (founding_of_words words.now)) }
 {
     let office = founded_at(databases, alloc, words)?;
     close(databases, office)

@@ -1,9 +1,9 @@
 //! Opening what stands at a path, and closing an office.
 
-ghost use Rattle.std.specs.Prelude.{◌≡◌, IfErr, IfOk};
+ghost use Rattle.std.specs.Prelude.{◌≡◌, IfErr, IfOk, OnOk};
 ghost use Rattle.sqlite.specs.Held.{state};
 ghost use Rattle.office_store.specs.Shown.{IsIdle};
-ghost use Rattle.office_commands.specs.Openings.{fault_of_opening};
+ghost use Rattle.office_commands.specs.Openings.{fault_of_opening, IsFirstOf, IsOfStore, IsOpenedOffice, IsUnlimited};
 
 use crate::databases::Databases;
 use crate::fault::CommandFault;
@@ -48,6 +48,7 @@ pub(crate) fn open<S: Alter + Drop, D: Databases<Database = Connection<S>>>(
     path: &str,
 ) -> Result<Connection<S>, StoreFault>
     ensures idle { IfOk result (λ conn. IsIdle (state S.Store conn)) }
+    ensures opened { IfOk result (IsUnlimited (D.opened path.now)) }
 {
     match databases.open(path) {
         Ok(mut conn) => {
@@ -71,12 +72,21 @@ pub(crate) fn office_at<F: Files, S: Alter + Drop, D: Databases<Database = Conne
     files: &F,
     databases: &D,
     path: &str,
-) -> Result<Office<S>, CommandFault> {
+) -> Result<Office<S>, CommandFault>
+    ensures opened { IfOk result (IsOpenedOffice S.Store (D.opened path.now)) }
+    ensures store { IfErr result IsOfStore }
+{
     // Opening would make an empty database.
-    if !is_there(files, path)? {
-        return Err(CommandFault::Store(StoreFault::NotAnOffice));
+    match is_there(files, path) {
+        Ok(true) => {}
+        Ok(false) => return Err(CommandFault::Store(StoreFault::NotAnOffice)),
+        Err(fault) => return Err(CommandFault::Store(fault)),
     }
-    match Office::over(open(databases, path)?) {
+    let conn = match open(databases, path) {
+        Ok(conn) => conn,
+        Err(fault) => return Err(CommandFault::Store(fault)),
+    };
+    match Office::over(conn) {
         Ok(office) => Ok(office),
         Err((fault, conn)) => {
             // Why it is no office is told, and not whether this closed.
@@ -95,10 +105,24 @@ pub(crate) fn close<S: Alter, D: Databases<Database = Connection<S>>>(
     databases: &D,
     office: Office<S>,
 ) -> Result<(), CommandFault>
-    ensures { IfErr result (λ fault. fault ≡ CommandFault.Close) }
+    ensures closed { OnOk result (D.closed office) }
+    ensures fault { IfErr result (λ fault. fault ≡ CommandFault.Close) }
 {
     match databases.close(office.into_connection()) {
         Ok(()) => Ok(()),
         Err(_) => Err(CommandFault::Close),
+    }
+}
+
+/// What is told of an office that was served and then closed: the first fault.
+pub(crate) fn first_fault(
+    served: Result<(), CommandFault>,
+    closed: Result<(), CommandFault>,
+) -> Result<(), CommandFault>
+    ensures { IsFirstOf served closed result }
+{
+    match served {
+        Ok(()) => closed,
+        Err(fault) => Err(fault),
     }
 }

@@ -145,7 +145,9 @@ fn run<
             Ok(0)
         }
         Command::Desk { database } => {
-            serve_stored(files, databases, alloc, database, input, output)?;
+            let mut reader = Counted::new(input);
+            let mut writer = Counted::new(output);
+            serve_stored(files, databases, alloc, database, &mut reader, &mut writer)?;
             Ok(0)
         }
         Command::Compare { base, new } => run_compare(files, alloc, base, new, output),

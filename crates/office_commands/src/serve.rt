@@ -1,10 +1,12 @@
 //! `serve`: an office in a file, over HTTP on loopback.
 
-ghost use Rattle.office_commands.specs.Serving.{HasServed};
+ghost use Rattle.office_desk.specs.Meant.{meaning_over};
+ghost use Rattle.office_commands.specs.Openings.{IsServed};
+ghost use Rattle.office_commands.specs.Serving.{HasServed, HasServedAll, HasServedUpTo};
 
 use crate::databases::Databases;
 use crate::fault::CommandFault;
-use crate::opening::{close, office_at};
+use crate::opening::{close, first_fault, office_at};
 use command_line::ServeWords;
 use desk_http::Server;
 use office_policy::Handler;
@@ -78,10 +80,16 @@ pub(crate) fn serve_http<
     alloc: Global,
     words: &ServeWords<'_>,
     output: &mut O,
-) -> Result<(), CommandFault> {
-    let mut office = office_at(files, databases, words.database)?;
+) -> Result<(), CommandFault>
+    ensures { IsServed S.Store (D.opened words.now.database.now)
+        (λ old new. HasServedAll (meaning_over S.Store) old new words.now.requests)
+        (λ old new. HasServedUpTo (meaning_over S.Store) old new words.now.requests) D.closed result }
+{
+    let mut office = match office_at(files, databases, words.database) {
+        Ok(office) => office,
+        Err(fault) => return Err(fault),
+    };
     let served = serve_bound(network, &mut office, alloc, words, output);
     let closed = close(databases, office);
-    served?;
-    closed
+    first_fault(served, closed)
 }

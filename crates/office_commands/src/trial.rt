@@ -9,6 +9,7 @@ use review_policy::{Word, WordFault};
 use sqlite::{Connection, MemStore};
 use std::alloc::{AllocError, Global};
 use std::io::{Read, Write};
+use streams::Counted;
 
 // The office was not founded, for want of memory.
 #[derive(Clone, Copy, Debug, PartialEq, Eq)]
@@ -48,5 +49,7 @@ pub(crate) fn serve_trial<R: Read, W: Write>(
     let Ok(mut office) = trial_office(alloc) else {
         return Err(CommandFault::NoMemory);
     };
-    answer_lines(&mut office, alloc, input, output)
+    let mut reader = Counted::new(input);
+    let mut writer = Counted::new(output);
+    answer_lines(&mut office, alloc, &mut reader, &mut writer)
 }

@@ -1,0 +1,60 @@
+-- An office at a path: what is known of it as it is opened, served and closed.
+use Rattle.std.proofs.Common.{inl, inr, ◌≡◌, ◌⊎◌, ◌∙◌, ℕ, false, Result, Ok, Err, subst, sym}
+use Rattle.std.specs.Prelude.{OnOk}
+use Rattle.sqlite.specs.Held.{Held, state}
+use Rattle.sqlite.specs.State.{HasCleanDisk}
+use Rattle.sqlite.specs.Store.{Ghosts}
+use Rattle.sqlite.proofs.StateLemmas.{clean_if_open}
+use Rattle.office_rows.proofs.Queries.{row_left}
+use Rattle.office_store.specs.Form.{form_row, HasForm}
+use Rattle.office_store.specs.Shown.{Shows}
+use Rattle.office_store.proofs.Queries.{office_row}
+use Rattle.office_policy.specs.Handled.{Stands}
+use Rattle.office_policy.specs.History.{History}
+use Rattle.office_policy.specs.Lawful.{IsLawfulHistory}
+use Rattle.office_policy.specs.TablesOf.{tables_of}
+use Rattle.office_desk.specs.Meant.{meaning_over}
+use Rattle.office_commands.specs.declared.fault.CommandFault.{CommandFault}
+use Rattle.office_commands.specs.declared.founding.Founding.{Founding}
+use Rattle.office_commands.specs.declared.founding_fault.FoundingWordsFault.{FoundingWordsFault}
+use Rattle.office_commands.specs.Foundings.{IsFoundedIn, WasFounded}
+use Rattle.office_commands.specs.Openings.{IsFirstOf, IsOpenedOffice, IsServed, IsUnlimited, WasServed}
+
+module _ {S : Type 0} (g : Ghosts S) (Opened : Held S → Type 0) where
+  pub opened_office : (conn office : Held S) → ((g.view conn.store).is_clean ≡ false → (g.view conn.store).is_open ≡ false)
+      → IsUnlimited Opened conn
+      → (HasCleanDisk (state g office) → (listed : ℕ) × HasForm (state g conn) (state g office) listed)
+      → ((h : History) → IsLawfulHistory h → Shows (state g conn) (tables_of h) → HasCleanDisk (state g office) → Stands (meaning_over g) h office)
+      → IsOpenedOffice g Opened office
+  opened_office conn office law unlimited form stands = record {
+    was = unlimited.0;
+    opened = unlimited.1;
+    clean = λ clean.
+        let it = form clean in
+        let kept = row_left _ office_row _ (state g conn) (state g office) (form_row it.0) it.1.row in
+        subst (λ (x : Held S). HasCleanDisk (state g x)) unlimited.2 (clean_if_open (g.view conn.store) law kept.0.was_open);
+    stands = λ h lawful shows clean.
+        stands h lawful (subst (λ (x : Held S). Shows (state g x) (tables_of h)) (sym unlimited.2)
+        (record { is_open = shows.is_open; settled = shows.settled; office = shows.office })) clean;
+  }
+
+  module _ (Done Begun : (old new : Held S) → Type 0) (Closed : Held S → Type 0) where
+    pub was_served : (old new : Held S) → IsOpenedOffice g Opened old → (served closed result : Result (Unit {0}) CommandFault)
+        → OnOk served (Done old new) → Begun old new → OnOk closed (Closed new) → IsFirstOf served closed result
+        → IsServed g Opened Done Begun Closed result
+    was_served old new office (Ok a) (Ok b) result done begun closed is =
+        subst (λ r. IsServed g Opened Done Begun Closed r) (sym is) (record { old = old; new = new; office = office; done = done; closed = closed })
+    was_served old new office (Ok a) (Err why) result done begun closed is =
+        subst (λ r. IsServed g Opened Done Begun Closed r) (sym is) (inr (record { old = old; new = new; office = office; done = begun; closed = tt }))
+    was_served old new office (Err why) closed result done begun _ is =
+        subst (λ r. IsServed g Opened Done Begun Closed r) (sym is) (inr (record { old = old; new = new; office = office; done = begun; closed = tt }))
+
+  pub founded_closed : (Closed : Held S → Type 0) (described : Result Founding FoundingWordsFault) (office : Held S) (r : Result (Unit {0}) CommandFault)
+      → IsFoundedIn g Opened described office → OnOk r (Closed office) → OnOk r (WasFounded g Opened Closed described)
+  founded_closed Closed described office (Ok done) founded closed = record { office = office; founded = founded; closed = closed }
+  founded_closed Closed described office (Err why) founded closed = tt
+
+-- what was done with lines, and more where all of them were answered
+pub with_lines : {A E P : Type 0} (Q : Type 0) (r : Result A E) → P → OnOk r Q → OnOk r (P × Q)
+with_lines Q (Ok a) p q = (p, q)
+with_lines Q (Err e) p q = tt
