@@ -4,7 +4,7 @@ use Rattle.std.proofs.lemmas.Slice.Eq.{bytes_eq-Decides}
 use Rattle.std.specs.Prelude.{codes}
 use Rattle.clap.specs.Words.{HasKind, Kinds, Row, Text, first_of, kind_of}
 use Rattle.clap.specs.declared.error.Error.{Error}
-use Rattle.command_line.specs.declared.command.Command.TheVariants.{Trial, Check, Execve, Init, Desk, Serve, Compare}
+use Rattle.command_line.specs.declared.command.Command.TheVariants.{Trial, Check, Execve, Init, Desk, Serve, Migrate, Compare}
 use Rattle.command_line.specs.declared.fault.WordsFault.{WordsFault}
 use Rattle.command_line.specs.declared.fault.WordsFault.TheVariants.{Help, Version, Refused, NoMemory}
 use Rattle.command_line.specs.declared.command.InitWords.{InitWords}
@@ -29,6 +29,7 @@ no_check rows none (Execve words) asked = apart _ _ refl asked.0
 no_check rows none (Init words) asked = apart _ _ refl asked.0
 no_check rows none (Desk database) asked = apart _ _ refl asked.0
 no_check rows none (Serve words) asked = apart _ _ refl asked.0
+no_check rows none (Migrate database) asked = apart _ _ refl asked.0
 no_check rows none (Compare base new) asked = apart _ _ refl asked.0
 
 -- `execve` without FILE asks for nothing
@@ -39,6 +40,7 @@ no_execve rows none (Execve words) asked = none≢some _ (sym none ∙ asked.1.f
 no_execve rows none (Init words) asked = apart _ _ refl asked.0
 no_execve rows none (Desk database) asked = apart _ _ refl asked.0
 no_execve rows none (Serve words) asked = apart _ _ refl asked.0
+no_execve rows none (Migrate database) asked = apart _ _ refl asked.0
 no_execve rows none (Compare base new) asked = apart _ _ refl asked.0
 
 -- `desk` without DB asks for nothing
@@ -49,7 +51,19 @@ no_desk rows none (Execve words) asked = apart _ _ refl asked.0
 no_desk rows none (Init words) asked = apart _ _ refl asked.0
 no_desk rows none (Desk database) asked = none≢some _ (sym none ∙ asked.1)
 no_desk rows none (Serve words) asked = apart _ _ refl asked.0
+no_desk rows none (Migrate database) asked = apart _ _ refl asked.0
 no_desk rows none (Compare base new) asked = apart _ _ refl asked.0
+
+-- `migrate` without DB asks for nothing
+pub no_migrate : (rows : List Row) → first_of (codes "database") rows ≡ None → NoneAskedFor (codes "migrate") rows
+no_migrate rows none Trial asked = asked
+no_migrate rows none (Check file) asked = apart _ _ refl asked.0
+no_migrate rows none (Execve words) asked = apart _ _ refl asked.0
+no_migrate rows none (Init words) asked = apart _ _ refl asked.0
+no_migrate rows none (Desk database) asked = apart _ _ refl asked.0
+no_migrate rows none (Serve words) asked = apart _ _ refl asked.0
+no_migrate rows none (Migrate database) asked = none≢some _ (sym none ∙ asked.1)
+no_migrate rows none (Compare base new) asked = apart _ _ refl asked.0
 
 -- `init` asks for nothing where a value that it needs isn't there
 pub no_init : (rows : List Row) → ((words : InitWords) → ¬ HasInitValues rows words) → NoneAskedFor (codes "init") rows
@@ -59,6 +73,7 @@ no_init rows lacks (Execve words) asked = apart _ _ refl asked.0
 no_init rows lacks (Init words) asked = lacks words asked.1
 no_init rows lacks (Desk database) asked = apart _ _ refl asked.0
 no_init rows lacks (Serve words) asked = apart _ _ refl asked.0
+no_init rows lacks (Migrate database) asked = apart _ _ refl asked.0
 no_init rows lacks (Compare base new) asked = apart _ _ refl asked.0
 
 -- `serve` asks for nothing where a value that it needs isn't there
@@ -69,6 +84,7 @@ no_serve rows lacks (Execve words) asked = apart _ _ refl asked.0
 no_serve rows lacks (Init words) asked = apart _ _ refl asked.0
 no_serve rows lacks (Desk database) asked = apart _ _ refl asked.0
 no_serve rows lacks (Serve words) asked = lacks words asked.1
+no_serve rows lacks (Migrate database) asked = apart _ _ refl asked.0
 no_serve rows lacks (Compare base new) asked = apart _ _ refl asked.0
 
 -- `compare` asks for nothing where a value that it needs isn't there
@@ -79,18 +95,20 @@ no_compare rows lacks (Execve words) asked = apart _ _ refl asked.0
 no_compare rows lacks (Init words) asked = apart _ _ refl asked.0
 no_compare rows lacks (Desk database) asked = apart _ _ refl asked.0
 no_compare rows lacks (Serve words) asked = apart _ _ refl asked.0
+no_compare rows lacks (Migrate database) asked = apart _ _ refl asked.0
 no_compare rows lacks (Compare base new) asked = lacks base.now new.now asked.1
 
 -- another name asks for nothing
 pub no_other : (name : Text) (rows : List Row) → name ≢ codes "check" → name ≢ codes "execve" → name ≢ codes "compare"
-    → name ≢ codes "init" → name ≢ codes "desk" → name ≢ codes "serve" → NoneAskedFor name rows
-no_other name rows not_check not_execve not_compare not_init not_desk not_serve Trial asked = asked
-no_other name rows not_check not_execve not_compare not_init not_desk not_serve (Check file) asked = not_check asked.0
-no_other name rows not_check not_execve not_compare not_init not_desk not_serve (Execve words) asked = not_execve asked.0
-no_other name rows not_check not_execve not_compare not_init not_desk not_serve (Init words) asked = not_init asked.0
-no_other name rows not_check not_execve not_compare not_init not_desk not_serve (Desk database) asked = not_desk asked.0
-no_other name rows not_check not_execve not_compare not_init not_desk not_serve (Serve words) asked = not_serve asked.0
-no_other name rows not_check not_execve not_compare not_init not_desk not_serve (Compare base new) asked = not_compare asked.0
+    → name ≢ codes "init" → name ≢ codes "desk" → name ≢ codes "serve" → name ≢ codes "migrate" → NoneAskedFor name rows
+no_other name rows not_check not_execve not_compare not_init not_desk not_serve not_migrate Trial asked = asked
+no_other name rows not_check not_execve not_compare not_init not_desk not_serve not_migrate (Check file) asked = not_check asked.0
+no_other name rows not_check not_execve not_compare not_init not_desk not_serve not_migrate (Execve words) asked = not_execve asked.0
+no_other name rows not_check not_execve not_compare not_init not_desk not_serve not_migrate (Init words) asked = not_init asked.0
+no_other name rows not_check not_execve not_compare not_init not_desk not_serve not_migrate (Desk database) asked = not_desk asked.0
+no_other name rows not_check not_execve not_compare not_init not_desk not_serve not_migrate (Serve words) asked = not_serve asked.0
+no_other name rows not_check not_execve not_compare not_init not_desk not_serve not_migrate (Migrate database) asked = not_migrate asked.0
+no_other name rows not_check not_execve not_compare not_init not_desk not_serve not_migrate (Compare base new) asked = not_compare asked.0
 
 -- a value that isn't there is none
 pub lacks_value : (r : Option Text) (t : Text) → r ≡ None → ¬ (r ≡ Some t)

@@ -32,9 +32,13 @@ serve_app = with_rules (new_app (codes "serve")) (needed_rule (codes "database")
     ∷ record (number_rule (codes "port") 0 65535) { defaults = codes "0" ∷ [] }
     ∷ record (number_rule (codes "requests") 1 1000000) { required = true } ∷ [])
 
+-- `migrate DB`
+abbrev pub migrate_app : App
+migrate_app = with_rules (new_app (codes "migrate")) (needed_rule (codes "database") ∷ [])
+
 -- the commands, in the order of the help
 abbrev pub commands : List Shape
-commands = check_app.top ∷ execve_app.top ∷ compare_app.top ∷ init_app.top ∷ desk_app.top ∷ serve_app.top ∷ []
+commands = check_app.top ∷ execve_app.top ∷ compare_app.top ∷ init_app.top ∷ desk_app.top ∷ serve_app.top ∷ migrate_app.top ∷ []
 
 -- `office`, with its version and its commands
 unfoldable pub office_app : App

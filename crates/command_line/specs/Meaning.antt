@@ -3,7 +3,7 @@ use Rattle.std.specs.Prelude.{◌≡◌, ℕ, Bool, false, Option, Some, None, L
 use Rattle.std.specs.Str.Parse.{digits_value, without_leading_plus}
 use Rattle.clap.specs.Words.{IsUnsignedIn, Row, Text, all_of, first_of, one_of}
 use Rattle.command_line.specs.declared.command.Command.{Command}
-use Rattle.command_line.specs.declared.command.Command.TheVariants.{Trial, Check, Execve, Init, Desk, Serve, Compare}
+use Rattle.command_line.specs.declared.command.Command.TheVariants.{Trial, Check, Execve, Init, Desk, Serve, Migrate, Compare}
 use Rattle.command_line.specs.declared.command.ExecveWords.{ExecveWords}
 use Rattle.command_line.specs.declared.command.InitWords.{InitWords}
 use Rattle.command_line.specs.declared.command.ServeWords.{ServeWords}
@@ -54,6 +54,7 @@ AsksFor name rows (Execve words) = (name ≡ codes "execve") × HasValues rows w
 AsksFor name rows (Init words) = (name ≡ codes "init") × HasInitValues rows words
 AsksFor name rows (Desk database) = (name ≡ codes "desk") × (first_of (codes "database") rows ≡ Some database.now)
 AsksFor name rows (Serve words) = (name ≡ codes "serve") × HasServeValues rows words
+AsksFor name rows (Migrate database) = (name ≡ codes "migrate") × (first_of (codes "database") rows ≡ Some database.now)
 AsksFor name rows (Compare base new) = (name ≡ codes "compare") × HasCompareValues rows base.now new.now
 
 -- the command is what the subcommand that was found asks for; without one it is the trial desk

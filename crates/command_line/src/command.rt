@@ -13,6 +13,8 @@ pub enum Command<'w> {
     Init(InitWords<'w>),
     /// `desk DB`: the office in a file, over standard input and output.
     Desk { database: &'w str },
+    /// `migrate DB`: the office of schema 1 in a file is made one of schema 2.
+    Migrate { database: &'w str },
     /// `serve DB [--port P] --requests N`: the office in a file, over HTTP.
     Serve(ServeWords<'w>),
     /// `compare BASE NEW`: what the document in one file permits more than that in another.

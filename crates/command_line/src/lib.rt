@@ -11,6 +11,7 @@ mod desk;
 mod execve;
 mod fault;
 mod init;
+mod migrate;
 mod parts;
 mod serve;
 mod words;

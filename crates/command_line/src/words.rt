@@ -14,6 +14,7 @@ use crate::desk::{add_desk, desk_of};
 use crate::execve::{add_execve, execve_of};
 use crate::fault::WordsFault;
 use crate::init::{add_init, init_of};
+use crate::migrate::{add_migrate, migrate_of};
 use crate::serve::{add_serve, serve_of};
 use clap::ArgMatches;
 use std::alloc::{AllocError, Global};
@@ -49,6 +50,7 @@ fn commands_of<'a>(alloc: Global) -> Result<Vec<clap::Command<'a>>, AllocError>
     add_init(alloc, &mut commands)?;
     add_desk(alloc, &mut commands)?;
     add_serve(alloc, &mut commands)?;
+    add_migrate(alloc, &mut commands)?;
     Ok(commands)
 }
 
@@ -89,6 +91,7 @@ fn command_of<'w>(
         "init" => init_of(alloc, given),
         "desk" => Ok(desk_of(given)),
         "serve" => Ok(serve_of(given)),
+        "migrate" => Ok(migrate_of(given)),
         _ => Ok(None),
     }
 }

@@ -2,3 +2,4 @@ pub mod Openings
 pub mod Serving
 pub mod Foundings
 pub mod Lines
+pub mod Migrations

@@ -2,7 +2,7 @@
 
 use crate::founding_fault::FoundingWordsFault;
 use desk::DeskFault;
-use office_store::FoundingFault;
+use office_store::{FoundingFault, MigrationFault};
 use office_tables::StoreFault;
 use profile_commands::{ComparedFault, ExecutionFault, FileFault};
 use thiserror::Error;
@@ -28,6 +28,9 @@ pub enum CommandFault {
     /// No office was founded.
     #[error("{0}")]
     Founding(#[from] FoundingFault),
+    /// An office wasn't migrated.
+    #[error("{0}")]
+    Migration(#[from] MigrationFault),
     /// What stands at a path can't be opened, or is no office.
     #[error("{0}")]
     Store(#[from] StoreFault),

@@ -9,6 +9,7 @@ mod founding_fault;
 mod host;
 mod init;
 mod lines;
+mod migrate;
 mod opening;
 mod run;
 mod serve;

@@ -24,12 +24,8 @@ fn fault_of_opening(error: Error) -> StoreFault
     }
 }
 
-/// Whether something stands at a path.
-///
-/// # Errors
-///
-/// `Disk` where that can't be told.
-pub(crate) fn is_there<F: Files>(files: &F, path: &str) -> Result<bool, StoreFault>
+// Whether something stands at a path; `Disk` where that can't be told.
+fn is_there<F: Files>(files: &F, path: &str) -> Result<bool, StoreFault>
     ensures { IfErr result (λ fault. fault ≡ StoreFault.Disk) }
 {
     match fs::exists(files, path) {
@@ -63,11 +59,32 @@ pub(crate) fn open<S: Alter + Drop, D: Databases<Database = Connection<S>>>(
     }
 }
 
-/// The office at a path.
+/// The database at a path where something is.
 ///
 /// # Errors
 ///
 /// `NotAnOffice` also where nothing is there, and no file is made then.
+pub(crate) fn database_at<F: Files, S: Alter + Drop, D: Databases<Database = Connection<S>>>(
+    files: &F,
+    databases: &D,
+    path: &str,
+) -> Result<Connection<S>, StoreFault>
+    ensures idle { IfOk result (λ conn. IsIdle (state S.Store conn)) }
+    ensures opened { IfOk result (IsUnlimited (D.opened path.now)) }
+{
+    // Opening would make an empty database.
+    match is_there(files, path) {
+        Ok(true) => open(databases, path),
+        Ok(false) => Err(StoreFault::NotAnOffice),
+        Err(fault) => Err(fault),
+    }
+}
+
+/// The office at a path.
+///
+/// # Errors
+///
+/// As of [`database_at`], and where it is no office of this schema.
 pub(crate) fn office_at<F: Files, S: Alter + Drop, D: Databases<Database = Connection<S>>>(
     files: &F,
     databases: &D,
@@ -76,13 +93,7 @@ pub(crate) fn office_at<F: Files, S: Alter + Drop, D: Databases<Database = Conne
     ensures opened { IfOk result (IsOpenedOffice S.Store (D.opened path.now)) }
     ensures store { IfErr result IsOfStore }
 {
-    // Opening would make an empty database.
-    match is_there(files, path) {
-        Ok(true) => {}
-        Ok(false) => return Err(CommandFault::Store(StoreFault::NotAnOffice)),
-        Err(fault) => return Err(CommandFault::Store(fault)),
-    }
-    let conn = match open(databases, path) {
+    let conn = match database_at(files, databases, path) {
         Ok(conn) => conn,
         Err(fault) => return Err(CommandFault::Store(fault)),
     };

@@ -8,6 +8,7 @@ use crate::compare::compare_files;
 use crate::databases::Databases;
 use crate::fault::CommandFault;
 use crate::init::found_at;
+use crate::migrate::migrate_at;
 use crate::serve::{Network, serve_http};
 use crate::stored::serve_stored;
 use crate::trial::serve_trial;
@@ -142,6 +143,11 @@ fn run<
         }
         Command::Serve(words) => {
             serve_http(files, databases, network, alloc, &words, output)?;
+            Ok(0)
+        }
+        Command::Migrate { database } => {
+            migrate_at(files, databases, database)?;
+            print(&mut Counted::new(output), "migrated\n")?;
             Ok(0)
         }
         Command::Desk { database } => {
