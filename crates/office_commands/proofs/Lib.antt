@@ -1,2 +1,3 @@
 pub mod ServingFacts
 pub mod OpeningFacts
+pub mod LeftFacts

@@ -3,3 +3,4 @@ pub mod Serving
 pub mod Foundings
 pub mod Lines
 pub mod Migrations
+pub mod Hosts

@@ -2,7 +2,7 @@
 
 ghost use Rattle.std.specs.Prelude.{ℕ, List, ⊤, IfOk, OnOk};
 
-use sqlite::{Connection, Error, File, FileStore};
+use sqlite::Error;
 
 /// The databases of SQLite at paths, so that a test can stand in for files.
 pub trait Databases {
@@ -22,16 +22,4 @@ pub trait Databases {
     /// Closes a database, so that all of it stands in the one file at its path.
     fn close(&self, database: Self::Database) -> Result<(), Error>
         ensures { OnOk result (closed database) };
-}
-
-impl Databases for HostRuntime {
-    type Database = Connection<FileStore<File>>;
-
-    fn open(&self, path: &str) -> Result<Connection<FileStore<File>>, Error> {
-        Connection::open(self, path)
-    }
-
-    fn close(&self, database: Connection<FileStore<File>>) -> Result<(), Error> {
-        database.close()
-    }
 }

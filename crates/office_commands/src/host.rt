@@ -1,7 +1,32 @@
 //! The commands over the host: its files, its databases and its network.
 
+use crate::host_files::{HostFiles, Unread};
 use crate::run::run_words;
+use sqlite::Start;
 use std::io::{Read, Write};
+
+// The same, whatever the files of databases hold as they are opened.
+fn run_from<T: Start + Copy>(
+    rt: &HostRuntime,
+    start: T,
+    words: &[String],
+    input: &mut dyn Read,
+    output: &mut dyn Write,
+    errors: &mut dyn Write,
+) -> u8 {
+    let (mut input, mut output, mut errors) = (input, output, errors);
+    let databases = HostFiles::new(rt, start);
+    run_words(
+        rt,
+        &databases,
+        rt,
+        rt.alloc(),
+        words,
+        &mut input,
+        &mut output,
+        &mut errors,
+    )
+}
 
 /// [`run_words`] over the files, the databases and the network of the host.
 pub fn run_here(
@@ -11,15 +36,5 @@ pub fn run_here(
     output: &mut dyn Write,
     errors: &mut dyn Write,
 ) -> u8 {
-    let (mut input, mut output, mut errors) = (input, output, errors);
-    run_words(
-        rt,
-        rt,
-        rt,
-        rt.alloc(),
-        words,
-        &mut input,
-        &mut output,
-        &mut errors,
-    )
+    run_from(rt, Unread, words, input, output, errors)
 }

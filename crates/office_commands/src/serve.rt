@@ -2,7 +2,10 @@
 
 ghost use Rattle.office_desk.specs.Meant.{meaning_over};
 ghost use Rattle.office_commands.specs.Openings.{IsServed};
-ghost use Rattle.office_commands.specs.Serving.{HasServed, HasServedAll, HasServedUpTo};
+ghost use Rattle.office_commands.specs.Serving.{HasServed, HasServedAll, HasServedUpTo, IsLoopback, longest_exchange};
+ghost use Rattle.std.specs.Prelude.{◌≡◌};
+ghost use Rattle.std.specs.Duration.{as_nanos};
+ghost use Rattle.std.specs.Net.Socket.{socket_ip, socket_port};
 
 use crate::databases::Databases;
 use crate::fault::CommandFault;
@@ -14,21 +17,34 @@ use sqlite::{Alter, Connection};
 use std::alloc::Global;
 use std::fs::Files;
 use std::io::Write;
-use std::net::{Ipv4Addr, Net, SocketAddr, TcpListener, TcpStream};
+use std::net::{IpAddr, Ipv4Addr, Net, SocketAddr, TcpListener, TcpStream};
 use std::time::{Clock, Duration};
 use streams::{Counted, WriteFailed, write_whole};
 
-// How long an exchange may last, in seconds.
-const LONGEST: u64 = 10;
+// How long an exchange may last.
+fn longest() -> Duration
+    ensures { as_nanos result ≡ longest_exchange }
+{
+    Duration::from_secs(10)
+}
 
 /// What the program has of a network: sockets, and a clock for their deadlines.
 pub trait Network: Net<Stream = TcpStream, Listener = TcpListener> + Clock {}
 
 impl Network for HostRuntime {}
 
-// A listener at a port of loopback, and that port.
-fn bind<N: Network>(network: &N, port: u16) -> Result<(TcpListener, u16), CommandFault> {
-    let address = SocketAddr::from((Ipv4Addr::LOCALHOST, port));
+// A port of loopback.
+fn loopback(port: u16) -> SocketAddr
+    ensures ip { IsLoopback (socket_ip result) }
+    ensures port { socket_port result ≡ port }
+{
+    SocketAddr::new(IpAddr::V4(Ipv4Addr::new(127, 0, 0, 1)), port)
+}
+
+// A listener at an address, which is one of loopback, and its port.
+fn bind<N: Network>(network: &N, address: SocketAddr) -> Result<(TcpListener, u16), CommandFault>
+    requires { IsLoopback (socket_ip address) }
+{
     let Ok(listener) = TcpListener::bind(network, address) else {
         return Err(CommandFault::Bind);
     };
@@ -48,11 +64,10 @@ fn serve_bound<N: Network, H: Handler, O: Write>(
 ) -> Result<(), CommandFault>
     ensures { HasServed H.meaning office.old office.new words.now.requests result }
 {
-    let longest = Duration::from_secs(LONGEST);
-    let Ok(server) = Server::new(network, alloc, longest) else {
+    let Ok(server) = Server::new(network, alloc, longest()) else {
         return Err(CommandFault::NoMemory);
     };
-    let (listener, port) = bind(network, words.port)?;
+    let (listener, port) = bind(network, loopback(words.port))?;
     let Ok(listening) = format!(in alloc; "listening {}:{port}\n", Ipv4Addr::LOCALHOST) else {
         return Err(CommandFault::NoMemory);
     };

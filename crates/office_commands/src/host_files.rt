@@ -1,0 +1,76 @@
+//! The databases in the files of the host.
+
+ghost use Rattle.std.specs.Prelude.{[], true};
+ghost use Rattle.sqlite_wal.specs.Files.{image_at};
+ghost use Rattle.office_commands.specs.Hosts.{IsClosedInto, IsFoundIn};
+
+use crate::databases::Databases;
+use sqlite::{Connection, Error, FileFrom, FileStore, Start};
+
+/// The databases in the files of the host. `T` stands for what the files hold as they are opened: what is proved of a
+/// command over them is proved for all contents.
+#[derive(Drop)]
+pub struct HostFiles<'r, T: Start + Copy> {
+    rt: &'r HostRuntime,
+    start: T,
+}
+
+impl<'r, T: Start + Copy> HostFiles<'r, T> {
+    /// The databases in the files of this host.
+    pub fn new(rt: &'r HostRuntime, start: T) -> HostFiles<'r, T> {
+        HostFiles { rt, start }
+    }
+}
+
+impl<T: Start + Copy> Databases for HostFiles<'_, T> {
+    type Database = Connection<FileStore<FileFrom<T>>>;
+
+    ghost opened = { λ path. IsFoundIn (image_at T.Start) };
+
+    ghost closed = { IsClosedInto };
+
+    fn open(&self, path: &str) -> Result<Connection<FileStore<FileFrom<T>>>, Error> {
+        match Connection::open_from(self.rt, path, false, self.start) {
+            Ok(conn) => Ok(conn),
+            Err((error, _)) => Err(error),
+        }
+    }
+
+    fn close(&self, database: Connection<FileStore<FileFrom<T>>>) -> Result<(), Error> {
+        match database.close_files() {
+            Ok(_) => Ok(()),
+            Err((error, store)) => {
+                drop(store.close());
+                Err(error)
+            }
+        }
+    }
+}
+
+/// Files whose contents the program doesn't know, and of which a torn write leaves each byte old or new.
+#[derive(Clone, Copy)]
+pub struct Unread;
+
+impl Start for Unread {
+    ghost log = { [] };
+
+    ghost db = { [] };
+
+    ghost is_mixing = { true };
+
+    fn mixes() -> bool {
+        true
+    }
+}
+
+impl Databases for HostRuntime {
+    type Database = Connection<FileStore<FileFrom<Unread>>>;
+
+    fn open(&self, path: &str) -> Result<Connection<FileStore<FileFrom<Unread>>>, Error> {
+        HostFiles::new(self, Unread).open(path)
+    }
+
+    fn close(&self, database: Connection<FileStore<FileFrom<Unread>>>) -> Result<(), Error> {
+        HostFiles::new(self, Unread).close(database)
+    }
+}
