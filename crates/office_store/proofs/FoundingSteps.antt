@@ -42,38 +42,38 @@ use Rattle.office_store.proofs.UserWrites.{insert_user, insert_step}
 
 -- ---- the texts of the tables and of the indexes, one after the other
 
-abbrev with_office : Schema
+abbrev pub with_office : Schema
 with_office = created no_schema (office_table 0)
 
-abbrev with_users : Schema
+abbrev pub with_users : Schema
 with_users = created with_office (users_table 0)
 
-abbrev with_revisions : Schema
+abbrev pub with_revisions : Schema
 with_revisions = created with_users (revisions_table 0)
 
-abbrev with_votes : Schema
+abbrev pub with_votes : Schema
 with_votes = created with_revisions (votes_table 0)
 
 abbrev pub with_baselines : Schema
 with_baselines = created with_votes (baselines_table 0)
 
-office_made : MakesTable no_schema CREATE_OFFICE.now (office_table 0)
+pub office_made : MakesTable no_schema CREATE_OFFICE.now (office_table 0)
 unfolding understood everything
 office_made = record { means = record { is = refl; plain = (refl, refl); unlisted = refl }; defined = refl; lacks = refl }
 
-users_made : MakesTable with_office CREATE_USERS.now (users_table 0)
+pub users_made : MakesTable with_office CREATE_USERS.now (users_table 0)
 unfolding understood everything
 users_made = record { means = record { is = refl; plain = (refl, refl); unlisted = refl }; defined = refl; lacks = refl }
 
-revisions_made : MakesTable with_users CREATE_REVISIONS.now (revisions_table 0)
+pub revisions_made : MakesTable with_users CREATE_REVISIONS.now (revisions_table 0)
 unfolding understood everything
 revisions_made = record { means = record { is = refl; plain = (refl, refl); unlisted = refl }; defined = refl; lacks = refl }
 
-votes_made : MakesTable with_revisions CREATE_VOTES.now (votes_table 0)
+pub votes_made : MakesTable with_revisions CREATE_VOTES.now (votes_table 0)
 unfolding understood everything
 votes_made = record { means = record { is = refl; plain = (refl, refl); unlisted = refl }; defined = refl; lacks = refl }
 
-baselines_made : MakesTable with_votes CREATE_BASELINES.now (baselines_table 0)
+pub baselines_made : MakesTable with_votes CREATE_BASELINES.now (baselines_table 0)
 unfolding understood everything
 baselines_made = record { means = record { is = refl; plain = (refl, refl); unlisted = refl }; defined = refl; lacks = refl }
 
@@ -95,7 +95,7 @@ authors_made = record { there = refl; means = record { is = refl; plain = (refl,
 -- ---- the row of the office
 
 -- an office with no user
-abbrev no_tables : ℕ → Tables
+abbrev pub no_tables : ℕ → Tables
 no_tables listed = record { listed = listed; users = λ name. None; revisions = λ p n. None; votes = λ p n voter. None; baselines = λ team. None; holds = λ p. false }
 
 abbrev pub none_stored : {K X : Type 0} {encode : X → Row} {is_at : K → X → Bool} {IsFormed : X → Type 0} (rows : List Row) → rows ≡ [] → Stores encode is_at IsFormed rows
@@ -114,7 +114,7 @@ insert_means = record { is = refl; plain = (refl, refl); unlisted = refl }
 cast_office : (listed : ℕ) → cast_row (office_table 0) (office_row listed) ≡ office_row listed
 cast_office listed = rw (cast_null, cast_int (pos 1), cast_int (pos 2), cast_int (pos listed))
 
-first_put : (rows : List Row) (row : Row) → rows ≡ [] → put_row row rows ≡ row ∷ []
+pub first_put : (rows : List Row) (row : Row) → rows ≡ [] → put_row row rows ≡ row ∷ []
 first_put rows row is = ap (put_row row) is
 
 only_office : (old new : Database) (listed : ℕ) → listed < 2 ^ 41 → HasEmptyTables office_schema old → WritesIn office_schema 0 old new → new.trees 0 ≡ office_row listed ∷ [] → IsOffice new (no_tables listed)

@@ -20,6 +20,7 @@ pub mod FoundingSteps
 pub mod FormReads
 pub mod OldReads
 pub mod MigrationSteps
+pub mod OldFounding
 pub mod Migrating
 pub mod Numbers
 pub mod Reopened
