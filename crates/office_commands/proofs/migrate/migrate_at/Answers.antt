@@ -1,7 +1,6 @@
 use Rattle.std.proofs.Common.{OnOk, subst}
 use Rattle.sqlite.specs.Held.{state}
 use Rattle.office_store.specs.Migration.{IsMigration, WasOld}
-use Rattle.office_commands.specs.Migrations.{WasMigrated}
 use Rattle.office_commands.proofs.migrate.migrate_at.Goals as goal
 
 pub returns-in-Ok-Ok : goal.returns-in-Ok-Ok
