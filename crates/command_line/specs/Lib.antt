@@ -2,3 +2,4 @@ pub mod Parts
 pub mod Commands
 pub mod Meaning
 pub mod Refusals
+pub mod Words

@@ -6,6 +6,7 @@ ghost use Rattle.command_line.specs.Commands.{commands, office_app};
 ghost use Rattle.command_line.specs.Meaning.{AsksFor, IsCommand};
 ghost use Rattle.command_line.specs.Parts.{AreCommands};
 ghost use Rattle.command_line.specs.Refusals.{IsRefused, NamesNoCommand, NoneAskedFor};
+ghost use Rattle.command_line.specs.Words.{AskFor, AskForNone};
 
 use crate::check::{add_check, check_of};
 use crate::command::Command;
@@ -120,10 +121,8 @@ fn asked_for<'w>(alloc: Global, matches: &ArgMatches<'w>) -> Result<Command<'w>,
 /// Help, the version or a refusal, each where `clap` gives it. `NoMemory` may stand in place of any answer: no contract can
 /// say that memory was refused.
 pub fn read_words<'w>(alloc: Global, words: &'w [String]) -> Result<Command<'w>, WordsFault>
-    ensures command { IfOk result (IsCommand (subcommand_of office_app (map string_bytes words.entry.now))) }
-    ensures accepted { IfOk result (λ _. fault_of office_app (map string_bytes words.entry.now) ≡ []) }
-    ensures refused { IfErr result (IsRefused (fault_of office_app (map string_bytes words.entry.now))
-        (subcommand_of office_app (map string_bytes words.entry.now))) }
+    ensures command { IfOk result (AskFor (map string_bytes words.entry.now)) }
+    ensures refused { IfErr result (AskForNone (map string_bytes words.entry.now)) }
 {
     match matches_of(alloc, words) {
         Ok(matches) => asked_for(alloc, &matches),

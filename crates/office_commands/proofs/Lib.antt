@@ -1,3 +1,4 @@
 pub mod ServingFacts
 pub mod OpeningFacts
 pub mod LeftFacts
+pub mod RunFacts

@@ -1,3 +1,4 @@
+pub mod Commands
 pub mod Openings
 pub mod Serving
 pub mod Foundings

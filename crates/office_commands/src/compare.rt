@@ -1,5 +1,10 @@
 //! `compare`: what one document permits more than another.
 
+ghost use Rattle.std.specs.Prelude.{IfOk, IfSome};
+ghost use Rattle.profile_commands.specs.Comparing.{IsCompared};
+ghost use Rattle.office_commands.specs.declared.compare.Source.{Source};
+ghost use Rattle.office_commands.specs.Commands.{source_bytes};
+
 use crate::fault::CommandFault;
 use profile_commands::compare_documents;
 use std::alloc::Global;
@@ -16,6 +21,10 @@ enum Source<T: Drop> {
 }
 
 impl<T: Read + Drop> Read for Source<T> {
+    ghost use Rattle.office_commands.specs.Commands.{source_bytes};
+
+    ghost remaining = { source_bytes T.remaining };
+
     fn read(&mut self, buf: &mut [u8]) -> io::Result<usize> {
         match self {
             Source::Opened(file) => file.read(buf),
@@ -38,7 +47,10 @@ pub(crate) fn compare_files<F: Files>(
     alloc: Global,
     base: &str,
     new: &str,
-) -> Result<String, CommandFault> {
+) -> Result<String, CommandFault>
+    ensures { IfOk result (λ text. (old shown : Source F.File) × IfSome (source_bytes F.File.remaining old)
+        (λ b. IfSome (source_bytes F.File.remaining shown) (λ s. IsCompared b s text))) }
+{
     let mut base = Counted::new(reader_at(files, base));
     let mut new = Counted::new(reader_at(files, new));
     let text = compare_documents(alloc, &mut base, &mut new)?;

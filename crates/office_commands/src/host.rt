@@ -4,6 +4,7 @@ use crate::host_files::{HostFiles, Unread};
 use crate::run::run_words;
 use sqlite::Start;
 use std::io::{Read, Write};
+use streams::Counted;
 
 // The same, whatever the files of databases hold as they are opened.
 fn run_from<T: Start + Copy>(
@@ -14,7 +15,7 @@ fn run_from<T: Start + Copy>(
     output: &mut dyn Write,
     errors: &mut dyn Write,
 ) -> u8 {
-    let (mut input, mut output, mut errors) = (input, output, errors);
+    let mut errors = errors;
     let databases = HostFiles::new(rt, start);
     run_words(
         rt,
@@ -22,8 +23,8 @@ fn run_from<T: Start + Copy>(
         rt,
         rt.alloc(),
         words,
-        &mut input,
-        &mut output,
+        &mut Counted::new(input),
+        &mut Counted::new(output),
         &mut errors,
     )
 }

@@ -1,8 +1,9 @@
 //! The commands of the program.
 
-ghost use Rattle.std.specs.Prelude.{◌≡◌, IfErr, IfOk, OnOk};
+ghost use Rattle.std.specs.Prelude.{◌≡◌, ◌^◌, ◌≤◌, IfErr, IfOk, MatchResult, OnOk, map, string_bytes};
 ghost use Rattle.std.specs.Io.KnownBytes.{Appends};
 ghost use Rattle.streams.specs.Counts.{one_more};
+ghost use Rattle.office_commands.specs.Commands.{findings_status, HasChecked, HasCompared, HasExecuted, HasRun, HasRunWords, HasTold, failed_status};
 
 use crate::compare::compare_files;
 use crate::databases::Databases;
@@ -62,11 +63,13 @@ fn run_check<F: Files, O: Write>(
     files: &F,
     alloc: Global,
     file: &str,
-    output: &mut O,
-) -> Result<u8, CommandFault> {
+    output: &mut Counted<O>,
+) -> Result<u8, CommandFault>
+    ensures { IfOk result (λ status. HasChecked F.File.remaining (O.contents output.old.inner) (O.contents output.new.inner) × (status ≡ 0)) }
+{
     let mut reader = open(files, file)?;
     let text = check_document(alloc, &mut reader)?;
-    print(&mut Counted::new(output), text.as_str())?;
+    print(output, text.as_str())?;
     Ok(0)
 }
 
@@ -75,20 +78,29 @@ fn run_execve<F: Files, O: Write>(
     files: &F,
     alloc: Global,
     words: &ExecveWords<'_>,
-    output: &mut O,
-) -> Result<u8, CommandFault> {
+    output: &mut Counted<O>,
+) -> Result<u8, CommandFault>
+    ensures { IfOk result (HasExecuted F.File.remaining (O.contents output.old.inner) (O.contents output.new.inner) words.now) }
+{
     let execution = execution_of(words)?;
     let mut reader = open(files, words.file)?;
     match execve_document(alloc, &execution, &mut reader)? {
         Outcome::Done(text) => {
-            print(&mut Counted::new(output), text.as_str())?;
+            print(output, text.as_str())?;
             Ok(0)
         }
         Outcome::Denied => {
-            print(&mut Counted::new(output), "EPERM\n")?;
+            print(output, "EPERM\n")?;
             Ok(1)
         }
     }
+}
+
+// The status where these findings were printed.
+fn findings_status(text: &String) -> u8
+    ensures { result ≡ findings_status (string_bytes text.now) }
+{
+    if text.is_empty() { 0 } else { 1 }
 }
 
 // `compare`.
@@ -97,15 +109,19 @@ fn run_compare<F: Files, O: Write>(
     alloc: Global,
     base: &str,
     new: &str,
-    output: &mut O,
-) -> Result<u8, CommandFault> {
+    output: &mut Counted<O>,
+) -> Result<u8, CommandFault>
+    ensures { IfOk result (HasCompared F.File.remaining (O.contents output.old.inner) (O.contents output.new.inner)) }
+{
     let text = compare_files(files, alloc, base, new)?;
-    print(&mut Counted::new(output), text.as_str())?;
-    Ok(if text.is_empty() { 0 } else { 1 })
+    print(output, text.as_str())?;
+    Ok(findings_status(&text))
 }
 
 // The status that the program ends with where the command is refused or fails.
-fn failed_status(command: &Command<'_>) -> u8 {
+fn failed_status(command: &Command<'_>) -> u8
+    ensures { result ≡ failed_status command.now }
+{
     match command {
         Command::Compare { .. } => 2,
         _ => 1,
@@ -126,9 +142,14 @@ fn run<
     network: &N,
     alloc: Global,
     command: Command<'_>,
-    input: &mut I,
-    output: &mut O,
-) -> Result<u8, CommandFault> {
+    input: &mut Counted<I>,
+    output: &mut Counted<O>,
+) -> Result<u8, CommandFault>
+    requires reads { input.old.calls ≤ 2 ^ 62 }
+    requires read_faults { input.old.faults ≤ 2 ^ 62 }
+    requires write_faults { output.old.faults ≤ 2 ^ 62 }
+    ensures { IfOk result (HasRun S.Store D.opened D.closed F.File.remaining command.entry (I.remaining input.old.inner) (O.contents output.old.inner) (O.contents output.new.inner)) }
+{
     match command {
         Command::Trial => {
             serve_trial(alloc, input, output)?;
@@ -138,7 +159,7 @@ fn run<
         Command::Execve(words) => run_execve(files, alloc, &words, output),
         Command::Init(words) => {
             found_at(databases, alloc, &words)?;
-            print(&mut Counted::new(output), "founded\n")?;
+            print(output, "founded\n")?;
             Ok(0)
         }
         Command::Serve(words) => {
@@ -147,13 +168,11 @@ fn run<
         }
         Command::Migrate { database } => {
             migrate_at(files, databases, database)?;
-            print(&mut Counted::new(output), "migrated\n")?;
+            print(output, "migrated\n")?;
             Ok(0)
         }
         Command::Desk { database } => {
-            let mut reader = Counted::new(input);
-            let mut writer = Counted::new(output);
-            serve_stored(files, databases, alloc, database, &mut reader, &mut writer)?;
+            serve_stored(files, databases, alloc, database, input, output)?;
             Ok(0)
         }
         Command::Compare { base, new } => run_compare(files, alloc, base, new, output),
@@ -164,17 +183,45 @@ fn run<
 fn tell<O: Write, E: Write>(
     alloc: Global,
     fault: &WordsFault,
-    output: &mut O,
+    output: &mut Counted<O>,
     errors: &mut E,
-) -> Result<u8, CommandFault> {
+) -> Result<u8, CommandFault>
+    ensures told { IfOk result (HasTold fault.now (O.contents output.old.inner) (O.contents output.new.inner)) }
+    ensures failed { IfErr result (λ _. HasTold fault.now (O.contents output.old.inner) (O.contents output.new.inner) 1) }
+{
     match fault {
-        WordsFault::Help(text) | WordsFault::Version(text) => {
-            print(&mut Counted::new(output), text.as_str())?;
+        WordsFault::Help(text) => {
+            print(output, text.as_str())?;
+            Ok(0)
         }
-        WordsFault::Refused(text) => say(errors, text.as_str()),
-        WordsFault::NoMemory => return Err(CommandFault::NoMemory),
+        WordsFault::Version(text) => {
+            print(output, text.as_str())?;
+            Ok(0)
+        }
+        WordsFault::Refused(text) => {
+            say(errors, text.as_str());
+            Ok(2)
+        }
+        WordsFault::NoMemory => Err(CommandFault::NoMemory),
     }
-    Ok(fault.status())
+}
+
+// The status that the program ends with: this one where a command was refused or failed, which is said.
+fn status_of<E: Write>(
+    alloc: Global,
+    errors: &mut E,
+    ended: Result<u8, CommandFault>,
+    failed: u8,
+) -> u8
+    ensures { MatchResult ended (λ status. result ≡ status) (λ _. result ≡ failed) }
+{
+    match ended {
+        Ok(status) => status,
+        Err(fault) => {
+            refuse(alloc, errors, &fault);
+            failed
+        }
+    }
 }
 
 /// Carries out what the words of a command line ask for, the first of them being the program's name. Gives the status
@@ -194,25 +241,25 @@ pub fn run_words<
     network: &N,
     alloc: Global,
     words: &[String],
-    input: &mut I,
-    output: &mut O,
+    input: &mut Counted<I>,
+    output: &mut Counted<O>,
     errors: &mut E,
-) -> u8 {
-    let (status, failed) = match read_words(alloc, words) {
+) -> u8
+    requires reads { input.old.calls ≤ 2 ^ 62 }
+    requires read_faults { input.old.faults ≤ 2 ^ 62 }
+    requires write_faults { output.old.faults ≤ 2 ^ 62 }
+    ensures { HasRunWords S.Store D.opened D.closed F.File.remaining (map string_bytes words.entry.now)
+        (I.remaining input.old.inner) (O.contents output.old.inner) (O.contents output.new.inner) result }
+{
+    match read_words(alloc, words) {
         Ok(command) => {
             let failed = failed_status(&command);
-            (
-                run(files, databases, network, alloc, command, input, output),
-                failed,
-            )
+            let ended = run(files, databases, network, alloc, command, input, output);
+            status_of(alloc, errors, ended, failed)
         }
-        Err(fault) => (tell(alloc, &fault, output, errors), 1),
-    };
-    match status {
-        Ok(status) => status,
         Err(fault) => {
-            refuse(alloc, errors, &fault);
-            failed
+            let told = tell(alloc, &fault, output, errors);
+            status_of(alloc, errors, told, 1)
         }
     }
 }

@@ -1,5 +1,7 @@
 //! The trial desk.
 
+ghost use Rattle.std.specs.Prelude.{◌^◌, ◌≤◌};
+
 use crate::fault::CommandFault;
 use crate::lines::answer_lines;
 use cap_sets::Caps;
@@ -43,13 +45,15 @@ fn trial_office(alloc: Global) -> Result<Office<MemStore>, NotFounded> {
 /// Answers the lines of a reader at the trial desk.
 pub(crate) fn serve_trial<R: Read, W: Write>(
     alloc: Global,
-    input: &mut R,
-    output: &mut W,
-) -> Result<(), CommandFault> {
+    input: &mut Counted<R>,
+    output: &mut Counted<W>,
+) -> Result<(), CommandFault>
+    requires reads { input.old.calls ≤ 2 ^ 62 }
+    requires read_faults { input.old.faults ≤ 2 ^ 62 }
+    requires write_faults { output.old.faults ≤ 2 ^ 62 }
+{
     let Ok(mut office) = trial_office(alloc) else {
         return Err(CommandFault::NoMemory);
     };
-    let mut reader = Counted::new(input);
-    let mut writer = Counted::new(output);
-    answer_lines(&mut office, alloc, &mut reader, &mut writer)
+    answer_lines(&mut office, alloc, input, output)
 }

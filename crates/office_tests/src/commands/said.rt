@@ -7,6 +7,7 @@ use std::alloc::{AllocError, Global};
 use std::io::Write;
 use std::process::Abort;
 use std::test::Fail;
+use streams::Counted;
 
 // The command line that founds an office at a path, whose first user shows abc.
 pub(crate) fn founding(alloc: Global, path: &str) -> Result<String, AllocError> {
@@ -36,7 +37,6 @@ fn run_line<S: Alter + Drop, D: Databases<Database = Connection<S>>, N: Network,
     for word in line.split_whitespace() {
         words.push(String::from_str(alloc, word)?)?;
     }
-    let mut input = input;
     let mut errors = Vec::new(alloc);
     let status = run_words(
         rt,
@@ -44,8 +44,8 @@ fn run_line<S: Alter + Drop, D: Databases<Database = Connection<S>>, N: Network,
         network,
         alloc,
         &words,
-        &mut input,
-        output,
+        &mut Counted::new(input),
+        &mut Counted::new(output),
         &mut errors,
     );
     Ok((status, errors))
