@@ -15,7 +15,7 @@ pub trait Databases {
     /// What is known of the database that was closed.
     ghost closed: { Self.Database → Type 0 } = { λ _. ⊤ };
 
-    /// Opens the database at a path. Where nothing is there, an empty one is made.
+    /// Opens the database at a path. Where nothing is there, an empty one is made, which its owner alone may read and write.
     fn open(&self, path: &str) -> Result<Self::Database, Error>
         ensures { IfOk result (λ database. opened path.now database) };
 

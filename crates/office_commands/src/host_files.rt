@@ -5,7 +5,45 @@ ghost use Rattle.sqlite_wal.specs.Files.{image_at};
 ghost use Rattle.office_commands.specs.Hosts.{IsClosedInto, IsFoundIn};
 
 use crate::databases::Databases;
-use sqlite::{Connection, Error, FileFrom, FileStore, Start};
+use sqlite::{Connection, Error, ErrorCode, FileFrom, FileStore, Start};
+use std::fs::{OpenOptions, Permissions};
+use std::io;
+use std::io::ErrorKind;
+use std::os::unix::fs::{OpenOptionsExt, PermissionsExt};
+
+// What the owner of a file may do with it, and nobody else anything.
+const OWNER_ALONE: u32 = 0o600;
+
+// Whether SQLite takes a path for a file's, and not for a name in memory or a URI.
+fn names_file(path: &str) -> bool {
+    path != ":memory:" && !path.starts_with("file:")
+}
+
+// Makes an empty file where nothing is. The mode is given to the call that makes it, so that nobody else can ever have it open,
+// and set again since the umask took from it.
+fn make_file(rt: &HostRuntime, path: &str) -> io::Result<()> {
+    let file = OpenOptions::new()
+        .write(true)
+        .create_new(true)
+        .mode(OWNER_ALONE)
+        .open(rt, path)?;
+    file.set_permissions(Permissions::from_mode(OWNER_ALONE))
+}
+
+// Sees to it that there is a file for a database at a path, an empty one where nothing was.
+fn have_file(rt: &HostRuntime, path: &str) -> Result<(), Error> {
+    if !names_file(path) {
+        return Ok(());
+    }
+    match make_file(rt, path) {
+        Ok(()) => Ok(()),
+        Err(error) if error.kind() == ErrorKind::AlreadyExists => Ok(()),
+        Err(error) if error.kind() == ErrorKind::OutOfMemory => {
+            Err(Error::SqliteFailure(ErrorCode::OutOfMemory))
+        }
+        Err(_) => Err(Error::SqliteFailure(ErrorCode::CannotOpen)),
+    }
+}
 
 /// The databases in the files of the host. `T` stands for what the files hold as they are opened: what is proved of a
 /// command over them is proved for all contents.
@@ -30,6 +68,7 @@ impl<T: Start + Copy> Databases for HostFiles<'_, T> {
     ghost closed = { IsClosedInto };
 
     fn open(&self, path: &str) -> Result<Connection<FileStore<FileFrom<T>>>, Error> {
+        have_file(self.rt, path)?;
         match Connection::open_from(self.rt, path, false, self.start) {
             Ok(conn) => Ok(conn),
             Err((error, _)) => Err(error),
