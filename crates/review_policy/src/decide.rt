@@ -1,8 +1,17 @@
 //! The decisions: the first rule that refuses a request, by its facts.
 
-ghost use Rattle.std.specs.Prelude.{◌≡◌, List, Bool, Ok, Err, if◌then◌else◌};
-ghost use Rattle.review_policy.specs.FirstRefusal.{IsDecision};
-ghost use Rattle.review_policy.specs.Rules.{first_denial, need_of, is_open, is_issued};
+ghost use Rattle.std.specs.Prelude.{◌≡◌, List, Bool, false, Ok, Err, if◌then◌else◌};
+ghost use Rattle.review_policy.specs.FirstRefusal.{IsDecision, any_refuses};
+ghost use Rattle.review_policy.specs.Rules.{first_denial, need_of, is_open, is_issued, enrol_rules, submit_rules, vote_rules, issue_rules, withdraw_rules, adopt_rules, fetch_rules, hold_rules, release_rules};
+ghost use Rattle.review_policy.specs.declared.facts.TheConstants.EnrolFacts as enrol_facts;
+ghost use Rattle.review_policy.specs.declared.facts.TheConstants.SubmitFacts as submit_facts;
+ghost use Rattle.review_policy.specs.declared.facts.TheConstants.VoteFacts as vote_facts;
+ghost use Rattle.review_policy.specs.declared.facts.TheConstants.IssueFacts as issue_facts;
+ghost use Rattle.review_policy.specs.declared.facts.TheConstants.WithdrawFacts as withdraw_facts;
+ghost use Rattle.review_policy.specs.declared.facts.TheConstants.AdoptFacts as adopt_facts;
+ghost use Rattle.review_policy.specs.declared.facts.TheConstants.FetchFacts as fetch_facts;
+ghost use Rattle.review_policy.specs.declared.facts.TheConstants.HoldFacts as hold_facts;
+ghost use Rattle.review_policy.specs.declared.facts.TheConstants.ReleaseFacts as release_facts;
 ghost use Rattle.review_policy.specs.declared.denial.Rule.{Rule};
 
 mod adopt;
@@ -46,6 +55,19 @@ pub fn need(wide: bool, listed: bool) -> Need
 #[tactic(auto, using(crate::proofs::Decisions::first_denial_is_decision))]
 pub fn the_first_refusing_rule_is_named()
     ensures { (rules : List (Rule × Bool)) → IsDecision 1 rules (first_denial rules) }
+{}
+
+/// The law of the facts that pass: no rule of their kind refuses `PASSING`.
+pub fn no_rule_refuses_passing_facts()
+    ensures of_enrol { any_refuses (enrol_rules enrol_facts.PASSING) ≡ false }
+    ensures of_submit { any_refuses (submit_rules submit_facts.PASSING) ≡ false }
+    ensures of_vote { any_refuses (vote_rules vote_facts.PASSING) ≡ false }
+    ensures of_issue { any_refuses (issue_rules issue_facts.PASSING) ≡ false }
+    ensures of_withdraw { any_refuses (withdraw_rules withdraw_facts.PASSING) ≡ false }
+    ensures of_adopt { any_refuses (adopt_rules adopt_facts.PASSING) ≡ false }
+    ensures of_fetch { any_refuses (fetch_rules fetch_facts.PASSING) ≡ false }
+    ensures of_hold { any_refuses (hold_rules hold_facts.PASSING) ≡ false }
+    ensures of_release { any_refuses (release_rules release_facts.PASSING) ≡ false }
 {}
 
 // Denies by this rule, where it refuses.

@@ -18,6 +18,17 @@ pub struct EnrolFacts {
     pub token_taken: bool,
 }
 
+impl EnrolFacts {
+    /// Facts that every rule of enrol lets pass, to stand for those that aren't looked up yet.
+    pub const PASSING: EnrolFacts = EnrolFacts {
+        caller_unknown: false,
+        role_missing: false,
+        own_row: false,
+        team_fixed: false,
+        token_taken: false,
+    };
+}
+
 /// What the rules of submit ask.
 #[derive(Clone, Copy)]
 pub struct SubmitFacts {
@@ -35,6 +46,18 @@ pub struct SubmitFacts {
     pub revisions: u32,
 }
 
+impl SubmitFacts {
+    /// Facts that every rule of submit lets pass, to stand for those that aren't looked up yet.
+    pub const PASSING: SubmitFacts = SubmitFacts {
+        caller_unknown: false,
+        role_missing: false,
+        other_team: false,
+        document: false,
+        same_as_open: false,
+        revisions: 0,
+    };
+}
+
 /// What the rules of vote ask.
 #[derive(Clone, Copy)]
 pub struct VoteFacts {
@@ -48,6 +71,17 @@ pub struct VoteFacts {
     pub author_votes: bool,
     /// The digest named isn't that of the revision's text.
     pub other_bytes: bool,
+}
+
+impl VoteFacts {
+    /// Facts that every rule of vote lets pass, to stand for those that aren't looked up yet.
+    pub const PASSING: VoteFacts = VoteFacts {
+        caller_unknown: false,
+        role_missing: false,
+        state: Some(State::Open),
+        author_votes: false,
+        other_bytes: false,
+    };
 }
 
 /// What the rules of issue ask.
@@ -73,6 +107,21 @@ pub struct IssueFacts {
     pub held: bool,
 }
 
+impl IssueFacts {
+    /// Facts that every rule of issue lets pass, to stand for those that aren't looked up yet.
+    pub const PASSING: IssueFacts = IssueFacts {
+        caller_unknown: false,
+        role_missing: false,
+        state: Some(State::Open),
+        author_issues: false,
+        rejections: 0,
+        approvals: 1,
+        secure: 0,
+        need: Need::One,
+        held: false,
+    };
+}
+
 /// What the rules of withdraw ask.
 #[derive(Clone, Copy)]
 pub struct WithdrawFacts {
@@ -86,6 +135,16 @@ pub struct WithdrawFacts {
     pub state: Option<State>,
 }
 
+impl WithdrawFacts {
+    /// Facts that every rule of withdraw lets pass, to stand for those that aren't looked up yet.
+    pub const PASSING: WithdrawFacts = WithdrawFacts {
+        caller_unknown: false,
+        role_missing: false,
+        other_team: false,
+        state: Some(State::Open),
+    };
+}
+
 /// What the rules of adopt ask.
 #[derive(Clone, Copy)]
 pub struct AdoptFacts {
@@ -97,6 +156,16 @@ pub struct AdoptFacts {
     pub state: Option<State>,
     /// The caller is an author of the profile.
     pub author_adopts: bool,
+}
+
+impl AdoptFacts {
+    /// Facts that every rule of adopt lets pass, to stand for those that aren't looked up yet.
+    pub const PASSING: AdoptFacts = AdoptFacts {
+        caller_unknown: false,
+        role_missing: false,
+        state: Some(State::Issued),
+        author_adopts: false,
+    };
 }
 
 /// What the rules of show, sheet and list ask.
@@ -127,6 +196,17 @@ pub struct FetchFacts {
     pub held: bool,
 }
 
+impl FetchFacts {
+    /// Facts that every rule of fetch lets pass, to stand for those that aren't looked up yet.
+    pub const PASSING: FetchFacts = FetchFacts {
+        caller_unknown: false,
+        role_missing: false,
+        other_team: false,
+        nothing_issued: false,
+        held: false,
+    };
+}
+
 /// What the rules of hold ask.
 #[derive(Clone, Copy)]
 pub struct HoldFacts {
@@ -140,6 +220,16 @@ pub struct HoldFacts {
     pub already_held: bool,
 }
 
+impl HoldFacts {
+    /// Facts that every rule of hold lets pass, to stand for those that aren't looked up yet.
+    pub const PASSING: HoldFacts = HoldFacts {
+        caller_unknown: false,
+        role_missing: false,
+        no_profile: false,
+        already_held: false,
+    };
+}
+
 /// What the rules of release ask.
 #[derive(Clone, Copy)]
 pub struct ReleaseFacts {
@@ -151,4 +241,14 @@ pub struct ReleaseFacts {
     pub no_profile: bool,
     /// The profile isn't held.
     pub not_held: bool,
+}
+
+impl ReleaseFacts {
+    /// Facts that every rule of release lets pass, to stand for those that aren't looked up yet.
+    pub const PASSING: ReleaseFacts = ReleaseFacts {
+        caller_unknown: false,
+        role_missing: false,
+        no_profile: false,
+        not_held: false,
+    };
 }

@@ -18,7 +18,7 @@ pub use ask::{Ask, ProfileName, Request};
 pub use decide::{
     decide_adopt, decide_enrol, decide_fetch, decide_hold, decide_issue, decide_read,
     decide_release, decide_submit, decide_vote, decide_withdraw, need,
-    the_first_refusing_rule_is_named,
+    no_rule_refuses_passing_facts, the_first_refusing_rule_is_named,
 };
 pub use denial::{Denial, Need, Rule};
 pub use digest::digest_from_hex;
