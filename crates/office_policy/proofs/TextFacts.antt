@@ -1,16 +1,12 @@
 -- Each text of a lawful history reads back as the document whose canonical text it is.
 use Rattle.std.proofs.Common.{◌≡◌, ◌∙◌, ◌&&◌, ◌==◌, ℕ, suc, List, [], ◌∷◌, true, false, cond, Some, Ok, sym, ap, subst}
 use Rattle.serde_json.specs.Data.{Data, null, boolean, number, string, array, object}
-use Rattle.cap_sets.specs.declared.state.CapState.{CapState}
 use Rattle.profile_text.specs.declared.profile.Profile.{Profile}
-use Rattle.profile_text.specs.declared.sets.CapSet.TheVariants.{Ambient, Bounding, Effective, Inheritable, Permitted}
 use Rattle.profile_text.specs.Reading.{reading_of}
-use Rattle.profile_text.specs.Reads.{StandsFor, StandsForCaps, HasKnownCaps}
-use Rattle.profile_text.specs.Shape.{member_of}
+use Rattle.profile_text.specs.Reads.{StandsFor, HasKnownCaps}
 use Rattle.profile_text.specs.Text.{text_of}
-use Rattle.profile_text.proofs.KnownCaps.{known_set}
+use Rattle.profile_text.proofs.KnownCaps.{known_by}
 use Rattle.profile_text.proofs.ReadsFacts.{reads_from}
-use Rattle.std.specs.Prelude.{codes}
 use Rattle.office_tables.specs.Tables.{is_profile}
 use Rattle.office_policy.specs.History.{Event, founded, submitted, History}
 use Rattle.office_policy.specs.Revisions.{Submission, submission_of, revision_count}
@@ -42,20 +38,6 @@ reads_back [] lawful p n s at = absurd lawful
 reads_back (founded x t d l ∷ []) lawful p n s at = absurd (cc)
 reads_back (_ ∷ []) lawful p n s at = absurd lawful
 reads_back (e ∷ f ∷ h) lawful p n s at = back_more (f ∷ h) e (allowed_follows (f ∷ h) e lawful.0) (reads_back (f ∷ h) lawful.1) p n s at
-
-known_by : (d : Data) (s : CapState) → StandsForCaps d s → HasKnownCaps s
-known_by (object ms) s h = record {
-  effective = known_set (member_of (codes "effective") ms) s.effective (h Effective);
-  permitted = known_set (member_of (codes "permitted") ms) s.permitted (h Permitted);
-  inheritable = known_set (member_of (codes "inheritable") ms) s.inheritable (h Inheritable);
-  bounding = known_set (member_of (codes "bounding") ms) s.bounding (h Bounding);
-  ambient = known_set (member_of (codes "ambient") ms) s.ambient (h Ambient);
-}
-known_by null s h = absurd h
-known_by (boolean b) s h = absurd h
-known_by (number n) s h = absurd h
-known_by (string t) s h = absurd h
-known_by (array ds) s h = absurd h
 
 known_of : (d : Data) (p : Profile) → StandsFor d p → HasKnownCaps p.caps
 known_of (object ms) p h = known_by h.caps.0 p.caps h.caps.2

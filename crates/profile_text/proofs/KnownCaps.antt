@@ -2,9 +2,13 @@
 use Rattle.std.proofs.Common.{◌≡◌, ℕ, ◌+◌, ◌^◌, ◌<◌, List, [], ◌∷◌, length, Option, Some, None, Bool, true, false, cond, bytes_eq, sym, subst, arith, lit<}
 use Rattle.std.proofs.Math.Pow.{pow-lt}
 use Rattle.std.proofs.lemmas.Nat.{or_lt}
+use Rattle.std.specs.Prelude.{codes}
 use Rattle.serde_json.specs.Data.{Data, null, boolean, number, string, array, object, Items, no_items, item}
 use Rattle.cap_sets.specs.Capability.{number_from, cap_names}
-use Rattle.profile_text.specs.Reads.{Names, AllName, StandsForSet}
+use Rattle.cap_sets.specs.declared.state.CapState.{CapState}
+use Rattle.profile_text.specs.declared.sets.CapSet.TheVariants.{Ambient, Bounding, Effective, Inheritable, Permitted}
+use Rattle.profile_text.specs.Reads.{Names, AllName, StandsForSet, StandsForCaps, HasKnownCaps}
+use Rattle.profile_text.specs.Shape.{member_of}
 use Rattle.profile_text.specs.Sets.{cap_of, caps_of}
 use Rattle.profile_text.proofs.NameFacts.{named_is, listed_set}
 
@@ -43,3 +47,18 @@ known_set (Some (boolean b)) caps h = absurd h
 known_set (Some (number n)) caps h = absurd h
 known_set (Some (string s)) caps h = absurd h
 known_set (Some (object ms)) caps h = absurd h
+
+-- five sets that a value stands for
+pub known_by : (d : Data) (s : CapState) → StandsForCaps d s → HasKnownCaps s
+known_by (object ms) s h = record {
+  effective = known_set (member_of (codes "effective") ms) s.effective (h Effective);
+  permitted = known_set (member_of (codes "permitted") ms) s.permitted (h Permitted);
+  inheritable = known_set (member_of (codes "inheritable") ms) s.inheritable (h Inheritable);
+  bounding = known_set (member_of (codes "bounding") ms) s.bounding (h Bounding);
+  ambient = known_set (member_of (codes "ambient") ms) s.ambient (h Ambient);
+}
+known_by null s h = absurd h
+known_by (boolean b) s h = absurd h
+known_by (number n) s h = absurd h
+known_by (string t) s h = absurd h
+known_by (array ds) s h = absurd h

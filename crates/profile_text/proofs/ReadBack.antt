@@ -11,7 +11,7 @@ use Rattle.profile_text.specs.Reading.{reading_of, most_bytes}
 use Rattle.profile_text.specs.Reads.{IsCapsValue, StandsForCaps, StandsFor, IsDocumentMember, IsWhole, HasKnownCaps, HasWholeFilter}
 use Rattle.profile_text.specs.Shape.{member_of}
 use Rattle.profile_text.specs.Text.{caps_data, profile_data, seccomp_data, text_of}
-use Rattle.profile_text.proofs.KnownCaps.{known_set}
+use Rattle.profile_text.proofs.KnownCaps.{known_by}
 use Rattle.profile_text.proofs.ListedNames.{names_listed}
 use Rattle.profile_text.proofs.Listed.{Rows, HoldsIf, found_at, all_listed}
 use Rattle.profile_text.proofs.LawfulRead.{stands_for_whole}
@@ -62,20 +62,6 @@ stands_for_own p known whole =
 pub text_back : (p : Profile) → HasKnownCaps p.caps → HasWholeFilter p → length (text_of p) ≤ most_bytes → reading_of (text_of p) ≡ Ok p
 text_back p known whole short =
     reading_from (text_of p) p (record { short = short; stands = (profile_data p, text_json p whole, stands_for_own p known whole); text = short })
-
-known_by : (d : Data) (s : CapState) → StandsForCaps d s → HasKnownCaps s
-known_by (object ms) s h = record {
-  effective = known_set (member_of (codes "effective") ms) s.effective (h Effective);
-  permitted = known_set (member_of (codes "permitted") ms) s.permitted (h Permitted);
-  inheritable = known_set (member_of (codes "inheritable") ms) s.inheritable (h Inheritable);
-  bounding = known_set (member_of (codes "bounding") ms) s.bounding (h Bounding);
-  ambient = known_set (member_of (codes "ambient") ms) s.ambient (h Ambient);
-}
-known_by null s h = absurd h
-known_by (boolean b) s h = absurd h
-known_by (number n) s h = absurd h
-known_by (string t) s h = absurd h
-known_by (array ds) s h = absurd h
 
 again_by : (d : Data) (p : Profile) → StandsFor d p → length (text_of p) ≤ most_bytes → reading_of (text_of p) ≡ Ok p
 again_by (object ms) p h short = text_back p (known_by h.caps.0 p.caps h.caps.2) (stands_for_whole (member_of (codes "seccomp") ms) p.filter h.filter) short
