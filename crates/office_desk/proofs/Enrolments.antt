@@ -4,6 +4,7 @@ use Rattle.std.specs.Prelude.{Result, ⊤}
 use Rattle.review_policy.specs.declared.ask.Ask.TheVariants as ask
 use Rattle.review_policy.specs.declared.answer.Reply.TheVariants.{Enrolled}
 use Rattle.review_policy.specs.declared.denial.Denial.{Denial}
+use Rattle.review_policy.specs.declared.facts.TheConstants.EnrolFacts.{PASSING}
 use Rattle.review_policy.specs.declared.role.Role.TheVariants.{Registrar}
 use Rattle.review_policy.specs.Rules.{first_denial, enrol_rules}
 use Rattle.office_tables.specs.declared.row.UserRow.{UserRow}
@@ -24,7 +25,7 @@ use Rattle.office_desk.proofs.Carrying.{Adds}
 use Rattle.office_desk.proofs.Handling.{denied_is, allowed_is}
 
 by_caller : (missing own fixed taken : Bool) (d : Denial)
-    → first_denial (enrol_rules (record { caller_unknown = false; role_missing = missing; own_row = own; team_fixed = false; token_taken = false })) ≡ Err d
+    → first_denial (enrol_rules (record PASSING { role_missing = missing; own_row = own })) ≡ Err d
     → first_denial (enrol_rules (record { caller_unknown = false; role_missing = missing; own_row = own; team_fixed = fixed; token_taken = taken })) ≡ Err d
 by_caller true own fixed taken d e = e
 by_caller false true fixed taken d e = e
@@ -44,7 +45,11 @@ Decides caller user team found decision = first_denial (enrol_rules (enrol_facts
 
 module _ (h : History) (caller : UserRow) (user team : List ℕ) (roles : ℕ) (digest : List ℕ) where
   -- a caller that has no role for it, or whose own row it is, is refused whoever is enrolled
-  pub refused_early : (d : Denial) → Decides caller user team (None, None) (Err d)
+  pub refused_early : (d : Denial)
+      → first_denial (enrol_rules (record PASSING {
+        role_missing = not (holds_role (Some caller) Registrar);
+        own_row = is_named (Some caller) user;
+      })) ≡ Err d
       → verdict_of h (Some caller) (ask.Enrol user team roles digest) ≡ denied d None
   refused_early d e =
       denied_is h (Some caller) (ask.Enrol user team roles digest) d

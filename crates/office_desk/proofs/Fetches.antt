@@ -1,11 +1,11 @@
 -- What fetches are decided by.
-use Rattle.std.proofs.Common.{◌≡◌, ◌∙◌, ℕ, List, Bool, true, false, not, Option, Some, None, Err, refl, sym, ap}
-use Rattle.std.specs.Prelude.{is_some, is_none}
+use Rattle.std.proofs.Common.{◌≡◌, ◌∙◌, Bool, true, false, not, Option, Some, None, Err, refl, sym, ap}
+use Rattle.std.specs.Prelude.{is_none}
 use Rattle.review_policy.specs.declared.ask.Ask.TheVariants as ask
 use Rattle.review_policy.specs.declared.ask.ProfileName.{ProfileName}
 use Rattle.review_policy.specs.declared.answer.Reply.TheVariants.{Fetched}
 use Rattle.review_policy.specs.declared.denial.Denial.{Denial}
-use Rattle.review_policy.specs.declared.facts.FetchFacts.{FetchFacts}
+use Rattle.review_policy.specs.declared.facts.TheConstants.FetchFacts.{PASSING}
 use Rattle.review_policy.specs.declared.role.Role.TheVariants.{Machine}
 use Rattle.review_policy.specs.Rules.{first_denial, fetch_rules}
 use Rattle.office_tables.specs.declared.row.UserRow.{UserRow}
@@ -23,7 +23,7 @@ pub fetching : (caller : UserRow) (p : ProfileName)
 fetching caller p = record { plain = λ h rule. refl; asked = λ h. refl }
 
 by_caller : (missing other nothing held : Bool) (d : Denial)
-    → first_denial (fetch_rules (record { caller_unknown = false; role_missing = missing; other_team = other; nothing_issued = false; held = false })) ≡ Err d
+    → first_denial (fetch_rules (record PASSING { role_missing = missing; other_team = other })) ≡ Err d
     → first_denial (fetch_rules (record { caller_unknown = false; role_missing = missing; other_team = other; nothing_issued = nothing; held = held })) ≡ Err d
 by_caller true other nothing held d e = e
 by_caller false true nothing held d e = e
@@ -31,21 +31,12 @@ by_caller false false nothing held d e = absurd cc
 
 -- a caller whose roles or team refuse is refused whatever is issued
 pub fetch_early : (caller : UserRow) (p : ProfileName) (d : Denial)
-    → first_denial (fetch_rules (record (fetch_facts (Some caller) p.team None false) { nothing_issued = false })) ≡ Err d
+    → first_denial (fetch_rules (record PASSING {
+      role_missing = not (holds_role (Some caller) Machine);
+      other_team = not (is_of_team (Some caller) p.team);
+    })) ≡ Err d
     → (x : Option RevisionRow × Bool) → first_denial (fetch_rules (fetch_facts (Some caller) p.team x.0 x.1)) ≡ Err d
 fetch_early caller p d e x = by_caller (not (holds_role (Some caller) Machine)) (not (is_of_team (Some caller) p.team)) (is_none x.0) x.1 d e
-
-none_told : (found : Option RevisionRow) (nothing : Bool) → is_some found ≡ not nothing → is_none found ≡ nothing
-none_told None true told = refl
-none_told None false told = absurd cc
-none_told (Some r) true told = absurd cc
-none_told (Some r) false told = refl
-
--- what was asked is of what was found
-pub facts_are : (caller : UserRow) (team : List ℕ) (found : Option RevisionRow) (held nothing : Bool) (facts : FetchFacts) → is_some found ≡ not nothing
-    → facts ≡ record (fetch_facts (Some caller) team None held) { nothing_issued = nothing } → fetch_facts (Some caller) team found held ≡ facts
-facts_are caller team found held nothing facts told is =
-    ap (λ b. record (fetch_facts (Some caller) team None held) { nothing_issued = b }) (none_told found nothing told) ∙ sym is
 
 -- the issued revision is told
 pub fetch_done : (caller : UserRow) (p : ProfileName) (x : Option RevisionRow × Bool) (r : RevisionRow) → x.0 ≡ Some r → (h : History) → x ≡ issued_at p h

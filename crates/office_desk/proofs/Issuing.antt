@@ -8,14 +8,15 @@ use Rattle.review_policy.specs.declared.denial.Denial.{Denial}
 use Rattle.review_policy.specs.declared.denial.Need.{Need}
 use Rattle.review_policy.specs.declared.denial.Need.TheVariants.{One, TwoWithSecurity}
 use Rattle.review_policy.specs.declared.facts.IssueFacts.{IssueFacts}
-use Rattle.review_policy.specs.declared.revision.State.TheVariants.{Open}
+use Rattle.review_policy.specs.declared.facts.TheConstants.IssueFacts.{PASSING}
+use Rattle.review_policy.specs.declared.role.Role.TheVariants.{Issuer}
 use Rattle.review_policy.specs.Rules.{first_denial, first_from, issue_rules, is_open}
 use Rattle.office_tables.specs.declared.row.UserRow.{UserRow}
 use Rattle.office_tables.specs.declared.row.RevisionRow.{RevisionRow}
 use Rattle.office_tables.specs.declared.listed.Tally.{Tally}
 use Rattle.office_tables.specs.Tables.{Tables}
 use Rattle.office_tables.specs.Changes.{with_issued}
-use Rattle.office_tables.specs.Lists.{IsAuthor, IsTally}
+use Rattle.office_tables.specs.Lists.{IsAuthor, IsTally, holds_role}
 use Rattle.office_store.specs.Calls.{Into}
 use Rattle.office_policy.specs.History.{History, issued}
 use Rattle.office_policy.specs.Revisions.{revision_of, is_author, state_in}
@@ -62,7 +63,7 @@ abbrev pub facts_early : UserRow → Looked → IssueFacts
 facts_early caller l = issue_facts (Some caller) l.revision l.by_author (one_approval l.tally.rejections) One false
 
 abbrev pub facts_of_caller : UserRow → IssueFacts
-facts_of_caller caller = record (issue_facts (Some caller) None false (one_approval 0) One false) { state = Some Open }
+facts_of_caller caller = record PASSING { role_missing = not (holds_role (Some caller) Issuer) }
 
 -- ---- a need that can't matter
 

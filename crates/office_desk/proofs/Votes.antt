@@ -1,11 +1,10 @@
 -- What votes are decided by, and what they leave.
-use Rattle.std.proofs.Common.{◌≡◌, ◌∙◌, ℕ, List, [], ◌∷◌, Bool, true, false, not, Option, Some, None, Err, refl, sym, ap}
+use Rattle.std.proofs.Common.{◌≡◌, ◌∙◌, ℕ, List, ◌∷◌, Bool, true, false, not, Option, Some, Err, refl, sym, ap}
 use Rattle.review_policy.specs.declared.ask.Ask.TheVariants as ask
 use Rattle.review_policy.specs.declared.ask.ProfileName.{ProfileName}
 use Rattle.review_policy.specs.declared.denial.Denial.{Denial}
-use Rattle.review_policy.specs.declared.facts.VoteFacts.{VoteFacts}
+use Rattle.review_policy.specs.declared.facts.TheConstants.VoteFacts.{PASSING}
 use Rattle.review_policy.specs.declared.revision.State.{State}
-use Rattle.review_policy.specs.declared.revision.State.TheVariants.{Open}
 use Rattle.review_policy.specs.declared.role.Role.TheVariants.{Reviewer, Security}
 use Rattle.review_policy.specs.Role.{has_role}
 use Rattle.review_policy.specs.Rules.{first_denial, vote_rules}
@@ -27,7 +26,7 @@ pub voting : (caller : UserRow) (p : ProfileName) (n : ℕ) (digest : List ℕ) 
 voting caller p n digest approves = record { plain = λ h rule. refl; asked = λ h. refl }
 
 by_role : (missing : Bool) (state : Option State) (author other : Bool) (d : Denial)
-    → first_denial (vote_rules (record { caller_unknown = false; role_missing = missing; state = Some Open; author_votes = false; other_bytes = false }))
+    → first_denial (vote_rules (record PASSING { role_missing = missing }))
     ≡ Err d
     → first_denial (vote_rules (record { caller_unknown = false; role_missing = missing; state = state; author_votes = author; other_bytes = other })) ≡ Err d
 by_role true state author other d e = e
@@ -35,16 +34,9 @@ by_role false state author other d e = absurd cc
 
 -- a caller whose roles refuse is refused whatever the revision
 pub vote_early : (caller : UserRow) (digest : List ℕ) (d : Denial)
-    → first_denial (vote_rules (record (vote_facts (Some caller) None false []) { state = Some Open; other_bytes = false })) ≡ Err d
+    → first_denial (vote_rules (record PASSING { role_missing = not (holds_role (Some caller) Reviewer) })) ≡ Err d
     → (x : Option RevisionRow × Bool) → first_denial (vote_rules (vote_facts (Some caller) x.0 x.1 digest)) ≡ Err d
 vote_early caller digest d e x = by_role (not (holds_role (Some caller) Reviewer)) (state_in x.0) x.1 (not (has_digest x.0 digest)) d e
-
--- what was asked is of what was found
-pub facts_are : (caller : UserRow) (digest : List ℕ) (found : Option RevisionRow) (author : Bool) (state : Option State) (named : Bool) (facts : VoteFacts)
-    → state ≡ state_in found → named ≡ has_digest found digest
-    → facts ≡ record (vote_facts (Some caller) None author []) { state = state; other_bytes = not named } → vote_facts (Some caller) found author digest ≡ facts
-facts_are caller digest found author state named facts is_state is_named is =
-    sym (is ∙ (λ i. record (vote_facts (Some caller) None author []) { state = is_state i; other_bytes = not (is_named i) }))
 
 -- the vote is kept with whether its voter holds security, by the voter's row
 pub vote_made : (caller : UserRow) (p : ProfileName) (n : ℕ) (digest : List ℕ) (approves security : Bool) → security ≡ has_role caller.roles Security

@@ -1,10 +1,10 @@
 -- What withdrawals are decided by.
-use Rattle.std.proofs.Common.{◌≡◌, ℕ, Bool, true, false, not, ◌||◌, Option, Some, None, Err, refl}
+use Rattle.std.proofs.Common.{◌≡◌, ℕ, Bool, true, false, not, ◌||◌, Option, Some, Err, refl}
 use Rattle.review_policy.specs.declared.ask.Ask.TheVariants as ask
 use Rattle.review_policy.specs.declared.ask.ProfileName.{ProfileName}
 use Rattle.review_policy.specs.declared.denial.Denial.{Denial}
+use Rattle.review_policy.specs.declared.facts.TheConstants.WithdrawFacts.{PASSING}
 use Rattle.review_policy.specs.declared.revision.State.{State}
-use Rattle.review_policy.specs.declared.revision.State.TheVariants.{Open}
 use Rattle.review_policy.specs.declared.role.Role.TheVariants.{Author, Security}
 use Rattle.review_policy.specs.Rules.{first_denial, withdraw_rules}
 use Rattle.office_tables.specs.declared.row.UserRow.{UserRow}
@@ -20,7 +20,7 @@ pub withdrawing : (caller : UserRow) (p : ProfileName) (n : ℕ)
 withdrawing caller p n = record { plain = λ h rule. refl; asked = λ h. refl }
 
 early : (missing other : Bool) (s : Option State) (d : Denial)
-    → first_denial (withdraw_rules (record { caller_unknown = false; role_missing = missing; other_team = other; state = Some Open })) ≡ Err d
+    → first_denial (withdraw_rules (record PASSING { role_missing = missing; other_team = other })) ≡ Err d
     → first_denial (withdraw_rules (record { caller_unknown = false; role_missing = missing; other_team = other; state = s })) ≡ Err d
 early true other s d e = e
 early false true s d e = e
@@ -28,7 +28,10 @@ early false false s d e = absurd cc
 
 -- a caller whose role or team refuses is refused whatever the revision
 pub withdraw_early : (caller : UserRow) (p : ProfileName) (d : Denial)
-    → first_denial (withdraw_rules (record (withdraw_facts (Some caller) p.team None) { state = Some Open })) ≡ Err d
+    → first_denial (withdraw_rules (record PASSING {
+      role_missing = not (holds_role (Some caller) Author || holds_role (Some caller) Security);
+      other_team = not (is_of_team (Some caller) p.team || holds_role (Some caller) Security);
+    })) ≡ Err d
     → (found : Option RevisionRow) → first_denial (withdraw_rules (withdraw_facts (Some caller) p.team found)) ≡ Err d
 withdraw_early caller p d e found =
     early (not (holds_role (Some caller) Author || holds_role (Some caller) Security)) (not (is_of_team (Some caller) p.team || holds_role (Some caller) Security)) (state_in found) d e

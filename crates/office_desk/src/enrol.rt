@@ -1,11 +1,13 @@
 // Enrolments.
 
-ghost use Rattle.std.specs.Prelude.{◌≡◌, Some, IfOk};
+ghost use Rattle.std.specs.Prelude.{◌≡◌, Some, IfOk, not};
 ghost use Rattle.sqlite.specs.Held.{state};
 ghost use Rattle.review_policy.specs.declared.ask.Ask.TheVariants as ask;
+ghost use Rattle.review_policy.specs.declared.facts.TheConstants.EnrolFacts.{PASSING};
+ghost use Rattle.office_tables.specs.Lists.{holds_role};
 ghost use Rattle.office_store.specs.Calls.{IsRead};
 ghost use Rattle.office_store.specs.Shown.{IsIdle};
-ghost use Rattle.office_policy.specs.Users.{user_of, user_showing};
+ghost use Rattle.office_policy.specs.Users.{user_of, user_showing, is_named};
 ghost use Rattle.office_policy.specs.Facts.{enrol_facts, is_elsewhere, is_another};
 ghost use Rattle.office_policy.specs.Verdict.{verdict_of};
 ghost use Rattle.office_policy.specs.LooksBack.{LooksBack};
@@ -38,8 +40,22 @@ fn is_another(user: &Option<UserRow>, name: &Word) -> bool
     }
 }
 
-// What the rules ask, of the user that has the name and the one that shows the digest.
-fn enrol_facts(
+// What the rules ask of a caller and the name of the user to be enrolled.
+fn facts_of_caller(caller: &UserRow, user: &Word) -> EnrolFacts
+    ensures { result ≡ record PASSING {
+      role_missing = not (holds_role (Some caller.now) Role.Registrar);
+      own_row = is_named (Some caller.now) user.now;
+    } }
+{
+    EnrolFacts {
+        role_missing: !caller.roles.has(Role::Registrar),
+        own_row: caller.name.is(user),
+        ..EnrolFacts::PASSING
+    }
+}
+
+// All that the rules ask, of the user that has the name and the one that shows the digest too.
+fn all_facts(
     caller: &UserRow,
     known: &Option<UserRow>,
     shower: &Option<UserRow>,
@@ -49,11 +65,9 @@ fn enrol_facts(
     ensures { result ≡ enrol_facts (Some caller.now) known.now shower.now user.now team.now }
 {
     EnrolFacts {
-        caller_unknown: false,
-        role_missing: !caller.roles.has(Role::Registrar),
-        own_row: caller.name.is(user),
         team_fixed: is_elsewhere(known, team),
         token_taken: is_another(shower, user),
+        ..facts_of_caller(caller, user)
     }
 }
 
@@ -98,9 +112,9 @@ pub(crate) fn enrol<S: Alter>(
     ensures { CarriesOut (state S.Store conn.old) (state S.Store conn.new) result
         (λ h. verdict_of h (Some caller.now) (ask.Enrol user.now team.now roles digest.now)) }
 {
-    decide_enrol(&enrol_facts(caller, &None, &None, user, team))?;
+    decide_enrol(&facts_of_caller(caller, user))?;
     let (known, shower) = users_of(alloc, conn, user, digest)?;
-    decide_enrol(&enrol_facts(caller, &known, &shower, user, team))?;
+    decide_enrol(&all_facts(caller, &known, &shower, user, team))?;
     let row = row_of(user, team, roles, digest)?;
     put_user(conn, &row)?;
     Ok(Reply::Enrolled)

@@ -1,10 +1,13 @@
 // Profiles as hosts fetch them.
 
-ghost use Rattle.std.specs.Prelude.{◌≡◌, Some, None};
+ghost use Rattle.std.specs.Prelude.{◌≡◌, Some, not};
 ghost use Rattle.sqlite.specs.Held.{state};
 ghost use Rattle.review_policy.specs.declared.ask.Ask.TheVariants as ask;
+ghost use Rattle.review_policy.specs.declared.facts.TheConstants.FetchFacts.{PASSING};
+ghost use Rattle.office_tables.specs.Lists.{holds_role};
 ghost use Rattle.office_store.specs.Calls.{IsRead};
 ghost use Rattle.office_store.specs.Shown.{IsIdle};
+ghost use Rattle.office_policy.specs.Users.{is_of_team};
 ghost use Rattle.office_policy.specs.Facts.{fetch_facts};
 ghost use Rattle.office_policy.specs.Verdict.{verdict_of};
 ghost use Rattle.office_policy.specs.LooksBack.{LooksBack};
@@ -18,16 +21,33 @@ use review_policy::{FetchFacts, ProfileName, Reply, Role, Word, decide_fetch};
 use sqlite::{Alter, Connection};
 use std::alloc::Global;
 
-// What the rules ask of a caller and a team, of whether nothing is issued, and of whether the profile is held.
-fn fetch_facts(caller: &UserRow, team: &Word, nothing_issued: bool, held: bool) -> FetchFacts
-    ensures { result ≡ record (fetch_facts (Some caller.now) team.now None held) { nothing_issued = nothing_issued } }
+// What the rules ask of a caller and a team.
+fn facts_of_caller(caller: &UserRow, team: &Word) -> FetchFacts
+    ensures { result ≡ record PASSING {
+      role_missing = not (holds_role (Some caller.now) Role.Machine);
+      other_team = not (is_of_team (Some caller.now) team.now);
+    } }
 {
     FetchFacts {
-        caller_unknown: false,
         role_missing: !caller.roles.has(Role::Machine),
         other_team: !caller.team.is(team),
-        nothing_issued,
-        held,
+        ..FetchFacts::PASSING
+    }
+}
+
+// All that the rules ask.
+fn all_facts(
+    caller: &UserRow,
+    team: &Word,
+    found: &Option<RevisionRow>,
+    is_held: bool,
+) -> FetchFacts
+    ensures { result ≡ fetch_facts (Some caller.now) team.now found.now is_held }
+{
+    FetchFacts {
+        nothing_issued: found.is_none(),
+        held: is_held,
+        ..facts_of_caller(caller, team)
     }
 }
 
@@ -55,9 +75,9 @@ pub(crate) fn fetch<S: Alter>(
     requires { IsIdle (state S.Store conn.old) }
     ensures { ReadsOut (state S.Store conn.old) (state S.Store conn.new) result (λ h. verdict_of h (Some caller.now) (ask.Fetch name.now)) }
 {
-    decide_fetch(&fetch_facts(caller, &name.team, false, false))?;
+    decide_fetch(&facts_of_caller(caller, &name.team))?;
     let (found, is_held) = look_at(alloc, conn, name)?;
-    decide_fetch(&fetch_facts(caller, &name.team, found.is_none(), is_held))?;
+    decide_fetch(&all_facts(caller, &name.team, &found, is_held))?;
     let Some(row) = found else { unreachable!() };
     let digest = row.digest;
     Ok(Reply::Fetched {

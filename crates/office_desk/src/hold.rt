@@ -1,11 +1,10 @@
 // Holds of profiles, and their release.
 
-ghost use Rattle.std.specs.Prelude.{◌≡◌, Some};
+ghost use Rattle.std.specs.Prelude.{Some};
 ghost use Rattle.sqlite.specs.Held.{state};
 ghost use Rattle.review_policy.specs.declared.ask.Ask.TheVariants as ask;
 ghost use Rattle.office_store.specs.Calls.{IsRead};
 ghost use Rattle.office_store.specs.Shown.{IsIdle};
-ghost use Rattle.office_policy.specs.Facts.{hold_facts, release_facts};
 ghost use Rattle.office_policy.specs.Verdict.{verdict_of};
 ghost use Rattle.office_policy.specs.LooksBack.{LooksBack};
 ghost use Rattle.office_desk.specs.Looked.{hold_at};
@@ -18,30 +17,6 @@ use review_policy::{
     HoldFacts, ProfileName, ReleaseFacts, Reply, Role, decide_hold, decide_release,
 };
 use sqlite::{Alter, Connection};
-
-// What the rules ask of a caller who holds a profile.
-fn hold_facts(caller: &UserRow, no_profile: bool, held: bool) -> HoldFacts
-    ensures { result ≡ hold_facts (Some caller.now) no_profile held }
-{
-    HoldFacts {
-        caller_unknown: false,
-        role_missing: !caller.roles.has(Role::Security),
-        no_profile,
-        already_held: held,
-    }
-}
-
-// What the rules ask of a caller who releases one.
-fn release_facts(caller: &UserRow, no_profile: bool, held: bool) -> ReleaseFacts
-    ensures { result ≡ release_facts (Some caller.now) no_profile held }
-{
-    ReleaseFacts {
-        caller_unknown: false,
-        role_missing: !caller.roles.has(Role::Security),
-        no_profile,
-        not_held: !held,
-    }
-}
 
 // Whether a profile has no revision, and whether it is held.
 fn look_at<S: Alter>(
@@ -65,9 +40,17 @@ pub(crate) fn hold<S: Alter>(
     requires { IsIdle (state S.Store conn.old) }
     ensures { CarriesOut (state S.Store conn.old) (state S.Store conn.new) result (λ h. verdict_of h (Some caller.now) (ask.Hold name.now)) }
 {
-    decide_hold(&hold_facts(caller, false, false))?;
-    let (no_profile, is_held) = look_at(conn, name)?;
-    decide_hold(&hold_facts(caller, no_profile, is_held))?;
+    let asked = HoldFacts {
+        role_missing: !caller.roles.has(Role::Security),
+        ..HoldFacts::PASSING
+    };
+    decide_hold(&asked)?;
+    let (no_profile, already_held) = look_at(conn, name)?;
+    decide_hold(&HoldFacts {
+        no_profile,
+        already_held,
+        ..asked
+    })?;
     put_hold(conn, name)?;
     Ok(Reply::Held)
 }
@@ -81,9 +64,17 @@ pub(crate) fn release<S: Alter>(
     requires { IsIdle (state S.Store conn.old) }
     ensures { CarriesOut (state S.Store conn.old) (state S.Store conn.new) result (λ h. verdict_of h (Some caller.now) (ask.Release name.now)) }
 {
-    decide_release(&release_facts(caller, false, true))?;
+    let asked = ReleaseFacts {
+        role_missing: !caller.roles.has(Role::Security),
+        ..ReleaseFacts::PASSING
+    };
+    decide_release(&asked)?;
     let (no_profile, is_held) = look_at(conn, name)?;
-    decide_release(&release_facts(caller, no_profile, is_held))?;
+    decide_release(&ReleaseFacts {
+        no_profile,
+        not_held: !is_held,
+        ..asked
+    })?;
     delete_hold(conn, name)?;
     Ok(Reply::Released)
 }

@@ -1,10 +1,11 @@
 // Revisions that are issued.
 
-ghost use Rattle.std.specs.Prelude.{◌≡◌, Some, None, false, IfOk};
+ghost use Rattle.std.specs.Prelude.{◌≡◌, Some, false, not, IfOk};
 ghost use Rattle.sqlite.specs.Held.{state};
 ghost use Rattle.review_policy.specs.declared.ask.Ask.TheVariants as ask;
 ghost use Rattle.review_policy.specs.declared.denial.Need.TheVariants as needs;
-ghost use Rattle.review_policy.specs.declared.revision.State.TheVariants as states;
+ghost use Rattle.review_policy.specs.declared.facts.TheConstants.IssueFacts.{PASSING};
+ghost use Rattle.office_tables.specs.Lists.{holds_role};
 ghost use Rattle.office_store.specs.Shown.{IsIdle};
 ghost use Rattle.office_store.specs.Calls.{IsRead};
 ghost use Rattle.office_policy.specs.Baseline.{document_or_closed};
@@ -21,7 +22,7 @@ use crate::refusal::Refusal;
 use crate::revisions::state_in;
 use office_store::{held, is_author, revision, set_issued, tally};
 use office_tables::{RevisionRow, StoreFault, Tally, UserRow};
-use review_policy::{IssueFacts, Need, ProfileName, Reply, Role, State, Text, decide_issue};
+use review_policy::{IssueFacts, Need, ProfileName, Reply, Role, Text, decide_issue};
 use sqlite::{Alter, Connection};
 use std::alloc::{AllocError, Global};
 
@@ -57,20 +58,13 @@ fn look_up<S: Alter>(
     })
 }
 
-// What the rules ask of a caller, where all that they ask besides lets every request through.
+// What the rules ask of a caller.
 fn facts_of_caller(caller: &UserRow) -> IssueFacts
-    ensures { result ≡ record (issue_facts (Some caller.now) None false (one_approval 0) needs.One false) { state = Some states.Open } }
+    ensures { result ≡ record PASSING { role_missing = not (holds_role (Some caller.now) Role.Issuer) } }
 {
     IssueFacts {
-        caller_unknown: false,
         role_missing: !caller.roles.has(Role::Issuer),
-        state: Some(State::Open),
-        author_issues: false,
-        rejections: 0,
-        approvals: 1,
-        secure: 0,
-        need: Need::One,
-        held: false,
+        ..IssueFacts::PASSING
     }
 }
 

@@ -1,9 +1,11 @@
 // Votes on revisions.
 
-ghost use Rattle.std.specs.Prelude.{◌≡◌, [], Some, None};
+ghost use Rattle.std.specs.Prelude.{◌≡◌, Some, not};
 ghost use Rattle.sqlite.specs.Held.{state};
 ghost use Rattle.review_policy.specs.declared.ask.Ask.TheVariants as ask;
+ghost use Rattle.review_policy.specs.declared.facts.TheConstants.VoteFacts.{PASSING};
 ghost use Rattle.office_store.specs.Shown.{IsIdle};
+ghost use Rattle.office_tables.specs.Lists.{holds_role};
 ghost use Rattle.office_policy.specs.Facts.{vote_facts, has_digest};
 ghost use Rattle.office_policy.specs.Verdict.{verdict_of};
 ghost use Rattle.office_desk.specs.Carries.{CarriesFor, Knows};
@@ -12,26 +14,17 @@ use crate::refusal::Refusal;
 use crate::revisions::{authored, state_in};
 use office_store::{Ballot, put_vote};
 use office_tables::{RevisionRow, UserRow};
-use review_policy::{ProfileName, Reply, Role, State, VoteFacts, decide_vote};
+use review_policy::{ProfileName, Reply, Role, VoteFacts, decide_vote};
 use sqlite::{Alter, Connection};
 use std::alloc::Global;
 
-// What the rules ask of a caller, of the state of a revision, of whether the caller is an author of its profile, and of
-// whether other bytes were named.
-fn vote_facts(
-    caller: &UserRow,
-    state: Option<State>,
-    is_author: bool,
-    other_bytes: bool,
-) -> VoteFacts
-    ensures { result ≡ record (vote_facts (Some caller.now) None is_author []) { state = state; other_bytes = other_bytes } }
+// What the rules ask of a caller.
+fn facts_of_caller(caller: &UserRow) -> VoteFacts
+    ensures { result ≡ record PASSING { role_missing = not (holds_role (Some caller.now) Role.Reviewer) } }
 {
     VoteFacts {
-        caller_unknown: false,
         role_missing: !caller.roles.has(Role::Reviewer),
-        state,
-        author_votes: is_author,
-        other_bytes,
+        ..VoteFacts::PASSING
     }
 }
 
@@ -42,6 +35,23 @@ fn has_digest(revision: &Option<RevisionRow>, digest: &[u8; 32]) -> bool
     match revision {
         Some(row) => row.digest == *digest,
         None => false,
+    }
+}
+
+// All that the rules ask.
+fn all_facts(
+    caller: &UserRow,
+    found: &Option<RevisionRow>,
+    is_author: bool,
+    digest: &[u8; 32],
+) -> VoteFacts
+    ensures { result ≡ vote_facts (Some caller.now) found.now is_author digest.now }
+{
+    VoteFacts {
+        state: state_in(found),
+        author_votes: is_author,
+        other_bytes: !has_digest(found, digest),
+        ..facts_of_caller(caller)
     }
 }
 
@@ -59,10 +69,9 @@ pub(crate) fn vote<S: Alter>(
     ensures { CarriesFor (Knows caller.now) (state S.Store conn.old) (state S.Store conn.new) result
         (λ h. verdict_of h (Some caller.now) (ask.Vote name.now number digest.now approves)) }
 {
-    decide_vote(&vote_facts(caller, Some(State::Open), false, false))?;
+    decide_vote(&facts_of_caller(caller))?;
     let (found, is_author) = authored(alloc, conn, name, number, &caller.name)?;
-    let other_bytes = !has_digest(&found, digest);
-    decide_vote(&vote_facts(caller, state_in(&found), is_author, other_bytes))?;
+    decide_vote(&all_facts(caller, &found, is_author, digest))?;
     let security = caller.roles.has(Role::Security);
     put_vote(
         conn,

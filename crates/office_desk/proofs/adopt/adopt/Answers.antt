@@ -1,10 +1,9 @@
-use Rattle.std.proofs.Common.{◌∙◌, Some, None, refl, sym, ap}
+use Rattle.std.proofs.Common.{◌∙◌, None, refl, sym, ap}
 use Rattle.sqlite.specs.Held.{state}
 use Rattle.review_policy.specs.declared.answer.Reply.TheVariants as reply
 use Rattle.review_policy.specs.Rules.{first_denial, adopt_rules}
 use Rattle.office_tables.specs.Changes.{with_baseline}
 use Rattle.office_policy.specs.History.{adopted}
-use Rattle.office_policy.specs.Facts.{adopt_facts}
 use Rattle.office_policy.proofs.EventFacts.{adopted_tables}
 use Rattle.office_desk.specs.declared.refusal.Refusal.TheVariants as refusals
 use Rattle.office_desk.proofs.Carrying.{left, read_fails}
@@ -18,7 +17,7 @@ returns-in_err-decide_adopt g c =
     (refuses_at_once (λ h lawful. lawful) (adopting c.args.caller.now c.args.name.now c.args.number)
     (state g.S.Store c.args.conn.now) c.in_err-decide_adopt.field-0.0 c.requires
     (adopt_early c.args.caller.now c.in_err-decide_adopt.field-0.0
-    (ap (λ f. first_denial (adopt_rules f)) (sym c.adopt_facts.ensures) ∙ sym c.in_err-decide_adopt.ensures)))
+    (ap (λ f. first_denial (adopt_rules f)) (sym c.facts_of_caller.ensures) ∙ sym c.in_err-decide_adopt.ensures)))
 
 pub returns-in_err-found : goal.returns-in_err-found
 returns-in_err-found g c =
@@ -31,9 +30,7 @@ returns-in_err-decide_adopt-2 g c =
     (refuses (λ h lawful. lawful) (adopting c.args.caller.now c.args.name.now c.args.number)
     (state g.S.Store c.args.conn.now) (state g.S.Store c.authored.new.conn)
     (c.in_ok-found.found, c.in_ok-found.is_author) c.in_ok-found.ensures c.in_err-decide_adopt-2.field-0.0
-    (ap (λ f. first_denial (adopt_rules f))
-    (sym (c.adopt_facts-2.ensures ∙ ap (λ s. record (adopt_facts (Some c.args.caller.now) None c.in_ok-found.is_author) { state = s }) c.state_in.ensures))
-    ∙ sym c.in_err-decide_adopt-2.ensures))
+    (ap (λ f. first_denial (adopt_rules f)) (sym c.all_facts.ensures) ∙ sym c.in_err-decide_adopt-2.ensures))
 
 pub returns-in_err-put_baseline : goal.returns-in_err-put_baseline
 returns-in_err-put_baseline g c =
@@ -41,9 +38,7 @@ returns-in_err-put_baseline g c =
     (fails_to_write (λ h lawful. lawful) (adopting c.args.caller.now c.args.name.now c.args.number)
     (state g.S.Store c.args.conn.now) (state g.S.Store c.authored.new.conn)
     (c.in_ok-found.found, c.in_ok-found.is_author) c.in_ok-found.ensures
-    (ap (λ f. first_denial (adopt_rules f))
-    (sym (c.adopt_facts-2.ensures ∙ ap (λ s. record (adopt_facts (Some c.args.caller.now) None c.in_ok-found.is_author) { state = s }) c.state_in.ensures))
-    ∙ sym c.in_ok-decide_adopt-2.ensures)
+    (ap (λ f. first_denial (adopt_rules f)) (sym c.all_facts.ensures) ∙ sym c.in_ok-decide_adopt-2.ensures)
     reply.Adopted (state g.S.Store c.put_baseline.new.conn) (adopted c.args.caller.now.name c.args.name.now c.args.number) (λ h. refl)
     (with_baseline c.args.name.now c.args.number) (λ h lawful. adopted_tables h c.args.caller.now.name c.args.name.now c.args.number)
     c.in_err-put_baseline.field-0.0 c.in_err-put_baseline.ensures.write)
@@ -53,9 +48,7 @@ returns g c =
     writes (λ h lawful. lawful) (adopting c.args.caller.now c.args.name.now c.args.number)
     (state g.S.Store c.args.conn.now) (state g.S.Store c.authored.new.conn)
     (c.in_ok-found.found, c.in_ok-found.is_author) c.in_ok-found.ensures
-    (ap (λ f. first_denial (adopt_rules f))
-    (sym (c.adopt_facts-2.ensures ∙ ap (λ s. record (adopt_facts (Some c.args.caller.now) None c.in_ok-found.is_author) { state = s }) c.state_in.ensures))
-    ∙ sym c.in_ok-decide_adopt-2.ensures)
+    (ap (λ f. first_denial (adopt_rules f)) (sym c.all_facts.ensures) ∙ sym c.in_ok-decide_adopt-2.ensures)
     reply.Adopted (state g.S.Store c.put_baseline.new.conn) (adopted c.args.caller.now.name c.args.name.now c.args.number) (λ h. refl)
     (with_baseline c.args.name.now c.args.number) (λ h lawful. adopted_tables h c.args.caller.now.name c.args.name.now c.args.number)
     c.in_ok-put_baseline.field-0 c.in_ok-put_baseline.ensures.write

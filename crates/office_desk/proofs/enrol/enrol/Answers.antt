@@ -13,7 +13,7 @@ returns-in_err-decide_enrol g c =
     left _ _ _ _ (refusals.Denied c.in_err-decide_enrol.field-0.0 None) c.from_residual.ensures.1
     (refused_at_once _ (state g.S.Store c.args.conn.now) c.in_err-decide_enrol.field-0.0 None c.requires
     (λ h lawful. refused_early h c.args.caller.now c.args.user.now c.args.team.now c.args.roles c.args.digest.now
-    c.in_err-decide_enrol.field-0.0 (ap (λ f. first_denial (enrol_rules f)) (sym c.enrol_facts.ensures) ∙ sym c.in_err-decide_enrol.ensures)))
+    c.in_err-decide_enrol.field-0.0 (ap (λ f. first_denial (enrol_rules f)) (sym c.facts_of_caller.ensures) ∙ sym c.in_err-decide_enrol.ensures)))
 
 pub returns-in_err-known : goal.returns-in_err-known
 returns-in_err-known g c =
@@ -27,7 +27,7 @@ returns-in_err-decide_enrol-2 g c =
     (c.in_ok-known.known, c.in_ok-known.shower) c.in_ok-known.ensures c.in_err-decide_enrol-2.field-0.0 None
     (λ h lawful is. refused h c.args.caller.now c.args.user.now c.args.team.now c.args.roles c.args.digest.now
     (c.in_ok-known.known, c.in_ok-known.shower) (is h lawful refl) c.in_err-decide_enrol-2.field-0.0
-    (ap (λ f. first_denial (enrol_rules f)) (sym c.enrol_facts-2.ensures) ∙ sym c.in_err-decide_enrol-2.ensures)))
+    (ap (λ f. first_denial (enrol_rules f)) (sym c.all_facts.ensures) ∙ sym c.in_err-decide_enrol-2.ensures)))
 
 pub returns-in_err-row : goal.returns-in_err-row
 returns-in_err-row g c =
@@ -42,7 +42,7 @@ returns-in_err-put_user g c =
     (c.in_ok-known.known, c.in_ok-known.shower) c.in_ok-known.ensures Enrolled _
     (λ h lawful is. adds h c.args.caller.now c.args.user.now c.args.team.now c.args.roles c.args.digest.now
     (c.in_ok-known.known, c.in_ok-known.shower) (is h lawful refl) c.in_ok-row.row c.in_ok-row.ensures
-    (ap (λ f. first_denial (enrol_rules f)) (sym c.enrol_facts-2.ensures) ∙ sym c.in_ok-decide_enrol-2.ensures))
+    (ap (λ f. first_denial (enrol_rules f)) (sym c.all_facts.ensures) ∙ sym c.in_ok-decide_enrol-2.ensures))
     c.in_err-put_user.field-0.0 c.in_err-put_user.ensures.write)
 
 pub returns : goal.returns
@@ -51,5 +51,5 @@ returns g c =
     (c.in_ok-known.known, c.in_ok-known.shower) c.in_ok-known.ensures Enrolled _
     (λ h lawful is. adds h c.args.caller.now c.args.user.now c.args.team.now c.args.roles c.args.digest.now
     (c.in_ok-known.known, c.in_ok-known.shower) (is h lawful refl) c.in_ok-row.row c.in_ok-row.ensures
-    (ap (λ f. first_denial (enrol_rules f)) (sym c.enrol_facts-2.ensures) ∙ sym c.in_ok-decide_enrol-2.ensures))
+    (ap (λ f. first_denial (enrol_rules f)) (sym c.all_facts.ensures) ∙ sym c.in_ok-decide_enrol-2.ensures))
     c.in_ok-put_user.field-0 c.in_ok-put_user.ensures.write

@@ -5,7 +5,7 @@ use Rattle.review_policy.specs.Rules.{first_denial, fetch_rules}
 use Rattle.office_desk.specs.declared.refusal.Refusal.TheVariants as refusals
 use Rattle.office_desk.proofs.Carrying.{left_reading, read_fails}
 use Rattle.office_desk.proofs.Deciding.{refuses_at_once, refuses, tells}
-use Rattle.office_desk.proofs.Fetches.{fetching, fetch_early, fetch_done, facts_are}
+use Rattle.office_desk.proofs.Fetches.{fetching, fetch_early, fetch_done}
 use Rattle.office_desk.proofs.fetch.fetch.Goals as goal
 
 pub returns-in_err-decide_fetch : goal.returns-in_err-decide_fetch
@@ -14,7 +14,7 @@ returns-in_err-decide_fetch g c =
     (refuses_at_once (λ h lawful. lawful) (fetching c.args.caller.now c.args.name.now)
     (state g.S.Store c.args.conn.now) c.in_err-decide_fetch.field-0.0 c.requires
     (fetch_early c.args.caller.now c.args.name.now c.in_err-decide_fetch.field-0.0
-    (ap (λ f. first_denial (fetch_rules f)) (sym c.fetch_facts.ensures) ∙ sym c.in_err-decide_fetch.ensures)))
+    (ap (λ f. first_denial (fetch_rules f)) (sym c.facts_of_caller.ensures) ∙ sym c.in_err-decide_fetch.ensures)))
 
 pub returns-in_err-found : goal.returns-in_err-found
 returns-in_err-found g c =
@@ -27,10 +27,7 @@ returns-in_err-decide_fetch-2 g c =
     (refuses (λ h lawful. lawful) (fetching c.args.caller.now c.args.name.now)
     (state g.S.Store c.args.conn.now) (state g.S.Store c.look_at.new.conn)
     (c.in_ok-found.found, c.in_ok-found.is_held) c.in_ok-found.ensures c.in_err-decide_fetch-2.field-0.0
-    (ap (λ f. first_denial (fetch_rules f))
-    (facts_are c.args.caller.now c.args.name.now.team c.in_ok-found.found c.in_ok-found.is_held c.is_none.result
-    c.fetch_facts-2.result c.is_none.ensures c.fetch_facts-2.ensures)
-    ∙ sym c.in_err-decide_fetch-2.ensures))
+    (ap (λ f. first_denial (fetch_rules f)) (sym c.all_facts.ensures) ∙ sym c.in_err-decide_fetch-2.ensures))
 
 pub returns : goal.returns
 returns g c =
@@ -39,10 +36,7 @@ returns g c =
           tells (λ h lawful. lawful) (fetching c.args.caller.now c.args.name.now)
           (state g.S.Store c.args.conn.now) (state g.S.Store c.look_at.new.conn)
           (c.in_ok-found.found, c.in_ok-found.is_held) c.in_ok-found.ensures
-          (ap (λ f. first_denial (fetch_rules f))
-          (facts_are c.args.caller.now c.args.name.now.team c.in_ok-found.found c.in_ok-found.is_held c.is_none.result
-          c.fetch_facts-2.result c.is_none.ensures c.fetch_facts-2.ensures)
-          ∙ sym c.in_ok-decide_fetch-2.ensures)
+          (ap (λ f. first_denial (fetch_rules f)) (sym c.all_facts.ensures) ∙ sym c.in_ok-decide_fetch-2.ensures)
           (reply.Fetched c.in-Some.row.digest c.in-Some.row.body c.in-Some.row.number)
           (fetch_done c.args.caller.now c.args.name.now (c.in_ok-found.found, c.in_ok-found.is_held) c.in-Some.row c.in-Some.is);
       same = c.in_ok-found.ensures.same;

@@ -1,14 +1,13 @@
-use Rattle.std.proofs.Common.{◌∙◌, None, refl, sym, ap}
+use Rattle.std.proofs.Common.{None, Ok, Err, false, refl}
 use Rattle.sqlite.specs.Held.{state}
 use Rattle.review_policy.specs.declared.answer.Reply.TheVariants as reply
-use Rattle.review_policy.specs.Rules.{first_denial, hold_rules}
 use Rattle.office_tables.specs.Changes.{with_hold}
 use Rattle.office_policy.specs.History.{held}
 use Rattle.office_policy.proofs.EventFacts.{held_tables}
 use Rattle.office_desk.specs.declared.refusal.Refusal.TheVariants as refusals
 use Rattle.office_desk.proofs.Carrying.{left, read_fails}
 use Rattle.office_desk.proofs.Deciding.{refuses_at_once, refuses, writes, fails_to_write}
-use Rattle.office_desk.proofs.Holds.{holding, hold_early}
+use Rattle.office_desk.proofs.Holds.{holding, hold_early, hold_asked}
 use Rattle.office_desk.proofs.hold.hold.Goals as goal
 
 pub returns-in_err-decide_hold : goal.returns-in_err-decide_hold
@@ -17,7 +16,7 @@ returns-in_err-decide_hold g c =
     (refuses_at_once (λ h lawful. lawful) (holding c.args.caller.now c.args.name.now)
     (state g.S.Store c.args.conn.now) c.in_err-decide_hold.field-0.0 c.requires
     (hold_early c.args.caller.now c.in_err-decide_hold.field-0.0
-    (ap (λ f. first_denial (hold_rules f)) (sym c.hold_facts.ensures) ∙ sym c.in_err-decide_hold.ensures)))
+    (hold_asked c.args.caller.now c.has.result (false, false) (Err c.in_err-decide_hold.field-0.0) c.has.ensures c.in_err-decide_hold.ensures)))
 
 pub returns-in_err-no_profile : goal.returns-in_err-no_profile
 returns-in_err-no_profile g c =
@@ -29,16 +28,16 @@ returns-in_err-decide_hold-2 g c =
     left _ _ _ _ (refusals.Denied c.in_err-decide_hold-2.field-0.0 None) c.from_residual-in_err-decide_hold-2.ensures.1
     (refuses (λ h lawful. lawful) (holding c.args.caller.now c.args.name.now)
     (state g.S.Store c.args.conn.now) (state g.S.Store c.look_at.new.conn)
-    (c.in_ok-no_profile.no_profile, c.in_ok-no_profile.is_held) c.in_ok-no_profile.ensures c.in_err-decide_hold-2.field-0.0
-    (ap (λ f. first_denial (hold_rules f)) (sym c.hold_facts-2.ensures) ∙ sym c.in_err-decide_hold-2.ensures))
+    (c.in_ok-no_profile.no_profile, c.in_ok-no_profile.already_held) c.in_ok-no_profile.ensures c.in_err-decide_hold-2.field-0.0
+    (hold_asked c.args.caller.now c.has.result (c.in_ok-no_profile.no_profile, c.in_ok-no_profile.already_held) (Err c.in_err-decide_hold-2.field-0.0) c.has.ensures c.in_err-decide_hold-2.ensures))
 
 pub returns-in_err-put_hold : goal.returns-in_err-put_hold
 returns-in_err-put_hold g c =
     left _ _ _ _ (refusals.Fault c.in_err-put_hold.field-0.0) c.from_residual-in_err-put_hold.ensures.1
     (fails_to_write (λ h lawful. lawful) (holding c.args.caller.now c.args.name.now)
     (state g.S.Store c.args.conn.now) (state g.S.Store c.look_at.new.conn)
-    (c.in_ok-no_profile.no_profile, c.in_ok-no_profile.is_held) c.in_ok-no_profile.ensures
-    (ap (λ f. first_denial (hold_rules f)) (sym c.hold_facts-2.ensures) ∙ sym c.in_ok-decide_hold-2.ensures)
+    (c.in_ok-no_profile.no_profile, c.in_ok-no_profile.already_held) c.in_ok-no_profile.ensures
+    (hold_asked c.args.caller.now c.has.result (c.in_ok-no_profile.no_profile, c.in_ok-no_profile.already_held) (Ok tt) c.has.ensures c.in_ok-decide_hold-2.ensures)
     reply.Held (state g.S.Store c.put_hold.new.conn)
     (held c.args.caller.now.name c.args.name.now) (λ h. refl) (with_hold c.args.name.now)
     (λ h lawful. held_tables h c.args.caller.now.name c.args.name.now)
@@ -48,8 +47,8 @@ pub returns : goal.returns
 returns g c =
     writes (λ h lawful. lawful) (holding c.args.caller.now c.args.name.now)
     (state g.S.Store c.args.conn.now) (state g.S.Store c.look_at.new.conn)
-    (c.in_ok-no_profile.no_profile, c.in_ok-no_profile.is_held) c.in_ok-no_profile.ensures
-    (ap (λ f. first_denial (hold_rules f)) (sym c.hold_facts-2.ensures) ∙ sym c.in_ok-decide_hold-2.ensures)
+    (c.in_ok-no_profile.no_profile, c.in_ok-no_profile.already_held) c.in_ok-no_profile.ensures
+    (hold_asked c.args.caller.now c.has.result (c.in_ok-no_profile.no_profile, c.in_ok-no_profile.already_held) (Ok tt) c.has.ensures c.in_ok-decide_hold-2.ensures)
     reply.Held (state g.S.Store c.put_hold.new.conn)
     (held c.args.caller.now.name c.args.name.now) (λ h. refl) (with_hold c.args.name.now)
     (λ h lawful. held_tables h c.args.caller.now.name c.args.name.now)

@@ -1,14 +1,13 @@
-use Rattle.std.proofs.Common.{◌∙◌, None, refl, sym, ap}
+use Rattle.std.proofs.Common.{None, Ok, Err, true, false, refl}
 use Rattle.sqlite.specs.Held.{state}
 use Rattle.review_policy.specs.declared.answer.Reply.TheVariants as reply
-use Rattle.review_policy.specs.Rules.{first_denial, release_rules}
 use Rattle.office_tables.specs.Changes.{without_hold}
 use Rattle.office_policy.specs.History.{released}
 use Rattle.office_policy.proofs.EventFacts.{released_tables}
 use Rattle.office_desk.specs.declared.refusal.Refusal.TheVariants as refusals
 use Rattle.office_desk.proofs.Carrying.{left, read_fails}
 use Rattle.office_desk.proofs.Deciding.{refuses_at_once, refuses, writes, fails_to_write}
-use Rattle.office_desk.proofs.Holds.{releasing, release_early}
+use Rattle.office_desk.proofs.Holds.{releasing, release_early, release_asked}
 use Rattle.office_desk.proofs.hold.release.Goals as goal
 
 pub returns-in_err-decide_release : goal.returns-in_err-decide_release
@@ -17,7 +16,7 @@ returns-in_err-decide_release g c =
     (refuses_at_once (λ h lawful. lawful) (releasing c.args.caller.now c.args.name.now)
     (state g.S.Store c.args.conn.now) c.in_err-decide_release.field-0.0 c.requires
     (release_early c.args.caller.now c.in_err-decide_release.field-0.0
-    (ap (λ f. first_denial (release_rules f)) (sym c.release_facts.ensures) ∙ sym c.in_err-decide_release.ensures)))
+    (release_asked c.args.caller.now c.has.result (false, true) (Err c.in_err-decide_release.field-0.0) c.has.ensures c.in_err-decide_release.ensures)))
 
 pub returns-in_err-no_profile : goal.returns-in_err-no_profile
 returns-in_err-no_profile g c =
@@ -30,7 +29,7 @@ returns-in_err-decide_release-2 g c =
     (refuses (λ h lawful. lawful) (releasing c.args.caller.now c.args.name.now)
     (state g.S.Store c.args.conn.now) (state g.S.Store c.look_at.new.conn)
     (c.in_ok-no_profile.no_profile, c.in_ok-no_profile.is_held) c.in_ok-no_profile.ensures c.in_err-decide_release-2.field-0.0
-    (ap (λ f. first_denial (release_rules f)) (sym c.release_facts-2.ensures) ∙ sym c.in_err-decide_release-2.ensures))
+    (release_asked c.args.caller.now c.has.result (c.in_ok-no_profile.no_profile, c.in_ok-no_profile.is_held) (Err c.in_err-decide_release-2.field-0.0) c.has.ensures c.in_err-decide_release-2.ensures))
 
 pub returns-in_err-delete_hold : goal.returns-in_err-delete_hold
 returns-in_err-delete_hold g c =
@@ -38,7 +37,7 @@ returns-in_err-delete_hold g c =
     (fails_to_write (λ h lawful. lawful) (releasing c.args.caller.now c.args.name.now)
     (state g.S.Store c.args.conn.now) (state g.S.Store c.look_at.new.conn)
     (c.in_ok-no_profile.no_profile, c.in_ok-no_profile.is_held) c.in_ok-no_profile.ensures
-    (ap (λ f. first_denial (release_rules f)) (sym c.release_facts-2.ensures) ∙ sym c.in_ok-decide_release-2.ensures)
+    (release_asked c.args.caller.now c.has.result (c.in_ok-no_profile.no_profile, c.in_ok-no_profile.is_held) (Ok tt) c.has.ensures c.in_ok-decide_release-2.ensures)
     reply.Released (state g.S.Store c.delete_hold.new.conn)
     (released c.args.caller.now.name c.args.name.now) (λ h. refl) (without_hold c.args.name.now)
     (λ h lawful. released_tables h c.args.caller.now.name c.args.name.now)
@@ -49,7 +48,7 @@ returns g c =
     writes (λ h lawful. lawful) (releasing c.args.caller.now c.args.name.now)
     (state g.S.Store c.args.conn.now) (state g.S.Store c.look_at.new.conn)
     (c.in_ok-no_profile.no_profile, c.in_ok-no_profile.is_held) c.in_ok-no_profile.ensures
-    (ap (λ f. first_denial (release_rules f)) (sym c.release_facts-2.ensures) ∙ sym c.in_ok-decide_release-2.ensures)
+    (release_asked c.args.caller.now c.has.result (c.in_ok-no_profile.no_profile, c.in_ok-no_profile.is_held) (Ok tt) c.has.ensures c.in_ok-decide_release-2.ensures)
     reply.Released (state g.S.Store c.delete_hold.new.conn)
     (released c.args.caller.now.name c.args.name.now) (λ h. refl) (without_hold c.args.name.now)
     (λ h lawful. released_tables h c.args.caller.now.name c.args.name.now)

@@ -7,7 +7,7 @@ use Rattle.office_policy.specs.History.{voted}
 use Rattle.office_desk.specs.declared.refusal.Refusal.TheVariants as refusals
 use Rattle.office_desk.proofs.Carrying.{left, read_fails}
 use Rattle.office_desk.proofs.Deciding.{refuses_at_once, refuses, writes, fails_to_write}
-use Rattle.office_desk.proofs.Votes.{voting, vote_early, vote_made, facts_are}
+use Rattle.office_desk.proofs.Votes.{voting, vote_early, vote_made}
 use Rattle.office_desk.proofs.vote.vote.Goals as goal
 
 pub returns-in_err-decide_vote : goal.returns-in_err-decide_vote
@@ -16,7 +16,7 @@ returns-in_err-decide_vote g c =
     (refuses_at_once (λ h knows. knows.lawful) (voting c.args.caller.now c.args.name.now c.args.number c.args.digest.now c.args.approves)
     (state g.S.Store c.args.conn.now) c.in_err-decide_vote.field-0.0 c.requires
     (vote_early c.args.caller.now c.args.digest.now c.in_err-decide_vote.field-0.0
-    (ap (λ f. first_denial (vote_rules f)) (sym c.vote_facts.ensures) ∙ sym c.in_err-decide_vote.ensures)))
+    (ap (λ f. first_denial (vote_rules f)) (sym c.facts_of_caller.ensures) ∙ sym c.in_err-decide_vote.ensures)))
 
 pub returns-in_err-found : goal.returns-in_err-found
 returns-in_err-found g c =
@@ -29,10 +29,7 @@ returns-in_err-decide_vote-2 g c =
     (refuses (λ h knows. knows.lawful) (voting c.args.caller.now c.args.name.now c.args.number c.args.digest.now c.args.approves)
     (state g.S.Store c.args.conn.now) (state g.S.Store c.authored.new.conn)
     (c.in_ok-found.found, c.in_ok-found.is_author) c.in_ok-found.ensures c.in_err-decide_vote-2.field-0.0
-    (ap (λ f. first_denial (vote_rules f))
-    (facts_are c.args.caller.now c.args.digest.now c.in_ok-found.found c.in_ok-found.is_author c.state_in.result c.has_digest-other_bytes.result
-    c.vote_facts-2.result c.state_in.ensures c.has_digest-other_bytes.ensures c.vote_facts-2.ensures)
-    ∙ sym c.in_err-decide_vote-2.ensures))
+    (ap (λ f. first_denial (vote_rules f)) (sym c.all_facts.ensures) ∙ sym c.in_err-decide_vote-2.ensures))
 
 pub returns-in_err-put_vote : goal.returns-in_err-put_vote
 returns-in_err-put_vote g c =
@@ -40,10 +37,7 @@ returns-in_err-put_vote g c =
     (fails_to_write (λ h knows. knows.lawful) (voting c.args.caller.now c.args.name.now c.args.number c.args.digest.now c.args.approves)
     (state g.S.Store c.args.conn.now) (state g.S.Store c.authored.new.conn)
     (c.in_ok-found.found, c.in_ok-found.is_author) c.in_ok-found.ensures
-    (ap (λ f. first_denial (vote_rules f))
-    (facts_are c.args.caller.now c.args.digest.now c.in_ok-found.found c.in_ok-found.is_author c.state_in.result c.has_digest-other_bytes.result
-    c.vote_facts-2.result c.state_in.ensures c.has_digest-other_bytes.ensures c.vote_facts-2.ensures)
-    ∙ sym c.in_ok-decide_vote-2.ensures)
+    (ap (λ f. first_denial (vote_rules f)) (sym c.all_facts.ensures) ∙ sym c.in_ok-decide_vote-2.ensures)
     reply.Voted (state g.S.Store c.put_vote.new.conn) (voted c.args.caller.now.name c.args.name.now c.args.number c.args.digest.now c.args.approves) (λ h. refl)
     (with_vote c.args.name.now c.args.number c.args.caller.now.name (record { approves = c.args.approves; security = c.has-security.result }))
     (vote_made c.args.caller.now c.args.name.now c.args.number c.args.digest.now c.args.approves c.has-security.result c.has-security.ensures)
@@ -54,10 +48,7 @@ returns g c =
     writes (λ h knows. knows.lawful) (voting c.args.caller.now c.args.name.now c.args.number c.args.digest.now c.args.approves)
     (state g.S.Store c.args.conn.now) (state g.S.Store c.authored.new.conn)
     (c.in_ok-found.found, c.in_ok-found.is_author) c.in_ok-found.ensures
-    (ap (λ f. first_denial (vote_rules f))
-    (facts_are c.args.caller.now c.args.digest.now c.in_ok-found.found c.in_ok-found.is_author c.state_in.result c.has_digest-other_bytes.result
-    c.vote_facts-2.result c.state_in.ensures c.has_digest-other_bytes.ensures c.vote_facts-2.ensures)
-    ∙ sym c.in_ok-decide_vote-2.ensures)
+    (ap (λ f. first_denial (vote_rules f)) (sym c.all_facts.ensures) ∙ sym c.in_ok-decide_vote-2.ensures)
     reply.Voted (state g.S.Store c.put_vote.new.conn) (voted c.args.caller.now.name c.args.name.now c.args.number c.args.digest.now c.args.approves) (λ h. refl)
     (with_vote c.args.name.now c.args.number c.args.caller.now.name (record { approves = c.args.approves; security = c.has-security.result }))
     (vote_made c.args.caller.now c.args.name.now c.args.number c.args.digest.now c.args.approves c.has-security.result c.has-security.ensures)

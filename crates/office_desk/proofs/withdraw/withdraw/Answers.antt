@@ -1,10 +1,9 @@
-use Rattle.std.proofs.Common.{◌∙◌, Some, None, refl, sym, ap}
+use Rattle.std.proofs.Common.{◌∙◌, None, refl, sym, ap}
 use Rattle.sqlite.specs.Held.{state}
 use Rattle.review_policy.specs.declared.answer.Reply.TheVariants as reply
 use Rattle.review_policy.specs.Rules.{first_denial, withdraw_rules}
 use Rattle.office_tables.specs.Changes.{with_withdrawn}
 use Rattle.office_policy.specs.History.{withdrawn}
-use Rattle.office_policy.specs.Facts.{withdraw_facts}
 use Rattle.office_policy.proofs.EventFacts.{withdrawn_tables}
 use Rattle.office_desk.specs.declared.refusal.Refusal.TheVariants as refusals
 use Rattle.office_desk.proofs.Carrying.{left, read_fails}
@@ -19,7 +18,7 @@ returns-in_err-decide_withdraw g c =
     (refuses_at_once (λ h lawful. lawful) (withdrawing c.args.caller.now c.args.name.now c.args.number)
     (state g.S.Store c.args.conn.now) c.in_err-decide_withdraw.field-0.0 c.requires
     (withdraw_early c.args.caller.now c.args.name.now c.in_err-decide_withdraw.field-0.0
-    (ap (λ f. first_denial (withdraw_rules f)) (sym c.withdraw_facts.ensures) ∙ sym c.in_err-decide_withdraw.ensures)))
+    (ap (λ f. first_denial (withdraw_rules f)) (sym c.facts_of_caller.ensures) ∙ sym c.in_err-decide_withdraw.ensures)))
 
 pub returns-in_err-found : goal.returns-in_err-found
 returns-in_err-found g c =
@@ -34,9 +33,7 @@ returns-in_err-decide_withdraw-2 g c =
     left _ _ _ _ (refusals.Denied c.in_err-decide_withdraw-2.field-0.0 None) c.from_residual-in_err-decide_withdraw-2.ensures.1
     (refuses (λ h lawful. lawful) (withdrawing c.args.caller.now c.args.name.now c.args.number) old mid found
     (one_revision old mid c.args.name.now c.args.number found c.in_ok-found.ensures.read) c.in_err-decide_withdraw-2.field-0.0
-    (ap (λ f. first_denial (withdraw_rules f))
-    (sym (c.withdraw_facts-2.ensures ∙ ap (λ s. record (withdraw_facts (Some c.args.caller.now) c.args.name.now.team None) { state = s }) c.state_in.ensures))
-    ∙ sym c.in_err-decide_withdraw-2.ensures))
+    (ap (λ f. first_denial (withdraw_rules f)) (sym c.all_facts.ensures) ∙ sym c.in_err-decide_withdraw-2.ensures))
 
 pub returns-in_err-set_withdrawn : goal.returns-in_err-set_withdrawn
 returns-in_err-set_withdrawn g c =
@@ -46,9 +43,7 @@ returns-in_err-set_withdrawn g c =
     left _ _ _ _ (refusals.Fault c.in_err-set_withdrawn.field-0.0) c.from_residual-in_err-set_withdrawn.ensures.1
     (fails_to_write (λ h lawful. lawful) (withdrawing c.args.caller.now c.args.name.now c.args.number) old mid found
     (one_revision old mid c.args.name.now c.args.number found c.in_ok-found.ensures.read)
-    (ap (λ f. first_denial (withdraw_rules f))
-    (sym (c.withdraw_facts-2.ensures ∙ ap (λ s. record (withdraw_facts (Some c.args.caller.now) c.args.name.now.team None) { state = s }) c.state_in.ensures))
-    ∙ sym c.in_ok-decide_withdraw-2.ensures)
+    (ap (λ f. first_denial (withdraw_rules f)) (sym c.all_facts.ensures) ∙ sym c.in_ok-decide_withdraw-2.ensures)
     reply.Withdrawn (state g.S.Store c.set_withdrawn.new.conn) (withdrawn c.args.caller.now.name c.args.name.now c.args.number) (λ h. refl)
     (with_withdrawn c.args.name.now c.args.number) (λ h lawful. withdrawn_tables h c.args.caller.now.name c.args.name.now c.args.number)
     c.in_err-set_withdrawn.field-0.0 c.in_err-set_withdrawn.ensures.write)
@@ -60,9 +55,7 @@ returns g c =
     let found = c.in_ok-found.found in
     writes (λ h lawful. lawful) (withdrawing c.args.caller.now c.args.name.now c.args.number) old mid found
     (one_revision old mid c.args.name.now c.args.number found c.in_ok-found.ensures.read)
-    (ap (λ f. first_denial (withdraw_rules f))
-    (sym (c.withdraw_facts-2.ensures ∙ ap (λ s. record (withdraw_facts (Some c.args.caller.now) c.args.name.now.team None) { state = s }) c.state_in.ensures))
-    ∙ sym c.in_ok-decide_withdraw-2.ensures)
+    (ap (λ f. first_denial (withdraw_rules f)) (sym c.all_facts.ensures) ∙ sym c.in_ok-decide_withdraw-2.ensures)
     reply.Withdrawn (state g.S.Store c.set_withdrawn.new.conn) (withdrawn c.args.caller.now.name c.args.name.now c.args.number) (λ h. refl)
     (with_withdrawn c.args.name.now c.args.number) (λ h lawful. withdrawn_tables h c.args.caller.now.name c.args.name.now c.args.number)
     c.in_ok-set_withdrawn.field-0 c.in_ok-set_withdrawn.ensures.write
