@@ -2,7 +2,6 @@
 use Rattle.std.proofs.Common.{inl, inr, ◌≡◌, ◌≢◌, ◌∙◌, Bool, true, false, Option, Some, None, Result, Ok, Err, IsTrue, IsErrAnd, OnErr, List, ℕ, refl, sym, ap, subst, ◌∷◌}
 use Rattle.sqlite.specs.State.{State, HasCleanDisk}
 use Rattle.sqlite.proofs.StateLemmas.{survives_then}
-use Rattle.review_policy.specs.declared.answer.Answer.TheVariants.{Done}
 use Rattle.review_policy.specs.declared.answer.Reply.{Reply}
 use Rattle.review_policy.specs.declared.denial.Denial.{Denial}
 use Rattle.office_tables.specs.declared.fault.StoreFault.{StoreFault}
@@ -256,9 +255,9 @@ pub record Adds (h : History) (v : Verdict) (reply : Reply) (Makes : Tables → 
   pub makes : Makes (tables_of h) (tables_of (event ∷ h))
 
 module _ {Of : History → Type 0} (judge : History → Verdict) {A B : Type 0} (old mid new : State) (F : Tables → A → Type 0) (a : A) (read : IsRead old mid (Ok a) F)
-    (reply : History → Reply) (Makes : Tables → Tables → Type 0) (adds : (h : History) → Of h → F (tables_of h) a → Adds h (judge h) (reply h) Makes) where
+    (reply : Reply) (Makes : Tables → Tables → Type 0) (adds : (h : History) → Of h → F (tables_of h) a → Adds h (judge h) reply Makes) where
   module _ (result : Result B StoreFault) (write : IsWrite mid new result Makes) where
-    adds_at : (h : History) → Of h → ShowsIfOpen old (tables_of h) → HasCleanDisk new → Adds h (judge h) (reply h) Makes
+    adds_at : (h : History) → Of h → ShowsIfOpen old (tables_of h) → HasCleanDisk new → Adds h (judge h) reply Makes
     adds_at h lawful shows clean = adds h lawful (read.found (tables_of h) shows (write.leaves.clean clean))
 
     crash_of : (h : History) → Of h → ShowsIfOpen old (tables_of h) → MayLeave old new (AreWithEvent h (judge h))
@@ -270,30 +269,27 @@ module _ {Of : History → Type 0} (judge : History → Verdict) {A B : Type 0} 
           | inr left ↦ inr (subst (λ v. AreWithEvent h v trees) (sym it.is) left)
         ]
 
-  -- it is carried out, and what the write answers may be in the reply
-  pub answered : (b : B) → IsWrite mid new (Ok b) Makes → (told : Reply)
-      → ((h : History) → Of h → ShowsIfOpen mid (tables_of h) → HasCleanDisk new → reply h ≡ told) → CarriesFor Of old new (Ok told) judge
-  answered b write told same = record {
+  -- it is carried out
+  pub written : (b : B) → IsWrite mid new (Ok b) Makes → CarriesFor Of old new (Ok reply) judge
+  written b write = record {
     idle = write.leaves.idle;
     clean = λ clean. read.leaves.clean (write.leaves.clean clean);
     survives = survives_then old mid new _ _ (λ _. Unit {0}) (λ _ trees left. tt) (λ _ trees left. tt) read.leaves.survives write.leaves.survives;
     settled = λ settled. write.leaves.settled;
     stays = λ clean is_open. (write.leaves.answered clean).1;
     shut = λ clean shut. never_both old.is_open (read.leaves.answered (write.leaves.clean clean)).0 shut;
-    told = λ h lawful shows clean.
-        let shown = read.shown (tables_of h) shows (write.leaves.clean clean) in
-        ap answer_of (adds_at (Ok b) write h lawful shows clean).is ∙ ap (λ r. Done r) (same h lawful shown clean);
+    told = λ h lawful shows clean. ap answer_of (adds_at (Ok b) write h lawful shows clean).is;
     shown = λ h lawful shows clean.
         let it = adds_at (Ok b) write h lawful shows clean in
         let done = write.done (tables_of h) (tables_of (it.event ∷ h)) (read.shown (tables_of h) shows (write.leaves.clean clean)) it.makes clean in
-        subst (λ v. ShowsIfOpen new (tables_of (after h v (Ok told)))) (sym it.is) (λ is_open. done);
+        subst (λ v. ShowsIfOpen new (tables_of (after h v (Ok reply)))) (sym it.is) (λ is_open. done);
     same = λ settled clean. tt;
     crash = crash_of (Ok b) write;
   }
 
   -- it failed
-  pub answer_fails : (f : StoreFault) → IsWrite {A = B} mid new (Err f) Makes → CarriesFor Of old new (Err (refusals.Fault f)) judge
-  answer_fails f write = record {
+  pub write_fails : (f : StoreFault) → IsWrite {A = B} mid new (Err f) Makes → CarriesFor Of old new (Err (refusals.Fault f)) judge
+  write_fails f write = record {
     idle = write.leaves.idle;
     clean = λ clean. read.leaves.clean (write.leaves.clean clean);
     survives = survives_then old mid new _ _ (λ _. Unit {0}) (λ _ trees left. tt) (λ _ trees left. tt) read.leaves.survives write.leaves.survives;
@@ -312,15 +308,6 @@ module _ {Of : History → Type 0} (judge : History → Verdict) {A B : Type 0} 
         (last.0 ∙ kept.0, last.1 ∙ kept.1);
     crash = crash_of (Err f) write;
   }
-
-module _ {Of : History → Type 0} (judge : History → Verdict) {A B : Type 0} (old mid new : State) (F : Tables → A → Type 0) (a : A) (read : IsRead old mid (Ok a) F)
-    (reply : Reply) (Makes : Tables → Tables → Type 0) (adds : (h : History) → Of h → F (tables_of h) a → Adds h (judge h) reply Makes) where
-  -- the same of a reply that tells nothing of the write
-  pub written : (b : B) → IsWrite mid new (Ok b) Makes → CarriesFor Of old new (Ok reply) judge
-  written b write = answered judge old mid new F a read (λ h. reply) Makes adds b write reply (λ h lawful shown clean. refl)
-
-  pub write_fails : (f : StoreFault) → IsWrite {A = B} mid new (Err f) Makes → CarriesFor Of old new (Err (refusals.Fault f)) judge
-  write_fails f write = answer_fails judge old mid new F a read (λ h. reply) Makes adds f write
 
 -- ---- a read before the rest of a request
 

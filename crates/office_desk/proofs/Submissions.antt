@@ -1,5 +1,5 @@
 -- How a document that is handed in meets its verdict.
-use Rattle.std.proofs.Common.{◌≡◌, ◌∙◌, ℕ, suc, List, ◌∷◌, Bool, false, not, Option, Some, None, Err, Ok, refl, sym, ap, subst, Vec, Global}
+use Rattle.std.proofs.Common.{◌≡◌, ◌∙◌, ℕ, suc, List, ◌∷◌, Bool, not, Option, Some, None, Err, Ok, refl, sym, ap, subst, Vec, Global}
 use Rattle.std.specs.Prelude.{Result, ⊤}
 use Rattle.sqlite.specs.State.{State}
 use Rattle.review_policy.specs.declared.ask.ProfileName.{ProfileName}
@@ -9,6 +9,7 @@ use Rattle.review_policy.specs.declared.denial.Denial.{Denial}
 use Rattle.review_policy.specs.declared.denial.Rule.{Rule}
 use Rattle.review_policy.specs.declared.denial.Rule.TheVariants.{Document}
 use Rattle.review_policy.specs.declared.facts.SubmitFacts.{SubmitFacts}
+use Rattle.review_policy.specs.declared.facts.TheConstants.SubmitFacts.{PASSING}
 use Rattle.review_policy.specs.declared.role.Role.TheVariants.{Author}
 use Rattle.review_policy.specs.Rules.{first_denial, submit_rules}
 use Rattle.profile_text.specs.declared.profile.Profile.{Profile}
@@ -20,7 +21,7 @@ use Rattle.office_tables.specs.declared.fault.StoreFault.TheVariants.{NoMemory, 
 use Rattle.office_tables.specs.declared.row.UserRow.{UserRow}
 use Rattle.office_tables.specs.declared.row.RevisionRow.{RevisionRow}
 use Rattle.office_tables.specs.Lists.{holds_role}
-use Rattle.office_tables.specs.Reads.{IsLast, Submits}
+use Rattle.office_tables.specs.Reads.{IsLast, Adds as AddsRow, submitted as new_row}
 use Rattle.office_store.specs.Shown.{IsIdle}
 use Rattle.office_policy.specs.History.{History, submitted}
 use Rattle.office_policy.specs.Users.{is_of_team}
@@ -29,7 +30,8 @@ use Rattle.office_policy.specs.Facts.{canonical, is_text_of, submit_facts}
 use Rattle.office_policy.specs.Verdict.{Verdict, accepted, denied, fault_told, new_revision, verdict_of}
 use Rattle.office_policy.specs.Lawful.{IsLawfulHistory}
 use Rattle.office_policy.specs.TablesOf.{tables_of}
-use Rattle.office_policy.proofs.Submissions.{last_found, last_number, submits}
+use Rattle.office_policy.proofs.EventFacts.{submitted_tables}
+use Rattle.office_policy.proofs.Submissions.{last_found, last_number, next_free}
 use Rattle.office_desk.specs.declared.refusal.Refusal.{Refusal}
 use Rattle.office_desk.specs.declared.refusal.Refusal.TheVariants as refusals
 use Rattle.office_desk.specs.AtOnce.{IsRefusedAtOnce}
@@ -40,11 +42,9 @@ use Rattle.office_desk.proofs.Handling.{denied_is, allowed_is}
 -- what is asked of a document that reads: of its caller and team, whether its text is the open one, and how many revisions
 -- there are
 abbrev facts_on : UserRow → List ℕ → (same : Bool) → (revisions : ℕ) → SubmitFacts
-facts_on caller team same revisions = record {
-  caller_unknown = false;
+facts_on caller team same revisions = record PASSING {
   role_missing = not (holds_role (Some caller) Author);
   other_team = not (is_of_team (Some caller) team);
-  document = false;
   same_as_open = same;
   revisions = revisions;
 }
@@ -63,14 +63,6 @@ reads (Err f) text e = absurd cc
 read_untold : (rule : Rule) (profile : Profile) → fault_told rule (Ok profile) ≡ None
 read_untold Document profile = refl
 read_untold _ profile = refl
-
--- what was asked is what its rules say
-pub asked : (caller : UserRow) (team text : List ℕ) (last : Option RevisionRow) (facts : SubmitFacts) (same : Bool) (revisions : ℕ) (told : Result ⊤ Denial)
-    → facts ≡ facts_on caller team same revisions → same ≡ is_text_of (Some text) (if_open last) → revisions ≡ number_of last
-    → told ≡ first_denial (submit_rules facts) → decision_on caller team text last ≡ told
-asked caller team text last facts same revisions told facts_are same_is revisions_are is =
-    (λ i. first_denial (submit_rules (facts_on caller team (sym same_is i) (sym revisions_are i))))
-    ∙ ap (λ f. first_denial (submit_rules f)) (sym facts_are) ∙ sym is
 
 -- a refusal at once is carried out
 pub turned_away : (judge : History → Verdict) (s : State) (refusal : Refusal) → IsIdle s → IsRefusedAtOnce refusal judge
@@ -109,17 +101,19 @@ module _ (h : History) (caller : UserRow) (p : ProfileName) (document : Vec ℕ 
         ∙ ap (λ r. denied d (fault_told d.rule r)) is_read ∙ ap (denied d) (read_untold d.rule profile)
 
     -- a submission that is allowed adds its event
-    pub adds : IsLawfulHistory h → (author digest : List ℕ) → author ≡ caller.name → digest ≡ digest_of text
+    pub adds : IsLawfulHistory h → (row : RevisionRow) → row ≡ new_row (suc (number_of last)) caller.name text (digest_of text)
         → decision_on caller p.team text last ≡ Ok tt
-        → Adds h (verdict_of h (Some caller) (ask.Submit p document)) (Submitted digest (suc (revision_count h p))) (Submits p author text digest)
-    adds lawful author digest is_author is_digest e = record {
-      event = submitted caller.name p text;
-      is =
-          allowed_is h (Some caller) (ask.Submit p document) (decided_on ∙ e) ∙ ap (new_revision h (Some caller) p) is_read
-          ∙ ap (λ (t : List ℕ). accepted (Submitted (digest_of t) (suc (revision_count h p))) (Some (submitted caller.name p t))) is_its
-          ∙ ap (λ d. accepted (Submitted d (suc (revision_count h p))) (Some (submitted caller.name p text))) (sym is_digest);
-      makes =
-          subst (λ a. Submits p a text digest (tables_of h) (tables_of (submitted caller.name p text ∷ h))) (sym is_author)
-          (subst (λ d. Submits p caller.name text d (tables_of h) (tables_of (submitted caller.name p text ∷ h))) (sym is_digest)
-          (submits h lawful caller.name p text));
-    }
+        → Adds h (verdict_of h (Some caller) (ask.Submit p document)) (Submitted row.digest row.number) (AddsRow p row)
+    adds lawful row is_row e =
+        let is_next : row ≡ new_row (suc (revision_count h p)) caller.name text (digest_of text) =
+        is_row ∙ ap (λ n. new_row (suc n) caller.name text (digest_of text)) (last_number h p last is_last) in
+        record {
+          event = submitted caller.name p text;
+          is =
+              allowed_is h (Some caller) (ask.Submit p document) (decided_on ∙ e) ∙ ap (new_revision h (Some caller) p) is_read
+              ∙ ap (λ (t : List ℕ). accepted (Submitted (digest_of t) (suc (revision_count h p))) (Some (submitted caller.name p t))) is_its
+              ∙ ap (λ (r : RevisionRow). accepted (Submitted r.digest r.number) (Some (submitted caller.name p text))) (sym is_next);
+          makes =
+              subst (λ r. AddsRow p r (tables_of h) (tables_of (submitted caller.name p text ∷ h))) (sym is_next)
+              (next_free h p, sym (submitted_tables h lawful caller.name p text));
+        }

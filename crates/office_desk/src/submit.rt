@@ -1,10 +1,14 @@
 // Documents that are handed in.
 
-ghost use Rattle.std.specs.Prelude.{◌≡◌, Some, false, not, IfOk, IfErr};
+ghost use Rattle.std.specs.Prelude.{◌≡◌, ◌<◌, suc, Some, not, IfOk, IfErr};
 ghost use Rattle.sqlite.specs.Held.{state};
 ghost use Rattle.review_policy.specs.declared.ask.Ask.TheVariants as ask;
+ghost use Rattle.review_policy.specs.declared.facts.TheConstants.SubmitFacts.{PASSING};
+ghost use Rattle.review_policy.specs.Rules.{max_revisions};
+ghost use Rattle.profile_text.specs.Digest.{digest_of};
 ghost use Rattle.profile_text.specs.Reading.{reading_of};
 ghost use Rattle.office_tables.specs.Lists.{holds_role};
+ghost use Rattle.office_tables.specs.Reads.{submitted};
 ghost use Rattle.office_store.specs.Shown.{IsIdle};
 ghost use Rattle.office_policy.specs.Users.{is_of_team};
 ghost use Rattle.office_policy.specs.Revisions.{if_open, number_of};
@@ -19,33 +23,19 @@ use office_tables::{RevisionRow, StoreFault, UserRow};
 use profile_text::{DocFault, digest, fault_text, read_with_text};
 use review_policy::{ProfileName, Reply, Role, State, SubmitFacts, Text, Word, decide_submit};
 use sqlite::{Alter, Connection};
-use std::alloc::Global;
+use std::alloc::{AllocError, Global};
 
-// What the rules ask of a caller and a team; whether the document doesn't read; whether its text is the open one; and how
-// many revisions there are.
-fn submit_facts(
-    caller: &UserRow,
-    team: &Word,
-    document: bool,
-    same_as_open: bool,
-    revisions: u32,
-) -> SubmitFacts
-    ensures { result ≡ record {
-      caller_unknown = false;
+// What the rules ask of a caller and a team.
+fn facts_of_caller(caller: &UserRow, team: &Word) -> SubmitFacts
+    ensures { result ≡ record PASSING {
       role_missing = not (holds_role (Some caller.now) Role.Author);
       other_team = not (is_of_team (Some caller.now) team.now);
-      document = document;
-      same_as_open = same_as_open;
-      revisions = revisions;
     } }
 {
     SubmitFacts {
-        caller_unknown: false,
         role_missing: !caller.roles.has(Role::Author),
         other_team: !caller.team.is(team),
-        document,
-        same_as_open,
-        revisions,
+        ..SubmitFacts::PASSING
     }
 }
 
@@ -69,6 +59,40 @@ fn number_of(revision: &Option<RevisionRow>) -> u32
     }
 }
 
+// All that the rules ask of a document that reads, by its text and the last revision.
+fn all_facts(caller: &UserRow, team: &Word, text: &Text, last: &Option<RevisionRow>) -> SubmitFacts
+    ensures { result ≡ record PASSING {
+      role_missing = not (holds_role (Some caller.now) Role.Author);
+      other_team = not (is_of_team (Some caller.now) team.now);
+      same_as_open = is_text_of (Some text.now) (if_open last.now);
+      revisions = number_of last.now;
+    } }
+{
+    SubmitFacts {
+        same_as_open: is_open_text(text, last),
+        revisions: number_of(last),
+        ..facts_of_caller(caller, team)
+    }
+}
+
+// The revision after the last one.
+fn next_revision(
+    caller: &UserRow,
+    last: &Option<RevisionRow>,
+    text: Text,
+) -> Result<RevisionRow, AllocError>
+    requires { number_of last.now < max_revisions }
+    ensures { IfOk result (λ row. row ≡ submitted (suc (number_of last.now)) caller.now.name text (digest_of text)) }
+{
+    Ok(RevisionRow {
+        number: number_of(last) + 1,
+        author: caller.name.clone()?,
+        state: State::Open,
+        digest: digest(text.as_str().as_bytes()),
+        body: text,
+    })
+}
+
 // The canonical text of the document, where the caller may hand in one of this team, and it reads; else the refusal, which
 // tells of a document that doesn't read why.
 fn handed_in(
@@ -80,13 +104,17 @@ fn handed_in(
     ensures text { IfOk result (λ text. canonical (reading_of document.now.items) ≡ Some text) }
     ensures refused { IfErr result (λ refusal. IsRefusedAtOnce refusal (λ h. verdict_of h (Some caller.now) (ask.Submit name.now document.now))) }
 {
-    decide_submit(&submit_facts(caller, &name.team, false, false, 0))?;
+    let asked = facts_of_caller(caller, &name.team);
+    decide_submit(&asked)?;
     match read_with_text(alloc, document.as_slice()) {
         Ok(document) => Ok(Text::new(document.text)),
         Err(DocFault::NoMemory) => Err(Refusal::Fault(StoreFault::NoMemory)),
         Err(fault) => {
             let text = Text::new(fault_text(alloc, &fault)?);
-            match decide_submit(&submit_facts(caller, &name.team, true, false, 0)) {
+            match decide_submit(&SubmitFacts {
+                document: true,
+                ..asked
+            }) {
                 Ok(()) => unreachable!(),
                 Err(denial) => Err(Refusal::Denied {
                     denial,
@@ -110,10 +138,11 @@ pub(crate) fn submit<S: Alter>(
 {
     let text = handed_in(alloc, caller, name, document)?;
     let last = last(alloc, conn, name)?;
-    let same_as_open = is_open_text(&text, &last);
-    decide_submit(&submit_facts(caller, &name.team, false, same_as_open, number_of(&last)))?;
-    let digest = digest(text.as_str().as_bytes());
-    let author = caller.name.clone()?;
-    let revision = add_revision(conn, name, author, text, digest)?;
-    Ok(Reply::Submitted { digest, revision })
+    decide_submit(&all_facts(caller, &name.team, &text, &last))?;
+    let revision = next_revision(caller, &last, text)?;
+    add_revision(conn, name, &revision)?;
+    Ok(Reply::Submitted {
+        digest: revision.digest,
+        revision: revision.number,
+    })
 }

@@ -1,15 +1,14 @@
 //! Laws of changes: what a write makes of the tables of a history are the tables of the history with its event. Each is a
 //! function without a parameter whose contract is the law; it does nothing.
 
-ghost use Rattle.std.specs.Prelude.{◌≡◌, ◌∷◌, [], List, ℕ, Bool, true, suc};
+ghost use Rattle.std.specs.Prelude.{◌≡◌, ◌∷◌, [], List, ℕ, Bool, true, suc, None};
 ghost use Rattle.profile_text.specs.Digest.{digest_of};
 ghost use Rattle.review_policy.specs.declared.ask.ProfileName.{ProfileName};
 ghost use Rattle.review_policy.specs.declared.role.Role.TheVariants.{Security};
 ghost use Rattle.review_policy.specs.Rules.{is_open};
-ghost use Rattle.office_tables.specs.Tables.{Tables};
 ghost use Rattle.office_tables.specs.Lists.{holds_role};
 ghost use Rattle.office_tables.specs.Changes.{founded_tables, with_user, with_revision, with_vote, with_issued, with_withdrawn, with_baseline, with_hold, without_hold};
-ghost use Rattle.office_tables.specs.Reads.{IsNextNumber, Submits, submitted as new_revision};
+ghost use Rattle.office_tables.specs.Reads.{submitted as new_revision};
 ghost use Rattle.office_policy.specs.History.{History, founded, enrolled, submitted, voted, issued, withdrawn, adopted, held, released};
 ghost use Rattle.office_policy.specs.Users.{user_of, registrar_alone};
 ghost use Rattle.office_policy.specs.Revisions.{revision_of, revision_count, state_in};
@@ -38,17 +37,9 @@ pub fn a_submission_adds_a_revision()
         ≡ tables_of (submitted caller p text ∷ h) }
 {}
 
-/// The number after that of the last revision is one more than there are revisions.
-pub fn the_next_number_is_one_more()
-    ensures { (h : History) (p : ProfileName) (n : ℕ) → IsNextNumber (tables_of h) p n → n ≡ suc (revision_count h p) }
-{}
-
-/// To submit under the next number makes the tables with the submission, and no others.
-pub fn a_submission_has_the_next_number()
-    ensures made { (h : History) → IsLawfulHistory h → (caller : List ℕ) (p : ProfileName) (text : List ℕ)
-        → Submits p caller text (digest_of text) (tables_of h) (tables_of (submitted caller p text ∷ h)) }
-    ensures alone { (h : History) → IsLawfulHistory h → (caller : List ℕ) (p : ProfileName) (text : List ℕ) (t : Tables)
-        → Submits p caller text (digest_of text) (tables_of h) t → t ≡ tables_of (submitted caller p text ∷ h) }
+/// No revision has the number of the next submission.
+pub fn the_next_number_is_free()
+    ensures { (h : History) (p : ProfileName) → revision_of h p (suc (revision_count h p)) ≡ None }
 {}
 
 /// A vote is kept in the place of any earlier one of that voter on the revision, with whether the voter holds security at it.

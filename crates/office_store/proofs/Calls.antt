@@ -1,5 +1,5 @@
 -- From a query to a read, from a read to what is told of it, and from statements to a write.
-use Rattle.std.proofs.Common.{inl, inr, ◌≡◌, ◌≢◌, ℕ, Option, IfErr, Bool, true, false, Result, Ok, Err, IfOk, OnOk, OnErr, IsTrue, List, ◌<◌, length, refl, sym, ap, subst, ◌∙◌, arith}
+use Rattle.std.proofs.Common.{inl, inr, ◌≡◌, ◌≢◌, ℕ, Option, IfErr, Bool, true, false, Result, Ok, Err, IfOk, OnOk, IsTrue, List, ◌<◌, length, refl, sym, ap, subst, ◌∙◌, arith}
 use Rattle.sqlite.specs.Effect.{Database}
 use Rattle.sqlite.specs.Held.{Held, state}
 use Rattle.sqlite.specs.Store.{Ghosts}
@@ -7,7 +7,7 @@ use Rattle.sqlite.specs.declared.error.Error.{Error}
 use Rattle.sqlite.specs.Order.{Row}
 use Rattle.sqlite.specs.State.{State, HasCleanDisk, Survives, CommitsShowing, Shown, Shows as Sees}
 use Rattle.sqlite.specs.Tree.{Trees}
-use Rattle.sqlite.proofs.StateLemmas.{survives_weaker, survives_then}
+use Rattle.sqlite.proofs.StateLemmas.{survives_weaker}
 use Rattle.office_tables.specs.Tables.{Tables}
 use Rattle.office_tables.specs.declared.fault.StoreFault.{StoreFault}
 use Rattle.office_tables.specs.declared.fault.StoreFault.TheVariants.{NotAnOffice}
@@ -22,7 +22,7 @@ use Rattle.office_rows.proofs.Shut.{failed_shut}
 use Rattle.office_store.specs.Shown.{IsIdle, IsOffice, Shows, ShowsIfOpen, AreOffice, LeavesOnly, LeavesNoMore, MayLeave}
 use Rattle.office_store.specs.Steps.{AreSteps}
 use Rattle.office_store.specs.Calls.{Leaves, IsRead, IsWrite, Into}
-use Rattle.office_store.proofs.Committed.{trees_of, all_made, none_made, on_err}
+use Rattle.office_store.proofs.Committed.{trees_of, all_made, none_made}
 
 pub never_both : {P : Type 0} (b : Bool) → IsTrue b → b ≡ false → P
 never_both true is_open shut = absurd cc
@@ -52,10 +52,6 @@ Settles new = (trees : Trees) → IsTrue new.is_open → new.may_leave trees →
 
 pub leaves_only : (new : State) → Settles new → (t : Tables) → Shows new t → LeavesOnly new t
 leaves_only new law t shows trees may = trees_of new.now trees t shows.office (law trees shows.is_open may ∙ ap (λ (d : Database). d.trees) (sym shows.settled))
-
--- a fault that is passed on has what it had
-pub err_of : {A : Type 0} (P : StoreFault → Type 0) (r : Result A StoreFault) (f : StoreFault) → r ≡ Err f → P f → IfErr r P
-err_of {A} P r f is p = subst (λ (o : Result A StoreFault). IfErr o P) (sym is) p
 
 -- ---- a query
 
@@ -181,25 +177,6 @@ pub write_into : {S A : Type 0} (g : Ghosts S) (ss : List Statement) (old new : 
     → IsWrite old new r (Into change)
 write_into g ss old new r change steps = write_as old new r (AreSteps g ss) (Into change) (λ t u is. subst (λ v. AreSteps g ss t v) (sym is) (steps t))
 
-pub no_answer : {A : Type 0} (P : Type 0) (r : Result A StoreFault) (f : StoreFault) → r ≡ Err f → OnOk r P
-no_answer P (Ok a) f same = absurd cc
-no_answer P (Err e) f same = tt
-
--- a read that failed before the write
-pub read_stops : {X A : Type 0} (old new : State) (FoundRow : Tables → X → Type 0) (Makes : Tables → Tables → Type 0) (row : Result X StoreFault) → IsRead old new row FoundRow → (r : Result A StoreFault) (f : StoreFault)
-    → row ≡ Err f → r ≡ Err f → IsWrite old new r Makes
-read_stops old new FoundRow Makes row read r f is same =
-    let again = read_failed old new FoundRow (λ t a. Unit {0}) row read r f is same in
-    record {
-      leaves = again.leaves;
-      done = λ t u shows makes clean. no_answer _ r f same;
-      undone = λ t shows clean. on_err r (again.shown t shows clean);
-      same = λ settled clean. on_err r (again.same settled clean);
-      formed = λ t u shows makes clean. again.formed t shows clean;
-      crash = λ t u shows makes clean trees may. inl (again.crash clean trees may);
-      lost = λ shut. again.crash;
-    }
-
 -- ---- statements in one transaction
 
 module _ {S : Type 0} (g : Ghosts S) (ss : List Statement) (some : 0 < length ss) (old new : Held S) (idle : IsIdle (state g old)) (mode : new.in_transaction ≡ false) (law : Settles (state g new))
@@ -262,77 +239,3 @@ module _ {S : Type 0} (g : Ghosts S) (ss : List Statement) (some : 0 < length ss
     where
       other : HasCleanDisk (state g new) → (state g old).is_open ≡ false → ◌≢◌ {A = Result A StoreFault} (Err f) (Err NotAnOffice)
       other clean shut same = failed_shut g ss (begun old) e some (cause clean) shut (sym is ∙ (let k : f ≡ NotAnOffice = cc in k))
-
--- ---- a read and then a write
-
--- both are done, or both fail of one fault
-abbrev pub EndAlike : {A B : Type 0} → Result B StoreFault → Result A StoreFault → Type 0
-EndAlike (Ok b) (Ok a) = Unit {0}
-EndAlike (Err f) (Err e) = e ≡ f
-EndAlike _ _ = ⊥
-
-pub alike_failed : {A B : Type 0} (s : Result B StoreFault) (r : Result A StoreFault) (f : StoreFault) → s ≡ Err f → r ≡ Err f → EndAlike s r
-alike_failed {A} {B} s r f is same = subst (λ (o : Result B StoreFault). EndAlike o r) (sym is) (subst (λ (o : Result A StoreFault). EndAlike {B = B} (Err f) o) (sym same) refl)
-
-alike_ok : {A B : Type 0} (P : Type 0) (s : Result B StoreFault) (r : Result A StoreFault) → EndAlike s r → OnOk s P → OnOk r P
-alike_ok P (Ok b) (Ok a) same p = p
-alike_ok P (Ok b) (Err e) same p = tt
-alike_ok P (Err f) (Ok a) same p = absurd same
-alike_ok P (Err f) (Err e) same p = tt
-
-alike_err : {A B : Type 0} (P : Type 0) (s : Result B StoreFault) (r : Result A StoreFault) → EndAlike s r → OnErr s P → OnErr r P
-alike_err P (Ok b) (Ok a) same p = tt
-alike_err P (Ok b) (Err e) same p = absurd same
-alike_err P (Err f) (Ok a) same p = tt
-alike_err P (Err f) (Err e) same p = p
-
-alike_formed : {A B : Type 0} (s : Result B StoreFault) (r : Result A StoreFault) → EndAlike s r → s ≢ Err NotAnOffice → r ≢ Err NotAnOffice
-alike_formed (Ok b) (Ok a) same other is = cc
-alike_formed (Ok b) (Err e) same other is = absurd same
-alike_formed (Err f) (Ok a) same other is = cc
-alike_formed (Err f) (Err e) same other is = other (let k : e ≡ NotAnOffice = cc in ap Err (sym same ∙ k))
-
-module _ {X A B : Type 0} (old mid new : State) (FoundRow : Tables → X → Type 0) (First Second : Tables → Tables → Type 0) (row : Result X StoreFault) (x : X) (is : row ≡ Ok x)
-    (read : IsRead old mid row FoundRow) (s : Result B StoreFault) (write : IsWrite mid new s First) (r : Result A StoreFault) (alike : EndAlike s r)
-    (makes : (t u : Tables) → Shows old t → FoundRow t x → Second t u → First t u) where
-  both_open : HasCleanDisk new → IsTrue old.is_open × IsTrue mid.is_open
-  both_open clean = subst (λ (o : Result X StoreFault). OnOk o (IsTrue old.is_open × IsTrue mid.is_open)) is (read.leaves.answered (write.leaves.clean clean))
-
-  first_made : (t u : Tables) → ShowsIfOpen old t → Second t u → HasCleanDisk new → First t u
-  first_made t u shows second clean =
-      makes t u (shows (both_open clean).0) (subst (λ (o : Result X StoreFault). IfOk o (FoundRow t)) is (read.found t shows (write.leaves.clean clean))) second
-
-  pub read_then_write : IsWrite old new r Second
-  read_then_write = record {
-    leaves = record {
-      idle = write.leaves.idle;
-      clean = λ clean. read.leaves.clean (write.leaves.clean clean);
-      survives = survives_then old mid new _ _ (λ _. Unit {0}) (λ _ trees left. tt) (λ _ trees left. tt) read.leaves.survives write.leaves.survives;
-      answered = λ clean. alike_ok _ s r alike (both_answered _ s (write.leaves.answered clean) (both_open clean).0);
-      shut = λ clean shut. never_both old.is_open (both_open clean).0 shut;
-      settled = write.leaves.settled;
-    };
-    done = λ t u shows second clean. alike_ok _ s r alike (write.done t u (read.shown t shows (write.leaves.clean clean)) (first_made t u shows second clean) clean);
-    undone = λ t shows clean. alike_err _ s r alike (write.undone t (read.shown t shows (write.leaves.clean clean)) clean);
-    same = λ settled clean.
-        let was = both_open clean in
-        let kept = read.same settled (write.leaves.clean clean) was.1 in
-        let mid_settled : mid.now ≡ mid.committed = kept.0 ∙ settled ∙ sym kept.1 in
-        alike_err _ s r alike (since s (write.same mid_settled clean) kept);
-    formed = λ t u shows second clean. alike_formed s r alike (write.formed t u (read.shown t shows (write.leaves.clean clean)) (first_made t u shows second clean) clean);
-    crash = λ t u shows second clean trees may.
-        let before = write.leaves.clean clean in
-        elim (write.crash t u (read.shown t shows before) (first_made t u shows second clean) clean trees may) [
-          | inl earlier ↦ inl (read.crash before trees earlier)
-          | inr left ↦ inr left
-        ];
-    lost = λ shut clean. never_both old.is_open (both_open clean).0 shut;
-  }
-    where
-      both_answered : {P : Type 0} (Q : Type 0) (s : Result B StoreFault) → OnOk s (Q × IsTrue new.is_open) → P → OnOk s (P × IsTrue new.is_open)
-      both_answered Q (Ok b) both p = (p, both.1)
-      both_answered Q (Err f) both p = tt
-
-      since : (s : Result B StoreFault) → OnErr s (IsAsItWas mid new) → (mid.now ≡ old.now) × (mid.committed ≡ old.committed) → OnErr s (IsAsItWas old new)
-      since (Ok b) same kept = tt
-      since (Err f) same kept = λ is_open. ((same is_open).0 ∙ kept.0, (same is_open).1 ∙ kept.1)

@@ -1,5 +1,5 @@
 -- What the statements of a write leave of an office.
-use Rattle.std.proofs.Common.{arith, Ok, Err, Result, OnOk, OnErr, inl, inr, ◌≡◌, List, [], ◌∷◌, refl, sym, subst}
+use Rattle.std.proofs.Common.{arith, Ok, Err, Result, OnOk, inl, inr, ◌≡◌, List, [], ◌∷◌, refl, sym, subst}
 use Rattle.sqlite.specs.declared.error.Error.{Error}
 use Rattle.sqlite.specs.Store.{Ghosts}
 use Rattle.sqlite.specs.Effect.{Database}
@@ -35,7 +35,3 @@ survives_same s P = record { clean = omega arith; shield = λ h. h; counts = ome
 pub on_any : {A E P : Type 0} (r : Result A E) → P → OnOk r P
 on_any (Ok a) p = p
 on_any (Err e) p = tt
-
-pub on_err : {A E P : Type 0} (r : Result A E) → P → OnErr r P
-on_err (Ok a) p = tt
-on_err (Err e) p = p

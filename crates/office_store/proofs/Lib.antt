@@ -22,7 +22,6 @@ pub mod OldReads
 pub mod MigrationSteps
 pub mod OldFounding
 pub mod Migrating
-pub mod Numbers
 pub mod Reopened
 pub mod Calls
 pub mod Queries

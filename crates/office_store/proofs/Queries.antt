@@ -10,7 +10,7 @@ use Rattle.office_store.specs.declared.form.TheConstants.{OFFICE_ROW}
 use Rattle.office_store.specs.declared.holds.TheConstants.{HOLD_OF}
 use Rattle.office_store.specs.declared.listing.TheConstants.{REVISIONS_OF}
 use Rattle.office_store.specs.declared.office.TheConstants.{LISTED}
-use Rattle.office_store.specs.declared.revisions.TheConstants.{REVISION_AT, REVISION_OF, ISSUED_OF, LAST_OF, LAST_NUMBER}
+use Rattle.office_store.specs.declared.revisions.TheConstants.{REVISION_AT, REVISION_OF, ISSUED_OF, LAST_OF}
 use Rattle.office_store.specs.declared.standing_votes.TheConstants.{VOTES_ON}
 use Rattle.office_store.specs.declared.users.TheConstants.{USER_BY_NAME, USER_BY_TOKEN}
 
@@ -37,10 +37,6 @@ issued_of = is_query ISSUED_OF.now _ (record { is = refl; bare = λ schema base.
 pub last_of : IsQuery LAST_OF.now
 unfolding everything first returning
 last_of = is_query LAST_OF.now _ (record { is = refl; bare = λ schema base. refl })
-
-pub last_number : IsQuery LAST_NUMBER.now
-unfolding everything first returning
-last_number = is_query LAST_NUMBER.now _ (record { is = refl; bare = λ schema base. refl })
 
 pub baseline_of : IsQuery BASELINE_OF.now
 unfolding everything first returning

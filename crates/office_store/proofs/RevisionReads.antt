@@ -31,10 +31,10 @@ use Rattle.office_rows.proofs.Plain.{plain_query, Means}
 use Rattle.office_rows.proofs.Stored.{find_own}
 use Rattle.office_rows.proofs.Finding.{IsFound, finds_some, found_own}
 use Rattle.office_rows.proofs.Ordered.{first_query, IsFirst, IsFirstRow, finds_first}
-use Rattle.office_store.specs.declared.revisions.TheConstants.{REVISION_AT, ISSUED_OF, LAST_OF, LAST_NUMBER, REVISION_OF}
+use Rattle.office_store.specs.declared.revisions.TheConstants.{REVISION_AT, ISSUED_OF, LAST_OF, REVISION_OF}
 use Rattle.office_store.specs.Schema.{office_schema}
-use Rattle.office_store.specs.Entries.{Revision, same_revision, revision_key, revision_row, revision_columns, number_row, IsRevision, state_number}
-use Rattle.office_store.specs.Reads.{IsIssuedRow, IsLastRow, IsLastNumberRow}
+use Rattle.office_store.specs.Entries.{Revision, same_revision, revision_key, revision_row, revision_columns, IsRevision, state_number}
+use Rattle.office_store.specs.Reads.{IsIssuedRow, IsLastRow}
 use Rattle.office_store.specs.Shown.{Shows, ShowsIfOpen}
 use Rattle.office_store.proofs.Kept.{still_shows, answered_shows, map_of_map, some_shown}
 use Rattle.office_store.proofs.Profiles.{profile_params, revision_params, at_profile, profile_tested, at_revision, revision_tested, in_state_of, is_in_state, state_tested, revisions_decide, profiles_decide, both_true, same_profile, same_state}
@@ -63,16 +63,12 @@ last_means = record { is = refl; plain = (refl, refl); unlisted = refl }
 abbrev number_column : List Term
 number_column = col 1 3 ∷ []
 
-number_means : Means office_schema LAST_NUMBER.now (Select (record { lets = []; body = first_query number_column at_profile 4 greatest }) (codes "number" ∷ []))
-unfolding understood everything
-number_means = record { is = refl; plain = (refl, refl); unlisted = refl }
-
 any_means : Means office_schema REVISION_OF.now (Select (record { lets = []; body = plain_query number_column at_profile 4 }) (codes "number" ∷ []))
 unfolding understood everything
 any_means = record { is = refl; plain = (refl, refl); unlisted = refl }
 
 abbrev number_of : Revision → Row
-number_of e = number_row e.1.number
+number_of e = Int (pos e.1.number) ∷ []
 
 abbrev is_of : ProfileName → Revision → Bool
 is_of p e = is_profile p e.0
@@ -191,19 +187,6 @@ module _ (old new : State) (t : Tables) (shows : Shows old t) where
         let it = finds_first revision_row shown number_of (is_of p) shown_columns at_profile greatest (profile_params p) (profile_tested p) (λ k. refl) (λ k. refl)
         office_schema LAST_OF.now 4 names last_means old new o.schema shows.settled idle o.revisions.entries o.revisions.kept r h in
         (last_shown p r it.0, it.1, still_shows old new t shows it.2, answered_shows old new t shows it.2 r it.3)
-
-    number_shown : (p : ProfileName) (r : Result (Option Row) StoreFault) → IfOk r (IsFirstOf p number_of number_column) → IfOk r (IsLastNumberRow t p)
-    number_shown p (Ok (Some row)) it = (it.0.1, first_is_last p number_of number_column it.0 it.1, it.2)
-    number_shown p (Ok None) none = none_is_last p none
-    number_shown p (Err f) it = it
-
-    pub reads_number : (p : ProfileName) (r : Result (Option Row) StoreFault) → FindsRow LAST_NUMBER.now (profile_params p) old new r
-        → IfOk r (IsLastNumberRow t p) × (r ≢ Err NotAnOffice) × ShowsIfOpen new t × OnOk r (Shows new t)
-    reads_number p r h =
-        let o = shows.office in
-        let it = finds_first revision_row number_of number_of (is_of p) number_column at_profile greatest (profile_params p) (profile_tested p) (λ k. refl) (λ k. refl)
-        office_schema LAST_NUMBER.now 4 (codes "number" ∷ []) number_means old new o.schema shows.settled idle o.revisions.entries o.revisions.kept r h in
-        (number_shown p r it.0, it.1, still_shows old new t shows it.2, answered_shows old new t shows it.2 r it.3)
 
     any_row : (p : ProfileName) (r : Result (Option Row) StoreFault) → IfOk r (IsFound (is_of p) number_of shows.office.revisions.entries) → IfOk r (λ row. is_some row ≡ true ↔ HasRevision t p)
     any_row p (Ok (Some row)) it = (

@@ -56,10 +56,6 @@ revision_row e =
 abbrev pub revision_columns : RevisionRow → Row
 revision_columns r = Int (pos r.number) ∷ Text r.author ∷ Int (pos (state_number r.state)) ∷ Text r.body ∷ Blob r.digest ∷ []
 
--- what a read of its number alone shows
-abbrev pub number_row : ℕ → Row
-number_row n = Int (pos n) ∷ []
-
 pub record IsRevision (e : Revision) : Type 0 where
   pub profile : IsProfileName e.0
   pub number : e.1.number < 2 ^ 32

@@ -7,7 +7,6 @@ pub mod Form
 pub mod Reads
 pub mod Steps
 pub mod Writes
-pub mod Adding
 pub mod Adopted
 pub mod Lists
 pub mod Founding

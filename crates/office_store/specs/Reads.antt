@@ -7,7 +7,7 @@ use Rattle.office_tables.specs.declared.row.UserRow.{UserRow}
 use Rattle.office_tables.specs.declared.row.RevisionRow.{RevisionRow}
 use Rattle.office_tables.specs.Tables.{Tables}
 use Rattle.office_tables.specs.Reads.{IsUserShowing, IsLast, IsIssued}
-use Rattle.office_store.specs.Entries.{user_row, revision_columns, number_row}
+use Rattle.office_store.specs.Entries.{user_row, revision_columns}
 use Rattle.office_store.specs.Form.{form_row}
 
 -- the row of a user who shows this digest, or that there is none
@@ -24,11 +24,6 @@ IsIssuedRow t p (Some row) = (r : RevisionRow) × IsIssued t p (Some r) × (row 
 abbrev pub IsLastRow : Tables → ProfileName → Option Row → Type 0
 IsLastRow t p None = IsLast t p None
 IsLastRow t p (Some row) = (r : RevisionRow) × IsLast t p (Some r) × (row ≡ revision_columns r)
-
--- the same of its number alone
-abbrev pub IsLastNumberRow : Tables → ProfileName → Option Row → Type 0
-IsLastNumberRow t p None = IsLast t p None
-IsLastNumberRow t p (Some row) = (r : RevisionRow) × IsLast t p (Some r) × (row ≡ number_row r.number)
 
 -- the row of the listed capabilities
 abbrev pub IsRowListed : Tables → Option Row → Type 0

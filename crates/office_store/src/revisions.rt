@@ -1,22 +1,20 @@
 //! The table of revisions.
 
-ghost use Rattle.std.specs.Prelude.{◌≡◌, ◌≢◌, ◌↔◌, ℕ, true, is_some, Err, IfOk, IfErr, option_map};
+ghost use Rattle.std.specs.Prelude.{◌≡◌, ◌≢◌, ◌↔◌, true, is_some, Err, IfOk, IfErr, option_map};
 ghost use Rattle.sqlite.specs.Held.{state};
 ghost use Rattle.sqlite.specs.State.{HasCleanDisk};
 ghost use Rattle.review_policy.specs.declared.ask.ProfileName.{ProfileName as Name};
 ghost use Rattle.office_rows.specs.Faults.{FindsRow};
 ghost use Rattle.office_rows.specs.Statements.{IsCause};
 ghost use Rattle.office_rows.specs.Told.{IsOfRow, IsTold, TellsRow, TellsOne, TellsWhether};
-ghost use Rattle.office_tables.specs.Tables.{Tables};
 ghost use Rattle.office_tables.specs.Changes.{with_issued, with_withdrawn};
-ghost use Rattle.office_tables.specs.Reads.{IsLast, IsIssued, HasRevision, IsNextNumber, Adds, Submits};
+ghost use Rattle.office_tables.specs.Reads.{IsLast, IsIssued, HasRevision, Adds};
 ghost use Rattle.office_tables.specs.declared.row.RevisionRow.{RevisionRow as Revision};
-ghost use Rattle.office_store.specs.Adding.{IsNumber, IsAfter, TellsNext, FailsToAdd};
 ghost use Rattle.office_store.specs.Calls.{IsRead, IsWrite, Into};
-ghost use Rattle.office_store.specs.Entries.{revision_columns, number_row, IsRevision, IsRevisionForm};
+ghost use Rattle.office_store.specs.Entries.{revision_columns, IsRevision, IsRevisionForm};
 ghost use Rattle.office_store.specs.Keys.{profile_params, revision_params};
-ghost use Rattle.office_store.specs.Reads.{IsIssuedRow, IsLastRow, IsLastNumberRow};
-ghost use Rattle.office_store.specs.Shown.{IsIdle, ShowsIfOpen};
+ghost use Rattle.office_store.specs.Reads.{IsIssuedRow, IsLastRow};
+ghost use Rattle.office_store.specs.Shown.{IsIdle};
 ghost use Rattle.office_store.specs.Writes.{adding_revision, issuing, withdrawing};
 
 use crate::bind::{of_number, of_profile, of_revision};
@@ -36,9 +34,6 @@ pub(crate) const ISSUED_OF: &str =
 
 pub(crate) const LAST_OF: &str =
     "SELECT number, author, state, body, digest FROM revisions WHERE team = ?1 AND profile = ?2 ORDER BY number DESC LIMIT 1";
-
-pub(crate) const LAST_NUMBER: &str =
-    "SELECT number FROM revisions WHERE team = ?1 AND profile = ?2 ORDER BY number DESC LIMIT 1";
 
 pub(crate) const REVISION_OF: &str =
     "SELECT number FROM revisions WHERE team = ?1 AND profile = ?2";
@@ -131,19 +126,6 @@ fn last_row<S: Alter>(
     first_row(conn, LAST_OF, &of_profile(profile))
 }
 
-// The row of the number of the last revision of a profile.
-fn last_number_row<S: Alter>(
-    conn: &mut Connection<S>,
-    profile: &ProfileName,
-) -> Result<Option<Row>, StoreFault>
-    requires { IsIdle (state S.Store conn.old) }
-    ensures read { IsRead (state S.Store conn.old) (state S.Store conn.new) result (λ t row. IsLastNumberRow t profile.now row) }
-    ensures row { HasCleanDisk (state S.Store conn.new)
-        → FindsRow LAST_NUMBER.now (profile_params profile.now) (state S.Store conn.old) (state S.Store conn.new) result }
-{
-    first_row(conn, LAST_NUMBER, &of_profile(profile))
-}
-
 // The row of a revision of a profile.
 fn row_of<S: Alter>(
     conn: &mut Connection<S>,
@@ -216,8 +198,8 @@ pub fn last<S: Alter>(
     revision_of(alloc, last_row(conn, profile))
 }
 
-// Adds a revision whose number is free, and closes the open one of its profile.
-fn insert_revision<S: Alter>(
+/// Adds a revision under its number, which no other of its profile has, and closes the open one of the profile.
+pub fn add_revision<S: Alter>(
     conn: &mut Connection<S>,
     profile: &ProfileName,
     revision: &RevisionRow,
@@ -226,82 +208,8 @@ fn insert_revision<S: Alter>(
     ensures write { IsWrite (state S.Store conn.old) (state S.Store conn.new) result (Adds profile.now revision.now) }
     ensures cause { HasCleanDisk (state S.Store conn.new) → IfErr result (IsCause S.Store (adding_revision profile.now revision.now) conn.old) }
 {
-    write_two(
-        conn,
-        CLOSE_OPEN,
-        &of_profile(profile),
-        INSERT_REVISION,
-        &of_revision(profile, revision),
-    )
-}
-
-// The number of a row of it alone.
-fn read_number(row: &Row) -> Result<u32, StoreFault>
-    ensures number { IfOk result (λ number. row.now ≡ number_row number) }
-    ensures formed { (number : ℕ) → IsNumber number → row.now ≡ number_row number → result ≢ Err StoreFault.NotAnOffice }
-    ensures cause { IfErr result IsOfRow }
-{
-    if row.column_count() != 1 {
-        return Err(StoreFault::NotAnOffice);
-    }
-    number_at(row, 0)
-}
-
-// The number after this one.
-fn number_after(number: u32) -> Result<u32, StoreFault>
-    ensures { IsAfter number result }
-{
-    match number.checked_add(1) {
-        Some(next) => Ok(next),
-        None => Err(StoreFault::Full),
-    }
-}
-
-// The number after that of the row that a query found, or 1 if it found none.
-fn number_after_row(found: Result<Option<Row>, StoreFault>) -> Result<u32, StoreFault>
-    ensures { IsTold TellsNext found result }
-{
-    match found? {
-        Some(row) => number_after(read_number(&row)?),
-        None => Ok(1),
-    }
-}
-
-// The number after that of the last revision of a profile.
-fn next_number<S: Alter>(conn: &mut Connection<S>, profile: &ProfileName) -> Result<u32, StoreFault>
-    requires { IsIdle (state S.Store conn.old) }
-    ensures read { IsRead (state S.Store conn.old) (state S.Store conn.new) result (λ t number. IsNextNumber t profile.now number) }
-    ensures told { HasCleanDisk (state S.Store conn.new)
-        → TellsRow LAST_NUMBER.now (profile_params profile.now) (state S.Store conn.old) (state S.Store conn.new) TellsNext result }
-{
-    number_after_row(last_number_row(conn, profile))
-}
-
-/// Adds a revision of a profile, open, and closes the one that was open. Answers its number, the next after that of the
-/// profile's last. Where that would be above the greatest `u32` it answers [`StoreFault::Full`].
-pub fn add_revision<S: Alter>(
-    conn: &mut Connection<S>,
-    profile: &ProfileName,
-    author: Word,
-    body: Text,
-    digest: [u8; 32],
-) -> Result<u32, StoreFault>
-    requires { IsIdle (state S.Store conn.old) }
-    ensures write { IsWrite (state S.Store conn.old) (state S.Store conn.new) result (Submits profile.now author body digest) }
-    ensures number { (t : Tables) → ShowsIfOpen (state S.Store conn.old) t → HasCleanDisk (state S.Store conn.new)
-        → IfOk result (IsNextNumber t profile.now) }
-    ensures cause { HasCleanDisk (state S.Store conn.new) → IfErr result (FailsToAdd S.Store profile.now author body digest conn.old conn.new) }
-{
-    let number = next_number(conn, profile)?;
-    let revision = RevisionRow {
-        number,
-        author,
-        state: State::Open,
-        body,
-        digest,
-    };
-    insert_revision(conn, profile, &revision)?;
-    Ok(number)
+    let added = of_revision(profile, revision);
+    write_two(conn, CLOSE_OPEN, &of_profile(profile), INSERT_REVISION, &added)
 }
 
 /// Issues a revision, which replaces the issued one of its profile.

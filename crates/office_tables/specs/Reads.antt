@@ -1,5 +1,5 @@
 -- What each read of a store answers of the tables, where that is more than what stands at a key.
-use Rattle.std.specs.Prelude.{◌≡◌, ◌≢◌, ◌<◌, ◌+◌, ℕ, List, Option, Some, None}
+use Rattle.std.specs.Prelude.{◌≡◌, ◌≢◌, ◌<◌, ℕ, List, Option, Some, None}
 use Rattle.review_policy.specs.declared.ask.ProfileName.{ProfileName}
 use Rattle.review_policy.specs.declared.revision.State.TheVariants.{Open, Issued}
 use Rattle.office_tables.specs.declared.row.UserRow.{UserRow}
@@ -17,11 +17,6 @@ abbrev pub IsLast : Tables → ProfileName → Option RevisionRow → Type 0
 IsLast t p None = (n : ℕ) → t.revisions p n ≡ None
 IsLast t p (Some r) = (t.revisions p r.number ≡ Some r) × ((n : ℕ) → r.number < n → t.revisions p n ≡ None)
 
--- the number after that of the last revision
-abbrev pub next_number : Option RevisionRow → ℕ
-next_number None = 1
-next_number (Some r) = r.number + 1
-
 -- a revision of the profile that is issued, or that there is none
 abbrev pub IsIssued : Tables → ProfileName → Option RevisionRow → Type 0
 IsIssued t p None = (n : ℕ) (r : RevisionRow) → t.revisions p n ≡ Some r → r.state ≢ Issued
@@ -33,10 +28,6 @@ pub record HasRevision (t : Tables) (p : ProfileName) : Type 0 where
   pub revision : RevisionRow
   pub there : t.revisions p number ≡ Some revision
 
--- the number after that of the last revision
-abbrev pub IsNextNumber : Tables → ProfileName → ℕ → Type 0
-IsNextNumber t p n = (last : Option RevisionRow) × IsLast t p last × (n ≡ next_number last)
-
 -- a revision that is submitted
 abbrev pub submitted : ℕ → List ℕ → List ℕ → List ℕ → RevisionRow
 submitted number author body digest = record { number = number; author = author; state = Open; body = body; digest = digest }
@@ -44,7 +35,3 @@ submitted number author body digest = record { number = number; author = author;
 -- a revision is added, whose number is free
 abbrev pub Adds : ProfileName → RevisionRow → Tables → Tables → Type 0
 Adds p r t u = (t.revisions p r.number ≡ None) × (u ≡ with_revision p r t)
-
--- a revision is submitted, under the next number
-abbrev pub Submits : ProfileName → List ℕ → List ℕ → List ℕ → Tables → Tables → Type 0
-Submits p author body digest t u = (n : ℕ) × IsNextNumber t p n × (u ≡ with_revision p (submitted n author body digest) t)

@@ -11,7 +11,7 @@ use office_store::{
     user_by_token,
 };
 use office_tables::{RevisionRow, StoreFault, UserRow};
-use review_policy::{ProfileName, Roles, Text, Word, WordFault};
+use review_policy::{ProfileName, Roles, State, Text, Word, WordFault};
 use sqlite::{Alter, Connection};
 use std::alloc::{AllocError, Global};
 use std::fmt::Debug;
@@ -87,7 +87,7 @@ fn put<S: Alter>(conn: &mut Connection<S>, subject: &Subject) -> Result<(), Stor
     put_user(conn, &user)
 }
 
-// Adds a revision whose body is `{}`, and whose digest has the byte 7 alone.
+// Adds a revision after the last one, whose body is `{}` and whose digest has the byte 7 alone, and answers its number.
 fn add<S: Alter>(
     alloc: Global,
     conn: &mut Connection<S>,
@@ -96,9 +96,19 @@ fn add<S: Alter>(
     requires { IsIdle (state S.Store conn.old) }
     ensures { IsIdle (state S.Store conn.new) }
 {
-    let author = subject.name.clone()?;
-    let body = Text::new(String::from_str(alloc, "{}")?);
-    add_revision(conn, &subject.profile, author, body, [7; 32])
+    let number = match last(alloc, conn, &subject.profile)? {
+        Some(row) => row.number.saturating_add(1),
+        None => 1,
+    };
+    let revision = RevisionRow {
+        number,
+        author: subject.name.clone()?,
+        state: State::Open,
+        body: Text::new(String::from_str(alloc, "{}")?),
+        digest: [7; 32],
+    };
+    add_revision(conn, &subject.profile, &revision)?;
+    Ok(number)
 }
 
 fn bits(answer: Result<Caps, StoreFault>) -> Result<u64, StoreFault> {

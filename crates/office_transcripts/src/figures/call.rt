@@ -12,8 +12,8 @@ use office_store::{
     is_author, issued, last, listed, put_baseline, put_hold, put_user, put_vote, revision,
     revisions_of, set_issued, set_withdrawn, standing, tally, user_by_name, user_by_token,
 };
-use office_tables::{StoreFault, Tally};
-use review_policy::Text;
+use office_tables::{RevisionRow, StoreFault, Tally};
+use review_policy::{State, Text};
 use sqlite::{Alter, Connection};
 use std::alloc::Global;
 use std::time::Instant;
@@ -73,7 +73,7 @@ const CALLS: [Call; 23] = [
     Call::DeleteHold,
 ];
 
-/// Adds a revision, and answers its number.
+/// Adds a revision after the last one, and answers its number.
 pub fn add<S: Alter>(
     alloc: Global,
     conn: &mut Connection<S>,
@@ -84,9 +84,19 @@ pub fn add<S: Alter>(
     ensures { IsIdle (state S.Store conn.new) }
 {
     let Sample { user, profile } = sample;
-    let author = user.name.clone()?;
-    let body = Text::new(String::from_str(alloc, body)?);
-    add_revision(conn, profile, author, body, user.digest)
+    let number = match last(alloc, conn, profile)? {
+        Some(row) => row.number.saturating_add(1),
+        None => 1,
+    };
+    let revision = RevisionRow {
+        number,
+        author: user.name.clone()?,
+        state: State::Open,
+        body: Text::new(String::from_str(alloc, body)?),
+        digest: user.digest,
+    };
+    add_revision(conn, profile, &revision)?;
+    Ok(number)
 }
 
 /// Has the user approve the first revision.

@@ -1,14 +1,11 @@
-use Rattle.std.proofs.Common.{rules, ◌≡◌, ◌∙◌, None, Err, Ok, suc, sym, ap}
+use Rattle.std.proofs.Common.{rules, ◌≡◌, ◌∙◌, None, Err, sym, ap}
 use Rattle.sqlite.specs.Held.{state}
 use Rattle.review_policy.specs.declared.answer.Reply.TheVariants.{Submitted}
-use Rattle.profile_text.specs.Digest.{digest_of}
+use Rattle.review_policy.specs.Rules.{first_denial, submit_rules}
 use Rattle.office_tables.specs.declared.fault.StoreFault.TheVariants.{NoMemory}
-use Rattle.office_policy.specs.Revisions.{revision_count}
-use Rattle.office_policy.specs.TablesOf.{tables_of}
-use Rattle.office_policy.proofs.Submissions.{next_is}
 use Rattle.office_desk.specs.declared.refusal.Refusal.TheVariants as refusals
-use Rattle.office_desk.proofs.Carrying.{left, read_fails, fails_after, refused_after, answered, answer_fails}
-use Rattle.office_desk.proofs.Submissions.{asked, turned_away, refused, adds}
+use Rattle.office_desk.proofs.Carrying.{left, read_fails, fails_after, refused_after, written, write_fails}
+use Rattle.office_desk.proofs.Submissions.{turned_away, refused, adds}
 use Rattle.office_desk.proofs.submit.submit.Goals as goal
 
 pub returns-in_err-text : goal.returns-in_err-text
@@ -23,43 +20,35 @@ returns-in_err-last g c =
 
 pub returns-in_err-decide_submit : goal.returns-in_err-decide_submit
 returns-in_err-decide_submit g c =
-    left _ _ _ _ (refusals.Denied c.in_err-decide_submit.field-0.0 None) c.from_residual-in_err-decide_submit.ensures.1
-    (refused_after _ (state g.S.Store c.args.conn.now) (state g.S.Store c.last.new.conn) _ c.in_ok-last.last c.in_ok-last.ensures.read
-    c.in_err-decide_submit.field-0.0 None
-    (λ h lawful is. refused h c.args.caller.now c.args.name.now c.args.document.now c.in_ok-text.text c.in_ok-text.ensures.text c.in_ok-last.last is
-    c.in_err-decide_submit.field-0.0
-    (asked c.args.caller.now c.args.name.now.team c.in_ok-text.text c.in_ok-last.last c.submit_facts.result c.is_open_text-same_as_open.result
-    c.number_of.result (Err c.in_err-decide_submit.field-0.0) c.submit_facts.ensures c.is_open_text-same_as_open.ensures c.number_of.ensures
-    c.in_err-decide_submit.ensures)))
-
-pub returns-in_err-author : goal.returns-in_err-author
-returns-in_err-author g c =
-    left _ _ _ _ (refusals.Fault NoMemory) c.from_residual-in_err-author.ensures.1
-    (fails_after _ (state g.S.Store c.args.conn.now) (state g.S.Store c.last.new.conn) _ c.in_ok-last.last c.in_ok-last.ensures.read NoMemory (λ same. cc))
+    let d = c.in_err-decide_submit.field-0.0 in
+    left _ _ _ _ (refusals.Denied d None) c.from_residual-in_err-decide_submit.ensures.1
+    (refused_after _ (state g.S.Store c.args.conn.now) (state g.S.Store c.last.new.conn) _ c.in_ok-last.last c.in_ok-last.ensures.read d None
+    (λ h lawful is. refused h c.args.caller.now c.args.name.now c.args.document.now c.in_ok-text.text c.in_ok-text.ensures.text c.in_ok-last.last is d
+    (ap (λ f. first_denial (submit_rules f)) (sym c.all_facts.ensures) ∙ sym c.in_err-decide_submit.ensures)))
 
 pub returns-in_err-revision : goal.returns-in_err-revision
 returns-in_err-revision g c =
-    let same : c.in_ok-author.author ≡ c.args.caller.now.name = search rules in
-    left _ _ _ _ (refusals.Fault c.in_err-revision.field-0.0) c.from_residual-in_err-revision.ensures.1
-    (answer_fails _ (state g.S.Store c.args.conn.now) (state g.S.Store c.last.new.conn) (state g.S.Store c.add_revision.new.conn) _
-    c.in_ok-last.last c.in_ok-last.ensures.read (λ h. Submitted c.digest-digest.result (suc (revision_count h c.args.name.now))) _
+    left _ _ _ _ (refusals.Fault NoMemory) c.from_residual-in_err-revision.ensures.1
+    (fails_after _ (state g.S.Store c.args.conn.now) (state g.S.Store c.last.new.conn) _ c.in_ok-last.last c.in_ok-last.ensures.read NoMemory (λ same. cc))
+
+pub returns-in_err-add_revision : goal.returns-in_err-add_revision
+returns-in_err-add_revision g c =
+    let row = c.in_ok-revision.revision in
+    let fault = c.in_err-add_revision.field-0.0 in
+    left _ _ _ _ (refusals.Fault fault) c.from_residual-in_err-add_revision.ensures.1
+    (write_fails _ (state g.S.Store c.args.conn.now) (state g.S.Store c.last.new.conn) (state g.S.Store c.add_revision.new.conn) _
+    c.in_ok-last.last c.in_ok-last.ensures.read (Submitted row.digest row.number) _
     (λ h lawful is. adds h c.args.caller.now c.args.name.now c.args.document.now c.in_ok-text.text c.in_ok-text.ensures.text c.in_ok-last.last is
-    lawful c.in_ok-author.author c.digest-digest.result same
-    (c.digest-digest.ensures ∙ ap digest_of (c.as_bytes.ensures.value ∙ c.as_str.ensures))
-    (asked c.args.caller.now c.args.name.now.team c.in_ok-text.text c.in_ok-last.last c.submit_facts.result c.is_open_text-same_as_open.result
-    c.number_of.result (Ok tt) c.submit_facts.ensures c.is_open_text-same_as_open.ensures c.number_of.ensures c.in_ok-decide_submit.ensures))
-    c.in_err-revision.field-0.0 c.in_err-revision.ensures.write)
+    lawful row c.in_ok-revision.ensures
+    (ap (λ f. first_denial (submit_rules f)) (sym c.all_facts.ensures) ∙ sym c.in_ok-decide_submit.ensures))
+    fault c.in_err-add_revision.ensures.write)
 
 pub returns : goal.returns
 returns g c =
-    let same : c.in_ok-author.author ≡ c.args.caller.now.name = search rules in
-    answered _ (state g.S.Store c.args.conn.now) (state g.S.Store c.last.new.conn) (state g.S.Store c.add_revision.new.conn) _
-    c.in_ok-last.last c.in_ok-last.ensures.read (λ h. Submitted c.digest-digest.result (suc (revision_count h c.args.name.now))) _
+    let row = c.in_ok-revision.revision in
+    written _ (state g.S.Store c.args.conn.now) (state g.S.Store c.last.new.conn) (state g.S.Store c.add_revision.new.conn) _
+    c.in_ok-last.last c.in_ok-last.ensures.read (Submitted row.digest row.number) _
     (λ h lawful is. adds h c.args.caller.now c.args.name.now c.args.document.now c.in_ok-text.text c.in_ok-text.ensures.text c.in_ok-last.last is
-    lawful c.in_ok-author.author c.digest-digest.result same
-    (c.digest-digest.ensures ∙ ap digest_of (c.as_bytes.ensures.value ∙ c.as_str.ensures))
-    (asked c.args.caller.now c.args.name.now.team c.in_ok-text.text c.in_ok-last.last c.submit_facts.result c.is_open_text-same_as_open.result
-    c.number_of.result (Ok tt) c.submit_facts.ensures c.is_open_text-same_as_open.ensures c.number_of.ensures c.in_ok-decide_submit.ensures))
-    c.in_ok-revision.revision c.in_ok-revision.ensures.write (Submitted c.digest-digest.result c.in_ok-revision.revision)
-    (λ h lawful shows clean. ap (Submitted c.digest-digest.result)
-    (sym (next_is h c.args.name.now c.in_ok-revision.revision (c.in_ok-revision.ensures.number (tables_of h) shows clean))))
+    lawful row c.in_ok-revision.ensures
+    (ap (λ f. first_denial (submit_rules f)) (sym c.all_facts.ensures) ∙ sym c.in_ok-decide_submit.ensures))
+    c.in_ok-add_revision.field-0 c.in_ok-add_revision.ensures.write
