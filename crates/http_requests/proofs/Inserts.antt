@@ -1,5 +1,5 @@
 -- The rows of a router as routes go into it.
-use Rattle.std.proofs.Common.{◌≡◌, ◌∙◌, ◌+◌, ◌<◌, ◌++◌, ◌&&◌, ℕ, Bool, true, false, not, suc, is_some, List, [], ◌∷◌, Option, Some, None, Result, Ok, Err, length, map, fold, take, drop, get_or, refl, sym, ap, subst, drop-cons, add-one, inl, inr}
+use Rattle.std.proofs.Common.{◌≡◌, ◌∙◌, ◌+◌, ◌<◌, ◌++◌, ℕ, true, not, suc, is_some, List, [], ◌∷◌, Option, Some, None, Result, Ok, Err, length, map, fold, take, drop, get_or, refl, sym, ap, subst, drop-cons, add-one, inl, inr}
 use Rattle.std.specs.Borrow.{Bor}
 use Rattle.std.proofs.lemmas.List.{take_more, map-append}
 use Rattle.matchit.specs.Route.{Scan, parse_route}
@@ -8,6 +8,7 @@ use Rattle.matchit.specs.declared.error.InsertError.{InsertError}
 use Rattle.matchit.specs.declared.error.InsertError.TheVariants.{Conflict, InvalidParam, InvalidParamSegment, InvalidCatchAll, OutOfMemory}
 use Rattle.http_requests.specs.Table.{Routes, fits, fits_read, with_read, with_route}
 use Rattle.http_requests.specs.declared.form.Form.{Form}
+use Rattle.http_requests.proofs.Walks.{both}
 
 abbrev Item : Type 0
 Item = Bor (List ℕ) × Form
@@ -41,10 +42,6 @@ more a xs i d inside =
     sym (ap (λ ys. fold with_route a (map plain ys)) (take_more xs i d inside)
     ∙ ap (fold with_route a) (map-append plain (take i xs) (get_or xs i d ∷ []))
     ∙ fold_last a (map plain (take i xs)) (plain (get_or xs i d)))
-
-both : (a b : Bool) → (a && b) ≡ true → (a ≡ true) × (b ≡ true)
-both true b e = (refl, e)
-both false b e = cc
 
 pub fits_here : (rows : Routes) (xs : List Item) (i : ℕ) (d : Item) → i < length xs → fits rows (map plain (drop i xs)) ≡ true
     → (fits_read rows (parse_route (get_or xs i d).0.now) ≡ true) × (fits (with_route rows (plain (get_or xs i d))) (map plain (drop (i + 1) xs)) ≡ true)

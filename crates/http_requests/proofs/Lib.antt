@@ -1,6 +1,7 @@
 pub mod TextFacts
 pub mod Named
 pub mod Walks
+pub mod ShapeFacts
 pub mod RouterLaw
 pub mod Inserts
 pub mod Split
