@@ -18,7 +18,7 @@ fn say_over(rt: &HostRuntime, words: &str, input: &[u8], said: &mut Vec<u8>) -> 
 }
 
 // Of `./office WORDS`, `./office WORDS < FILE`, `./office WORDS <<'END'`, `cat FILE - <<'END' | ./office WORDS` or `cat FILE`:
-// what is run, and the file that its input begins with, or no name where it begins with none.
+// what is run, with a `| tail -n +N` behind it, and the file that its input begins with, or no name where it begins with none.
 fn parts_of(command: &str) -> (&str, &str) {
     let file = command.strip_prefix("cat ").unwrap_or("");
     if let Some((file, words)) = file.split_once(" - <<'END' | ") {
@@ -44,11 +44,26 @@ fn input_of(rt: &HostRuntime, file: &str, lines: Option<&str>) -> Result<Vec<u8>
     Ok(input)
 }
 
-// Writes what `./office` or `cat` prints over its file and these lines, and gives its status.
+// Writes the lines of a text from this one on, where the first is 1.
+fn say_tail(text: &str, first: usize, said: &mut Vec<u8>) -> Result<()> {
+    for line in text.lines().skip(first.saturating_sub(1)) {
+        writeln!(said, "{line}")?;
+    }
+    Ok(())
+}
+
+// Writes what `./office` or `cat` prints over its file and these lines, and gives its status. Of `./office WORDS | tail -n +N` it
+// writes the lines from the N-th on, and gives the status of `tail`.
 fn say_run(rt: &HostRuntime, command: &str, lines: Option<&str>, said: &mut Vec<u8>) -> Result<u8> {
     let (words, file) = parts_of(command);
     let input = input_of(rt, file, lines)?;
-    say_over(rt, words, &input, said)
+    let Some((words, first)) = words.split_once(" | tail -n +") else {
+        return say_over(rt, words, &input, said);
+    };
+    let mut whole = Vec::new(rt.alloc());
+    say_over(rt, words, &input, &mut whole)?;
+    say_tail(&String::from_utf8(whole)?, first.parse()?, said)?;
+    Ok(0)
 }
 
 // Writes a text and a line feed to a file, where `TEXT' > FILE` follows `echo '`, and gives the status of that.
