@@ -198,7 +198,7 @@ pub entries_all : (es : List EntryValue) (i : ℕ) → length es ≤ i → first
 unfolding all_name_checks
 entries_all es i all = ap (λ rest. first_fault (all_name_checks (take i es) rest)) (drop_of_length-le es all)
 
-none_of : {X : Type 0} (p : X → Bool) (xs : List X) (x : X) → list_any p xs ≡ false → Contains xs x → p x ≡ false
+pub none_of : {X : Type 0} (p : X → Bool) (xs : List X) (x : X) → list_any p xs ≡ false → Contains xs x → p x ≡ false
 none_of p xs x none at = elim (cases_Bool (p x)) as (λ _. p x ≡ false) [
   | inl yes_here ↦ absurd (false≢true (sym none ∙ list_any_at p xs at.0 x at.1 (ap p at.2 ∙ yes_here)))
   | inr no_here ↦ no_here

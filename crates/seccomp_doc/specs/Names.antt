@@ -1,5 +1,5 @@
 -- What a map from names to actions knows of some entries.
-use Rattle.std.specs.Prelude.{◌≡◌, ℕ, List, true, false, Bool, Option, Some, None}
+use Rattle.std.specs.Prelude.{◌≡◌, ℕ, List, true, false, Bool, not, Option, Some, None, is_some}
 use Rattle.std.specs.BTreeMap.{BTreeMap, get_by}
 use Rattle.std.specs.Cmp.Lexicographic.{slice_cmp}
 use Rattle.std.specs.List.{list_any}
@@ -18,6 +18,10 @@ has_action action e = same_action e.action action
 -- the action under a name
 abbrev pub action_under : BTreeMap (Bor (List ℕ)) Action → List ℕ → Option Action
 action_under m name = get_by (λ k. slice_cmp nat_cmp name k.now) m
+
+-- no action is under the name
+abbrev pub is_unknown : BTreeMap (Bor (List ℕ)) Action → List ℕ → Bool
+is_unknown m name = not (is_some (action_under m name))
 
 -- no entry has the name, or those that have it have this action
 abbrev pub IsActionOf : List EntryValue → List ℕ → Option Action → Type 0
