@@ -113,7 +113,7 @@ fn does_imply(
     Ok(told)
 }
 
-// Whether an entry implies one of a group.
+// Whether an entry implies one of a group. An entry of one name is asked once, and needs no row.
 fn implies_one(
     alloc: Global,
     entry: &Entry,
@@ -124,13 +124,29 @@ fn implies_one(
     ensures row { OnOk result (IsRowOrEmpty entry.now others.now.entries.now row.new.items) }
     ensures told { IfOk result (λ told. told ≡ list_any (entry_implies entry.now) (entries_at others.now.entries.now others.now.places.now)) }
 {
+    if entry.names().len() == 1 {
+        return Ok(implies_some(entry, others.entries, others.places));
+    }
     if row.is_empty() {
         *row = vec![in alloc; None; others.entries.len()]?;
     }
     Ok(implies_any(entry, row.as_mut_slice(), others.entries, others.places))
 }
 
-// Whether an entry implies one of the others at these places.
+// Whether an entry implies one of the others at these places, asked of each.
+fn implies_some(entry: &Entry, others: &[Entry], places: &[usize]) -> bool
+    requires { AreWithin others.now places.now }
+    ensures { result ≡ list_any (entry_implies entry.now) (entries_at others.now places.now) }
+{
+    for place in places {
+        if entry_implies(entry, &others[*place]) {
+            return true;
+        }
+    }
+    false
+}
+
+// Whether an entry implies one of the others at these places, asked where it isn't known.
 fn implies_any(entry: &Entry, row: &mut [Option<bool>], others: &[Entry], places: &[usize]) -> bool
     requires row { IsRow entry.now others.now row.old }
     requires full { length row.old ≡ length others.now }
