@@ -37,9 +37,10 @@ use Rattle.sqlite_wal.specs.Recovery.{Image}
 use Rattle.sqlite_wal.proofs.LogLemmas.{SeenMayStay}
 use Rattle.std.proofs.Math.Logic.{∥∥₁_elim, ∥∥₁_map}
 use Rattle.office_tables.specs.Tables.{Tables}
-use Rattle.office_store.specs.Schema.{office_schema}
+use Rattle.office_store.specs.Schema.{office_schema, old_schema}
 use Rattle.office_store.specs.Shown.{IsOffice, AreOffice, Shows}
-use Rattle.office_store.specs.Reopening.{HoldsOffice}
+use Rattle.office_store.specs.Migration.{IsOldOffice, AreOldOffice, ShowsOld}
+use Rattle.office_store.specs.Reopening.{HoldsOffice, HoldsOldOffice}
 use Rattle.office_store.proofs.Committed.{trees_of}
 
 zipped_one : {A B : Type 0} (R : A → B → Type 0) → ((a : A) (x y : B) → R a x → R a y → x ≡ y) → (rows : List A) (xs ys : List B) → AllZip R rows xs → AllZip R rows ys → xs ≡ ys
@@ -120,17 +121,25 @@ one_schema db s t none a b =
     let views = none_zipped IsViewRow _ s.views t.views none p.views q.views in
     λ i. record { tables = tables i; indexes = indexes i; views = views i }
 
--- a database whose trees are those of an office shows its tables
-reopened : (db : Database) (trees : Trees) (t : Tables) → AreOffice trees t → IsDatabase db → db.trees ≡ trees → IsOffice db t
-reopened db trees t office sound is =
-    let schema = one_schema trees office_schema db.schema refl office.sound (subst (IsSound db.schema) is sound) in
-    subst (λ (d : Database). IsOffice d t) (λ i. record { schema = schema i; trees = sym is i }) office
+-- what is so of trees under a schema is so of a database that has them
+reopened : (schema : Schema) → schema.views ≡ [] → (Is : Database → Type 0) → ((db : Database) → Is db → IsDatabase db) → (db : Database) (trees : Trees) → Is (record { schema = schema; trees = trees }) → IsDatabase db
+    → db.trees ≡ trees → Is db
+reopened schema none Is sound db trees office found is =
+    let same = one_schema trees schema db.schema none (sound _ office) (subst (IsSound db.schema) is found) in
+    subst Is (λ i. record { schema = same i; trees = sym is i }) office
 
 pub opened_shows : (s : State) (t : Tables) → AreOffice s.committed.trees t → Opens s → IsLive s → Shows s t
 opened_shows s t office opens live = record {
   is_open = opens.is_open;
   settled = opens.clean;
-  office = reopened s.now s.committed.trees t office (live opens.is_open).0 (ap (λ (d : Database). d.trees) opens.clean);
+  office = reopened office_schema refl (λ db. IsOffice db t) (λ db o. o.sound) s.now s.committed.trees office (live opens.is_open).0 (ap (λ (d : Database). d.trees) opens.clean);
+}
+
+pub opened_shows_old : (s : State) (t : Tables) → AreOldOffice s.committed.trees t → Opens s → IsLive s → ShowsOld s t
+opened_shows_old s t office opens live = record {
+  is_open = opens.is_open;
+  settled = opens.clean;
+  office = reopened old_schema refl (λ db. IsOldOffice db t) (λ db o. o.sound) s.now s.committed.trees office (live opens.is_open).0 (ap (λ (d : Database). d.trees) opens.clean);
 }
 
 module _ {D : Type 0} {g : Ghosts D} where
@@ -138,6 +147,11 @@ module _ {D : Type 0} {g : Ghosts D} where
   found_shows opened image t holds found opens =
       let same : (file_state opened).committed.trees ≡ holds.trees = ∥∥₁_elim holds.held (Trees-set _ _) (found.holds holds.trees) in
       opened_shows (file_state opened) t (subst (λ trees. AreOffice trees t) (sym same) holds.office) opens.0 opens.1
+
+  pub found_shows_old : (opened : Held (FileStore D g)) (image : Image) (t : Tables) → HoldsOldOffice image t → FindsIn image (file_state opened) → IsOpened opened → ShowsOld (file_state opened) t
+  found_shows_old opened image t holds found opens =
+      let same : (file_state opened).committed.trees ≡ holds.trees = ∥∥₁_elim holds.held (Trees-set _ _) (found.holds holds.trees) in
+      opened_shows_old (file_state opened) t (subst (λ trees. AreOldOffice trees t) (sym same) holds.office) opens.0 opens.1
 
   committed_office : (c : Held (FileStore D g)) (t : Tables) → Shows (file_state c) t → AreOffice (file_state c).committed.trees t
   committed_office c t shows = trees_of (file_state c).now (file_state c).committed.trees t shows.office (ap (λ (d : Database). d.trees) (sym shows.settled))
@@ -168,5 +182,17 @@ module _ {D : Type 0} {g : Ghosts D} where
         sound (inr office) = office.sound
 
         holds : (trees : Trees) → HoldsDatabase left trees → AreOffice trees t ⊎ AreOffice trees u → HoldsOffice left t ⊎ HoldsOffice left u
+        holds trees held (inl office) = inl (record { trees = trees; office = office; held = ∣ held ∣₁ })
+        holds trees held (inr office) = inr (record { trees = trees; office = office; held = ∣ held ∣₁ })
+
+    pub migrated_holds : (t : Tables) → ((trees : Trees) → (file_state c).may_leave trees → AreOldOffice trees t ⊎ AreOffice trees t) → (left : Image) → (files.state c.store).may_leave left
+        → ∥ (HoldsOldOffice left t ⊎ HoldsOffice left t) ∥₁
+    migrated_holds t each left may = ∥∥₁_map (opens_again c.store numbered (λ trees may. sound (each trees may)) left may) (λ it. holds it.0 it.2 (each it.0 it.1))
+      where
+        sound : {trees : Trees} → AreOldOffice trees t ⊎ AreOffice trees t → (schema : Schema) × IsSound schema trees
+        sound (inl office) = (old_schema, office.sound)
+        sound (inr office) = (office_schema, office.sound)
+
+        holds : (trees : Trees) → HoldsDatabase left trees → AreOldOffice trees t ⊎ AreOffice trees t → HoldsOldOffice left t ⊎ HoldsOffice left t
         holds trees held (inl office) = inl (record { trees = trees; office = office; held = ∣ held ∣₁ })
         holds trees held (inr office) = inr (record { trees = trees; office = office; held = ∣ held ∣₁ })

@@ -12,7 +12,8 @@ ghost use Rattle.sqlite.specs.Start.{FindsIn};
 ghost use Rattle.sqlite.specs.State.{Opens, IsLive};
 ghost use Rattle.office_tables.specs.Tables.{Tables};
 ghost use Rattle.office_store.specs.Shown.{Shows, AreOffice};
-ghost use Rattle.office_store.specs.Reopening.{HoldsOffice};
+ghost use Rattle.office_store.specs.Migration.{AreOldOffice, ShowsOld};
+ghost use Rattle.office_store.specs.Reopening.{HoldsOffice, HoldsOldOffice};
 
 use sqlite::{Alter, Connection, FileStore, Files};
 use sqlite_disk::Disk;
@@ -49,4 +50,20 @@ pub fn files_left_by_a_crash_hold_an_office<D: Disk + Drop>(crashed: &Connection
     ensures written { IsTrue (files.view crashed.now.store).is_numbered → (t u : Tables)
         → ((trees : Trees) → (file_state crashed.now).may_leave trees → AreOffice trees t ⊎ AreOffice trees u) → (left : Image)
         → (files.state crashed.now.store).may_leave left → ∥ (HoldsOffice left t ⊎ HoldsOffice left u) ∥₁ }
+{}
+
+/// A connection that has opened files of an office of schema 1 shows its tables under schema 1.
+pub fn an_old_store_that_is_opened_again_is_its_office<D: Disk + Drop>(
+    opened: &Connection<FileStore<D>>,
+)
+    ensures { (image : Image) (t : Tables) → HoldsOldOffice image t → FindsIn image (file_state opened.now) → IsOpened opened.now
+        → ShowsOld (file_state opened.now) t }
+{}
+
+/// What a crash leaves of the files of a store in a migration holds the office under schema 1 or under schema 2. `migrate`
+/// ensures the premise on the trees.
+pub fn files_left_in_a_migration_hold_the_office<D: Disk + Drop>(crashed: &Connection<FileStore<D>>)
+    ensures { IsTrue (files.view crashed.now.store).is_numbered → (t : Tables)
+        → ((trees : Trees) → (file_state crashed.now).may_leave trees → AreOldOffice trees t ⊎ AreOffice trees t) → (left : Image)
+        → (files.state crashed.now.store).may_leave left → ∥ (HoldsOldOffice left t ⊎ HoldsOffice left t) ∥₁ }
 {}
