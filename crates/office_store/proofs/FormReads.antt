@@ -1,5 +1,5 @@
 -- What the test that a store is an office finds in one.
-use Rattle.std.proofs.Common.{inl, inr, ◌≡◌, ◌≢◌, ℕ, ℤ, pos, List, [], ◌∷◌, codes, Ok, Err, Result, Option, IfOk, OnOk, Bool, true, false, refl, ap, ◌∙◌}
+use Rattle.std.proofs.Common.{inl, inr, ◌≡◌, ◌≢◌, ℕ, ℤ, pos, List, [], ◌∷◌, codes, Ok, Err, Result, Option, IfOk, OnOk, Bool, true, false, refl}
 use Rattle.sqlite.specs.declared.types.Value.TheVariants.{Null, Int}
 use Rattle.sqlite.specs.Order.{Row}
 use Rattle.sqlite.specs.Term.{Term, col}
@@ -9,7 +9,6 @@ use Rattle.sqlite.specs.State.{State, QueriesRow, Shown}
 use Rattle.sqlite.proofs.Callers.{first_as, reads_as}
 use Rattle.sqlite_tied.specs.Compute.{everything}
 use Rattle.sqlite.specs.Listing.{understood}
-use Rattle.sqlite_schema.specs.Names.{same_name}
 use Rattle.sqlite_rules.specs.Lists.{Has}
 use Rattle.std.proofs.lemmas.List.Sorted.{IsPermutation-sym}
 use Rattle.office_tables.specs.declared.fault.StoreFault.{StoreFault}
@@ -22,15 +21,11 @@ use Rattle.office_rows.proofs.Rowids.{has_permuted}
 use Rattle.office_rows.proofs.Finding.{finds}
 use Rattle.office_store.specs.declared.form.TheConstants.{OFFICE_ROW}
 use Rattle.office_store.specs.Schema.{office_schema}
-use Rattle.office_store.specs.Form.{has_tables, form_row}
+use Rattle.office_store.specs.Form.{form_row}
 use Rattle.office_store.specs.Reads.{IsFormRow}
 use Rattle.office_store.specs.Shown.{Shows, ShowsIfOpen}
 use Rattle.office_store.proofs.Kept.{still_shows, answered_shows}
 use Rattle.office_store.proofs.OtherReads.{office_columns, one_office}
-
-pub office_has_tables : has_tables office_schema ≡ true
-unfolding same_name
-office_has_tables = refl
 
 abbrev pub columns : List Term
 columns = col 1 0 ∷ col 1 2 ∷ col 1 3 ∷ []
@@ -69,6 +64,3 @@ module _ (old new : State) (t : Tables) (shows : Shows old t) (idle : old.in_tra
   reads_form r h =
       let it = finds _ office_schema OFFICE_ROW.now [] form_means old new shows.office.schema shows.settled idle (IsFormRow t) form_found form_none r h in
       (it.0, it.1, still_shows old new t shows it.2, answered_shows old new t shows it.2 r it.3)
-
-  pub shown_has_tables : has_tables old.now.schema ≡ true
-  shown_has_tables = ap has_tables shows.office.schema ∙ office_has_tables

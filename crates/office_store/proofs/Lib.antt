@@ -21,6 +21,7 @@ pub mod FormReads
 pub mod OldReads
 pub mod MigrationSteps
 pub mod OldFounding
+pub mod Forms
 pub mod Migrating
 pub mod Reopened
 pub mod Calls

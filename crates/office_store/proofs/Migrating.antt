@@ -1,9 +1,8 @@
--- From the row of the office and the statements of a migration to what it leaves.
-use Rattle.std.proofs.Common.{inl, inr, ◌≡◌, ◌≢◌, ℕ, Bool, true, false, Option, None, Some, Result, Ok, Err, IfOk, OnOk, OnErr, IsTrue, [], refl, sym, ap, subst, ◌∙◌, arith}
+-- From the statements of a migration to what it leaves.
+use Rattle.std.proofs.Common.{inl, inr, ◌≡◌, ◌≢◌, ℕ, Bool, false, Result, Ok, Err, OnOk, OnErr, IsTrue, [], refl, sym, ap, subst, ◌∙◌, arith}
 use Rattle.sqlite.specs.declared.error.Error.{Error}
 use Rattle.sqlite.specs.Effect.{Database}
 use Rattle.sqlite.specs.Held.{Held, state}
-use Rattle.sqlite.specs.Order.{Row}
 use Rattle.sqlite.specs.Store.{Ghosts}
 use Rattle.sqlite.specs.State.{State, HasCleanDisk, Survives, Shows as Sees}
 use Rattle.sqlite.specs.Tree.{Trees}
@@ -11,79 +10,22 @@ use Rattle.sqlite.proofs.StateLemmas.{survives_weaker, survives_then}
 use Rattle.office_tables.specs.Tables.{Tables}
 use Rattle.office_tables.specs.declared.fault.StoreFault.{StoreFault}
 use Rattle.office_tables.specs.declared.fault.StoreFault.TheVariants.{NotAnOffice}
-use Rattle.office_rows.specs.Faults.{fault_of_error, FindsRow}
+use Rattle.office_rows.specs.Faults.{fault_of_error}
 use Rattle.office_rows.specs.Queries.{IsAsItWas}
 use Rattle.office_rows.specs.Statements.{begun, RanAll, FailedIn}
-use Rattle.office_rows.specs.Told.{IsTold, TellsRow}
 use Rattle.office_rows.proofs.Transactions.{ran_open}
 use Rattle.office_rows.proofs.Shut.{failed_shut}
-use Rattle.office_store.specs.declared.form.TheConstants.{OFFICE_ROW}
-use Rattle.office_store.specs.declared.migration.Form.{Form}
+use Rattle.office_store.specs.declared.form.Form.{Form}
 use Rattle.office_store.specs.Calls.{IsRead}
 use Rattle.office_store.specs.Shown.{IsIdle, Shows, AreOffice, LeavesOnly, MayLeave}
-use Rattle.office_store.specs.Migration.{IsOldOffice, ShowsOld, ShowsOldIfOpen, AreOldOffice, IsMigration, migration, numbered_row, HasCaps, TellsNumber, old_form, new_form, has_old_tables, FindsForm}
-use Rattle.office_store.proofs.Calls.{never_both, opened, by_open, if_open, Settles, leaves_only, told_ok, told_found, told_formed, told_shut}
+use Rattle.office_store.specs.Migration.{IsOldOffice, ShowsOld, ShowsOldIfOpen, AreOldOffice, IsMigration, migration}
+use Rattle.office_store.proofs.Calls.{never_both, opened, by_open, Settles, leaves_only}
 use Rattle.office_store.proofs.Committed.{trees_of, survives_same}
 use Rattle.office_store.proofs.MigrationSteps.{all_migrated, none_migrated}
-use Rattle.office_store.proofs.OldReads.{IsOldRow, reads_old}
-
--- ---- the row of the office
-
-pub same_new : (listed : ℕ) (form : Form) (row : Row) → row ≡ numbered_row (new_form listed) → row ≡ numbered_row form → form ≡ new_form listed
-same_new listed form row a b = go form.is_old form.listed (sym b ∙ a)
-  where
-    go : (is_old : Bool) (n : ℕ) → numbered_row (record { is_old = is_old; listed = n }) ≡ numbered_row (new_form listed) → ◌≡◌ {A = Form} (record { is_old = is_old; listed = n }) (new_form listed)
-    go true n same = absurd cc
-    go false n same = let k : n ≡ listed = cc in ap new_form k
-
-pub same_old : (listed : ℕ) (form : Form) (row : Row) → row ≡ numbered_row (old_form listed) → row ≡ numbered_row form → form ≡ old_form listed
-same_old listed form row a b = go form.is_old form.listed (sym b ∙ a)
-  where
-    go : (is_old : Bool) (n : ℕ) → numbered_row (record { is_old = is_old; listed = n }) ≡ numbered_row (old_form listed) → ◌≡◌ {A = Form} (record { is_old = is_old; listed = n }) (old_form listed)
-    go false n same = absurd cc
-    go true n same = let k : n ≡ listed = cc in ap old_form k
-
-module _ {Found : Tables → Option Row → Type 0} (old new : State) (row : Result (Option Row) StoreFault) (r : Result Form StoreFault) (read : IsRead old new row Found) (told : IsTold TellsNumber row r)
-    (finds : HasCleanDisk new → FindsRow OFFICE_ROW.now [] old new row) (idle : old.in_transaction ≡ false) (t : Tables) (shows : ShowsOldIfOpen old t) (clean : HasCleanDisk new) where
-  on_open : IsTrue old.is_open → IfOk r (λ form. form ≡ old_form t.listed) × (r ≢ Err NotAnOffice)
-  on_open is_open =
-      let it = reads_old old new t (shows is_open) idle row (finds clean) in
-      (told_found TellsNumber (IsOldRow t) (λ form. form ≡ old_form t.listed) row r told it.0 each, told_formed TellsNumber (IsOldRow t) row r told it.1 it.0 never)
-    where
-      each : (o : Option Row) → IsOldRow t o → (form : Form) → TellsNumber o (Ok form) → form ≡ old_form t.listed
-      each None found form tells = absurd found
-      each (Some w) found form tells = same_old t.listed form w found tells
-
-      never : (o : Option Row) → IsOldRow t o → TellsNumber o (Err NotAnOffice) → ⊥
-      never None found tells = found
-      never (Some w) found (inl memory) = absurd cc
-      never (Some w) found (inr unread) = unread.1 (old_form t.listed) (shows is_open).office.listed found
-
-  pub old_told : IfOk r (λ form. form ≡ old_form t.listed) × (r ≢ Err NotAnOffice)
-  old_told =
-      let answered = told_ok TellsNumber _ row r told (read.leaves.answered clean) in (
-        if_open _ _ r (λ form. form ≡ old_form t.listed) answered (λ is_open. (on_open is_open).0),
-        by_open old.is_open (r ≢ Err NotAnOffice) (λ is_open. (on_open is_open).1) (λ shut. told_shut TellsNumber _ old.is_open row r told (read.leaves.answered clean) shut (read.leaves.shut clean shut).1),
-      )
 
 -- a form has one number
 pub one_number : {P : Type 0} (form : Form) (listed : ℕ) (known other : Bool) → form ≡ record { is_old = known; listed = listed } → form.is_old ≡ other → (known ≡ other → ⊥) → P
 one_number form listed known other is number apart = absurd (apart (sym (ap (λ (f : Form). f.is_old) is) ∙ number))
-
--- what was told as a form is that of the row
-pub found_form : (old mid : State) (form : Form) → TellsRow OFFICE_ROW.now [] old mid TellsNumber (Ok form) → FindsRow OFFICE_ROW.now [] old mid (Ok (Some (numbered_row form)))
-found_form old mid form it = go it.row it.found it.told
-  where
-    go : (row : Result (Option Row) StoreFault) → FindsRow OFFICE_ROW.now [] old mid row → IsTold TellsNumber row (Ok form) → FindsRow OFFICE_ROW.now [] old mid (Ok (Some (numbered_row form)))
-    go (Ok (Some w)) found told = subst (λ (v : Row). FindsRow OFFICE_ROW.now [] old mid (Ok (Some v))) told found
-    go (Ok None) found told = absurd cc
-    go (Err f) found told = absurd cc
-
--- the row is of a form with this number
-pub finds_form : {S : Type 0} (g : Ghosts S) (old mid : Held S) (form known : Form) → has_old_tables (state g old).now.schema ≡ true → HasCaps form → form ≡ known
-    → TellsRow OFFICE_ROW.now [] (state g old) (state g mid) TellsNumber (Ok form) → FindsForm g old mid known
-finds_form g old mid form known tables caps is told =
-    subst (FindsForm g old mid) is (record { tables = tables; caps = caps; row = found_form (state g old) (state g mid) form told })
 
 -- ---- an office of schema 1
 

@@ -22,7 +22,8 @@ use Rattle.office_rows.proofs.Rowids.{has_permuted}
 use Rattle.office_rows.proofs.Finding.{finds}
 use Rattle.office_store.specs.declared.form.TheConstants.{OFFICE_ROW}
 use Rattle.office_store.specs.Schema.{old_schema, office_schema}
-use Rattle.office_store.specs.Migration.{has_old_tables, old_form, numbered_row, ShowsOld}
+use Rattle.office_store.specs.Form.{has_old_tables, old_form, numbered_row}
+use Rattle.office_store.specs.Migration.{ShowsOld}
 use Rattle.office_store.proofs.FormReads.{columns}
 
 pub old_has_tables : has_old_tables old_schema ≡ true

@@ -1,5 +1,5 @@
 -- What is read of the rows that a query found, and why a row isn't read.
-use Rattle.std.proofs.Common.{inl, inr, ◌≡◌, ◌≢◌, ℕ, [], true, Option, None, Some, Result, Ok, Err, IfOk, IfErr, Bool, sym, ap, ◌∙◌, subst}
+use Rattle.std.proofs.Common.{inl, inr, ◌≡◌, ◌≢◌, ℕ, Option, None, Some, Result, Ok, Err, IfErr, Bool, sym, ap, ◌∙◌, subst}
 use Rattle.std.specs.Prelude.{is_some}
 use Rattle.sqlite.specs.Order.{Row}
 use Rattle.sqlite.specs.Reading.{IsReadError}
@@ -9,17 +9,12 @@ use Rattle.sqlite.specs.declared.error.Error.{Error}
 use Rattle.office_tables.specs.declared.fault.StoreFault.{StoreFault}
 use Rattle.office_tables.specs.declared.fault.StoreFault.TheVariants.{NotAnOffice}
 use Rattle.office_tables.specs.Tables.{Tables}
-use Rattle.office_rows.specs.Faults.{fault_of_error, FindsRow}
+use Rattle.office_rows.specs.Faults.{fault_of_error}
 use Rattle.office_rows.specs.Told.{IsOfRow, IsTold, IsUnread, TellsOne, TellsOnly, TellsWhether}
-use Rattle.office_store.specs.declared.form.TheConstants.{OFFICE_ROW}
-use Rattle.office_store.specs.Form.{has_tables, listed_row, form_row, AreCaps, HasForm, HasOfficeRow}
-use Rattle.office_store.specs.Schema.{office_schema}
+use Rattle.office_store.specs.Form.{listed_row}
 use Rattle.office_store.specs.Shown.{Shows}
 use Rattle.office_store.specs.Calls.{IsRead}
 use Rattle.office_store.proofs.Calls.{read_told}
-use Rattle.office_store.proofs.OfficeRow.{shown_row}
-use Rattle.sqlite_value.specs.Order.{column}
-use Rattle.sqlite_rules.proofs.ListLemmas.{contains_had}
 
 pub read_cause : (at : ℕ) (v : Value) (e : Error) → IsReadError at v e → IsOfRow (fault_of_error e)
 read_cause at v e (inl h) = inr (ap fault_of_error h)
@@ -82,29 +77,3 @@ whether_read old new FoundRow Found row r read told finds =
 
 pub same_listed : (n m : ℕ) (row : Row) → row ≡ listed_row n → row ≡ listed_row m → m ≡ n
 same_listed n m row a b = let same : listed_row m ≡ listed_row n = sym b ∙ a in let k : m ≡ n = cc in k
-
-pub same_form : (n m : ℕ) (row : Row) → row ≡ form_row n → row ≡ form_row m → m ≡ n
-same_form n m row a b = let same : form_row m ≡ form_row n = sym b ∙ a in let k : m ≡ n = cc in k
-
--- what was told as listed capabilities is the form of the row
-pub has_form : (old new : State) (found : Result (Option Row) StoreFault) (r : Result ℕ StoreFault) → has_tables old.now.schema ≡ true → FindsRow OFFICE_ROW.now [] old new found
-    → IsTold (TellsOnly form_row AreCaps) found r → IfOk r AreCaps → IfOk r (HasForm old new)
-has_form old new (Ok (Some w)) (Ok listed) tables finds told below =
-    let row = subst (λ (v : Row). FindsRow OFFICE_ROW.now [] old new (Ok (Some v))) told finds in
-    record { tables = tables; below = below; row = row; stands = λ has. stands has row }
-  where
-    stands : old.now.schema ≡ office_schema → FindsRow OFFICE_ROW.now [] old new (Ok (Some (form_row listed))) → HasOfficeRow (old.now.trees 0) listed
-    stands has row =
-        let it = shown_row old new (form_row listed) has row in
-        record {
-          row = it.0;
-          there = contains_had (old.now.trees 0) it.0 it.1;
-          key = sym (ap (λ (r : Row). column r 0) it.2);
-          schema = sym (ap (λ (r : Row). column r 1) it.2);
-          listed_are = sym (ap (λ (r : Row). column r 2) it.2);
-        }
-has_form old new (Ok None) (Ok listed) tables finds told below = absurd cc
-has_form old new (Err f) (Ok listed) tables finds told below = absurd cc
-has_form old new (Ok (Some w)) (Err e) tables finds told below = tt
-has_form old new (Ok None) (Err e) tables finds told below = tt
-has_form old new (Err f) (Err e) tables finds told below = tt

@@ -1,42 +1,28 @@
 -- A store of schema 1, and the statements that make it one of schema 2.
-use Rattle.std.specs.Prelude.{◌≡◌, ◌⊎◌, ◌<◌, ◌^◌, ◌&&◌, cond, Bool, true, false, ℕ, pos, List, [], ◌∷◌, find, option_map, bytes_eq, codes, IsTrue, Option, Some, Result, Ok, Err, OnOk, OnErr}
-use Rattle.std.specs.List.{list_all}
+use Rattle.std.specs.Prelude.{◌≡◌, ◌⊎◌, ◌<◌, ◌^◌, true, false, ℕ, pos, List, [], ◌∷◌, find, option_map, bytes_eq, IsTrue, Result, Err, OnOk, OnErr}
 use Rattle.sqlite.specs.declared.types.Value.TheVariants.{Null, Int}
 use Rattle.sqlite.specs.Order.{Row}
-use Rattle.sqlite.specs.Schema.{Schema}
 use Rattle.sqlite.specs.Effect.{Database, IsDatabase}
 use Rattle.sqlite.specs.Store.{Ghosts}
 use Rattle.sqlite.specs.Held.{Held, state}
 use Rattle.sqlite.specs.State.{State, HasCleanDisk, Survives}
 use Rattle.sqlite_trees.specs.Tree.{Trees}
 use Rattle.review_policy.specs.declared.ask.ProfileName.{ProfileName}
-use Rattle.office_tables.specs.declared.fault.StoreFault.{StoreFault}
 use Rattle.office_tables.specs.declared.fault.StoreFault.TheVariants.{NotAnOffice}
 use Rattle.office_tables.specs.Tables.{Tables}
-use Rattle.office_rows.specs.Faults.{FindsRow}
 use Rattle.office_rows.specs.Queries.{IsAsItWas}
 use Rattle.office_rows.specs.Statements.{Statement, IsCause}
-use Rattle.office_rows.specs.Told.{TellsOnly, TellsRow}
+use Rattle.office_rows.specs.Told.{TellsRow}
 use Rattle.office_store.specs.declared.fault.MigrationFault.{MigrationFault}
 use Rattle.office_store.specs.declared.fault.MigrationFault.TheVariants.{AlreadyMigrated, Store}
 use Rattle.office_store.specs.declared.form.TheConstants.{OFFICE_ROW}
-use Rattle.office_store.specs.declared.migration.Form.{Form}
 use Rattle.office_store.specs.declared.migration.TheConstants.{RENUMBER}
 use Rattle.office_store.specs.declared.schema.TheConstants.{CREATE_HOLDS, CREATE_BY_STATE, CREATE_BY_AUTHOR}
 use Rattle.office_store.specs.Schema.{old_schema}
 use Rattle.office_store.specs.Entries.{is_named, same_revision, revision_key, same_vote}
-use Rattle.office_store.specs.Form.{has_column, AreCaps}
+use Rattle.office_store.specs.Form.{has_old_tables, old_form, new_form, FindsForm, TellsNumber}
 use Rattle.office_store.specs.Shown.{Users, Revisions, Votes, Baselines, IsIdle, Shows, AreOffice, LeavesOnly, LeavesNoMore, MayLeave}
 use Rattle.office_store.specs.Steps.{statement}
-
--- whether the schema has the five tables of schema 1 with their columns
-abbrev pub has_old_tables : Schema → Bool
-has_old_tables schema =
-    list_all (has_column schema (codes "office")) (codes "key" ∷ codes "schema" ∷ codes "listed" ∷ [])
-    && list_all (has_column schema (codes "users")) (codes "name" ∷ codes "team" ∷ codes "roles" ∷ codes "token" ∷ [])
-    && list_all (has_column schema (codes "revisions")) (codes "team" ∷ codes "profile" ∷ codes "number" ∷ codes "author" ∷ codes "state" ∷ codes "body" ∷ codes "digest" ∷ [])
-    && list_all (has_column schema (codes "votes")) (codes "team" ∷ codes "profile" ∷ codes "number" ∷ codes "voter" ∷ codes "approve" ∷ codes "security" ∷ [])
-    && list_all (has_column schema (codes "baselines")) (codes "team" ∷ codes "profile" ∷ codes "number" ∷ [])
 
 -- its key, the number of the schema, and the listed capabilities
 abbrev pub old_office_row : ℕ → Row
@@ -102,39 +88,15 @@ pub record IsMigration {A E : Type 0} (old new : State) (result : Result A E) : 
 abbrev pub migration : Row → List Statement
 migration none = statement CREATE_HOLDS.now none ∷ statement CREATE_BY_STATE.now none ∷ statement CREATE_BY_AUTHOR.now none ∷ statement RENUMBER.now none ∷ []
 
--- the key, the number of the schema, which is 1 or 2, and the listed capabilities, as a query shows them
-abbrev pub numbered_row : Form → Row
-numbered_row form = Int (pos 1) ∷ Int (pos (cond form.is_old 1 2)) ∷ Int (pos form.listed) ∷ []
-
--- no bit but those of capabilities
-abbrev pub HasCaps : Form → Type 0
-HasCaps form = AreCaps form.listed
-
--- what the row of the office says: the number of its schema and its listed capabilities, or that it isn't of its form
-abbrev pub TellsNumber : Option Row → Result Form StoreFault → Type 0
-TellsNumber = TellsOnly numbered_row HasCaps
-
-abbrev pub old_form : ℕ → Form
-old_form listed = record { is_old = true; listed = listed }
-
-abbrev pub new_form : ℕ → Form
-new_form listed = record { is_old = false; listed = listed }
-
--- the five tables are there, and the row of the office is of this form
-pub record FindsForm {S : Type 0} (g : Ghosts S) (old mid : Held S) (form : Form) : Type 0 where
-  pub tables : has_old_tables (state g old).now.schema ≡ true
-  pub caps : HasCaps form
-  pub row : FindsRow OFFICE_ROW.now [] (state g old) (state g mid) (Ok (Some (numbered_row form)))
-
 -- it was an office of schema 1
 abbrev pub WasOld : {S : Type 0} → Ghosts S → Held S → Type 0
-WasOld {S} g old = (mid : Held S) × (listed : ℕ) × FindsForm g old mid (old_form listed)
+WasOld {S} g old = (mid : Held S) × (listed : ℕ) × FindsForm (state g old) (state g mid) (old_form listed)
 
 -- the schema is 2; one of the five tables isn't there; the row of the office isn't found or not of its form; or the schema is
 -- 1, and one of the statements failed or their commit
 abbrev pub FailsToMigrate : {S : Type 0} → Ghosts S → Held S → MigrationFault → Type 0
-FailsToMigrate {S} g old AlreadyMigrated = (mid : Held S) × (listed : ℕ) × FindsForm g old mid (new_form listed)
+FailsToMigrate {S} g old AlreadyMigrated = (mid : Held S) × (listed : ℕ) × FindsForm (state g old) (state g mid) (new_form listed)
 FailsToMigrate {S} g old (Store f) =
     ((has_old_tables (state g old).now.schema ≡ false) × (f ≡ NotAnOffice))
     ⊎ (((has_old_tables (state g old).now.schema ≡ true) × (mid : Held S) × TellsRow OFFICE_ROW.now [] (state g old) (state g mid) TellsNumber (Err f))
-    ⊎ ((mid : Held S) × (listed : ℕ) × FindsForm g old mid (old_form listed) × IsCause g (migration []) mid f))
+    ⊎ ((mid : Held S) × (listed : ℕ) × FindsForm (state g old) (state g mid) (old_form listed) × IsCause g (migration []) mid f))

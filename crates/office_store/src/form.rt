@@ -1,17 +1,21 @@
-//! The test that a store is an office.
+//! The form of an office in a store: its tables and its row.
 
-ghost use Rattle.std.specs.Prelude.{◌≡◌, ◌≢◌, ℕ, List, [], false, true, Err, IfOk, IfErr};
+ghost use Rattle.std.specs.Prelude.{◌≡◌, ◌≢◌, ◌↔◌, [], false, true, Ok, Err, IfOk, IfErr, OnOk};
 ghost use Rattle.std.specs.List.{list_all};
 ghost use Rattle.sqlite.specs.Held.{state};
 ghost use Rattle.sqlite.specs.State.{HasCleanDisk};
 ghost use Rattle.office_rows.specs.Faults.{FindsRow};
-ghost use Rattle.office_rows.specs.Told.{IsOfRow, IsTold};
+ghost use Rattle.office_rows.specs.Told.{IsOfRow, IsTold, TellsRow};
+ghost use Rattle.office_tables.specs.Tables.{Tables};
+ghost use Rattle.office_store.specs.declared.form.Form.{Form as FormValue};
 ghost use Rattle.office_store.specs.Calls.{IsRead};
-ghost use Rattle.office_store.specs.Form.{has_column, has_tables, form_row, AreCaps, HasForm, TellsForm, TellsOfficeRow};
+ghost use Rattle.office_store.specs.Form.{has_column, has_old_tables, has_holds, has_indexes, added_by, old_form, new_form, numbered_row, opening_of, as_store, HasCaps, HasForm, IsOldOrFailure, TellsNumber, TellsOpening};
+ghost use Rattle.office_store.specs.Migration.{ShowsOld, ShowsOldIfOpen};
 ghost use Rattle.office_store.specs.Reads.{IsFormRow};
 ghost use Rattle.office_store.specs.Shown.{IsIdle};
 
 use crate::column::{caps_at, number_at};
+use crate::fault::OpeningFault;
 use cap_sets::Caps;
 use office_rows::first_row;
 use office_tables::StoreFault;
@@ -33,8 +37,8 @@ fn has_column(schema: &Schema, table: &str, column: &str) -> bool
     }
 }
 
-/// Whether the schema has a table of this name with each of the columns.
-pub(crate) fn has_columns(schema: &Schema, table: &str, columns: &[&str]) -> bool
+// Whether the schema has a table of this name with each of the columns.
+fn has_columns(schema: &Schema, table: &str, columns: &[&str]) -> bool
     ensures { result ≡ list_all (λ column. has_column schema.now table.now column.now) columns.now }
 {
     columns
@@ -42,9 +46,9 @@ pub(crate) fn has_columns(schema: &Schema, table: &str, columns: &[&str]) -> boo
         .all(|column| has_column(schema, table, column))
 }
 
-// Whether the schema has the six tables with their columns.
-fn has_tables(schema: &Schema) -> bool
-    ensures { result ≡ has_tables schema.now }
+/// Whether the schema has the five tables of schema 1 with their columns.
+pub(crate) fn has_old_tables(schema: &Schema) -> bool
+    ensures { result ≡ has_old_tables schema.now }
 {
     has_columns(schema, "office", &["key", "schema", "listed"])
         && has_columns(schema, "users", &["name", "team", "roles", "token"])
@@ -61,34 +65,83 @@ fn has_tables(schema: &Schema) -> bool
             &["team", "profile", "number", "voter", "approve", "security"],
         )
         && has_columns(schema, "baselines", &["team", "profile", "number"])
-        && has_columns(schema, "holds", &["team", "profile"])
 }
 
-// The listed capabilities of a row that is of the form of the office's.
-fn read_form(row: &Row) -> Result<Caps, StoreFault>
-    ensures form { IfOk result (λ listed. AreCaps listed × (row.now ≡ form_row listed)) }
-    ensures formed { (listed : ℕ) → AreCaps listed → row.now ≡ form_row listed → result ≢ Err StoreFault.NotAnOffice }
+// Whether the schema has the table of held profiles with its columns.
+fn has_holds(schema: &Schema) -> bool
+    ensures { result ≡ has_holds schema.now }
+{
+    has_columns(schema, "holds", &["team", "profile"])
+}
+
+// Whether the schema has indexes with the names of the two of an office.
+fn has_indexes(schema: &Schema) -> bool
+    ensures { result ≡ has_indexes schema.now }
+{
+    schema.index_named(b"revisions_by_state").is_some()
+        && schema.index_named(b"revisions_by_author").is_some()
+}
+
+// What the schema lacks of what schema 2 adds to the five tables.
+fn check_added(schema: &Schema) -> Result<(), OpeningFault>
+    ensures { result ≡ added_by schema.now }
+{
+    if !has_holds(schema) {
+        return Err(OpeningFault::Store(StoreFault::NotAnOffice));
+    }
+    if !has_indexes(schema) {
+        return Err(OpeningFault::NoIndex);
+    }
+    Ok(())
+}
+
+/// What the row of the office says: whether its schema is 1, where it is else 2, and the listed capabilities.
+#[derive(Clone, Copy)]
+pub(crate) struct Form {
+    pub(crate) is_old: bool,
+    pub(crate) listed: Caps,
+}
+
+// Whether a number is 1, where it is else 2.
+fn is_first(number: u32) -> Result<bool, StoreFault>
+    ensures first { result ≡ Ok true ↔ number ≡ 1 }
+    ensures second { result ≡ Ok false ↔ number ≡ 2 }
+    ensures cause { IfErr result (λ fault. fault ≡ StoreFault.NotAnOffice) }
+{
+    match number {
+        1 => Ok(true),
+        2 => Ok(false),
+        _ => Err(StoreFault::NotAnOffice),
+    }
+}
+
+// The form of a row that is of the office's.
+fn read_number(row: &Row) -> Result<Form, StoreFault>
+    ensures form { IfOk result (λ form. HasCaps form × (row.now ≡ numbered_row form)) }
+    ensures formed { (form : FormValue) → HasCaps form → row.now ≡ numbered_row form → result ≢ Err StoreFault.NotAnOffice }
     ensures cause { IfErr result IsOfRow }
 {
-    if row.column_count() != 3 || number_at(row, 0)? != 1 || number_at(row, 1)? != 2 {
+    if row.column_count() != 3 || number_at(row, 0)? != 1 {
         return Err(StoreFault::NotAnOffice);
     }
-    caps_at(row, 2)
+    let is_old = is_first(number_at(row, 1)?)?;
+    let listed = caps_at(row, 2)?;
+    Ok(Form { is_old, listed })
 }
 
-// The listed capabilities of the row that a query found.
-fn form_of(found: Result<Option<Row>, StoreFault>) -> Result<Caps, StoreFault>
-    ensures told { IsTold TellsForm found result }
-    ensures below { IfOk result AreCaps }
+// The form of the row that a query found.
+fn number_of(found: Result<Option<Row>, StoreFault>) -> Result<Form, StoreFault>
+    ensures told { IsTold TellsNumber found result }
+    ensures caps { IfOk result HasCaps }
 {
     match found? {
-        Some(row) => read_form(&row),
+        Some(row) => read_number(&row),
         None => Err(StoreFault::NotAnOffice),
     }
 }
 
-/// The row of the office.
-pub(crate) fn office_form<S: Alter>(conn: &mut Connection<S>) -> Result<Option<Row>, StoreFault>
+// The row of the office.
+fn office_form<S: Alter>(conn: &mut Connection<S>) -> Result<Option<Row>, StoreFault>
     requires { IsIdle (state S.Store conn.old) }
     ensures read { IsRead (state S.Store conn.old) (state S.Store conn.new) result (λ t row. IsFormRow t row) }
     ensures row { HasCleanDisk (state S.Store conn.new) → FindsRow OFFICE_ROW.now [] (state S.Store conn.old) (state S.Store conn.new) result }
@@ -96,19 +149,59 @@ pub(crate) fn office_form<S: Alter>(conn: &mut Connection<S>) -> Result<Option<R
     first_row(conn, OFFICE_ROW, &[])
 }
 
-/// The listed capabilities of the office that a store is: it has the six tables, each with its columns, and its office's
-/// row has key 1, schema 2 and no bit but those of capabilities. Any other store is [`StoreFault::NotAnOffice`].
-pub fn check_office<S: Alter>(conn: &mut Connection<S>) -> Result<Caps, StoreFault>
+/// The form of the office's row.
+pub(crate) fn office_number<S: Alter>(conn: &mut Connection<S>) -> Result<Form, StoreFault>
     requires { IsIdle (state S.Store conn.old) }
-    ensures read { has_tables (state S.Store conn.old).now.schema ≡ true → IsRead (state S.Store conn.old) (state S.Store conn.new) result (λ t listed. listed ≡ t.listed) }
-    ensures foreign { has_tables (state S.Store conn.old).now.schema ≡ false → (result ≡ Err StoreFault.NotAnOffice) × (conn.new ≡ conn.old) }
+    ensures read { IsRead (state S.Store conn.old) (state S.Store conn.new) result (λ t form. form ≡ new_form t.listed) }
+    ensures old { (t : Tables) → ShowsOldIfOpen (state S.Store conn.old) t → HasCleanDisk (state S.Store conn.new)
+        → IfOk result (λ form. form ≡ old_form t.listed) × (result ≢ Err StoreFault.NotAnOffice) }
+    ensures told { HasCleanDisk (state S.Store conn.new) → TellsRow OFFICE_ROW.now [] (state S.Store conn.old) (state S.Store conn.new) TellsNumber result }
+    ensures caps { IfOk result HasCaps }
+{
+    number_of(office_form(conn))
+}
+
+// The listed capabilities of an office that is opened, by the form of its row, and by what its schema lacks.
+fn opened(
+    form: Result<Form, StoreFault>,
+    added: Result<(), OpeningFault>,
+) -> Result<Caps, OpeningFault>
+    ensures { result ≡ opening_of added form }
+{
+    match form {
+        Ok(form) if form.is_old => Err(OpeningFault::OldSchema),
+        Ok(form) => match added {
+            Ok(()) => Ok(form.listed),
+            Err(fault) => Err(fault),
+        },
+        Err(fault) => Err(OpeningFault::Store(fault)),
+    }
+}
+
+/// The listed capabilities of the office of schema 2 that a store is: it has the six tables, each with its columns, and its
+/// office's row has key 1, schema 2 and no bit but those of capabilities.
+///
+/// # Errors
+///
+/// `NotAnOffice` unless the five tables of schema 1 are there with their columns, and the office's row is of its form, with
+/// schema 1 or 2; then `OldSchema` where that is 1; then `NotAnOffice` where the table of held profiles isn't there with its
+/// columns; then `NoIndex` where one of the two indexes isn't there; else the fault of the store.
+pub fn check_office<S: Alter>(conn: &mut Connection<S>) -> Result<Caps, OpeningFault>
+    requires { IsIdle (state S.Store conn.old) }
+    ensures read { has_old_tables (state S.Store conn.old).now.schema ≡ true
+        → IsRead (state S.Store conn.old) (state S.Store conn.new) (as_store result) (λ t listed. listed ≡ t.listed) }
+    ensures foreign { has_old_tables (state S.Store conn.old).now.schema ≡ false
+        → (result ≡ Err (OpeningFault.Store StoreFault.NotAnOffice)) × (conn.new ≡ conn.old) }
     ensures form { HasCleanDisk (state S.Store conn.new) → IfOk result (HasForm (state S.Store conn.old) (state S.Store conn.new)) }
-    ensures told { has_tables (state S.Store conn.old).now.schema ≡ true → HasCleanDisk (state S.Store conn.new)
-        → TellsOfficeRow (state S.Store conn.old) (state S.Store conn.new) result }
+    ensures told { has_old_tables (state S.Store conn.old).now.schema ≡ true → HasCleanDisk (state S.Store conn.new)
+        → TellsOpening (state S.Store conn.old) (state S.Store conn.new) result }
+    ensures old { (t : Tables) → ShowsOld (state S.Store conn.old) t → HasCleanDisk (state S.Store conn.new)
+        → OnOk result ⊥ × IfErr result IsOldOrFailure }
     ensures idle { IsIdle (state S.Store conn.new) }
 {
-    if !has_tables(conn.schema()) {
-        return Err(StoreFault::NotAnOffice);
+    if !has_old_tables(conn.schema()) {
+        return Err(OpeningFault::Store(StoreFault::NotAnOffice));
     }
-    form_of(office_form(conn))
+    let added = check_added(conn.schema());
+    opened(office_number(conn), added)
 }

@@ -23,7 +23,7 @@ mod write;
 
 pub use author::{authors, is_author};
 pub use baselines::{Adopted, baseline, put_baseline};
-pub use fault::{FoundingFault, MigrationFault};
+pub use fault::{FoundingFault, MigrationFault, OpeningFault};
 pub use form::check_office;
 pub use founding::found;
 pub use holds::{delete_hold, held, put_hold};

@@ -1,106 +1,23 @@
 //! The migration of an office of schema 1, which holds no profile and has no index.
 
-ghost use Rattle.std.specs.Prelude.{◌≡◌, ◌≢◌, ◌↔◌, false, true, Ok, Err, IfErr, IfOk, IsTrue, OnOk, OnErr, []};
+ghost use Rattle.std.specs.Prelude.{◌≡◌, ◌≢◌, false, Err, IfErr, IsTrue, OnOk, OnErr, []};
 ghost use Rattle.sqlite.specs.Effect.{Database};
 ghost use Rattle.sqlite.specs.Held.{state};
 ghost use Rattle.sqlite.specs.State.{HasCleanDisk, Survives, Shows as Sees};
 ghost use Rattle.office_rows.specs.Statements.{begun, RanAll, FailedIn, IsCause};
-ghost use Rattle.office_rows.specs.Told.{IsTold, IsOfRow, TellsRow};
 ghost use Rattle.office_tables.specs.Tables.{Tables};
-ghost use Rattle.office_store.specs.declared.migration.Form.{Form as FormValue};
-ghost use Rattle.office_store.specs.Calls.{IsRead};
+ghost use Rattle.office_store.specs.Form.{has_old_tables};
 ghost use Rattle.office_store.specs.Shown.{IsIdle, Shows, ShowsIfOpen};
-ghost use Rattle.office_store.specs.Migration.{has_old_tables, migration, old_form, new_form, numbered_row, HasCaps, TellsNumber, ShowsOld, ShowsOldIfOpen, IsMigration, WasOld, FailsToMigrate};
+ghost use Rattle.office_store.specs.Migration.{migration, ShowsOld, ShowsOldIfOpen, IsMigration, WasOld, FailsToMigrate};
 
-use crate::column::{caps_at, number_at};
 use crate::fault::MigrationFault;
-use crate::form::{OFFICE_ROW, has_columns, office_form};
+use crate::form::{has_old_tables, office_number};
 use crate::schema::{CREATE_BY_AUTHOR, CREATE_BY_STATE, CREATE_HOLDS};
-use cap_sets::Caps;
 use office_rows::{Statement, fault_of_error, run_all};
 use office_tables::StoreFault;
-use sqlite::{Alter, Connection, Error, Row};
-use sqlite_schema::schema::Schema;
+use sqlite::{Alter, Connection, Error};
 
 pub(crate) const RENUMBER: &str = "UPDATE office SET schema = 2";
-
-// Whether the schema has the five tables of schema 1 with their columns.
-fn has_old_tables(schema: &Schema) -> bool
-    ensures { result ≡ has_old_tables schema.now }
-{
-    has_columns(schema, "office", &["key", "schema", "listed"])
-        && has_columns(schema, "users", &["name", "team", "roles", "token"])
-        && has_columns(
-            schema,
-            "revisions",
-            &[
-                "team", "profile", "number", "author", "state", "body", "digest",
-            ],
-        )
-        && has_columns(
-            schema,
-            "votes",
-            &["team", "profile", "number", "voter", "approve", "security"],
-        )
-        && has_columns(schema, "baselines", &["team", "profile", "number"])
-}
-
-/// What the row of the office says: whether its schema is 1, where it is else 2, and the listed capabilities.
-#[derive(Clone, Copy)]
-struct Form {
-    is_old: bool,
-    listed: Caps,
-}
-
-// Whether a number is 1, where it is else 2.
-fn is_first(number: u32) -> Result<bool, StoreFault>
-    ensures first { result ≡ Ok true ↔ number ≡ 1 }
-    ensures second { result ≡ Ok false ↔ number ≡ 2 }
-    ensures cause { IfErr result (λ fault. fault ≡ StoreFault.NotAnOffice) }
-{
-    match number {
-        1 => Ok(true),
-        2 => Ok(false),
-        _ => Err(StoreFault::NotAnOffice),
-    }
-}
-
-// The form of a row that is of the office's.
-fn read_number(row: &Row) -> Result<Form, StoreFault>
-    ensures form { IfOk result (λ form. HasCaps form × (row.now ≡ numbered_row form)) }
-    ensures formed { (form : FormValue) → HasCaps form → row.now ≡ numbered_row form → result ≢ Err StoreFault.NotAnOffice }
-    ensures cause { IfErr result IsOfRow }
-{
-    if row.column_count() != 3 || number_at(row, 0)? != 1 {
-        return Err(StoreFault::NotAnOffice);
-    }
-    let is_old = is_first(number_at(row, 1)?)?;
-    let listed = caps_at(row, 2)?;
-    Ok(Form { is_old, listed })
-}
-
-// The form of the row that a query found.
-fn number_of(found: Result<Option<Row>, StoreFault>) -> Result<Form, StoreFault>
-    ensures told { IsTold TellsNumber found result }
-    ensures caps { IfOk result HasCaps }
-{
-    match found? {
-        Some(row) => read_number(&row),
-        None => Err(StoreFault::NotAnOffice),
-    }
-}
-
-// The form of the office's row.
-fn office_number<S: Alter>(conn: &mut Connection<S>) -> Result<Form, StoreFault>
-    requires { IsIdle (state S.Store conn.old) }
-    ensures read { IsRead (state S.Store conn.old) (state S.Store conn.new) result (λ t form. form ≡ new_form t.listed) }
-    ensures old { (t : Tables) → ShowsOldIfOpen (state S.Store conn.old) t → HasCleanDisk (state S.Store conn.new)
-        → IfOk result (λ form. form ≡ old_form t.listed) × (result ≢ Err StoreFault.NotAnOffice) }
-    ensures told { HasCleanDisk (state S.Store conn.new) → TellsRow OFFICE_ROW.now [] (state S.Store conn.old) (state S.Store conn.new) TellsNumber result }
-    ensures caps { IfOk result HasCaps }
-{
-    number_of(office_form(conn))
-}
 
 // Makes the table of held profiles, the indexes and the number of schema 2 in one transaction.
 fn run_migration<S: Alter>(conn: &mut Connection<S>) -> Result<(), Error>

@@ -1,9 +1,10 @@
 use Rattle.std.proofs.Common.{inl, inr, rules, ◌≡◌, true, false, true≢false, Ok, Err, sym, ap, ◌∙◌}
 use Rattle.sqlite.specs.Held.{state}
 use Rattle.office_tables.specs.declared.fault.StoreFault.TheVariants.{NotAnOffice}
-use Rattle.office_store.specs.Migration.{has_old_tables, old_form, new_form}
+use Rattle.office_store.specs.Form.{has_old_tables, old_form, new_form}
 use Rattle.office_store.proofs.OldReads.{shown_has_old_tables, office_has_old_tables}
-use Rattle.office_store.proofs.Migrating.{only_asked, asked_then, finds_form, one_number, old_again}
+use Rattle.office_store.proofs.Forms.{finds_form}
+use Rattle.office_store.proofs.Migrating.{only_asked, asked_then, one_number, old_again}
 use Rattle.office_store.proofs.migration.migrate.Goals as goal
 
 pub returns-then-not-has_old_tables-clause-old : goal.returns-then-not-has_old_tables-clause-old
@@ -41,7 +42,7 @@ returns-then-not-form-clause-cause g c clean =
     let number : c.in-Ok.form.is_old ≡ false = search rules in (
       c.office_number.new.conn,
       c.in-Ok.form.listed,
-      finds_form g.S.Store c.args.conn.now c.office_number.new.conn c.in-Ok.form (new_form c.in-Ok.form.listed) tables c.in-Ok.ensures.caps (λ i. record { is_old = number i; listed = c.in-Ok.form.listed }) (c.in-Ok.ensures.told clean),
+      finds_form (state g.S.Store c.args.conn.now) (state g.S.Store c.office_number.new.conn) c.in-Ok.form (new_form c.in-Ok.form.listed) tables c.in-Ok.ensures.caps (λ i. record { is_old = number i; listed = c.in-Ok.form.listed }) (c.in-Ok.ensures.told clean),
     )
 
 pub returns-in-Ok-move_office-clause-migration : goal.returns-in-Ok-move_office-clause-migration
@@ -56,7 +57,7 @@ returns-in-Ok-move_office-clause-was g c clean =
     let before = c.move_office.ensures.migration.clean clean in (
       c.office_number.new.conn,
       c.in-Ok.form.listed,
-      finds_form g.S.Store c.args.conn.now c.office_number.new.conn c.in-Ok.form (old_form c.in-Ok.form.listed) tables c.in-Ok.ensures.caps (λ i. record { is_old = number i; listed = c.in-Ok.form.listed }) (c.in-Ok.ensures.told before),
+      finds_form (state g.S.Store c.args.conn.now) (state g.S.Store c.office_number.new.conn) c.in-Ok.form (old_form c.in-Ok.form.listed) tables c.in-Ok.ensures.caps (λ i. record { is_old = number i; listed = c.in-Ok.form.listed }) (c.in-Ok.ensures.told before),
     )
 
 pub returns-in-Err-move_office-clause-migration : goal.returns-in-Err-move_office-clause-migration
@@ -73,7 +74,7 @@ returns-in-Err-move_office-clause-cause g c clean =
     (inr (
       c.office_number.new.conn,
       c.in-Ok.form.listed,
-      finds_form g.S.Store c.args.conn.now c.office_number.new.conn c.in-Ok.form (old_form c.in-Ok.form.listed) tables c.in-Ok.ensures.caps (λ i. record { is_old = number i; listed = c.in-Ok.form.listed }) (c.in-Ok.ensures.told before),
+      finds_form (state g.S.Store c.args.conn.now) (state g.S.Store c.office_number.new.conn) c.in-Ok.form (old_form c.in-Ok.form.listed) tables c.in-Ok.ensures.caps (λ i. record { is_old = number i; listed = c.in-Ok.form.listed }) (c.in-Ok.ensures.told before),
       c.in-Err-move_office.ensures.cause clean,
     ))
 

@@ -1,8 +1,8 @@
 use Rattle.sqlite.specs.Held.{state}
-use Rattle.office_store.specs.Migration.{numbered_row, HasCaps, new_form}
+use Rattle.office_store.specs.Form.{numbered_row, HasCaps, new_form}
 use Rattle.office_store.proofs.Told.{only_read}
-use Rattle.office_store.proofs.Migrating.{same_new, old_told}
-use Rattle.office_store.proofs.migration.office_number.Goals as goal
+use Rattle.office_store.proofs.Forms.{same_new, old_told}
+use Rattle.office_store.proofs.form.office_number.Goals as goal
 
 pub returns-clause-read : goal.returns-clause-read
 returns-clause-read g c =
