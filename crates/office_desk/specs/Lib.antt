@@ -3,6 +3,7 @@ pub mod Told
 pub mod Carries
 pub mod AtOnce
 pub mod Meant
+pub mod Opened
 pub mod Compared
 pub mod Issuing
 pub mod Looked

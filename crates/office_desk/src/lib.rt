@@ -13,6 +13,7 @@ mod grouping;
 mod hold;
 mod issue;
 mod list;
+pub mod migrated;
 mod need;
 mod office;
 mod reading;

@@ -7,7 +7,7 @@ use crate::carry_out::carry_out;
 use crate::forms::{founding_forms, request_forms};
 use cap_sets::Caps;
 use office_policy::Handler;
-use office_store::{FoundingFault, check_office, found};
+use office_store::{FoundingFault, OpeningFault, check_office, found};
 use office_tables::StoreFault;
 use review_policy::{Answer, Request, Word};
 use sqlite::{Alter, Connection};
@@ -38,16 +38,19 @@ impl<S: Alter> Office<S> {
     ghost use Rattle.sqlite.specs.Held.{state};
     ghost use Rattle.sqlite.specs.State.{HasCleanDisk};
     ghost use Rattle.office_rows.specs.Queries.{IsAsItWas};
-    ghost use Rattle.office_store.specs.Form.{HasForm, TellsOfficeRow, has_tables};
+    ghost use Rattle.office_store.specs.Form.{HasForm, IsFailure, IsOldOrFailure, TellsOpening, has_old_tables};
     ghost use Rattle.office_store.specs.Founding.{has_table, IsForeign, first_user, FailsToFound};
+    ghost use Rattle.office_store.specs.Migration.{ShowsOld};
     ghost use Rattle.office_store.specs.Schema.{no_schema};
     ghost use Rattle.office_store.specs.Shown.{IsIdle, Shows, AreOffice, LeavesNoMore, MayLeave};
     ghost use Rattle.office_policy.specs.History.{History, founded};
     ghost use Rattle.office_policy.specs.Lawful.{IsLawfulHistory};
     ghost use Rattle.office_policy.specs.TablesOf.{tables_of};
     ghost use Rattle.office_policy.specs.Handled.{Stands};
+    ghost use Rattle.office_tables.specs.Tables.{Tables};
     ghost use Rattle.office_desk.specs.Offices.{IsOffice};
     ghost use Rattle.office_desk.specs.Meant.{meaning_over};
+    ghost use Rattle.office_desk.specs.Opened.{IsOver};
 
     /// Founds an office in an empty store, with its first user, who is a registrar and shows the token of this digest, and
     /// with the listed capabilities: a document that holds one of them needs two approvals.
@@ -89,27 +92,30 @@ impl<S: Alter> Office<S> {
         }
     }
 
-    /// The office that a store has: it has the six tables, each with its columns, and its office's row has its form.
+    /// The office that a store has: it has the six tables, each with its columns, and the two indexes, and its office's row has
+    /// its form.
     ///
     /// # Errors
     ///
-    /// `NotAnOffice` where it isn't one; else the fault of the store. The connection is handed back, with what it had where
-    /// it is still open.
-    pub fn over(conn: Connection<S>) -> Result<Office<S>, (StoreFault, Connection<S>)>
+    /// `NotAnOffice` where it isn't one; `OldSchema` where it is one of schema 1; `NoIndex` where it lacks an index; else the
+    /// fault of the store. The connection is handed back, with what it had where it is still open.
+    pub fn over(conn: Connection<S>) -> Result<Office<S>, (OpeningFault, Connection<S>)>
         requires { IsIdle (state S.Store conn) }
         ensures form { IfOk result (λ office. HasCleanDisk (state S.Store office)
             → (listed : ℕ) × HasForm (state S.Store conn) (state S.Store office) listed) }
         ensures office { (h : History) → IsLawfulHistory h → Shows (state S.Store conn) (tables_of h)
             → IfOk result (λ office. IsOffice h (state S.Store office)) }
-        ensures stands { (h : History) → IsLawfulHistory h → Shows (state S.Store conn) (tables_of h)
-            → IfOk result (λ office. HasCleanDisk (state S.Store office) → Stands (meaning_over S.Store) h office) }
-        ensures foreign { has_tables (state S.Store conn).now.schema ≡ false
-            → IfErr result (λ refusal. refusal.0 ≡ StoreFault.NotAnOffice) }
-        ensures told { has_tables (state S.Store conn).now.schema ≡ true
+        ensures over { IfOk result (IsOver S.Store conn) }
+        ensures foreign { has_old_tables (state S.Store conn).now.schema ≡ false
+            → IfErr result (λ refusal. refusal.0 ≡ OpeningFault.Store StoreFault.NotAnOffice) }
+        ensures told { has_old_tables (state S.Store conn).now.schema ≡ true
             → IfErr result (λ refusal. HasCleanDisk (state S.Store refusal.1)
-            → TellsOfficeRow (state S.Store conn) (state S.Store refusal.1) (Err refusal.0)) }
+            → TellsOpening (state S.Store conn) (state S.Store refusal.1) (Err refusal.0)) }
         ensures known { (h : History) → IsLawfulHistory h → Shows (state S.Store conn) (tables_of h)
-            → IfErr result (λ refusal. HasCleanDisk (state S.Store refusal.1) → refusal.0 ≢ StoreFault.NotAnOffice) }
+            → IfErr result (λ refusal. HasCleanDisk (state S.Store refusal.1) → IsFailure refusal.0) }
+        ensures unopened { (t : Tables) → ShowsOld (state S.Store conn) t → IfOk result (λ office. HasCleanDisk (state S.Store office) → ⊥) }
+        ensures old { (t : Tables) → ShowsOld (state S.Store conn) t
+            → IfErr result (λ refusal. HasCleanDisk (state S.Store refusal.1) → IsOldOrFailure refusal.0) }
         ensures same { (state S.Store conn).now ≡ (state S.Store conn).committed
             → IfErr result (λ refusal. HasCleanDisk (state S.Store refusal.1) → IsAsItWas (state S.Store conn) (state S.Store refusal.1)) }
         ensures idle { IfErr result (λ refusal. IsIdle (state S.Store refusal.1)) }
