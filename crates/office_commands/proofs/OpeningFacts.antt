@@ -1,41 +1,29 @@
 -- An office at a path: what is known of it as it is opened, served and closed.
-use Rattle.std.proofs.Common.{inl, inr, ◌≡◌, ◌⊎◌, ◌∙◌, ℕ, false, Result, Ok, Err, subst, sym}
+use Rattle.std.proofs.Common.{inr, Result, Ok, Err, subst, sym}
 use Rattle.std.specs.Prelude.{OnOk}
 use Rattle.sqlite.specs.Held.{Held, state}
 use Rattle.sqlite.specs.State.{HasCleanDisk}
 use Rattle.sqlite.specs.Store.{Ghosts}
-use Rattle.sqlite.proofs.StateLemmas.{clean_if_open}
-use Rattle.office_rows.proofs.Queries.{row_left}
-use Rattle.office_store.specs.Form.{form_row, HasForm}
 use Rattle.office_store.specs.Shown.{Shows}
-use Rattle.office_store.proofs.Queries.{office_row}
-use Rattle.office_policy.specs.Handled.{Stands}
-use Rattle.office_policy.specs.History.{History}
-use Rattle.office_policy.specs.Lawful.{IsLawfulHistory}
 use Rattle.office_policy.specs.TablesOf.{tables_of}
-use Rattle.office_desk.specs.Meant.{meaning_over}
+use Rattle.office_desk.specs.Opened.{IsOver}
 use Rattle.office_commands.specs.declared.fault.CommandFault.{CommandFault}
 use Rattle.office_commands.specs.declared.founding.Founding.{Founding}
 use Rattle.office_commands.specs.declared.founding_fault.FoundingWordsFault.{FoundingWordsFault}
 use Rattle.office_commands.specs.Foundings.{IsFoundedIn, WasFounded}
-use Rattle.office_commands.specs.Openings.{IsFirstOf, IsOpenedOffice, IsServed, IsUnlimited, WasServed}
+use Rattle.office_commands.specs.Openings.{IsFirstOf, IsOpenedOffice, IsServed, IsUnlimited}
 
 module _ {S : Type 0} (g : Ghosts S) (Opened : Held S → Type 0) where
-  pub opened_office : (conn office : Held S) → ((g.view conn.store).is_clean ≡ false → (g.view conn.store).is_open ≡ false)
-      → IsUnlimited Opened conn
-      → (HasCleanDisk (state g office) → (listed : ℕ) × HasForm (state g conn) (state g office) listed)
-      → ((h : History) → IsLawfulHistory h → Shows (state g conn) (tables_of h) → HasCleanDisk (state g office) → Stands (meaning_over g) h office)
-      → IsOpenedOffice g Opened office
-  opened_office conn office law unlimited form stands = record {
+  pub opened_office : (conn office : Held S) → IsUnlimited Opened conn → IsOver g conn office → IsOpenedOffice g Opened office
+  opened_office conn office unlimited over = record {
     was = unlimited.0;
     opened = unlimited.1;
-    clean = λ clean.
-        let it = form clean in
-        let kept = row_left _ office_row _ (state g conn) (state g office) (form_row it.0) it.1.row in
-        subst (λ (x : Held S). HasCleanDisk (state g x)) unlimited.2 (clean_if_open (g.view conn.store) law kept.0.was_open);
-    stands = λ h lawful shows clean.
-        stands h lawful (subst (λ (x : Held S). Shows (state g x) (tables_of h)) (sym unlimited.2)
-        (record { is_open = shows.is_open; settled = shows.settled; office = shows.office })) clean;
+    over = record {
+      clean = λ clean. subst (λ (x : Held S). HasCleanDisk (state g x)) unlimited.2 (over.clean clean);
+      stands = λ h lawful shows clean.
+          over.stands h lawful (subst (λ (x : Held S). Shows (state g x) (tables_of h)) (sym unlimited.2)
+          (record { is_open = shows.is_open; settled = shows.settled; office = shows.office })) clean;
+    };
   }
 
   module _ (Done Begun : (old new : Held S) → Type 0) (Closed : Held S → Type 0) where

@@ -1,5 +1,5 @@
 -- What the databases in the files of a host are known by, and what a command leaves in them.
-use Rattle.std.specs.Prelude.{List, Ok}
+use Rattle.std.specs.Prelude.{Ok}
 use Rattle.sqlite_disk.specs.declared.Disk as disk
 use Rattle.sqlite_disk.specs.declared.Files.{Files}
 use Rattle.sqlite_wal.specs.Files.{outcomes}
@@ -14,7 +14,7 @@ use Rattle.sqlite.specs.State.{HasCleanDisk}
 use Rattle.desk.specs.Outcomes.{history_after_lines}
 use Rattle.desk.specs.Stands.{HasHandled}
 use Rattle.desk_http.specs.Exchanged.{requests_in, answers_in}
-use Rattle.office_store.specs.Reopening.{HoldsOffice}
+use Rattle.office_store.specs.Reopening.{HoldsOffice, HoldsOldOffice}
 use Rattle.office_policy.specs.History.{History}
 use Rattle.office_policy.specs.Lawful.{IsLawfulHistory}
 use Rattle.office_policy.specs.Runs.{history_after_all}
@@ -22,6 +22,7 @@ use Rattle.office_policy.specs.TablesOf.{tables_of}
 use Rattle.office_desk.specs.Meant.{meaning_over}
 use Rattle.office_commands.specs.declared.founding.Founding.{Founding}
 use Rattle.office_commands.specs.Foundings.{WasFounded, history_of}
+use Rattle.office_commands.specs.Migrations.{WasMigrated}
 use Rattle.office_commands.specs.Openings.{WasServed}
 use Rattle.office_commands.specs.Serving.{HasServedUpTo}
 
@@ -56,3 +57,8 @@ module _ {D : Type 0} (g : disk.Ghosts D) where
   ExchangesAreLeft = (h : History) (image : Image) (most : _) → IsLawfulHistory h → HoldsOffice image (tables_of h)
       → (it : WasServed (over_files {g = g}) (IsFoundIn image) (λ old new. HasServedUpTo (meaning_over over_files) old new most) IsClosedInto)
       → HoldHistory g it.closed.0 (history_after_all h (requests_in it.done.1.came) (answers_in it.done.1.came))
+
+  -- where files hold, under schema 1, the tables of a history, `migrate` leaves files that hold the office of that history
+  abbrev pub MigrationIsLeft : Type 0
+  MigrationIsLeft = (h : History) (image : Image) → HoldsOldOffice image (tables_of h)
+      → (it : WasMigrated (over_files {g = g}) (IsFoundIn image) IsClosedInto) → HoldHistory g it.closed.0 h

@@ -1,18 +1,12 @@
 -- What is opened at a path, and why it isn't.
-use Rattle.std.specs.Prelude.{◌≡◌, ◌⊎◌, List, None, Option, Result, Ok, Err}
-use Rattle.sqlite.specs.Held.{Held, state}
-use Rattle.sqlite.specs.State.{HasCleanDisk}
+use Rattle.std.specs.Prelude.{◌≡◌, ◌⊎◌, None, Result, Ok, Err}
+use Rattle.sqlite.specs.Held.{Held}
 use Rattle.sqlite.specs.Store.{Ghosts}
 use Rattle.sqlite.specs.declared.error.Error.{Error}
 use Rattle.sqlite.specs.declared.error.Error.TheVariants as error
 use Rattle.sqlite.specs.declared.error.ErrorCode.TheVariants as code
 use Rattle.office_rows.specs.Faults.{fault_of_error}
-use Rattle.office_store.specs.Shown.{Shows}
-use Rattle.office_policy.specs.Handled.{Stands}
-use Rattle.office_policy.specs.History.{History}
-use Rattle.office_policy.specs.Lawful.{IsLawfulHistory}
-use Rattle.office_policy.specs.TablesOf.{tables_of}
-use Rattle.office_desk.specs.Meant.{meaning_over}
+use Rattle.office_desk.specs.Opened.{IsOver}
 use Rattle.office_commands.specs.declared.fault.CommandFault.{CommandFault}
 use Rattle.office_commands.specs.declared.fault.CommandFault.TheVariants as fault
 use Rattle.office_tables.specs.declared.fault.StoreFault.{StoreFault}
@@ -23,24 +17,22 @@ abbrev pub fault_of_opening : Error → StoreFault
 fault_of_opening (error.SqliteFailure code.NotADatabase) = NotAnOffice
 fault_of_opening e = fault_of_error e
 
--- a fault of the store
-abbrev pub IsOfStore : CommandFault → Type 0
-IsOfStore (fault.Store why) = Unit {0}
-IsOfStore _ = ⊥
+-- what is at a path can't be opened, or is no office of this schema
+abbrev pub IsOfOpening : CommandFault → Type 0
+IsOfOpening (fault.Store why) = Unit {0}
+IsOfOpening (fault.Opening why) = Unit {0}
+IsOfOpening _ = ⊥
 
 -- a database was opened, of which this is known, and then its limit on steps was taken away
 abbrev pub IsUnlimited : {S : Type 0} → (Held S → Type 0) → Held S → Type 0
 IsUnlimited {S} Opened conn = (was : Held S) × Opened was × (conn ≡ record was { step_limit = None })
 
 module _ {S : Type 0} (g : Ghosts S) (Opened : Held S → Type 0) where
-  -- The office of a database that was opened, of which this is known: where that showed the tables of a lawful history, the
-  -- office stands, and is of this history.
+  -- the office over a database that was opened, of which this is known
   pub record IsOpenedOffice (office : Held S) : Type 0 where
     pub was : Held S
     pub opened : Opened was
-    pub clean : HasCleanDisk (state g office) → HasCleanDisk (state g was)
-    pub stands : (h : History) → IsLawfulHistory h → Shows (state g was) (tables_of h) → HasCleanDisk (state g office)
-        → Stands (meaning_over g) h office
+    pub over : IsOver g was office
 
   -- such an office was opened, this was done with it, and it was closed, of which this is known
   pub record WasServed (Done : (old new : Held S) → Type 0) (Closed : Held S → Type 0) : Type 0 where
@@ -54,7 +46,7 @@ module _ {S : Type 0} (g : Ghosts S) (Opened : Held S → Type 0) where
   abbrev pub IsServed : (Done Begun : (old new : Held S) → Type 0) (Closed : Held S → Type 0)
       → Result (Unit {0}) CommandFault → Type 0
   IsServed Done Begun Closed (Ok done) = WasServed Done Closed
-  IsServed Done Begun Closed (Err why) = IsOfStore why ⊎ WasServed Begun (λ _. Unit {0})
+  IsServed Done Begun Closed (Err why) = IsOfOpening why ⊎ WasServed Begun (λ _. Unit {0})
 
 -- of serving and then closing the first fault is told
 abbrev pub IsFirstOf : (served closed result : Result (Unit {0}) CommandFault) → Type 0

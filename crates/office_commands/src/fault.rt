@@ -2,7 +2,7 @@
 
 use crate::founding_fault::FoundingWordsFault;
 use desk::DeskFault;
-use office_store::{FoundingFault, MigrationFault};
+use office_store::{FoundingFault, MigrationFault, OpeningFault};
 use office_tables::StoreFault;
 use profile_commands::{ComparedFault, ExecutionFault, FileFault};
 use thiserror::Error;
@@ -31,9 +31,12 @@ pub enum CommandFault {
     /// An office wasn't migrated.
     #[error("{0}")]
     Migration(#[from] MigrationFault),
-    /// What stands at a path can't be opened, or is no office.
+    /// What stands at a path can't be opened.
     #[error("{0}")]
     Store(#[from] StoreFault),
+    /// What was opened at a path is no office of this schema.
+    #[error("{0}")]
+    Opening(#[from] OpeningFault),
     /// An office can't be closed.
     #[error("disk")]
     Close,

@@ -3,7 +3,7 @@
 ghost use Rattle.std.specs.Prelude.{◌≡◌, IfErr, IfOk, OnOk};
 ghost use Rattle.sqlite.specs.Held.{state};
 ghost use Rattle.office_store.specs.Shown.{IsIdle};
-ghost use Rattle.office_commands.specs.Openings.{fault_of_opening, IsFirstOf, IsOfStore, IsOpenedOffice, IsUnlimited};
+ghost use Rattle.office_commands.specs.Openings.{fault_of_opening, IsFirstOf, IsOfOpening, IsOpenedOffice, IsUnlimited};
 
 use crate::databases::Databases;
 use crate::fault::CommandFault;
@@ -84,14 +84,14 @@ pub(crate) fn database_at<F: Files, S: Alter + Drop, D: Databases<Database = Con
 ///
 /// # Errors
 ///
-/// As of [`database_at`], and where it is no office of this schema.
+/// As of [`database_at`], and as [`Office::over`] refuses it.
 pub(crate) fn office_at<F: Files, S: Alter + Drop, D: Databases<Database = Connection<S>>>(
     files: &F,
     databases: &D,
     path: &str,
 ) -> Result<Office<S>, CommandFault>
     ensures opened { IfOk result (IsOpenedOffice S.Store (D.opened path.now)) }
-    ensures store { IfErr result IsOfStore }
+    ensures fault { IfErr result IsOfOpening }
 {
     let conn = match database_at(files, databases, path) {
         Ok(conn) => conn,
@@ -102,7 +102,7 @@ pub(crate) fn office_at<F: Files, S: Alter + Drop, D: Databases<Database = Conne
         Err((fault, conn)) => {
             // Why it is no office is told, and not whether this closed.
             let _ = databases.close(conn);
-            Err(CommandFault::Store(fault))
+            Err(CommandFault::Opening(fault))
         }
     }
 }

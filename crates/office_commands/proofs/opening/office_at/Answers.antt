@@ -2,6 +2,4 @@ use Rattle.office_commands.proofs.OpeningFacts.{opened_office}
 use Rattle.office_commands.proofs.opening.office_at.Goals as goal
 
 pub returns-in-Ok-over-clause-opened : goal.returns-in-Ok-over-clause-opened
-returns-in-Ok-over-clause-opened g c =
-    opened_office g.S.Store (g.D.Databases.opened c.args.path.now) c.in-Ok.conn c.in-Ok-over.office
-    (g.met.S.Store.shut_if_dirty c.in-Ok.conn.store) c.in-Ok.ensures.opened c.in-Ok-over.ensures.form c.in-Ok-over.ensures.stands
+returns-in-Ok-over-clause-opened g c = opened_office g.S.Store (g.D.Databases.opened c.args.path.now) c.in-Ok.conn c.in-Ok-over.office c.in-Ok.ensures.opened c.in-Ok-over.ensures.over

@@ -4,7 +4,7 @@ use Rattle.office_commands.proofs.ServingFacts.{served_all, served_up_to}
 use Rattle.office_commands.proofs.serve.serve_http.Goals as goal
 
 pub returns-in-Err : goal.returns-in-Err
-returns-in-Err g c = inl c.in-Err.ensures.store
+returns-in-Err g c = inl c.in-Err.ensures.fault
 
 pub returns : goal.returns
 returns g c =

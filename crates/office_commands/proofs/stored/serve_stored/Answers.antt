@@ -3,7 +3,7 @@ use Rattle.office_commands.proofs.OpeningFacts.{with_lines, was_served}
 use Rattle.office_commands.proofs.stored.serve_stored.Goals as goal
 
 pub returns-in-Err : goal.returns-in-Err
-returns-in-Err g c = inl c.in-Err.ensures.store
+returns-in-Err g c = inl c.in-Err.ensures.fault
 
 pub returns : goal.returns
 returns g c =
