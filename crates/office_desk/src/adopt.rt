@@ -20,7 +20,9 @@ use std::alloc::Global;
 
 // What the rules ask of a caller.
 fn facts_of_caller(caller: &UserRow) -> AdoptFacts
-    ensures { result ≡ record PASSING { role_missing = not (holds_role (Some caller.now) Role.Security) } }
+    ensures { result ≡ record PASSING {
+      role_missing = not (holds_role (Some caller.now) Role.Security);
+    } }
 {
     AdoptFacts {
         role_missing: !caller.roles.has(Role::Security),

@@ -60,7 +60,9 @@ fn look_up<S: Alter>(
 
 // What the rules ask of a caller.
 fn facts_of_caller(caller: &UserRow) -> IssueFacts
-    ensures { result ≡ record PASSING { role_missing = not (holds_role (Some caller.now) Role.Issuer) } }
+    ensures { result ≡ record PASSING {
+      role_missing = not (holds_role (Some caller.now) Role.Issuer);
+    } }
 {
     IssueFacts {
         role_missing: !caller.roles.has(Role::Issuer),

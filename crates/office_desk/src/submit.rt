@@ -82,7 +82,8 @@ fn next_revision(
     text: Text,
 ) -> Result<RevisionRow, AllocError>
     requires { number_of last.now < max_revisions }
-    ensures { IfOk result (λ row. row ≡ submitted (suc (number_of last.now)) caller.now.name text (digest_of text)) }
+    ensures { IfOk result (λ row. row
+        ≡ submitted (suc (number_of last.now)) caller.now.name text (digest_of text)) }
 {
     Ok(RevisionRow {
         number: number_of(last) + 1,

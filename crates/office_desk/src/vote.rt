@@ -20,7 +20,9 @@ use std::alloc::Global;
 
 // What the rules ask of a caller.
 fn facts_of_caller(caller: &UserRow) -> VoteFacts
-    ensures { result ≡ record PASSING { role_missing = not (holds_role (Some caller.now) Role.Reviewer) } }
+    ensures { result ≡ record PASSING {
+      role_missing = not (holds_role (Some caller.now) Role.Reviewer);
+    } }
 {
     VoteFacts {
         role_missing: !caller.roles.has(Role::Reviewer),
