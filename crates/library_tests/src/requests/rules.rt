@@ -1,19 +1,15 @@
 // Rules by facts that no conversation brings about.
 
 use review_policy::{
-    Denial, IssueFacts, Need, Rule, State, SubmitFacts, decide_issue, decide_submit, need,
+    Denial, IssueFacts, Need, Rule, SubmitFacts, decide_issue, decide_submit, need,
 };
 use std::alloc::AllocError;
 
 // What is decided of a submission where the last revision has this number.
 fn submit_after(revisions: u32) -> Result<(), Denial> {
     decide_submit(&SubmitFacts {
-        caller_unknown: false,
-        role_missing: false,
-        other_team: false,
-        document: false,
-        same_as_open: false,
         revisions,
+        ..SubmitFacts::PASSING
     })
 }
 
@@ -45,15 +41,11 @@ fn push_told(told: &mut String, decision: Result<(), Denial>) -> Result<(), Allo
 // What is decided of an issue by so many votes.
 fn issue_by(need: Need, rejections: u64, approvals: u64, secure: u64) -> Result<(), Denial> {
     decide_issue(&IssueFacts {
-        caller_unknown: false,
-        role_missing: false,
-        state: Some(State::Open),
-        author_issues: false,
         rejections,
         approvals,
         secure,
         need,
-        held: false,
+        ..IssueFacts::PASSING
     })
 }
 
