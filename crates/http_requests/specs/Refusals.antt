@@ -6,7 +6,7 @@ use Rattle.http_requests.specs.declared.refusal.Refusal.TheVariants.{HeadTooLong
 use Rattle.http_requests.specs.declared.status.Status.{Status}
 use Rattle.http_requests.specs.declared.status.Status.TheVariants.{BadRequest, NotFound, MethodNotAllowed, PayloadTooLarge}
 
--- the status that tells a refusal
+-- the status of a refusal
 abbrev pub refused_status : Refusal → Status
 -- a set of fields, or a request line, that is longer than the server reads (5.4, and 3 of RFC 9112)
 refused_status HeadTooLong = BadRequest

@@ -40,11 +40,11 @@ type_of (answers.Done r) = type_of_reply r
 type_of (answers.Denied denial fault) = Json
 type_of (answers.Fault fault) = Json
 
--- the response with this status that tells an answer
+-- the response with this status that reports an answer
 abbrev pub response_with : Status → Answer → List ℕ
 response_with status answer = message_of status (type_of answer) (body_of answer)
 
--- the response that tells an answer, with its status
+-- the response that reports an answer, with its status
 abbrev pub response_to : Answer → List ℕ
 response_to answer = response_with (status_of answer) answer
 

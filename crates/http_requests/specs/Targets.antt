@@ -74,15 +74,19 @@ route_with OfTeam team profile number = team_route team
 route_with (OfProfile act) team profile number = profile_route act team profile
 route_with (OfRevision act) team profile number = revision_route act team profile number
 
+-- the route of a form, with the parts of this path that stand at team, profile and number
+abbrev pub route_at : List ℕ → Form → Option Route
+route_at path form = route_with form (part_at path 2) (part_at path 3) (part_at path 4)
+
 -- what a path names: it has a route, and team, profile and number are its own parts
 abbrev pub route_of : List ℕ → Option Route
-route_of path =
-    option_and_then (λ form. route_with form (part_at path 2) (part_at path 3) (part_at path 4)) (form_of path)
+route_of path = option_and_then (route_at path) (form_of path)
 
 -- the route, where the method is its own
 abbrev pub with_method : List ℕ → Route → Result Route Refusal
 with_method method route =
-    if bytes_eq method (method_text (method_of route)) then Ok route else Err (WrongMethod (method_of route))
+    if bytes_eq method (method_text (method_of route)) then Ok route
+    else Err (WrongMethod (method_of route))
 
 -- the answer to a method and a path
 abbrev pub answer_of : List ℕ → Option Route → Result Route Refusal
