@@ -1,6 +1,7 @@
 -- The commands of the program, as clap reads them.
-use Rattle.std.specs.Prelude.{[], ◌∷◌, List, codes, true}
-use Rattle.clap.specs.Words.{App, Shape, new_app}
+use Rattle.std.specs.Prelude.{[], ◌∷◌, List, Option, String, codes, map, string_bytes, true}
+use Rattle.std.specs.declared.alloc.Global.{Global}
+use Rattle.clap.specs.Words.{App, Kinds, Row, Shape, Text, fault_of, new_app, subcommand_of}
 use Rattle.command_line.specs.Parts.{flag_rule, needed_rule, number_rule, option_rule, several_rule, with_commands, with_rules, with_version}
 
 -- `check FILE`
@@ -15,12 +16,14 @@ execve_app = with_rules (new_app (codes "execve")) (needed_rule (codes "file")
 
 -- `compare BASE NEW`
 abbrev pub compare_app : App
-compare_app = with_rules (new_app (codes "compare")) (needed_rule (codes "base") ∷ needed_rule (codes "new") ∷ [])
+compare_app = with_rules (new_app (codes "compare")) (needed_rule (codes "base")
+    ∷ needed_rule (codes "new") ∷ [])
 
 -- `init DB NAME TEAM DIGEST [CAP]...`
 abbrev pub init_app : App
-init_app = with_rules (new_app (codes "init")) (needed_rule (codes "database") ∷ needed_rule (codes "name")
-    ∷ needed_rule (codes "team") ∷ needed_rule (codes "digest") ∷ several_rule (codes "capability") ∷ [])
+init_app = with_rules (new_app (codes "init")) (needed_rule (codes "database")
+    ∷ needed_rule (codes "name") ∷ needed_rule (codes "team") ∷ needed_rule (codes "digest")
+    ∷ several_rule (codes "capability") ∷ [])
 
 -- `desk DB`
 abbrev pub desk_app : App
@@ -38,8 +41,17 @@ migrate_app = with_rules (new_app (codes "migrate")) (needed_rule (codes "databa
 
 -- the commands, in the order of the help
 abbrev pub commands : List Shape
-commands = check_app.top ∷ execve_app.top ∷ compare_app.top ∷ init_app.top ∷ desk_app.top ∷ serve_app.top ∷ migrate_app.top ∷ []
+commands = check_app.top ∷ execve_app.top ∷ compare_app.top ∷ init_app.top
+    ∷ desk_app.top ∷ serve_app.top ∷ migrate_app.top ∷ []
 
 -- `office`, with its version and its commands
 unfoldable pub office_app : App
 office_app = with_commands (with_version (new_app (codes "office"))) commands
+
+-- the subcommand that clap finds in the words of a command line, with the rows of its values
+abbrev pub found_in : List (String Global) → Option (Text × List Row)
+found_in words = subcommand_of office_app (map string_bytes words)
+
+-- what clap answers in place of a command
+abbrev pub faults_in : List (String Global) → Kinds
+faults_in words = fault_of office_app (map string_bytes words)

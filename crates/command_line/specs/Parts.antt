@@ -1,6 +1,6 @@
 -- What commands are made of, as clap reads it.
 use Rattle.std.specs.Prelude.{◌≡◌, ◌∷◌, ◌++◌, [], ℕ, Bool, List, Some, false, true, map}
-use Rattle.clap.specs.Words.{App, Rule, Shape, new_rule, rule_of, shape_of, with_rule, with_subcommand}
+use Rattle.clap.specs.Words.{App, Rule, Shape, new_app, new_rule, rule_of, shape_of, with_rule, with_subcommand}
 use Rattle.clap.specs.declared.builder.action.ArgAction.TheVariants.{Append, SetTrue}
 use Rattle.clap.specs.declared.builder.arg.Arg.{Arg}
 use Rattle.clap.specs.declared.builder.command.Command.{Command}
@@ -51,10 +51,15 @@ rule_in id (Several shown) = several_rule id
 rule_in id Flag = flag_rule id
 rule_in id (Valued shown) = option_rule id
 rule_in id (Number shown low high) = record (number_rule id low high) { required = true }
-rule_in id (NumberOr shown low high default) = record (number_rule id low high) { defaults = default.now ∷ [] }
+rule_in id (NumberOr shown low high default) =
+    record (number_rule id low high) { defaults = default.now ∷ [] }
 
 abbrev pub rule_for : Parameter → Rule
 rule_for parameter = rule_in parameter.id.now parameter.form
+
+-- the command of this name with these arguments
+abbrev pub app_of_parts : List ℕ → List Parameter → App
+app_of_parts name parameters = with_rules (new_app name) (map rule_for parameters)
 
 -- what clap reads of an argument, and whether it is one of the commands below too
 abbrev pub part_of : Arg → Rule × Bool

@@ -15,7 +15,7 @@ status_of (Version text) = 0
 status_of (Refused text) = 2
 status_of NoMemory = 1
 
--- what is told of an error of clap's by its kind; want of memory may stand in place of its text
+-- what is reported of an error of clap's by its kind; out of memory may stand in place of its text
 abbrev pub IsTold : ErrorKind → WordsFault → Type 0
 IsTold kind (Help text) = kind ≡ DisplayHelp
 IsTold kind (Version text) = kind ≡ DisplayVersion
@@ -44,9 +44,10 @@ AsksForVersion kinds = IsAmong DisplayVersion kinds
 
 -- a mistake is among clap's answers to the words
 abbrev pub HasMistake : Kinds → Type 0
-HasMistake kinds = (kind : ErrorKind) × IsAmong kind kinds × (kind ≢ DisplayHelp) × (kind ≢ DisplayVersion)
+HasMistake kinds =
+    (kind : ErrorKind) × IsAmong kind kinds × (kind ≢ DisplayHelp) × (kind ≢ DisplayVersion)
 
--- the words ask for help, for the version, or for no command; or memory was wanted
+-- the words ask for help, for the version, or for no command; or it is out of memory
 abbrev pub IsRefused : Kinds → Option (Text × List Row) → WordsFault → Type 0
 IsRefused kinds found (Help text) = AsksForHelp kinds
 IsRefused kinds found (Version text) = AsksForVersion kinds

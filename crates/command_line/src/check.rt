@@ -1,9 +1,9 @@
 //! The command `check`.
 
 ghost use Rattle.std.specs.Prelude.{◌≡◌, IfOk, IfSome, IfNone, None, false, codes};
-ghost use Rattle.clap.specs.Words.{first_of, found_of, rows_of};
+ghost use Rattle.clap.specs.Words.{first_of};
 ghost use Rattle.command_line.specs.Commands.{check_app};
-ghost use Rattle.command_line.specs.Meaning.{AsksFor};
+ghost use Rattle.command_line.specs.Meaning.{AsksFor, values_of};
 ghost use Rattle.command_line.specs.Parts.{AddsCommand};
 
 use crate::command::Command;
@@ -40,8 +40,8 @@ pub(crate) fn add_check<'a>(
 
 /// What `check` asks for with these values; none without FILE.
 pub(crate) fn check_of<'w>(given: &ArgMatches<'w>) -> Option<Command<'w>>
-    ensures command { IfSome result (AsksFor (codes "check") (rows_of (found_of given.now))) }
-    ensures lacking { IfNone result (first_of (codes "file") (rows_of (found_of given.now)) ≡ None) }
+    ensures command { IfSome result (AsksFor (codes "check") (values_of given.now)) }
+    ensures lacking { IfNone result (first_of (codes "file") (values_of given.now) ≡ None) }
 {
     let file = given.get_str("file")?;
     Some(Command::Check { file })

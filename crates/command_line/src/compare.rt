@@ -1,9 +1,8 @@
 //! The command `compare`.
 
 ghost use Rattle.std.specs.Prelude.{◌≡◌, IfOk, IfSome, IfNone, false, codes};
-ghost use Rattle.clap.specs.Words.{found_of, rows_of};
 ghost use Rattle.command_line.specs.Commands.{compare_app};
-ghost use Rattle.command_line.specs.Meaning.{AsksFor};
+ghost use Rattle.command_line.specs.Meaning.{AsksFor, values_of};
 ghost use Rattle.command_line.specs.Parts.{AddsCommand};
 ghost use Rattle.command_line.specs.Refusals.{NoneAskedFor};
 
@@ -48,8 +47,8 @@ pub(crate) fn add_compare<'a>(
 
 /// What `compare` asks for with these values; none without BASE and NEW.
 pub(crate) fn compare_of<'w>(given: &ArgMatches<'w>) -> Option<Command<'w>>
-    ensures command { IfSome result (AsksFor (codes "compare") (rows_of (found_of given.now))) }
-    ensures lacking { IfNone result (NoneAskedFor (codes "compare") (rows_of (found_of given.now))) }
+    ensures command { IfSome result (AsksFor (codes "compare") (values_of given.now)) }
+    ensures lacking { IfNone result (NoneAskedFor (codes "compare") (values_of given.now)) }
 {
     let base = given.get_str("base")?;
     let new = given.get_str("new")?;

@@ -1,9 +1,9 @@
 //! The command `desk`.
 
 ghost use Rattle.std.specs.Prelude.{◌≡◌, IfOk, IfSome, IfNone, None, false, codes};
-ghost use Rattle.clap.specs.Words.{first_of, found_of, rows_of};
+ghost use Rattle.clap.specs.Words.{first_of};
 ghost use Rattle.command_line.specs.Commands.{desk_app};
-ghost use Rattle.command_line.specs.Meaning.{AsksFor};
+ghost use Rattle.command_line.specs.Meaning.{AsksFor, values_of};
 ghost use Rattle.command_line.specs.Parts.{AddsCommand};
 
 use crate::command::Command;
@@ -40,8 +40,8 @@ pub(crate) fn add_desk<'a>(
 
 /// What `desk` asks for with these values; none without DB.
 pub(crate) fn desk_of<'w>(given: &ArgMatches<'w>) -> Option<Command<'w>>
-    ensures command { IfSome result (AsksFor (codes "desk") (rows_of (found_of given.now))) }
-    ensures lacking { IfNone result (first_of (codes "database") (rows_of (found_of given.now)) ≡ None) }
+    ensures command { IfSome result (AsksFor (codes "desk") (values_of given.now)) }
+    ensures lacking { IfNone result (first_of (codes "database") (values_of given.now) ≡ None) }
 {
     let database = given.get_str("database")?;
     Some(Command::Desk { database })

@@ -1,9 +1,9 @@
 //! The command `execve`.
 
 ghost use Rattle.std.specs.Prelude.{◌≡◌, IfOk, IfSome, IfNone, None, false, codes};
-ghost use Rattle.clap.specs.Words.{first_of, found_of, rows_of};
+ghost use Rattle.clap.specs.Words.{first_of};
 ghost use Rattle.command_line.specs.Commands.{execve_app};
-ghost use Rattle.command_line.specs.Meaning.{AsksFor};
+ghost use Rattle.command_line.specs.Meaning.{AsksFor, values_of};
 ghost use Rattle.command_line.specs.Parts.{AddsCommand};
 
 use crate::command::{Command, ExecveWords};
@@ -67,8 +67,8 @@ pub(crate) fn add_execve<'a>(
 
 /// What `execve` asks for with these values; none without FILE.
 pub(crate) fn execve_of<'w>(given: &ArgMatches<'w>) -> Option<Command<'w>>
-    ensures command { IfSome result (AsksFor (codes "execve") (rows_of (found_of given.now))) }
-    ensures lacking { IfNone result (first_of (codes "file") (rows_of (found_of given.now)) ≡ None) }
+    ensures command { IfSome result (AsksFor (codes "execve") (values_of given.now)) }
+    ensures lacking { IfNone result (first_of (codes "file") (values_of given.now) ≡ None) }
 {
     let file = given.get_str("file")?;
     let root = given.get_flag("root");

@@ -26,7 +26,7 @@ impl WordsFault {
     ghost use Rattle.clap.specs.Words.{kind_of};
     ghost use Rattle.command_line.specs.Refusals.{IsTold, status_of};
 
-    /// The status that the program ends with: 0 after help and the version, 2 after words that are refused, 1 for want of memory.
+    /// The status that the program ends with: 0 after help and the version, 2 after words that are refused, 1 where it is out of memory.
     pub fn status(&self) -> u8
         ensures { result ≡ status_of self.now }
     {

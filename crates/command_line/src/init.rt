@@ -1,9 +1,9 @@
 //! The command `init`.
 
 ghost use Rattle.std.specs.Prelude.{◌≡◌, [], IfOk, IfSome, IfNone, false, codes, map, unwrap_or};
-ghost use Rattle.clap.specs.Words.{all_of, found_of, rows_of};
+ghost use Rattle.clap.specs.Words.{all_of};
 ghost use Rattle.command_line.specs.Commands.{init_app};
-ghost use Rattle.command_line.specs.Meaning.{AsksFor};
+ghost use Rattle.command_line.specs.Meaning.{AsksFor, values_of};
 ghost use Rattle.command_line.specs.Parts.{AddsCommand};
 ghost use Rattle.command_line.specs.Refusals.{NoneAskedFor};
 
@@ -65,7 +65,7 @@ pub(crate) fn add_init<'a>(
 // Each CAP, in order.
 fn capabilities_of<'w>(alloc: Global, given: &ArgMatches<'w>) -> Result<Vec<&'w str>, AllocError>
     ensures { IfOk result (λ found. map (λ s. s.now) found.items
-        ≡ unwrap_or (all_of (codes "capability") (rows_of (found_of given.now))) []) }
+        ≡ unwrap_or (all_of (codes "capability") (values_of given.now)) []) }
 {
     match given.get_strs("capability") {
         Some(found) => Vec::from_slice(alloc, found),
@@ -78,8 +78,10 @@ pub(crate) fn init_of<'w>(
     alloc: Global,
     given: &ArgMatches<'w>,
 ) -> Result<Option<Command<'w>>, AllocError>
-    ensures command { IfOk result (λ asked. IfSome asked (AsksFor (codes "init") (rows_of (found_of given.now)))) }
-    ensures lacking { IfOk result (λ asked. IfNone asked (NoneAskedFor (codes "init") (rows_of (found_of given.now)))) }
+    ensures command { IfOk result (λ asked.
+        IfSome asked (AsksFor (codes "init") (values_of given.now))) }
+    ensures lacking { IfOk result (λ asked.
+        IfNone asked (NoneAskedFor (codes "init") (values_of given.now))) }
 {
     let Some(database) = given.get_str("database") else {
         return Ok(None);

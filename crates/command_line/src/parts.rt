@@ -1,8 +1,7 @@
 //! What commands are made of.
 
 ghost use Rattle.std.specs.Prelude.{◌≡◌, IfOk, map};
-ghost use Rattle.clap.specs.Words.{new_app};
-ghost use Rattle.command_line.specs.Parts.{AddsCommand, part_for, part_of, rule_for, with_rules};
+ghost use Rattle.command_line.specs.Parts.{AddsCommand, app_of_parts, part_for, part_of};
 
 use clap::builder::ValueParser;
 use clap::{Arg, ArgAction, Command};
@@ -94,7 +93,8 @@ pub(crate) fn add_command<'a>(
     examples: &'a str,
     parameters: &[Parameter<'a>],
 ) -> Result<(), AllocError>
-    ensures { IfOk result (λ _. AddsCommand (with_rules (new_app name.now) (map rule_for parameters.now)) commands.old.items commands.new.items) }
+    ensures { IfOk result (λ _. AddsCommand (app_of_parts name.now parameters.now)
+        commands.old.items commands.new.items) }
 {
     let args = args_of(alloc, parameters)?;
     let command = Command::new(alloc, name).about(about).after_help(examples);

@@ -1,9 +1,8 @@
 //! The command `serve`.
 
 ghost use Rattle.std.specs.Prelude.{◌≡◌, ℕ, IfOk, IfSome, IfNone, false, codes};
-ghost use Rattle.clap.specs.Words.{found_of, one_of, rows_of};
 ghost use Rattle.command_line.specs.Commands.{serve_app};
-ghost use Rattle.command_line.specs.Meaning.{AsksFor, IsNumberIn};
+ghost use Rattle.command_line.specs.Meaning.{AsksFor, IsNumberIn, value_of, values_of};
 ghost use Rattle.command_line.specs.Parts.{AddsCommand};
 ghost use Rattle.command_line.specs.Refusals.{NoNumberIn, NoneAskedFor};
 
@@ -67,16 +66,17 @@ pub(crate) fn add_serve<'a>(
 
 // P, or its default.
 fn port_of(given: &ArgMatches<'_>) -> Option<u16>
-    ensures number { IfSome result (λ n. IsNumberIn 0 65535 n (one_of (codes "port") (rows_of (found_of given.now)))) }
-    ensures lacking { IfNone result (NoNumberIn 0 65535 (one_of (codes "port") (rows_of (found_of given.now)))) }
+    ensures number { IfSome result (λ n. IsNumberIn 0 65535 n (value_of (codes "port") given.now)) }
+    ensures lacking { IfNone result (NoNumberIn 0 65535 (value_of (codes "port") given.now)) }
 {
     given.get_one::<u16>("port")
 }
 
 // N. `clap` takes it within these limits only, and here the value itself is known to lie within them.
 fn requests_of(given: &ArgMatches<'_>) -> Option<u32>
-    ensures number { IfSome result (λ n. IsNumberIn 1 1000000 n (one_of (codes "requests") (rows_of (found_of given.now)))) }
-    ensures lacking { IfNone result (NoNumberIn 1 1000000 (one_of (codes "requests") (rows_of (found_of given.now)))) }
+    ensures number { IfSome result (λ n.
+        IsNumberIn 1 1000000 n (value_of (codes "requests") given.now)) }
+    ensures lacking { IfNone result (NoNumberIn 1 1000000 (value_of (codes "requests") given.now)) }
 {
     let requests = given.get_one::<u32>("requests")?;
     if 1 <= requests && requests <= MOST_REQUESTS {
@@ -88,8 +88,8 @@ fn requests_of(given: &ArgMatches<'_>) -> Option<u32>
 
 /// What `serve` asks for with these values; none without DB, P and N, the numbers within their limits.
 pub(crate) fn serve_of<'w>(given: &ArgMatches<'w>) -> Option<Command<'w>>
-    ensures command { IfSome result (AsksFor (codes "serve") (rows_of (found_of given.now))) }
-    ensures lacking { IfNone result (NoneAskedFor (codes "serve") (rows_of (found_of given.now))) }
+    ensures command { IfSome result (AsksFor (codes "serve") (values_of given.now)) }
+    ensures lacking { IfNone result (NoneAskedFor (codes "serve") (values_of given.now)) }
 {
     let database = given.get_str("database")?;
     let port = port_of(given)?;

@@ -1,9 +1,9 @@
 //! The reader of command lines.
 
-ghost use Rattle.std.specs.Prelude.{◌≡◌, [], IfOk, IfErr, IfSome, IfNone, map, string_bytes};
-ghost use Rattle.clap.specs.Words.{FailsBy, app_of, fault_of, found_of, rows_of, subcommand_of, subcommand_rows_of};
-ghost use Rattle.command_line.specs.Commands.{commands, office_app};
-ghost use Rattle.command_line.specs.Meaning.{AsksFor, IsCommand};
+ghost use Rattle.std.specs.Prelude.{◌≡◌, [], IfOk, IfErr, IfSome, IfNone};
+ghost use Rattle.clap.specs.Words.{FailsBy, app_of, subcommand_rows_of};
+ghost use Rattle.command_line.specs.Commands.{commands, faults_in, found_in, office_app};
+ghost use Rattle.command_line.specs.Meaning.{AsksFor, IsCommand, values_of};
 ghost use Rattle.command_line.specs.Parts.{AreCommands};
 ghost use Rattle.command_line.specs.Refusals.{IsRefused, NamesNoCommand, NoneAskedFor};
 ghost use Rattle.command_line.specs.Words.{AskFor, AskForNone};
@@ -69,8 +69,8 @@ fn office_command<'a>(alloc: Global) -> Result<clap::Command<'a>, AllocError>
 
 // What `clap` makes of the words.
 fn matches_of<'w>(alloc: Global, words: &'w [String]) -> Result<ArgMatches<'w>, clap::Error>
-    ensures rows { IfOk result (λ m. subcommand_rows_of m ≡ subcommand_of office_app (map string_bytes words.entry.now)) }
-    ensures kinds { FailsBy (fault_of office_app (map string_bytes words.entry.now)) result }
+    ensures rows { IfOk result (λ m. subcommand_rows_of m ≡ found_in words.entry.now) }
+    ensures kinds { FailsBy (faults_in words.entry.now) result }
 {
     let command = office_command(alloc)?;
     command.try_get_matches_from(words)
@@ -82,8 +82,10 @@ fn command_of<'w>(
     name: &str,
     given: &ArgMatches<'w>,
 ) -> Result<Option<Command<'w>>, AllocError>
-    ensures command { IfOk result (λ asked. IfSome asked (AsksFor name.now (rows_of (found_of given.now)))) }
-    ensures none { IfOk result (λ asked. IfNone asked (NoneAskedFor name.now (rows_of (found_of given.now)))) }
+    ensures command { IfOk result (λ asked.
+        IfSome asked (AsksFor name.now (values_of given.now))) }
+    ensures none { IfOk result (λ asked.
+        IfNone asked (NoneAskedFor name.now (values_of given.now))) }
 {
     match name {
         "check" => Ok(check_of(given)),
@@ -121,8 +123,8 @@ fn asked_for<'w>(alloc: Global, matches: &ArgMatches<'w>) -> Result<Command<'w>,
 /// Help, the version or a refusal, each where `clap` gives it. `NoMemory` may stand in place of any answer: no contract can
 /// say that memory was refused.
 pub fn read_words<'w>(alloc: Global, words: &'w [String]) -> Result<Command<'w>, WordsFault>
-    ensures command { IfOk result (AskFor (map string_bytes words.entry.now)) }
-    ensures refused { IfErr result (AskForNone (map string_bytes words.entry.now)) }
+    ensures command { IfOk result (AskFor words.entry.now) }
+    ensures refused { IfErr result (AskForNone words.entry.now) }
 {
     match matches_of(alloc, words) {
         Ok(matches) => asked_for(alloc, &matches),

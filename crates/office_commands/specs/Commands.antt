@@ -111,7 +111,7 @@ module _ {S : Type 0} (g : Ghosts S) (Opened-at : List ℕ → Held S → Type 0
   HasEnded bytes_of command came old new status = HasRun bytes_of command came old new status ⊎ (status ≡ failed_status command)
 
   -- Words were carried out: the command that they ask for, or why they ask for none was said.
-  abbrev pub HasRunWords : {F : Type 0} → (F → Option (List ℕ)) → List (List ℕ) → (came old new : Option (List ℕ)) → ℕ → Type 0
+  abbrev pub HasRunWords : {F : Type 0} → (F → Option (List ℕ)) → List (String Global) → (came old new : Option (List ℕ)) → ℕ → Type 0
   HasRunWords bytes_of words came old new status =
       ((command : Command) × AskFor words command × HasEnded bytes_of command came old new status)
       ⊎ ((fault : WordsFault) × AskForNone words fault × HasTold fault old new status)

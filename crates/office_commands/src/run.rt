@@ -1,6 +1,6 @@
 //! The commands of the program.
 
-ghost use Rattle.std.specs.Prelude.{◌≡◌, ◌^◌, ◌≤◌, IfErr, IfOk, MatchResult, OnOk, map, string_bytes};
+ghost use Rattle.std.specs.Prelude.{◌≡◌, ◌^◌, ◌≤◌, IfErr, IfOk, MatchResult, OnOk, string_bytes};
 ghost use Rattle.std.specs.Io.KnownBytes.{Appends};
 ghost use Rattle.streams.specs.Counts.{one_more};
 ghost use Rattle.office_commands.specs.Commands.{findings_status, HasChecked, HasCompared, HasExecuted, HasRun, HasRunWords, HasTold, failed_status};
@@ -248,7 +248,7 @@ pub fn run_words<
     requires reads { input.old.calls ≤ 2 ^ 62 }
     requires read_faults { input.old.faults ≤ 2 ^ 62 }
     requires write_faults { output.old.faults ≤ 2 ^ 62 }
-    ensures { HasRunWords S.Store D.opened D.closed F.File.remaining (map string_bytes words.entry.now)
+    ensures { HasRunWords S.Store D.opened D.closed F.File.remaining words.entry.now
         (I.remaining input.old.inner) (O.contents output.old.inner) (O.contents output.new.inner) result }
 {
     match read_words(alloc, words) {

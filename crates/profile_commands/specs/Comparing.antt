@@ -11,14 +11,18 @@ use Rattle.profile_commands.specs.declared.fault.FileFault.{FileFault}
 use Rattle.profile_commands.specs.declared.fault.FileFault.TheVariants as files
 use Rattle.profile_commands.specs.Refusal.{AgreesWithReads, RefusesAs}
 
--- a fault of reading is told of its document, but want of memory is no fault of it
+-- a fault of reading is reported of its document, but out of memory is no fault of it
 abbrev pub IsToldOfBase : FileFault → ComparedFault → Type 0
-IsToldOfBase fault told = ((fault ≡ files.NoMemory) × (told ≡ NoMemory)) ⊎ ((fault ≢ files.NoMemory) × (told ≡ Base fault))
+IsToldOfBase fault told =
+    ((fault ≡ files.NoMemory) × (told ≡ NoMemory))
+    ⊎ ((fault ≢ files.NoMemory) × (told ≡ Base fault))
 
 abbrev pub IsToldOfNew : FileFault → ComparedFault → Type 0
-IsToldOfNew fault told = ((fault ≡ files.NoMemory) × (told ≡ NoMemory)) ⊎ ((fault ≢ files.NoMemory) × (told ≡ New fault))
+IsToldOfNew fault told =
+    ((fault ≡ files.NoMemory) × (told ≡ NoMemory))
+    ⊎ ((fault ≢ files.NoMemory) × (told ≡ New fault))
 
--- want of memory is told as such, and of neither document
+-- out of memory is reported as such, and of neither document
 abbrev pub HidesNoMemory : ComparedFault → Type 0
 HidesNoMemory (Base fault) = fault ≢ files.NoMemory
 HidesNoMemory (New fault) = fault ≢ files.NoMemory
@@ -28,14 +32,16 @@ HidesNoMemory NoMemory = Unit {0}
 abbrev pub IsDocument : List ℕ → Type 0
 IsDocument bytes = (profile : Profile) × (reading_of bytes ≡ Ok profile)
 
--- the bytes of BASE are a document where there is an answer or a fault of NEW, and a fault that is told of BASE is theirs
+-- the bytes of BASE are a document where there is an answer or a fault of NEW, and a fault that is
+-- reported of BASE is theirs
 abbrev pub IsBase : {X : Type 0} → List ℕ → Result X ComparedFault → Type 0
 IsBase bytes (Ok x) = IsDocument bytes
 IsBase bytes (Err (Base fault)) = RefusesAs bytes fault
 IsBase bytes (Err (New fault)) = IsDocument bytes
 IsBase bytes (Err NoMemory) = Unit {0}
 
--- the bytes of NEW are a document where there is an answer, and a fault that is told of NEW is theirs
+-- the bytes of NEW are a document where there is an answer, and a fault that is reported of NEW is
+-- theirs
 abbrev pub IsNew : {X : Type 0} → List ℕ → Result X ComparedFault → Type 0
 IsNew bytes (Ok x) = IsDocument bytes
 IsNew bytes (Err (Base fault)) = Unit {0}
@@ -44,19 +50,25 @@ IsNew bytes (Err NoMemory) = Unit {0}
 
 -- the text is that of the findings between the documents that the bytes are
 abbrev pub IsCompared : List ℕ → List ℕ → String Global → Type 0
-IsCompared base new text = (old shown : Profile) × (reading_of base ≡ Ok old) × (reading_of new ≡ Ok shown)
+IsCompared base new text =
+    (old shown : Profile) × (reading_of base ≡ Ok old) × (reading_of new ≡ Ok shown)
     × (string_bytes text ≡ findings_text (findings_of old shown))
 
--- the calls of BASE's reader and those that failed agree with what is told of BASE
-abbrev pub AgreesWithBase : {X : Type 0} → (calls calls_after faults faults_after : ℕ) → Result X ComparedFault → Type 0
-AgreesWithBase {X} calls calls_after faults faults_after (Err (Base fault)) = AgreesWithReads {X = X} calls calls_after faults faults_after (Err fault)
+-- the calls of BASE's reader and those that failed agree with what is reported of BASE
+abbrev pub AgreesWithBase : {X : Type 0} → (calls calls_after faults faults_after : ℕ)
+    → Result X ComparedFault → Type 0
+AgreesWithBase {X} calls calls_after faults faults_after (Err (Base fault)) =
+    AgreesWithReads {X = X} calls calls_after faults faults_after (Err fault)
 AgreesWithBase calls calls_after faults faults_after (Err (New fault)) = faults_after ≡ faults
 AgreesWithBase calls calls_after faults faults_after (Err NoMemory) = faults_after ≡ faults
 AgreesWithBase calls calls_after faults faults_after (Ok x) = faults_after ≡ faults
 
--- the same of NEW's reader, which isn't called where a fault is told of BASE
-abbrev pub AgreesWithNew : {X : Type 0} → (calls calls_after faults faults_after : ℕ) → Result X ComparedFault → Type 0
-AgreesWithNew {X} calls calls_after faults faults_after (Err (New fault)) = AgreesWithReads {X = X} calls calls_after faults faults_after (Err fault)
-AgreesWithNew calls calls_after faults faults_after (Err (Base fault)) = (calls_after ≡ calls) × (faults_after ≡ faults)
+-- the same of NEW's reader, which isn't called where a fault is reported of BASE
+abbrev pub AgreesWithNew : {X : Type 0} → (calls calls_after faults faults_after : ℕ)
+    → Result X ComparedFault → Type 0
+AgreesWithNew {X} calls calls_after faults faults_after (Err (New fault)) =
+    AgreesWithReads {X = X} calls calls_after faults faults_after (Err fault)
+AgreesWithNew calls calls_after faults faults_after (Err (Base fault)) =
+    (calls_after ≡ calls) × (faults_after ≡ faults)
 AgreesWithNew calls calls_after faults faults_after (Err NoMemory) = faults_after ≡ faults
 AgreesWithNew calls calls_after faults faults_after (Ok x) = faults_after ≡ faults

@@ -1,5 +1,5 @@
--- How a process executes its file, by the words of `execve`, and what comes of it: capabilities(7), "Transformation of
--- capabilities during execve()".
+-- How a process executes its file, by the words of `execve`, and what comes of it: capabilities(7),
+-- "Transformation of capabilities during execve()".
 use Rattle.std.specs.Prelude.{◌≡◌, ℕ, Bool, ◌||◌, List, Option, Some, None, is_some, option_map, Result, Ok, Err, string_bytes, if◌then◌else◌}
 use Rattle.cap_sets.specs.declared.exec.File.TheVariants.{Plain, WithCaps}
 use Rattle.cap_sets.specs.declared.state.CapState.{CapState}
@@ -20,7 +20,8 @@ use Rattle.profile_commands.specs.Refusal.{RefusesAs}
 
 -- an option gives the file capabilities
 abbrev pub takes_file : ExecveWords → Bool
-takes_file words = is_some words.file_permitted || (is_some words.file_inheritable || words.file_effective)
+takes_file words =
+    is_some words.file_permitted || (is_some words.file_inheritable || words.file_effective)
 
 -- the set of an option of the file, empty where it isn't given
 abbrev pub set_given : Option (List ℕ) → Option ℕ
@@ -29,11 +30,13 @@ set_given (Some list) = set_listed list
 
 -- the file with these two sets and this bit, where each set is one
 abbrev pub file_given : Option ℕ → Option ℕ → Bool → Result Execution ExecutionFault
-file_given (Some permitted) (Some inheritable) effective = Ok (OfFile (WithCaps permitted inheritable effective))
+file_given (Some permitted) (Some inheritable) effective =
+    Ok (OfFile (WithCaps permitted inheritable effective))
 file_given (Some permitted) None effective = Err UnknownCapability
 file_given None inheritable effective = Err UnknownCapability
 
--- the execution that the words describe: root takes no file, and with no option of the file it is plain
+-- the execution that the words describe: root takes no file, and with no option of the file it is
+-- plain
 abbrev pub execution_of : ExecveWords → Result Execution ExecutionFault
 execution_of words =
     if takes_file words
@@ -49,11 +52,15 @@ IsDone after Denied = ⊥
 
 -- what comes of execve: the lines of a state after it, or EPERM where there is none
 abbrev pub IsOutcome : Execution → CapState → Outcome → Type 0
-IsOutcome ByRoot before outcome = (after : CapState) × IsAfterRoot before after × IsDone after outcome
+IsOutcome ByRoot before outcome =
+    (after : CapState) × IsAfterRoot before after × IsDone after outcome
 IsOutcome (OfFile file) before Denied = IsDenied before file
-IsOutcome (OfFile file) before outcome = (after : CapState) × IsAfter before file after × IsDone after outcome
+IsOutcome (OfFile file) before outcome =
+    (after : CapState) × IsAfter before file after × IsDone after outcome
 
 -- what comes of it in a process that has the sets of what the bytes read as
 abbrev pub IsExecuted : Execution → List ℕ → Result Outcome FileFault → Type 0
-IsExecuted execution bytes (Ok outcome) = (profile : Profile) × (reading_of bytes ≡ Ok profile) × IsOutcome execution profile.caps outcome
+IsExecuted execution bytes (Ok outcome) =
+    (profile : Profile) × (reading_of bytes ≡ Ok profile)
+    × IsOutcome execution profile.caps outcome
 IsExecuted execution bytes (Err fault) = RefusesAs bytes fault

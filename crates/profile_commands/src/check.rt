@@ -27,7 +27,8 @@ pub fn check_document<R: Read>(alloc: Global, reader: &mut Counted<R>) -> Result
     requires calls { reader.old.calls ≤ 2 ^ 62 }
     requires faults { reader.old.faults ≤ 2 ^ 62 }
     ensures checked { IfSome (R.remaining reader.old.inner) (λ bytes. IsChecked bytes result) }
-    ensures reads { AgreesWithReads reader.old.calls reader.new.calls reader.old.faults reader.new.faults result }
+    ensures reads { AgreesWithReads reader.old.calls reader.new.calls
+        reader.old.faults reader.new.faults result }
 {
     let document = read_document(alloc, reader)?;
     let text = line_of(document.text)?;

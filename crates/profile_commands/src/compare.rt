@@ -18,10 +18,10 @@ use widening::findings;
 /// Why two documents weren't compared, with the words that the program says on standard error.
 #[derive(Debug, Drop, Error)]
 pub enum ComparedFault {
-    /// BASE wasn't read, or is no document: why, which is never want of memory.
+    /// BASE wasn't read, or is no document: why, which is never out of memory.
     #[error("base: {0}")]
     Base(FileFault),
-    /// NEW wasn't read, or is no document: why, which is never want of memory.
+    /// NEW wasn't read, or is no document: why, which is never out of memory.
     #[error("new: {0}")]
     New(FileFault),
     /// Memory was refused. No contract can say when: it may stand in place of any answer.
@@ -66,7 +66,8 @@ impl ComparedFault {
 
 // The words of what one profile permits more than another, a line each.
 fn compared_text(alloc: Global, base: &Profile, new: &Profile) -> Result<String, AllocError>
-    ensures { IfOk result (λ text. string_bytes text ≡ findings_text (findings_of base.now new.now)) }
+    ensures { IfOk result (λ text.
+        string_bytes text ≡ findings_text (findings_of base.now new.now)) }
 {
     let found = findings(alloc, base, new)?;
     findings_text(alloc, found.as_slice())
@@ -91,11 +92,13 @@ pub fn compare_documents<R: Read, S: Read>(
     requires new_faults { new.old.faults ≤ 2 ^ 62 }
     ensures base { IfSome (R.remaining base.old.inner) (λ bytes. IsBase bytes result) }
     ensures new { IfSome (S.remaining new.old.inner) (λ bytes. IsNew bytes result) }
-    ensures compared { IfSome (R.remaining base.old.inner) (λ old. IfSome (S.remaining new.old.inner)
-        (λ shown. IfOk result (IsCompared old shown))) }
+    ensures compared { IfSome (R.remaining base.old.inner) (λ old.
+        IfSome (S.remaining new.old.inner) (λ shown. IfOk result (IsCompared old shown))) }
     ensures memory { IfErr result HidesNoMemory }
-    ensures base_reads { AgreesWithBase base.old.calls base.new.calls base.old.faults base.new.faults result }
-    ensures new_reads { AgreesWithNew new.old.calls new.new.calls new.old.faults new.new.faults result }
+    ensures base_reads { AgreesWithBase base.old.calls base.new.calls
+        base.old.faults base.new.faults result }
+    ensures new_reads { AgreesWithNew new.old.calls new.new.calls
+        new.old.faults new.new.faults result }
 {
     let base_document = match read_document(alloc, base) {
         Ok(document) => document,

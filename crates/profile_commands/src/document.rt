@@ -37,7 +37,8 @@ pub fn read_document<R: Read>(alloc: Global, reader: &mut Counted<R>) -> Result<
     requires faults { reader.old.faults ≤ 2 ^ 62 }
     ensures document { IfSome (R.remaining reader.old.inner) (λ bytes. IsReadAs bytes result) }
     ensures text { IfOk result HasItsText }
-    ensures reads { AgreesWithReads reader.old.calls reader.new.calls reader.old.faults reader.new.faults result }
+    ensures reads { AgreesWithReads reader.old.calls reader.new.calls
+        reader.old.faults reader.new.faults result }
 {
     let bytes = file_bytes(alloc, reader)?;
     let document = read_with_text(alloc, &bytes)?;

@@ -59,8 +59,10 @@ pub fn execve_document<R: Read>(
 ) -> Result<Outcome, FileFault>
     requires calls { reader.old.calls ≤ 2 ^ 62 }
     requires faults { reader.old.faults ≤ 2 ^ 62 }
-    ensures executed { IfSome (R.remaining reader.old.inner) (λ bytes. IsExecuted execution.now bytes result) }
-    ensures reads { AgreesWithReads reader.old.calls reader.new.calls reader.old.faults reader.new.faults result }
+    ensures executed { IfSome (R.remaining reader.old.inner)
+        (λ bytes. IsExecuted execution.now bytes result) }
+    ensures reads { AgreesWithReads reader.old.calls reader.new.calls
+        reader.old.faults reader.new.faults result }
 {
     let document = read_document(alloc, reader)?;
     let outcome = outcome_of(alloc, execution, &document.profile.caps)?;

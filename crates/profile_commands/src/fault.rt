@@ -13,7 +13,7 @@ pub enum FileFault {
     /// The reader was called as often as is allowed, without an end or a fault.
     #[error("too-many-reads")]
     TooManyReads,
-    /// The bytes of the file are no document: the first fault that they have, which is never want of memory.
+    /// The bytes of the file are no document: the first fault that they have, which is never out of memory.
     #[error("{0}")]
     Document(DocFault),
     /// Memory was refused. No contract can say when: it may stand in place of any answer.

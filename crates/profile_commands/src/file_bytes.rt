@@ -19,10 +19,13 @@ pub(crate) const MOST_READS: u64 = 600_000;
 pub(crate) fn file_bytes<R: Read>(alloc: Global, reader: &mut Counted<R>) -> Result<Vec<u8>, Unread>
     requires calls { reader.old.calls ≤ 2 ^ 62 }
     requires faults { reader.old.faults ≤ 2 ^ 62 }
-    ensures bytes { IfOk result (λ bytes. Consumes (R.remaining reader.old.inner) (R.remaining reader.new.inner) bytes.items) }
+    ensures bytes { IfOk result (λ bytes.
+        Consumes (R.remaining reader.old.inner) (R.remaining reader.new.inner) bytes.items) }
     ensures most { IfOk result (λ bytes. length bytes.items ≤ 262145) }
-    ensures end { IfOk result (λ bytes. length bytes.items < 262145 → IsAtEnd (R.remaining reader.new.inner)) }
-    ensures reads { ReadsAgree reader.old.calls reader.new.calls reader.old.faults reader.new.faults result }
+    ensures end { IfOk result (λ bytes.
+        length bytes.items < 262145 → IsAtEnd (R.remaining reader.new.inner)) }
+    ensures reads { ReadsAgree reader.old.calls reader.new.calls
+        reader.old.faults reader.new.faults result }
     ensures calls { reader.new.calls ≤ reader.old.calls + 600000 }
 {
     let most_calls = reader.calls() + MOST_READS;
