@@ -32,7 +32,7 @@ fn memory_line() -> &'static str
     "{\"answer\":\"fault\",\"word\":\"memory\"}\n"
 }
 
-// Writes the line that tells what came of the line of this number.
+// Writes the line that reports what came of the line of this number.
 fn tell<W: Write>(
     alloc: Global,
     outcome: &Outcome,
@@ -54,7 +54,7 @@ fn tell<W: Write>(
     written.map_err(|_| DeskFault::Write { line: number })
 }
 
-// Handles the first line that is held, and writes the line that tells what came of it.
+// Handles the first line that is held, and writes the line that reports what came of it.
 fn serve_first<H: Handler, W: Write>(
     office: &mut H,
     alloc: Global,

@@ -12,10 +12,10 @@ pub enum HttpFault {
     Ended,
     /// As often as is allowed the reader was called. Nothing was handled or written.
     TooManyReads,
-    /// The writer failed in the response with this status. What that tells was done, and only a front part of it was
+    /// The writer failed in the response with this status. What that reports was done, and only a front part of it was
     /// written.
     Write { status: u16 },
-    /// There was no memory for the response with this status, of which nothing was written. What it tells was done.
+    /// There was no memory for the response with this status, of which nothing was written. What it reports was done.
     NoMemory { status: u16 },
 }
 

@@ -56,7 +56,7 @@ impl Outcome {
         }
     }
 
-    // The status of the response that tells it.
+    // The status of the response that reports it.
     pub(crate) fn status(&self) -> Status
         ensures { result ≡ told_status self.now }
     {

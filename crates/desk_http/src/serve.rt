@@ -32,7 +32,7 @@ fn write_response<W: Write>(
     }
 }
 
-// Writes the response that tells an outcome, and gives its status.
+// Writes the response that reports an outcome, and gives its status.
 fn tell<W: Write>(
     alloc: Global,
     outcome: &Outcome,

@@ -106,7 +106,7 @@ impl<'c, C: Clock> Server<'c, C> {
     }
 }
 
-// Writes the line that tells an exchange.
+// Writes the line that reports an exchange.
 fn tell<O: Write>(output: &mut O, served: Result<u16, HttpFault>) -> io::Result<()>
     ensures { OnOk result (Appends (O.contents output.old) (O.contents output.new)
         (line_of served)) }

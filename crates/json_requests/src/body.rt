@@ -1,4 +1,4 @@
-//! The bodies of requests, with just the members that neither a path nor a field tells.
+//! The bodies of requests, with just the members that neither a path nor a field gives.
 
 ghost use Rattle.serde_json.specs.View.{view};
 ghost use Rattle.json_requests.specs.Bodies.{enrol_body, vote_body, enrol_in, vote_in};

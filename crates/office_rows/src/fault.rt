@@ -7,7 +7,7 @@ use office_tables::StoreFault;
 use sqlite::{Error, ErrorCode};
 
 /// The fault of a store that an error of `sqlite` is. A text that isn't understood and a value of another kind are
-/// `NotAnOffice`; what is neither want of memory nor of room is `Disk`.
+/// `NotAnOffice`; what is neither out of memory nor out of room is `Disk`.
 pub fn fault_of_error(error: Error) -> StoreFault
     ensures { result ≡ fault_of_error error }
 {

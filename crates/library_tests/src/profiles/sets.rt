@@ -57,7 +57,7 @@ fn texts_that_no_document_brings_about(rt: HostRuntime) -> Result<(), Fail> {
     Ok(())
 }
 
-// Whether a profile with CAP_CHOWN, CAP_KILL and a filter is told, or want of memory.
+// Whether a profile with CAP_CHOWN, CAP_KILL and a filter is read, or out of memory is reported.
 fn is_read_or_memory(told: &Result<Profile, DocFault>) -> bool {
     match told {
         Ok(profile) => profile.caps.permitted.bits() == 0b10_0001 && profile.filter.is_some(),
@@ -66,7 +66,7 @@ fn is_read_or_memory(told: &Result<Profile, DocFault>) -> bool {
 }
 
 // Run with each allocation refused in turn, as `rt try --test --fail-alloc N` does, it shows that a refused allocation is
-// told as want of memory and as nothing else.
+// reported as out of memory and as nothing else.
 #[test]
 fn no_fault_but_memory_is_told_of_a_document(rt: HostRuntime) -> Result<(), Fail> {
     let document =

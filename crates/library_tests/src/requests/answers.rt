@@ -6,7 +6,7 @@ use review_policy::{Answer, Fault, ListedProfile, Listing, Reply, State, Text, W
 use std::alloc::{AllocError, Global};
 use std::test::Fail;
 
-// The line that tells an answer, and the response that does.
+// The line that reports an answer, and the response that does.
 fn told(alloc: Global, answer: Answer) -> (Result<String, AllocError>, Result<String, AllocError>) {
     let status = answer_status(&answer);
     (
