@@ -4,6 +4,6 @@ mod clock;
 mod deadlines;
 mod loopback;
 mod memory;
-mod messages;
+pub(crate) mod messages;
 mod stops;
 mod trial;

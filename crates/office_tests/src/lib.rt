@@ -18,4 +18,6 @@ mod offices;
 #[cfg(test)]
 mod served;
 #[cfg(test)]
+mod stops;
+#[cfg(test)]
 mod store;

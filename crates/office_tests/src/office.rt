@@ -4,5 +4,5 @@
 mod files;
 mod founded;
 mod openings;
-mod texts;
+pub(crate) mod texts;
 mod votes;
