@@ -1,10 +1,12 @@
 // Lists of requests.
 
+use crate::office::texts::{LEFT_BEHIND, VOTE_LEFT_BEHIND};
 use crate::offices::trial_office;
+use crate::stops::tables::tables_of;
 use json_requests::{line, read_line};
 use office_policy::Handler;
 use review_policy::{Answer, Request};
-use std::alloc::Global;
+use std::alloc::{AllocError, Global};
 use std::test::Fail;
 
 // The requests of these lines.
@@ -25,12 +27,18 @@ fn lines_of(alloc: Global, answers: &[Answer]) -> Result<String, Fail> {
     Ok(lines)
 }
 
-// What the requests of these lines are answered as one list in a new office.
-fn answers_to(alloc: Global, lines: &str) -> Result<String, Fail> {
+// What the requests of these lines are answered as one list in a new office, and the tables that they leave. Where there is no room for
+// the answers nothing is handled, so that the list may be run again.
+fn ran(alloc: Global, lines: &str) -> Result<(String, String), Fail> {
     let requests = requests_of(alloc, lines)?;
     let mut office = trial_office(alloc)?;
-    let answers = office.run(alloc, &requests)?;
-    lines_of(alloc, &answers)
+    let answers = match office.run(alloc, &requests) {
+        Ok(answers) => answers,
+        Err(_) => office.run(alloc, &requests)?,
+    };
+    let told = lines_of(alloc, &answers)?;
+    let tables = tables_of(alloc, &mut office.into_connection())?;
+    Ok((told, tables))
 }
 
 const LIST: &str =
@@ -48,12 +56,42 @@ const ANSWERS: &str = r#"{"answer":"done"}
 
 #[test]
 fn each_request_of_a_list_is_answered_on_those_before_it(rt: HostRuntime) -> Result<(), Fail> {
-    assert_eq!(rt; answers_to(rt.alloc(), LIST)?.as_str(), ANSWERS);
+    assert_eq!(rt; ran(rt.alloc(), LIST)?.0.as_str(), ANSWERS);
     Ok(())
 }
 
 #[test]
 fn an_empty_list_of_requests_has_no_answer(rt: HostRuntime) -> Result<(), Fail> {
-    assert_eq!(rt; answers_to(rt.alloc(), "")?.as_str(), "");
+    assert_eq!(rt; ran(rt.alloc(), "")?.0.as_str(), "");
+    Ok(())
+}
+
+// The lines but this one, the first being 0.
+fn without(alloc: Global, lines: &str, at: usize) -> Result<String, AllocError> {
+    let mut others = String::new(alloc);
+    for (number, line) in lines.lines().enumerate() {
+        if number != at {
+            writeln!(others, "{line}")?;
+        }
+    }
+    Ok(others)
+}
+
+const MEMORY: &str = r#"{"answer":"fault","word":"memory"}"#;
+
+// With each allocation refused in turn, as by `rt try --test --fail-alloc 1..`: one request is answered that there is no memory, and
+// the others, and the tables, are as without it; or all is as with ample memory.
+#[test]
+fn a_request_of_a_list_that_is_refused_memory_is_as_none(rt: HostRuntime) -> Result<(), Fail> {
+    let alloc = rt.alloc();
+    let (told, tables) = ran(alloc, VOTE_LEFT_BEHIND)?;
+    match told.lines().position(|line| line == MEMORY) {
+        Some(at) => {
+            let wanted = ran(alloc, without(alloc, VOTE_LEFT_BEHIND, at)?.as_str())?;
+            let others = without(alloc, told.as_str(), at)?;
+            assert_eq!(rt; (others, tables), wanted);
+        }
+        None => assert_eq!(rt; told.trim_end(), LEFT_BEHIND),
+    }
     Ok(())
 }
