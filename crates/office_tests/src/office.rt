@@ -1,8 +1,9 @@
-// The office over `sqlite`: a store that is no office, a second founding, a file that is closed and opened again, and how the votes
-// of a revision count.
+// The office over `sqlite`: a store that is no office or an old one, a second founding, a file that is closed and opened again, and
+// how the votes of a revision count.
 
 mod files;
 mod founded;
+mod migrations;
 mod openings;
 pub(crate) mod texts;
 mod votes;

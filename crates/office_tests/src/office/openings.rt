@@ -8,7 +8,7 @@ use crate::office::founded::{founded, reopened};
 use crate::office::texts::{SHOW, SHOWN, SUBMISSION, SUBMITTED};
 use crate::offices::found_office;
 use office_desk::Office;
-use office_store::FoundingFault;
+use office_store::{FoundingFault, OpeningFault};
 use office_tables::StoreFault;
 use sqlite::{Alter, Connection};
 use std::alloc::Global;
@@ -26,6 +26,24 @@ fn not_founded<S: Alter + Drop>(
     ensures { IfOk result (λ conn. IsIdle (state S.Store conn)) }
 {
     match found_office(alloc, conn)? {
+        Ok(_) => Err(Fail::from("a refusal")),
+        Err((fault, conn)) => {
+            assert_eq!(rt; fault, wanted);
+            Ok(conn)
+        }
+    }
+}
+
+// The connection that is handed back where no office is opened over it, for this fault.
+pub(crate) fn not_opened<S: Alter + Drop>(
+    rt: &impl Abort,
+    conn: Connection<S>,
+    wanted: OpeningFault,
+) -> Result<Connection<S>, Fail>
+    requires { IsIdle (state S.Store conn) }
+    ensures { IfOk result (λ conn. IsIdle (state S.Store conn)) }
+{
+    match Office::over(conn) {
         Ok(_) => Err(Fail::from("a refusal")),
         Err((fault, conn)) => {
             assert_eq!(rt; fault, wanted);
@@ -53,18 +71,14 @@ fn a_second_founding_hands_the_office_back_as_it_was(rt: HostRuntime) -> Result<
 
 #[test]
 fn an_empty_store_is_no_office_and_is_handed_back_empty(rt: HostRuntime) -> Result<(), Fail> {
-    match Office::over(Connection::open_in_memory(rt.alloc())?) {
-        Ok(_) => Err(Fail::from("a refusal")),
-        Err((fault, conn)) => {
-            assert_eq!(rt; fault, StoreFault::NotAnOffice);
-            assert!(rt; is_founded(rt.alloc(), conn)?);
-            Ok(())
-        }
-    }
+    let conn = Connection::open_in_memory(rt.alloc())?;
+    let conn = not_opened(&rt, conn, OpeningFault::Store(StoreFault::NotAnOffice))?;
+    assert!(rt; is_founded(rt.alloc(), conn)?);
+    Ok(())
 }
 
 // The connection once these statements were run, where they leave no transaction open.
-fn run<S: Alter + Drop>(conn: Connection<S>, sql: &str) -> Result<Connection<S>, Fail>
+pub(crate) fn run<S: Alter + Drop>(conn: Connection<S>, sql: &str) -> Result<Connection<S>, Fail>
     requires { IsIdle (state S.Store conn) }
     ensures { IfOk result (λ conn. IsIdle (state S.Store conn)) }
 {

@@ -6,7 +6,7 @@ ghost use Rattle.office_store.specs.Shown.{IsIdle};
 use cap_sets::Caps;
 use office_store::{
     Ballot, FoundingFault, add_revision, authors, baseline, check_office, delete_hold, found,
-    has_revision, held, is_author, issued, last, listed, put_baseline, put_hold, put_user,
+    has_revision, held, is_author, issued, last, listed, migrate, put_baseline, put_hold, put_user,
     put_vote, revision, revisions_of, set_issued, set_withdrawn, standing, tally, user_by_name,
     user_by_token,
 };
@@ -111,8 +111,11 @@ fn add<S: Alter>(
     Ok(number)
 }
 
-fn bits(answer: Result<Caps, StoreFault>) -> Result<u64, StoreFault> {
-    Ok(answer?.bits())
+fn bits<F>(answer: Result<Caps, F>) -> Result<u64, F> {
+    match answer {
+        Ok(listed) => Ok(listed.bits()),
+        Err(fault) => Err(fault),
+    }
 }
 
 fn text<T: Debug + Drop>(alloc: Global, answer: T) -> Result<String, AllocError> {
@@ -171,6 +174,7 @@ fn answer<S: Alter>(
     match call {
         "found" => text(alloc, found_office(alloc, conn)),
         "check_office" => text(alloc, bits(check_office(conn))),
+        "migrate" => text(alloc, migrate(conn)),
         "listed" => text(alloc, bits(listed(conn))),
         "put_user" => text(alloc, put(conn, subject)),
         "user_by_name" => user_text(alloc, user_by_name(alloc, conn, name)),

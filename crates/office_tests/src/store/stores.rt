@@ -46,56 +46,72 @@ Err(Store(NotAnOffice))
 
 # An empty store is no office.
 > check_office
-Err(NotAnOffice)
+Err(Store(NotAnOffice))
 
 # Nor is one without a table,
 > found
 Ok(())
 > sql DROP TABLE holds
 > check_office
-Err(NotAnOffice)
+Err(Store(NotAnOffice))
 
 # with another table,
 > found
 Ok(())
 > sql DROP TABLE votes; CREATE TABLE votes (team TEXT, profile TEXT, number INTEGER, voter TEXT, approve INTEGER) STRICT
 > check_office
-Err(NotAnOffice)
+Err(Store(NotAnOffice))
 
 # without the row of the office,
 > found
 Ok(())
 > sql DELETE FROM office
 > check_office
-Err(NotAnOffice)
+Err(Store(NotAnOffice))
 
 # with one of another schema,
 > found
 Ok(())
-> sql UPDATE office SET schema = 1
+> sql UPDATE office SET schema = 3
 > check_office
-Err(NotAnOffice)
+Err(Store(NotAnOffice))
 
 # under another key,
 > found
 Ok(())
 > sql UPDATE office SET key = 2
 > check_office
-Err(NotAnOffice)
+Err(Store(NotAnOffice))
 
 # or with a capability listed that there isn't.
 > found
 Ok(())
 > sql UPDATE office SET listed = 2199023255552
 > check_office
-Err(NotAnOffice)
+Err(Store(NotAnOffice))
+
+# One of schema 1 is old, with the table of held profiles or without it, and one of schema 2 lacks what isn't there.
+> found
+Ok(())
+> sql DROP INDEX revisions_by_author
+> check_office
+Err(NoIndex)
+> sql DROP TABLE holds
+> check_office
+Err(Store(NotAnOffice))
+> sql UPDATE office SET schema = 1
+> check_office
+Err(OldSchema)
+> sql DROP TABLE votes
+> check_office
+Err(Store(NotAnOffice))
 
 # A number below 0 lists none.
 > found
 Ok(())
 > sql UPDATE office SET listed = -1
 > check_office
-Err(NotAnOffice)
+Err(Store(NotAnOffice))
 ";
 
 #[test]

@@ -1,0 +1,75 @@
+// Offices of schema 1 and without an index, made by statements of the test's own.
+
+use crate::office::founded::{founded, reopened};
+use crate::office::openings::{not_opened, run};
+use crate::office::texts::{SHOW, SHOWN, SUBMISSION, SUBMITTED};
+use office_store::{MigrationFault, OpeningFault, migrate};
+use office_tables::StoreFault;
+use sqlite::Connection;
+use std::test::Fail;
+
+// In other letters and lines than those of the store. Ann handed in two revisions, and rev approved the first.
+const OLD: &str = "\
+create table office(key integer not null primary key,
+  schema integer not null, listed integer not null) strict;
+create table users(name text not null primary key, team text not null,
+  roles integer not null, token blob not null unique) strict;
+create table revisions(team text not null, profile text not null, number integer not null, author text not null,
+  state integer not null, body text not null, digest blob not null,  primary key(team, profile, number)) strict;
+create table votes(team text not null, profile text not null, number integer not null, voter text not null,
+  approve integer not null, security integer not null, primary key(team, profile, number, voter)) strict;
+create table baselines(team text not null primary key, profile text not null, number integer not null) strict;
+insert into office values(1, 1, 2097152);
+insert into users values('root', 'office', 1, x'ba7816bf8f01cfea414140de5dae2223b00361a396177a9cb410ff61f20015ad');
+insert into users values('ann', 'blue', 2, x'b9382ae65bf200e3350f913c9c98f85340bd0ffff6d864c5c9c6829d2c5b05dd');
+insert into users values('rev', 'office', 4, x'c6be5267fea2eba314742579352918002962e8c076047877d111f95eb2bb6eae');
+insert into users values('sue', 'office', 12, x'1cedc29c5bbef44da589b7c8f2cfe7a4539b238dbd1f11d1724d982035c1e785');
+insert into revisions values('blue', 'web', 1, 'ann', 1, '{\"capabilities\":{\"ambient\":[],\"bounding\":[],\"effective\":[],\"inheritable\":[],\"permitted\":[]}}', x'67d59648e3164479ed30407333c338a60764f60cd31c54ca1cd477602ac5e5d6');
+insert into revisions values('blue', 'web', 2, 'ann', 0, '{\"capabilities\":{\"ambient\":[],\"bounding\":[],\"effective\":[],\"inheritable\":[],\"permitted\":[]},\"seccomp\":{\"defaultAction\":\"SCMP_ACT_KILL_PROCESS\"}}', x'68a92f41776a711521830f21a18af0fdeaffdd13f5ae5a0db239a6d035c49f80');
+insert into votes values('blue', 'web', 1, 'rev', 1, 0);
+";
+
+const ASKED: &str = r#"{"ask":"list","token":"t-sue","team":"blue"}
+{"ask":"show","token":"t-sue","team":"blue","profile":"web","revision":1}
+{"ask":"sheet","token":"t-sue","team":"blue","profile":"web","revision":1}
+{"ask":"release","token":"t-sue","team":"blue","profile":"web"}"#;
+
+const TOLD: &str =
+    r#"{"answer":"done","profiles":[{"issued":0,"profile":"web","revisions":2,"state":"open"}]}
+{"answer":"done","digest":"67d59648e3164479ed30407333c338a60764f60cd31c54ca1cd477602ac5e5d6","document":"{\"capabilities\":{\"ambient\":[],\"bounding\":[],\"effective\":[],\"inheritable\":[],\"permitted\":[]}}","state":"closed"}
+{"answer":"done","sheet":"REVIEW SHEET\nteam: blue\nprofile: web\nrevision: 1\nstate: closed\ndigest: 67d59648e3164479ed30407333c338a60764f60cd31c54ca1cd477602ac5e5d6\nbaseline: closed\neffective: none\npermitted: none\ninheritable: none\nbounding: none\nambient: none\nplain permitted: none\nplain effective: none\nplain ambient: none\nroot permitted: none\nroot effective: none\nroot ambient: none\nseccomp: none\nfindings: 1\n  no-seccomp\nlisted: none\nneed: 2 with security\nvotes: 1\n  rev approve\napprovals: 1\nrejections: 0\n"}
+{"answer":"denied","rule":4,"word":"not-held"}"#;
+
+#[test]
+fn an_office_of_schema_1_is_migrated_with_its_votes(rt: HostRuntime) -> Result<(), Fail> {
+    let alloc = rt.alloc();
+    let conn = run(Connection::open_in_memory(alloc)?, OLD)?;
+    let mut conn = not_opened(&rt, conn, OpeningFault::OldSchema)?;
+    assert_eq!(rt; migrate(&mut conn), Ok(()));
+    assert_eq!(rt; migrate(&mut conn), Err(MigrationFault::AlreadyMigrated));
+    reopened(&rt, alloc, conn, ASKED, TOLD)?;
+    Ok(())
+}
+
+#[test]
+fn an_empty_store_is_not_migrated(rt: HostRuntime) -> Result<(), Fail> {
+    let mut conn = Connection::open_in_memory(rt.alloc())?;
+    let foreign = MigrationFault::Store(StoreFault::NotAnOffice);
+    assert_eq!(rt; migrate(&mut conn), Err(foreign));
+    Ok(())
+}
+
+#[test]
+fn an_office_is_opened_once_its_index_is_made(rt: HostRuntime) -> Result<(), Fail> {
+    let alloc = rt.alloc();
+    let conn = Connection::open_in_memory(alloc)?;
+    let conn = founded(&rt, alloc, conn, SUBMISSION, SUBMITTED)?;
+    let conn = run(conn, "DROP INDEX revisions_by_author")?;
+    let conn = not_opened(&rt, conn, OpeningFault::NoIndex)?;
+    let conn = run(
+        conn,
+        "create index revisions_by_author on revisions(team, profile, author)",
+    )?;
+    reopened(&rt, alloc, conn, SHOW, SHOWN)?;
+    Ok(())
+}
