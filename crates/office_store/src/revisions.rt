@@ -209,7 +209,13 @@ pub fn add_revision<S: Alter>(
     ensures cause { HasCleanDisk (state S.Store conn.new) → IfErr result (IsCause S.Store (adding_revision profile.now revision.now) conn.old) }
 {
     let added = of_revision(profile, revision);
-    write_two(conn, CLOSE_OPEN, &of_profile(profile), INSERT_REVISION, &added)
+    write_two(
+        conn,
+        CLOSE_OPEN,
+        &of_profile(profile),
+        INSERT_REVISION,
+        &added,
+    )
 }
 
 /// Issues a revision, which replaces the issued one of its profile.
