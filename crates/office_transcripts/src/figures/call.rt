@@ -8,8 +8,8 @@ use crate::figures::sample::{Profiles, Sample, Sizes, body, samples};
 use anyhow::Result;
 use cap_sets::Caps;
 use office_store::{
-    Ballot, add_revision, authors, baseline, check_office, delete_hold, has_revision, held,
-    is_author, issued, last, listed, put_baseline, put_hold, put_user, put_vote, revision,
+    Ballot, OpeningFault, add_revision, authors, baseline, check_office, delete_hold, has_revision,
+    held, is_author, issued, last, listed, put_baseline, put_hold, put_user, put_vote, revision,
     revisions_of, set_issued, set_withdrawn, standing, tally, user_by_name, user_by_token,
 };
 use office_tables::{RevisionRow, StoreFault, Tally};
@@ -115,6 +115,14 @@ fn has_any(listed: Result<Caps, StoreFault>) -> Result<bool, StoreFault> {
     Ok(listed?.bits() != 0)
 }
 
+fn is_opened(listed: Result<Caps, OpeningFault>) -> Result<bool, StoreFault> {
+    match listed {
+        Ok(listed) => Ok(listed.bits() != 0),
+        Err(OpeningFault::Store(fault)) => Err(fault),
+        Err(_) => Ok(false),
+    }
+}
+
 fn is_there<T: Drop>(row: Result<Option<T>, StoreFault>) -> Result<bool, StoreFault> {
     Ok(row?.is_some())
 }
@@ -145,7 +153,7 @@ fn make<S: Alter>(
 {
     let Sample { user, profile } = sample;
     match call {
-        Call::CheckOffice => has_any(check_office(conn)),
+        Call::CheckOffice => is_opened(check_office(conn)),
         Call::Listed => has_any(listed(conn)),
         Call::UserByName => is_there(user_by_name(alloc, conn, &user.name)),
         Call::UserByToken => is_there(user_by_token(alloc, conn, &user.digest)),
