@@ -39,7 +39,7 @@ fn take_turn(
     Ok(())
 }
 
-// With each allocation refused in turn, as by `rt try --test --fail-alloc 1..`: one exchange is told as want of memory and
+// With each allocation refused in turn, as by `rt try --test --fail-alloc N`: one exchange is told as want of memory and
 // does nothing, or has no response and was done; each other is as with ample memory.
 #[test]
 fn want_of_memory_is_told_and_does_nothing(rt: HostRuntime) -> Result<(), Fail> {

@@ -94,7 +94,7 @@ fn hand_in<S: Alter>(alloc: Global, office: &mut Office<S>) -> Result<Option<boo
     })
 }
 
-// With each allocation refused in turn, as by `rt try --test --fail-alloc 1..`: one line is told as want of memory, or
+// With each allocation refused in turn, as by `rt try --test --fail-alloc N`: one line is told as want of memory, or
 // the desk stops with the lines before it told, and what was handled stands.
 #[test]
 fn want_of_memory_is_told_and_leaves_what_was_handled(rt: HostRuntime) -> Result<(), Fail> {

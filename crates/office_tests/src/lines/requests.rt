@@ -79,7 +79,7 @@ fn without(alloc: Global, lines: &str, at: usize) -> Result<String, AllocError> 
 
 const MEMORY: &str = r#"{"answer":"fault","word":"memory"}"#;
 
-// With each allocation refused in turn, as by `rt try --test --fail-alloc 1..`: one request is answered that there is no memory, and
+// With each allocation refused in turn, as by `rt try --test --fail-alloc N`: one request is answered that there is no memory, and
 // the others, and the tables, are as without it; or all is as with ample memory.
 #[test]
 fn a_request_of_a_list_that_is_refused_memory_is_as_none(rt: HostRuntime) -> Result<(), Fail> {
