@@ -16,6 +16,7 @@ pub mod TextFacts
 pub mod DutyFacts
 pub mod AnswerFacts
 pub mod ReplyFacts
+pub mod AskedFacts
 pub mod SubmissionRows
 pub mod HeadlineFacts
 pub mod TeamFacts

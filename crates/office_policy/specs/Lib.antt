@@ -19,6 +19,7 @@ pub mod Laws
 pub mod Teams
 pub mod Callers
 pub mod Duty
+pub mod Asked
 pub mod Headline
 pub mod Examples
 pub mod CallerTable

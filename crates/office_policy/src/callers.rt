@@ -3,6 +3,7 @@
 
 ghost use Rattle.std.specs.Prelude.{◌≡◌, List, ℕ, Vec, Option, Some, None, map, is_ok};
 ghost use Rattle.std.specs.declared.alloc.Global.{Global};
+ghost use Rattle.profile_text.specs.Digest.{digest_of};
 ghost use Rattle.review_policy.specs.declared.ask.Ask.{Ask};
 ghost use Rattle.review_policy.specs.declared.ask.Request.{Request};
 ghost use Rattle.review_policy.specs.declared.answer.Reply.{Reply};
@@ -11,6 +12,8 @@ ghost use Rattle.office_tables.specs.declared.row.UserRow.{UserRow};
 ghost use Rattle.office_policy.specs.History.{Event, History};
 ghost use Rattle.office_policy.specs.Verdict.{verdict, accepted};
 ghost use Rattle.office_policy.specs.Callers.{IsForCaller, may_ask};
+ghost use Rattle.office_policy.specs.Asked.{IsAsked, IsSeen};
+ghost use Rattle.office_policy.specs.Users.{name_of, user_showing};
 ghost use Rattle.office_policy.specs.Examples.{blue, red, refused};
 ghost use Rattle.office_policy.specs.CallerTable.{decided, decided_for_each, each_kind, of_own_team, of_other_team};
 
@@ -40,4 +43,20 @@ pub fn callers_may_ask_by_role_and_team()
 pub fn what_is_accepted_was_allowed()
     ensures { (h : History) (r : Request) (reply : Reply) (e : Option Event) → verdict h r
         ≡ accepted reply e → IsForCaller h r e }
+{}
+
+/// What happens where a request is carried out is just what was asked, by its caller: an enrolment
+/// with these roles and this digest; a vote on this revision, by this digest, that approves or
+/// rejects as it was cast; an issue, a withdrawal or an adoption of this revision. Where something is
+/// only looked at, nothing happens.
+pub fn what_happens_was_asked()
+    ensures { (h : History) (r : Request) (reply : Reply) (e : Option Event) → verdict h r
+        ≡ accepted reply e → IsAsked (name_of (user_showing h (digest_of r.token))) r.ask e }
+{}
+
+/// What is shown is the revision that was asked for, a sheet is of just that one, and what is listed
+/// is the profiles of the team.
+pub fn what_is_seen_was_asked()
+    ensures { (h : History) (r : Request) (reply : Reply) (e : Option Event) → verdict h r
+        ≡ accepted reply e → IsSeen h r.ask reply }
 {}

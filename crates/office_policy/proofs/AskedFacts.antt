@@ -1,0 +1,83 @@
+-- What is carried out is what was asked.
+use Rattle.std.proofs.Common.{◌≡◌, ℕ, List, Some, None, Option, Ok, Err, refl, subst, Vec, Global}
+use Rattle.std.specs.Prelude.{Result}
+use Rattle.profile_text.specs.Digest.{digest_of}
+use Rattle.profile_text.specs.Reading.{reading_of}
+use Rattle.profile_text.specs.declared.profile.Profile.{Profile}
+use Rattle.profile_text.specs.declared.fault.DocFault.{DocFault}
+use Rattle.review_policy.specs.declared.ask.ProfileName.{ProfileName}
+use Rattle.review_policy.specs.declared.ask.Ask.{Ask}
+use Rattle.review_policy.specs.declared.ask.Ask.TheVariants as ask
+use Rattle.review_policy.specs.declared.ask.Request.{Request}
+use Rattle.review_policy.specs.declared.answer.Reply.{Reply}
+use Rattle.review_policy.specs.declared.answer.Reply.TheVariants as reply
+use Rattle.review_sheet.specs.Sheet.{sheet_text}
+use Rattle.office_tables.specs.declared.row.RevisionRow.{RevisionRow}
+use Rattle.office_tables.specs.declared.row.UserRow.{UserRow}
+use Rattle.office_policy.specs.History.{Event, issued, History}
+use Rattle.office_policy.specs.Users.{user_showing, name_of}
+use Rattle.office_policy.specs.Revisions.{revision_of, issued_revision}
+use Rattle.office_policy.specs.Sheets.{sheet_of}
+use Rattle.office_policy.specs.Verdict.{Verdict, accepted, denied, new_revision, of_revision, done_of, verdict}
+use Rattle.office_policy.specs.Asked.{IsAsked, IsSeen, OfRevision}
+use Rattle.office_policy.proofs.LawFacts.{of_revision_by}
+use Rattle.office_policy.proofs.GivenOut.{carried_out}
+use Rattle.office_policy.proofs.ReplyFacts.{caller_in}
+
+-- what a verdict does is what this user asked
+abbrev DoesAsked : List ℕ → Ask → Verdict → Type 0
+DoesAsked caller a (accepted reply e) = IsAsked caller a e
+DoesAsked caller a (denied d fault) = Unit {0}
+
+new_asked : (h : History) (caller : Option UserRow) (p : ProfileName) (document : Vec ℕ Global) (reading : Result Profile DocFault) → reading_of document.items ≡ reading
+    → DoesAsked (name_of caller) (ask.Submit p document) (new_revision h caller p reading)
+new_asked h caller p document (Ok profile) reads = record { read = profile; reads = reads; happened = refl }
+new_asked h caller p document (Err f) reads = tt
+
+done_asked : (h : History) (caller : Option UserRow) (a : Ask) → DoesAsked (name_of caller) a (done_of h caller a)
+done_asked h caller (ask.Enrol user team roles digest) = refl
+done_asked h caller (ask.Submit p document) = new_asked h caller p document (reading_of document.items) refl
+done_asked h caller (ask.Vote p n digest approve) = refl
+done_asked h caller (ask.Issue p n) =
+    of_revision_by (DoesAsked (name_of caller) (ask.Issue p n)) (revision_of h p n) (λ r. accepted (reply.Issued r.digest) (Some (issued (name_of caller) p n))) tt (λ r. refl)
+done_asked h caller (ask.Withdraw p n) = refl
+done_asked h caller (ask.Adopt p n) = refl
+done_asked h caller (ask.Show p n) =
+    of_revision_by (DoesAsked (name_of caller) (ask.Show p n)) (revision_of h p n) (λ r. accepted (reply.Shown r.digest r.body r.state) None) tt (λ r. refl)
+done_asked h caller (ask.Sheet p n) =
+    of_revision_by (DoesAsked (name_of caller) (ask.Sheet p n)) (revision_of h p n) (λ r. accepted (reply.Sheet (sheet_text (sheet_of h p r))) None) tt (λ r. refl)
+done_asked h caller (ask.List team) = refl
+done_asked h caller (ask.Fetch p) =
+    of_revision_by (DoesAsked (name_of caller) (ask.Fetch p)) (issued_revision h p) (λ r. accepted (reply.Fetched r.digest r.body r.number) None) tt (λ r. refl)
+done_asked h caller (ask.Hold p) = refl
+done_asked h caller (ask.Release p) = refl
+
+pub asked_by : (h : History) (r : Request) (reply : Reply) (e : Option Event) → verdict h r ≡ accepted reply e → IsAsked (caller_in h r) r.ask e
+asked_by h r reply e is =
+    subst (DoesAsked (caller_in h r) r.ask) (carried_out h r r.ask reply e refl is).done (done_asked h (user_showing h (digest_of r.token)) r.ask)
+
+-- what is told of a revision that is there
+told_of : (h : History) (p : ProfileName) (n : ℕ) (tell : RevisionRow → Reply) (told : Reply) (e : Option Event)
+    → of_revision (revision_of h p n) (λ r. accepted (tell r) None) ≡ accepted told e → OfRevision h p n (λ row. told ≡ tell row)
+told_of h p n tell told e is = by_row (revision_of h p n) refl is
+  where
+    by_row : (r : Option RevisionRow) → revision_of h p n ≡ r → of_revision r (λ r. accepted (tell r) None) ≡ accepted told e → OfRevision h p n (λ row. told ≡ tell row)
+    by_row None found done = absurd (cc)
+    by_row (Some row) found done = (row, found, cc)
+
+done_seen : (h : History) (caller : Option UserRow) (a : Ask) (told : Reply) (e : Option Event) → done_of h caller a ≡ accepted told e → IsSeen h a told
+done_seen h caller (ask.Enrol user team roles digest) told e done = tt
+done_seen h caller (ask.Submit p document) told e done = tt
+done_seen h caller (ask.Vote p n digest approve) told e done = tt
+done_seen h caller (ask.Issue p n) told e done = tt
+done_seen h caller (ask.Withdraw p n) told e done = tt
+done_seen h caller (ask.Adopt p n) told e done = tt
+done_seen h caller (ask.Show p n) told e done = told_of h p n (λ r. reply.Shown r.digest r.body r.state) told e done
+done_seen h caller (ask.Sheet p n) told e done = told_of h p n (λ r. reply.Sheet (sheet_text (sheet_of h p r))) told e done
+done_seen h caller (ask.List team) told e done = cc
+done_seen h caller (ask.Fetch p) told e done = tt
+done_seen h caller (ask.Hold p) told e done = tt
+done_seen h caller (ask.Release p) told e done = tt
+
+pub seen_by : (h : History) (r : Request) (told : Reply) (e : Option Event) → verdict h r ≡ accepted told e → IsSeen h r.ask told
+seen_by h r told e is = done_seen h (user_showing h (digest_of r.token)) r.ask told e (carried_out h r r.ask told e refl is).done
