@@ -8,5 +8,6 @@ pub mod GroupFacts
 pub mod RankFacts
 pub mod MemoFacts
 pub mod Permitted
+pub mod Closed
 pub mod Itself
 pub mod Ordered

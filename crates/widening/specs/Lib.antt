@@ -5,3 +5,4 @@ pub mod Findings
 pub mod Permits
 pub mod Groups
 pub mod Memo
+pub mod Examples

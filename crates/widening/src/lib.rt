@@ -20,7 +20,8 @@ mod wider;
 pub use finding::Finding;
 pub use implication::{entry_implies, implies};
 pub use laws::{
-    calls_are_found_in_byte_order, no_finding_permits_no_more, nothing_is_found_against_itself,
+    calls_are_found_in_byte_order, examples_of_what_filters_list, no_finding_permits_no_more,
+    nothing_is_found_against_itself, the_closed_profile_permits_no_more_than_any,
 };
 pub use listing::findings;
 pub use profile_text::CapSet;
