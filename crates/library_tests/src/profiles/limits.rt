@@ -2,6 +2,8 @@
 // findings between filters at these limits. No more can be reached, since a filter above a limit is refused.
 
 use crate::profiles::told::{assert_found, told};
+use profile_text::digest;
+use review_policy::digest_from_hex;
 use std::alloc::{AllocError, Global};
 use std::process::Abort;
 use std::test::Fail;
@@ -171,5 +173,15 @@ fn a_canonical_text_has_at_most_262_144_bytes(rt: HostRuntime) -> Result<(), Fai
     assert!(rt; is_canonical(rt.alloc(), text.as_str())?);
     let longer = told_at_length(rt.alloc(), 32)?;
     assert_eq!(rt; longer.as_str(), "text-too-long");
+    Ok(())
+}
+
+#[test]
+fn the_digest_of_the_longest_text_is_of_all_its_bytes(rt: HostRuntime) -> Result<(), Fail> {
+    let text = told_at_length(rt.alloc(), 31)?;
+    let wanted = digest_from_hex(
+        "cbda95619810b272b63d5530507abd932226ea151b6c93ca690aadef64844186",
+    );
+    assert_eq!(rt; Some(digest(text.as_str().as_bytes())), wanted);
     Ok(())
 }
