@@ -2,3 +2,4 @@ pub mod Tables
 pub mod Changes
 pub mod Reads
 pub mod Lists
+pub mod Faults

@@ -1,24 +1,39 @@
 //! Why a store gives no answer.
 
 use std::alloc::AllocError;
-use thiserror::Error;
+use std::error::Error;
+use std::fmt;
 
-/// Why a store gives no answer. Where the store is still open, its tables are as they were.
-#[derive(Clone, Copy, Debug, Drop, PartialEq, Eq, Error)]
+/// Why a store gives no answer. Where the store is still open, its tables are as they were. Its text is one word.
+#[derive(Clone, Copy, Debug, Drop, PartialEq, Eq)]
 pub enum StoreFault {
     /// There was no memory. No contract can say when: it may stand in place of any answer.
-    #[error("memory")]
     NoMemory,
     /// The disk failed, or the store refused a call for another cause, as a second row under one key.
-    #[error("disk")]
     Disk,
     /// The disk is full, or a value is too big for it.
-    #[error("full")]
     Full,
     /// A table or a row isn't of an office's form.
-    #[error("not-an-office")]
     NotAnOffice,
 }
+
+impl fmt::Display for StoreFault {
+    ghost use Rattle.std.specs.Prelude.{Some};
+    ghost use Rattle.office_tables.specs.Faults.{store_fault_word};
+
+    ghost output = { λ fault. Some (store_fault_word fault) };
+
+    fn fmt<W: fmt::Write>(&self, f: &mut fmt::Formatter<W>) -> fmt::Result {
+        f.write_str(match self {
+            StoreFault::NoMemory => "memory",
+            StoreFault::Disk => "disk",
+            StoreFault::Full => "full",
+            StoreFault::NotAnOffice => "not-an-office",
+        })
+    }
+}
+
+impl Error for StoreFault {}
 
 impl From<AllocError> for StoreFault {
     ghost use Rattle.std.specs.Prelude.{◌≡◌};
