@@ -6,23 +6,10 @@ ghost use Rattle.serde_json.specs.View.{view, members_view};
 ghost use Rattle.json_requests.specs.Answers.{with_digest, listed_data, listing_data, reply_members, answer_members, fault_members, answer_data, answer_text, line_of};
 
 use crate::denial::denied_object;
-use crate::object::{answer_object, with_number, with_text, with_value};
+use crate::object::{answer_object, with_digest, with_number, with_text, with_value};
 use review_policy::{Answer, Fault, ListedProfile, Reply, Text};
 use serde_json::{Map, Value};
 use std::alloc::{AllocError, Global};
-
-// An object with one more member, a digest as 64 lower-case hexadecimal digits.
-fn with_digest(
-    alloc: Global,
-    object: Map<String, Value>,
-    digest: &[u8; 32],
-) -> Result<Map<String, Value>, AllocError>
-    ensures { IfOk result (λ m. members_view m.entries
-        ≡ with_digest digest.now (members_view object.entries)) }
-{
-    let text = hex::encode(alloc, digest.as_slice())?;
-    with_text(alloc, object, "digest", text.as_str())
-}
 
 // An object with two more members, a document and its digest.
 fn with_document(

@@ -8,8 +8,8 @@ mod body;
 mod denial;
 pub mod fault;
 pub mod kind;
-mod member;
-mod object;
+pub mod member;
+pub mod object;
 pub mod request;
 mod shape;
 

@@ -1,4 +1,4 @@
-//! The members of a request's line, each of its form.
+//! The members of a line, each of its form. What isn't of its form is [`LineFault::NotARequest`].
 
 ghost use Rattle.std.specs.Prelude.{◌≡◌, codes, option_and_then, option_map};
 ghost use Rattle.serde_json.specs.Find.{as_str};
@@ -12,8 +12,8 @@ use review_policy::{ProfileName, Role, Roles, Token, Word, WordFault, digest_fro
 use serde_json::Value;
 use std::alloc::Global;
 
-/// The text under a name.
-fn text_of<'v>(value: &'v Value, name: &str) -> Option<&'v str>
+/// The text under a name; `None` where there is none.
+pub fn text_of<'v>(value: &'v Value, name: &str) -> Option<&'v str>
     ensures { option_map (λ text. text.now) result ≡ text_at name.now (view value.now) }
 {
     value.get(name).and_then(Value::as_str)
@@ -21,7 +21,7 @@ fn text_of<'v>(value: &'v Value, name: &str) -> Option<&'v str>
 
 /// The word under a name.
 #[tactic(auto, unfolding(crate::specs::Members::word_at))]
-pub(crate) fn word_of(alloc: Global, value: &Value, name: &str) -> Result<Word, LineFault>
+pub fn word_of(alloc: Global, value: &Value, name: &str) -> Result<Word, LineFault>
     ensures { Gives (λ word. word) result (word_at name.now (view value.now)) }
 {
     match text_of(value, name) {
@@ -36,7 +36,7 @@ pub(crate) fn word_of(alloc: Global, value: &Value, name: &str) -> Result<Word, 
 
 /// The token that the caller shows.
 #[tactic(auto, unfolding(crate::specs::Members::token_at))]
-pub(crate) fn token_of(alloc: Global, value: &Value) -> Result<Token, LineFault>
+pub fn token_of(alloc: Global, value: &Value) -> Result<Token, LineFault>
     ensures { Gives (λ token. token) result (token_at (view value.now)) }
 {
     match text_of(value, "token") {
@@ -51,7 +51,7 @@ pub(crate) fn token_of(alloc: Global, value: &Value) -> Result<Token, LineFault>
 
 /// The profile that is named.
 #[tactic(auto, unfolding(crate::specs::Members::name_at))]
-pub(crate) fn name_of(alloc: Global, value: &Value) -> Result<ProfileName, LineFault>
+pub fn name_of(alloc: Global, value: &Value) -> Result<ProfileName, LineFault>
     ensures { Gives (λ name. name) result (name_at (view value.now)) }
 {
     let team = word_of(alloc, value, "team")?;
@@ -61,7 +61,7 @@ pub(crate) fn name_of(alloc: Global, value: &Value) -> Result<ProfileName, LineF
 
 /// The number of a revision, 1 to 9,999.
 #[tactic(auto, unfolding(crate::specs::Members::revision_at))]
-pub(crate) fn revision_of(value: &Value) -> Result<u32, LineFault>
+pub fn revision_of(value: &Value) -> Result<u32, LineFault>
     ensures { Gives (λ number. number) result (revision_at (view value.now)) }
 {
     match value.get("revision").and_then(Value::as_u64) {
@@ -78,7 +78,7 @@ pub(crate) fn revision_of(value: &Value) -> Result<u32, LineFault>
 
 /// A digest of 64 lower-case hexadecimal digits.
 #[tactic(auto, unfolding(crate::specs::Members::digest_at))]
-pub(crate) fn digest_of(value: &Value) -> Result<[u8; 32], LineFault>
+pub fn digest_of(value: &Value) -> Result<[u8; 32], LineFault>
     ensures { Gives (λ digest. digest) result (digest_at (view value.now)) }
 {
     match text_of(value, "digest") {
@@ -92,7 +92,7 @@ pub(crate) fn digest_of(value: &Value) -> Result<[u8; 32], LineFault>
 
 /// Whether a vote approves.
 #[tactic(auto, unfolding(crate::specs::Members::vote_at))]
-pub(crate) fn vote_of(value: &Value) -> Result<bool, LineFault>
+pub fn vote_of(value: &Value) -> Result<bool, LineFault>
     ensures { Gives (λ approve. approve) result (vote_at (view value.now)) }
 {
     match text_of(value, "vote") {
@@ -103,7 +103,7 @@ pub(crate) fn vote_of(value: &Value) -> Result<bool, LineFault>
 }
 
 /// The bytes of a document.
-pub(crate) fn document_of(alloc: Global, value: &Value) -> Result<Vec<u8>, LineFault>
+pub fn document_of(alloc: Global, value: &Value) -> Result<Vec<u8>, LineFault>
     ensures { Gives (λ document. document.items) result
         (text_at (codes "document") (view value.now)) }
 {
@@ -136,7 +136,7 @@ fn roles_in(values: &[Value]) -> Option<Roles>
 
 /// The roles that are listed.
 #[tactic(auto, unfolding(crate::specs::Members::roles_at))]
-pub(crate) fn roles_of(value: &Value) -> Result<Roles, LineFault>
+pub fn roles_of(value: &Value) -> Result<Roles, LineFault>
     ensures { Gives (λ roles. roles) result (roles_at (view value.now)) }
 {
     match value.get("roles") {

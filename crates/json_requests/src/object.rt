@@ -3,13 +3,13 @@
 ghost use Rattle.std.specs.Prelude.{◌≡◌, codes, IfOk};
 ghost use Rattle.serde_json.specs.Data.{no_members, number, put as with_member, string, unsigned};
 ghost use Rattle.serde_json.specs.View.{view, members_view};
-ghost use Rattle.json_requests.specs.Answers.{answer_members};
+ghost use Rattle.json_requests.specs.Answers.{answer_members, with_digest};
 
 use serde_json::{Map, ToValue, Value, put};
 use std::alloc::{AllocError, Global};
 
 /// An object with one more member.
-pub(crate) fn with_value(
+pub fn with_value(
     alloc: Global,
     mut object: Map<String, Value>,
     name: &str,
@@ -23,7 +23,7 @@ pub(crate) fn with_value(
 }
 
 /// An object with one more member, a text.
-pub(crate) fn with_text(
+pub fn with_text(
     alloc: Global,
     object: Map<String, Value>,
     name: &str,
@@ -37,7 +37,7 @@ pub(crate) fn with_text(
 }
 
 /// An object with one more member, a number.
-pub(crate) fn with_number(
+pub fn with_number(
     alloc: Global,
     object: Map<String, Value>,
     name: &str,
@@ -47,6 +47,19 @@ pub(crate) fn with_number(
         ≡ with_member name.now (number (unsigned n)) (members_view object.entries)) }
 {
     with_value(alloc, object, name, Value::from(n))
+}
+
+/// An object with one more member, a digest as 64 lower-case hexadecimal digits.
+pub fn with_digest(
+    alloc: Global,
+    object: Map<String, Value>,
+    digest: &[u8; 32],
+) -> Result<Map<String, Value>, AllocError>
+    ensures { IfOk result (λ m. members_view m.entries
+        ≡ with_digest digest.now (members_view object.entries)) }
+{
+    let text = hex::encode(alloc, digest.as_slice())?;
+    with_text(alloc, object, "digest", text.as_str())
 }
 
 /// An object with just the kind of an answer.
