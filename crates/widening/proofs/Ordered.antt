@@ -1,16 +1,19 @@
--- The names of the calls that are found are in byte order.
-use Rattle.std.proofs.Common.{◌≡◌, ◌∙◌, ap, refl, sym, ℕ, List, [], ◌∷◌, ◌++◌, cond, true, false, nat_lt, map, subst, Option, Some, None}
+-- Texts in byte order, and the names of the calls that are found, which are in byte order.
+use Rattle.std.proofs.Common.{◌≡◌, ◌∙◌, ap, refl, sym, ℕ, List, [], ◌∷◌, ◌++◌, Bool, bytes_eq, cond, true, false, nat_lt, map, subst, Option, Some, None}
 use Rattle.std.specs.Prelude.{filter, flat_map}
+use Rattle.std.specs.Borrow.{Bor}
+use Rattle.std.specs.BTreeMap.{is_at}
 use Rattle.std.specs.BTreeSet.{insert_key}
-use Rattle.std.specs.Cmp.Lexicographic.{slice_cmp}
-use Rattle.std.specs.List.{AllByRecursion}
-use Rattle.std.specs.List.Sorted.{IsStrictlySortedBy}
+use Rattle.std.specs.Cmp.Lexicographic.{on_texts, slice_cmp, texts_ties}
+use Rattle.std.specs.List.{AllByRecursion, dedup, list_any}
+use Rattle.std.specs.List.Sorted.{IsPermutation, IsSorted, IsStrictlySortedBy}
 use Rattle.std.specs.Ordering.{match_ordering, nat_cmp, ordering_reverse}
 use Rattle.std.specs.declared.cmp.Ordering.{Ordering}
 use Rattle.std.specs.declared.cmp.Ordering.TheVariants.{Equal, Greater, Less}
 use Rattle.std.proofs.lemmas.Cmp.{nat_list_cmp_total}
 use Rattle.std.proofs.lemmas.List.Concat.{flat_map-append}
-use Rattle.std.proofs.lemmas.List.Kept.{IsStrictlySortedBy-filter}
+use Rattle.std.proofs.lemmas.List.Kept.{IsStrictlySortedBy-dedup, IsStrictlySortedBy-filter}
+use Rattle.std.proofs.lemmas.Map.Lookups.{btree_set_from_contains, exact_bytes}
 use Rattle.cap_sets.specs.declared.state.CapState.{CapState}
 use Rattle.seccomp_doc.specs.Action.{rank_of}
 use Rattle.seccomp_doc.specs.Filter.{FilterValue}
@@ -21,7 +24,8 @@ use Rattle.widening.specs.declared.finding.Finding.{Finding}
 use Rattle.widening.specs.declared.finding.Finding.TheVariants.{AnyArch, Arch, Call, Cap, Default, Flag}
 use Rattle.widening.specs.Calls.{entry_names, is_permitted_more}
 use Rattle.widening.specs.Findings.{arch_findings, between_filters, call_findings, call_names, called, called_by, cap_findings, compared_sets, default_findings, filter_findings, findings_of, flag_findings, gained, is_emptied, set_findings}
-use Rattle.widening.specs.Texts.{added_texts, put_in_order}
+use Rattle.widening.specs.Texts.{added_texts, in_byte_order, put_in_order, texts_in}
+use Rattle.widening.proofs.TextFacts.{any_sorted_once, list_any-in_byte_order}
 
 -- what holds of all and of one more holds of all with that put in its place
 all_placed : (P : List ℕ → Type 0) (k : List ℕ) (xs : List (List ℕ)) → AllByRecursion P xs → P k → AllByRecursion P (insert_key (slice_cmp nat_cmp) xs k)
@@ -60,6 +64,33 @@ sorted_in_order ordered (text ∷ texts) sorted = sorted_in_order (insert_key (s
 nothing_sorted : IsStrictlySortedBy (slice_cmp nat_cmp) []
 unfolding IsStrictlySortedBy
 nothing_sorted = tt
+
+-- ---- texts that are referred to, put in order and each left once
+
+below_shown : (x : Bor (List ℕ)) (xs : List (Bor (List ℕ))) → AllByRecursion (λ y. slice_cmp nat_cmp x.now y.now ≡ Less) xs →
+    AllByRecursion (λ y. slice_cmp nat_cmp x.now y ≡ Less) (texts_in xs)
+below_shown x [] all = tt
+below_shown x (y ∷ ys) all = (all.0, below_shown x ys all.1)
+
+sorted_shown : (xs : List (Bor (List ℕ))) → IsStrictlySortedBy (λ x y. slice_cmp nat_cmp x.now y.now) xs → IsStrictlySortedBy (slice_cmp nat_cmp) (texts_in xs)
+unfolding IsStrictlySortedBy
+sorted_shown [] sorted = tt
+sorted_shown (x ∷ xs) sorted = (below_shown x xs sorted.0, sorted_shown xs sorted.1)
+
+-- a list in strict order with the same texts
+in_order_is : (keys texts : List (List ℕ)) → IsStrictlySortedBy (slice_cmp nat_cmp) keys → ((p : List ℕ → Bool) → list_any p keys ≡ list_any p texts) →
+    keys ≡ in_byte_order texts
+in_order_is keys texts sorted same =
+    btree_set_from_contains nat_list_cmp_total (record { keys = keys }) (record { keys = in_byte_order texts }) sorted (sorted_in_order [] texts nothing_sorted)
+    (λ q. same (is_at (slice_cmp nat_cmp q)) ∙ sym (list_any-in_byte_order (is_at (slice_cmp nat_cmp q)) texts)) exact_bytes
+
+pub sorted_once : (old sorted new : List (Bor (List ℕ))) → IsPermutation old sorted → IsSorted (λ x y. slice_cmp nat_cmp x.now y.now) sorted →
+    new ≡ dedup (λ x y. bytes_eq x.now y.now) sorted → texts_in new ≡ in_byte_order (texts_in old)
+sorted_once old sorted new moved in_order is =
+    ap texts_in is
+    ∙ in_order_is (texts_in (dedup (λ x y. bytes_eq x.now y.now) sorted)) (texts_in old)
+    (sorted_shown _ (IsStrictlySortedBy-dedup (on_texts (λ x. x.now)) (λ x y. texts_ties x.now y.now) sorted in_order))
+    (λ p. any_sorted_once p old sorted moved)
 
 -- ---- the names among the findings
 

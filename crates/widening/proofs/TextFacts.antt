@@ -1,7 +1,8 @@
 -- Lists of texts without repeats have the same texts.
-use Rattle.std.proofs.Common.{◌≡◌, ◌∙◌, ap, refl, sym, ℕ, ◌+◌, ◌<◌, List, [], ◌∷◌, ◌++◌, Bool, true, false, not, cond, ◌||◌, bytes_eq, map, length, take, get_or, inl, inr}
+use Rattle.std.proofs.Common.{◌≡◌, ◌∙◌, ap, refl, sym, ℕ, List, [], ◌∷◌, Bool, true, false, not, cond, ◌||◌, bytes_eq, inl, inr}
 use Rattle.std.specs.Prelude.{filter}
-use Rattle.std.specs.List.{list_any}
+use Rattle.std.specs.List.{dedup, dedup_from, list_any}
+use Rattle.std.specs.List.Sorted.{IsPermutation}
 use Rattle.std.specs.Ordering.{nat_cmp, match_ordering}
 use Rattle.std.specs.declared.cmp.Ordering.{Ordering}
 use Rattle.std.specs.declared.cmp.Ordering.TheVariants.{Less, Equal, Greater}
@@ -11,10 +12,9 @@ use Rattle.std.specs.BTreeSet.{insert_key}
 use Rattle.std.proofs.lemmas.Bool.{cases_Bool, or_left, or_right}
 use Rattle.std.proofs.lemmas.Bool.Decides.{same_from_decides}
 use Rattle.std.proofs.lemmas.Map.Lookups.{exact_bytes}
-use Rattle.std.proofs.lemmas.List.{take_more}
-use Rattle.std.proofs.lemmas.List.Sums.{fold-append}
+use Rattle.std.proofs.lemmas.List.Sorted.{list_any-IsPermutation}
 use Rattle.std.proofs.lemmas.Slice.Eq.{bytes_eq-Decides}
-use Rattle.widening.specs.Texts.{each_once, in_byte_order, lists, put_in_order}
+use Rattle.widening.specs.Texts.{each_once, in_byte_order, lists, put_in_order, texts_in}
 use Rattle.widening.proofs.Searches.{or_none}
 
 -- equality of texts, the other way round
@@ -93,35 +93,34 @@ passes_where_listed p (t ∷ ts) text passes listed =
       | inr other ↦ or_right (p t) (list_any p ts) (passes_where_listed p ts text passes (sym (ap (λ b. b || lists ts text) other) ∙ listed))
     ]
 
--- ---- one text more in order
+-- ---- texts that are referred to, put in order and each left once
 
-placed_shown : (o : Ordering) (k x : Bor (List ℕ)) (xs more : List (Bor (List ℕ))) (shown : List (List ℕ)) → map (λ t. t.now) more ≡ shown →
-    map (λ t. t.now) (match_ordering o (k ∷ x ∷ xs) (x ∷ xs) (x ∷ more)) ≡ match_ordering o (k.now ∷ x.now ∷ map (λ t. t.now) xs) (x.now ∷ map (λ t. t.now) xs) (x.now ∷ shown)
-placed_shown Less k x xs more shown e = refl
-placed_shown Equal k x xs more shown e = refl
-placed_shown Greater k x xs more shown e = ap (λ ts. x.now ∷ ts) e
+abbrev same_text : Bor (List ℕ) → Bor (List ℕ) → Bool
+same_text x y = bytes_eq x.now y.now
 
--- a text that is put in a set of texts
-pub insert_key-shown : (keys : List (Bor (List ℕ))) (k : Bor (List ℕ)) →
-    map (λ t. t.now) (insert_key (λ x y. slice_cmp nat_cmp x.now y.now) keys k) ≡ insert_key (slice_cmp nat_cmp) (map (λ t. t.now) keys) k.now
-insert_key-shown [] k = refl
-insert_key-shown (x ∷ keys) k =
-    placed_shown (slice_cmp nat_cmp k.now x.now) k x keys (insert_key (λ x y. slice_cmp nat_cmp x.now y.now) keys k)
-    (insert_key (slice_cmp nat_cmp) (map (λ t. t.now) keys) k.now) (insert_key-shown keys k)
+module _ (p : List ℕ → Bool) where
+  any_shown : (xs : List (Bor (List ℕ))) → list_any p (texts_in xs) ≡ list_any (λ x. p x.now) xs
+  any_shown [] = refl
+  any_shown (x ∷ xs) = ap (λ b. p x.now || b) (any_shown xs)
 
-pub put_in_order-push : (ordered texts : List (List ℕ)) (text : List ℕ) → put_in_order ordered (texts ++ text ∷ []) ≡ insert_key (slice_cmp nat_cmp) (put_in_order ordered texts) text
-put_in_order-push ordered texts text = fold-append (insert_key (slice_cmp nat_cmp)) ordered texts (text ∷ [])
+  any_kept : (k : Bor (List ℕ)) (xs : List (Bor (List ℕ))) → list_any (λ x. p x.now) (dedup_from same_text k xs) ≡ (p k.now || list_any (λ x. p x.now) xs)
+  any_kept k [] = refl
+  any_kept k (x ∷ xs) =
+      elim (cases_Bool (same_text x k)) as (λ _. list_any (λ y. p y.now) (dedup_from same_text k (x ∷ xs)) ≡ (p k.now || (p x.now || list_any (λ y. p y.now) xs))) [
+        | inl same ↦
+            ap (λ b. list_any (λ y. p y.now) (cond b (dedup_from same_text k xs) (k ∷ dedup_from same_text x xs))) same
+            ∙ any_kept k xs
+            ∙ or_twice (p k.now) (list_any (λ y. p y.now) xs)
+            ∙ ap (λ b. p k.now || (b || list_any (λ y. p y.now) xs)) (ap p (sym ((bytes_eq-Decides x.now k.now).0 same)))
+        | inr other ↦
+            ap (λ b. list_any (λ y. p y.now) (cond b (dedup_from same_text k xs) (k ∷ dedup_from same_text x xs))) other
+            ∙ ap (λ b. p k.now || b) (any_kept x xs)
+      ]
 
-pub put_in_order-append : (ordered texts more : List (List ℕ)) → put_in_order ordered (texts ++ more) ≡ put_in_order (put_in_order ordered texts) more
-put_in_order-append ordered texts more = fold-append (insert_key (slice_cmp nat_cmp)) ordered texts more
+  any_once : (xs : List (Bor (List ℕ))) → list_any (λ x. p x.now) (dedup same_text xs) ≡ list_any (λ x. p x.now) xs
+  any_once [] = refl
+  any_once (x ∷ xs) = any_kept x xs
 
-pub names_more : (keys new : List (Bor (List ℕ))) (k : Bor (List ℕ)) (ordered added : List (List ℕ)) (i : ℕ) (name : List ℕ) →
-    new ≡ insert_key (λ x y. slice_cmp nat_cmp x.now y.now) keys k → map (λ t. t.now) keys ≡ put_in_order ordered (take i added) →
-    k.now ≡ name → i < length added → name ≡ get_or added i name →
-    map (λ t. t.now) new ≡ put_in_order ordered (take (i + 1) added)
-names_more keys new k ordered added i name inserted before same within is =
-    ap (map (λ t. t.now)) inserted ∙ insert_key-shown keys k
-    ∙ ap (λ ts. insert_key (slice_cmp nat_cmp) ts k.now) before
-    ∙ ap (insert_key (slice_cmp nat_cmp) (put_in_order ordered (take i added))) same
-    ∙ sym (put_in_order-push ordered (take i added) name)
-    ∙ ap (put_in_order ordered) (ap (λ t. take i added ++ t ∷ []) is ∙ sym (take_more added i name within))
+  pub any_sorted_once : (old sorted : List (Bor (List ℕ))) → IsPermutation old sorted → list_any p (texts_in (dedup same_text sorted)) ≡ list_any p (texts_in old)
+  any_sorted_once old sorted moved =
+      any_shown (dedup same_text sorted) ∙ any_once sorted ∙ sym (list_any-IsPermutation (λ x. p x.now) old sorted moved) ∙ sym (any_shown old)

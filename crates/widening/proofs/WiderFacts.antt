@@ -1,8 +1,6 @@
 -- Names that are looked at once.
-use Rattle.std.proofs.Common.{◌≡◌, ◌∙◌, ap, refl, sym, ℕ, ◌+◌, ◌<◌, List, [], ◌∷◌, ◌++◌, Bool, true, false, not, ◌&&◌, map, length, take, get_or, bytes_eq, inl, inr}
-use Rattle.std.specs.Borrow.{Bor}
+use Rattle.std.proofs.Common.{◌≡◌, ◌∙◌, ap, refl, sym, ℕ, ◌+◌, ◌<◌, List, [], ◌∷◌, ◌++◌, Bool, true, false, not, ◌&&◌, length, take, get_or, bytes_eq, inl, inr}
 use Rattle.std.specs.List.{list_any}
-use Rattle.std.specs.Map.Iter.{deref}
 use Rattle.std.proofs.lemmas.Bool.{and_from, and_parts, cases_Bool, both_ways, false_from_ne_true, not-false, or_from}
 use Rattle.std.proofs.lemmas.List.{take_more}
 use Rattle.std.proofs.lemmas.List.Concat.{flat_map-append}
@@ -10,9 +8,9 @@ use Rattle.std.proofs.lemmas.List.Folds.{list_any-append, list_any_at, list_any_
 use Rattle.seccomp_doc.specs.Filter.{EntryValue}
 use Rattle.seccomp_doc.specs.Meaning.{has_name}
 use Rattle.widening.specs.Calls.{entry_names}
-use Rattle.widening.specs.Texts.{in_byte_order, lists, put_in_order}
+use Rattle.widening.specs.Texts.{lists}
 use Rattle.widening.proofs.Searches.{and_true, list_any-flat_map, list_any-weaker}
-use Rattle.widening.proofs.TextFacts.{passes_where_listed, put_in_order-append}
+use Rattle.widening.proofs.TextFacts.{passes_where_listed}
 
 -- a name that stands before, or that fails, changes nothing
 pub new_name_more : (p : List ℕ → Bool) (names earlier : List (List ℕ)) (i : ℕ) (name shown : List ℕ) (told : Bool) →
@@ -60,21 +58,3 @@ call_none p es earlier i e names told within is same none tells denied seen =
     ∙ list_any-append p (entry_names (take i es)) (entry_names (e ∷ []))
     ∙ or_from (list_any p (entry_names (take i es))) (list_any p (entry_names (e ∷ []))) none
     (list_any-append p e.names [] ∙ or_from (list_any p e.names) false (ap (list_any p) (sym same) ∙ none_here) refl)
-
--- ---- the set of all names
-
-pub shown_twice : (names : List (Bor (Bor (List ℕ)))) → map (λ n. n.now.now) names ≡ map (λ t. t.now) (map deref names)
-shown_twice [] = refl
-shown_twice (n ∷ names) = ap (λ ts. n.now.now ∷ ts) (shown_twice names)
-
--- the names of both filters, in order
-pub all_in_order : (start one two : List (Bor (List ℕ))) (base new base_entries new_entries : List EntryValue) →
-    start ≡ [] → map (λ t. t.now) one ≡ put_in_order (map (λ t. t.now) start) (entry_names base_entries) →
-    map (λ t. t.now) two ≡ put_in_order (map (λ t. t.now) one) (entry_names new_entries) → base_entries ≡ base → new_entries ≡ new →
-    map (λ t. t.now) two ≡ in_byte_order (entry_names base ++ entry_names new)
-all_in_order start one two base new base_entries new_entries none first second same_base same_new =
-    second
-    ∙ ap (λ ts. put_in_order ts (entry_names new_entries)) (first ∙ ap (λ ks. put_in_order (map (λ t. t.now) ks) (entry_names base_entries)) none)
-    ∙ sym (put_in_order-append [] (entry_names base_entries) (entry_names new_entries))
-    ∙ ap (λ es. in_byte_order (entry_names es ++ entry_names new_entries)) same_base
-    ∙ ap (λ es. in_byte_order (entry_names base ++ entry_names es)) same_new

@@ -1,7 +1,7 @@
 -- Lists of texts without repeats.
 use Rattle.std.specs.Prelude.{ℕ, List, [], ◌∷◌, Bool, not, filter, fold, map, bytes_eq}
 use Rattle.std.specs.Borrow.{Bor}
-use Rattle.std.specs.BTreeSet.{BTreeSet, insert_key}
+use Rattle.std.specs.BTreeSet.{insert_key}
 use Rattle.std.specs.Cmp.Lexicographic.{slice_cmp}
 use Rattle.std.specs.List.{list_any}
 use Rattle.std.specs.Ordering.{nat_cmp}
@@ -31,6 +31,6 @@ put_in_order ordered texts = fold (insert_key (slice_cmp nat_cmp)) ordered texts
 abbrev pub in_byte_order : List (List ℕ) → List (List ℕ)
 in_byte_order texts = put_in_order [] texts
 
--- the texts of a set, in their order
-abbrev pub texts_in : BTreeSet (Bor (List ℕ)) → List (List ℕ)
-texts_in set = map (λ text. text.now) set.keys
+-- the texts that a list refers to
+abbrev pub texts_in : List (Bor (List ℕ)) → List (List ℕ)
+texts_in texts = map (λ text. text.now) texts

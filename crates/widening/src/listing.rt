@@ -4,7 +4,7 @@ ghost use Rattle.std.specs.Prelude.{◌≡◌, ◌∷◌, ◌++◌, [], filter, 
 ghost use Rattle.widening.specs.Calls.{entry_names, is_permitted_more};
 ghost use Rattle.widening.specs.Findings.{between_filters, call_findings, default_findings, filter_findings, findings_of};
 ghost use Rattle.widening.specs.Memo.{IsMemo};
-ghost use Rattle.widening.specs.Texts.{put_in_order, texts_in};
+ghost use Rattle.widening.specs.Texts.{in_byte_order, texts_in};
 
 use crate::caps::find_caps;
 use crate::finding::Finding;
@@ -14,7 +14,6 @@ use crate::text_lists::{find_added, find_architectures};
 use profile_text::Profile;
 use seccomp_doc::{CallName, Entry, Filter};
 use std::alloc::{AllocError, Global};
-use std::collections::BTreeSet;
 
 /// What the new profile permits, or may permit, and the baseline doesn't.
 ///
@@ -90,13 +89,18 @@ fn find_calls(
 ) -> Result<(), AllocError>
     ensures { OnOk result (found.new.items ≡ found.old.items ++ call_findings base.now new.now) }
 {
-    let mut names = BTreeSet::new(alloc);
-    add_entries(&mut names, base.entries())?;
-    add_entries(&mut names, new.entries())?;
+    let names = names_in_order(alloc, base.entries(), new.entries())?;
     let base_groups = Groups::new(alloc, base)?;
     let new_groups = Groups::new(alloc, new)?;
     let mut memo = Memo::new(alloc, base, new)?;
-    find_named(alloc, found, &base_groups, &new_groups, &mut memo, &names)
+    find_named(
+        alloc,
+        found,
+        &base_groups,
+        &new_groups,
+        &mut memo,
+        names.as_slice(),
+    )
 }
 
 // Adds each of these names, where the new filter may permit a call of it more.
@@ -106,7 +110,7 @@ fn find_named(
     base: &Groups,
     new: &Groups,
     memo: &mut Memo,
-    names: &BTreeSet<&str>,
+    names: &[&str],
 ) -> Result<(), AllocError>
     requires { IsMemo base.now.filter.now.entries new.now.filter.now.entries memo.old.of_new.items memo.old.of_base.items }
     ensures { OnOk result (found.new.items ≡ found.old.items
@@ -139,9 +143,35 @@ fn find_call(
     Ok(())
 }
 
+// The names of the entries of both filters, each once, in byte order.
+fn names_in_order<'a>(
+    alloc: Global,
+    base: &'a [Entry],
+    new: &'a [Entry],
+) -> Result<Vec<&'a str>, AllocError>
+    ensures { IfOk result (λ names. texts_in names.items
+        ≡ in_byte_order (entry_names base.now ++ entry_names new.now)) }
+{
+    let mut names = Vec::new(alloc);
+    add_entries(&mut names, base)?;
+    add_entries(&mut names, new)?;
+    put_in_byte_order(&mut names)?;
+    Ok(names)
+}
+
+// Puts texts in byte order, each once.
+fn put_in_byte_order(texts: &mut Vec<&str>) -> Result<(), AllocError>
+    ensures { OnOk result (texts_in texts.new.items ≡ in_byte_order (texts_in texts.old.items)) }
+{
+    texts.sort()?;
+    texts.dedup();
+    Ok(())
+}
+
 // Adds the names of these entries.
-fn add_entries<'a>(names: &mut BTreeSet<&'a str>, entries: &'a [Entry]) -> Result<(), AllocError>
-    ensures { OnOk result (texts_in names.new ≡ put_in_order (texts_in names.old) (entry_names entries.now)) }
+fn add_entries<'a>(names: &mut Vec<&'a str>, entries: &'a [Entry]) -> Result<(), AllocError>
+    ensures { OnOk result (texts_in names.new.items
+        ≡ texts_in names.old.items ++ entry_names entries.now) }
 {
     for entry in entries {
         add_names(names, entry.names())?;
@@ -150,11 +180,11 @@ fn add_entries<'a>(names: &mut BTreeSet<&'a str>, entries: &'a [Entry]) -> Resul
 }
 
 // Adds these names.
-fn add_names<'a>(names: &mut BTreeSet<&'a str>, added: &'a [CallName]) -> Result<(), AllocError>
-    ensures { OnOk result (texts_in names.new ≡ put_in_order (texts_in names.old) added.now) }
+fn add_names<'a>(names: &mut Vec<&'a str>, added: &'a [CallName]) -> Result<(), AllocError>
+    ensures { OnOk result (texts_in names.new.items ≡ texts_in names.old.items ++ added.now) }
 {
     for name in added {
-        names.insert(name.as_str())?;
+        names.push(name.as_str())?;
     }
     Ok(())
 }
