@@ -8,7 +8,6 @@ use Rattle.std.specs.List.{list_all, list_any}
 use Rattle.std.specs.Map.{lookup}
 use Rattle.std.specs.Option.{option_map_or}
 use Rattle.std.specs.Ordering.{nat_cmp}
-use Rattle.std.specs.declared.vec.Vec.{Vec}
 use Rattle.std.proofs.Math.Seq.{drop-append_seam}
 use Rattle.std.proofs.lemmas.Bool.{and_from, cases_Bool, lt-ltb, ltb-true}
 use Rattle.std.proofs.lemmas.List.{drop_more, length-append, length-take-le, take_more}
@@ -17,6 +16,7 @@ use Rattle.std.proofs.lemmas.List.Elements.{All-weaker}
 use Rattle.std.proofs.lemmas.List.Folds.{list_any-append, list_any_more}
 use Rattle.std.proofs.lemmas.List.Sums.{AllPass-from_list_all}
 use Rattle.std.proofs.lemmas.Slice.Eq.{bytes_eq-Decides}
+use Rattle.smallvec.specs.SmallVec.{SmallVec}
 use Rattle.seccomp_doc.specs.declared.action.Action.{Action}
 use Rattle.seccomp_doc.specs.Action.{rank_of}
 use Rattle.seccomp_doc.specs.Filter.{EntryValue, FilterValue}
@@ -126,10 +126,10 @@ entry_added old new es i e within is before adds q test =
 -- ---- one group
 
 -- without entries there is no group
-pub none_under : {A : Type 0} (groups : BTreeMap (Bor (List ℕ)) (Vec ℕ A)) → groups.entries ≡ [] → (name : List ℕ) → places_under groups name ≡ []
+pub none_under : (groups : BTreeMap (Bor (List ℕ)) (SmallVec ℕ)) → groups.entries ≡ [] → (name : List ℕ) → places_under groups name ≡ []
 none_under groups none name = ap (λ es. option_map_or (λ g. g.items) (lookup (is_at (λ key. slice_cmp nat_cmp name key.now)) es) []) none
 
-pub group_or : {A : Type 0} (o : Option (Vec ℕ A)) (empty : Vec ℕ A) → empty.items ≡ [] → (unwrap_or o empty).items ≡ option_map_or (λ g. g.items) o []
+pub group_or : (o : Option (SmallVec ℕ)) (empty : SmallVec ℕ) → empty.items ≡ [] → (unwrap_or o empty).items ≡ option_map_or (λ g. g.items) o []
 group_or None empty none = none
 group_or (Some group) empty none = refl
 
@@ -186,7 +186,7 @@ entries_at-more es places i place e within is place_within e_is =
     ap (entries_at es) (take_more places i place within ∙ ap (λ p. take i places ++ p ∷ []) (sym is)) ∙ entries_at-push es (take i places) place e place_within e_is
 
 -- the places under a name, where a place was added under one
-pub under_added : {A : Type 0} (name q : List ℕ) (old : List ℕ → List ℕ) (after : Vec ℕ A) (found other : Option (Vec ℕ A)) (place : ℕ) (test : ℕ → Bool) →
+pub under_added : (name q : List ℕ) (old : List ℕ → List ℕ) (after : SmallVec ℕ) (found other : Option (SmallVec ℕ)) (place : ℕ) (test : ℕ → Bool) →
     found ≡ cond (bytes_eq name q) (Some after) other → option_map_or (λ g. g.items) other [] ≡ old q →
     ((t : ℕ → Bool) → list_any t after.items ≡ (list_any t (old name) || t place)) →
     list_any test (option_map_or (λ g. g.items) found []) ≡ (list_any test (old q) || (bytes_eq name q && test place))

@@ -6,7 +6,7 @@ use Rattle.std.specs.Cmp.Lexicographic.{slice_cmp}
 use Rattle.std.specs.List.{list_any}
 use Rattle.std.specs.Option.{option_map_or}
 use Rattle.std.specs.Ordering.{nat_cmp}
-use Rattle.std.specs.declared.vec.Vec.{Vec}
+use Rattle.smallvec.specs.SmallVec.{SmallVec}
 use Rattle.seccomp_doc.specs.Filter.{EntryValue}
 use Rattle.seccomp_doc.specs.Meaning.{has_name}
 
@@ -28,11 +28,11 @@ abbrev pub AreWithin : List EntryValue → List ℕ → Type 0
 AreWithin entries places = All (λ place. place < length entries) places
 
 -- the group of a name, where there is one
-abbrev pub group_at : {A : Type 0} → BTreeMap (Bor (List ℕ)) (Vec ℕ A) → List ℕ → Option (Vec ℕ A)
+abbrev pub group_at : BTreeMap (Bor (List ℕ)) (SmallVec ℕ) → List ℕ → Option (SmallVec ℕ)
 group_at groups name = get_by (λ key. slice_cmp nat_cmp name key.now) groups
 
 -- the places under a name
-abbrev pub places_under : {A : Type 0} → BTreeMap (Bor (List ℕ)) (Vec ℕ A) → List ℕ → List ℕ
+abbrev pub places_under : BTreeMap (Bor (List ℕ)) (SmallVec ℕ) → List ℕ → List ℕ
 places_under groups name = option_map_or (λ group. group.items) (group_at groups name) []
 
 -- the two lists have the same elements, in whatever order and however often
@@ -40,7 +40,7 @@ abbrev pub HasSameElements : {X : Type 0} → List X → List X → Type 0
 HasSameElements xs ys = (test : _ → Bool) → list_any test xs ≡ list_any test ys
 
 -- under each name are the places of the entries that have it
-abbrev pub IsGrouping : {A : Type 0} → List EntryValue → BTreeMap (Bor (List ℕ)) (Vec ℕ A) → Type 0
+abbrev pub IsGrouping : List EntryValue → BTreeMap (Bor (List ℕ)) (SmallVec ℕ) → Type 0
 IsGrouping entries groups = (name : List ℕ) → HasSameElements (places_under groups name) (places_of name entries)
 
 -- a place is added to a list of them
@@ -48,7 +48,7 @@ abbrev pub AddsPlace : List ℕ → List ℕ → ℕ → Type 0
 AddsPlace old new place = (test : ℕ → Bool) → list_any test new ≡ (list_any test old || test place)
 
 -- the place is added under each of these names
-abbrev pub AddsUnder : {A : Type 0} → BTreeMap (Bor (List ℕ)) (Vec ℕ A) → BTreeMap (Bor (List ℕ)) (Vec ℕ A) → List (List ℕ) → ℕ → Type 0
+abbrev pub AddsUnder : BTreeMap (Bor (List ℕ)) (SmallVec ℕ) → BTreeMap (Bor (List ℕ)) (SmallVec ℕ) → List (List ℕ) → ℕ → Type 0
 AddsUnder old new names place =
     (name : List ℕ) (test : ℕ → Bool) →
     list_any test (places_under new name) ≡ (list_any test (places_under old name) || (list_any (bytes_eq name) names && test place))

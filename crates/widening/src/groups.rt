@@ -11,6 +11,7 @@ ghost use Rattle.widening.specs.Ranks.{AreRanksOf, rules_with};
 use crate::memo::{Memo, do_imply};
 use crate::ranks::{Asked, Ranks};
 use seccomp_doc::{Action, Entry, Filter};
+use smallvec::SmallVec;
 use std::alloc::{AllocError, Global};
 use std::collections::BTreeMap;
 
@@ -31,13 +32,13 @@ impl<'b> Group<'b> {
     }
 }
 
-// A filter, and the places of its entries by the names of their calls. `none` stands for the group of a name that no entry
-// has.
+// A filter, and the places of its entries by the names of their calls. Most names have one entry, whose place takes no
+// allocation. `none` stands for the group of a name that no entry has.
 #[derive(Drop)]
 pub(crate) struct Groups<'a> {
     filter: &'a Filter,
-    by_name: BTreeMap<&'a str, Vec<usize>>,
-    none: Vec<usize>,
+    by_name: BTreeMap<&'a str, SmallVec<usize, 1>>,
+    none: SmallVec<usize, 1>,
     ghost grouped: { IsGrouping filter.now.entries by_name },
     ghost none_is_empty: { none.items ≡ [] },
 }
@@ -51,7 +52,7 @@ impl<'a> Groups<'a> {
         Ok(Groups {
             filter,
             by_name,
-            none: Vec::new(alloc),
+            none: SmallVec::new(alloc),
         })
     }
 
@@ -106,8 +107,8 @@ pub(crate) fn keeps_to(
 
 // The places under a name, or `none` where there is no group.
 fn places_at<'b>(
-    groups: &'b BTreeMap<&str, Vec<usize>>,
-    none: &'b Vec<usize>,
+    groups: &'b BTreeMap<&str, SmallVec<usize, 1>>,
+    none: &'b SmallVec<usize, 1>,
     name: &str,
 ) -> &'b [usize]
     requires { none.now.items ≡ [] }
@@ -120,7 +121,7 @@ fn places_at<'b>(
 fn group_by_name<'a>(
     alloc: Global,
     filter: &'a Filter,
-) -> Result<BTreeMap<&'a str, Vec<usize>>, AllocError>
+) -> Result<BTreeMap<&'a str, SmallVec<usize, 1>>, AllocError>
     ensures { IfOk result (IsGrouping filter.now.entries) }
 {
     let mut groups = BTreeMap::new(alloc);
@@ -134,7 +135,7 @@ fn group_by_name<'a>(
 // Adds the place of an entry under each of its names.
 fn add_entry<'a>(
     alloc: Global,
-    groups: &mut BTreeMap<&'a str, Vec<usize>>,
+    groups: &mut BTreeMap<&'a str, SmallVec<usize, 1>>,
     entry: &'a Entry,
     place: usize,
 ) -> Result<(), AllocError>
@@ -149,22 +150,22 @@ fn add_entry<'a>(
 // Adds a place under a name.
 fn add_under<'a>(
     alloc: Global,
-    groups: &mut BTreeMap<&'a str, Vec<usize>>,
+    groups: &mut BTreeMap<&'a str, SmallVec<usize, 1>>,
     name: &'a str,
     place: usize,
 ) -> Result<(), AllocError>
     ensures { OnOk result ((q : List ℕ) (test : ℕ → Bool) → list_any test (places_under groups.new q)
         ≡ (list_any test (places_under groups.old q) || (bytes_eq name.now q && test place))) }
 {
-    add_place(groups.entry(name)?.or_insert(Vec::new(alloc)), place)?;
+    add_place(groups.entry(name)?.or_insert(SmallVec::new(alloc)), place)?;
     Ok(())
 }
 
 // Adds a place, unless it is the last: an entry that has a name twice stands under it once.
-fn add_place(places: &mut Vec<usize>, place: usize) -> Result<(), AllocError>
+fn add_place(places: &mut SmallVec<usize, 1>, place: usize) -> Result<(), AllocError>
     ensures { OnOk result (AddsPlace places.old.items places.new.items place) }
 {
-    if places.last() != Some(&place) {
+    if places.as_slice().last() != Some(&place) {
         places.push(place)?;
     }
     Ok(())
