@@ -18,3 +18,4 @@ pub mod Creating
 pub mod Queries
 pub mod Shut
 pub mod Whole
+pub mod Sure

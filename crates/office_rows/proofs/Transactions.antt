@@ -11,7 +11,7 @@ use Rattle.sqlite.specs.Held.{Held, state}
 use Rattle.sqlite.proofs.StateLemmas.{survives_then}
 use Rattle.sqlite.proofs.Callers.{survives_begin}
 use Rattle.office_rows.specs.declared.transaction.Statement.{Statement as Lent}
-use Rattle.office_rows.specs.Statements.{Statement, statement_of, begun, RanAll, FailedIn}
+use Rattle.office_rows.specs.Statements.{Statement, statement_of, begun, RanAll, FailedIn, RefusedIn}
 
 -- some of the statements have run, and the others are left
 pub record IsUnderWay {S : Type 0} (g : Ghosts S) (all left : List Statement) (old now : Held S) : Type 0 where
@@ -21,6 +21,8 @@ pub record IsUnderWay {S : Type 0} (g : Ghosts S) (all left : List Statement) (o
   pub committed : HasCleanDisk (state g now) → IsTrue (state g now).is_open → (state g now).committed ≡ (state g old).committed
   pub ran : HasCleanDisk (state g now) → (db : Database) → RanAll g left now db → RanAll g all (begun old) db
   pub failed : HasCleanDisk (state g now) → (e : Error) → FailedIn g left now e → FailedIn g all (begun old) e
+  pub refused : HasCleanDisk (state g now) → (e : Error) → RefusedIn g left now e → RefusedIn g all (begun old) e
+  pub stays : HasCleanDisk (state g now) → IsTrue (state g old).is_open → IsTrue (state g now).is_open
 
 pub one_more : {S : Type 0} (g : Ghosts S) (all left : List Statement) (s : Statement) (old now next : Held S) (count : ℕ) → IsUnderWay g all (s ∷ left) old now
     → Survives (state g now) (state g next) (λ _. ⊥)
@@ -36,6 +38,8 @@ one_more g all left s old now next count it step runs =
       committed = λ clean is_open. (done clean).1.committed_is ∙ it.committed (before clean) (done clean).1.was_open;
       ran = λ clean db rest. it.ran (before clean) db (next, count, done clean, rest);
       failed = λ clean e rest. it.failed (before clean) e (inr (next, count, done clean, rest));
+      refused = λ clean e rest. it.refused (before clean) e (inr (next, count, done clean, rest));
+      stays = λ clean was. (done clean).1.is_open;
     }
 
 abbrev pub nothing_lent : Lent

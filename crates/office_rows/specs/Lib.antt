@@ -4,3 +4,4 @@ pub mod Statements
 pub mod Rows
 pub mod Queries
 pub mod Told
+pub mod Causes

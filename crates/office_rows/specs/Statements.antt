@@ -1,14 +1,17 @@
 -- Several statements in one transaction.
 use Rattle.std.specs.Prelude.{◌≡◌, ◌⊎◌, ℕ, true, List, [], ◌∷◌, Ok, Err}
 use Rattle.sqlite.specs.declared.error.Error.{Error}
+use Rattle.sqlite.specs.declared.error.Error.TheVariants.{SqliteFailure}
+use Rattle.sqlite.specs.declared.error.ErrorCode.TheVariants.{TooBig}
 use Rattle.sqlite.specs.Store.{Ghosts}
 use Rattle.sqlite.specs.Order.{Row}
 use Rattle.sqlite.specs.Effect.{Database}
-use Rattle.sqlite.specs.State.{ExecutesInside}
+use Rattle.sqlite.specs.State.{ExecutesInside, IsUnchanged}
 use Rattle.sqlite.specs.Steps.{FailsToCommit}
 use Rattle.sqlite.specs.Held.{Held, state}
 use Rattle.sqlite.specs.Values.{bound}
 use Rattle.office_tables.specs.declared.fault.StoreFault.{StoreFault}
+use Rattle.office_rows.specs.Causes.{HasFailed}
 use Rattle.office_rows.specs.Faults.{fault_of_error}
 use Rattle.office_rows.specs.declared.transaction.Statement.{Statement as Lent}
 
@@ -41,3 +44,34 @@ module _ {S : Type 0} (g : Ghosts S) where
     pub error : Error
     pub failed : FailedIn statements (begun h) error
     pub fault : f ≡ fault_of_error error
+
+  -- SQLite refuses this statement for what is there, which it leaves, or for a row that is too big
+  abbrev pub IsRefused : Statement → Held S → Error → Type 0
+  IsRefused s h e =
+      (new : Held S) × ExecutesInside 0 s.sql s.params (state g h) (state g new) (Err e)
+      × (IsUnchanged (state g h) (state g new) ⊎ (e ≡ SqliteFailure TooBig))
+
+  -- from this connection on, it refuses one of the statements
+  abbrev pub RefusedIn : List Statement → Held S → Error → Type 0
+  RefusedIn [] h e = ⊥
+  RefusedIn (s ∷ ss) h e =
+      IsRefused s h e
+      ⊎ ((mid : Held S) × (count : ℕ)
+      × ExecutesInside 0 s.sql s.params (state g h) (state g mid) (Ok count) × RefusedIn ss mid e)
+
+  -- a transaction fails for no memory, for the disk, over a connection that was shut, or since SQLite
+  -- refuses a statement
+  abbrev pub FailsFor : List Statement → (old new : Held S) → Error → Type 0
+  FailsFor statements old new e =
+      HasFailed (state g old) (state g new) (fault_of_error e) ⊎ RefusedIn statements (begun old) e
+
+  -- it refuses a statement of the transaction with this fault
+  pub record Refuses (statements : List Statement) (h : Held S) (f : StoreFault) : Type 0 where
+    pub error : Error
+    pub refused : RefusedIn statements (begun h) error
+    pub fault : f ≡ fault_of_error error
+
+  -- a transaction met this fault, of one of these causes
+  pub record HasMet (statements : List Statement) (old new : Held S) (f : StoreFault) : Type 0 where
+    pub cause : IsCause statements old f
+    pub met : HasFailed (state g old) (state g new) f ⊎ Refuses statements old f

@@ -4,7 +4,7 @@ ghost use Rattle.std.specs.Prelude.{◌≡◌, false, map, IsTrue, IfErr, OnOk, 
 ghost use Rattle.sqlite.specs.Effect.{Database};
 ghost use Rattle.sqlite.specs.Held.{state};
 ghost use Rattle.sqlite.specs.State.{HasCleanDisk, Survives, Shows};
-ghost use Rattle.office_rows.specs.Statements.{statement_of, begun, RanAll, FailedIn};
+ghost use Rattle.office_rows.specs.Statements.{statement_of, begun, RanAll, FailedIn, FailsFor};
 
 use sqlite::types::ValueRef;
 use sqlite::{Alter, Connection, Error};
@@ -26,6 +26,8 @@ pub fn run_all<S: Alter>(
         × Shows (state S.Store conn.old) (state S.Store conn.new) (state S.Store conn.new).now (state S.Store conn.new).now false) }
     ensures none { HasCleanDisk (state S.Store conn.new) → IsTrue (state S.Store conn.new).is_open → OnErr result ((state S.Store conn.new).now ≡ (state S.Store conn.old).committed × (state S.Store conn.new).committed ≡ (state S.Store conn.old).committed) }
     ensures cause { HasCleanDisk (state S.Store conn.new) → IfErr result (FailedIn S.Store (map statement_of statements.now) (begun conn.old)) }
+    ensures met { HasCleanDisk (state S.Store conn.new)
+        → IfErr result (FailsFor S.Store (map statement_of statements.now) conn.old conn.new) }
     ensures was_open { HasCleanDisk (state S.Store conn.new) → IsTrue (state S.Store conn.new).is_open → IsTrue (state S.Store conn.old).is_open }
     ensures mode { conn.new.in_transaction ≡ false }
     ensures clean { HasCleanDisk (state S.Store conn.new) → HasCleanDisk (state S.Store conn.old) }
