@@ -1,11 +1,11 @@
 -- What the operations on bits do to the members of a set, and when two sets are equal.
 use Rattle.std.proofs.Common.{◌≡◌, ◌∙◌, ℕ, ◌==◌, ◌⊎◌, eqb-true, eq-eqb, inl, inr, min, max, sym, ap, arith}
-use Rattle.std.proofs.lemmas.Nat.Bits.{bit_at_and, bit_at_or, bit_at-zero, bit_at-lt, bit_at-pow_same, bit_at-pow_other, same_from_bits}
-use Rattle.std.proofs.lemmas.Bool.{cases_eq, cases_lt}
+use Rattle.std.proofs.lemmas.Nat.Bits.{bit_at_and, bit_at_or, bit_at-zero, bit_at-lt, same_from_bits}
+use Rattle.std.proofs.lemmas.Bool.{cases_lt}
 use Rattle.std.specs.Int.{bit_at}
 use Rattle.std.specs.Int.RustNames.{bit_and, bit_or}
 use Rattle.std.specs.Prelude.{IsTrue, ◌↔◌}
-use Rattle.cap_sets.specs.Capability.{Has, IsWithin, single}
+use Rattle.cap_sets.specs.Capability.{Has, IsWithin}
 
 -- each bit is 0 or 1
 pub cases_bit : (n i : ℕ) → (bit_at n i ≡ 0) ⊎ (bit_at n i ≡ 1)
@@ -62,10 +62,3 @@ same_bit a b n there back = elim (cases_bit a n) as (λ _. bit_at a n ≡ bit_at
 -- two sets with the same members are equal
 pub same_members : (a b : ℕ) → ((n : ℕ) → Has a n ↔ Has b n) → a ≡ b
 same_members a b h = same_from_bits a b (λ n. same_bit a b n (h n).0 (h n).1)
-
-only_member : (k n : ℕ) → Has (single k) n → n ≡ k
-only_member k n h = elim (cases_eq n k) [ inl same ↦ same | inr other ↦ let zero = bit_at-pow_other k n other in absurd (omega arith) ]
-
--- a capability alone is the only member of its set
-pub has_single : (k n : ℕ) → Has (single k) n ↔ (n ≡ k)
-has_single k n = (only_member k n, λ e. rw e (bit_at-pow_same k))

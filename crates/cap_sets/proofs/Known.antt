@@ -6,7 +6,7 @@ use Rattle.std.proofs.lemmas.Nat.{and_mask}
 use Rattle.std.proofs.lemmas.Nat.Bits.{bit_at_above, bit_at_ones}
 use Rattle.std.proofs.lemmas.Bool.{cases_lt}
 use Rattle.std.specs.Int.RustNames.{bit_and}
-use Rattle.std.specs.Prelude.{◌↔◌, Option, Some, None, nat_lt, if◌then◌else◌}
+use Rattle.std.specs.Prelude.{Option, Some, None, nat_lt, if◌then◌else◌}
 use Rattle.bitflags.proofs.OnLiterals.{bitflags_on_literals}
 use Rattle.bitflags.specs.Sets.{known_bits}
 use Rattle.cap_sets.specs.Capability.{Has, cap_table}
@@ -15,11 +15,6 @@ use Rattle.cap_sets.proofs.Bits.{same_members, both_from_and, and_from_both}
 -- what is in a set of capabilities is one of the 41
 pub has_known : (caps n : ℕ) → caps < 2 ^ 41 → Has caps n → n < 41
 has_known caps n small h = elim (cases_lt n 41) [ inl lt ↦ lt | inr ge ↦ let none = bit_at_above caps 41 n small ge in absurd (omega arith) ]
-
--- two sets of capabilities with the same ones of the 41 are equal
-pub same_known_members : (a b : ℕ) → a < 2 ^ 41 → b < 2 ^ 41 → ((n : ℕ) → n < 41 → Has a n ↔ Has b n) → a ≡ b
-same_known_members a b small_a small_b h =
-    same_members a b (λ n. (λ has. (h n (has_known a n small_a has)).0 has, λ has. (h n (has_known b n small_b has)).1 has))
 
 -- a number that the low k bits keep is below 2 ^ k
 pub below_from_mask : (n k : ℕ) → bit_and n (2 ^ k - 1) ≡ n → n < 2 ^ k

@@ -2,7 +2,7 @@
 use Rattle.std.proofs.Common.{◌≡◌, ◌≢◌, inl, inr, List, Option, Some, None, true, false, sym, ◌∙◌, bytes_eq, refl}
 use Rattle.std.proofs.lemmas.Slice.Eq.{bytes_eq-Decides}
 use Rattle.std.specs.Prelude.{codes}
-use Rattle.clap.specs.Words.{HasKind, Kinds, Row, Text, first_of, kind_of}
+use Rattle.clap.specs.Words.{HasKind, Kinds, Row, Text, kind_of}
 use Rattle.clap.specs.declared.error.Error.{Error}
 use Rattle.command_line.specs.declared.command.Command.TheVariants.{Trial, Check, Execve, Init, Desk, Serve, Migrate, Compare}
 use Rattle.command_line.specs.declared.fault.WordsFault.{WordsFault}
@@ -20,50 +20,6 @@ apart a b different same =
 
 none≢some : {X : Type 0} (x : X) → None ≡ Some x → ⊥
 none≢some x e = cc
-
--- `check` without FILE asks for nothing
-pub no_check : (rows : List Row) → first_of (codes "file") rows ≡ None → NoneAskedFor (codes "check") rows
-no_check rows none Trial asked = asked
-no_check rows none (Check file) asked = none≢some _ (sym none ∙ asked.1)
-no_check rows none (Execve words) asked = apart _ _ refl asked.0
-no_check rows none (Init words) asked = apart _ _ refl asked.0
-no_check rows none (Desk database) asked = apart _ _ refl asked.0
-no_check rows none (Serve words) asked = apart _ _ refl asked.0
-no_check rows none (Migrate database) asked = apart _ _ refl asked.0
-no_check rows none (Compare base new) asked = apart _ _ refl asked.0
-
--- `execve` without FILE asks for nothing
-pub no_execve : (rows : List Row) → first_of (codes "file") rows ≡ None → NoneAskedFor (codes "execve") rows
-no_execve rows none Trial asked = asked
-no_execve rows none (Check file) asked = apart _ _ refl asked.0
-no_execve rows none (Execve words) asked = none≢some _ (sym none ∙ asked.1.file)
-no_execve rows none (Init words) asked = apart _ _ refl asked.0
-no_execve rows none (Desk database) asked = apart _ _ refl asked.0
-no_execve rows none (Serve words) asked = apart _ _ refl asked.0
-no_execve rows none (Migrate database) asked = apart _ _ refl asked.0
-no_execve rows none (Compare base new) asked = apart _ _ refl asked.0
-
--- `desk` without DB asks for nothing
-pub no_desk : (rows : List Row) → first_of (codes "database") rows ≡ None → NoneAskedFor (codes "desk") rows
-no_desk rows none Trial asked = asked
-no_desk rows none (Check file) asked = apart _ _ refl asked.0
-no_desk rows none (Execve words) asked = apart _ _ refl asked.0
-no_desk rows none (Init words) asked = apart _ _ refl asked.0
-no_desk rows none (Desk database) asked = none≢some _ (sym none ∙ asked.1)
-no_desk rows none (Serve words) asked = apart _ _ refl asked.0
-no_desk rows none (Migrate database) asked = apart _ _ refl asked.0
-no_desk rows none (Compare base new) asked = apart _ _ refl asked.0
-
--- `migrate` without DB asks for nothing
-pub no_migrate : (rows : List Row) → first_of (codes "database") rows ≡ None → NoneAskedFor (codes "migrate") rows
-no_migrate rows none Trial asked = asked
-no_migrate rows none (Check file) asked = apart _ _ refl asked.0
-no_migrate rows none (Execve words) asked = apart _ _ refl asked.0
-no_migrate rows none (Init words) asked = apart _ _ refl asked.0
-no_migrate rows none (Desk database) asked = apart _ _ refl asked.0
-no_migrate rows none (Serve words) asked = apart _ _ refl asked.0
-no_migrate rows none (Migrate database) asked = none≢some _ (sym none ∙ asked.1)
-no_migrate rows none (Compare base new) asked = apart _ _ refl asked.0
 
 -- `init` asks for nothing where a value that it needs isn't there
 pub no_init : (rows : List Row) → ((words : InitWords) → ¬ HasInitValues rows words) → NoneAskedFor (codes "init") rows
@@ -97,18 +53,6 @@ no_compare rows lacks (Desk database) asked = apart _ _ refl asked.0
 no_compare rows lacks (Serve words) asked = apart _ _ refl asked.0
 no_compare rows lacks (Migrate database) asked = apart _ _ refl asked.0
 no_compare rows lacks (Compare base new) asked = lacks base.now new.now asked.1
-
--- another name asks for nothing
-pub no_other : (name : Text) (rows : List Row) → name ≢ codes "check" → name ≢ codes "execve" → name ≢ codes "compare"
-    → name ≢ codes "init" → name ≢ codes "desk" → name ≢ codes "serve" → name ≢ codes "migrate" → NoneAskedFor name rows
-no_other name rows not_check not_execve not_compare not_init not_desk not_serve not_migrate Trial asked = asked
-no_other name rows not_check not_execve not_compare not_init not_desk not_serve not_migrate (Check file) asked = not_check asked.0
-no_other name rows not_check not_execve not_compare not_init not_desk not_serve not_migrate (Execve words) asked = not_execve asked.0
-no_other name rows not_check not_execve not_compare not_init not_desk not_serve not_migrate (Init words) asked = not_init asked.0
-no_other name rows not_check not_execve not_compare not_init not_desk not_serve not_migrate (Desk database) asked = not_desk asked.0
-no_other name rows not_check not_execve not_compare not_init not_desk not_serve not_migrate (Serve words) asked = not_serve asked.0
-no_other name rows not_check not_execve not_compare not_init not_desk not_serve not_migrate (Migrate database) asked = not_migrate asked.0
-no_other name rows not_check not_execve not_compare not_init not_desk not_serve not_migrate (Compare base new) asked = not_compare asked.0
 
 -- a value that isn't there is none
 pub lacks_value : (r : Option Text) (t : Text) → r ≡ None → ¬ (r ≡ Some t)

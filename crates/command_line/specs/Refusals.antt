@@ -8,13 +8,6 @@ use Rattle.command_line.specs.declared.fault.WordsFault.{WordsFault}
 use Rattle.command_line.specs.declared.fault.WordsFault.TheVariants.{Help, Version, Refused, NoMemory}
 use Rattle.command_line.specs.Meaning.{AsksFor, IsCommand, IsNumberIn}
 
--- the status that the program ends with
-abbrev pub status_of : WordsFault → ℕ
-status_of (Help text) = 0
-status_of (Version text) = 0
-status_of (Refused text) = 2
-status_of NoMemory = 1
-
 -- what is reported of an error of clap's by its kind; out of memory may stand in place of its text
 abbrev pub IsTold : ErrorKind → WordsFault → Type 0
 IsTold kind (Help text) = kind ≡ DisplayHelp

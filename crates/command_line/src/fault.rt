@@ -22,20 +22,8 @@ pub enum WordsFault {
 }
 
 impl WordsFault {
-    ghost use Rattle.std.specs.Prelude.{◌≡◌};
     ghost use Rattle.clap.specs.Words.{kind_of};
-    ghost use Rattle.command_line.specs.Refusals.{IsTold, status_of};
-
-    /// The status that the program ends with: 0 after help and the version, 2 after words that are refused, 1 where it is out of memory.
-    pub fn status(&self) -> u8
-        ensures { result ≡ status_of self.now }
-    {
-        match self {
-            WordsFault::Help(_) | WordsFault::Version(_) => 0,
-            WordsFault::Refused(_) => 2,
-            WordsFault::NoMemory => 1,
-        }
-    }
+    ghost use Rattle.command_line.specs.Refusals.{IsTold};
 
     /// What `clap` answers in place of matches.
     pub(crate) fn of_error(alloc: Global, error: &clap::Error) -> WordsFault

@@ -1,8 +1,8 @@
 -- What filling a buffer comes to.
-use Rattle.std.proofs.Common.{◌≡◌, ◌∙◌, ◌+◌, ◌-◌, ◌<◌, ◌≤◌, ℕ, List, [], ◌++◌, length, take, drop, min, Option, refl, sym, ap, subst, arith, inl, inr, length-append}
-use Rattle.std.proofs.KnownBytes.{Consumes-nil, Consumes-trans}
+use Rattle.std.proofs.Common.{◌≡◌, ◌∙◌, ◌+◌, ◌-◌, ◌<◌, ◌≤◌, ℕ, List, ◌++◌, length, take, drop, min, Option, sym, ap, subst, arith, inl, inr, length-append}
+use Rattle.std.proofs.KnownBytes.{Consumes-trans}
 use Rattle.std.proofs.lemmas.Bool.{cases_lt}
-use Rattle.std.proofs.lemmas.List.{take-append-drop, take-append-le, take-take, take_all, drop_all, drop-append-le, length-take-le, length-drop}
+use Rattle.std.proofs.lemmas.List.{take-append-drop, take-append-le, take-take, take_all, drop-append-le, length-take-le, length-drop}
 use Rattle.std.proofs.Math.Seq.{take-add}
 use Rattle.std.specs.Io.KnownBytes.{Consumes}
 use Rattle.streams.specs.Some.{some_count}
@@ -16,17 +16,6 @@ pub record Filling (before now : Option (List ℕ)) (kept filled : ℕ) (old buf
   pub high : filled ≤ length buffer
   pub same_front : take kept buffer ≡ take kept old
   pub bytes : Consumes before now (drop kept (take filled buffer))
-
-pub filling_none : (before : Option (List ℕ)) (kept : ℕ) (old : List ℕ) → kept ≤ length old → Filling before before kept kept old old
-filling_none before kept old within = record {
-  same_length = refl;
-  low = omega arith;
-  high = within;
-  same_front = refl;
-  bytes =
-      let none : drop kept (take kept old) ≡ [] = drop_all kept (take kept old) (omega (arith, length-take-le kept old within)) in
-      subst (λ (bytes : List ℕ). Consumes before before bytes) (sym none) (Consumes-nil before);
-}
 
 module _ (before now : Option (List ℕ)) (kept filled : ℕ) (old buffer : List ℕ) (f : Filling before now kept filled old buffer) where
   pub filling_more : (after : Option (List ℕ)) (new : List ℕ) (read : SomeRead) → ReadsBehind now after filled buffer new read

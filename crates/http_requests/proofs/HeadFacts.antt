@@ -1,8 +1,8 @@
 -- What bytes that follow leave as it is.
-use Rattle.std.proofs.Common.{◌≡◌, ◌∙◌, ◌-◌, ◌<◌, ◌≤◌, ℕ, false, List, ◌++◌, length, nat_le, slice_index, refl, arith, inl, inr}
+use Rattle.std.proofs.Common.{◌≡◌, ◌∙◌, ◌-◌, ◌<◌, ◌≤◌, ℕ, List, ◌++◌, length, nat_le, slice_index, refl, arith, inl, inr}
 use Rattle.std.proofs.lemmas.Bool.{cases_Bool, leb-true}
 use Rattle.std.proofs.lemmas.List.{get_or_append_left, length-append}
-use Rattle.http_requests.specs.Ends.{ends_head, HasNoEnd, IsHeadEnd, most_head}
+use Rattle.http_requests.specs.Ends.{ends_head, IsHeadEnd}
 
 -- a byte before the end
 byte_stays : (bytes more : List ℕ) (k : ℕ) → k < length bytes → slice_index (bytes ++ more) k ≡ slice_index bytes k
@@ -21,10 +21,6 @@ end_stays bytes more n within =
           ) refl
       | inr few ↦ rw few refl
     ]
-
--- where none has ended, none ends there later
-pub none_ends : (bytes more : List ℕ) → HasNoEnd bytes → length bytes < most_head → (k : ℕ) → k ≤ length bytes → ends_head (bytes ++ more) k ≡ false
-none_ends bytes more none short k within = end_stays bytes more k within ∙ none k within (omega (arith, within, short))
 
 -- the end of a head that has come
 pub head_end_stays : (bytes more : List ℕ) (n : ℕ) → IsHeadEnd bytes n → IsHeadEnd (bytes ++ more) n

@@ -30,13 +30,6 @@ Shapes = List (List Part × Form)
 abbrev pub form_in : Shapes → List (List ℕ) → Option Form
 form_in shapes ws = option_map (λ s. s.1) (find (λ s. fits_parts s.0 ws) shapes)
 
--- what may follow the number of a revision
-abbrev pub of_number : Shapes
-of_number = (word (codes "adopt") ∷ [], OfRevision Adopt)
-    ∷ (word (codes "issue") ∷ [], OfRevision Issue)
-    ∷ (word (codes "sheet") ∷ [], OfRevision Sheet) ∷ (word (codes "vote") ∷ [], OfRevision Vote)
-    ∷ (word (codes "withdraw") ∷ [], OfRevision Withdraw) ∷ []
-
 -- every route by its parts, which stand for a team, a profile and a number where they are any
 abbrev pub shapes : Shapes
 shapes = (word (codes "users") ∷ [], OfUsers)

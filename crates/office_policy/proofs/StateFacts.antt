@@ -13,7 +13,7 @@ use Rattle.office_tables.specs.Changes.{after_submission}
 use Rattle.office_policy.specs.History.{Event, founded, enrolled, submitted, voted, issued, withdrawn, adopted, held, released, History}
 use Rattle.office_policy.specs.Revisions.{Submission, submits, issues, withdraws, is_replaced, revision_count, submission_of, revision_of}
 use Rattle.office_policy.specs.Lawful.{IsLawfulHistory}
-use Rattle.office_policy.proofs.UserFacts.{same_bytes, bytes_same}
+use Rattle.office_policy.proofs.UserFacts.{same_bytes}
 use Rattle.office_policy.proofs.RevisionFacts.{count_more, within_last, standing_within}
 use Rattle.office_policy.proofs.LawFacts.{Follows, allowed_follows}
 
@@ -29,9 +29,6 @@ same_profile p q e =
     let team = same_bytes p.team q.team parts.0 in
     let profile = same_bytes p.profile q.profile parts.1 in
     λ i. record { team = team i; profile = profile i }
-
-pub profile_same : (p : ProfileName) → is_profile p p ≡ true
-profile_same p = rw (bytes_same p.team p.team refl, bytes_same p.profile p.profile refl) refl
 
 -- no issue and no withdrawal names the revision
 pub record IsUnnamed (h : History) (p : ProfileName) (n : ℕ) : Type 0 where

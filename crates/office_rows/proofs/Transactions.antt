@@ -1,12 +1,11 @@
 -- A transaction between its statements.
-use Rattle.std.proofs.Common.{inl, inr, Err, ◌≡◌, ℕ, ◌<◌, ◌≤◌, ◌+◌, List, [], ◌∷◌, map, length, drop, get_or, Ok, IsTrue, refl, ◌∙◌, arith}
+use Rattle.std.proofs.Common.{inr, ◌≡◌, ℕ, ◌<◌, ◌≤◌, ◌+◌, List, [], ◌∷◌, map, length, drop, get_or, Ok, IsTrue, refl, ◌∙◌, arith}
 use Rattle.std.proofs.lemmas.List.{at_drop_more, at_drop_all}
 use Rattle.sqlite.specs.Store.{Ghosts}
 use Rattle.sqlite.specs.declared.error.Error.{Error}
 use Rattle.sqlite.specs.Effect.{Database}
 use Rattle.sqlite.specs.Tree.{Trees}
-use Rattle.sqlite.specs.Order.{Row}
-use Rattle.sqlite.specs.State.{State, HasCleanDisk, Survives, ExecutesInside}
+use Rattle.sqlite.specs.State.{HasCleanDisk, Survives, ExecutesInside}
 use Rattle.sqlite.specs.Held.{Held, state}
 use Rattle.sqlite.proofs.StateLemmas.{survives_then}
 use Rattle.sqlite.proofs.Callers.{survives_begin}
@@ -60,12 +59,6 @@ committed_all g all old last new it commit =
     survives_then (state g old) (state g last) (state g new) _ _ P (λ _ db none. absurd none)
     (λ clean trees is. let before : HasCleanDisk (state g last) = omega (arith, commit.clean) in ((state g last).now, it.ran before (state g last).now refl, is))
     (survives_begin g old (state g last) _ it.survives) commit
-
--- the connection that a statement failed over was open if it is
-pub failed_open : (sql : List ℕ) (params : Row) (old new : State) (e : Error) → ExecutesInside 0 sql params old new (Err e) → IsTrue new.is_open → IsTrue old.is_open
-failed_open sql params old new e (inl (h, inl same)) is_open = same.0.was_open
-failed_open sql params old new e (inl (h, inr back)) is_open = back.was_open is_open
-failed_open sql params old new e (inr (ends, is, same)) is_open = same.0.was_open
 
 -- a statement that has run did so over an open connection
 pub ran_open : {S : Type 0} (g : Ghosts S) (ss : List Statement) (h : Held S) (db : Database) → 0 < length ss → RanAll g ss h db → IsTrue (state g h).is_open

@@ -1,5 +1,5 @@
 -- What the statements of a write leave of an office.
-use Rattle.std.proofs.Common.{arith, Ok, Err, Result, OnOk, inl, inr, ◌≡◌, List, [], ◌∷◌, refl, sym, subst}
+use Rattle.std.proofs.Common.{arith, inl, inr, ◌≡◌, List, [], ◌∷◌, refl, sym, subst}
 use Rattle.sqlite.specs.declared.error.Error.{Error}
 use Rattle.sqlite.specs.Store.{Ghosts}
 use Rattle.sqlite.specs.Effect.{Database}
@@ -31,7 +31,3 @@ trees_of db trees t office is = subst (λ (d : Database). IsOffice d t) (λ i. r
 -- nothing was done to the store
 pub survives_same : (s : State) (P : Trees → Type 0) → Survives s s P
 survives_same s P = record { clean = omega arith; shield = λ h. h; counts = omega arith; limit = refl; closes = λ clean is_open. inl is_open; crash = λ clean db may. inl may }
-
-pub on_any : {A E P : Type 0} (r : Result A E) → P → OnOk r P
-on_any (Ok a) p = p
-on_any (Err e) p = tt

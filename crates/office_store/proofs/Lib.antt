@@ -1,4 +1,3 @@
-pub mod Texts
 pub mod Columns
 pub mod Kept
 pub mod UserReads

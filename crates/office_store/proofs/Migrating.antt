@@ -1,5 +1,5 @@
 -- From the statements of a migration to what it leaves.
-use Rattle.std.proofs.Common.{inl, inr, ◌≡◌, ◌≢◌, ℕ, Bool, false, Result, Ok, Err, OnOk, OnErr, IsTrue, [], refl, sym, ap, subst, ◌∙◌, arith}
+use Rattle.std.proofs.Common.{inl, inr, ◌≡◌, ◌≢◌, ℕ, Bool, false, Result, Ok, Err, OnOk, OnErr, IsTrue, [], sym, ap, subst, ◌∙◌, arith}
 use Rattle.sqlite.specs.declared.error.Error.{Error}
 use Rattle.sqlite.specs.Effect.{Database}
 use Rattle.sqlite.specs.Held.{Held, state}
@@ -20,7 +20,7 @@ use Rattle.office_store.specs.Calls.{IsRead}
 use Rattle.office_store.specs.Shown.{IsIdle, Shows, AreOffice, LeavesOnly, MayLeave}
 use Rattle.office_store.specs.Migration.{IsOldOffice, ShowsOld, ShowsOldIfOpen, AreOldOffice, IsMigration, migration}
 use Rattle.office_store.proofs.Calls.{never_both, opened, by_open, Settles, leaves_only}
-use Rattle.office_store.proofs.Committed.{trees_of, survives_same}
+use Rattle.office_store.proofs.Committed.{trees_of}
 use Rattle.office_store.proofs.MigrationSteps.{all_migrated, none_migrated}
 
 -- a form has one number
@@ -44,21 +44,6 @@ left_before : (s : State) → Settles s → (t : Tables) → ShowsOld s t → (t
 left_before s law t shows trees may = old_trees_of s.now trees t shows.office (law trees shows.is_open may ∙ ap (λ (d : Database). d.trees) (sym shows.settled))
 
 -- ---- nothing was done, or a read
-
-pub not_begun : (A : Type 0) {E : Type 0} (s : State) (e : E) → IsIdle s → Settles s → IsMigration {A = A} s s (Err e)
-not_begun A s e idle law = record {
-  idle = idle;
-  clean = λ clean. clean;
-  survives = survives_same s _;
-  answered = λ clean. tt;
-  shut = λ clean shut. shut;
-  done = λ t shows clean. tt;
-  undone = λ t shows clean. shows;
-  same = λ settled clean is_open. (refl, refl);
-  crash = λ t shows clean trees may. inl (left_before s law t shows trees may);
-  adds = λ t shows clean trees may. inl may;
-  lost = λ shut clean trees may. may;
-}
 
 pub only_asked : (A : Type 0) {X E : Type 0} {Found : Tables → X → Type 0} (old new : State) (row : Result X StoreFault) (e : E) → IsRead old new row Found → Settles old → IsMigration {A = A} old new (Err e)
 only_asked A old new row e read law = record {

@@ -7,7 +7,7 @@ use Rattle.widening.specs.declared.finding.Finding.TheVariants.{NoSeccomp}
 use Rattle.widening.specs.Findings.{findings_of, gained}
 use Rattle.review_sheet.specs.Sets.{caps_lines}
 use Rattle.review_sheet.specs.Filters.{seccomp_lines}
-use Rattle.review_sheet.specs.Review.{findings_lines, tally_lines, votes_lines}
+use Rattle.review_sheet.specs.Review.{findings_lines, votes_lines}
 use Rattle.review_sheet.specs.Sheet.{head_lines, need_lines, sheet_lines}
 use Rattle.review_sheet.specs.Examples.{bare, bare_lines}
 
@@ -38,10 +38,6 @@ need = rw found refl
 votes : votes_lines bare.votes ≡ take 3 (drop 23 bare_lines)
 unfolding votes_lines digits
 votes = refl
-
-tally : tally_lines bare.votes ≡ take 2 (drop 26 bare_lines)
-unfolding digits
-tally = refl
 
 pub bare_sheet : sheet_lines bare ≡ bare_lines
 unfolding sheet_lines digits

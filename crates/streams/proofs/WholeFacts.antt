@@ -1,6 +1,6 @@
 -- How far the writing of some bytes has come.
-use Rattle.std.proofs.Common.{◌≡◌, ◌∙◌, ℕ, ◌<◌, List, [], ◌∷◌, ◌++◌, length, take, drop, refl, sym, ap, arith, append_assoc, append-nil, length-append, take-append-drop, take_at}
-use Rattle.std.proofs.KnownBytes.{Appends-nil, Appends-trans, Appends-kept}
+use Rattle.std.proofs.Common.{◌≡◌, ◌∙◌, ℕ, ◌<◌, List, ◌++◌, length, take, drop, refl, sym, ap, arith, append_assoc, append-nil, length-append, take-append-drop, take_at}
+use Rattle.std.proofs.KnownBytes.{Appends-trans, Appends-kept}
 use Rattle.std.specs.Prelude.{Option, Some, None}
 use Rattle.std.specs.Io.KnownBytes.{Keeps, Appends}
 use Rattle.streams.specs.Steps.{AppendsPart}
@@ -10,9 +10,6 @@ pub record Written (old new : Option (List ℕ)) (bytes rest : List ℕ) : Type 
   pub front : List ℕ
   pub split : bytes ≡ front ++ rest
   pub appended : Appends old new front
-
-pub none_written : (old : Option (List ℕ)) (bytes : List ℕ) → Written old old bytes bytes
-none_written old bytes = record { front = []; split = refl; appended = Appends-nil old }
 
 pub more_written : (old mid new : Option (List ℕ)) (bytes rest : List ℕ) (n : ℕ) → Written old mid bytes rest → Appends mid new (take n rest) → Written old new bytes (drop n rest)
 more_written old mid new bytes rest n w more =
@@ -25,13 +22,6 @@ more_written old mid new bytes rest n w more =
 pub part_written : (old mid new : Option (List ℕ)) (bytes rest : List ℕ) → Written old mid bytes rest → 0 < length rest → Keeps mid new → AppendsPart old new bytes
 part_written old mid new bytes rest w some keeps =
     (length w.front, omega (arith, ap length w.split, length-append w.front rest), rw (w.split, take_at w.front rest (length w.front) refl) (Appends-kept old mid new w.front w.appended keeps))
-
-empty_rest : (front rest : List ℕ) → length rest ≡ 0 → front ++ rest ≡ front
-empty_rest front [] none = append-nil front
-empty_rest front (b ∷ rest) none = absurd (omega arith)
-
-pub all_written : (old new : Option (List ℕ)) (bytes rest : List ℕ) → Written old new bytes rest → length rest ≡ 0 → Appends old new bytes
-all_written old new bytes rest w none = rw (w.split, empty_rest w.front rest none) w.appended
 
 pub none_taken : (old new : Option (List ℕ)) (n : ℕ) (bytes : List ℕ) → n ≡ 0 → Appends old new (take n bytes) → Keeps old new
 none_taken None new n bytes none h = tt

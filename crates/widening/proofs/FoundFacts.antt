@@ -167,14 +167,6 @@ number_more f p number start items pushed before push =
 
 -- ---- one name more of those that were looked at
 
-pub name_more : {X : Type 0} (shown : X → List ℕ) (p : List ℕ → Bool) (start items pushed : List Finding) (names : List X) (name : X) →
-    items ≡ start ++ map Call (filter p (map shown names)) → pushed ≡ items ++ cond (p (shown name)) (Call (shown name) ∷ []) [] →
-    pushed ≡ start ++ map Call (filter p (map shown (names ++ name ∷ [])))
-name_more shown p start items pushed names name before push =
-    push ∙ ap (λ xs. xs ++ cond (p (shown name)) (Call (shown name) ∷ []) []) before
-    ∙ filter-push Call p start (map shown names) (shown name)
-    ∙ ap (λ ns. start ++ map Call (filter p ns)) (sym (map-append shown names (name ∷ [])))
-
 -- ---- five sets, one after another
 
 -- the capabilities of the five sets, one set after another
