@@ -58,7 +58,7 @@ no_compare rows lacks (Compare base new) asked = lacks base.now new.now asked.1
 pub lacks_value : (r : Option Text) (t : Text) → r ≡ None → ¬ (r ≡ Some t)
 lacks_value r t none there = none≢some t (sym none ∙ there)
 
--- what is told of an error of one of these kinds is told as it must be
+-- what is reported of an error of one of these kinds is as it must be
 pub refused_as_told : (kinds : Kinds) (found : Option (Text × List Row)) (error : Error) (fault : WordsFault)
     → HasKind kinds error → IsTold (kind_of error) fault → IsRefused kinds found fault
 refused_as_told kinds found error (Help text) (inl memory) told = cc

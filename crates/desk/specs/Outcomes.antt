@@ -25,7 +25,7 @@ history_after_line h (Bad fault) = h
 history_after_line h NoMemory = h
 history_after_line h (Answered request answer) = history_after h request answer
 
--- the line that tells it
+-- the line that answers it
 abbrev pub told : Outcome → List ℕ
 told (Bad fault) = bad_line fault
 told NoMemory = line_of (Fault Memory)
@@ -59,7 +59,7 @@ history_after_lines h [] = h
 history_after_lines h (outcome ∷ outcomes) =
     history_after_lines (history_after_line h outcome) outcomes
 
--- the transcript: the lines that tell them, one after the other
+-- the transcript: the lines that answer them, one after the other
 abbrev pub transcript : List Outcome → List ℕ
 transcript [] = []
 transcript (outcome ∷ outcomes) = told outcome ++ transcript outcomes

@@ -51,7 +51,7 @@ module _ {X : Type 0} (m : Meaning X) where
     pub crash : (h : History) → m.is_of h old → m.is_clean new
         → LeavesWithin m new (LeftAfterLines m (m.may_leave old) h outcomes)
 
-  -- some lines were handled, whatever was told of the stream that they are of
+  -- some lines were handled, whatever was reported of the stream that they are of
   pub record HasHandled (old new : X) : Type 0 where
     pub lines : List (List ℕ)
     pub outcomes : List Outcome
@@ -64,7 +64,7 @@ module _ {X : Type 0} (m : Meaning X) where
     pub written : Appends before after (transcript outcomes)
 
   -- the lines were handled, and just the transcript of all but the last was written, with the first
-  -- `count` bytes of the line that tells the last, and not all of them
+  -- `count` bytes of the line that answers the last, and not all of them
   pub record AreCutShort (old new : X) (before after : Known) (lines : List Bytes) (count : ℕ)
       : Type 0 where
     pub outcomes : List Outcome

@@ -1,4 +1,4 @@
--- The responses that tell what came of exchanges.
+-- The responses by what came of exchanges.
 use Rattle.std.specs.Prelude.{ℕ, List}
 use Rattle.review_policy.specs.declared.answer.Answer.TheVariants.{Fault}
 use Rattle.review_policy.specs.declared.answer.Fault.TheVariants.{Memory}
@@ -9,7 +9,7 @@ use Rattle.http_requests.specs.Refusals.{refused_status, refused_word}
 use Rattle.desk_http.specs.declared.outcome.Outcome.{Outcome}
 use Rattle.desk_http.specs.declared.outcome.Outcome.TheVariants.{Refused, NoMemory, Answered}
 
--- the response that tells it
+-- the response to it
 abbrev pub told : Outcome → List ℕ
 told (Refused why) = refusal_with (refused_status why) (refused_word why)
 told NoMemory = response_to (Fault Memory)

@@ -29,7 +29,7 @@ IsWritten before after response code (Err (fault.NoMemory status)) =
     (status ≡ code) × (after ≡ before)
 IsWritten before after response code (Err _) = ⊥
 
--- so is the response that tells it, with its status
+-- so is the response to it, with its status
 abbrev pub IsTold : Option (List ℕ) → Option (List ℕ) → Outcome → Result ℕ HttpFault → Type 0
 IsTold before after outcome result =
     IsWritten before after (told outcome) (told_code outcome) result
@@ -63,7 +63,7 @@ module _ (Same : Type 0) (Handled : Request → Answer → Type 0) where
   HasOutcomeOf input (Err fault.TooManyReads) = Same
   HasOutcomeOf input (Err _) = ⊥
 
--- there is no outcome, and nothing was written; or there is one, and it is told
+-- there is no outcome, and nothing was written; or there is one, and it is answered
 abbrev pub IsServedAs : (Has : Result Outcome HttpFault → Type 0)
     → (before after : Option (List ℕ)) → Result ℕ HttpFault → Type 0
 IsServedAs Has before after result =
@@ -101,8 +101,8 @@ abbrev pub TellCounts : ℕ → ℕ → Result ℕ HttpFault → Type 0
 TellCounts old new (Err (fault.Write status)) = new ≡ one_more old
 TellCounts old new _ = new ≡ old
 
--- one call of the reader failed just where that is told, and there were as many as are allowed where
--- that is
+-- one call of the reader failed just where that is reported, and there were as many as are allowed
+-- where that is
 abbrev pub ReadCounts : {X : Type 0} → (calls calls_after most faults faults_after : ℕ)
     → Result X HttpFault → Type 0
 ReadCounts calls calls_after most faults faults_after (Err fault.Read) =

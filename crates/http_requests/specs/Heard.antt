@@ -110,8 +110,8 @@ HasToken shown (Err (Refused NoToken)) = shown ≡ None
 HasToken shown (Err (Unread NoMemory)) = Unit {0}
 HasToken shown (Err _) = ⊥
 
--- one call failed just where that is told, and there were as many calls as are allowed where that
--- is
+-- one call failed just where that is reported, and there were as many calls as are allowed
+-- where that is
 abbrev pub HearCounts : {X : Type 0} → (calls calls_after most faults faults_after : ℕ)
     → Result X Unheard → Type 0
 HearCounts calls calls_after most faults faults_after (Ok x) = faults_after ≡ faults

@@ -1,4 +1,4 @@
--- The responses that tell answers and refusals.
+-- The responses of answers and refusals.
 use Rattle.std.specs.Prelude.{ℕ, List}
 use Rattle.review_policy.specs.declared.answer.Answer.{Answer}
 use Rattle.review_policy.specs.declared.answer.Answer.TheVariants as answers

@@ -1,4 +1,4 @@
--- Answers about ranges and masks that are true where all is as told, and false where something isn't.
+-- Answers about ranges and masks that are true where all is as stated, and false where something isn't.
 use Rattle.std.proofs.Common.{◌≡◌, ◌≢◌, ◌∙◌, ap, refl, sym, subst, ℕ, ◌/◌, ◌^◌, ◌<◌, ◌≤◌, Bool, true, false, nat_lt, nat_le, ◌==◌, MatchBool, arith}
 use Rattle.std.specs.Int.{bit_at, bit_not, w64}
 use Rattle.std.specs.Int.Bits.{bit_and, bit_or, and_self}

@@ -40,7 +40,7 @@ pub implies-admits : (c d : Compare) → implies c d ≡ true → (word : ℕ) �
 unfolding implies
 implies-admits c d implied word small = passes-true (admits c word) (admits d word) (all_below-true (passes c d) (2 ^ 64) implied word small)
 
--- an answer that is told exactly is that of the definition
+-- an answer that is stated exactly is that of the definition
 pub implies-from_exact : (answer : Bool) (c d : Compare) → TellsAllAdmitted answer (admits c) d → answer ≡ implies c d
 unfolding implies
 implies-from_exact true c d all = sym (all_below-from (passes c d) (2 ^ 64) (λ word small. passes-from (admits c word) (admits d word) (all word small)))

@@ -1,4 +1,4 @@
--- What the bodies of requests ask, whose path and fields tell the rest.
+-- What the bodies of requests ask, whose path and fields have the rest.
 use Rattle.std.specs.Prelude.{ℕ, List, Option, Some, None, if◌then◌else◌, option_and_then}
 use Rattle.serde_json.specs.Data.{Data}
 use Rattle.review_policy.specs.declared.ask.ProfileName.{ProfileName}

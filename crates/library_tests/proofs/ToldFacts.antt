@@ -7,7 +7,7 @@ use Rattle.streams.specs.Lines.{first_line, lines_of, NoFeed}
 use Rattle.streams.proofs.HandedFacts.{all_handed, last_held}
 use Rattle.library_tests.specs.Told.{told_line, told_lines}
 
--- some lines were handed out, and told
+-- some lines were handed out, and reported
 pub record Progress (held : Held) (before now : Option (List ℕ)) (text : List ℕ) (number : ℕ) : Type 0 where
   pub lines : List (List ℕ)
   pub handed : Handed held before now lines
@@ -26,7 +26,7 @@ told_more : (lines : List (List ℕ)) (line : List ℕ) → told_lines (lines ++
 told_more [] line = append-nil (told_line line)
 told_more (l ∷ lines) line = ap (λ t. told_line l ++ t) (told_more lines line) ∙ sym (append_assoc (told_line l) (told_lines lines) (told_line line))
 
--- the first line that is held is told too
+-- the first line that is held is reported too
 abbrev pub TellsFirst : Held → (old new : List ℕ) → Type 0
 TellsFirst held old new = (bytes : List ℕ) → Holds held bytes → new ≡ old ++ told_line (first_line bytes)
 

@@ -1,4 +1,4 @@
--- What is told of lines.
+-- What is reported of lines.
 use Rattle.std.specs.Prelude.{ℕ, List, [], ◌∷◌, ◌++◌, length, nat_lt, codes, if◌then◌else◌}
 
 -- the line, or that it is too long

@@ -1,4 +1,4 @@
-//! The lines of a stream, told one after the other, and readers and writers that fail midway.
+//! The lines of a stream, reported one after the other, and readers and writers that fail midway.
 
 #[cfg(test)]
 mod counted;

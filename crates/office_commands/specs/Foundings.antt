@@ -38,7 +38,7 @@ Gives (Err BadWord) described = described ≡ Err BadWord
 Gives (Err UnknownCapability) described = described ≡ Err UnknownCapability
 Gives (Err NoMemory) described = Unit {0}
 
--- what is told where NAME or TEAM gave no word
+-- what is reported where NAME or TEAM gave no word
 abbrev pub IsFaultOfWord : WordFault → FoundingWordsFault → Type 0
 IsFaultOfWord words.NotAWord told = told ≡ BadWord
 IsFaultOfWord words.NoMemory told = told ≡ NoMemory

@@ -48,7 +48,7 @@ module _ {S : Type 0} (g : Ghosts S) (Opened : Held S → Type 0) where
   IsServed Done Begun Closed (Ok done) = WasServed Done Closed
   IsServed Done Begun Closed (Err why) = IsOfOpening why ⊎ WasServed Begun (λ _. Unit {0})
 
--- of serving and then closing the first fault is told
+-- of serving and then closing the first fault is reported
 abbrev pub IsFirstOf : (served closed result : Result (Unit {0}) CommandFault) → Type 0
 IsFirstOf (Ok done) closed result = result ≡ closed
 IsFirstOf (Err why) closed result = result ≡ Err why

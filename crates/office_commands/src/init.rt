@@ -66,7 +66,7 @@ fn founded_at<S: Alter + Drop, D: Databases<Database = Connection<S>>>(
     match found_in(conn, &founding) {
         Ok(office) => Ok(office),
         Err((fault, conn)) => {
-            // Why no office is founded is told, and not whether this closed.
+            // Why no office is founded is reported, and not whether this closed.
             let _ = databases.close(conn);
             Err(CommandFault::Founding(fault))
         }

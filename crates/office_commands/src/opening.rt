@@ -24,7 +24,7 @@ fn fault_of_opening(error: Error) -> StoreFault
     }
 }
 
-// Whether something stands at a path; `Disk` where that can't be told.
+// Whether something stands at a path; `Disk` where that can't be seen.
 fn is_there<F: Files>(files: &F, path: &str) -> Result<bool, StoreFault>
     ensures { IfErr result (λ fault. fault ≡ StoreFault.Disk) }
 {
@@ -100,7 +100,7 @@ pub(crate) fn office_at<F: Files, S: Alter + Drop, D: Databases<Database = Conne
     match Office::over(conn) {
         Ok(office) => Ok(office),
         Err((fault, conn)) => {
-            // Why it is no office is told, and not whether this closed.
+            // Why it is no office is reported, and not whether this closed.
             let _ = databases.close(conn);
             Err(CommandFault::Opening(fault))
         }
@@ -125,7 +125,7 @@ pub(crate) fn close<S: Alter, D: Databases<Database = Connection<S>>>(
     }
 }
 
-/// What is told of an office that was served and then closed: the first fault.
+/// What is reported of an office that was served and then closed: the first fault.
 pub(crate) fn first_fault(
     served: Result<(), CommandFault>,
     closed: Result<(), CommandFault>,

@@ -38,7 +38,7 @@ pub fetch_early : (caller : UserRow) (p : ProfileName) (d : Denial)
     → (x : Option RevisionRow × Bool) → first_denial (fetch_rules (fetch_facts (Some caller) p.team x.0 x.1)) ≡ Err d
 fetch_early caller p d e x = by_caller (not (holds_role (Some caller) Machine)) (not (is_of_team (Some caller) p.team)) (is_none x.0) x.1 d e
 
--- the issued revision is told
+-- the issued revision is answered
 pub fetch_done : (caller : UserRow) (p : ProfileName) (x : Option RevisionRow × Bool) (r : RevisionRow) → x.0 ≡ Some r → (h : History) → x ≡ issued_at p h
     → done_of h (Some caller) (ask.Fetch p) ≡ accepted (Fetched r.digest r.body r.number) None
 fetch_done caller p x r is h same =

@@ -1,4 +1,4 @@
--- What is told of a sheet.
+-- What is answered of a sheet.
 use Rattle.std.proofs.Common.{◌≡◌, ◌∙◌, ℕ, List, Option, Some, None, sym, ap}
 use Rattle.review_policy.specs.declared.ask.Ask.TheVariants as ask
 use Rattle.review_policy.specs.declared.ask.ProfileName.{ProfileName}

@@ -6,7 +6,7 @@ use Rattle.office_policy.specs.Verdict.{Verdict, denied}
 use Rattle.office_desk.specs.declared.refusal.Refusal.{Refusal}
 use Rattle.office_desk.specs.declared.refusal.Refusal.TheVariants as refusals
 
--- the verdict on every history is this denial; a fault is want of memory
+-- the verdict on every history is this denial; a fault is out of memory
 abbrev pub IsRefusedAtOnce : Refusal → (History → Verdict) → Type 0
 IsRefusedAtOnce (refusals.Denied denial fault) judge = (h : History) → judge h ≡ denied denial fault
 IsRefusedAtOnce (refusals.Fault fault) judge = fault ≡ NoMemory

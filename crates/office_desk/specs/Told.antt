@@ -1,4 +1,4 @@
--- What is told of what a request came to.
+-- What is answered of what a request came to.
 use Rattle.std.specs.Prelude.{Result, Ok, Err}
 use Rattle.review_policy.specs.declared.answer.Answer.{Answer}
 use Rattle.review_policy.specs.declared.answer.Answer.TheVariants.{Done, Denied, Fault}
@@ -10,7 +10,7 @@ use Rattle.office_tables.specs.declared.fault.StoreFault.TheVariants as stores
 use Rattle.office_desk.specs.declared.refusal.Refusal.{Refusal}
 use Rattle.office_desk.specs.declared.refusal.Refusal.TheVariants as refusals
 
--- what is told of a fault of the store
+-- what is answered where the store has a fault
 abbrev pub told_of : StoreFault → TheFault
 told_of stores.NoMemory = faults.Memory
 told_of stores.Disk = faults.Disk

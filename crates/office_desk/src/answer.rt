@@ -1,4 +1,4 @@
-// Answers, by what was carried out.
+// Answers, by what was done.
 
 ghost use Rattle.std.specs.Prelude.{◌≡◌};
 ghost use Rattle.office_desk.specs.Told.{told_of, answer_to};
@@ -7,7 +7,7 @@ use crate::refusal::Refusal;
 use office_tables::StoreFault;
 use review_policy::{Answer, Fault, Reply};
 
-// What is told of a fault of the store.
+// What is answered where the store has a fault.
 fn told(fault: StoreFault) -> Fault
     ensures { result ≡ told_of fault }
 {

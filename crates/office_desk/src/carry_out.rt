@@ -63,7 +63,7 @@ fn carry_out_for<S: Alter>(
     }
 }
 
-// Finds the caller, and carries the request out. A stranger is told so after this one look-up.
+// Finds the caller, and carries the request out. A stranger is answered after this one look-up.
 pub(crate) fn carry_out<S: Alter>(
     alloc: Global,
     conn: &mut Connection<S>,

@@ -95,7 +95,7 @@ fn next_revision(
 }
 
 // The canonical text of the document, where the caller may hand in one of this team, and it reads; else the refusal, which
-// tells of a document that doesn't read why.
+// says of a document that doesn't read why.
 fn handed_in(
     alloc: Global,
     caller: &UserRow,

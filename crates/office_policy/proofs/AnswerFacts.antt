@@ -1,4 +1,4 @@
--- Answers that are no fault tell the verdict.
+-- Answers that are no fault are those of the verdict.
 use Rattle.std.proofs.Common.{◌≡◌, ℕ, List, Option, sym, ap}
 use Rattle.review_policy.specs.declared.ask.Request.{Request}
 use Rattle.review_policy.specs.declared.answer.Answer.TheVariants.{Done, Denied}

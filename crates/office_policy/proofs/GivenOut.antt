@@ -26,7 +26,7 @@ use Rattle.office_policy.specs.Duty.{IsTextOf, IsDigestOf, IsFetched}
 use Rattle.office_policy.proofs.RuleFacts.{none_refuses}
 use Rattle.office_policy.proofs.Histories.{issued_by}
 
--- where a verdict accepts, no rule refuses, and what is done is told
+-- where a verdict accepts, no rule refuses, and what is done is answered
 pub record IsCarriedOut (h : History) (caller : Option UserRow) (a : Ask) (reply : Reply) (e : Option Event) : Type 0 where
   pub none_refuses : first_denial (rules_of h caller a) ≡ Ok tt
   pub done : done_of h caller a ≡ accepted reply e

@@ -199,7 +199,7 @@ issued_approved h r digest e lawful is =
       approved = approved h caller p n given.submission (record { lawful = lawful; allowed = follows }) given.submitted;
     }
 
--- what an answer that tells the verdict gives out was approved
+-- what an answer of the verdict gives out was approved
 pub given_out_approved : (h : History) (r : Request) (told : Answer) → IsLawfulHistory h → IsAnswer h r told → GivesOutApproved h r told
 given_out_approved h r (Done (reply.Issued digest)) lawful is =
     let it = accepted_is h r (reply.Issued digest) is in

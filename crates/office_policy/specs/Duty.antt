@@ -85,7 +85,7 @@ pub record IsPlainRevision (h : History) (p : ProfileName) (n : ℕ) : Type 0 wh
 -- ---- what is given out
 
 -- a document was handed in that reads as a profile, whose canonical text becomes the next revision;
--- its digest is told
+-- its digest is given
 pub record IsSubmission
     (h : History) (caller : List ℕ) (a : Ask)
     (digest : List ℕ) (n : ℕ) (e : Option Event) : Type 0 where

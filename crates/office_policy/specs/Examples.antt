@@ -189,7 +189,7 @@ refused number rule = Err (record { number = number; rule = rule })
 abbrev pub decision : History → List ℕ → Ask → Result ⊤ Denial
 decision h who a = first_denial (rules_of h (user_of h who) a)
 
--- what a user is told, and what happens
+-- what a user is answered, and what happens
 abbrev pub told : History → List ℕ → Ask → Verdict
 told h who a = verdict_of h (user_of h who) a
 

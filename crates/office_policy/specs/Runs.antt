@@ -7,7 +7,7 @@ use Rattle.review_policy.specs.declared.answer.Fault.TheVariants as faults
 use Rattle.office_policy.specs.History.{Event, History}
 use Rattle.office_policy.specs.Verdict.{Verdict, accepted, denied, verdict}
 
--- the answer that tells a verdict
+-- the answer of a verdict
 abbrev pub answer_of : Verdict → Answer
 answer_of (accepted reply event) = Done reply
 answer_of (denied denial fault) = Denied denial fault

@@ -34,7 +34,7 @@ pub data Verdict : Type 0 where
   accepted : Reply → Option Event → Verdict
   denied : Denial → (fault : Option (List ℕ)) → Verdict
 
--- what no request is told: a rule has refused it before
+-- what no request is answered: a rule has refused it before
 abbrev pub unreached : Verdict
 unreached = denied (record { number = 0; rule = NoRevision }) None
 
@@ -43,7 +43,7 @@ abbrev pub of_revision : Option RevisionRow → (RevisionRow → Verdict) → Ve
 of_revision None done = unreached
 of_revision (Some r) done = done r
 
--- a document that doesn't read is told with its fault
+-- a document that doesn't read is answered with its fault
 abbrev pub fault_told : Rule → Result Profile DocFault → Option (List ℕ)
 fault_told Document (Err f) = Some (fault_text_of f)
 fault_told _ reading = None
@@ -90,7 +90,7 @@ module _ (h : History) where
   done_of caller (ask.Hold p) = accepted reply.Held (Some (held (name_of caller) p))
   done_of caller (ask.Release p) = accepted reply.Released (Some (released (name_of caller) p))
 
-  -- what is told of a refusal besides its rule: why a document doesn't read
+  -- what is answered of a refusal besides its rule: why a document doesn't read
   abbrev pub fault_beside : Ask → Rule → Option (List ℕ)
   fault_beside (ask.Submit p document) rule = fault_told rule (reading_of document.items)
   fault_beside _ rule = None

@@ -19,7 +19,7 @@ ghost use Rattle.office_policy.specs.Teams.{concerns, team_of};
 ghost use Rattle.office_policy.specs.Duty.{IsSubmission, AreOthers, AreOfTheText, AreEnough, LacksTwo, IsPlainRevision, IsTextOf, IsDigestOf, IsFetched, ReadsBack};
 ghost use Rattle.office_policy.specs.Headline.{IsOfApproved, WasApproved};
 
-/// What is submitted is told by the digest of the text that happens, the canonical text of the
+/// What is submitted is known by the digest of the text that happens, the canonical text of the
 /// document that was handed in, and by the next number of its profile; it is of the caller.
 pub fn what_is_submitted_is_told()
     ensures { (h : History) (r : Request) (digest : List ℕ) (n : ℕ) (e : Option Event)
@@ -39,7 +39,7 @@ pub fn what_is_fetched_was_issued()
         → r.ask ≡ ask.Fetch p → verdict h r ≡ accepted (reply.Fetched digest text n) e → IsFetched h p n digest text }
 {}
 
-/// What is issued is told by the digest of the text that the submission of that number carried.
+/// What is issued is known by the digest of the text that the submission of that number carried.
 pub fn what_is_issued_was_submitted()
     ensures { (h : History) (r : Request) (p : ProfileName) (n : ℕ) (digest : List ℕ) (e : Option Event)
         → r.ask ≡ ask.Issue p n → verdict h r ≡ accepted (reply.Issued digest) e → IsDigestOf h p n digest }
@@ -78,7 +78,7 @@ pub fn issues_have_the_approvals_that_they_need()
 {}
 
 /// What is issued was approved: on the events before it the approvals are of distinct names, none
-/// an author of the profile, each for exactly the text whose digest is told, as many and as secure
+/// an author of the profile, each for exactly the text whose digest is given, as many and as secure
 /// as it needs there.
 pub fn what_is_issued_is_approved()
     ensures { (h : History) (r : Request) (digest : List ℕ) (e : Option Event)

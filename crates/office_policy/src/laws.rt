@@ -72,7 +72,7 @@ pub fn tallies_are_of_the_tables()
     ensures { (h : History) (p : ProfileName) (n : ℕ) (tally : Tally) → IsTally (tables_of h) p n tally → tally ≡ tally_at h p n }
 {}
 
-/// A sheet tells the need of its revision.
+/// A sheet gives the need of its revision.
 pub fn sheets_tell_the_need()
     ensures { (h : History) (p : ProfileName) (n : ℕ) (r : RevisionRow) → revision_of h p n ≡ Some r → sheet_need (sheet_of h p r) ≡ need_at h p n }
 {}

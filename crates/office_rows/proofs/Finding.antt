@@ -1,4 +1,4 @@
--- What the first row of a query tells of the entries that a table keeps, and what the query leaves of the connection.
+-- What the first row of a query says of the entries that a table keeps, and what the query leaves of the connection.
 use Rattle.std.proofs.Common.{inl, inr, ◌≡◌, ◌≢◌, ℕ, ℤ, List, [], ◌∷◌, Bool, true, false, Option, None, Some, Ok, Err, Result, IfOk, OnOk, IsTrue, refl, sym, ap, subst, ◌∙◌}
 use Rattle.std.specs.Prelude.{find, option_map}
 use Rattle.std.specs.List.{list_all}
@@ -45,7 +45,7 @@ module _ (command : Command) (schema : Schema) (sql : List ℕ) (params : Row) (
   row_same row (inl h) = h.1
   row_same row (inr h) = shown_same h.0 h.1
 
-  -- what the first row of the answer tells, and what its lack tells; where there is an answer the connection is open
+  -- what the first row of the answer says, and what its lack says; where there is an answer the connection is open
   pub finds : (Tells : Option Row → Type 0) → ((row : Row) → QueriesRow sql params old new (Ok row) → Tells (Some row)) → (Shown sql params old new [] → Tells None)
       → (r : Result (Option Row) StoreFault) → FindsRow sql params old new r → IfOk r Tells × (r ≢ Err NotAnOffice) × IsKept old new × OnOk r (IsTrue new.is_open)
   unfolding QueriesRow

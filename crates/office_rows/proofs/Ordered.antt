@@ -1,4 +1,4 @@
--- What the first row of a query that is put in an order tells of the entries that a table keeps.
+-- What the first row of a query that is put in an order says of the entries that a table keeps.
 use Rattle.std.proofs.Common.{inl, ◌≡◌, ◌≢◌, ℕ, ℤ, pos, List, [], ◌∷◌, map, take, Bool, true, false, Option, None, Some, Ok, Err, Result, IfOk, OnOk, IsTrue, All, refl, sym, ap, subst, ◌∙◌, arith}
 use Rattle.std.specs.Prelude.{filter}
 use Rattle.std.specs.List.{list_all}

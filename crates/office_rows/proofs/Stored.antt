@@ -48,7 +48,7 @@ module _ {K X : Type 0} (is_at : K → X → Bool) where
   pub own-filter : (p : X → Bool) (xs : List X) → HaveOwnKeys is_at xs → HaveOwnKeys is_at (filter p xs)
   own-filter p xs own = ascending-filter _ p xs own
 
--- the key of an entry tells where it is
+-- the key of an entry says where it is
 module _ {K X : Type 0} (same : K → K → Bool) (decides : (a b : K) → Decides (same a b) (a ≡ b)) (key : X → K) where
   abbrev pub is_at : K → X → Bool
   is_at k x = same k (key x)

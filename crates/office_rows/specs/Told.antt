@@ -46,7 +46,7 @@ abbrev pub map_ok : {X Y : Type 0} → Result X StoreFault → (X → Y) → Res
 map_ok (Ok x) f = Ok (f x)
 map_ok (Err e) f = Err e
 
--- what was found is told, and a fault is passed on
+-- what was found is returned, and a fault is passed on
 abbrev pub IsTold : {X A : Type 0} → (X → Result A StoreFault → Type 0) → Result X StoreFault → Result A StoreFault → Type 0
 IsTold Tells (Ok x) result = Tells x result
 IsTold Tells (Err f) result = result ≡ Err f
@@ -56,7 +56,7 @@ abbrev pub FindsRows : List ℕ → Row → State → State → Result (List Row
 FindsRows sql params old new (Ok rows) = Shown sql params old new rows
 FindsRows sql params old new (Err f) = IsFaultOf sql params old new f
 
--- the result tells the first row that the query found, or the fault that SQLite named
+-- the result is of the first row that the query found, or the fault that SQLite named
 pub record TellsRow {A : Type 0} (sql : List ℕ) (params : Row) (old new : State) (Tells : Option Row → Result A StoreFault → Type 0) (result : Result A StoreFault) : Type 0 where
   pub row : Result (Option Row) StoreFault
   pub found : FindsRow sql params old new row

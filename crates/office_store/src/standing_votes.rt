@@ -86,7 +86,7 @@ fn read_votes(alloc: Global, rows: &[Row]) -> Result<Vec<VoteRow>, StoreFault>
 }
 
 /// The last vote of each user on a revision, by the name of the voter, in the order of its bytes: whether it counts, and
-/// whether it has security, are told by the voter's present roles.
+/// whether it has security, follow from the voter's present roles.
 pub fn standing<S: Alter>(
     alloc: Global,
     conn: &mut Connection<S>,

@@ -9,7 +9,7 @@
 //! `sheets COUNT` shows a filter of COUNT entries, 2,048 at most, against another of as many, and then against no filter.
 //! `findings BASE NEW TIMES` reads two documents and asks so often for the findings between them.
 //!
-//! What was found or carried out is counted to standard output, and how many microseconds a call took is told to standard
+//! What was found or done is counted to standard output, and how many microseconds a call took is written to standard
 //! error.
 
 mod call;

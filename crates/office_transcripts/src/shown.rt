@@ -1,4 +1,4 @@
-//! What is shown of `office`, carried out and compared with what comes of it.
+//! What is shown of `office`, run and compared with what comes of it.
 //!
 //! The commands are what `.ci/shown` gathers: those of the documents and of the transcripts, each after `$ `, below each its
 //! input, if it is shown there, and the lines that it prints, and after `# ` the headings.

@@ -38,7 +38,7 @@ pub read_as : (old : Option (List ℕ)) (bytes : List ℕ) (document : Document)
 read_as None bytes document same reads = tt
 read_as (Some all) bytes document same reads = same ∙ reads
 
--- the fault of the bytes is told as it must be, and is that of the file
+-- the fault of the bytes is reported as it must be, and is that of the file
 refuses_as : (all bytes : List ℕ) (fault : DocFault) (refusal : FileFault) → reading_of all ≡ reading_of bytes
     → Gives {X = Profile} (Err fault) (reading_of bytes) → IsRefusalOf fault refusal → RefusesAs all refusal
 refuses_as all bytes fault refusal same gives (inl (memory, told)) = rw told tt

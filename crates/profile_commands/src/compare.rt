@@ -43,7 +43,7 @@ impl From<AllocError> for ComparedFault {
 impl ComparedFault {
     ghost use Rattle.profile_commands.specs.Comparing.{IsToldOfBase, IsToldOfNew};
 
-    // What is told where BASE wasn't read.
+    // What is reported where BASE wasn't read.
     fn of_base(fault: FileFault) -> ComparedFault
         ensures { IsToldOfBase fault result }
     {
@@ -53,7 +53,7 @@ impl ComparedFault {
         }
     }
 
-    // What is told where NEW wasn't read.
+    // What is reported where NEW wasn't read.
     fn of_new(fault: FileFault) -> ComparedFault
         ensures { IsToldOfNew fault result }
     {
@@ -80,7 +80,7 @@ fn compared_text(alloc: Global, base: &Profile, new: &Profile) -> Result<String,
 ///
 /// # Errors
 ///
-/// Those of `read_document`, each told of the document that it is of, but `NoMemory` of neither.
+/// Those of `read_document`, each reported of the document that it is of, but `NoMemory` of neither.
 pub fn compare_documents<R: Read, S: Read>(
     alloc: Global,
     base: &mut Counted<R>,

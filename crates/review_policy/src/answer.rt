@@ -53,7 +53,7 @@ impl Listing {
     }
 }
 
-/// What a request that was carried out is told. Digests are of SHA-256; revisions are numbered from 1.
+/// What a request that was done is answered. Digests are of SHA-256; revisions are numbered from 1.
 #[derive(Debug, Drop)]
 pub enum Reply {
     /// The user is enrolled.
@@ -99,7 +99,7 @@ pub enum Reply {
     Released,
 }
 
-/// What failed, so that a request was not carried out.
+/// What failed, so that a request was not done.
 #[derive(Clone, Copy, Debug, PartialEq, Eq)]
 pub enum Fault {
     /// There was no memory. No contract can say when: it may stand in place of any answer.
@@ -129,7 +129,7 @@ impl Fault {
 /// The answer to a request.
 #[derive(Debug, Drop)]
 pub enum Answer {
-    /// It was carried out.
+    /// It was done.
     Done(Reply),
     /// A rule refuses it, and nothing changed; for a refused document, why.
     Denied { denial: Denial, fault: Option<Text> },

@@ -19,11 +19,11 @@ pub enum ActionWord {
     Trap,
     /// `SCMP_ACT_ERRNO`: the call fails with an error number.
     Errno,
-    /// `SCMP_ACT_TRACE`: a tracer is told, with a number.
+    /// `SCMP_ACT_TRACE`: a tracer is notified, with a number.
     Trace,
-    /// `SCMP_ACT_LOG`: the call is logged and carried out.
+    /// `SCMP_ACT_LOG`: the call is logged and runs.
     Log,
-    /// `SCMP_ACT_ALLOW`: the call is carried out.
+    /// `SCMP_ACT_ALLOW`: the call runs.
     Allow,
 }
 
@@ -81,11 +81,11 @@ pub enum Action {
     Trap,
     /// The call fails with this error number.
     Errno(u16),
-    /// A tracer is told, with this number.
+    /// A tracer is notified, with this number.
     Trace(u16),
-    /// The call is logged and carried out.
+    /// The call is logged and runs.
     Log,
-    /// The call is carried out.
+    /// The call runs.
     Allow,
 }
 

@@ -42,7 +42,7 @@ impl<F: Form> Formed<F> {
     ///
     /// # Errors
     ///
-    /// `NotAWord` where it is of another form; `NoMemory` for want of memory.
+    /// `NotAWord` where it is of another form; `NoMemory` where it is out of memory.
     pub fn read(alloc: Global, text: &str) -> Result<Formed<F>, WordFault>
         ensures { Reads F.is_form text.now result }
     {

@@ -6,7 +6,7 @@ use Rattle.streams.specs.declared.some.SomeRead.TheVariants.{Bytes, End, Failed,
 use Rattle.streams.specs.Held.{Held, Holds, size}
 use Rattle.streams.specs.Lines.{NoFeed}
 
--- the end was told only where no byte is left
+-- the end was reported only where no byte is left
 abbrev pub EndsAfter : Option (List ℕ) → SomeRead → Type 0
 EndsAfter rest End = IsAtEnd rest
 EndsAfter rest _ = Unit {0}

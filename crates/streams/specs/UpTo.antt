@@ -12,8 +12,8 @@ abbrev pub IsWithin : ℕ → SomeRead → Type 0
 IsWithin most (Bytes n) = n ≤ most
 IsWithin most _ = Unit {0}
 
--- one call failed just where that is told, and there were as many calls as are allowed where that
--- is
+-- one call failed just where that is reported, and there were as many calls as are allowed
+-- where that is
 abbrev pub UpToCounts : {X : Type 0} → (calls calls_after most faults faults_after : ℕ) →
     Result X Unread → Type 0
 UpToCounts calls calls_after most faults faults_after (Ok bytes) = faults_after ≡ faults

@@ -48,7 +48,7 @@ kept_here base new within n =
       | inr lacks ↦ and_left (bit_at new n == 1) (not (bit_at base n == 1)) (ne_eqb (bit_at new n) 1 lacks)
     ]
 
--- the bits outside tell whether something is gained
+-- the bits outside show whether something is gained
 pub gains_told : (base new : ℕ) → base < 2 ^ 64 → new < 2 ^ 41 → (outside new base == 0) ≡ not (list_any (is_gained base new) (range_with_len 0 41))
 gains_told base new small known =
     let fits : new < 2 ^ 64 = omega arith in

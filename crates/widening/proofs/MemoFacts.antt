@@ -13,7 +13,7 @@ use Rattle.widening.specs.Memo.{AreRows, IsRow, IsRowOrEmpty}
 use Rattle.widening.proofs.GroupFacts.{entries_at-more}
 use Rattle.widening.proofs.Searches.{and_true, list_any-flat_map, or_none}
 
--- what stands in a row is told
+-- what stands in a row is returned
 pub row_tells : (e : EntryValue) (others : List EntryValue) (row : List (Option Bool)) → IsRow e others row → (place : ℕ) → place < length row → (told : Bool) →
     get_or row place None ≡ Some told → (other : EntryValue) → told ≡ entry_implies e (get_or others place other)
 row_tells e others row is place within told known other =

@@ -1,4 +1,4 @@
--- What ranks tell of the entries that they are of.
+-- What ranks say of the entries that they are of.
 use Rattle.std.proofs.Common.{◌≡◌, ◌∙◌, ap, refl, sym, ℕ, ◌+◌, ◌<◌, ◌≤◌, List, [], ◌∷◌, ◌++◌, Bool, true, false, not, ◌||◌, ◌&&◌, Some, None, cond, filter, get_or, length, subst, take, nat_le, nat_lt, inl, inr, arith}
 use Rattle.std.specs.List.{list_all, list_any}
 use Rattle.std.proofs.lemmas.Bool.{and_from, and_parts, cases_lt, false_from_ne_true, le-leb, le-ltb, lt-leb, or_from, or_left, or_cases, both_ways}
@@ -82,7 +82,7 @@ possible_default ranks plain lower rules are rank small =
     lower_both rank ranks.default ranks.least lower ∙ and_swap (nat_le rank ranks.default) (nat_le rank ranks.least)
     ∙ sym (possible_is ranks rules are rank small ∙ ap (λ b. nat_le rank ranks.least && (b || nat_le rank ranks.default)) plain)
 
--- what the least possible rank tells
+-- what the least possible rank says
 abbrev Tells : Ranks → ℕ → Type 0
 Tells base possible = (rules : Rules) → AreRanksOf base rules → (rank : ℕ) → rank ≤ 6 → nat_le rank possible ≡ is_at_most_possible rank rules
 

@@ -1,4 +1,5 @@
--- What the ranks of a name's entries tell without a look at their comparisons, and which entries must imply another.
+-- What the ranks of a name's entries show without a look at their comparisons, and which entries
+-- must imply another.
 use Rattle.std.specs.Prelude.{◌≡◌, ℕ, ◌≤◌, List, Bool, false, not, ◌&&◌, ◌||◌, nat_le, nat_lt, Option, Some, None}
 use Rattle.std.specs.List.{list_all, list_any}
 use Rattle.seccomp_doc.specs.declared.action.Action.{Action}

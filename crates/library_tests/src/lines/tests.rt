@@ -74,7 +74,7 @@ const TEXT: &[u8] = b"one\n\ntwo and three\r\n\nfour";
 
 const TOLD: &[u8] = b"one\n\ntwo and three\r\n\nfour\n";
 
-// That this text is told of a stream up to its end, with this many lines.
+// That this text is reported of a stream up to its end, with this many lines.
 fn assert_told(rt: &impl Abort, told: &Told, text: &[u8], number: u64) {
     assert_eq!(rt;
         (told.text.as_slice(), told.number, told.stop),
@@ -169,7 +169,7 @@ fn long_and_short(alloc: Global, length: usize, end: &[u8]) -> Result<Vec<u8>, A
     Ok(text)
 }
 
-// That a first line of this length is too long, and the next is told.
+// That a first line of this length is too long, and the next is reported.
 fn assert_too_long(rt: &impl Abort, alloc: Global, length: usize) -> Result<(), AllocError> {
     let text = long_and_short(alloc, length, b"")?;
     for count in [4096, 300_000, 300_001, 700_000] {

@@ -12,7 +12,7 @@ use streams::{Counted, Found, Lines};
 /// The lines of a stream.
 #[derive(Drop)]
 pub struct Told {
-    /// Each line with a line feed. One that is too long is told as `too-long`.
+    /// Each line with a line feed. One that is too long is reported as `too-long`.
     pub text: Vec<u8>,
     /// How many there are.
     pub number: u64,

@@ -51,7 +51,7 @@ fn implies_by_words(c: Compare, d: Compare) -> bool {
         && (8..16).all(|word| !c.admits(word) || d.admits(word))
 }
 
-// That each of these comparisons implies each of them as the words tell, whatever their indexes are.
+// That each of these comparisons implies each of them as the words say, whatever their indexes are.
 fn assert_imply_by_words(rt: &impl Abort, all: &[Compare]) {
     for c in all {
         for d in all {

@@ -45,7 +45,7 @@ fn numbered(
     Ok(text)
 }
 
-// What is told of a document with so many names.
+// What is reported of a document with so many names.
 fn told_with(
     alloc: Global,
     between: &str,
@@ -160,7 +160,7 @@ fn long_document(alloc: Global, last: usize) -> Result<String, AllocError> {
     Ok(text)
 }
 
-// What is told of it.
+// What is reported of it.
 fn told_at_length(alloc: Global, last: usize) -> Result<String, AllocError> {
     let document = long_document(alloc, last)?;
     told(alloc, document.as_bytes())

@@ -23,7 +23,7 @@ fn push_told(text: &mut String, alloc: Global, answer: Answer) -> Result<(), All
     text.push('\n')
 }
 
-// Each fault, and then what is told without memory.
+// Each fault, and then what is answered without memory.
 const FAULTS: &str = "\
      memory {\"answer\":\"fault\",\"word\":\"memory\"}\n\
      HTTP/1.1 503 Service Unavailable\r\nContent-Type: application/json\r\nContent-Length: 34\r\n\

@@ -1,4 +1,4 @@
-// What is told where memory is refused.
+// What is answered where memory is refused.
 
 use crate::exchanges::messages::{MEMORY, REVIEW};
 use crate::exchanges::trial::Trial;
@@ -39,10 +39,10 @@ fn take_turn(
     Ok(())
 }
 
-// With each allocation refused in turn, as by `rt try --test --fail-alloc N`: one exchange is told as want of memory and
+// With each allocation refused in turn, as by `rt try --test --fail-alloc N`: one exchange is answered as out of memory and
 // does nothing, or has no response and was done; each other is as with ample memory.
 #[test]
-fn want_of_memory_is_told_and_does_nothing(rt: HostRuntime) -> Result<(), Fail> {
+fn out_of_memory_is_answered_and_does_nothing(rt: HostRuntime) -> Result<(), Fail> {
     let mut trial = Trial::new(rt.alloc())?;
     for (message, wanted) in REVIEW {
         take_turn(&rt, &mut trial, message.as_bytes(), wanted.as_bytes())?;

@@ -73,7 +73,7 @@ pub const TOO_LONG: &str = "HTTP/1.1 400 Bad Request\r\n\
      Connection: close\r\n\r\n\
      {\"answer\":\"bad\",\"word\":\"head-too-long\"}";
 
-// The response to want of memory.
+// The response where it is out of memory.
 pub const MEMORY: &str = "HTTP/1.1 503 Service Unavailable\r\n\
      Content-Type: application/json\r\n\
      Content-Length: 34\r\n\

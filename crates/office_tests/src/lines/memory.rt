@@ -1,4 +1,4 @@
-// What is told where memory is refused.
+// What is answered where memory is refused.
 
 use crate::fake_streams::{Sink, Taking};
 use crate::lines::texts::{FIRST_ANSWERS, FIRST_PATH, SECOND_ANSWERS, first_lines};
@@ -11,8 +11,8 @@ use sqlite::Alter;
 use std::alloc::Global;
 use std::test::Fail;
 
-// What may be told of the first path where memory is refused at most once, while a line is read or handled, and the profile is
-// handed in then.
+// What may be answered to the first path where memory is refused at most once, while a line is read or handled, and the profile
+// is handed in then.
 const HANDED_IN: &str = r#"{"answer":"done"}
 {"answer":"done","digest":"67d59648e3164479ed30407333c338a60764f60cd31c54ca1cd477602ac5e5d6","revision":1}
 {"answer":"done","digest":"67d59648e3164479ed30407333c338a60764f60cd31c54ca1cd477602ac5e5d6","document":"{\"capabilities\":{\"ambient\":[],\"bounding\":[],\"effective\":[],\"inheritable\":[],\"permitted\":[]}}","state":"open"}
@@ -60,7 +60,7 @@ fn is_one_of(told: &str, written: &[u8]) -> bool {
         .any(|lines| lines.as_bytes() == written)
 }
 
-// Whether the profile was handed in where each line is told; none where they are told otherwise.
+// Whether the profile was handed in where each line is answered; none where they are answered otherwise.
 fn is_submitted(written: &[u8]) -> Option<bool> {
     if is_one_of(HANDED_IN, written) {
         Some(true)
@@ -71,7 +71,7 @@ fn is_submitted(written: &[u8]) -> Option<bool> {
     }
 }
 
-// The same where the lines before this one are told, and there was no memory to tell this one.
+// The same where the lines before this one are answered, and there was no memory to answer this one.
 fn is_submitted_by(line: u64, written: &[u8]) -> Option<bool> {
     let told = (line as usize).saturating_sub(1).min(5);
     if first_lines(FIRST_ANSWERS, told).as_bytes() == written {
@@ -81,7 +81,7 @@ fn is_submitted_by(line: u64, written: &[u8]) -> Option<bool> {
     }
 }
 
-// Has the desk serve the first path, with room for what it writes, and tells whether the profile was handed in by it; none where
+// Has the desk serve the first path, with room for what it writes, and says whether the profile was handed in by it; none where
 // more went wrong than may.
 fn hand_in<S: Alter>(alloc: Global, office: &mut Office<S>) -> Result<Option<bool>, Fail> {
     let held = Vec::with_capacity(alloc, 1024)?;
@@ -94,10 +94,10 @@ fn hand_in<S: Alter>(alloc: Global, office: &mut Office<S>) -> Result<Option<boo
     })
 }
 
-// With each allocation refused in turn, as by `rt try --test --fail-alloc N`: one line is told as want of memory, or
-// the desk stops with the lines before it told, and what was handled stands.
+// With each allocation refused in turn, as by `rt try --test --fail-alloc N`: one line is answered as out of memory, or
+// the desk stops with the lines before it answered, and what was handled stands.
 #[test]
-fn want_of_memory_is_told_and_leaves_what_was_handled(rt: HostRuntime) -> Result<(), Fail> {
+fn out_of_memory_is_answered_and_leaves_what_was_handled(rt: HostRuntime) -> Result<(), Fail> {
     let alloc = rt.alloc();
     let mut office = trial_office(alloc)?;
     let is_submitted = hand_in(alloc, &mut office)?;

@@ -5,7 +5,7 @@ use sqlite::Connection;
 use std::fs;
 use std::test::Fail;
 
-// Each transcript is carried out in the file as the one before it left it.
+// Each transcript runs in the file as the one before it left it.
 const KEPT: &str = "\
 # A user, a revision, a baseline and a hold are written.
 > found

@@ -1,5 +1,5 @@
 // Writes that are refused memory, as `rt try --test --fail-alloc N` refuses the Nth allocation of each test. Without a refusal
-// each is carried out.
+// each runs.
 
 use crate::store::transcript::said;
 use review_policy::WordFault;
@@ -14,7 +14,7 @@ fn said_in_memory(alloc: Global, before: &str, calls: &str) -> Result<String, Wo
     said(alloc, &mut conn, calls.as_str())
 }
 
-// Whether a transcript goes on as a write that is carried out or as one that is refused, unless memory is refused to a call
+// Whether a transcript goes on as a write that runs or as one that is refused, unless memory is refused to a call
 // before it or to the read after it.
 fn is_kept(said: &str, before: &str, done: &str, refused: &str) -> bool {
     match said.strip_prefix(before) {

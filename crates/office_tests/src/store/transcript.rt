@@ -11,7 +11,7 @@ use std::alloc::Global;
 use std::process::Abort;
 use std::test::Fail;
 
-// Runs statements, and says whether they were carried out and left no transaction open.
+// Runs statements, and says whether they ran and left no transaction open.
 fn run<S: Alter>(conn: &mut Connection<S>, sql: &str) -> bool
     requires { IsIdle (state S.Store conn.old) }
     ensures { result ≡ true → IsIdle (state S.Store conn.new) }

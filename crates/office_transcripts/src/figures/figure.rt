@@ -12,7 +12,7 @@ pub fn times_of(sizes: &Sizes) -> u32 {
     sizes.count.min(100)
 }
 
-/// What the calls of a kind came to: how many there were, how many found something or were carried out, and how many
+/// What the calls of a kind came to: how many there were, how many found something or were done, and how many
 /// nanoseconds all took.
 #[derive(Clone, Copy)]
 pub struct Figure {

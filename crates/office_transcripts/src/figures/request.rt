@@ -12,7 +12,7 @@ use sqlite::Alter;
 use std::alloc::{AllocError, Global};
 use std::time::Instant;
 
-/// A request of each kind, after its name, in an order in which each lets the next be carried out: a document is handed in
+/// A request of each kind, after its name, in an order in which each lets the next be done: a document is handed in
 /// where no revision is open, and then another that closes that one. Between two `$` stands the name of what is filled in.
 const REQUESTS: &str =
     r#"Enrol {"ask":"enrol","token":"root","user":"$author$","team":"$team$","roles":["registrar","author","reviewer","security","issuer","machine"],"digest":"$token$"}
@@ -88,7 +88,7 @@ impl About {
         Ok(line)
     }
 
-    // Whether a request was carried out; a revision that was handed in is what later ones are about.
+    // Whether a request was done; a revision that was handed in is what later ones are about.
     fn is_done(&mut self, answer: Answer) -> bool {
         match &answer {
             Answer::Done(Reply::Submitted { digest, revision }) => {

@@ -32,7 +32,7 @@ fn found_office(alloc: Global) -> Result<Office<MemStore>> {
     }
 }
 
-// The lines that tell the response to a request, or why there is none.
+// The lines that show the response to a request, or why there is none.
 fn lines_of(
     alloc: Global,
     office: &mut Office<MemStore>,
@@ -57,7 +57,7 @@ struct Transcript {
     router: OfficeRouter,
     // That of the last heading.
     office: Office<MemStore>,
-    // The lines that tell what is answered to the last request.
+    // The lines that show what is answered to the last request.
     answer: Vec<u8>,
     // The lines up to there, with what is answered.
     told: Vec<u8>,
