@@ -8,24 +8,23 @@ use Rattle.widening.specs.Findings.{findings_of}
 use Rattle.profile_commands.specs.declared.compare.ComparedFault.{ComparedFault}
 use Rattle.profile_commands.specs.declared.compare.ComparedFault.TheVariants.{Base, New, NoMemory}
 use Rattle.profile_commands.specs.declared.fault.FileFault.{FileFault}
-use Rattle.profile_commands.specs.declared.fault.FileFault.TheVariants as files
-use Rattle.profile_commands.specs.Refusal.{AgreesWithReads, RefusesAs}
+use Rattle.profile_commands.specs.Refusal.{AgreesWithReads, RefusesAs, no_memory}
 
 -- a fault of reading is reported of its document, but out of memory is no fault of it
 abbrev pub IsToldOfBase : FileFault → ComparedFault → Type 0
 IsToldOfBase fault told =
-    ((fault ≡ files.NoMemory) × (told ≡ NoMemory))
-    ⊎ ((fault ≢ files.NoMemory) × (told ≡ Base fault))
+    ((fault ≡ no_memory) × (told ≡ NoMemory))
+    ⊎ ((fault ≢ no_memory) × (told ≡ Base fault))
 
 abbrev pub IsToldOfNew : FileFault → ComparedFault → Type 0
 IsToldOfNew fault told =
-    ((fault ≡ files.NoMemory) × (told ≡ NoMemory))
-    ⊎ ((fault ≢ files.NoMemory) × (told ≡ New fault))
+    ((fault ≡ no_memory) × (told ≡ NoMemory))
+    ⊎ ((fault ≢ no_memory) × (told ≡ New fault))
 
 -- out of memory is reported as such, and of neither document
 abbrev pub HidesNoMemory : ComparedFault → Type 0
-HidesNoMemory (Base fault) = fault ≢ files.NoMemory
-HidesNoMemory (New fault) = fault ≢ files.NoMemory
+HidesNoMemory (Base fault) = fault ≢ no_memory
+HidesNoMemory (New fault) = fault ≢ no_memory
 HidesNoMemory NoMemory = Unit {0}
 
 -- the bytes are a document

@@ -1,6 +1,7 @@
 -- How a process executes its file, by the words of `execve`, and what comes of it: capabilities(7),
 -- "Transformation of capabilities during execve()".
-use Rattle.std.specs.Prelude.{◌≡◌, ℕ, Bool, ◌||◌, List, Option, Some, None, is_some, option_map, Result, Ok, Err, string_bytes, if◌then◌else◌}
+use Rattle.std.specs.Prelude.{◌≡◌, ℕ, Bool, ◌||◌, List, Option, Some, None, is_some, option_map}
+use Rattle.std.specs.Prelude.{Result, Ok, Err, string_bytes, if◌then◌else◌}
 use Rattle.cap_sets.specs.declared.exec.File.TheVariants.{Plain, WithCaps}
 use Rattle.cap_sets.specs.declared.state.CapState.{CapState}
 use Rattle.cap_sets.specs.Execve.{IsAfter, IsAfterRoot, IsDenied}
@@ -11,7 +12,8 @@ use Rattle.review_sheet.specs.Sets.{state_text}
 use Rattle.profile_commands.specs.declared.execution.Execution.{Execution}
 use Rattle.profile_commands.specs.declared.execution.Execution.TheVariants.{ByRoot, OfFile}
 use Rattle.profile_commands.specs.declared.execution.ExecutionFault.{ExecutionFault}
-use Rattle.profile_commands.specs.declared.execution.ExecutionFault.TheVariants.{RootTakesNoFile, UnknownCapability}
+use Rattle.profile_commands.specs.declared.execution.ExecutionFault.TheVariants.{RootTakesNoFile}
+use Rattle.profile_commands.specs.declared.execution.ExecutionFault.TheVariants.{UnknownCapability}
 use Rattle.profile_commands.specs.declared.fault.FileFault.{FileFault}
 use Rattle.profile_commands.specs.declared.execve.Outcome.{Outcome}
 use Rattle.profile_commands.specs.declared.execve.Outcome.TheVariants.{Done, Denied}

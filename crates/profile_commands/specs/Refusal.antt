@@ -1,8 +1,9 @@
 -- What a command says of the bytes of a file, and why it says nothing of them.
-use Rattle.std.specs.Prelude.{◌≡◌, ◌≢◌, ◌⊎◌, ◌+◌, ◌<◌, ℕ, List, [], ◌∷◌, ◌++◌, Result, Ok, Err, String, string_bytes}
+use Rattle.std.specs.Prelude.{◌≡◌, ◌≢◌, ◌⊎◌, ◌+◌, ◌<◌, ℕ, List, [], ◌∷◌, ◌++◌, Result, Ok, Err}
+use Rattle.std.specs.Prelude.{String, string_bytes}
 use Rattle.std.specs.declared.alloc.Global.{Global}
 use Rattle.streams.specs.declared.up_to.Unread.{Unread}
-use Rattle.streams.specs.declared.up_to.Unread.TheVariants as unread
+use Rattle.streams.specs.declared.up_to.Unread.TheVariants.{Failed, TooManyReads, NoMemory}
 use Rattle.profile_text.specs.declared.document.Document.{Document as ReadDocument}
 use Rattle.profile_text.specs.declared.fault.DocFault.{DocFault}
 use Rattle.profile_text.specs.declared.fault.DocFault.TheVariants as faults
@@ -10,44 +11,42 @@ use Rattle.profile_text.specs.declared.profile.Profile.{Profile}
 use Rattle.profile_text.specs.Reading.{reading_of}
 use Rattle.profile_text.specs.Text.{text_of}
 use Rattle.profile_commands.specs.declared.fault.FileFault.{FileFault}
-use Rattle.profile_commands.specs.declared.fault.FileFault.TheVariants.{Read, TooManyReads, Document, NoMemory}
+use Rattle.profile_commands.specs.declared.fault.FileFault.TheVariants as file
+
+-- out of memory, as a fault of a file
+abbrev pub no_memory : FileFault
+no_memory = file.Unread NoMemory
 
 -- a fault of a document is reported as it is, but out of memory is no fault of it
 abbrev pub IsRefusalOf : DocFault → FileFault → Type 0
 IsRefusalOf fault refusal =
-    ((fault ≡ faults.NoMemory) × (refusal ≡ NoMemory))
-    ⊎ ((fault ≢ faults.NoMemory) × (refusal ≡ Document fault))
+    ((fault ≡ faults.NoMemory) × (refusal ≡ no_memory))
+    ⊎ ((fault ≢ faults.NoMemory) × (refusal ≡ file.Document fault))
 
--- what is reported of bytes that weren't read
-abbrev pub refusal_of_unread : Unread → FileFault
-refusal_of_unread unread.Failed = Read
-refusal_of_unread unread.TooManyReads = TooManyReads
-refusal_of_unread unread.NoMemory = NoMemory
-
--- the calls of a reader and those that failed, before and after, agree with what is answered:
--- `Read` just where one failed, and `TooManyReads` only where there were as many calls as are
--- allowed
-abbrev pub AgreesWithReads : {X : Type 0} → (calls calls_after faults faults_after : ℕ)
-    → Result X FileFault → Type 0
-AgreesWithReads calls calls_after faults faults_after (Err Read) = faults < faults_after
-AgreesWithReads calls calls_after faults faults_after (Err TooManyReads) =
-    (calls_after ≡ calls + 600000) × (faults_after ≡ faults)
-AgreesWithReads calls calls_after faults faults_after (Err (Document fault)) = faults_after ≡ faults
-AgreesWithReads calls calls_after faults faults_after (Err NoMemory) = faults_after ≡ faults
-AgreesWithReads calls calls_after faults faults_after (Ok x) = faults_after ≡ faults
-
--- the same of bytes, by what is reported where they weren't read
+-- the calls of a reader and those that failed, before and after, agree with what is answered of its
+-- bytes: `Failed` just where one failed, and `TooManyReads` only where there were as many calls as
+-- are allowed
 abbrev pub ReadsAgree : {X : Type 0} → (calls calls_after faults faults_after : ℕ)
     → Result X Unread → Type 0
-ReadsAgree {X} calls calls_after faults faults_after (Ok x) =
-    AgreesWithReads {X = X} calls calls_after faults faults_after (Ok x)
-ReadsAgree {X} calls calls_after faults faults_after (Err why) =
-    AgreesWithReads {X = X} calls calls_after faults faults_after (Err (refusal_of_unread why))
+ReadsAgree calls calls_after faults faults_after (Err Failed) = faults < faults_after
+ReadsAgree calls calls_after faults faults_after (Err TooManyReads) =
+    (calls_after ≡ calls + 600000) × (faults_after ≡ faults)
+ReadsAgree calls calls_after faults faults_after (Err NoMemory) = faults_after ≡ faults
+ReadsAgree calls calls_after faults faults_after (Ok x) = faults_after ≡ faults
+
+-- the same of what is answered of a file
+abbrev pub AgreesWithReads : {X : Type 0} → (calls calls_after faults faults_after : ℕ)
+    → Result X FileFault → Type 0
+AgreesWithReads {X} calls calls_after faults faults_after (Err (file.Unread why)) =
+    ReadsAgree {X = X} calls calls_after faults faults_after (Err why)
+AgreesWithReads calls calls_after faults faults_after (Err (file.Document fault)) =
+    faults_after ≡ faults
+AgreesWithReads calls calls_after faults faults_after (Ok x) = faults_after ≡ faults
 
 -- where a fault of the document is reported, the bytes read as that fault
 abbrev pub RefusesAs : List ℕ → FileFault → Type 0
-RefusesAs bytes (Document fault) = reading_of bytes ≡ Err fault
-RefusesAs bytes _ = Unit {0}
+RefusesAs bytes (file.Document fault) = reading_of bytes ≡ Err fault
+RefusesAs bytes (file.Unread why) = Unit {0}
 
 -- the profile is what the bytes read as, or the fault is theirs; the reader or memory may have
 -- failed in place of both

@@ -11,7 +11,7 @@ use profile_text::Profile;
 use review_sheet::findings_text;
 use std::alloc::{AllocError, Global};
 use std::io::Read;
-use streams::Counted;
+use streams::{Counted, Unread};
 use thiserror::Error;
 use widening::findings;
 
@@ -48,7 +48,7 @@ impl ComparedFault {
         ensures { IsToldOfBase fault result }
     {
         match fault {
-            FileFault::NoMemory => ComparedFault::NoMemory,
+            FileFault::Unread(Unread::NoMemory) => ComparedFault::NoMemory,
             fault => ComparedFault::Base(fault),
         }
     }
@@ -58,7 +58,7 @@ impl ComparedFault {
         ensures { IsToldOfNew fault result }
     {
         match fault {
-            FileFault::NoMemory => ComparedFault::NoMemory,
+            FileFault::Unread(Unread::NoMemory) => ComparedFault::NoMemory,
             fault => ComparedFault::New(fault),
         }
     }
@@ -80,7 +80,7 @@ fn compared_text(alloc: Global, base: &Profile, new: &Profile) -> Result<String,
 ///
 /// # Errors
 ///
-/// Those of `read_document`, each reported of the document that it is of, but `NoMemory` of neither.
+/// Those of `read_document`, each reported of the document that it is of, but out of memory of neither.
 pub fn compare_documents<R: Read, S: Read>(
     alloc: Global,
     base: &mut Counted<R>,

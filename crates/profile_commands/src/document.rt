@@ -9,29 +9,14 @@ use crate::file_bytes::file_bytes;
 use profile_text::{Document, read_with_text};
 use std::alloc::Global;
 use std::io::Read;
-use streams::{Counted, Unread};
-
-impl From<Unread> for FileFault {
-    ghost use Rattle.std.specs.Prelude.{◌≡◌};
-    ghost use Rattle.profile_commands.specs.Refusal.{refusal_of_unread};
-
-    ghost from_gives = { λ unread refusal. refusal ≡ refusal_of_unread unread };
-
-    fn from(unread: Unread) -> FileFault {
-        match unread {
-            Unread::Failed => FileFault::Read,
-            Unread::TooManyReads => FileFault::TooManyReads,
-            Unread::NoMemory => FileFault::NoMemory,
-        }
-    }
-}
+use streams::Counted;
 
 /// Reads the document in a file: its profile, and its canonical text.
 ///
 /// # Errors
 ///
-/// `Read`, `TooManyReads` after 600,000 calls of read, `Document` with the first fault of what is no document, or
-/// `NoMemory`.
+/// `Unread` with `Failed`, with `TooManyReads` after 600,000 calls of read, or with `NoMemory`; `Document` with the first
+/// fault of what is no document.
 pub fn read_document<R: Read>(alloc: Global, reader: &mut Counted<R>) -> Result<Document, FileFault>
     requires calls { reader.old.calls ≤ 2 ^ 62 }
     requires faults { reader.old.faults ≤ 2 ^ 62 }

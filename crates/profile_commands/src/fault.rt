@@ -2,33 +2,40 @@
 
 use profile_text::DocFault;
 use std::alloc::AllocError;
+use streams::Unread;
 use thiserror::Error;
 
 /// Why a command on a document in a file gave nothing, with the words that the program says on standard error.
 #[derive(Debug, Drop, Error)]
 pub enum FileFault {
-    /// The reader failed.
-    #[error("read")]
-    Read,
-    /// The reader was called as often as is allowed, without an end or a fault.
-    #[error("too-many-reads")]
-    TooManyReads,
+    /// The file wasn't read: why. `NoMemory` is also answered where memory was refused later, and may stand in place of
+    /// any answer.
+    #[error("{0}")]
+    Unread(Unread),
     /// The bytes of the file are no document: the first fault that they have, which is never out of memory.
     #[error("{0}")]
     Document(DocFault),
-    /// Memory was refused. No contract can say when: it may stand in place of any answer.
-    #[error("memory")]
-    NoMemory,
+}
+
+impl From<Unread> for FileFault {
+    ghost use Rattle.std.specs.Prelude.{◌≡◌};
+    ghost use Rattle.profile_commands.specs.declared.fault.FileFault.TheVariants.{Unread};
+
+    ghost from_gives = { λ unread fault. fault ≡ Unread unread };
+
+    fn from(unread: Unread) -> FileFault {
+        FileFault::Unread(unread)
+    }
 }
 
 impl From<AllocError> for FileFault {
     ghost use Rattle.std.specs.Prelude.{◌≡◌};
-    ghost use Rattle.profile_commands.specs.declared.fault.FileFault.TheVariants.{NoMemory};
+    ghost use Rattle.profile_commands.specs.Refusal.{no_memory};
 
-    ghost from_gives = { λ _ fault. fault ≡ NoMemory };
+    ghost from_gives = { λ _ fault. fault ≡ no_memory };
 
     fn from(_error: AllocError) -> FileFault {
-        FileFault::NoMemory
+        FileFault::Unread(Unread::NoMemory)
     }
 }
 
@@ -39,7 +46,7 @@ impl From<DocFault> for FileFault {
 
     fn from(fault: DocFault) -> FileFault {
         match fault {
-            DocFault::NoMemory => FileFault::NoMemory,
+            DocFault::NoMemory => FileFault::Unread(Unread::NoMemory),
             fault => FileFault::Document(fault),
         }
     }

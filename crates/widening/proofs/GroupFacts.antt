@@ -1,4 +1,4 @@
--- What the entries of a name are known by, and entries that are grouped.
+-- What the entries of a name are told by, and entries that are grouped.
 use Rattle.std.proofs.Common.{◌≡◌, ◌∙◌, ap, refl, sym, ℕ, ◌+◌, ◌<◌, List, [], ◌∷◌, ◌++◌, Bool, true, false, not, cond, ◌||◌, ◌&&◌, length, take, drop, get_or, nat_le, nat_lt, bytes_eq, Option, Some, None, unwrap_or, append_assoc, arith, inl, inr}
 use Rattle.std.specs.Prelude.{filter}
 use Rattle.std.specs.Borrow.{Bor}

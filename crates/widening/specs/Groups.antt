@@ -1,4 +1,4 @@
--- Entries grouped by the names of their calls, each known by its place in the filter.
+-- Entries grouped by the names of their calls, each told by its place in the filter.
 use Rattle.std.specs.Prelude.{◌≡◌, ℕ, ◌+◌, ◌<◌, List, [], ◌∷◌, Bool, ◌&&◌, ◌||◌, if◌then◌else◌, bytes_eq, take, drop, flat_map, All, length, Option}
 use Rattle.std.specs.Borrow.{Bor}
 use Rattle.std.specs.BTreeMap.{BTreeMap, get_by}
