@@ -1,11 +1,13 @@
 -- The entries of each table: their keys, the columns that SQL keeps of them, and their form.
-use Rattle.std.specs.Prelude.{◌≡◌, ◌<◌, ◌^◌, ◌==◌, ◌&&◌, ℕ, ℤ, pos, Bool, true, List, [], ◌∷◌, length, bytes_eq, if◌then◌else◌, IsUtf8}
+use Rattle.std.specs.Prelude.{◌≡◌, ◌<◌, ◌^◌, ◌==◌, ◌&&◌, ℕ, ℤ, pos, Bool, true, List, [], ◌∷◌}
+use Rattle.std.specs.Prelude.{length, bytes_eq, if◌then◌else◌, IsUtf8}
 use Rattle.sqlite.specs.declared.types.Value.TheVariants.{Int, Text, Blob}
 use Rattle.sqlite.specs.Order.{Row}
 use Rattle.review_policy.specs.Words.{is_word}
 use Rattle.review_policy.specs.declared.ask.ProfileName.{ProfileName}
 use Rattle.review_policy.specs.declared.revision.State.{State}
-use Rattle.review_policy.specs.declared.revision.State.TheVariants.{Open, Closed, Issued, Replaced, Withdrawn}
+use Rattle.review_policy.specs.declared.revision.State.TheVariants.{Open, Closed, Issued, Replaced}
+use Rattle.review_policy.specs.declared.revision.State.TheVariants.{Withdrawn}
 use Rattle.office_tables.specs.declared.row.UserRow.{UserRow}
 use Rattle.office_tables.specs.declared.row.RevisionRow.{RevisionRow}
 use Rattle.office_tables.specs.Tables.{Vote, Baseline, is_profile}
@@ -50,11 +52,14 @@ revision_key e = (e.0, e.1.number)
 
 abbrev pub revision_row : Revision → Row
 revision_row e =
-    Text e.0.team ∷ Text e.0.profile ∷ Int (pos e.1.number) ∷ Text e.1.author ∷ Int (pos (state_number e.1.state)) ∷ Text e.1.body ∷ Blob e.1.digest ∷ []
+    Text e.0.team ∷ Text e.0.profile ∷ Int (pos e.1.number) ∷ Text e.1.author
+    ∷ Int (pos (state_number e.1.state)) ∷ Text e.1.body ∷ Blob e.1.digest ∷ []
 
 -- what a read of a revision shows
 abbrev pub revision_columns : RevisionRow → Row
-revision_columns r = Int (pos r.number) ∷ Text r.author ∷ Int (pos (state_number r.state)) ∷ Text r.body ∷ Blob r.digest ∷ []
+revision_columns r =
+    Int (pos r.number) ∷ Text r.author ∷ Int (pos (state_number r.state)) ∷ Text r.body
+    ∷ Blob r.digest ∷ []
 
 pub record IsRevision (e : Revision) : Type 0 where
   pub profile : IsProfileName e.0
@@ -74,8 +79,17 @@ pub record VoteKey : Type 0 where
   pub number : ℕ
   pub voter : List ℕ
 
+-- that of this voter on a revision
+abbrev pub vote_key : ProfileName → ℕ → List ℕ → VoteKey
+vote_key p n voter = record { profile = p; number = n; voter = voter }
+
 abbrev pub VoteEntry : Type 0
 VoteEntry = VoteKey × Vote
+
+-- the vote of this voter on a revision, with whether it approves and whether it has security
+abbrev pub vote_entry : ProfileName → ℕ → List ℕ → (approves security : Bool) → VoteEntry
+vote_entry p n voter approves security =
+    (vote_key p n voter, record { approves = approves; security = security })
 
 abbrev pub same_vote : VoteKey → VoteKey → Bool
 same_vote a b = is_profile a.profile b.profile && (a.number == b.number) && bytes_eq a.voter b.voter
@@ -85,7 +99,8 @@ bit b = if b then pos 1 else pos 0
 
 abbrev pub vote_row : VoteEntry → Row
 vote_row e =
-    Text e.0.profile.team ∷ Text e.0.profile.profile ∷ Int (pos e.0.number) ∷ Text e.0.voter ∷ Int (bit e.1.approves) ∷ Int (bit e.1.security) ∷ []
+    Text e.0.profile.team ∷ Text e.0.profile.profile ∷ Int (pos e.0.number) ∷ Text e.0.voter
+    ∷ Int (bit e.1.approves) ∷ Int (bit e.1.security) ∷ []
 
 pub record IsVote (e : VoteEntry) : Type 0 where
   pub profile : IsProfileName e.0.profile
@@ -96,6 +111,10 @@ pub record IsVote (e : VoteEntry) : Type 0 where
 
 abbrev pub BaselineEntry : Type 0
 BaselineEntry = List ℕ × Baseline
+
+-- that a revision is for its team
+abbrev pub baseline_entry : ProfileName → ℕ → BaselineEntry
+baseline_entry p n = (p.team, record { profile = p.profile; number = n })
 
 abbrev pub baseline_row : BaselineEntry → Row
 baseline_row e = Text e.0 ∷ Text e.1.profile ∷ Int (pos e.1.number) ∷ []

@@ -1,10 +1,13 @@
 -- When a store is an office.
-use Rattle.std.specs.Prelude.{◌≡◌, ◌≢◌, ◌<◌, ◌^◌, ◌&&◌, cond, if◌then◌else◌, ℕ, pos, Bool, true, false, List, [], ◌∷◌, Option, Some, Result, Ok, Err, option_and_then, slice_get, is_some, codes}
+use Rattle.std.specs.Prelude.{◌≡◌, ◌≢◌, ◌<◌, ◌^◌, ◌&&◌, cond, if◌then◌else◌, ℕ, pos, Bool, true}
+use Rattle.std.specs.Prelude.{false, List, [], ◌∷◌, Option, Some, Result, Ok, Err, option_and_then}
+use Rattle.std.specs.Prelude.{slice_get, is_some, codes}
 use Rattle.std.specs.List.{list_all, Contains}
 use Rattle.sqlite.specs.declared.types.Value.TheVariants.{Int}
 use Rattle.sqlite.specs.Order.{Row}
 use Rattle.sqlite.specs.Schema.{Schema}
 use Rattle.sqlite.specs.State.{State}
+use Rattle.sqlite.specs.Table.{Table}
 use Rattle.sqlite_schema.specs.Names.{table_named, column_named, index_named}
 use Rattle.office_tables.specs.declared.fault.StoreFault.{StoreFault}
 use Rattle.office_tables.specs.declared.fault.StoreFault.TheVariants.{NotAnOffice}
@@ -17,22 +20,37 @@ use Rattle.office_store.specs.declared.fault.OpeningFault.TheVariants.{OldSchema
 use Rattle.office_store.specs.declared.form.Form.{Form}
 use Rattle.office_store.specs.declared.form.TheConstants.{OFFICE_ROW}
 
+-- the table of this name, if the schema has one
+abbrev pub table_in : Schema → List ℕ → Option Table
+table_in schema table = option_and_then (slice_get schema.tables) (table_named schema table)
+
 -- whether the schema has a table of this name with a column of that one
 abbrev pub has_column : Schema → List ℕ → List ℕ → Bool
-has_column schema table column = is_some (option_and_then (λ t. column_named t column) (option_and_then (slice_get schema.tables) (table_named schema table)))
+has_column schema table column =
+    is_some (option_and_then (λ t. column_named t column) (table_in schema table))
+
+-- whether it has one with each of the columns
+abbrev pub has_columns : Schema → List ℕ → List (List ℕ) → Bool
+has_columns schema table columns = list_all (has_column schema table) columns
 
 -- whether the schema has the five tables of schema 1 with their columns
 abbrev pub has_old_tables : Schema → Bool
 has_old_tables schema =
-    list_all (has_column schema (codes "office")) (codes "key" ∷ codes "schema" ∷ codes "listed" ∷ [])
-    && list_all (has_column schema (codes "users")) (codes "name" ∷ codes "team" ∷ codes "roles" ∷ codes "token" ∷ [])
-    && list_all (has_column schema (codes "revisions")) (codes "team" ∷ codes "profile" ∷ codes "number" ∷ codes "author" ∷ codes "state" ∷ codes "body" ∷ codes "digest" ∷ [])
-    && list_all (has_column schema (codes "votes")) (codes "team" ∷ codes "profile" ∷ codes "number" ∷ codes "voter" ∷ codes "approve" ∷ codes "security" ∷ [])
-    && list_all (has_column schema (codes "baselines")) (codes "team" ∷ codes "profile" ∷ codes "number" ∷ [])
+    has_columns schema (codes "office") (codes "key" ∷ codes "schema" ∷ codes "listed" ∷ [])
+    && has_columns schema (codes "users")
+    (codes "name" ∷ codes "team" ∷ codes "roles" ∷ codes "token" ∷ [])
+    && has_columns schema (codes "revisions")
+    (codes "team" ∷ codes "profile" ∷ codes "number" ∷ codes "author" ∷ codes "state"
+    ∷ codes "body" ∷ codes "digest" ∷ [])
+    && has_columns schema (codes "votes")
+    (codes "team" ∷ codes "profile" ∷ codes "number" ∷ codes "voter" ∷ codes "approve"
+    ∷ codes "security" ∷ [])
+    && has_columns schema (codes "baselines")
+    (codes "team" ∷ codes "profile" ∷ codes "number" ∷ [])
 
 -- whether it has the table of held profiles with its columns
 abbrev pub has_holds : Schema → Bool
-has_holds schema = list_all (has_column schema (codes "holds")) (codes "team" ∷ codes "profile" ∷ [])
+has_holds schema = has_columns schema (codes "holds") (codes "team" ∷ codes "profile" ∷ [])
 
 -- whether it has the six tables of schema 2 with their columns
 abbrev pub has_tables : Schema → Bool
@@ -40,7 +58,9 @@ has_tables schema = has_old_tables schema && has_holds schema
 
 -- whether it has indexes with the names of the two of an office
 abbrev pub has_indexes : Schema → Bool
-has_indexes schema = is_some (index_named schema (codes "revisions_by_state")) && is_some (index_named schema (codes "revisions_by_author"))
+has_indexes schema =
+    is_some (index_named schema (codes "revisions_by_state"))
+    && is_some (index_named schema (codes "revisions_by_author"))
 
 -- no bit but those of capabilities
 abbrev pub AreCaps : ℕ → Type 0
@@ -54,7 +74,8 @@ listed_row listed = Int (pos listed) ∷ []
 abbrev pub form_row : ℕ → Row
 form_row listed = Int (pos 1) ∷ Int (pos 2) ∷ Int (pos listed) ∷ []
 
--- a row of the table of the office is of its form: its key, which is its rowid, the number of the schema, and these listed capabilities
+-- a row of the table of the office is of its form: its key, which is its rowid, the number of the
+-- schema, and these listed capabilities
 pub record HasOfficeRow (rows : List Row) (listed : ℕ) : Type 0 where
   pub row : Row
   pub there : Contains rows row
@@ -62,7 +83,8 @@ pub record HasOfficeRow (rows : List Row) (listed : ℕ) : Type 0 where
   pub schema : column row 2 ≡ Int (pos 2)
   pub listed_are : column row 3 ≡ Int (pos listed)
 
--- the tables and the indexes are there, and the row of the office is of its form, with these listed capabilities
+-- the tables and the indexes are there, and the row of the office is of its form, with these listed
+-- capabilities
 pub record HasForm (old new : State) (listed : ℕ) : Type 0 where
   pub tables : has_tables old.now.schema ≡ true
   pub indexes : has_indexes old.now.schema ≡ true
@@ -72,7 +94,8 @@ pub record HasForm (old new : State) (listed : ℕ) : Type 0 where
   -- and it stands in its table, where the tables are those that a founding makes
   pub stands : old.now.schema ≡ office_schema → HasOfficeRow (old.now.trees 0) listed
 
--- the key, the number of the schema, which is 1 or 2, and the listed capabilities, as a query shows them
+-- the key, the number of the schema, which is 1 or 2, and the listed capabilities, as a query shows
+-- them
 abbrev pub numbered_row : Form → Row
 numbered_row form = Int (pos 1) ∷ Int (pos (cond form.is_old 1 2)) ∷ Int (pos form.listed) ∷ []
 
@@ -80,7 +103,8 @@ numbered_row form = Int (pos 1) ∷ Int (pos (cond form.is_old 1 2)) ∷ Int (po
 abbrev pub HasCaps : Form → Type 0
 HasCaps form = AreCaps form.listed
 
--- what the row of the office says: the number of its schema and its listed capabilities, or that it isn't of its form
+-- what the row of the office says: the number of its schema and its listed capabilities, or that it
+-- isn't of its form
 abbrev pub TellsNumber : Option Row → Result Form StoreFault → Type 0
 TellsNumber = TellsOnly numbered_row HasCaps
 
@@ -96,17 +120,23 @@ pub record FindsForm (old mid : State) (form : Form) : Type 0 where
   pub caps : HasCaps form
   pub row : FindsRow OFFICE_ROW.now [] old mid (Ok (Some (numbered_row form)))
 
--- whether the schema has what schema 2 adds to the five tables: the table of held profiles, and then the two indexes
+-- whether the schema has what schema 2 adds to the five tables: the table of held profiles, and
+-- then the two indexes
 abbrev pub added_by : Schema → Result (Unit {0}) OpeningFault
-added_by schema = if has_holds schema then (if has_indexes schema then Ok tt else Err NoIndex) else Err (Store NotAnOffice)
+added_by schema =
+    if has_holds schema
+    then (if has_indexes schema then Ok tt else Err NoIndex)
+    else Err (Store NotAnOffice)
 
 -- these listed capabilities where all of that is there
 abbrev pub listed_where : ℕ → Result (Unit {0}) OpeningFault → Result ℕ OpeningFault
 listed_where listed (Ok there) = Ok listed
 listed_where listed (Err why) = Err why
 
--- what is answered of the form of the office's row: an office of schema 1 is old, whatever else there is
-abbrev pub opening_of : Result (Unit {0}) OpeningFault → Result Form StoreFault → Result ℕ OpeningFault
+-- what is answered of the form of the office's row: an office of schema 1 is old, whatever else
+-- there is
+abbrev pub opening_of : Result (Unit {0}) OpeningFault → Result Form StoreFault
+    → Result ℕ OpeningFault
 opening_of added (Err f) = Err (Store f)
 opening_of added (Ok form) = if form.is_old then Err OldSchema else listed_where form.listed added
 

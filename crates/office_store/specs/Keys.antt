@@ -15,4 +15,5 @@ abbrev pub author_params : ProfileName → List ℕ → Row
 author_params p name = Text p.team ∷ Text p.profile ∷ Text name ∷ []
 
 abbrev pub vote_params : VoteKey → Row
-vote_params v = Text v.profile.team ∷ Text v.profile.profile ∷ Int (pos v.number) ∷ Text v.voter ∷ []
+vote_params v =
+    Text v.profile.team ∷ Text v.profile.profile ∷ Int (pos v.number) ∷ Text v.voter ∷ []

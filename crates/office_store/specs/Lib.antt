@@ -3,6 +3,7 @@ pub mod Entries
 pub mod Keys
 pub mod Shown
 pub mod Calls
+pub mod Connections
 pub mod Form
 pub mod Reads
 pub mod Steps

@@ -13,7 +13,8 @@ use Rattle.office_store.specs.Form.{form_row}
 -- the row of a user who shows this digest, or that there is none
 abbrev pub IsRowShowing : Tables → List ℕ → Option Row → Type 0
 IsRowShowing t digest None = IsUserShowing t digest None
-IsRowShowing t digest (Some row) = (u : UserRow) × IsUserShowing t digest (Some u) × (row ≡ user_row u)
+IsRowShowing t digest (Some row) =
+    (u : UserRow) × IsUserShowing t digest (Some u) × (row ≡ user_row u)
 
 -- the row of such a revision, or that there is none
 abbrev pub IsIssuedRow : Tables → ProfileName → Option Row → Type 0

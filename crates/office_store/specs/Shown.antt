@@ -1,15 +1,21 @@
 -- When a connection shows the tables of an office.
-use Rattle.std.specs.Prelude.{◌≡◌, ◌⊎◌, ◌<◌, ◌^◌, ℕ, pos, false, List, [], ◌∷◌, find, option_map, is_some, None, bytes_eq, IsTrue}
+use Rattle.std.specs.Prelude.{◌≡◌, ◌⊎◌, ◌<◌, ◌^◌, ℕ, pos, false, List, [], ◌∷◌, find, Option}
+use Rattle.std.specs.Prelude.{option_map}
+use Rattle.std.specs.Prelude.{is_some, None, bytes_eq, IsTrue}
 use Rattle.sqlite.specs.declared.types.Value.TheVariants.{Null, Int}
 use Rattle.sqlite.specs.Order.{Row}
 use Rattle.sqlite.specs.Effect.{Database, IsDatabase}
 use Rattle.sqlite.specs.State.{State, HasCleanDisk}
 use Rattle.sqlite_trees.specs.Tree.{Trees}
 use Rattle.review_policy.specs.declared.ask.ProfileName.{ProfileName}
-use Rattle.office_tables.specs.Tables.{Tables, is_profile}
+use Rattle.office_tables.specs.declared.row.RevisionRow.{RevisionRow}
+use Rattle.office_tables.specs.Tables.{Tables, Vote, Baseline, is_profile}
 use Rattle.office_rows.specs.Entries.{Stores}
 use Rattle.office_store.specs.Schema.{office_schema}
-use Rattle.office_store.specs.Entries.{is_named, user_row, IsUser, IsProfileName, same_revision, revision_key, revision_row, IsRevision, same_vote, vote_row, IsVote, baseline_row, IsBaseline, hold_row}
+use Rattle.office_store.specs.Entries.{is_named, user_row, IsUser, IsProfileName, same_revision}
+use Rattle.office_store.specs.Entries.{Revision, revision_key, revision_row, IsRevision, VoteEntry}
+use Rattle.office_store.specs.Entries.{same_vote, vote_key, vote_row, IsVote, BaselineEntry}
+use Rattle.office_store.specs.Entries.{baseline_row, IsBaseline, hold_row}
 
 -- its key, the number of the schema, and the listed capabilities
 abbrev pub office_row : ℕ → Row
@@ -30,7 +36,22 @@ Baselines = Stores baseline_row (λ team e. bytes_eq team e.0) IsBaseline
 abbrev pub Holds : List Row → Type 0
 Holds = Stores hold_row is_profile IsProfileName
 
--- the database has the schema of an office, which its trees list and obey, and at each key what the tables have there
+-- the revision of this profile and number among these entries
+abbrev pub revision_in : List Revision → ProfileName → ℕ → Option RevisionRow
+revision_in entries p n =
+    option_map (λ e. e.1) (find (λ e. same_revision (p, n) (revision_key e)) entries)
+
+-- the vote of this voter on it
+abbrev pub vote_in : List VoteEntry → ProfileName → ℕ → List ℕ → Option Vote
+vote_in entries p n voter =
+    option_map (λ e. e.1) (find (λ e. same_vote (vote_key p n voter) e.0) entries)
+
+-- the baseline of this team
+abbrev pub baseline_in : List BaselineEntry → List ℕ → Option Baseline
+baseline_in entries team = option_map (λ e. e.1) (find (λ e. bytes_eq team e.0) entries)
+
+-- the database has the schema of an office, which its trees list and obey, and at each key what the
+-- tables have there
 pub record IsOffice (db : Database) (t : Tables) : Type 0 where
   pub schema : db.schema ≡ office_schema
   pub sound : IsDatabase db
@@ -39,12 +60,13 @@ pub record IsOffice (db : Database) (t : Tables) : Type 0 where
   pub users : Users (db.trees 1)
   pub users_are : (name : List ℕ) → t.users name ≡ find (is_named name) users.entries
   pub revisions : Revisions (db.trees 4)
-  pub revisions_are : (p : ProfileName) (n : ℕ) → t.revisions p n ≡ option_map (λ e. e.1) (find (λ e. same_revision (p, n) (revision_key e)) revisions.entries)
+  pub revisions_are : (p : ProfileName) (n : ℕ)
+      → t.revisions p n ≡ revision_in revisions.entries p n
   pub votes : Votes (db.trees 6)
   pub votes_are : (p : ProfileName) (n : ℕ) (voter : List ℕ)
-      → t.votes p n voter ≡ option_map (λ e. e.1) (find (λ e. same_vote (record { profile = p; number = n; voter = voter }) e.0) votes.entries)
+      → t.votes p n voter ≡ vote_in votes.entries p n voter
   pub baselines : Baselines (db.trees 8)
-  pub baselines_are : (team : List ℕ) → t.baselines team ≡ option_map (λ e. e.1) (find (λ e. bytes_eq team e.0) baselines.entries)
+  pub baselines_are : (team : List ℕ) → t.baselines team ≡ baseline_in baselines.entries team
   pub holds : Holds (db.trees 10)
   pub holds_are : (p : ProfileName) → t.holds p ≡ is_some (find (is_profile p) holds.entries)
 
@@ -73,8 +95,10 @@ LeavesOnly s t = (trees : Trees) → s.may_leave trees → AreOffice trees t
 
 -- a crash may leave what it could leave before, or what is said here
 abbrev pub MayLeave : State → State → (Trees → Type 0) → Type 0
-MayLeave old new Said = HasCleanDisk new → (trees : Trees) → new.may_leave trees → old.may_leave trees ⊎ Said trees
+MayLeave old new Said =
+    HasCleanDisk new → (trees : Trees) → new.may_leave trees → old.may_leave trees ⊎ Said trees
 
 -- a crash may leave nothing that it couldn't leave before
 abbrev pub LeavesNoMore : State → State → Type 0
-LeavesNoMore old new = HasCleanDisk new → (trees : Trees) → new.may_leave trees → old.may_leave trees
+LeavesNoMore old new =
+    HasCleanDisk new → (trees : Trees) → new.may_leave trees → old.may_leave trees

@@ -14,10 +14,15 @@ abbrev pub statement : List ℕ → Row → Statement
 statement sql params = record { sql = sql; params = params }
 
 module _ {S : Type 0} (g : Ghosts S) where
-  -- the statement makes these tables of those, and where it fails it isn't for the form of the tables
+  -- the statement makes these tables of those, and where it fails it isn't for the form of the
+  -- tables
   pub record IsStep (s : Statement) (t u : Tables) : Type 0 where
-    pub ok : (old new : Held S) (count : ℕ) → IsOffice (state g old).now t → Executes s.sql s.params (state g old) (state g new) (Ok count) → IsOffice (state g new).now u
-    pub err : (old new : Held S) (e : Error) → IsOffice (state g old).now t → ExecutesInside 0 s.sql s.params (state g old) (state g new) (Err e) → IsOfMachine e
+    pub ok : (old new : Held S) (count : ℕ) → IsOffice (state g old).now t
+        → Executes s.sql s.params (state g old) (state g new) (Ok count)
+        → IsOffice (state g new).now u
+    pub err : (old new : Held S) (e : Error) → IsOffice (state g old).now t
+        → ExecutesInside 0 s.sql s.params (state g old) (state g new) (Err e)
+        → IsOfMachine e
 
   -- the statements, one after the other, make the second tables of the first
   abbrev pub AreSteps : List Statement → Tables → Tables → Type 0

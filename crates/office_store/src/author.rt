@@ -3,11 +3,9 @@
 ghost use Rattle.std.specs.Prelude.{◌≡◌, ◌≢◌, ◌↔◌, ℕ, List, true, Err, IfOk, IfErr, map, is_some};
 ghost use Rattle.std.specs.List.{AllByRecursion};
 ghost use Rattle.sqlite.specs.Held.{state};
-ghost use Rattle.sqlite.specs.State.{HasCleanDisk};
-ghost use Rattle.office_rows.specs.Faults.{FindsRow};
-ghost use Rattle.office_rows.specs.Told.{IsOfRow, IsTold, FindsRows, TellsAll, TellsRow, TellsRows, TellsWhether, map_ok};
+ghost use Rattle.office_rows.specs.Told.{IsOfRow, IsTold, TellsAll, TellsWhether, map_ok};
 ghost use Rattle.office_tables.specs.Lists.{IsAuthor, AreAuthors};
-ghost use Rattle.office_store.specs.Calls.{IsRead};
+ghost use Rattle.office_store.specs.Connections.{AcceptsFormed, FindsAll, FindsFirst, Reads, ReadsAll, ReadsFirst};
 ghost use Rattle.office_store.specs.Keys.{author_params, profile_params};
 ghost use Rattle.office_store.specs.Lists.{name_row, IsWord, AreAuthorRows};
 ghost use Rattle.office_store.specs.Shown.{IsIdle};
@@ -33,9 +31,10 @@ fn revision_by<S: Alter>(
     author: &Word,
 ) -> Result<Option<Row>, StoreFault>
     requires { IsIdle (state S.Store conn.old) }
-    ensures read { IsRead (state S.Store conn.old) (state S.Store conn.new) result (λ t row. is_some row ≡ true ↔ IsAuthor t profile.now author.now) }
-    ensures row { HasCleanDisk (state S.Store conn.new)
-        → FindsRow REVISION_BY.now (author_params profile.now author.now) (state S.Store conn.old) (state S.Store conn.new) result }
+    ensures read { Reads S.Store conn.old conn.new result
+        (λ t row. is_some row ≡ true ↔ IsAuthor t profile.now author.now) }
+    ensures row { FindsFirst S.Store conn.old conn.new
+        REVISION_BY.now (author_params profile.now author.now) result }
 {
     first_row(conn, REVISION_BY, &of_author(profile, author))
 }
@@ -47,9 +46,10 @@ pub fn is_author<S: Alter>(
     author: &Word,
 ) -> Result<bool, StoreFault>
     requires { IsIdle (state S.Store conn.old) }
-    ensures read { IsRead (state S.Store conn.old) (state S.Store conn.new) result (λ t is_author. is_author ≡ true ↔ IsAuthor t profile.now author.now) }
-    ensures told { HasCleanDisk (state S.Store conn.new)
-        → TellsRow REVISION_BY.now (author_params profile.now author.now) (state S.Store conn.old) (state S.Store conn.new) TellsWhether result }
+    ensures read { Reads S.Store conn.old conn.new result
+        (λ t is_author. is_author ≡ true ↔ IsAuthor t profile.now author.now) }
+    ensures told { ReadsFirst S.Store conn.old conn.new
+        REVISION_BY.now (author_params profile.now author.now) TellsWhether result }
 {
     is_there(revision_by(conn, profile, author))
 }
@@ -60,9 +60,10 @@ fn author_rows<S: Alter>(
     profile: &ProfileName,
 ) -> Result<Vec<Row>, StoreFault>
     requires { IsIdle (state S.Store conn.old) }
-    ensures read { IsRead (state S.Store conn.old) (state S.Store conn.new) result (λ t rows. AreAuthorRows t profile.now rows.items) }
-    ensures rows { HasCleanDisk (state S.Store conn.new)
-        → FindsRows AUTHORS_OF.now (profile_params profile.now) (state S.Store conn.old) (state S.Store conn.new) (map_ok result (λ rows. rows.items)) }
+    ensures read { Reads S.Store conn.old conn.new result
+        (λ t rows. AreAuthorRows t profile.now rows.items) }
+    ensures rows { FindsAll S.Store conn.old conn.new
+        AUTHORS_OF.now (profile_params profile.now) (map_ok result (λ rows. rows.items)) }
 {
     all_rows(conn, AUTHORS_OF, &of_profile(profile))
 }
@@ -70,7 +71,7 @@ fn author_rows<S: Alter>(
 // The name of a row of one.
 fn read_name(alloc: Global, row: &Row) -> Result<Word, StoreFault>
     ensures name { IfOk result (λ name. row.now ≡ name_row name) }
-    ensures formed { (name : List ℕ) → IsWord name → row.now ≡ name_row name → result ≢ Err StoreFault.NotAnOffice }
+    ensures formed { AcceptsFormed name_row IsWord row.now result }
     ensures cause { IfErr result IsOfRow }
 {
     if row.column_count() != 1 {
@@ -82,7 +83,8 @@ fn read_name(alloc: Global, row: &Row) -> Result<Word, StoreFault>
 // The names of rows of one each.
 fn read_names(alloc: Global, rows: &[Row]) -> Result<Vec<Word>, StoreFault>
     ensures names { IfOk result (λ names. rows.now ≡ map name_row names.items) }
-    ensures formed { (names : List (List ℕ)) → rows.now ≡ map name_row names → AllByRecursion IsWord names → result ≢ Err StoreFault.NotAnOffice }
+    ensures formed { (names : List (List ℕ)) → rows.now ≡ map name_row names
+        → AllByRecursion IsWord names → result ≢ Err StoreFault.NotAnOffice }
     ensures cause { IfErr result IsOfRow }
 {
     let mut names = Vec::new(alloc);
@@ -95,7 +97,8 @@ fn read_names(alloc: Global, rows: &[Row]) -> Result<Vec<Word>, StoreFault>
 
 // The names of the rows that a query found.
 fn names_of(alloc: Global, found: Result<Vec<Row>, StoreFault>) -> Result<Vec<Word>, StoreFault>
-    ensures { IsTold (TellsAll name_row IsWord) (map_ok found (λ rows. rows.items)) (map_ok result (λ names. names.items)) }
+    ensures { IsTold (TellsAll name_row IsWord)
+        (map_ok found (λ rows. rows.items)) (map_ok result (λ names. names.items)) }
 {
     let rows = found?;
     read_names(alloc, rows.as_slice())
@@ -108,9 +111,11 @@ pub fn authors<S: Alter>(
     profile: &ProfileName,
 ) -> Result<Vec<Word>, StoreFault>
     requires { IsIdle (state S.Store conn.old) }
-    ensures read { IsRead (state S.Store conn.old) (state S.Store conn.new) result (λ t names. AreAuthors t profile.now names.items) }
-    ensures told { HasCleanDisk (state S.Store conn.new)
-        → TellsRows AUTHORS_OF.now (profile_params profile.now) (state S.Store conn.old) (state S.Store conn.new) (TellsAll name_row IsWord)
+    ensures read { Reads S.Store conn.old conn.new result
+        (λ t names. AreAuthors t profile.now names.items) }
+    ensures told { ReadsAll S.Store conn.old conn.new
+        AUTHORS_OF.now (profile_params profile.now)
+        (TellsAll name_row IsWord)
         (map_ok result (λ names. names.items)) }
 {
     names_of(alloc, author_rows(conn, profile))

@@ -4,7 +4,7 @@ ghost use Rattle.std.specs.Prelude.{◌≡◌, true, [], ◌∷◌};
 ghost use Rattle.sqlite.specs.declared.types.Value.TheVariants.{Text as SqlText, Blob};
 ghost use Rattle.sqlite.specs.Values.{bound};
 ghost use Rattle.review_policy.specs.Words.{is_word};
-ghost use Rattle.office_store.specs.Entries.{user_row, IsUser, IsProfileName, state_number, revision_row, IsRevision, vote_row, IsVote, baseline_row, IsBaseline};
+ghost use Rattle.office_store.specs.Entries.{user_row, IsUser, IsProfileName, state_number, revision_row, IsRevision, vote_key, vote_entry, vote_row, IsVote, baseline_entry, baseline_row, IsBaseline};
 ghost use Rattle.office_store.specs.Keys.{profile_params, revision_params, author_params, vote_params};
 
 use crate::column::bytes_of;
@@ -72,7 +72,7 @@ pub(crate) fn of_voter<'a>(
     number: u32,
     voter: &'a Word,
 ) -> [ValueRef<'a>; 4]
-    ensures row { bound result ≡ vote_params (record { profile = profile.now; number = number; voter = voter.now }) }
+    ensures row { bound result ≡ vote_params (vote_key profile.now number voter.now) }
 {
     let team = profile.team.as_str();
     let name = profile.profile.as_str();
@@ -137,8 +137,10 @@ pub(crate) fn of_vote<'a>(
     voter: &'a Word,
     ballot: Ballot,
 ) -> [ValueRef<'a>; 6]
-    ensures row { bound result ≡ vote_row (record { profile = profile.now; number = number; voter = voter.now }, record { approves = ballot.approves; security = ballot.security }) }
-    ensures formed { IsVote (record { profile = profile.now; number = number; voter = voter.now }, record { approves = ballot.approves; security = ballot.security }) }
+    ensures row { bound result ≡ vote_row
+        (vote_entry profile.now number voter.now ballot.approves ballot.security) }
+    ensures formed { IsVote
+        (vote_entry profile.now number voter.now ballot.approves ballot.security) }
 {
     let team = profile.team.as_str();
     let name = profile.profile.as_str();
@@ -155,8 +157,8 @@ pub(crate) fn of_vote<'a>(
 
 /// The row of the baseline that a revision is for its team.
 pub(crate) fn of_baseline(profile: &ProfileName, number: u32) -> [ValueRef<'_>; 3]
-    ensures row { bound result ≡ baseline_row (profile.now.team, record { profile = profile.now.profile; number = number }) }
-    ensures formed { IsBaseline (profile.now.team, record { profile = profile.now.profile; number = number }) }
+    ensures row { bound result ≡ baseline_row (baseline_entry profile.now number) }
+    ensures formed { IsBaseline (baseline_entry profile.now number) }
 {
     let team = profile.team.as_str();
     let name = profile.profile.as_str();

@@ -17,8 +17,10 @@ use std::alloc::Global;
 
 /// The text of a column.
 pub(crate) fn text_at(row: &Row, at: usize) -> Result<String, StoreFault>
-    ensures text { IfOk result (λ text. (at < length row.now) × (column row.now at ≡ SqlText (string_bytes text))) }
-    ensures formed { (text : List ℕ) → at < length row.now → column row.now at ≡ SqlText text → IsUtf8 text
+    ensures text { IfOk result (λ text.
+        (at < length row.now) × (column row.now at ≡ SqlText (string_bytes text))) }
+    ensures formed { (text : List ℕ) → at < length row.now
+        → column row.now at ≡ SqlText text → IsUtf8 text
         → result ≢ Err StoreFault.NotAnOffice }
     ensures cause { IfErr result IsOfRow }
 {
@@ -28,8 +30,10 @@ pub(crate) fn text_at(row: &Row, at: usize) -> Result<String, StoreFault>
 /// The word of a column.
 #[tactic(auto, using(crate::proofs::Columns::word_is_utf8))]
 pub(crate) fn word_at(alloc: Global, row: &Row, at: usize) -> Result<Word, StoreFault>
-    ensures word { IfOk result (λ word. (at < length row.now) × (column row.now at ≡ SqlText word)) }
-    ensures formed { (word : List ℕ) → at < length row.now → column row.now at ≡ SqlText word → is_word word ≡ true
+    ensures word { IfOk result (λ word.
+        (at < length row.now) × (column row.now at ≡ SqlText word)) }
+    ensures formed { (word : List ℕ) → at < length row.now
+        → column row.now at ≡ SqlText word → is_word word ≡ true
         → result ≢ Err StoreFault.NotAnOffice }
     ensures cause { IfErr result IsOfRow }
 {
@@ -43,8 +47,10 @@ pub(crate) fn word_at(alloc: Global, row: &Row, at: usize) -> Result<Word, Store
 
 /// The number of a column.
 pub(crate) fn number_at(row: &Row, at: usize) -> Result<u32, StoreFault>
-    ensures number { IfOk result (λ number. (at < length row.now) × (column row.now at ≡ Int (pos number))) }
-    ensures formed { (number : ℕ) → at < length row.now → column row.now at ≡ Int (pos number) → number < 2 ^ 32
+    ensures number { IfOk result (λ number.
+        (at < length row.now) × (column row.now at ≡ Int (pos number))) }
+    ensures formed { (number : ℕ) → at < length row.now
+        → column row.now at ≡ Int (pos number) → number < 2 ^ 32
         → result ≢ Err StoreFault.NotAnOffice }
     ensures cause { IfErr result IsOfRow }
 {
@@ -53,8 +59,10 @@ pub(crate) fn number_at(row: &Row, at: usize) -> Result<u32, StoreFault>
 
 // The bits of a column.
 fn bits_at(row: &Row, at: usize) -> Result<u64, StoreFault>
-    ensures bits { IfOk result (λ bits. (at < length row.now) × (column row.now at ≡ Int (pos bits))) }
-    ensures formed { (bits : ℕ) → at < length row.now → column row.now at ≡ Int (pos bits) → result ≢ Err StoreFault.NotAnOffice }
+    ensures bits { IfOk result (λ bits.
+        (at < length row.now) × (column row.now at ≡ Int (pos bits))) }
+    ensures formed { (bits : ℕ) → at < length row.now → column row.now at ≡ Int (pos bits)
+        → result ≢ Err StoreFault.NotAnOffice }
     ensures cause { IfErr result IsOfRow }
 {
     row.get(at).map_err(fault_of_error)
@@ -62,8 +70,11 @@ fn bits_at(row: &Row, at: usize) -> Result<u64, StoreFault>
 
 /// The capabilities of a column.
 pub(crate) fn caps_at(row: &Row, at: usize) -> Result<Caps, StoreFault>
-    ensures caps { IfOk result (λ caps. (at < length row.now) × (column row.now at ≡ Int (pos caps)) × (caps < 2 ^ 41)) }
-    ensures formed { (caps : ℕ) → at < length row.now → column row.now at ≡ Int (pos caps) → caps < 2 ^ 41 → result ≢ Err StoreFault.NotAnOffice }
+    ensures caps { IfOk result (λ caps.
+        (at < length row.now) × (column row.now at ≡ Int (pos caps)) × (caps < 2 ^ 41)) }
+    ensures formed { (caps : ℕ) → at < length row.now
+        → column row.now at ≡ Int (pos caps) → caps < 2 ^ 41
+        → result ≢ Err StoreFault.NotAnOffice }
     ensures cause { IfErr result IsOfRow }
 {
     match Caps::from_bits(bits_at(row, at)?) {
@@ -74,8 +85,10 @@ pub(crate) fn caps_at(row: &Row, at: usize) -> Result<Caps, StoreFault>
 
 /// The digest of a column.
 pub(crate) fn digest_at(row: &Row, at: usize) -> Result<[u8; 32], StoreFault>
-    ensures digest { IfOk result (λ digest. (at < length row.now) × (column row.now at ≡ Blob digest)) }
-    ensures formed { (digest : List ℕ) → at < length row.now → column row.now at ≡ Blob digest → length digest ≡ 32
+    ensures digest { IfOk result (λ digest.
+        (at < length row.now) × (column row.now at ≡ Blob digest)) }
+    ensures formed { (digest : List ℕ) → at < length row.now
+        → column row.now at ≡ Blob digest → length digest ≡ 32
         → result ≢ Err StoreFault.NotAnOffice }
     ensures cause { IfErr result IsOfRow }
 {
@@ -96,8 +109,11 @@ pub(crate) fn bytes_of(digest: &[u8; 32]) -> &[u8]
 
 /// The roles of a column.
 pub(crate) fn roles_at(row: &Row, at: usize) -> Result<Roles, StoreFault>
-    ensures roles { IfOk result (λ roles. (at < length row.now) × (column row.now at ≡ Int (pos roles))) }
-    ensures formed { (roles : ℕ) → at < length row.now → column row.now at ≡ Int (pos roles) → roles < 64 → result ≢ Err StoreFault.NotAnOffice }
+    ensures roles { IfOk result (λ roles.
+        (at < length row.now) × (column row.now at ≡ Int (pos roles))) }
+    ensures formed { (roles : ℕ) → at < length row.now
+        → column row.now at ≡ Int (pos roles) → roles < 64
+        → result ≢ Err StoreFault.NotAnOffice }
     ensures cause { IfErr result IsOfRow }
 {
     let bits = number_at(row, at)?;
@@ -112,8 +128,10 @@ pub(crate) fn roles_at(row: &Row, at: usize) -> Result<Roles, StoreFault>
 
 /// The state of a column.
 pub(crate) fn state_at(row: &Row, at: usize) -> Result<State, StoreFault>
-    ensures state { IfOk result (λ state. (at < length row.now) × (column row.now at ≡ Int (pos (state_number state)))) }
-    ensures formed { (state : StateValue) → at < length row.now → column row.now at ≡ Int (pos (state_number state))
+    ensures state { IfOk result (λ state.
+        (at < length row.now) × (column row.now at ≡ Int (pos (state_number state)))) }
+    ensures formed { (state : StateValue) → at < length row.now
+        → column row.now at ≡ Int (pos (state_number state))
         → result ≢ Err StoreFault.NotAnOffice }
     ensures cause { IfErr result IsOfRow }
 {

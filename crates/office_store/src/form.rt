@@ -4,11 +4,9 @@ ghost use Rattle.std.specs.Prelude.{◌≡◌, ◌≢◌, ◌↔◌, [], false, 
 ghost use Rattle.std.specs.List.{list_all};
 ghost use Rattle.sqlite.specs.Held.{state};
 ghost use Rattle.sqlite.specs.State.{HasCleanDisk};
-ghost use Rattle.office_rows.specs.Faults.{FindsRow};
-ghost use Rattle.office_rows.specs.Told.{IsOfRow, IsTold, TellsRow};
+ghost use Rattle.office_rows.specs.Told.{IsOfRow, IsTold};
 ghost use Rattle.office_tables.specs.Tables.{Tables};
-ghost use Rattle.office_store.specs.declared.form.Form.{Form as FormValue};
-ghost use Rattle.office_store.specs.Calls.{IsRead};
+ghost use Rattle.office_store.specs.Connections.{AcceptsFormed, FindsFirst, Reads, ReadsFirst};
 ghost use Rattle.office_store.specs.Form.{has_column, has_old_tables, has_holds, has_indexes, added_by, old_form, new_form, numbered_row, opening_of, as_store, HasCaps, HasForm, IsOldOrFailure, TellsNumber, TellsOpening};
 ghost use Rattle.office_store.specs.Migration.{ShowsOld, ShowsOldIfOpen};
 ghost use Rattle.office_store.specs.Reads.{IsFormRow};
@@ -118,7 +116,7 @@ fn is_first(number: u32) -> Result<bool, StoreFault>
 // The form of a row that is of the office's.
 fn read_number(row: &Row) -> Result<Form, StoreFault>
     ensures form { IfOk result (λ form. HasCaps form × (row.now ≡ numbered_row form)) }
-    ensures formed { (form : FormValue) → HasCaps form → row.now ≡ numbered_row form → result ≢ Err StoreFault.NotAnOffice }
+    ensures formed { AcceptsFormed numbered_row HasCaps row.now result }
     ensures cause { IfErr result IsOfRow }
 {
     if row.column_count() != 3 || number_at(row, 0)? != 1 {
@@ -143,8 +141,8 @@ fn number_of(found: Result<Option<Row>, StoreFault>) -> Result<Form, StoreFault>
 // The row of the office.
 fn office_form<S: Alter>(conn: &mut Connection<S>) -> Result<Option<Row>, StoreFault>
     requires { IsIdle (state S.Store conn.old) }
-    ensures read { IsRead (state S.Store conn.old) (state S.Store conn.new) result (λ t row. IsFormRow t row) }
-    ensures row { HasCleanDisk (state S.Store conn.new) → FindsRow OFFICE_ROW.now [] (state S.Store conn.old) (state S.Store conn.new) result }
+    ensures read { Reads S.Store conn.old conn.new result (λ t row. IsFormRow t row) }
+    ensures row { FindsFirst S.Store conn.old conn.new OFFICE_ROW.now [] result }
 {
     first_row(conn, OFFICE_ROW, &[])
 }
@@ -152,10 +150,11 @@ fn office_form<S: Alter>(conn: &mut Connection<S>) -> Result<Option<Row>, StoreF
 /// The form of the office's row.
 pub(crate) fn office_number<S: Alter>(conn: &mut Connection<S>) -> Result<Form, StoreFault>
     requires { IsIdle (state S.Store conn.old) }
-    ensures read { IsRead (state S.Store conn.old) (state S.Store conn.new) result (λ t form. form ≡ new_form t.listed) }
-    ensures old { (t : Tables) → ShowsOldIfOpen (state S.Store conn.old) t → HasCleanDisk (state S.Store conn.new)
+    ensures read { Reads S.Store conn.old conn.new result (λ t form. form ≡ new_form t.listed) }
+    ensures old { (t : Tables) → ShowsOldIfOpen (state S.Store conn.old) t
+        → HasCleanDisk (state S.Store conn.new)
         → IfOk result (λ form. form ≡ old_form t.listed) × (result ≢ Err StoreFault.NotAnOffice) }
-    ensures told { HasCleanDisk (state S.Store conn.new) → TellsRow OFFICE_ROW.now [] (state S.Store conn.old) (state S.Store conn.new) TellsNumber result }
+    ensures told { ReadsFirst S.Store conn.old conn.new OFFICE_ROW.now [] TellsNumber result }
     ensures caps { IfOk result HasCaps }
 {
     number_of(office_form(conn))
@@ -189,13 +188,16 @@ fn opened(
 pub fn check_office<S: Alter>(conn: &mut Connection<S>) -> Result<Caps, OpeningFault>
     requires { IsIdle (state S.Store conn.old) }
     ensures read { has_old_tables (state S.Store conn.old).now.schema ≡ true
-        → IsRead (state S.Store conn.old) (state S.Store conn.new) (as_store result) (λ t listed. listed ≡ t.listed) }
+        → Reads S.Store conn.old conn.new (as_store result) (λ t listed. listed ≡ t.listed) }
     ensures foreign { has_old_tables (state S.Store conn.old).now.schema ≡ false
         → (result ≡ Err (OpeningFault.Store StoreFault.NotAnOffice)) × (conn.new ≡ conn.old) }
-    ensures form { HasCleanDisk (state S.Store conn.new) → IfOk result (HasForm (state S.Store conn.old) (state S.Store conn.new)) }
-    ensures told { has_old_tables (state S.Store conn.old).now.schema ≡ true → HasCleanDisk (state S.Store conn.new)
+    ensures form { HasCleanDisk (state S.Store conn.new)
+        → IfOk result (HasForm (state S.Store conn.old) (state S.Store conn.new)) }
+    ensures told { has_old_tables (state S.Store conn.old).now.schema ≡ true
+        → HasCleanDisk (state S.Store conn.new)
         → TellsOpening (state S.Store conn.old) (state S.Store conn.new) result }
-    ensures old { (t : Tables) → ShowsOld (state S.Store conn.old) t → HasCleanDisk (state S.Store conn.new)
+    ensures old { (t : Tables) → ShowsOld (state S.Store conn.old) t
+        → HasCleanDisk (state S.Store conn.new)
         → OnOk result ⊥ × IfErr result IsOldOrFailure }
     ensures idle { IsIdle (state S.Store conn.new) }
 {

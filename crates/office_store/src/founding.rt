@@ -1,16 +1,15 @@
 //! The founding of an office.
 
-ghost use Rattle.std.specs.Prelude.{◌≡◌, ◌≢◌, ◌↔◌, ◌<◌, ◌^◌, false, true, pos, is_some, IsTrue, Err, IfErr, OnOk, OnErr};
-ghost use Rattle.sqlite.specs.Effect.{Database};
+ghost use Rattle.std.specs.Prelude.{◌≡◌, ◌≢◌, ◌↔◌, ◌<◌, ◌^◌, false, true, pos, is_some, IsTrue, Err, IfErr, OnOk};
 ghost use Rattle.sqlite.specs.Held.{state};
-ghost use Rattle.sqlite.specs.State.{HasCleanDisk, Survives, Shows as Sees};
+ghost use Rattle.sqlite.specs.State.{HasCleanDisk};
 ghost use Rattle.sqlite.specs.Values.{bound};
 ghost use Rattle.sqlite_schema.specs.Names.{table_named};
-ghost use Rattle.office_rows.specs.Queries.{IsAsItWas};
-ghost use Rattle.office_rows.specs.Statements.{begun, RanAll, FailedIn, IsCause};
+ghost use Rattle.office_rows.specs.Statements.{IsCause};
+ghost use Rattle.office_store.specs.Connections.{CommitsAll, FailsWithin, KeepsOnOk, RollsBack, SameOnErr, ShowsOnOk, SurvivesAll, SurvivesWith};
 ghost use Rattle.office_store.specs.Founding.{has_table, IsForeign, first_user, new_office, founding, founding_office, FailsToFound};
 ghost use Rattle.office_store.specs.Schema.{no_schema};
-ghost use Rattle.office_store.specs.Shown.{IsIdle, Shows, AreOffice, LeavesOnly};
+ghost use Rattle.office_store.specs.Shown.{IsIdle};
 
 use crate::column::bytes_of;
 use crate::fault::FoundingFault;
@@ -73,19 +72,15 @@ fn run_founding<'a, S: Alter>(
     user: &'a [ValueRef<'a>],
 ) -> Result<(), Error>
     requires { conn.old.in_transaction ≡ false }
-    ensures all { HasCleanDisk (state S.Store conn.new)
-        → OnOk result (RanAll S.Store (founding (bound none.now) (bound office.now) (bound user.now)) (begun conn.old) (state S.Store conn.new).now
-        × Sees (state S.Store conn.old) (state S.Store conn.new) (state S.Store conn.new).now (state S.Store conn.new).now false) }
-    ensures none { HasCleanDisk (state S.Store conn.new) → IsTrue (state S.Store conn.new).is_open
-        → OnErr result ((state S.Store conn.new).now ≡ (state S.Store conn.old).committed
-        × (state S.Store conn.new).committed ≡ (state S.Store conn.old).committed) }
-    ensures cause { HasCleanDisk (state S.Store conn.new)
-        → IfErr result (FailedIn S.Store (founding (bound none.now) (bound office.now) (bound user.now)) (begun conn.old)) }
+    ensures all { CommitsAll S.Store conn.old conn.new
+        (founding (bound none.now) (bound office.now) (bound user.now)) result }
+    ensures none { RollsBack S.Store conn.old conn.new result }
+    ensures cause { FailsWithin S.Store conn.old conn.new
+        (founding (bound none.now) (bound office.now) (bound user.now)) result }
     ensures mode { conn.new.in_transaction ≡ false }
     ensures clean { HasCleanDisk (state S.Store conn.new) → HasCleanDisk (state S.Store conn.old) }
-    ensures crash { Survives (state S.Store conn.old) (state S.Store conn.new)
-        (λ trees. (db : Database) × RanAll S.Store (founding (bound none.now) (bound office.now) (bound user.now)) (begun conn.old) db
-        × (trees ≡ db.trees)) }
+    ensures crash { SurvivesAll S.Store conn.old conn.new
+        (founding (bound none.now) (bound office.now) (bound user.now)) }
 {
     run_all(
         conn,
@@ -144,17 +139,19 @@ fn make_office<S: Alter>(
 ) -> Result<(), StoreFault>
     requires idle { IsIdle (state S.Store conn.old) }
     requires empty { (state S.Store conn.old).now.schema ≡ no_schema }
-    ensures founded { HasCleanDisk (state S.Store conn.new) → OnOk result (Shows (state S.Store conn.new) (new_office name.now team.now digest.now listed)) }
-    ensures kept { HasCleanDisk (state S.Store conn.new)
-        → OnOk result (LeavesOnly (state S.Store conn.new) (new_office name.now team.now digest.now listed)) }
+    ensures founded { ShowsOnOk S.Store conn.new
+        (new_office name.now team.now digest.now listed) result }
+    ensures kept { KeepsOnOk S.Store conn.new
+        (new_office name.now team.now digest.now listed) result }
     ensures formed { HasCleanDisk (state S.Store conn.new) → result ≢ Err StoreFault.NotAnOffice }
     ensures cause { HasCleanDisk (state S.Store conn.new)
-        → IfErr result (IsCause S.Store (founding_office (first_user name.now team.now digest.now) listed) conn.old) }
-    ensures same { (state S.Store conn.old).now ≡ (state S.Store conn.old).committed → HasCleanDisk (state S.Store conn.new)
-        → OnErr result (IsAsItWas (state S.Store conn.old) (state S.Store conn.new)) }
+        → IfErr result (IsCause S.Store
+        (founding_office (first_user name.now team.now digest.now) listed) conn.old) }
+    ensures same { SameOnErr S.Store conn.old conn.new result }
     ensures idle { IsIdle (state S.Store conn.new) }
     ensures clean { HasCleanDisk (state S.Store conn.new) → HasCleanDisk (state S.Store conn.old) }
-    ensures crash { Survives (state S.Store conn.old) (state S.Store conn.new) (λ trees. AreOffice trees (new_office name.now team.now digest.now listed)) }
+    ensures crash { SurvivesWith S.Store conn.old conn.new
+        (new_office name.now team.now digest.now listed) }
 {
     let name = name.as_str();
     let team = team.as_str();
@@ -187,20 +184,24 @@ pub fn found<S: Alter>(
     listed: Caps,
 ) -> Result<(), FoundingFault>
     requires { IsIdle (state S.Store conn.old) }
-    ensures founded { HasCleanDisk (state S.Store conn.new) → OnOk result (Shows (state S.Store conn.new) (new_office name.now team.now digest.now listed)) }
-    ensures kept { HasCleanDisk (state S.Store conn.new)
-        → OnOk result (LeavesOnly (state S.Store conn.new) (new_office name.now team.now digest.now listed)) }
-    ensures already { result ≡ Err FoundingFault.AlreadyFounded ↔ IsTrue (has_table (state S.Store conn.old).now.schema) }
+    ensures founded { ShowsOnOk S.Store conn.new
+        (new_office name.now team.now digest.now listed) result }
+    ensures kept { KeepsOnOk S.Store conn.new
+        (new_office name.now team.now digest.now listed) result }
+    ensures already { result ≡ Err FoundingFault.AlreadyFounded
+        ↔ IsTrue (has_table (state S.Store conn.old).now.schema) }
     ensures foreign { HasCleanDisk (state S.Store conn.new)
-        → result ≡ Err (FoundingFault.Store StoreFault.NotAnOffice) ↔ IsForeign (state S.Store conn.old).now.schema }
+        → result ≡ Err (FoundingFault.Store StoreFault.NotAnOffice)
+        ↔ IsForeign (state S.Store conn.old).now.schema }
     ensures cause { HasCleanDisk (state S.Store conn.new)
-        → IfErr result (FailsToFound S.Store (first_user name.now team.now digest.now) listed conn.old) }
+        → IfErr result (FailsToFound S.Store
+        (first_user name.now team.now digest.now) listed conn.old) }
     ensures empty { OnOk result ((state S.Store conn.old).now.schema ≡ no_schema) }
-    ensures same { (state S.Store conn.old).now ≡ (state S.Store conn.old).committed → HasCleanDisk (state S.Store conn.new)
-        → OnErr result (IsAsItWas (state S.Store conn.old) (state S.Store conn.new)) }
+    ensures same { SameOnErr S.Store conn.old conn.new result }
     ensures idle { IsIdle (state S.Store conn.new) }
     ensures clean { HasCleanDisk (state S.Store conn.new) → HasCleanDisk (state S.Store conn.old) }
-    ensures crash { Survives (state S.Store conn.old) (state S.Store conn.new) (λ trees. AreOffice trees (new_office name.now team.now digest.now listed)) }
+    ensures crash { SurvivesWith S.Store conn.old conn.new
+        (new_office name.now team.now digest.now listed) }
 {
     if has_table(conn.schema()) {
         return Err(FoundingFault::AlreadyFounded);

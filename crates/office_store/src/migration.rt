@@ -1,11 +1,11 @@
 //! The migration of an office of schema 1, which holds no profile and has no index.
 
-ghost use Rattle.std.specs.Prelude.{◌≡◌, ◌≢◌, false, Err, IfErr, IsTrue, OnOk, OnErr, []};
-ghost use Rattle.sqlite.specs.Effect.{Database};
+ghost use Rattle.std.specs.Prelude.{◌≡◌, ◌≢◌, false, Err, IfErr, IsTrue, OnOk, []};
 ghost use Rattle.sqlite.specs.Held.{state};
-ghost use Rattle.sqlite.specs.State.{HasCleanDisk, Survives, Shows as Sees};
-ghost use Rattle.office_rows.specs.Statements.{begun, RanAll, FailedIn, IsCause};
+ghost use Rattle.sqlite.specs.State.{HasCleanDisk};
+ghost use Rattle.office_rows.specs.Statements.{IsCause};
 ghost use Rattle.office_tables.specs.Tables.{Tables};
+ghost use Rattle.office_store.specs.Connections.{CommitsAll, FailsWithin, RollsBack, SurvivesAll};
 ghost use Rattle.office_store.specs.Form.{has_old_tables};
 ghost use Rattle.office_store.specs.Shown.{IsIdle, Shows, ShowsIfOpen};
 ghost use Rattle.office_store.specs.Migration.{migration, ShowsOld, ShowsOldIfOpen, IsMigration, WasOld, FailsToMigrate};
@@ -22,16 +22,13 @@ pub(crate) const RENUMBER: &str = "UPDATE office SET schema = 2";
 // Makes the table of held profiles, the indexes and the number of schema 2 in one transaction.
 fn run_migration<S: Alter>(conn: &mut Connection<S>) -> Result<(), Error>
     requires { conn.old.in_transaction ≡ false }
-    ensures all { HasCleanDisk (state S.Store conn.new) → OnOk result (RanAll S.Store (migration []) (begun conn.old) (state S.Store conn.new).now
-        × Sees (state S.Store conn.old) (state S.Store conn.new) (state S.Store conn.new).now (state S.Store conn.new).now false) }
-    ensures none { HasCleanDisk (state S.Store conn.new) → IsTrue (state S.Store conn.new).is_open
-        → OnErr result ((state S.Store conn.new).now ≡ (state S.Store conn.old).committed
-        × (state S.Store conn.new).committed ≡ (state S.Store conn.old).committed) }
-    ensures cause { HasCleanDisk (state S.Store conn.new) → IfErr result (FailedIn S.Store (migration []) (begun conn.old)) }
-    ensures was_open { HasCleanDisk (state S.Store conn.new) → IsTrue (state S.Store conn.new).is_open → IsTrue (state S.Store conn.old).is_open }
+    ensures all { CommitsAll S.Store conn.old conn.new (migration []) result }
+    ensures none { RollsBack S.Store conn.old conn.new result }
+    ensures cause { FailsWithin S.Store conn.old conn.new (migration []) result }
+    ensures was_open { HasCleanDisk (state S.Store conn.new)
+        → IsTrue (state S.Store conn.new).is_open → IsTrue (state S.Store conn.old).is_open }
     ensures mode { conn.new.in_transaction ≡ false }
-    ensures crash { Survives (state S.Store conn.old) (state S.Store conn.new)
-        (λ trees. (db : Database) × RanAll S.Store (migration []) (begun conn.old) db × (trees ≡ db.trees)) }
+    ensures crash { SurvivesAll S.Store conn.old conn.new (migration []) }
 {
     run_all(
         conn,
@@ -60,8 +57,10 @@ fn run_migration<S: Alter>(conn: &mut Connection<S>) -> Result<(), Error>
 fn move_office<S: Alter>(conn: &mut Connection<S>) -> Result<(), StoreFault>
     requires { IsIdle (state S.Store conn.old) }
     ensures migration { IsMigration (state S.Store conn.old) (state S.Store conn.new) result }
-    ensures formed { (t : Tables) → ShowsOldIfOpen (state S.Store conn.old) t → HasCleanDisk (state S.Store conn.new) → result ≢ Err StoreFault.NotAnOffice }
-    ensures cause { HasCleanDisk (state S.Store conn.new) → IfErr result (IsCause S.Store (migration []) conn.old) }
+    ensures formed { (t : Tables) → ShowsOldIfOpen (state S.Store conn.old) t
+        → HasCleanDisk (state S.Store conn.new) → result ≢ Err StoreFault.NotAnOffice }
+    ensures cause { HasCleanDisk (state S.Store conn.new)
+        → IfErr result (IsCause S.Store (migration []) conn.old) }
 {
     match run_migration(conn) {
         Ok(()) => Ok(()),
@@ -81,14 +80,19 @@ fn move_office<S: Alter>(conn: &mut Connection<S>) -> Result<(), StoreFault>
 pub fn migrate<S: Alter>(conn: &mut Connection<S>) -> Result<(), MigrationFault>
     requires { IsIdle (state S.Store conn.old) }
     ensures migration { IsMigration (state S.Store conn.old) (state S.Store conn.new) result }
-    ensures old { (t : Tables) → ShowsOld (state S.Store conn.old) t → HasCleanDisk (state S.Store conn.new)
-        → (result ≢ Err MigrationFault.AlreadyMigrated) × (result ≢ Err (MigrationFault.Store StoreFault.NotAnOffice)) }
-    ensures already { (t : Tables) → Shows (state S.Store conn.old) t → HasCleanDisk (state S.Store conn.new)
-        → OnOk result ⊥ × (result ≢ Err (MigrationFault.Store StoreFault.NotAnOffice)) × ShowsIfOpen (state S.Store conn.new) t }
+    ensures old { (t : Tables) → ShowsOld (state S.Store conn.old) t
+        → HasCleanDisk (state S.Store conn.new)
+        → (result ≢ Err MigrationFault.AlreadyMigrated)
+        × (result ≢ Err (MigrationFault.Store StoreFault.NotAnOffice)) }
+    ensures already { (t : Tables) → Shows (state S.Store conn.old) t
+        → HasCleanDisk (state S.Store conn.new)
+        → OnOk result ⊥ × (result ≢ Err (MigrationFault.Store StoreFault.NotAnOffice))
+        × ShowsIfOpen (state S.Store conn.new) t }
     ensures foreign { has_old_tables (state S.Store conn.old).now.schema ≡ false
         → (result ≡ Err (MigrationFault.Store StoreFault.NotAnOffice)) × (conn.new ≡ conn.old) }
     ensures was { HasCleanDisk (state S.Store conn.new) → OnOk result (WasOld S.Store conn.old) }
-    ensures cause { HasCleanDisk (state S.Store conn.new) → IfErr result (FailsToMigrate S.Store conn.old) }
+    ensures cause { HasCleanDisk (state S.Store conn.new)
+        → IfErr result (FailsToMigrate S.Store conn.old) }
 {
     if !has_old_tables(conn.schema()) {
         return Err(MigrationFault::Store(StoreFault::NotAnOffice));

@@ -1,11 +1,9 @@
 //! The table of the office itself.
 
-ghost use Rattle.std.specs.Prelude.{◌≡◌, ◌≢◌, ◌<◌, ◌^◌, ℕ, [], Err, IfOk, IfErr};
+ghost use Rattle.std.specs.Prelude.{◌≡◌, [], IfOk, IfErr};
 ghost use Rattle.sqlite.specs.Held.{state};
-ghost use Rattle.sqlite.specs.State.{HasCleanDisk};
-ghost use Rattle.office_rows.specs.Faults.{FindsRow};
-ghost use Rattle.office_rows.specs.Told.{IsOfRow, IsTold, TellsRow, TellsOnly};
-ghost use Rattle.office_store.specs.Calls.{IsRead};
+ghost use Rattle.office_rows.specs.Told.{IsOfRow, IsTold, TellsOnly};
+ghost use Rattle.office_store.specs.Connections.{AcceptsFormed, FindsFirst, Reads, ReadsFirst};
 ghost use Rattle.office_store.specs.Form.{listed_row, AreCaps};
 ghost use Rattle.office_store.specs.Reads.{IsRowListed};
 ghost use Rattle.office_store.specs.Shown.{IsIdle};
@@ -21,7 +19,7 @@ pub(crate) const LISTED: &str = "SELECT listed FROM office";
 // The listed capabilities of a row of them alone.
 fn read_listed(row: &Row) -> Result<Caps, StoreFault>
     ensures listed { IfOk result (λ listed. row.now ≡ listed_row listed) }
-    ensures formed { (listed : ℕ) → AreCaps listed → row.now ≡ listed_row listed → result ≢ Err StoreFault.NotAnOffice }
+    ensures formed { AcceptsFormed listed_row AreCaps row.now result }
     ensures cause { IfErr result IsOfRow }
 {
     if row.column_count() != 1 {
@@ -43,8 +41,8 @@ fn listed_of(found: Result<Option<Row>, StoreFault>) -> Result<Caps, StoreFault>
 // The row of the office.
 fn office_row<S: Alter>(conn: &mut Connection<S>) -> Result<Option<Row>, StoreFault>
     requires { IsIdle (state S.Store conn.old) }
-    ensures read { IsRead (state S.Store conn.old) (state S.Store conn.new) result (λ t row. IsRowListed t row) }
-    ensures row { HasCleanDisk (state S.Store conn.new) → FindsRow LISTED.now [] (state S.Store conn.old) (state S.Store conn.new) result }
+    ensures read { Reads S.Store conn.old conn.new result (λ t row. IsRowListed t row) }
+    ensures row { FindsFirst S.Store conn.old conn.new LISTED.now [] result }
 {
     first_row(conn, LISTED, &[])
 }
@@ -52,8 +50,9 @@ fn office_row<S: Alter>(conn: &mut Connection<S>) -> Result<Option<Row>, StoreFa
 /// The listed capabilities, fixed at the founding.
 pub fn listed<S: Alter>(conn: &mut Connection<S>) -> Result<Caps, StoreFault>
     requires { IsIdle (state S.Store conn.old) }
-    ensures read { IsRead (state S.Store conn.old) (state S.Store conn.new) result (λ t listed. listed ≡ t.listed) }
-    ensures told { HasCleanDisk (state S.Store conn.new) → TellsRow LISTED.now [] (state S.Store conn.old) (state S.Store conn.new) (TellsOnly listed_row AreCaps) result }
+    ensures read { Reads S.Store conn.old conn.new result (λ t listed. listed ≡ t.listed) }
+    ensures told { ReadsFirst S.Store conn.old conn.new
+        LISTED.now [] (TellsOnly listed_row AreCaps) result }
 {
     listed_of(office_row(conn))
 }

@@ -1,14 +1,13 @@
 //! The standing votes on a revision, and how many of them approve and reject.
 
-ghost use Rattle.std.specs.Prelude.{◌≡◌, ◌≢◌, ◌<◌, ◌&&◌, not, Bool, List, Err, IfOk, IfErr, length, map};
+ghost use Rattle.std.specs.Prelude.{◌≡◌, ◌≢◌, ◌<◌, ◌&&◌, Bool, List, Err, IfOk, IfErr, length, map};
 ghost use Rattle.std.specs.List.{AllByRecursion};
 ghost use Rattle.sqlite.specs.Held.{state};
-ghost use Rattle.sqlite.specs.State.{HasCleanDisk};
 ghost use Rattle.sqlite.specs.declared.types.Value.TheVariants.{Int};
 ghost use Rattle.sqlite_value.specs.Order.{column};
 ghost use Rattle.office_tables.specs.Lists.{AreStanding, IsTally, tally_of};
-ghost use Rattle.office_rows.specs.Told.{IsOfRow, FindsRows, TellsRows, map_ok};
-ghost use Rattle.office_store.specs.Calls.{IsRead};
+ghost use Rattle.office_rows.specs.Told.{IsOfRow, map_ok};
+ghost use Rattle.office_store.specs.Connections.{FindsAll, Reads, ReadsAll};
 ghost use Rattle.office_store.specs.Entries.{bit};
 ghost use Rattle.office_store.specs.Lists.{Cast, cast_row, standing_of, IsCastForm, AreVoteRows, first_of, voter_of, TellsVotes, TellsTally};
 ghost use Rattle.office_store.specs.Keys.{revision_params};
@@ -33,10 +32,10 @@ fn vote_rows<S: Alter>(
     number: u32,
 ) -> Result<Vec<Row>, StoreFault>
     requires { IsIdle (state S.Store conn.old) }
-    ensures read { IsRead (state S.Store conn.old) (state S.Store conn.new) result (λ t rows. AreVoteRows t profile.now number rows.items) }
-    ensures rows { HasCleanDisk (state S.Store conn.new)
-        → FindsRows VOTES_ON.now (revision_params profile.now number) (state S.Store conn.old) (state S.Store conn.new)
-        (map_ok result (λ rows. rows.items)) }
+    ensures read { Reads S.Store conn.old conn.new result
+        (λ t rows. AreVoteRows t profile.now number rows.items) }
+    ensures rows { FindsAll S.Store conn.old conn.new
+        VOTES_ON.now (revision_params profile.now number) (map_ok result (λ rows. rows.items)) }
 {
     all_rows(conn, VOTES_ON, &of_number(profile, number))
 }
@@ -94,9 +93,11 @@ pub fn standing<S: Alter>(
     number: u32,
 ) -> Result<Vec<VoteRow>, StoreFault>
     requires { IsIdle (state S.Store conn.old) }
-    ensures read { IsRead (state S.Store conn.old) (state S.Store conn.new) result (λ t votes. AreStanding t profile.now number votes.items) }
-    ensures told { HasCleanDisk (state S.Store conn.new)
-        → TellsRows VOTES_ON.now (revision_params profile.now number) (state S.Store conn.old) (state S.Store conn.new) TellsVotes
+    ensures read { Reads S.Store conn.old conn.new result
+        (λ t votes. AreStanding t profile.now number votes.items) }
+    ensures told { ReadsAll S.Store conn.old conn.new
+        VOTES_ON.now (revision_params profile.now number)
+        TellsVotes
         (map_ok result (λ votes. votes.items)) }
 {
     let rows = vote_rows(conn, profile, number)?;
@@ -150,9 +151,10 @@ pub fn tally<S: Alter>(
     number: u32,
 ) -> Result<Tally, StoreFault>
     requires { IsIdle (state S.Store conn.old) }
-    ensures read { IsRead (state S.Store conn.old) (state S.Store conn.new) result (λ t tally. IsTally t profile.now number tally) }
-    ensures told { HasCleanDisk (state S.Store conn.new)
-        → TellsRows VOTES_ON.now (revision_params profile.now number) (state S.Store conn.old) (state S.Store conn.new) TellsTally result }
+    ensures read { Reads S.Store conn.old conn.new result
+        (λ t tally. IsTally t profile.now number tally) }
+    ensures told { ReadsAll S.Store conn.old conn.new
+        VOTES_ON.now (revision_params profile.now number) TellsTally result }
 {
     let votes = standing(alloc, conn, profile, number)?;
     Ok(count(votes.as_slice()))
