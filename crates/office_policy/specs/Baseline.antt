@@ -1,5 +1,6 @@
 -- What the revisions of a team are compared with.
-use Rattle.std.specs.Prelude.{ℕ, List, [], ◌∷◌, if◌then◌else◌, Option, Some, None, option_map, bytes_eq}
+use Rattle.std.specs.Prelude.{ℕ, List, [], ◌∷◌, if◌then◌else◌, Option, Some, None, option_map}
+use Rattle.std.specs.Prelude.{bytes_eq}
 use Rattle.profile_text.specs.declared.profile.Profile.{Profile}
 use Rattle.profile_text.specs.Profile.{closed_profile}
 use Rattle.review_policy.specs.declared.revision.State.{State}
@@ -20,7 +21,9 @@ listed_of (_ ∷ before) = listed_of before
 abbrev pub adoption_of : History → List ℕ → Option Baseline
 adoption_of [] team = None
 adoption_of (adopted c q n ∷ before) team =
-    if bytes_eq team q.team then Some (record { profile = q.profile; number = n }) else adoption_of before team
+    if bytes_eq team q.team
+    then Some (record { profile = q.profile; number = n })
+    else adoption_of before team
 adoption_of (_ ∷ before) team = adoption_of before team
 
 -- a revision, unless it was withdrawn
@@ -33,10 +36,12 @@ unless_withdrawn (Some r) = unless r.state
     unless state = Some r
 
 -- the revision of an adoption, with the name of its profile, where it isn't withdrawn now
-abbrev pub standing_adoption : History → (team : List ℕ) → Option Baseline → Option (List ℕ × RevisionRow)
+abbrev pub standing_adoption : History → (team : List ℕ) → Option Baseline
+    → Option (List ℕ × RevisionRow)
 standing_adoption h team None = None
 standing_adoption h team (Some b) =
-    option_map (λ r. (b.profile, r)) (unless_withdrawn (revision_of h (record { team = team; profile = b.profile }) b.number))
+    option_map (λ r. (b.profile, r))
+    (unless_withdrawn (revision_of h (record { team = team; profile = b.profile }) b.number))
 
 -- that of the last adoption of a team
 abbrev pub adopted_revision : History → List ℕ → Option (List ℕ × RevisionRow)
@@ -47,6 +52,7 @@ abbrev pub document_or_closed : Option (List ℕ × RevisionRow) → Profile
 document_or_closed None = closed_profile
 document_or_closed (Some found) = document_of found.1.body
 
--- the document that a team last adopted, where its revision isn't withdrawn now, else the closed profile
+-- the document that a team last adopted, where its revision isn't withdrawn now, else the closed
+-- profile
 abbrev pub baseline_of : History → List ℕ → Profile
 baseline_of h team = document_or_closed (adopted_revision h team)

@@ -1,17 +1,21 @@
 -- Who may ask what, and who asked for what happened.
-use Rattle.std.specs.Prelude.{◌≡◌, ℕ, List, [], ◌∷◌, Bool, true, false, ◌&&◌, ◌||◌, Option, Some, None, map, bytes_eq}
+use Rattle.std.specs.Prelude.{◌≡◌, ℕ, List, [], ◌∷◌, Bool, true, false, ◌&&◌, ◌||◌, Option, Some}
+use Rattle.std.specs.Prelude.{None, map, bytes_eq}
 use Rattle.std.specs.List.{list_any}
 use Rattle.profile_text.specs.Digest.{digest_of}
 use Rattle.review_policy.specs.declared.ask.Ask.{Ask}
 use Rattle.review_policy.specs.declared.ask.Ask.TheVariants as ask
 use Rattle.review_policy.specs.declared.ask.Request.{Request}
 use Rattle.review_policy.specs.declared.denial.Rule.{Rule}
-use Rattle.review_policy.specs.declared.denial.Rule.TheVariants.{CallerUnknown, RoleMissing, OtherTeam}
+use Rattle.review_policy.specs.declared.denial.Rule.TheVariants.{CallerUnknown, RoleMissing}
+use Rattle.review_policy.specs.declared.denial.Rule.TheVariants.{OtherTeam}
 use Rattle.review_policy.specs.declared.role.Role.{Role}
-use Rattle.review_policy.specs.declared.role.Role.TheVariants.{Registrar, Author, Reviewer, Security, Issuer, Machine}
+use Rattle.review_policy.specs.declared.role.Role.TheVariants.{Registrar, Author, Reviewer}
+use Rattle.review_policy.specs.declared.role.Role.TheVariants.{Security, Issuer, Machine}
 use Rattle.office_tables.specs.declared.row.UserRow.{UserRow}
 use Rattle.office_tables.specs.Lists.{holds_role}
-use Rattle.office_policy.specs.History.{Event, founded, enrolled, submitted, voted, issued, withdrawn, adopted, held, released, History}
+use Rattle.office_policy.specs.History.{Event, founded, enrolled, submitted, voted, issued}
+use Rattle.office_policy.specs.History.{withdrawn, adopted, held, released, History}
 use Rattle.office_policy.specs.Users.{user_of}
 use Rattle.office_policy.specs.Teams.{team_of}
 

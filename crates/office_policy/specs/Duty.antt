@@ -1,5 +1,7 @@
--- Separation of duty: what holds of each issue that the policy allows, on the events before it, and of what is given out.
-use Rattle.std.specs.Prelude.{◌≡◌, ◌≢◌, ◌<◌, ◌≤◌, ◌⊎◌, ℕ, suc, List, ◌∷◌, ◌++◌, true, false, Option, Some, length, AllPairs, Contains, Ok, Vec}
+-- Separation of duty: what holds of each issue that the policy allows, on the events before it, and
+-- of what is given out.
+use Rattle.std.specs.Prelude.{◌≡◌, ◌≢◌, ◌<◌, ◌≤◌, ◌⊎◌, ℕ, suc, List, ◌∷◌, ◌++◌, true, false, Option}
+use Rattle.std.specs.Prelude.{Some, length, AllPairs, Contains, Ok, Vec}
 use Rattle.std.specs.declared.alloc.Global.{Global}
 use Rattle.std.specs.List.{list_any}
 use Rattle.cap_sets.specs.Capability.{Has}
@@ -20,7 +22,8 @@ use Rattle.office_tables.specs.Lists.{holds_role}
 use Rattle.widening.specs.Permits.{IsNoWider}
 use Rattle.office_policy.specs.History.{Event, submitted, voted, History}
 use Rattle.office_policy.specs.Users.{user_of}
-use Rattle.office_policy.specs.Revisions.{Submission, submits, submission_of, revision_count, state_of, issues, is_author}
+use Rattle.office_policy.specs.Revisions.{Submission, submits, submission_of, revision_count}
+use Rattle.office_policy.specs.Revisions.{state_of, issues, is_author}
 use Rattle.office_policy.specs.Votes.{CastVote, vote_of, approvals, secure_approvals}
 use Rattle.office_policy.specs.Documents.{document_of}
 use Rattle.office_policy.specs.Baseline.{baseline_of, listed_of}
@@ -28,22 +31,25 @@ use Rattle.office_policy.specs.Need.{need_at}
 
 -- ---- by whom
 
--- the approvals of a revision are of distinct names, each a reviewer at the vote and now, none an author of the profile;
--- neither is the issuer
+-- the approvals of a revision are of distinct names, each a reviewer at the vote and now, none an
+-- author of the profile; neither is the issuer
 pub record AreOthers (h : History) (issuer : List ℕ) (p : ProfileName) (n : ℕ) : Type 0 where
   pub distinct : AllPairs (λ a b. a ≢ b) (approvals h p n)
   pub reviewers_then :
-      (name : List ℕ) (v : CastVote) → Contains (approvals h p n) name → vote_of h p n name ≡ Some v →
+      (name : List ℕ) (v : CastVote) → Contains (approvals h p n) name
+      → vote_of h p n name ≡ Some v →
       holds_role (user_of v.before name) Reviewer ≡ true
-  pub reviewers_now : (name : List ℕ) → Contains (approvals h p n) name → holds_role (user_of h name) Reviewer ≡ true
+  pub reviewers_now : (name : List ℕ) → Contains (approvals h p n) name
+      → holds_role (user_of h name) Reviewer ≡ true
   pub no_authors : (name : List ℕ) → Contains (approvals h p n) name → is_author h p name ≡ false
   pub issuer_no_author : is_author h p issuer ≡ false
 
 -- ---- of what
 
--- a name's standing vote approves; it named the digest of the revision's text, after its submission, and nothing of the
--- profile was submitted since
-pub record NamesTheText (h : History) (p : ProfileName) (n : ℕ) (submission : Submission) (name : List ℕ) : Type 0 where
+-- a name's standing vote approves; it named the digest of the revision's text, after its
+-- submission, and nothing of the profile was submitted since
+pub record NamesTheText
+    (h : History) (p : ProfileName) (n : ℕ) (submission : Submission) (name : List ℕ) : Type 0 where
   pub vote : CastVote
   pub stands : vote_of h p n name ≡ Some vote
   pub approves : vote.approves ≡ true
@@ -70,8 +76,9 @@ pub record AreEnough (h : History) (p : ProfileName) (n : ℕ) : Type 0 where
 abbrev pub LacksTwo : History → ProfileName → ℕ → Type 0
 LacksTwo h p n = (length (approvals h p n) < 2) ⊎ (length (secure_approvals h p n) ≡ 0)
 
--- no listed capability is in any set of a document, and it permits no more than the baseline: each of its sets is within the
--- baseline's, and for every call and all its words the action is no more permissive
+-- no listed capability is in any set of a document, and it permits no more than the baseline: each
+-- of its sets is within the baseline's, and for every call and all its words the action is no more
+-- permissive
 pub record IsPlain (listed : ℕ) (base document : Profile) : Type 0 where
   pub unlisted : (set : CapSet) (n : ℕ) → Has listed n → Has (state_set set document.caps) n → ⊥
   pub no_wider : IsNoWider base document

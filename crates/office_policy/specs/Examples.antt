@@ -3,23 +3,27 @@ use Rattle.std.specs.Prelude.{ℕ, List, [], ◌∷◌, true, false, Some, None,
 use Rattle.cap_sets.specs.declared.state.CapState.{CapState}
 use Rattle.cap_sets.proofs.Bits.{none_in_zero}
 use Rattle.seccomp_doc.specs.declared.action.Action.TheVariants.{Allow, Errno}
+use Rattle.profile_text.specs.declared.fault.DocFault.TheVariants.{TooLong}
 use Rattle.profile_text.specs.declared.profile.Profile.{Profile}
 use Rattle.profile_text.specs.Digest.{digest_of}
 use Rattle.profile_text.specs.Profile.{no_caps}
 use Rattle.review_policy.specs.declared.ask.ProfileName.{ProfileName}
 use Rattle.review_policy.specs.declared.ask.Ask.{Ask}
+use Rattle.review_policy.specs.declared.ask.Ask.TheVariants as ask
 use Rattle.review_policy.specs.declared.denial.Denial.{Denial}
 use Rattle.review_policy.specs.declared.denial.Need.{Need}
 use Rattle.review_policy.specs.declared.denial.Rule.{Rule}
 use Rattle.review_policy.specs.declared.revision.State.TheVariants.{Open}
-use Rattle.review_policy.specs.Rules.{first_denial, vote_rules, issue_rules}
+use Rattle.review_policy.specs.Rules.{first_denial, submit_rules, vote_rules, issue_rules}
 use Rattle.office_tables.specs.declared.row.RevisionRow.{RevisionRow}
-use Rattle.office_policy.specs.History.{Event, founded, enrolled, submitted, voted, issued, withdrawn, adopted, held, released, History}
+use Rattle.office_policy.specs.History.{Event, founded, enrolled, submitted, voted, issued}
+use Rattle.office_policy.specs.History.{withdrawn, adopted, held, released, History}
 use Rattle.office_policy.specs.Users.{user_of}
 use Rattle.office_policy.specs.Revisions.{revision_of, is_author}
 use Rattle.office_policy.specs.Votes.{tally_at}
 use Rattle.office_policy.specs.Holds.{is_held}
-use Rattle.office_policy.specs.Facts.{vote_facts, issue_facts}
+use Rattle.office_policy.specs.Facts.{submit_facts, vote_facts, issue_facts}
+use Rattle.office_policy.specs.Need.{need_against}
 use Rattle.office_policy.specs.Verdict.{Verdict, rules_of, verdict_of}
 
 -- ---- the office: authors and machines of two teams, and who reviews, secures and issues
@@ -128,9 +132,21 @@ rob = codes "rob"
 abbrev pub enrols_rob : ℕ → Event
 enrols_rob roles = enrolled root rob red roles (10 ∷ [])
 
+-- a revision of each of two authors
+abbrev pub both_submitted : History
+both_submitted = submits ann ∷ submits ben ∷ office
+
+-- ann is author, security and issuer
+abbrev pub with_trusted_ann : History
+with_trusted_ann = enrolled root ann blue 26 (1 ∷ []) ∷ office
+
 -- a revision that rev and sue approve, is issued and adopted, and one after it that rev approves
 abbrev pub one_submitted : History
 one_submitted = submits ann ∷ office
+
+-- two reviewers without security approve
+abbrev pub reviewers_approve : History
+reviewers_approve = approves ray 1 ∷ approves rev 1 ∷ one_submitted
 
 abbrev pub both_approve : History
 both_approve = approves sue 1 ∷ approves rev 1 ∷ one_submitted
@@ -163,21 +179,24 @@ released_then = releases ∷ approved_while_held
 abbrev pub issued_then : History
 issued_then = issues 2 ∷ released_then
 
--- a revision that was voted on after an earlier one was issued and adopted, and one of its voters is no reviewer now
+-- the first revision has this text, and was issued and adopted
+abbrev pub adopts_first : List ℕ → History
+adopts_first bytes = adopts 1 ∷ issues 1 ∷ submitted ann web bytes ∷ office
+
+-- a revision that was voted on after an earlier one was issued and adopted, and one of its voters
+-- is no reviewer now
 abbrev pub after_an_adoption : (old new : List ℕ) → History
 after_an_adoption old new =
     has_roles rev 0 (3 ∷ [])
     ∷ approves sue 2
     ∷ rejects rev 2
     ∷ submitted ann web new
-    ∷ adopts 1
-    ∷ issues 1
-    ∷ submitted ann web old
-    ∷ office
+    ∷ adopts_first old
 
 -- the row of an open revision by ann
 abbrev pub open_row : ℕ → List ℕ → RevisionRow
-open_row number bytes = record { number = number; author = ann; state = Open; body = bytes; digest = digest_of bytes }
+open_row number bytes =
+    record { number = number; author = ann; state = Open; body = bytes; digest = digest_of bytes }
 
 -- ---- what is decided
 
@@ -196,14 +215,27 @@ told h who a = verdict_of h (user_of h who) a
 -- the same of an issue of a revision with this need
 abbrev pub issue_by : List ℕ → History → Need → ℕ → Result ⊤ Denial
 issue_by who h need n =
-    first_denial (issue_rules (issue_facts (user_of h who) (revision_of h web n) (is_author h web who) (tally_at h web n) need (is_held h web)))
+    first_denial
+    (issue_rules
+    (issue_facts (user_of h who) (revision_of h web n) (is_author h web who) (tally_at h web n) need
+    (is_held h web)))
 
 abbrev pub issue : History → Need → ℕ → Result ⊤ Denial
 issue h need n = issue_by iss h need n
 
+-- an approval of a revision, whose digest is 9
+abbrev pub approving : ℕ → Ask
+approving n = ask.Vote web n (9 ∷ []) true
+
+-- and of what ann submits for a team, where it is no document
+abbrev pub submitting_none : History → List ℕ → Result ⊤ Denial
+submitting_none h team =
+    first_denial (submit_rules (submit_facts (user_of h ann) team (Err TooLong) None 0))
+
 -- and of a vote by rev on an open revision whose digest is 9, that names a digest
 abbrev pub vote_naming : List ℕ → Result ⊤ Denial
-vote_naming digest = first_denial (vote_rules (vote_facts (user_of office rev) (Some row) false digest))
+vote_naming digest =
+    first_denial (vote_rules (vote_facts (user_of office rev) (Some row) false digest))
   where
     row : RevisionRow
     row = record { number = 1; author = ann; state = Open; body = text; digest = 9 ∷ [] }
@@ -233,7 +265,11 @@ with_effective caps = record {
   inheritable = 0;
   bounding = 0;
   ambient = 0;
-  lawful = record { effective_permitted = λ n h. h; ambient_permitted = λ n h. absurd (none_in_zero n h); ambient_inheritable = λ n h. h };
+  lawful = record {
+    effective_permitted = λ n h. h;
+    ambient_permitted = λ n h. absurd (none_in_zero n h);
+    ambient_inheritable = λ n h. h;
+  };
 }
 
 abbrev pub with_ambient : ℕ → CapState
@@ -243,12 +279,20 @@ with_ambient caps = record {
   inheritable = caps;
   bounding = 0;
   ambient = caps;
-  lawful = record { effective_permitted = λ n h. absurd (none_in_zero n h); ambient_permitted = λ n h. h; ambient_inheritable = λ n h. h };
+  lawful = record {
+    effective_permitted = λ n h. absurd (none_in_zero n h);
+    ambient_permitted = λ n h. h;
+    ambient_inheritable = λ n h. h;
+  };
 }
 
 -- a profile without a filter
 abbrev pub with_caps : CapState → Profile
 with_caps caps = record { caps = caps; filter = None }
+
+-- the need of these capabilities, where a document with the same was adopted
+abbrev pub need_of_same : CapState → Need
+need_of_same caps = need_against listed (with_caps caps) (with_caps caps)
 
 -- a profile that allows these calls, whatever their arguments
 abbrev pub allows : List (List ℕ) → Profile
@@ -261,3 +305,9 @@ allows names = record {
     entries = map (λ name. record { names = name ∷ []; action = Allow; args = [] }) names;
   });
 }
+
+abbrev pub reads : Profile
+reads = allows (codes "read" ∷ [])
+
+abbrev pub reads_and_writes : Profile
+reads_and_writes = allows (codes "read" ∷ codes "write" ∷ [])

@@ -1,6 +1,8 @@
 -- What the rules of each request ask, of what was looked back.
-use Rattle.std.specs.Prelude.{ℕ, List, Bool, false, not, ◌&&◌, ◌||◌, Option, Some, None, is_some, is_none, is_err, Result, Ok, Err, bytes_eq}
-use Rattle.review_policy.specs.declared.role.Role.TheVariants.{Registrar, Author, Reviewer, Security, Issuer, Machine}
+use Rattle.std.specs.Prelude.{ℕ, List, Bool, false, not, ◌&&◌, ◌||◌, Option, Some, None, is_some}
+use Rattle.std.specs.Prelude.{is_none, is_err, Result, Ok, Err, bytes_eq}
+use Rattle.review_policy.specs.declared.role.Role.TheVariants.{Registrar, Author, Reviewer}
+use Rattle.review_policy.specs.declared.role.Role.TheVariants.{Security, Issuer, Machine}
 use Rattle.review_policy.specs.declared.denial.Need.{Need}
 use Rattle.review_policy.specs.declared.facts.EnrolFacts.{EnrolFacts}
 use Rattle.review_policy.specs.declared.facts.SubmitFacts.{SubmitFacts}
@@ -47,7 +49,8 @@ has_digest (Some r) digest = bytes_eq r.digest digest
 
 -- whether a user holds a role of those who see the revisions of every team
 abbrev pub sees_every_team : Option UserRow → Bool
-sees_every_team user = holds_role user Reviewer || holds_role user Security || holds_role user Issuer
+sees_every_team user =
+    holds_role user Reviewer || holds_role user Security || holds_role user Issuer
 
 -- of an enrolment: the user that has the name now, and the one that shows the digest
 abbrev pub enrol_facts : (caller known shower : Option UserRow) → (user team : List ℕ) → EnrolFacts
@@ -61,7 +64,8 @@ enrol_facts caller known shower user team = record {
 
 module _ (caller : Option UserRow) where
   -- of a submission: what the document reads as, and the last revision with its number
-  abbrev pub submit_facts : (team : List ℕ) → Result Profile DocFault → (last : Option RevisionRow) → (revisions : ℕ) → SubmitFacts
+  abbrev pub submit_facts : (team : List ℕ) → Result Profile DocFault → (last : Option RevisionRow)
+      → (revisions : ℕ) → SubmitFacts
   submit_facts team reading last revisions = record {
     caller_unknown = is_none caller;
     role_missing = not (holds_role caller Author);
@@ -71,7 +75,8 @@ module _ (caller : Option UserRow) where
     revisions = revisions;
   }
 
-  -- of a vote: the revision, whether the caller is an author of its profile, and the digest that is named
+  -- of a vote: the revision, whether the caller is an author of its profile, and the digest that is
+  -- named
   abbrev pub vote_facts : Option RevisionRow → (author : Bool) → (digest : List ℕ) → VoteFacts
   vote_facts revision author digest = record {
     caller_unknown = is_none caller;
@@ -81,8 +86,10 @@ module _ (caller : Option UserRow) where
     other_bytes = not (has_digest revision digest);
   }
 
-  -- of an issue: the revision, whether the caller is an author of its profile, its votes, its need, and whether it is held
-  abbrev pub issue_facts : Option RevisionRow → (author : Bool) → Tally → Need → (held : Bool) → IssueFacts
+  -- of an issue: the revision, whether the caller is an author of its profile, its votes, its need,
+  -- and whether it is held
+  abbrev pub issue_facts : Option RevisionRow → (author : Bool) → Tally → Need → (held : Bool)
+      → IssueFacts
   issue_facts revision author tally need held = record {
     caller_unknown = is_none caller;
     role_missing = not (holds_role caller Issuer);
@@ -123,7 +130,8 @@ module _ (caller : Option UserRow) where
   }
 
   -- of a fetch: the issued revision of the team's profile, and whether that is held
-  abbrev pub fetch_facts : (team : List ℕ) → (issued : Option RevisionRow) → (held : Bool) → FetchFacts
+  abbrev pub fetch_facts : (team : List ℕ) → (issued : Option RevisionRow) → (held : Bool)
+      → FetchFacts
   fetch_facts team issued held = record {
     caller_unknown = is_none caller;
     role_missing = not (holds_role caller Machine);

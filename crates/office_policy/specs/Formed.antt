@@ -1,4 +1,5 @@
--- The forms of what callers hand in: a request and a founding are of them by their types, but for a revision's number.
+-- The forms of what callers hand in: a request and a founding are of them by their types, but for a
+-- revision's number.
 use Rattle.std.specs.Prelude.{◌≡◌, ◌<◌, ◌≤◌, ◌^◌, ℕ, List, true, length, All}
 use Rattle.review_policy.specs.declared.ask.ProfileName.{ProfileName}
 use Rattle.review_policy.specs.declared.ask.Ask.{Ask}
@@ -23,7 +24,8 @@ IsName p = IsWord p.team × IsWord p.profile
 
 -- what is asked for has the forms
 abbrev pub HasForms : Ask → Type 0
-HasForms (ask.Enrol user team roles digest) = IsWord user × IsWord team × IsRoles roles × IsDigest digest
+HasForms (ask.Enrol user team roles digest) =
+    IsWord user × IsWord team × IsRoles roles × IsDigest digest
 HasForms (ask.Submit p document) = IsName p
 HasForms (ask.Vote p n digest approve) = IsName p × IsDigest digest
 HasForms (ask.Issue p n) = IsName p

@@ -1,4 +1,5 @@
--- What the revisions of a team say of its profiles, where those of one profile stand together, by number.
+-- What the revisions of a team say of its profiles, where those of one profile stand together, by
+-- number.
 use Rattle.std.specs.Prelude.{ℕ, List, [], ◌∷◌, Bool, true, not, if◌then◌else◌, Some, bytes_eq}
 use Rattle.review_policy.specs.declared.answer.ListedProfile.{ListedProfile}
 use Rattle.review_policy.specs.Rules.{is_issued}
@@ -15,9 +16,11 @@ issued_with issued row = if is_issued (Some row.state) then row.number else issu
 
 -- a profile, by its last revision and the number that is issued
 abbrev pub listed_by : ℕ → ListedRevision → ListedProfile
-listed_by issued row = record { profile = row.profile; issued = issued; revisions = row.number; state = row.state }
+listed_by issued row =
+    record { profile = row.profile; issued = issued; revisions = row.number; state = row.state }
 
--- the profiles of the revisions that are left, where this number is issued among the earlier ones of the first profile
+-- the profiles of the revisions that are left, where this number is issued among the earlier ones
+-- of the first profile
 abbrev pub profiles_left : ℕ → List ListedRevision → List ListedProfile
 profiles_left issued [] = []
 profiles_left issued (row ∷ later) =

@@ -1,6 +1,7 @@
 -- What is issued and fetched was approved: bytewise, by others, and by as many as its widening
 -- asked for at the issue.
-use Rattle.std.specs.Prelude.{◌≡◌, ◌≢◌, ◌≤◌, ℕ, List, ◌∷◌, ◌++◌, true, false, Some, length, AllPairs, Contains}
+use Rattle.std.specs.Prelude.{◌≡◌, ◌≢◌, ◌≤◌, ℕ, List, ◌∷◌, ◌++◌, true, false, Some, length}
+use Rattle.std.specs.Prelude.{AllPairs, Contains}
 use Rattle.profile_text.specs.Digest.{digest_of}
 use Rattle.review_policy.specs.declared.ask.ProfileName.{ProfileName}
 use Rattle.review_policy.specs.declared.ask.Ask.{Ask}

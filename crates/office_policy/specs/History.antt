@@ -1,13 +1,16 @@
--- What has happened in an office: its founding, and each request of a changing kind that was carried out.
+-- What has happened in an office: its founding, and each request of a changing kind that was
+-- carried out.
 use Rattle.std.specs.Prelude.{ℕ, List, Bool}
 use Rattle.review_policy.specs.declared.ask.ProfileName.{ProfileName}
 
--- Each event but the founding has the name of its caller. A submission carries the canonical text, a vote the digest it named.
+-- Each event but the founding has the name of its caller. A submission carries the canonical text,
+-- a vote the digest it named.
 pub data Event : Type 0 where
   founded : (name team digest : List ℕ) → (listed : ℕ) → Event
   enrolled : (caller name team : List ℕ) → (roles : ℕ) → (digest : List ℕ) → Event
   submitted : (caller : List ℕ) → ProfileName → (text : List ℕ) → Event
-  voted : (caller : List ℕ) → ProfileName → (number : ℕ) → (digest : List ℕ) → (approves : Bool) → Event
+  voted : (caller : List ℕ) → ProfileName → (number : ℕ) → (digest : List ℕ) → (approves : Bool)
+      → Event
   issued : (caller : List ℕ) → ProfileName → (number : ℕ) → Event
   withdrawn : (caller : List ℕ) → ProfileName → (number : ℕ) → Event
   adopted : (caller : List ℕ) → ProfileName → (number : ℕ) → Event

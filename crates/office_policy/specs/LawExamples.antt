@@ -1,7 +1,8 @@
 -- What the examples of definitions speak of that laws alone cite.
 use Rattle.std.specs.Prelude.{List, [], ◌∷◌, true}
 use Rattle.review_policy.specs.declared.ask.ProfileName.{ProfileName}
-use Rattle.office_policy.specs.History.{Event, founded, enrolled, submitted, voted, issued, withdrawn, adopted, held, released}
+use Rattle.office_policy.specs.History.{Event, founded, enrolled, submitted, voted, issued}
+use Rattle.office_policy.specs.History.{withdrawn, adopted, held, released}
 use Rattle.office_policy.specs.Examples.{red, desk, root, ann, rev, sue, iss, listed, text}
 
 -- an event of each kind: the founding, an enrolment, and what happens to a profile

@@ -8,10 +8,12 @@ use Rattle.office_policy.specs.Formed.{IsWord, IsDigest, IsFormed}
 
 -- the event is a founding that can be made: the listed capabilities are some of the 41
 abbrev pub IsFounding : Event → Type 0
-IsFounding (founded name team digest listed) = IsWord name × IsWord team × IsDigest digest × (listed < 2 ^ 41)
+IsFounding (founded name team digest listed) =
+    IsWord name × IsWord team × IsDigest digest × (listed < 2 ^ 41)
 IsFounding _ = ⊥
 
--- the event is that of a request that can be made and that the policy allows on the events before it
+-- the event is that of a request that can be made and that the policy allows on the events before
+-- it
 pub record IsAllowed (before : History) (e : Event) : Type 0 where
   pub request : Request
   pub formed : IsFormed request

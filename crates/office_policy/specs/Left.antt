@@ -11,19 +11,24 @@ use Rattle.office_policy.specs.Meaning.{Meaning}
 use Rattle.office_policy.specs.Handled.{AreWithEvent}
 
 module _ {X : Type 0} (m : Meaning X) where
-  -- after a fault it may leave what it might leave before, or the office with the event of the verdict; after any other answer
-  -- the office of the history after it, and no other
+  -- after a fault it may leave what it might leave before, or the office with the event of the
+  -- verdict; after any other answer the office of the history after it, and no other
   abbrev pub LeftAfterOne : (m.Left → Type 0) → History → Request → Answer → m.Left → Type 0
-  LeftAfterOne Before h r (answered.Fault fault) left = Before left ⊎ AreWithEvent m h (verdict h r) left
+  LeftAfterOne Before h r (answered.Fault fault) left =
+      Before left ⊎ AreWithEvent m h (verdict h r) left
   LeftAfterOne Before h r answer left = m.are_of (history_after h r answer) left
 
   -- the same of requests that were answered one after the other
   abbrev pub LeftAfter : (m.Left → Type 0) → History → List Request → List Answer → m.Left → Type 0
-  LeftAfter Before h (request ∷ requests) (answer ∷ answers) = LeftAfter (LeftAfterOne Before h request answer) (history_after h request answer) requests answers
+  LeftAfter Before h (request ∷ requests) (answer ∷ answers) =
+      LeftAfter (LeftAfterOne Before h request answer) (history_after h request answer)
+      requests answers
   LeftAfter Before h _ _ = Before
 
   -- what is left is the office with the event of one of the requests, which was answered by a fault
-  pub record AreOfFaulty (h : History) (requests : List Request) (answers : List Answer) (left : m.Left) : Type 0 where
+  pub record AreOfFaulty
+      (h : History) (requests : List Request) (answers : List Answer)
+      (left : m.Left) : Type 0 where
     pub at : ℕ
     pub request : Request
     pub fault : Fault

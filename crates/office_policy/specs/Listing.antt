@@ -10,7 +10,9 @@ use Rattle.office_policy.specs.Revisions.{revision_count, number_of, state_of, i
 abbrev pub profiles_of : History → List ℕ → List (List ℕ)
 profiles_of [] team = []
 profiles_of (submitted c q t ∷ before) team =
-    if bytes_eq team q.team then with_name q.profile (profiles_of before team) else profiles_of before team
+    if bytes_eq team q.team
+    then with_name q.profile (profiles_of before team)
+    else profiles_of before team
 profiles_of (_ ∷ before) team = profiles_of before team
 
 -- what is listed of a profile
@@ -24,4 +26,5 @@ listed_profile h p = record {
 
 -- the profiles of a team that have a revision
 abbrev pub listing_of : History → List ℕ → List ListedProfile
-listing_of h team = map (λ name. listed_profile h (record { team = team; profile = name })) (profiles_of h team)
+listing_of h team =
+    map (λ name. listed_profile h (record { team = team; profile = name })) (profiles_of h team)

@@ -13,7 +13,8 @@ use Rattle.office_policy.specs.Revisions.{revision_of}
 use Rattle.office_policy.specs.Documents.{document_of}
 use Rattle.office_policy.specs.Baseline.{baseline_of, listed_of}
 
--- two approvals, one with security, for a document that is wider than the baseline or holds a listed capability in any set
+-- two approvals, one with security, for a document that is wider than the baseline or holds a
+-- listed capability in any set
 abbrev pub need_against : (listed : ℕ) → (base document : Profile) → Need
 need_against listed base document = need_of (is_wider base document) (holds_listed listed document)
 

@@ -1,10 +1,13 @@
 -- Revisions of a profile: its submissions, numbered from 1.
-use Rattle.std.specs.Prelude.{ℕ, suc, List, [], ◌∷◌, Bool, false, ◌&&◌, ◌||◌, ◌==◌, nat_lt, if◌then◌else◌, Option, Some, None, option_map, option_and_then, filter, length, bytes_eq}
+use Rattle.std.specs.Prelude.{ℕ, suc, List, [], ◌∷◌, Bool, false, ◌&&◌, ◌||◌, ◌==◌, nat_lt}
+use Rattle.std.specs.Prelude.{if◌then◌else◌, Option, Some, None, option_map, option_and_then}
+use Rattle.std.specs.Prelude.{filter, length, bytes_eq}
 use Rattle.std.specs.List.{list_any}
 use Rattle.profile_text.specs.Digest.{digest_of}
 use Rattle.review_policy.specs.declared.ask.ProfileName.{ProfileName}
 use Rattle.review_policy.specs.declared.revision.State.{State}
-use Rattle.review_policy.specs.declared.revision.State.TheVariants.{Open, Closed, Issued, Replaced, Withdrawn}
+use Rattle.review_policy.specs.declared.revision.State.TheVariants.{Open, Closed, Issued, Replaced}
+use Rattle.review_policy.specs.declared.revision.State.TheVariants.{Withdrawn}
 use Rattle.review_policy.specs.Rules.{is_open, is_issued}
 use Rattle.office_tables.specs.declared.row.RevisionRow.{RevisionRow}
 use Rattle.office_tables.specs.Tables.{is_profile}
@@ -43,16 +46,20 @@ pub record Submission : Type 0 where
 abbrev pub submission_of : History → ProfileName → ℕ → Option Submission
 submission_of [] p n = None
 submission_of (submitted c q t ∷ before) p n =
-    if is_profile p q && (n == suc (revision_count before p)) then Some (record { author = c; text = t }) else submission_of before p n
+    if is_profile p q && (n == suc (revision_count before p))
+    then Some (record { author = c; text = t })
+    else submission_of before p n
 submission_of (_ ∷ before) p n = submission_of before p n
 
 -- whether some issue of the revision was followed by an issue of its profile
 abbrev pub is_replaced : History → ProfileName → ℕ → Bool
 is_replaced [] p n = false
-is_replaced (e ∷ before) p n = (issues_profile p e && list_any (issues p n) before) || is_replaced before p n
+is_replaced (e ∷ before) p n =
+    (issues_profile p e && list_any (issues p n) before) || is_replaced before p n
 
--- Withdrawn where a withdrawal names the revision; else Replaced where it was issued and a later issue names its profile;
--- else Issued where it was issued; else Closed where a later submission names its profile; else Open
+-- Withdrawn where a withdrawal names the revision; else Replaced where it was issued and a later
+-- issue names its profile; else Issued where it was issued; else Closed where a later submission
+-- names its profile; else Open
 abbrev pub state_of : History → ProfileName → ℕ → State
 state_of h p n =
     if list_any (withdraws p n) h then Withdrawn
@@ -64,7 +71,13 @@ state_of h p n =
 abbrev pub revision_of : History → ProfileName → ℕ → Option RevisionRow
 revision_of h p n =
     option_map
-    (λ s. record { number = n; author = s.author; state = state_of h p n; body = s.text; digest = digest_of s.text })
+    (λ s. record {
+      number = n;
+      author = s.author;
+      state = state_of h p n;
+      body = s.text;
+      digest = digest_of s.text;
+    })
     (submission_of h p n)
 
 -- the last revision of a profile

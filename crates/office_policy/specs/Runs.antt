@@ -1,4 +1,5 @@
--- What a request is answered, and what a list of requests leaves, each handled on what the ones before it left.
+-- What a request is answered, and what a list of requests leaves, each handled on what the ones
+-- before it left.
 use Rattle.std.specs.Prelude.{◌≡◌, List, [], ◌∷◌, Option, Some, None}
 use Rattle.review_policy.specs.declared.ask.Request.{Request}
 use Rattle.review_policy.specs.declared.answer.Answer.{Answer}
@@ -35,14 +36,17 @@ IsAnswer h r (Fault faults.Full) = Unit {0}
 IsAnswer h r (Fault faults.NotAnOffice) = ⊥
 IsAnswer h r answer = answer ≡ answer_of (verdict h r)
 
--- there is one answer to each request: the policy's, on the requests that were accepted before it, or a fault
+-- there is one answer to each request: the policy's, on the requests that were accepted before it,
+-- or a fault
 abbrev pub Took : History → List Request → List Answer → Type 0
 Took h [] [] = Unit {0}
-Took h (request ∷ requests) (answer ∷ answers) = IsAnswer h request answer × Took (history_after h request answer) requests answers
+Took h (request ∷ requests) (answer ∷ answers) =
+    IsAnswer h request answer × Took (history_after h request answer) requests answers
 Took h [] (answer ∷ answers) = ⊥
 Took h (request ∷ requests) [] = ⊥
 
 -- the history after all of them
 abbrev pub history_after_all : History → List Request → List Answer → History
-history_after_all h (request ∷ requests) (answer ∷ answers) = history_after_all (history_after h request answer) requests answers
+history_after_all h (request ∷ requests) (answer ∷ answers) =
+    history_after_all (history_after h request answer) requests answers
 history_after_all h _ _ = h

@@ -2,9 +2,11 @@
 use Rattle.std.specs.Prelude.{ℕ, List, Bool, true, bytes_eq}
 use Rattle.review_policy.specs.declared.ask.Ask.{Ask}
 use Rattle.review_policy.specs.declared.ask.Ask.TheVariants as ask
-use Rattle.office_policy.specs.History.{Event, founded, enrolled, submitted, voted, issued, withdrawn, adopted, held, released}
+use Rattle.office_policy.specs.History.{Event, founded, enrolled, submitted, voted, issued}
+use Rattle.office_policy.specs.History.{withdrawn, adopted, held, released}
 
--- an event of a profile concerns the profile's team; the founding and the enrolments concern every team
+-- an event of a profile concerns the profile's team; the founding and the enrolments concern every
+-- team
 abbrev pub concerns : List ℕ → Event → Bool
 concerns team (founded n t d listed) = true
 concerns team (enrolled c n t r d) = true

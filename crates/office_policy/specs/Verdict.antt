@@ -1,5 +1,6 @@
 -- What the policy says of a request, by looking back over what has happened.
-use Rattle.std.specs.Prelude.{ℕ, suc, List, Bool, false, ⊤, ◌==◌, Option, Some, None, is_none, Result, Ok, Err}
+use Rattle.std.specs.Prelude.{ℕ, suc, List, Bool, false, ⊤, ◌==◌, Option, Some, None, is_none}
+use Rattle.std.specs.Prelude.{Result, Ok, Err}
 use Rattle.profile_text.specs.Digest.{digest_of}
 use Rattle.review_policy.specs.declared.ask.ProfileName.{ProfileName}
 use Rattle.review_policy.specs.declared.ask.Ask.{Ask}
@@ -10,7 +11,9 @@ use Rattle.review_policy.specs.declared.answer.Reply.TheVariants as reply
 use Rattle.review_policy.specs.declared.denial.Denial.{Denial}
 use Rattle.review_policy.specs.declared.denial.Rule.{Rule}
 use Rattle.review_policy.specs.declared.denial.Rule.TheVariants.{Document, NoRevision}
-use Rattle.review_policy.specs.Rules.{first_denial, enrol_rules, submit_rules, vote_rules, issue_rules, withdraw_rules, adopt_rules, read_rules, fetch_rules, hold_rules, release_rules}
+use Rattle.review_policy.specs.Rules.{first_denial, enrol_rules, submit_rules, vote_rules}
+use Rattle.review_policy.specs.Rules.{issue_rules, withdraw_rules, adopt_rules, read_rules}
+use Rattle.review_policy.specs.Rules.{fetch_rules, hold_rules, release_rules}
 use Rattle.profile_text.specs.declared.profile.Profile.{Profile}
 use Rattle.profile_text.specs.declared.fault.DocFault.{DocFault}
 use Rattle.profile_text.specs.Reading.{reading_of}
@@ -19,17 +22,22 @@ use Rattle.profile_text.specs.FaultText.{fault_text_of}
 use Rattle.review_sheet.specs.Sheet.{sheet_text}
 use Rattle.office_tables.specs.declared.row.UserRow.{UserRow}
 use Rattle.office_tables.specs.declared.row.RevisionRow.{RevisionRow}
-use Rattle.office_policy.specs.History.{Event, enrolled, submitted, voted, issued, withdrawn, adopted, held, released, History}
+use Rattle.office_policy.specs.History.{Event, enrolled, submitted, voted, issued, withdrawn}
+use Rattle.office_policy.specs.History.{adopted, held, released, History}
 use Rattle.office_policy.specs.Users.{user_of, user_showing, name_of}
-use Rattle.office_policy.specs.Revisions.{revision_of, revision_count, last_revision, issued_revision, is_author}
+use Rattle.office_policy.specs.Revisions.{revision_of, revision_count, last_revision}
+use Rattle.office_policy.specs.Revisions.{issued_revision, is_author}
 use Rattle.office_policy.specs.Votes.{tally_at}
 use Rattle.office_policy.specs.Holds.{is_held}
 use Rattle.office_policy.specs.Need.{need_at}
 use Rattle.office_policy.specs.Sheets.{sheet_of}
 use Rattle.office_policy.specs.Listing.{listing_of}
-use Rattle.office_policy.specs.Facts.{enrol_facts, submit_facts, vote_facts, issue_facts, withdraw_facts, adopt_facts, read_facts, fetch_facts, hold_facts, release_facts}
+use Rattle.office_policy.specs.Facts.{enrol_facts, submit_facts, vote_facts, issue_facts}
+use Rattle.office_policy.specs.Facts.{withdraw_facts, adopt_facts, read_facts, fetch_facts}
+use Rattle.office_policy.specs.Facts.{hold_facts, release_facts}
 
--- a request is carried out, with its reply and, where its kind changes something, its event, or a rule refuses it
+-- a request is carried out, with its reply and, where its kind changes something, its event, or a
+-- rule refuses it
 pub data Verdict : Type 0 where
   accepted : Reply → Option Event → Verdict
   denied : Denial → (fault : Option (List ℕ)) → Verdict
@@ -52,7 +60,8 @@ fault_told _ reading = None
 abbrev pub new_revision : History → Option UserRow → ProfileName → Result Profile DocFault → Verdict
 new_revision h caller p (Err f) = unreached
 new_revision h caller p (Ok profile) =
-    accepted (reply.Submitted (digest_of (text_of profile)) (suc (revision_count h p))) (Some (submitted (name_of caller) p (text_of profile)))
+    accepted (reply.Submitted (digest_of (text_of profile)) (suc (revision_count h p)))
+    (Some (submitted (name_of caller) p (text_of profile)))
 
 module _ (h : History) where
   -- the rules of a request, in order, each with whether it refuses
@@ -60,33 +69,53 @@ module _ (h : History) where
   rules_of caller (ask.Enrol user team roles digest) =
       enrol_rules (enrol_facts caller (user_of h user) (user_showing h digest) user team)
   rules_of caller (ask.Submit p document) =
-      submit_rules (submit_facts caller p.team (reading_of document.items) (last_revision h p) (revision_count h p))
+      submit_rules
+      (submit_facts caller p.team (reading_of document.items) (last_revision h p)
+      (revision_count h p))
   rules_of caller (ask.Vote p n digest approve) =
       vote_rules (vote_facts caller (revision_of h p n) (is_author h p (name_of caller)) digest)
   rules_of caller (ask.Issue p n) =
-      issue_rules (issue_facts caller (revision_of h p n) (is_author h p (name_of caller)) (tally_at h p n) (need_at h p n) (is_held h p))
-  rules_of caller (ask.Withdraw p n) = withdraw_rules (withdraw_facts caller p.team (revision_of h p n))
-  rules_of caller (ask.Adopt p n) = adopt_rules (adopt_facts caller (revision_of h p n) (is_author h p (name_of caller)))
-  rules_of caller (ask.Show p n) = read_rules (read_facts caller p.team (is_none (revision_of h p n)))
-  rules_of caller (ask.Sheet p n) = read_rules (read_facts caller p.team (is_none (revision_of h p n)))
+      issue_rules
+      (issue_facts caller (revision_of h p n) (is_author h p (name_of caller)) (tally_at h p n)
+      (need_at h p n) (is_held h p))
+  rules_of caller (ask.Withdraw p n) =
+      withdraw_rules (withdraw_facts caller p.team (revision_of h p n))
+  rules_of caller (ask.Adopt p n) =
+      adopt_rules (adopt_facts caller (revision_of h p n) (is_author h p (name_of caller)))
+  rules_of caller (ask.Show p n) =
+      read_rules (read_facts caller p.team (is_none (revision_of h p n)))
+  rules_of caller (ask.Sheet p n) =
+      read_rules (read_facts caller p.team (is_none (revision_of h p n)))
   rules_of caller (ask.List team) = read_rules (read_facts caller team false)
-  rules_of caller (ask.Fetch p) = fetch_rules (fetch_facts caller p.team (issued_revision h p) (is_held h p))
-  rules_of caller (ask.Hold p) = hold_rules (hold_facts caller (revision_count h p == 0) (is_held h p))
-  rules_of caller (ask.Release p) = release_rules (release_facts caller (revision_count h p == 0) (is_held h p))
+  rules_of caller (ask.Fetch p) =
+      fetch_rules (fetch_facts caller p.team (issued_revision h p) (is_held h p))
+  rules_of caller (ask.Hold p) =
+      hold_rules (hold_facts caller (revision_count h p == 0) (is_held h p))
+  rules_of caller (ask.Release p) =
+      release_rules (release_facts caller (revision_count h p == 0) (is_held h p))
 
   -- what is done where none refuses
   abbrev pub done_of : Option UserRow → Ask → Verdict
-  done_of caller (ask.Enrol user team roles digest) = accepted reply.Enrolled (Some (enrolled (name_of caller) user team roles digest))
+  done_of caller (ask.Enrol user team roles digest) =
+      accepted reply.Enrolled (Some (enrolled (name_of caller) user team roles digest))
   done_of caller (ask.Submit p document) = new_revision h caller p (reading_of document.items)
-  done_of caller (ask.Vote p n digest approve) = accepted reply.Voted (Some (voted (name_of caller) p n digest approve))
+  done_of caller (ask.Vote p n digest approve) =
+      accepted reply.Voted (Some (voted (name_of caller) p n digest approve))
   done_of caller (ask.Issue p n) =
-      of_revision (revision_of h p n) (λ r. accepted (reply.Issued r.digest) (Some (issued (name_of caller) p n)))
-  done_of caller (ask.Withdraw p n) = accepted reply.Withdrawn (Some (withdrawn (name_of caller) p n))
+      of_revision (revision_of h p n)
+      (λ r. accepted (reply.Issued r.digest) (Some (issued (name_of caller) p n)))
+  done_of caller (ask.Withdraw p n) =
+      accepted reply.Withdrawn (Some (withdrawn (name_of caller) p n))
   done_of caller (ask.Adopt p n) = accepted reply.Adopted (Some (adopted (name_of caller) p n))
-  done_of caller (ask.Show p n) = of_revision (revision_of h p n) (λ r. accepted (reply.Shown r.digest r.body r.state) None)
-  done_of caller (ask.Sheet p n) = of_revision (revision_of h p n) (λ r. accepted (reply.Sheet (sheet_text (sheet_of h p r))) None)
+  done_of caller (ask.Show p n) =
+      of_revision (revision_of h p n) (λ r. accepted (reply.Shown r.digest r.body r.state) None)
+  done_of caller (ask.Sheet p n) =
+      of_revision (revision_of h p n)
+      (λ r. accepted (reply.Sheet (sheet_text (sheet_of h p r))) None)
   done_of caller (ask.List team) = accepted (reply.Listed (listing_of h team)) None
-  done_of caller (ask.Fetch p) = of_revision (issued_revision h p) (λ r. accepted (reply.Fetched r.digest r.body r.number) None)
+  done_of caller (ask.Fetch p) =
+      of_revision (issued_revision h p)
+      (λ r. accepted (reply.Fetched r.digest r.body r.number) None)
   done_of caller (ask.Hold p) = accepted reply.Held (Some (held (name_of caller) p))
   done_of caller (ask.Release p) = accepted reply.Released (Some (released (name_of caller) p))
 

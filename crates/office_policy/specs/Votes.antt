@@ -1,5 +1,6 @@
 -- Votes: the last one of each name on a revision stands, and counts while its voter is a reviewer.
-use Rattle.std.specs.Prelude.{ℕ, List, [], ◌∷◌, Bool, false, not, ◌&&◌, ◌==◌, if◌then◌else◌, Option, Some, None, option_map, filter, filter_map, length, bytes_eq}
+use Rattle.std.specs.Prelude.{ℕ, List, [], ◌∷◌, Bool, false, not, ◌&&◌, ◌==◌, if◌then◌else◌, Option}
+use Rattle.std.specs.Prelude.{Some, None, option_map, filter, filter_map, length, bytes_eq}
 use Rattle.review_policy.specs.declared.ask.ProfileName.{ProfileName}
 use Rattle.review_policy.specs.declared.revision.VoteRow.{VoteRow}
 use Rattle.review_policy.specs.declared.role.Role.TheVariants.{Security}
@@ -20,24 +21,29 @@ pub record CastVote : Type 0 where
 abbrev pub vote_of : History → ProfileName → ℕ → List ℕ → Option CastVote
 vote_of [] p n name = None
 vote_of (voted c q m d a ∷ before) p n name =
-    if is_profile p q && (n == m) && bytes_eq name c then Some (record { approves = a; digest = d; before = before }) else vote_of before p n name
+    if is_profile p q && (n == m) && bytes_eq name c
+    then Some (record { approves = a; digest = d; before = before })
+    else vote_of before p n name
 vote_of (_ ∷ before) p n name = vote_of before p n name
 
 -- what is kept of a vote: what it says, and whether its voter held security in the events before it
 abbrev pub kept_vote : List ℕ → CastVote → Vote
-kept_vote name v = record { approves = v.approves; security = holds_role (user_of v.before name) Security }
+kept_vote name v =
+    record { approves = v.approves; security = holds_role (user_of v.before name) Security }
 
 abbrev pub kept_vote_of : History → ProfileName → ℕ → List ℕ → Option Vote
 kept_vote_of h p n name = option_map (kept_vote name) (vote_of h p n name)
 
 -- how the vote of a name stands, by the roles that the name has now
 abbrev pub standing_at : History → ProfileName → ℕ → List ℕ → Option VoteRow
-standing_at h p n name = option_map (λ v. standing_vote name v (user_of h name)) (kept_vote_of h p n name)
+standing_at h p n name =
+    option_map (λ v. standing_vote name v (user_of h name)) (kept_vote_of h p n name)
 
 -- the names with a vote on a revision, each once, in byte order
 abbrev pub voters_of : History → ProfileName → ℕ → List (List ℕ)
 voters_of [] p n = []
-voters_of (voted c q m d a ∷ before) p n = if is_profile p q && (n == m) then with_name c (voters_of before p n) else voters_of before p n
+voters_of (voted c q m d a ∷ before) p n =
+    if is_profile p q && (n == m) then with_name c (voters_of before p n) else voters_of before p n
 voters_of (_ ∷ before) p n = voters_of before p n
 
 -- the standing votes on a revision, by voter in byte order
@@ -51,15 +57,21 @@ passes test (Some row) = test row
 
 -- the names whose standing vote counts and approves
 abbrev pub approvals : History → ProfileName → ℕ → List (List ℕ)
-approvals h p n = filter (λ name. passes (λ row. row.counts && row.approve) (standing_at h p n name)) (voters_of h p n)
+approvals h p n =
+    filter (λ name. passes (λ row. row.counts && row.approve) (standing_at h p n name))
+    (voters_of h p n)
 
 -- the approvals with security
 abbrev pub secure_approvals : History → ProfileName → ℕ → List (List ℕ)
-secure_approvals h p n = filter (λ name. passes (λ row. row.approve && row.security) (standing_at h p n name)) (voters_of h p n)
+secure_approvals h p n =
+    filter (λ name. passes (λ row. row.approve && row.security) (standing_at h p n name))
+    (voters_of h p n)
 
 -- the names whose standing vote counts and rejects
 abbrev pub rejections : History → ProfileName → ℕ → List (List ℕ)
-rejections h p n = filter (λ name. passes (λ row. row.counts && not row.approve) (standing_at h p n name)) (voters_of h p n)
+rejections h p n =
+    filter (λ name. passes (λ row. row.counts && not row.approve) (standing_at h p n name))
+    (voters_of h p n)
 
 -- how many these are
 abbrev pub tally_at : History → ProfileName → ℕ → Tally

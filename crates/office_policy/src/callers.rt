@@ -1,7 +1,7 @@
 //! Who may ask what, as tables of single roles and as laws of every user. Each is a function
 //! without a parameter whose contract is the law; it does nothing.
 
-ghost use Rattle.std.specs.Prelude.{◌≡◌, List, ℕ, Vec, Option, Some, None, map, is_ok};
+ghost use Rattle.std.specs.Prelude.{◌≡◌, ℕ, Vec, Option, Some, None, map, is_ok};
 ghost use Rattle.std.specs.declared.alloc.Global.{Global};
 ghost use Rattle.profile_text.specs.Digest.{digest_of};
 ghost use Rattle.review_policy.specs.declared.ask.Ask.{Ask};

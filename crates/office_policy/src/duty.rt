@@ -11,7 +11,6 @@ ghost use Rattle.review_policy.specs.declared.answer.Reply.TheVariants as reply;
 ghost use Rattle.review_policy.specs.declared.revision.State.{State};
 ghost use Rattle.office_policy.specs.History.{Event, History, issued};
 ghost use Rattle.office_policy.specs.Users.{user_showing, name_of};
-ghost use Rattle.office_policy.specs.Revisions.{state_of};
 ghost use Rattle.office_policy.specs.Holds.{is_held};
 ghost use Rattle.office_policy.specs.Verdict.{verdict, accepted};
 ghost use Rattle.office_policy.specs.Lawful.{IsLawfulHistory};
@@ -29,28 +28,33 @@ pub fn what_is_submitted_is_told()
 
 /// What is shown is the text that the submission of that number carried.
 pub fn what_is_shown_was_submitted()
-    ensures { (h : History) (r : Request) (p : ProfileName) (n : ℕ) (digest text : List ℕ) (state : State) (e : Option Event)
-        → r.ask ≡ ask.Show p n → verdict h r ≡ accepted (reply.Shown digest text state) e → IsTextOf h p n digest text }
+    ensures { (h : History) (r : Request) (p : ProfileName) (n : ℕ) (digest text : List ℕ)
+        (state : State) (e : Option Event) → r.ask ≡ ask.Show p n
+        → verdict h r ≡ accepted (reply.Shown digest text state) e → IsTextOf h p n digest text }
 {}
 
 /// What is fetched is the text that the submission of that number carried; it was issued, and is issued now.
 pub fn what_is_fetched_was_issued()
-    ensures { (h : History) (r : Request) (p : ProfileName) (n : ℕ) (digest text : List ℕ) (e : Option Event)
-        → r.ask ≡ ask.Fetch p → verdict h r ≡ accepted (reply.Fetched digest text n) e → IsFetched h p n digest text }
+    ensures { (h : History) (r : Request) (p : ProfileName) (n : ℕ) (digest text : List ℕ)
+        (e : Option Event) → r.ask ≡ ask.Fetch p
+        → verdict h r ≡ accepted (reply.Fetched digest text n) e → IsFetched h p n digest text }
 {}
 
 /// What is issued is known by the digest of the text that the submission of that number carried.
 pub fn what_is_issued_was_submitted()
-    ensures { (h : History) (r : Request) (p : ProfileName) (n : ℕ) (digest : List ℕ) (e : Option Event)
-        → r.ask ≡ ask.Issue p n → verdict h r ≡ accepted (reply.Issued digest) e → IsDigestOf h p n digest }
+    ensures { (h : History) (r : Request) (p : ProfileName) (n : ℕ) (digest : List ℕ)
+        (e : Option Event) → r.ask ≡ ask.Issue p n
+        → verdict h r ≡ accepted (reply.Issued digest) e → IsDigestOf h p n digest }
 {}
 
 /// Nothing of a held profile is issued or fetched.
 pub fn nothing_is_given_out_while_it_is_held()
-    ensures issued { (h : History) (r : Request) (p : ProfileName) (n : ℕ) (reply : Reply) (e : Option Event)
-        → r.ask ≡ ask.Issue p n → verdict h r ≡ accepted reply e → is_held h p ≡ false }
-    ensures fetched { (h : History) (r : Request) (p : ProfileName) (reply : Reply) (e : Option Event)
-        → r.ask ≡ ask.Fetch p → verdict h r ≡ accepted reply e → is_held h p ≡ false }
+    ensures issued { (h : History) (r : Request) (p : ProfileName) (n : ℕ) (reply : Reply)
+        (e : Option Event) → r.ask ≡ ask.Issue p n → verdict h r ≡ accepted reply e
+        → is_held h p ≡ false }
+    ensures fetched { (h : History) (r : Request) (p : ProfileName) (reply : Reply)
+        (e : Option Event) → r.ask ≡ ask.Fetch p → verdict h r ≡ accepted reply e
+        → is_held h p ≡ false }
 {}
 
 /// Each text of a lawful history reads back as the document whose canonical text it is.
@@ -61,20 +65,24 @@ pub fn texts_read_back()
 /// Each approval of an issued revision named the digest of exactly the issued text, after its submission, and nothing of the
 /// profile was submitted since.
 pub fn approvals_are_of_the_issued_text()
-    ensures { (h : History) (issuer : List ℕ) (p : ProfileName) (n : ℕ) → IsLawfulHistory (issued issuer p n ∷ h) → AreOfTheText h p n }
+    ensures { (h : History) (issuer : List ℕ) (p : ProfileName) (n : ℕ)
+        → IsLawfulHistory (issued issuer p n ∷ h) → AreOfTheText h p n }
 {}
 
 /// The approvals of an issued revision are of distinct names, each a reviewer at the vote and at the issue, none an author of
 /// the profile. The issuer is no author of it either.
 pub fn approvals_are_by_others()
-    ensures { (h : History) (issuer : List ℕ) (p : ProfileName) (n : ℕ) → IsLawfulHistory (issued issuer p n ∷ h) → AreOthers h issuer p n }
+    ensures { (h : History) (issuer : List ℕ) (p : ProfileName) (n : ℕ)
+        → IsLawfulHistory (issued issuer p n ∷ h) → AreOthers h issuer p n }
 {}
 
 /// An issued revision has the approvals that its need asks for at the issue. Where it has fewer than two, or none with
 /// security, it holds no listed capability and permits no more than the baseline.
 pub fn issues_have_the_approvals_that_they_need()
-    ensures enough { (h : History) (issuer : List ℕ) (p : ProfileName) (n : ℕ) → IsLawfulHistory (issued issuer p n ∷ h) → AreEnough h p n }
-    ensures plain { (h : History) (issuer : List ℕ) (p : ProfileName) (n : ℕ) → IsLawfulHistory (issued issuer p n ∷ h) → LacksTwo h p n → IsPlainRevision h p n }
+    ensures enough { (h : History) (issuer : List ℕ) (p : ProfileName) (n : ℕ)
+        → IsLawfulHistory (issued issuer p n ∷ h) → AreEnough h p n }
+    ensures plain { (h : History) (issuer : List ℕ) (p : ProfileName) (n : ℕ)
+        → IsLawfulHistory (issued issuer p n ∷ h) → LacksTwo h p n → IsPlainRevision h p n }
 {}
 
 /// What is issued was approved: on the events before it the approvals are of distinct names, none
@@ -98,5 +106,6 @@ pub fn what_is_fetched_was_approved()
 /// A request has the same verdict on two histories that have the same events that concern the team that it names, in the same
 /// order: what happens to the profiles of other teams changes nothing.
 pub fn teams_are_apart()
-    ensures { (h k : History) (r : Request) → filter (concerns (team_of r.ask)) h ≡ filter (concerns (team_of r.ask)) k → verdict h r ≡ verdict k r }
+    ensures { (h k : History) (r : Request) → filter (concerns (team_of r.ask)) h
+        ≡ filter (concerns (team_of r.ask)) k → verdict h r ≡ verdict k r }
 {}

@@ -19,21 +19,25 @@ ghost use Rattle.office_policy.specs.Lawful.{IsLawfulHistory};
 /// capabilities.
 pub fn a_founding_makes_the_first_tables()
     ensures { (name team digest : List ℕ) (listed : ℕ)
-        → founded_tables (record { name = name; team = team; roles = registrar_alone; digest = digest }) listed
+        → founded_tables
+        (record { name = name; team = team; roles = registrar_alone; digest = digest }) listed
         ≡ tables_of (founded name team digest listed ∷ []) }
 {}
 
 /// An enrolment puts a user's row in the place of any of that name.
 pub fn an_enrolment_puts_a_user()
     ensures { (h : History) (caller name team : List ℕ) (roles : ℕ) (digest : List ℕ)
-        → with_user (record { name = name; team = team; roles = roles; digest = digest }) (tables_of h)
+        → with_user (record { name = name; team = team; roles = roles; digest = digest })
+        (tables_of h)
         ≡ tables_of (enrolled caller name team roles digest ∷ h) }
 {}
 
 /// A submission adds the next revision of its profile, open, and closes the one that was open.
 pub fn a_submission_adds_a_revision()
-    ensures { (h : History) → IsLawfulHistory h → (caller : List ℕ) (p : ProfileName) (text : List ℕ)
-        → with_revision p (new_revision (suc (revision_count h p)) caller text (digest_of text)) (tables_of h)
+    ensures { (h : History) → IsLawfulHistory h
+        → (caller : List ℕ) (p : ProfileName) (text : List ℕ)
+        → with_revision p (new_revision (suc (revision_count h p)) caller text (digest_of text))
+        (tables_of h)
         ≡ tables_of (submitted caller p text ∷ h) }
 {}
 
@@ -44,33 +48,40 @@ pub fn the_next_number_is_free()
 
 /// A vote is kept in the place of any earlier one of that voter on the revision, with whether the voter holds security at it.
 pub fn a_vote_is_put()
-    ensures { (h : History) (caller : List ℕ) (p : ProfileName) (n : ℕ) (digest : List ℕ) (approves : Bool)
-        → with_vote p n caller (record { approves = approves; security = holds_role (user_of h caller) Security }) (tables_of h)
+    ensures { (h : History) (caller : List ℕ) (p : ProfileName) (n : ℕ) (digest : List ℕ)
+        (approves : Bool) → with_vote p n caller
+        (record { approves = approves; security = holds_role (user_of h caller) Security })
+        (tables_of h)
         ≡ tables_of (voted caller p n digest approves ∷ h) }
 {}
 
 /// An issue of an open revision makes it issued, and replaces the issued one of its profile.
 pub fn an_issue_replaces_the_issued_one()
-    ensures { (h : History) (caller : List ℕ) (p : ProfileName) (n : ℕ) → is_open (state_in (revision_of h p n)) ≡ true
+    ensures { (h : History) (caller : List ℕ) (p : ProfileName) (n : ℕ)
+        → is_open (state_in (revision_of h p n)) ≡ true
         → with_issued p n (tables_of h) ≡ tables_of (issued caller p n ∷ h) }
 {}
 
 /// A withdrawal makes its revision withdrawn, and changes no other.
 pub fn a_withdrawal_withdraws_one_revision()
-    ensures { (h : History) (caller : List ℕ) (p : ProfileName) (n : ℕ) → with_withdrawn p n (tables_of h) ≡ tables_of (withdrawn caller p n ∷ h) }
+    ensures { (h : History) (caller : List ℕ) (p : ProfileName) (n : ℕ)
+        → with_withdrawn p n (tables_of h) ≡ tables_of (withdrawn caller p n ∷ h) }
 {}
 
 /// An adoption puts the team's baseline in the place of any earlier one.
 pub fn an_adoption_puts_the_baseline()
-    ensures { (h : History) (caller : List ℕ) (p : ProfileName) (n : ℕ) → with_baseline p n (tables_of h) ≡ tables_of (adopted caller p n ∷ h) }
+    ensures { (h : History) (caller : List ℕ) (p : ProfileName) (n : ℕ)
+        → with_baseline p n (tables_of h) ≡ tables_of (adopted caller p n ∷ h) }
 {}
 
 /// A hold holds its profile, and no other.
 pub fn a_hold_holds_the_profile()
-    ensures { (h : History) (caller : List ℕ) (p : ProfileName) → with_hold p (tables_of h) ≡ tables_of (held caller p ∷ h) }
+    ensures { (h : History) (caller : List ℕ) (p : ProfileName) → with_hold p (tables_of h)
+        ≡ tables_of (held caller p ∷ h) }
 {}
 
 /// A release ends the hold of its profile, and no other.
 pub fn a_release_ends_the_hold()
-    ensures { (h : History) (caller : List ℕ) (p : ProfileName) → without_hold p (tables_of h) ≡ tables_of (released caller p ∷ h) }
+    ensures { (h : History) (caller : List ℕ) (p : ProfileName) → without_hold p (tables_of h)
+        ≡ tables_of (released caller p ∷ h) }
 {}

@@ -31,10 +31,13 @@ pub trait Handler {
     ///
     /// There was no room for the answers. No request was handled then.
     final fn run(&mut self, alloc: Global, requests: &[Request]) -> Result<Vec<Answer>, AllocError>
-        ensures ran { IfOk result (λ answers. HaveRun meaning self.old self.new requests.now answers.items) }
-        ensures left { IfOk result (λ answers. (h : History) → meaning.is_of h self.old → LeavesOnly meaning h self.old → meaning.is_clean self.new
+        ensures ran { IfOk result (λ answers.
+            HaveRun meaning self.old self.new requests.now answers.items) }
+        ensures left { IfOk result (λ answers. (h : History) → meaning.is_of h self.old
+            → LeavesOnly meaning h self.old → meaning.is_clean self.new
             → (left : meaning.Left) → meaning.may_leave self.new left
-            → AreLeft meaning (history_after_all h requests.now answers.items) requests.now answers.items left) }
+            → AreLeft meaning (history_after_all h requests.now answers.items)
+            requests.now answers.items left) }
         ensures none { OnErr result (self.new ≡ self.old) }
     {
         let mut answers = Vec::with_capacity(alloc, requests.len())?;

@@ -10,5 +10,6 @@ ghost use Rattle.office_policy.specs.TablesOf.{tables_of};
 
 /// The revision that the tables of a history have as issued, if any, is that of the newest issue of its profile.
 pub fn the_issued_revision_is_of_the_newest_issue()
-    ensures { (h : History) (p : ProfileName) (found : Option RevisionRow) → IsIssued (tables_of h) p found → found ≡ issued_revision h p }
+    ensures { (h : History) (p : ProfileName) (found : Option RevisionRow)
+        → IsIssued (tables_of h) p found → found ≡ issued_revision h p }
 {}

@@ -1,6 +1,6 @@
 //! Worked examples of definitions that laws alone cite, each proved by computing.
 
-ghost use Rattle.std.specs.Prelude.{◌≡◌, ◌↔◌, ◌∷◌, [], true, false, map, replicate, Option, List, ℕ, Vec};
+ghost use Rattle.std.specs.Prelude.{◌≡◌, ◌↔◌, ◌∷◌, true, false, map, replicate, Option, List, ℕ, Vec};
 ghost use Rattle.std.specs.declared.alloc.Global.{Global};
 ghost use Rattle.review_policy.specs.declared.ask.Request.{Request};
 ghost use Rattle.review_policy.specs.declared.answer.Answer.TheVariants.{Done, Denied, Fault};

@@ -64,15 +64,18 @@ pub fn each_profile_is_listed()
 
 /// No profile has more revisions than there are numbers, 9,999.
 pub fn numbers_are_limited()
-    ensures { (h : History) (p : ProfileName) → IsLawfulHistory h → revision_count h p ≤ max_revisions }
+    ensures { (h : History) (p : ProfileName) → IsLawfulHistory h
+        → revision_count h p ≤ max_revisions }
 {}
 
 /// The counts of a revision's votes, by the tables that a history leaves, are those of looking back.
 pub fn tallies_are_of_the_tables()
-    ensures { (h : History) (p : ProfileName) (n : ℕ) (tally : Tally) → IsTally (tables_of h) p n tally → tally ≡ tally_at h p n }
+    ensures { (h : History) (p : ProfileName) (n : ℕ) (tally : Tally)
+        → IsTally (tables_of h) p n tally → tally ≡ tally_at h p n }
 {}
 
 /// A sheet gives the need of its revision.
 pub fn sheets_tell_the_need()
-    ensures { (h : History) (p : ProfileName) (n : ℕ) (r : RevisionRow) → revision_of h p n ≡ Some r → sheet_need (sheet_of h p r) ≡ need_at h p n }
+    ensures { (h : History) (p : ProfileName) (n : ℕ) (r : RevisionRow) → revision_of h p n
+        ≡ Some r → sheet_need (sheet_of h p r) ≡ need_at h p n }
 {}

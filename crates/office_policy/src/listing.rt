@@ -10,6 +10,7 @@ ghost use Rattle.office_policy.specs.Grouped.{profiles_in};
 
 /// The profiles of the revisions of a team, in the tables of a history, are those that looking back over it lists.
 pub fn the_profiles_of_the_revisions_are_listed()
-    ensures { (h : History) (team : List ℕ) (rows : List ListedRevision) → AreRevisionsOf (tables_of h) team rows
+    ensures { (h : History) (team : List ℕ) (rows : List ListedRevision)
+        → AreRevisionsOf (tables_of h) team rows
         → profiles_in rows ≡ listing_of h team }
 {}

@@ -21,8 +21,10 @@ pub fn one_user_shows_a_digest()
 
 /// The last revision of a profile is the one with the number of its submissions.
 pub fn the_last_revision_is_the_last_submission()
-    ensures revision { (h : History) (p : ProfileName) (last : Option RevisionRow) → IsLast (tables_of h) p last → last ≡ last_revision h p }
-    ensures number { (h : History) (p : ProfileName) (last : Option RevisionRow) → IsLast (tables_of h) p last → number_of last ≡ revision_count h p }
+    ensures revision { (h : History) (p : ProfileName) (last : Option RevisionRow)
+        → IsLast (tables_of h) p last → last ≡ last_revision h p }
+    ensures number { (h : History) (p : ProfileName) (last : Option RevisionRow)
+        → IsLast (tables_of h) p last → number_of last ≡ revision_count h p }
 {}
 
 /// A name is that of a revision's author just where it has submitted to the profile.

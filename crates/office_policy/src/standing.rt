@@ -11,10 +11,12 @@ ghost use Rattle.office_policy.specs.TablesOf.{tables_of};
 
 /// The standing votes of the tables of a history are those of looking back over it.
 pub fn the_tables_have_the_standing_votes()
-    ensures { (h : History) (p : ProfileName) (n : ℕ) (rows : List VoteRow) → AreStanding (tables_of h) p n rows → rows ≡ standing_votes h p n }
+    ensures { (h : History) (p : ProfileName) (n : ℕ) (rows : List VoteRow)
+        → AreStanding (tables_of h) p n rows → rows ≡ standing_votes h p n }
 {}
 
 /// Looking back over a history gives the standing votes by voter, each voter once.
 pub fn standing_votes_are_by_voter()
-    ensures { (h : History) (p : ProfileName) (n : ℕ) → AllPairs (λ (a b : VoteRow). name_cmp a.voter b.voter ≡ Less) (standing_votes h p n) }
+    ensures { (h : History) (p : ProfileName) (n : ℕ)
+        → AllPairs (λ (a b : VoteRow). name_cmp a.voter b.voter ≡ Less) (standing_votes h p n) }
 {}
