@@ -10,7 +10,8 @@ use Rattle.office_policy.specs.Votes.{tally_at}
 use Rattle.office_policy.specs.Holds.{is_held}
 use Rattle.office_desk.specs.declared.issue.Looked.{Looked}
 
--- what the rules of an issue ask of a revision, its profile and the name of the caller, besides the need
+-- what the rules of an issue ask of a revision, its profile and the name of the caller, besides the
+-- need
 abbrev pub looked_at : History → ProfileName → ℕ → (name : List ℕ) → Looked
 looked_at h p n name = record {
   revision = revision_of h p n;

@@ -1,10 +1,11 @@
--- An office that was opened over a connection, and one that was migrated before.
-use Rattle.std.specs.Prelude.{List, Ok}
+-- An office that was opened over a connection or that wasn't, and one that was migrated before.
+use Rattle.std.specs.Prelude.{◌≡◌, List, Result, Ok, IfErr}
 use Rattle.sqlite.specs.Held.{Held, state}
 use Rattle.sqlite.specs.State.{HasCleanDisk}
 use Rattle.sqlite.specs.Store.{Ghosts}
 use Rattle.review_policy.specs.declared.ask.Request.{Request}
 use Rattle.review_policy.specs.declared.answer.Answer.{Answer}
+use Rattle.office_rows.specs.Queries.{IsAsItWas}
 use Rattle.office_store.specs.Migration.{IsMigration, ShowsOld}
 use Rattle.office_store.specs.Shown.{Shows}
 use Rattle.office_store.specs.declared.fault.MigrationFault.{MigrationFault}
@@ -17,15 +18,31 @@ use Rattle.office_policy.specs.TablesOf.{tables_of}
 use Rattle.office_desk.specs.Meant.{meaning_over}
 
 module _ {S : Type 0} (g : Ghosts S) where
+  -- there is no office, and where the disk of the connection that is handed back is clean this is
+  -- why
+  abbrev pub IsRefusedFor : {A E : Type 0} → (E → Type 0) → Result A (E × Held S) → Type 0
+  IsRefusedFor Why result =
+      IfErr result (λ refusal. HasCleanDisk (state g refusal.1) → Why refusal.0)
+
+  -- there is no office, and the connection that is handed back has what it had
+  abbrev pub IsHandedBack : {A E : Type 0} → Held S → Result A (E × Held S) → Type 0
+  IsHandedBack conn result =
+      (state g conn).now ≡ (state g conn).committed
+      → IfErr result (λ refusal. HasCleanDisk (state g refusal.1)
+      → IsAsItWas (state g conn) (state g refusal.1))
+
   -- an office over a connection
   pub record IsOver (conn office : Held S) : Type 0 where
     -- a disk that is clean was clean before
     pub clean : HasCleanDisk (state g office) → HasCleanDisk (state g conn)
-    -- where the connection showed the tables of a lawful history the office is of this history, and stands
-    pub stands : (h : History) → IsLawfulHistory h → Shows (state g conn) (tables_of h) → HasCleanDisk (state g office)
+    -- where the connection showed the tables of a lawful history the office is of this history, and
+    -- stands
+    pub stands : (h : History) → IsLawfulHistory h → Shows (state g conn) (tables_of h)
+        → HasCleanDisk (state g office)
         → Stands (meaning_over g) h office
 
-  -- a connection that showed, under schema 1, the tables of this lawful history was migrated, and the office is over what that left
+  -- a connection that showed, under schema 1, the tables of this lawful history was migrated, and
+  -- the office is over what that left
   pub record IsMigrated (h : History) (office : Held S) : Type 0 where
     pub old : Held S
     pub migrated : Held S
@@ -37,11 +54,13 @@ module _ {S : Type 0} (g : Ghosts S) where
   -- the next request is answered as the history has it
   abbrev pub Answers : History → Held S → Type 0
   Answers h office =
-      (new : Held S) (request : Request) (answer : Answer) → IsHandled (meaning_over g) office new request answer → HasCleanDisk (state g new)
+      (new : Held S) (request : Request) (answer : Answer)
+      → IsHandled (meaning_over g) office new request answer → HasCleanDisk (state g new)
       → IsAnswer h request answer
 
   -- and so is each of a list of them, with what was carried out before it
   abbrev pub AnswersAll : History → Held S → Type 0
   AnswersAll h office =
-      (new : Held S) (requests : List Request) (answers : List Answer) → HaveRun (meaning_over g) office new requests answers
+      (new : Held S) (requests : List Request) (answers : List Answer)
+      → HaveRun (meaning_over g) office new requests answers
       → HasCleanDisk (state g new) → Took h requests answers

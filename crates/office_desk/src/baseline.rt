@@ -3,12 +3,10 @@
 ghost use Rattle.std.specs.Prelude.{◌≡◌, IfOk, option_map};
 ghost use Rattle.sqlite.specs.Held.{state};
 ghost use Rattle.office_store.specs.Shown.{IsIdle};
-ghost use Rattle.office_store.specs.Calls.{IsRead};
+ghost use Rattle.office_store.specs.Connections.{Reads};
 ghost use Rattle.office_policy.specs.Baseline.{adopted_revision, document_or_closed, unless_withdrawn};
-ghost use Rattle.office_policy.specs.Documents.{document_of};
-ghost use Rattle.office_policy.specs.Need.{need_against};
 ghost use Rattle.office_policy.specs.LooksBack.{LooksBack};
-ghost use Rattle.office_desk.specs.Compared.{compared_at};
+ghost use Rattle.office_desk.specs.Compared.{compared_at, need_of};
 
 use crate::need::{document, need_against};
 use cap_sets::Caps;
@@ -47,7 +45,8 @@ fn adopted_revision<S: Alter>(
     team: &Word,
 ) -> Result<Option<(Word, RevisionRow)>, StoreFault>
     requires { IsIdle (state S.Store conn.old) }
-    ensures { IsRead (state S.Store conn.old) (state S.Store conn.new) result (LooksBack (λ h. adopted_revision h team.now)) }
+    ensures { Reads S.Store conn.old conn.new result
+        (LooksBack (λ h. adopted_revision h team.now)) }
 {
     let Some(adopted) = baseline(alloc, conn, team)? else {
         return Ok(None);
@@ -67,7 +66,7 @@ pub(crate) fn compared_with<S: Alter>(
     team: &Word,
 ) -> Result<Comparison, StoreFault>
     requires { IsIdle (state S.Store conn.old) }
-    ensures { IsRead (state S.Store conn.old) (state S.Store conn.new) result (LooksBack (λ h. compared_at h team.now)) }
+    ensures { Reads S.Store conn.old conn.new result (LooksBack (λ h. compared_at h team.now)) }
 {
     let listed = listed(conn)?;
     let adopted = adopted_revision(alloc, conn, team)?;
@@ -86,7 +85,7 @@ pub(crate) fn base(alloc: Global, compared: &Comparison) -> Result<Profile, Allo
 
 // How many approvals a text needs.
 pub(crate) fn need_of(alloc: Global, compared: &Comparison, body: &Text) -> Result<Need, AllocError>
-    ensures { IfOk result (λ need. need ≡ need_against compared.now.listed (document_or_closed compared.now.adopted) (document_of body.now)) }
+    ensures { IfOk result (λ need. need ≡ need_of compared.now body.now) }
 {
     let base = base(alloc, compared)?;
     let shown = document(alloc, body)?;

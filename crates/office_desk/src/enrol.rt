@@ -79,7 +79,8 @@ fn users_of<S: Alter>(
     digest: &[u8; 32],
 ) -> Result<(Option<UserRow>, Option<UserRow>), StoreFault>
     requires { IsIdle (state S.Store conn.old) }
-    ensures { IsRead (state S.Store conn.old) (state S.Store conn.new) result (LooksBack (λ h. (user_of h user.now, user_showing h digest.now))) }
+    ensures { IsRead (state S.Store conn.old) (state S.Store conn.new) result
+        (LooksBack (λ h. (user_of h user.now, user_showing h digest.now))) }
 {
     let known = user_by_name(alloc, conn, user)?;
     let shower = user_by_token(alloc, conn, digest)?;
@@ -88,7 +89,8 @@ fn users_of<S: Alter>(
 
 // The row of a user who is enrolled.
 fn row_of(user: &Word, team: &Word, roles: Roles, digest: &[u8; 32]) -> Result<UserRow, AllocError>
-    ensures { IfOk result (λ row. row ≡ record { name = user.now; team = team.now; roles = roles; digest = digest.now }) }
+    ensures { IfOk result (λ row. row
+        ≡ record { name = user.now; team = team.now; roles = roles; digest = digest.now }) }
 {
     Ok(UserRow {
         name: user.clone()?,

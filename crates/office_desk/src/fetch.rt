@@ -58,7 +58,8 @@ fn look_at<S: Alter>(
     name: &ProfileName,
 ) -> Result<(Option<RevisionRow>, bool), StoreFault>
     requires { IsIdle (state S.Store conn.old) }
-    ensures { IsRead (state S.Store conn.old) (state S.Store conn.new) result (λ t found. LooksBack (issued_at name.now) t found) }
+    ensures { IsRead (state S.Store conn.old) (state S.Store conn.new) result
+        (λ t found. LooksBack (issued_at name.now) t found) }
 {
     let found = issued(alloc, conn, name)?;
     let is_held = held(conn, name)?;

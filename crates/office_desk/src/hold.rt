@@ -24,7 +24,8 @@ fn look_at<S: Alter>(
     name: &ProfileName,
 ) -> Result<(bool, bool), StoreFault>
     requires { IsIdle (state S.Store conn.old) }
-    ensures { IsRead (state S.Store conn.old) (state S.Store conn.new) result (λ t found. LooksBack (hold_at name.now) t found) }
+    ensures { IsRead (state S.Store conn.old) (state S.Store conn.new) result
+        (λ t found. LooksBack (hold_at name.now) t found) }
 {
     let is_there = has_revision(conn, name)?;
     let is_held = held(conn, name)?;

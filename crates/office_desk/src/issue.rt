@@ -44,7 +44,8 @@ fn look_up<S: Alter>(
     number: u32,
 ) -> Result<Looked, StoreFault>
     requires { IsIdle (state S.Store conn.old) }
-    ensures { IsRead (state S.Store conn.old) (state S.Store conn.new) result (LooksBack (λ h. looked_at h name.now number caller.now.name)) }
+    ensures { IsRead (state S.Store conn.old) (state S.Store conn.new) result
+        (LooksBack (λ h. looked_at h name.now number caller.now.name)) }
 {
     let revision = revision(alloc, conn, name, number)?;
     let by_author = is_author(conn, name, &caller.name)?;
@@ -72,7 +73,8 @@ fn facts_of_caller(caller: &UserRow) -> IssueFacts
 
 // What the rules ask before the approvals.
 fn facts_before_need(caller: &UserRow, looked: &Looked) -> IssueFacts
-    ensures { result ≡ issue_facts (Some caller.now) looked.now.revision looked.now.by_author (one_approval looked.now.tally.rejections) needs.One false }
+    ensures { result ≡ issue_facts (Some caller.now) looked.now.revision looked.now.by_author
+        (one_approval looked.now.tally.rejections) needs.One false }
 {
     IssueFacts {
         state: state_in(&looked.revision),
@@ -84,7 +86,8 @@ fn facts_before_need(caller: &UserRow, looked: &Looked) -> IssueFacts
 
 // All that the rules ask.
 fn all_facts(caller: &UserRow, looked: &Looked, need: Need) -> IssueFacts
-    ensures { result ≡ issue_facts (Some caller.now) looked.now.revision looked.now.by_author looked.now.tally need looked.now.held }
+    ensures { result ≡ issue_facts (Some caller.now) looked.now.revision looked.now.by_author
+        looked.now.tally need looked.now.held }
 {
     IssueFacts {
         approvals: looked.tally.approvals,
@@ -110,7 +113,8 @@ fn deciding_need(
     body: &Text,
 ) -> Result<Need, AllocError>
     ensures { IfOk result (λ need. need ≡ deciding_need tally.now
-        (need_against compared.now.listed (document_or_closed compared.now.adopted) (document_of body.now))) }
+        (need_against compared.now.listed (document_or_closed compared.now.adopted)
+        (document_of body.now))) }
 {
     if is_enough_for_any(tally) {
         return Ok(Need::One);

@@ -13,7 +13,10 @@ use sqlite::Alter;
 /// Where a store showed, under schema 1, the tables of a lawful history, the office over what `migrate` left of it stands, and is
 /// of that history: it answers each request, and each list of them, as the history has it, which is the answer that it was.
 pub fn a_migrated_office_is_of_its_history<S: Alter>(office: &Office<S>)
-    ensures stands { (h : History) → IsMigrated S.Store h office.now → HasCleanDisk (state S.Store office.now) → Stands (meaning_over S.Store) h office.now }
-    ensures answers { (h : History) → IsMigrated S.Store h office.now → Answers S.Store h office.now }
-    ensures answers_all { (h : History) → IsMigrated S.Store h office.now → AnswersAll S.Store h office.now }
+    ensures stands { (h : History) → IsMigrated S.Store h office.now
+        → HasCleanDisk (state S.Store office.now) → Stands (meaning_over S.Store) h office.now }
+    ensures answers { (h : History) → IsMigrated S.Store h office.now
+        → Answers S.Store h office.now }
+    ensures answers_all { (h : History) → IsMigrated S.Store h office.now
+        → AnswersAll S.Store h office.now }
 {}

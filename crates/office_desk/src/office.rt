@@ -34,10 +34,9 @@ impl<S: Alter> Model for Office<S> {
 }
 
 impl<S: Alter> Office<S> {
-    ghost use Rattle.std.specs.Prelude.{◌≡◌, ◌≢◌, ◌↔◌, ℕ, false, true, [], ◌∷◌, Err, IsTrue, IfOk, IfErr, OnOk};
+    ghost use Rattle.std.specs.Prelude.{◌≡◌, ◌↔◌, ℕ, false, true, [], ◌∷◌, Err, IsTrue, IfOk, IfErr, OnOk};
     ghost use Rattle.sqlite.specs.Held.{state};
     ghost use Rattle.sqlite.specs.State.{HasCleanDisk};
-    ghost use Rattle.office_rows.specs.Queries.{IsAsItWas};
     ghost use Rattle.office_store.specs.Form.{HasForm, IsFailure, IsOldOrFailure, TellsOpening, has_old_tables};
     ghost use Rattle.office_store.specs.Founding.{has_table, IsForeign, first_user, FailsToFound};
     ghost use Rattle.office_store.specs.Migration.{ShowsOld};
@@ -50,7 +49,7 @@ impl<S: Alter> Office<S> {
     ghost use Rattle.office_tables.specs.Tables.{Tables};
     ghost use Rattle.office_desk.specs.Offices.{IsOffice};
     ghost use Rattle.office_desk.specs.Meant.{meaning_over};
-    ghost use Rattle.office_desk.specs.Opened.{IsOver};
+    ghost use Rattle.office_desk.specs.Opened.{IsOver, IsRefusedFor, IsHandedBack};
 
     /// Founds an office in an empty store, with its first user, who is a registrar and shows the token of this digest, and
     /// with the listed capabilities: a document that holds one of them needs two approvals.
@@ -69,20 +68,25 @@ impl<S: Alter> Office<S> {
         listed: Caps,
     ) -> Result<Office<S>, (FoundingFault, Connection<S>)>
         requires { IsIdle (state S.Store conn) }
-        ensures founded { IfOk result (λ office. IsOffice (founded name.now team.now digest.now listed ∷ []) (state S.Store office)) }
+        ensures founded { IfOk result (λ office.
+            IsOffice (founded name.now team.now digest.now listed ∷ []) (state S.Store office)) }
         ensures stands { IfOk result (λ office. HasCleanDisk (state S.Store office)
-            → Stands (meaning_over S.Store) (founded name.now team.now digest.now listed ∷ []) office) }
+            → Stands (meaning_over S.Store)
+            (founded name.now team.now digest.now listed ∷ []) office) }
         ensures empty { OnOk result ((state S.Store conn).now.schema ≡ no_schema) }
-        ensures cause { IfErr result (λ refusal. HasCleanDisk (state S.Store refusal.1)
-            → FailsToFound S.Store (first_user name.now team.now digest.now) listed conn refusal.0) }
-        ensures already { IfErr result (λ refusal. refusal.0 ≡ FoundingFault.AlreadyFounded ↔ IsTrue (has_table (state S.Store conn).now.schema)) }
-        ensures foreign { IfErr result (λ refusal. HasCleanDisk (state S.Store refusal.1)
-            → refusal.0 ≡ FoundingFault.Store StoreFault.NotAnOffice ↔ IsForeign (state S.Store conn).now.schema) }
-        ensures same { (state S.Store conn).now ≡ (state S.Store conn).committed
-            → IfErr result (λ refusal. HasCleanDisk (state S.Store refusal.1) → IsAsItWas (state S.Store conn) (state S.Store refusal.1)) }
+        ensures cause { IsRefusedFor S.Store
+            (FailsToFound S.Store (first_user name.now team.now digest.now) listed conn) result }
+        ensures already { IfErr result (λ refusal. refusal.0 ≡ FoundingFault.AlreadyFounded
+            ↔ IsTrue (has_table (state S.Store conn).now.schema)) }
+        ensures foreign { IsRefusedFor S.Store
+            (λ why. why ≡ FoundingFault.Store StoreFault.NotAnOffice
+            ↔ IsForeign (state S.Store conn).now.schema) result }
+        ensures same { IsHandedBack S.Store conn result }
         ensures idle { IfErr result (λ refusal. IsIdle (state S.Store refusal.1)) }
-        ensures crash { IfErr result (λ refusal. MayLeave (state S.Store conn) (state S.Store refusal.1)
-            (λ trees. AreOffice trees (tables_of (founded name.now team.now digest.now listed ∷ [])))) }
+        ensures crash { IfErr result (λ refusal.
+            MayLeave (state S.Store conn) (state S.Store refusal.1)
+            (λ trees. AreOffice trees
+            (tables_of (founded name.now team.now digest.now listed ∷ [])))) }
     {
         let mut conn = conn;
         founding_forms(name, team, digest, listed);
@@ -103,7 +107,8 @@ impl<S: Alter> Office<S> {
         requires { IsIdle (state S.Store conn) }
         ensures form { IfOk result (λ office. HasCleanDisk (state S.Store office)
             → (listed : ℕ) × HasForm (state S.Store conn) (state S.Store office) listed) }
-        ensures office { (h : History) → IsLawfulHistory h → Shows (state S.Store conn) (tables_of h)
+        ensures office { (h : History) → IsLawfulHistory h
+            → Shows (state S.Store conn) (tables_of h)
             → IfOk result (λ office. IsOffice h (state S.Store office)) }
         ensures over { IfOk result (IsOver S.Store conn) }
         ensures foreign { has_old_tables (state S.Store conn).now.schema ≡ false
@@ -115,12 +120,13 @@ impl<S: Alter> Office<S> {
             → IfErr result (λ refusal. HasCleanDisk (state S.Store refusal.1) → IsFailure refusal.0) }
         ensures unopened { (t : Tables) → ShowsOld (state S.Store conn) t → IfOk result (λ office. HasCleanDisk (state S.Store office) → ⊥) }
         ensures old { (t : Tables) → ShowsOld (state S.Store conn) t
-            → IfErr result (λ refusal. HasCleanDisk (state S.Store refusal.1) → IsOldOrFailure refusal.0) }
-        ensures same { (state S.Store conn).now ≡ (state S.Store conn).committed
-            → IfErr result (λ refusal. HasCleanDisk (state S.Store refusal.1) → IsAsItWas (state S.Store conn) (state S.Store refusal.1)) }
+            → IsRefusedFor S.Store IsOldOrFailure result }
+        ensures same { IsHandedBack S.Store conn result }
         ensures idle { IfErr result (λ refusal. IsIdle (state S.Store refusal.1)) }
-        ensures opened { IfOk result (λ office. LeavesNoMore (state S.Store conn) (state S.Store office)) }
-        ensures refused { IfErr result (λ refusal. LeavesNoMore (state S.Store conn) (state S.Store refusal.1)) }
+        ensures opened { IfOk result (λ office.
+            LeavesNoMore (state S.Store conn) (state S.Store office)) }
+        ensures refused { IfErr result (λ refusal.
+            LeavesNoMore (state S.Store conn) (state S.Store refusal.1)) }
     {
         let mut conn = conn;
         match check_office(&mut conn) {

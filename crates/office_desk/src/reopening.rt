@@ -21,9 +21,9 @@ use sqlite_disk::Disk;
 /// A connection that has opened files with the tables of a history is an office of that history. `Connection::open_from`
 /// ensures the premises on it. `Office::over` then takes it.
 pub fn opened_files_of_a_history_are_its_office<D: Disk + Drop>(opened: &Connection<FileStore<D>>)
-    ensures { (h : History) (image : Image) → IsLawfulHistory h → HoldsOffice image (tables_of h) → FindsIn image (file_state opened.now)
-        → IsOpened opened.now → IsIdle (file_state opened.now)
-        → IsOffice h (file_state opened.now) }
+    ensures { (h : History) (image : Image) → IsLawfulHistory h → HoldsOffice image (tables_of h)
+        → FindsIn image (file_state opened.now) → IsOpened opened.now
+        → IsIdle (file_state opened.now) → IsOffice h (file_state opened.now) }
 {}
 
 /// The files of an office that was closed have the tables of its history, as they read now and after a crash.
@@ -32,10 +32,13 @@ pub fn files_of_a_closed_office_have_its_history<D: Disk + Drop>(
     closed: &Connection<FileStore<D>>,
     files: &Files<D>,
 )
-    ensures now { (h : History) → IsOffice h (file_state closed.now) → HasCleanDisk (file_state closed.now) → IsTrue (file_state closed.now).is_open
+    ensures now { (h : History) → IsOffice h (file_state closed.now)
+        → HasCleanDisk (file_state closed.now) → IsTrue (file_state closed.now).is_open
         → IsCopied closed.now files.now
         → HoldsOffice (image_of D.Disk files.now) (tables_of h) }
-    ensures crash { (h : History) → IsOffice h (file_state closed.now) → HasCleanDisk (file_state closed.now) → IsTrue (file_state closed.now).is_open
+    ensures crash { (h : History) → IsOffice h (file_state closed.now)
+        → HasCleanDisk (file_state closed.now) → IsTrue (file_state closed.now).is_open
         → IsCopied closed.now files.now
-        → (left : Image) → outcomes D.Disk files.now.log files.now.db left → HoldsOffice left (tables_of h) }
+        → (left : Image) → outcomes D.Disk files.now.log files.now.db left
+        → HoldsOffice left (tables_of h) }
 {}

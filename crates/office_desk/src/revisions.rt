@@ -2,7 +2,7 @@
 
 ghost use Rattle.std.specs.Prelude.{◌≡◌};
 ghost use Rattle.sqlite.specs.Held.{state};
-ghost use Rattle.office_store.specs.Calls.{IsRead};
+ghost use Rattle.office_store.specs.Connections.{Reads};
 ghost use Rattle.office_store.specs.Shown.{IsIdle};
 ghost use Rattle.office_policy.specs.LooksBack.{LooksBack};
 ghost use Rattle.office_policy.specs.Revisions.{state_in};
@@ -33,7 +33,8 @@ pub(crate) fn authored<S: Alter>(
     user: &Word,
 ) -> Result<(Option<RevisionRow>, bool), StoreFault>
     requires { IsIdle (state S.Store conn.old) }
-    ensures { IsRead (state S.Store conn.old) (state S.Store conn.new) result (λ t found. LooksBack (authored_at name.now number user.now) t found) }
+    ensures { Reads S.Store conn.old conn.new result
+        (λ t found. LooksBack (authored_at name.now number user.now) t found) }
 {
     let found = revision(alloc, conn, name, number)?;
     let is_author = is_author(conn, name, user)?;

@@ -38,7 +38,8 @@ fn sheet_of(
     compared: Comparison,
     votes: Vec<VoteRow>,
 ) -> Result<Text, AllocError>
-    ensures { IfOk result (λ text. text ≡ sheet_text (sheet_against compared votes.items name.now row.now)) }
+    ensures { IfOk result (λ text.
+        text ≡ sheet_text (sheet_against compared votes.items name.now row.now)) }
 {
     let base = base(alloc, &compared)?;
     let shown = document(alloc, &row.body)?;

@@ -103,7 +103,8 @@ fn handed_in(
     document: &Vec<u8>,
 ) -> Result<Text, Refusal>
     ensures text { IfOk result (λ text. canonical (reading_of document.now.items) ≡ Some text) }
-    ensures refused { IfErr result (λ refusal. IsRefusedAtOnce refusal (λ h. verdict_of h (Some caller.now) (ask.Submit name.now document.now))) }
+    ensures refused { IfErr result (λ refusal. IsRefusedAtOnce refusal
+        (λ h. verdict_of h (Some caller.now) (ask.Submit name.now document.now))) }
 {
     let asked = facts_of_caller(caller, &name.team);
     decide_submit(&asked)?;

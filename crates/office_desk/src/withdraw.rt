@@ -22,8 +22,10 @@ use std::alloc::Global;
 // What the rules ask of a caller and a team.
 fn facts_of_caller(caller: &UserRow, team: &Word) -> WithdrawFacts
     ensures { result ≡ record PASSING {
-      role_missing = not (holds_role (Some caller.now) Role.Author || holds_role (Some caller.now) Role.Security);
-      other_team = not (is_of_team (Some caller.now) team.now || holds_role (Some caller.now) Role.Security);
+      role_missing = not
+          (holds_role (Some caller.now) Role.Author || holds_role (Some caller.now) Role.Security);
+      other_team = not
+          (is_of_team (Some caller.now) team.now || holds_role (Some caller.now) Role.Security);
     } }
 {
     WithdrawFacts {
