@@ -1,5 +1,6 @@
 -- The founding that words describe, or why they describe none.
-use Rattle.std.specs.Prelude.{◌≡◌, ℕ, ◌&&◌, List, [], ◌∷◌, map, Option, Some, None, Result, Ok, Err, if◌then◌else◌}
+use Rattle.std.specs.Prelude.{◌≡◌, ℕ, ◌&&◌, List, [], ◌∷◌, map, Option, Some, None, Result, Ok, Err}
+use Rattle.std.specs.Prelude.{if◌then◌else◌}
 use Rattle.sqlite.specs.Held.{Held, state}
 use Rattle.sqlite.specs.Store.{Ghosts}
 use Rattle.sqlite.specs.State.{HasCleanDisk}
@@ -15,24 +16,34 @@ use Rattle.review_policy.specs.Words.{is_word}
 use Rattle.review_policy.specs.declared.word.WordFault.{WordFault}
 use Rattle.review_policy.specs.declared.word.WordFault.TheVariants as words
 use Rattle.office_commands.specs.declared.founding_fault.FoundingWordsFault.{FoundingWordsFault}
-use Rattle.office_commands.specs.declared.founding_fault.FoundingWordsFault.TheVariants.{BadWord, UnknownCapability, NoMemory}
+use Rattle.office_commands.specs.declared.founding_fault.FoundingWordsFault.TheVariants.{BadWord}
+use Rattle.office_commands.specs.declared.founding_fault.FoundingWordsFault.TheVariants.{UnknownCapability}
+use Rattle.office_commands.specs.declared.founding_fault.FoundingWordsFault.TheVariants.{NoMemory}
 use Rattle.office_commands.specs.declared.founding.Founding.{Founding}
 use Rattle.office_commands.specs.declared.fault.CommandFault.{CommandFault}
 use Rattle.office_commands.specs.declared.fault.CommandFault.TheVariants as fault
 
+-- what words describe: a founding, or why it is none
+abbrev pub Described : Type 0
+Described = Result Founding FoundingWordsFault
+
 -- the founding by these two words, where DIGEST is one and each CAP is a capability's name
-abbrev pub founding_by : List ℕ → List ℕ → Option (List ℕ) → Option ℕ → Result Founding FoundingWordsFault
+abbrev pub founding_by : List ℕ → List ℕ → Option (List ℕ) → Option ℕ → Described
 founding_by name team None listed = Err BadWord
 founding_by name team (Some digest) None = Err UnknownCapability
-founding_by name team (Some digest) (Some listed) = Ok (record { name = name; team = team; digest = digest; listed = listed })
+founding_by name team (Some digest) (Some listed) =
+    Ok (record { name = name; team = team; digest = digest; listed = listed })
 
--- the founding that NAME, TEAM, DIGEST and the CAPs describe, or the first refusal: of one of the three, and then of a CAP
-abbrev pub founding_of : (name team digest : List ℕ) → List (List ℕ) → Result Founding FoundingWordsFault
+-- the founding that NAME, TEAM, DIGEST and the CAPs describe, or the first refusal: of one of the
+-- three, and then of a CAP
+abbrev pub founding_of : (name team digest : List ℕ) → List (List ℕ) → Described
 founding_of name team digest capabilities =
-    if is_word name && is_word team then founding_by name team (digest_from_hex digest) (set_named capabilities) else Err BadWord
+    if is_word name && is_word team
+    then founding_by name team (digest_from_hex digest) (set_named capabilities)
+    else Err BadWord
 
 -- what is answered is what the words describe; memory may have been refused in place of it
-abbrev pub Gives : Result Founding FoundingWordsFault → Result Founding FoundingWordsFault → Type 0
+abbrev pub Gives : Described → Described → Type 0
 Gives (Ok founding) described = described ≡ Ok founding
 Gives (Err BadWord) described = described ≡ Err BadWord
 Gives (Err UnknownCapability) described = described ≡ Err UnknownCapability
@@ -44,8 +55,10 @@ IsFaultOfWord words.NotAWord told = told ≡ BadWord
 IsFaultOfWord words.NoMemory told = told ≡ NoMemory
 
 -- the founding that the words of `init` describe
-abbrev pub founding_of_words : InitWords → Result Founding FoundingWordsFault
-founding_of_words words = founding_of words.name.now words.team.now words.digest.now (map (λ capability. capability.now) words.capabilities.items)
+abbrev pub founding_of_words : InitWords → Described
+founding_of_words words =
+    founding_of words.name.now words.team.now words.digest.now
+    (map (λ capability. capability.now) words.capabilities.items)
 
 -- a history that is just this founding
 abbrev pub history_of : Founding → History
@@ -58,31 +71,33 @@ IsFoundedBy g founding office =
     × (HasCleanDisk (state g office) → Stands (meaning_over g) (history_of founding) office)
 
 -- the same, of the founding that words describe; where they describe none, nothing is founded
-abbrev pub IsFoundedAs : {S : Type 0} → Ghosts S → Result Founding FoundingWordsFault → Held S → Type 0
+abbrev pub IsFoundedAs : {S : Type 0} → Ghosts S → Described → Held S → Type 0
 IsFoundedAs g (Ok founding) office = IsFoundedBy g founding office
 IsFoundedAs g (Err fault) office = ⊥
 
 -- it was founded so in an empty database that was opened, of which this is known
-pub record IsFoundedIn {S : Type 0} (g : Ghosts S) (Opened : Held S → Type 0) (described : Result Founding FoundingWordsFault) (office : Held S) : Type 0 where
+pub record IsFoundedIn {S : Type 0} (g : Ghosts S) (Opened : Held S → Type 0)
+    (described : Described) (office : Held S) : Type 0 where
   pub was : Held S
   pub opened : Opened was
   pub empty : (state g was).now.schema ≡ no_schema
   pub founded : IsFoundedAs g described office
 
 -- and closed, of which this is known
-pub record WasFounded {S : Type 0} (g : Ghosts S) (Opened Closed : Held S → Type 0) (described : Result Founding FoundingWordsFault) : Type 0 where
+pub record WasFounded {S : Type 0} (g : Ghosts S) (Opened Closed : Held S → Type 0)
+    (described : Described) : Type 0 where
   pub office : Held S
   pub founded : IsFoundedIn g Opened described office
   pub closed : Closed office
 
 -- words describe a founding
-abbrev pub IsDescribed : Result Founding FoundingWordsFault → Type 0
+abbrev pub IsDescribed : Described → Type 0
 IsDescribed (Ok founding) = Unit {0}
 IsDescribed (Err fault) = ⊥
 
--- Why nothing is founded: by the words where they describe no founding, and by the store only where they describe one.
--- Memory may have been refused in place of either.
-abbrev pub IsUnfoundedAs : Result Founding FoundingWordsFault → CommandFault → Type 0
+-- Why nothing is founded: by the words where they describe no founding, and by the store only where
+-- they describe one. Memory may have been refused in place of either.
+abbrev pub IsUnfoundedAs : Described → CommandFault → Type 0
 IsUnfoundedAs described (fault.FoundingWords why) = Gives (Err why) described
 IsUnfoundedAs described (fault.Founding why) = IsDescribed described
 IsUnfoundedAs described (fault.Store why) = IsDescribed described

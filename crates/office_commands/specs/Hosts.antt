@@ -28,37 +28,46 @@ use Rattle.office_commands.specs.Serving.{HasServedUpTo}
 
 -- two files hold the office of this history, as they read now and after a crash
 abbrev pub HoldHistory : {D : Type 0} → disk.Ghosts D → Files D → History → Type 0
-HoldHistory g files h = AreClean g files.log files.db
-    → HoldsOffice (image_of g files) (tables_of h) × ((left : Image) → outcomes g files.log files.db left → HoldsOffice left (tables_of h))
+HoldHistory g files h = AreClean g files.log files.db → HoldsOffice (image_of g files) (tables_of h)
+    × ((left : Image) → outcomes g files.log files.db left → HoldsOffice left (tables_of h))
 
 -- a database was opened in files that held this
 abbrev pub IsFoundIn : {D : Type 0} {g : disk.Ghosts D} → Image → Held (FileStore D g) → Type 0
-IsFoundIn image conn = HasCleanDisk (file_state conn) → IsOpened conn × FindsIn image (file_state conn)
+IsFoundIn image conn =
+    HasCleanDisk (file_state conn) → IsOpened conn × FindsIn image (file_state conn)
 
 -- it was closed, and its files have all of it
 abbrev pub IsClosedInto : {D : Type 0} {g : disk.Ghosts D} → Held (FileStore D g) → Type 0
-IsClosedInto {D} {g} conn = (files : Files D) × (AreClean g files.log files.db → IsCopied conn files)
+IsClosedInto {D} {g} conn =
+    (files : Files D) × (AreClean g files.log files.db → IsCopied conn files)
 
 module _ {D : Type 0} (g : disk.Ghosts D) where
   -- what was founded and closed is left in its files
   abbrev pub FoundingIsLeft : Type 0
   FoundingIsLeft = (image : Image) (founding : Founding)
-      (it : WasFounded (over_files {g = g}) (IsFoundIn image) IsClosedInto (Ok founding)) → HoldHistory g it.closed.0 (history_of founding)
+      (it : WasFounded (over_files {g = g}) (IsFoundIn image) IsClosedInto (Ok founding))
+      → HoldHistory g it.closed.0 (history_of founding)
 
-  -- A desk over files that hold the office of a history leaves files that hold the office of that history and of what its
-  -- lines were answered.
+  -- A desk over files that hold the office of a history leaves files that hold the office of that
+  -- history and of what its lines were answered.
   abbrev pub DeskIsLeft : Type 0
   DeskIsLeft = (h : History) (image : Image) → IsLawfulHistory h → HoldsOffice image (tables_of h)
-      → (it : WasServed (over_files {g = g}) (IsFoundIn image) (HasHandled (meaning_over over_files)) IsClosedInto)
+      → (it : WasServed (over_files {g = g}) (IsFoundIn image)
+      (HasHandled (meaning_over over_files)) IsClosedInto)
       → HoldHistory g it.closed.0 (history_after_lines h it.done.outcomes)
 
   -- and so do exchanges
   abbrev pub ExchangesAreLeft : Type 0
-  ExchangesAreLeft = (h : History) (image : Image) (most : _) → IsLawfulHistory h → HoldsOffice image (tables_of h)
-      → (it : WasServed (over_files {g = g}) (IsFoundIn image) (λ old new. HasServedUpTo (meaning_over over_files) old new most) IsClosedInto)
-      → HoldHistory g it.closed.0 (history_after_all h (requests_in it.done.1.came) (answers_in it.done.1.came))
+  ExchangesAreLeft = (h : History) (image : Image) (most : _) → IsLawfulHistory h
+      → HoldsOffice image (tables_of h)
+      → (it : WasServed (over_files {g = g}) (IsFoundIn image)
+      (λ old new. HasServedUpTo (meaning_over over_files) old new most) IsClosedInto)
+      → HoldHistory g it.closed.0
+      (history_after_all h (requests_in it.done.1.came) (answers_in it.done.1.came))
 
-  -- where files hold, under schema 1, the tables of a history, `migrate` leaves files that hold the office of that history
+  -- where files hold, under schema 1, the tables of a history, `migrate` leaves files that hold the
+  -- office of that history
   abbrev pub MigrationIsLeft : Type 0
   MigrationIsLeft = (h : History) (image : Image) → HoldsOldOffice image (tables_of h)
-      → (it : WasMigrated (over_files {g = g}) (IsFoundIn image) IsClosedInto) → HoldHistory g it.closed.0 h
+      → (it : WasMigrated (over_files {g = g}) (IsFoundIn image) IsClosedInto)
+      → HoldHistory g it.closed.0 h

@@ -7,8 +7,8 @@ use Rattle.office_store.specs.Migration.{IsMigration, WasOld}
 use Rattle.office_store.specs.declared.fault.MigrationFault.{MigrationFault}
 use Rattle.office_commands.specs.Openings.{IsUnlimited}
 
--- A database was opened, of which this is known; it had an office of schema 1, which was migrated; and it was closed, of which this
--- is known.
+-- A database was opened, of which this is known; it had an office of schema 1, which was migrated;
+-- and it was closed, of which this is known.
 pub record WasMigrated {S : Type 0} (g : Ghosts S) (Opened Closed : Held S → Type 0) : Type 0 where
   pub old : Held S
   pub new : Held S

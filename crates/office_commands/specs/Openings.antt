@@ -25,7 +25,8 @@ IsOfOpening _ = ⊥
 
 -- a database was opened, of which this is known, and then its limit on steps was taken away
 abbrev pub IsUnlimited : {S : Type 0} → (Held S → Type 0) → Held S → Type 0
-IsUnlimited {S} Opened conn = (was : Held S) × Opened was × (conn ≡ record was { step_limit = None })
+IsUnlimited {S} Opened conn =
+    (was : Held S) × Opened was × (conn ≡ record was { step_limit = None })
 
 module _ {S : Type 0} (g : Ghosts S) (Opened : Held S → Type 0) where
   -- the office over a database that was opened, of which this is known
@@ -35,14 +36,16 @@ module _ {S : Type 0} (g : Ghosts S) (Opened : Held S → Type 0) where
     pub over : IsOver g was office
 
   -- such an office was opened, this was done with it, and it was closed, of which this is known
-  pub record WasServed (Done : (old new : Held S) → Type 0) (Closed : Held S → Type 0) : Type 0 where
+  pub record WasServed
+      (Done : (old new : Held S) → Type 0) (Closed : Held S → Type 0) : Type 0 where
     pub old : Held S
     pub new : Held S
     pub office : IsOpenedOffice old
     pub done : Done old new
     pub closed : Closed new
 
-  -- the same of a command that serves an office; where it failed, there was no office, or less was done
+  -- the same of a command that serves an office; where it failed, there was no office, or less was
+  -- done
   abbrev pub IsServed : (Done Begun : (old new : Held S) → Type 0) (Closed : Held S → Type 0)
       → Result (Unit {0}) CommandFault → Type 0
   IsServed Done Begun Closed (Ok done) = WasServed Done Closed

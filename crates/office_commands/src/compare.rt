@@ -48,8 +48,9 @@ pub(crate) fn compare_files<F: Files>(
     base: &str,
     new: &str,
 ) -> Result<String, CommandFault>
-    ensures { IfOk result (λ text. (old shown : Source F.File) × IfSome (source_bytes F.File.remaining old)
-        (λ b. IfSome (source_bytes F.File.remaining shown) (λ s. IsCompared b s text))) }
+    ensures { IfOk result (λ text. (old shown : Source F.File)
+        × IfSome (source_bytes F.File.remaining old) (λ b.
+        IfSome (source_bytes F.File.remaining shown) (λ s. IsCompared b s text))) }
 {
     let mut base = Counted::new(reader_at(files, base));
     let mut new = Counted::new(reader_at(files, new));

@@ -47,7 +47,8 @@ pub fn founding_of(
     digest: &str,
     capabilities: &[&str],
 ) -> Result<Founding, FoundingWordsFault>
-    ensures { Gives result (founding_of name.now team.now digest.now (map (λ capability. capability.now) capabilities.now)) }
+    ensures { Gives result (founding_of name.now team.now digest.now
+        (map (λ capability. capability.now) capabilities.now)) }
 {
     let name = Word::new(alloc, name)?;
     let team = Word::new(alloc, team)?;

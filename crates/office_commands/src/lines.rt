@@ -23,10 +23,12 @@ pub(crate) fn answer_lines<H: Handler, R: Read, W: Write>(
     requires read_faults { input.old.faults ≤ 2 ^ 62 }
     requires write_faults { output.old.faults ≤ 2 ^ 62 }
     ensures handled { HasHandled H.meaning office.old office.new }
-    ensures answered { OnOk result (IfSome (R.remaining input.old.inner) (λ bytes. AreAnswered H.meaning office.old office.new
+    ensures answered { OnOk result (IfSome (R.remaining input.old.inner) (λ bytes.
+        AreAnswered H.meaning office.old office.new
         (W.contents output.old.inner) (W.contents output.new.inner) (lines_of bytes))) }
     ensures stopped { IfErr result (IsOfDesk (StandsAfter H.meaning office.old office.new
-        (R.remaining input.old.inner) (R.remaining input.new.inner) (W.contents output.old.inner) (W.contents output.new.inner))) }
+        (R.remaining input.old.inner) (R.remaining input.new.inner)
+        (W.contents output.old.inner) (W.contents output.new.inner))) }
 {
     match desk(office, alloc, input, output) {
         Ok(()) => Ok(()),
