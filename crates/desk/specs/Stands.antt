@@ -4,13 +4,13 @@ use Rattle.std.specs.Io.KnownBytes.{Keeps, Appends, Consumes}
 use Rattle.office_policy.specs.History.{History}
 use Rattle.office_policy.specs.Runs.{history_after}
 use Rattle.office_policy.specs.Meaning.{Meaning}
-use Rattle.office_policy.specs.Handled.{UnlessFaulty, Stands, Survives}
-use Rattle.office_policy.specs.Ran.{UnlessLastFaulty}
+use Rattle.office_policy.specs.Handled.{UnlessFaulty, HasCause, Stands, Survives}
+use Rattle.office_policy.specs.Ran.{HaveCauses, UnlessLastFaulty}
 use Rattle.streams.specs.Lines.{lines_of}
 use Rattle.desk.specs.declared.outcome.Outcome.{Outcome}
 use Rattle.desk.specs.declared.outcome.Outcome.TheVariants as came
 use Rattle.desk.specs.Left.{LeavesWithin, LeftAfterLine, LeftAfterLines}
-use Rattle.desk.specs.Outcomes.{IsOutcome, history_after_line, AreOutcomes, history_after_lines, answers_of, told, transcript}
+use Rattle.desk.specs.Outcomes.{IsOutcome, history_after_line, AreOutcomes, history_after_lines, requests_of, answers_of, told, transcript}
 use Rattle.desk.specs.Parts.{IsCut}
 use Rattle.desk.specs.declared.fault.DeskFault.{DeskFault}
 use Rattle.desk.specs.declared.fault.DeskFault.TheVariants.{Read, Write, TooManyReads, NoMemory}
@@ -30,10 +30,17 @@ module _ {X : Type 0} (m : Meaning X) where
   StandsAfterLine h old new (came.Answered request answer) =
       UnlessFaulty answer (Stands m (history_after h request answer) new)
 
+  -- a fault other than `memory` in the answer has a cause
+  abbrev pub LineHasCause : (old new : X) → History → Outcome → Type 0
+  LineHasCause old new h (came.Bad fault) = Unit {0}
+  LineHasCause old new h came.NoMemory = Unit {0}
+  LineHasCause old new h (came.Answered request answer) = HasCause m old new h request answer
+
   -- the line was handled, and this is what came of it
   pub record IsHandled (old new : X) (line : List ℕ) (outcome : Outcome) : Type 0 where
     pub survives : Survives m old new
     pub policy : (h : History) → m.is_of h old → m.is_clean new → IsOutcome h line outcome
+    pub cause : (h : History) → m.is_of h old → m.is_clean new → LineHasCause old new h outcome
     pub office : (h : History) → m.is_of h old → m.is_of (history_after_line h outcome) new
     pub stands : (h : History) → m.is_of h old → m.is_clean new → StandsAfterLine h old new outcome
     -- what a crash may leave
@@ -44,6 +51,9 @@ module _ {X : Type 0} (m : Meaning X) where
   pub record AreHandled (old new : X) (lines : List Bytes) (outcomes : List Outcome) : Type 0 where
     pub survives : Survives m old new
     pub policy : (h : History) → m.is_of h old → m.is_clean new → AreOutcomes h lines outcomes
+    -- and each fault other than `memory` in the answers has a cause
+    pub causes : (h : History) → m.is_of h old → m.is_clean new
+        → HaveCauses m old new h (requests_of outcomes) (answers_of outcomes)
     pub office : (h : History) → m.is_of h old → m.is_of (history_after_lines h outcomes) new
     -- it stands where the last request that was asked was answered by no fault
     pub stands : (h : History) → m.is_of h old → m.is_clean new

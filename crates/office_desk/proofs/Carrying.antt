@@ -1,15 +1,22 @@
 -- From reads and a write to what a request does.
-use Rattle.std.proofs.Common.{inl, inr, ◌≡◌, ◌≢◌, ◌∙◌, Bool, true, false, Option, Some, None, Result, Ok, Err, IsTrue, IsErrAnd, OnErr, List, ℕ, refl, sym, ap, subst, ◌∷◌}
+use Rattle.std.proofs.Common.{inl, inr, arith, ◌≤◌, ◌⊎◌, ◌≡◌, ◌≢◌, ◌∙◌, Bool, true, false, Option, Some, None, Result, Ok, Err, IsTrue, IsErrAnd, OnErr, List, ℕ, refl, sym, ap, subst, ◌∷◌}
+use Rattle.sqlite.specs.Held.{Held, state}
+use Rattle.sqlite.specs.Store.{Ghosts}
 use Rattle.sqlite.specs.State.{State, HasCleanDisk}
 use Rattle.sqlite.proofs.StateLemmas.{survives_then}
 use Rattle.review_policy.specs.declared.answer.Reply.{Reply}
 use Rattle.review_policy.specs.declared.denial.Denial.{Denial}
 use Rattle.office_tables.specs.declared.fault.StoreFault.{StoreFault}
-use Rattle.office_tables.specs.declared.fault.StoreFault.TheVariants.{NotAnOffice}
+use Rattle.office_tables.specs.declared.fault.StoreFault.TheVariants.{NoMemory, NotAnOffice}
 use Rattle.office_tables.specs.Tables.{Tables}
+use Rattle.office_rows.specs.Causes.{HasFailed}
+use Rattle.office_rows.specs.Statements.{HasMet}
+use Rattle.office_rows.proofs.Sure.{met_between}
 use Rattle.office_rows.specs.Queries.{IsAsItWas}
-use Rattle.office_store.specs.Shown.{IsIdle, ShowsIfOpen, MayLeave}
+use Rattle.office_store.specs.Refusing.{Write, statements_of, Makes as MakesBy, RefusesToMake}
+use Rattle.office_store.specs.Shown.{IsIdle, Shows, ShowsIfOpen, MayLeave}
 use Rattle.office_store.specs.Calls.{IsRead, IsWrite}
+use Rattle.office_store.proofs.Calls.{never_unformed}
 use Rattle.office_store.proofs.Committed.{survives_same}
 use Rattle.office_policy.specs.History.{Event, History}
 use Rattle.office_policy.specs.Verdict.{Verdict, accepted, denied}
@@ -18,21 +25,27 @@ use Rattle.office_policy.specs.TablesOf.{tables_of}
 use Rattle.office_policy.specs.Runs.{answer_of}
 use Rattle.office_desk.specs.declared.refusal.Refusal.{Refusal}
 use Rattle.office_desk.specs.declared.refusal.Refusal.TheVariants as refusals
-use Rattle.office_desk.specs.Carries.{Tells, after, AreWithEvent, CarriesFor, CarriesOut, IsKept, ReadsOut}
+use Rattle.office_desk.specs.Carries.{Tells, Refusing, RefusesEvent, HasCause, after, AreWithEvent, CarriesFor, CarriesOut, IsKept, ReadsOut}
 
-never_both : {P : Type 0} (b : Bool) → IsTrue b → b ≡ false → P
+pub never_both : {P : Type 0} (b : Bool) → IsTrue b → b ≡ false → P
 never_both true is_open shut = absurd cc
 never_both false is_open shut = absurd cc
 
+never_memory : {P : Type 0} (f : StoreFault) → f ≡ NoMemory → f ≡ NotAnOffice → P
+never_memory f memory same = absurd (let k : NoMemory ≡ NotAnOffice = sym memory ∙ same in cc)
+
+of_memory : (old new : State) (f : StoreFault) → f ≡ NoMemory → HasFailed old new f
+of_memory old new f memory = subst (HasFailed old new) (sym memory) tt
+
 -- a `?` that leaves with this refusal
-pub left : {Of : History → Type 0} (judge : History → Verdict) (old new : State) (result : Result Reply Refusal) (refusal : Refusal)
-    → IsErrAnd result (λ r. r ≡ refusal) → CarriesFor Of old new (Err refusal) judge → CarriesFor Of old new result judge
-left {Of = Of} judge old new (Ok reply) refusal is carried = absurd is
-left {Of = Of} judge old new (Err r) refusal is carried = subst (λ e. CarriesFor Of old new (Err e) judge) (sym is) carried
+pub left : {Refuses : Refusing} {Of : History → Type 0} (judge : History → Verdict) (old new : State) (result : Result Reply Refusal) (refusal : Refusal)
+    → IsErrAnd result (λ r. r ≡ refusal) → CarriesFor Refuses Of old new (Err refusal) judge → CarriesFor Refuses Of old new result judge
+left {Refuses = Refuses} {Of = Of} judge old new (Ok reply) refusal is carried = absurd is
+left {Refuses = Refuses} {Of = Of} judge old new (Err r) refusal is carried = subst (λ e. CarriesFor Refuses Of old new (Err e) judge) (sym is) carried
 
 -- the same of a request that only reads
-pub left_reading : (judge : History → Verdict) (old new : State) (result : Result Reply Refusal) (refusal : Refusal)
-    → IsErrAnd result (λ r. r ≡ refusal) → CarriesOut old new (Err refusal) judge → ReadsOut old new result judge
+pub left_reading : {Refuses : Refusing} (judge : History → Verdict) (old new : State) (result : Result Reply Refusal) (refusal : Refusal)
+    → IsErrAnd result (λ r. r ≡ refusal) → CarriesOut Refuses old new (Err refusal) judge → ReadsOut Refuses old new result judge
 left_reading judge old new result refusal is carried = record { carried = left judge old new result refusal is carried; same = carried.same }
 
 -- and the same of a read
@@ -56,7 +69,7 @@ read_as old new F H a b again read = record {
     settled = read.leaves.settled;
   };
   found = λ t shows clean. again t (read.found t shows clean);
-  formed = λ t shows clean same. cc;
+  cause = λ t shows clean. tt;
   shown = read.shown;
   same = read.same;
   crash = read.crash;
@@ -74,25 +87,25 @@ read_fails_as old new F H f read = record {
     settled = read.leaves.settled;
   };
   found = λ t shows clean. tt;
-  formed = λ t shows clean same. read.formed t shows clean (let k : f ≡ NotAnOffice = cc in ap Err k);
+  cause = read.cause;
   shown = read.shown;
   same = read.same;
   crash = read.crash;
 }
 
 -- a fault of memory after a read
-pub read_in_vain : {A B : Type 0} (old new : State) (F : Tables → A → Type 0) (H : Tables → B → Type 0) (a : A) (f : StoreFault) → f ≢ NotAnOffice → IsRead old new (Ok a) F → IsRead {A = B} old new (Err f) H
-read_in_vain old new F H a f passes read = record {
+pub read_in_vain : {A B : Type 0} (old new : State) (F : Tables → A → Type 0) (H : Tables → B → Type 0) (a : A) (f : StoreFault) → f ≡ NoMemory → IsRead old new (Ok a) F → IsRead {A = B} old new (Err f) H
+read_in_vain old new F H a f memory read = record {
   leaves = record {
     idle = read.leaves.idle;
     clean = read.leaves.clean;
     survives = read.leaves.survives;
     answered = λ clean. tt;
-    shut = λ clean shut. ((read.leaves.shut clean shut).0, λ same. passes cc);
+    shut = λ clean shut. ((read.leaves.shut clean shut).0, λ same. never_memory f memory cc);
     settled = read.leaves.settled;
   };
   found = λ t shows clean. tt;
-  formed = λ t shows clean same. passes cc;
+  cause = λ t shows clean. of_memory old new f memory;
   shown = read.shown;
   same = read.same;
   crash = read.crash;
@@ -113,7 +126,7 @@ module _ {A B : Type 0} (old mid new : State) (F : Tables → A → Type 0) (G :
     found = λ t shows clean.
         let before = second.leaves.clean clean in
         both t (first.found t shows before) (second.found t (first.shown t shows before) clean);
-    formed = λ t shows clean same. cc;
+    cause = λ t shows clean. tt;
     shown = λ t shows clean. second.shown t (first.shown t shows (second.leaves.clean clean)) clean;
     same = λ settled clean is_open.
         let before = second.leaves.clean clean in
@@ -136,7 +149,10 @@ module _ {A B : Type 0} (old mid new : State) (F : Tables → A → Type 0) (G :
       settled = second.leaves.settled;
     };
     found = λ t shows clean. tt;
-    formed = λ t shows clean same. second.formed t (first.shown t shows (second.leaves.clean clean)) clean (let k : f ≡ NotAnOffice = cc in ap Err k);
+    cause = λ t shows clean.
+        let before = second.leaves.clean clean in
+        met_between old mid new new f first.leaves.survives.counts (omega arith) (λ shut. never_both mid.is_open (first.leaves.answered before).1 shut)
+        (second.cause t (first.shown t shows before) clean);
     shown = λ t shows clean. second.shown t (first.shown t shows (second.leaves.clean clean)) clean;
     same = λ settled clean is_open.
         let before = second.leaves.clean clean in
@@ -149,10 +165,10 @@ module _ {A B : Type 0} (old mid new : State) (F : Tables → A → Type 0) (G :
 
 -- ---- a request that reads
 
-module _ {Of : History → Type 0} (judge : History → Verdict) where
+module _ {Refuses : Refusing} {Of : History → Type 0} (judge : History → Verdict) where
   -- it is refused before anything is read
   pub refused_at_once : (s : State) (d : Denial) (fault : Option (List ℕ)) → IsIdle s → ((h : History) → Of h → judge h ≡ denied d fault)
-      → CarriesFor Of s s (Err (refusals.Denied d fault)) judge
+      → CarriesFor Refuses Of s s (Err (refusals.Denied d fault)) judge
   refused_at_once s d fault idle is = record {
     idle = idle;
     clean = λ clean. clean;
@@ -161,21 +177,23 @@ module _ {Of : History → Type 0} (judge : History → Verdict) where
     stays = λ clean is_open. is_open;
     shut = λ clean shut. shut;
     told = λ h lawful shows clean. ap answer_of (is h lawful);
+    cause = λ h lawful shows clean. tt;
     shown = λ h lawful shows clean. shows;
     same = λ settled clean is_open. (refl, refl);
     crash = λ h lawful shows clean trees may. inl may;
   }
 
-  -- nothing is done for a fault that isn't of the tables
-  pub failed_at_once : (s : State) (f : StoreFault) → IsIdle s → f ≢ NotAnOffice → CarriesFor Of s s (Err (refusals.Fault f)) judge
-  failed_at_once s f idle passes = record {
+  -- nothing is done for no memory
+  pub failed_at_once : (s : State) (f : StoreFault) → IsIdle s → f ≡ NoMemory → CarriesFor Refuses Of s s (Err (refusals.Fault f)) judge
+  failed_at_once s f idle memory = record {
     idle = idle;
     clean = λ clean. clean;
     survives = survives_same s _;
     settled = λ settled. settled;
     stays = λ clean is_open. tt;
     shut = λ clean shut. shut;
-    told = λ h lawful shows clean. passes;
+    told = λ h lawful shows clean. never_memory f memory;
+    cause = λ h lawful shows clean. inl (of_memory s s f memory);
     shown = λ h lawful shows clean. shows;
     same = λ settled clean is_open. (refl, refl);
     crash = λ h lawful shows clean trees may. inl may;
@@ -183,7 +201,7 @@ module _ {Of : History → Type 0} (judge : History → Verdict) where
 
   module _ {A : Type 0} (old new : State) (F : Tables → A → Type 0) where
     -- a read failed
-    pub read_fails : (f : StoreFault) → IsRead {A = A} old new (Err f) F → CarriesFor Of old new (Err (refusals.Fault f)) judge
+    pub read_fails : (f : StoreFault) → IsRead {A = A} old new (Err f) F → CarriesFor Refuses Of old new (Err (refusals.Fault f)) judge
     read_fails f read = record {
       idle = read.leaves.idle;
       clean = read.leaves.clean;
@@ -191,7 +209,8 @@ module _ {Of : History → Type 0} (judge : History → Verdict) where
       settled = λ settled. read.leaves.settled;
       stays = λ clean is_open. tt;
       shut = λ clean shut. (read.leaves.shut clean shut).0;
-      told = λ h lawful shows clean is. read.formed (tables_of h) shows clean (ap Err is);
+      told = λ h lawful shows clean is. never_unformed {A = A} old new (Err f) (read.cause (tables_of h) shows clean) (ap Err is);
+      cause = λ h lawful shows clean. inl (read.cause (tables_of h) shows clean);
       shown = λ h lawful shows clean. read.shown (tables_of h) shows clean;
       same = read.same;
       crash = λ h lawful shows clean trees may. inl (read.crash clean trees may);
@@ -199,15 +218,16 @@ module _ {Of : History → Type 0} (judge : History → Verdict) where
 
     module _ (a : A) (read : IsRead old new (Ok a) F) where
       -- memory was wanted after it
-      pub fails_after : (f : StoreFault) → f ≢ NotAnOffice → CarriesFor Of old new (Err (refusals.Fault f)) judge
-      fails_after f passes = record {
+      pub fails_after : (f : StoreFault) → f ≡ NoMemory → CarriesFor Refuses Of old new (Err (refusals.Fault f)) judge
+      fails_after f memory = record {
         idle = read.leaves.idle;
         clean = read.leaves.clean;
         survives = read.leaves.survives;
         settled = λ settled. read.leaves.settled;
         stays = λ clean is_open. tt;
         shut = λ clean shut. (read.leaves.shut clean shut).0;
-        told = λ h lawful shows clean. passes;
+        told = λ h lawful shows clean. never_memory f memory;
+        cause = λ h lawful shows clean. inl (of_memory old new f memory);
         shown = λ h lawful shows clean. read.shown (tables_of h) shows clean;
         same = read.same;
         crash = λ h lawful shows clean trees may. inl (read.crash clean trees may);
@@ -215,7 +235,7 @@ module _ {Of : History → Type 0} (judge : History → Verdict) where
 
       -- what it found is refused
       pub refused_after : (d : Denial) (fault : Option (List ℕ)) → ((h : History) → Of h → F (tables_of h) a → judge h ≡ denied d fault)
-          → CarriesFor Of old new (Err (refusals.Denied d fault)) judge
+          → CarriesFor Refuses Of old new (Err (refusals.Denied d fault)) judge
       refused_after d fault is = record {
         idle = read.leaves.idle;
         clean = read.leaves.clean;
@@ -224,6 +244,7 @@ module _ {Of : History → Type 0} (judge : History → Verdict) where
         stays = λ clean is_open. (read.leaves.answered clean).1;
         shut = λ clean shut. (read.leaves.shut clean shut).0;
         told = λ h lawful shows clean. ap answer_of (is h lawful (read.found (tables_of h) shows clean));
+        cause = λ h lawful shows clean. tt;
         shown = λ h lawful shows clean. read.shown (tables_of h) shows clean;
         same = read.same;
         crash = λ h lawful shows clean trees may. inl (read.crash clean trees may);
@@ -231,7 +252,7 @@ module _ {Of : History → Type 0} (judge : History → Verdict) where
 
       -- what it found is told
       pub told_after : (reply : Reply) → ((h : History) → Of h → F (tables_of h) a → judge h ≡ accepted reply None)
-          → CarriesFor Of old new (Ok reply) judge
+          → CarriesFor Refuses Of old new (Ok reply) judge
       told_after reply is = record {
         idle = read.leaves.idle;
         clean = read.leaves.clean;
@@ -240,6 +261,7 @@ module _ {Of : History → Type 0} (judge : History → Verdict) where
         stays = λ clean is_open. (read.leaves.answered clean).1;
         shut = λ clean shut. (read.leaves.shut clean shut).0;
         told = λ h lawful shows clean. ap answer_of (is h lawful (read.found (tables_of h) shows clean));
+        cause = λ h lawful shows clean. tt;
         shown = λ h lawful shows clean.
             subst (λ v. ShowsIfOpen new (tables_of (after h v (Ok reply)))) (sym (is h lawful (read.found (tables_of h) shows clean))) (read.shown (tables_of h) shows clean);
         same = λ settled clean. tt;
@@ -247,6 +269,17 @@ module _ {Of : History → Type 0} (judge : History → Verdict) where
       }
 
 -- ---- a request that writes
+
+-- a write met this fault, or the store refuses all that makes the tables which it was to make
+abbrev pub IsMet : Refusing → (mid new : State) → (Tables → Tables → Type 0) → StoreFault → Type 0
+IsMet Refuses mid new Makes f = HasFailed mid new f ⊎ ((t u : Tables) → IsIdle mid → Shows mid t → Makes t u → Refuses t u f)
+
+-- so it is of a write of the store
+pub met_by : {S : Type 0} (g : Ghosts S) (w : Write) (mid new : Held S) (f : StoreFault) → HasMet g (statements_of w) mid new f → IsMet (RefusesToMake g) (state g mid) (state g new) (MakesBy w) f
+met_by g w mid new f it = elim it.met [
+  | inl failed ↦ inl failed
+  | inr refused ↦ inr (λ t u idle shows makes. record { write = w; makes = makes; over = mid; idle = idle; shows = shows; refused = refused })
+]
 
 -- the verdict adds an event, and the write makes the tables with it
 pub record Adds (h : History) (v : Verdict) (reply : Reply) (Makes : Tables → Tables → Type 0) : Type 0 where
@@ -270,7 +303,7 @@ module _ {Of : History → Type 0} (judge : History → Verdict) {A B : Type 0} 
         ]
 
   -- it is carried out
-  pub written : (b : B) → IsWrite mid new (Ok b) Makes → CarriesFor Of old new (Ok reply) judge
+  pub written : {Refuses : Refusing} (b : B) → IsWrite mid new (Ok b) Makes → CarriesFor Refuses Of old new (Ok reply) judge
   written b write = record {
     idle = write.leaves.idle;
     clean = λ clean. read.leaves.clean (write.leaves.clean clean);
@@ -279,6 +312,7 @@ module _ {Of : History → Type 0} (judge : History → Verdict) {A B : Type 0} 
     stays = λ clean is_open. (write.leaves.answered clean).1;
     shut = λ clean shut. never_both old.is_open (read.leaves.answered (write.leaves.clean clean)).0 shut;
     told = λ h lawful shows clean. ap answer_of (adds_at (Ok b) write h lawful shows clean).is;
+    cause = λ h lawful shows clean. tt;
     shown = λ h lawful shows clean.
         let it = adds_at (Ok b) write h lawful shows clean in
         let done = write.done (tables_of h) (tables_of (it.event ∷ h)) (read.shown (tables_of h) shows (write.leaves.clean clean)) it.makes clean in
@@ -288,8 +322,8 @@ module _ {Of : History → Type 0} (judge : History → Verdict) {A B : Type 0} 
   }
 
   -- it failed
-  pub write_fails : (f : StoreFault) → IsWrite {A = B} mid new (Err f) Makes → CarriesFor Of old new (Err (refusals.Fault f)) judge
-  write_fails f write = record {
+  pub write_fails : {Refuses : Refusing} (f : StoreFault) → IsWrite {A = B} mid new (Err f) Makes → (HasCleanDisk new → IsMet Refuses mid new Makes f) → CarriesFor Refuses Of old new (Err (refusals.Fault f)) judge
+  write_fails {Refuses = Refuses} f write met = record {
     idle = write.leaves.idle;
     clean = λ clean. read.leaves.clean (write.leaves.clean clean);
     survives = survives_then old mid new _ _ (λ _. Unit {0}) (λ _ trees left. tt) (λ _ trees left. tt) read.leaves.survives write.leaves.survives;
@@ -299,6 +333,15 @@ module _ {Of : History → Type 0} (judge : History → Verdict) {A B : Type 0} 
     told = λ h lawful shows clean is.
         let it = adds_at (Err f) write h lawful shows clean in
         write.formed (tables_of h) (tables_of (it.event ∷ h)) (read.shown (tables_of h) shows (write.leaves.clean clean)) it.makes clean (ap Err is);
+    cause = λ h lawful shows clean.
+        let before = write.leaves.clean clean in
+        let is_open = (read.leaves.answered before).1 in
+        let it = adds_at (Err f) write h lawful shows clean in
+        elim (met clean) [
+          | inl failed ↦ inl (met_between old mid new new f read.leaves.survives.counts (omega arith) (never_both mid.is_open is_open) failed)
+          | inr refused ↦ inr (subst (λ v. RefusesEvent Refuses h v f) (sym it.is)
+              (refused (tables_of h) (tables_of (it.event ∷ h)) read.leaves.idle (read.shown (tables_of h) shows before is_open) it.makes))
+        ];
     shown = λ h lawful shows clean. write.undone (tables_of h) (read.shown (tables_of h) shows (write.leaves.clean clean)) clean;
     same = λ settled clean is_open.
         let before = write.leaves.clean clean in
@@ -314,16 +357,23 @@ module _ {Of : History → Type 0} (judge : History → Verdict) {A B : Type 0} 
 tells_as : (v w : Verdict) (result : Result Reply Refusal) → v ≡ w → Tells v result → Tells w result
 tells_as v w result is tells = subst (λ u. Tells u result) is tells
 
+cause_from : (Refuses : Refusing) (h : History) (v w : Verdict) (result : Result Reply Refusal) (old mid new : State) → v ≡ w → old.faults ≤ mid.faults → IsTrue mid.is_open
+    → HasCause Refuses mid new h v result → HasCause Refuses old new h w result
+cause_from Refuses h v w (Ok reply) old mid new is before is_open cause = tt
+cause_from Refuses h v w (Err (refusals.Denied denial fault)) old mid new is before is_open cause = tt
+cause_from Refuses h v w (Err (refusals.Fault f)) old mid new is before is_open (inl failed) = inl (met_between old mid new new f before (omega arith) (never_both mid.is_open is_open) failed)
+cause_from Refuses h v w (Err (refusals.Fault f)) old mid new is before is_open (inr refused) = inr (subst (λ x. RefusesEvent Refuses h x f) is refused)
+
 same_from : (result : Result Reply Refusal) (old mid new : State) → OnErr result (IsAsItWas mid new) → (mid.now ≡ old.now) × (mid.committed ≡ old.committed) → OnErr result (IsAsItWas old new)
 same_from (Ok reply) old mid new same kept = tt
 same_from (Err refusal) old mid new same kept = λ is_open. ((same is_open).0 ∙ kept.0, (same is_open).1 ∙ kept.1)
 
 -- what was found may tell more of the history
-pub then_carries_for : (Of Then : History → Type 0) (judge first : History → Verdict) {A : Type 0} (old mid new : State) (F : Tables → A → Type 0)
+pub then_carries_for : {Refuses : Refusing} (Of Then : History → Type 0) (judge first : History → Verdict) {A : Type 0} (old mid new : State) (F : Tables → A → Type 0)
     (a : A) (read : IsRead old mid (Ok a) F) (result : Result Reply Refusal)
     → ((h : History) → Of h → F (tables_of h) a → Then h) → ((h : History) → Of h → F (tables_of h) a → first h ≡ judge h)
-    → CarriesFor Then mid new result first → CarriesFor Of old new result judge
-then_carries_for Of Then judge first old mid new F a read result more is rest =
+    → CarriesFor Refuses Then mid new result first → CarriesFor Refuses Of old new result judge
+then_carries_for {Refuses = Refuses} Of Then judge first old mid new F a read result more is rest =
     let is_at : (h : History) → Of h → ShowsIfOpen old (tables_of h) → HasCleanDisk new → first h ≡ judge h =
     λ h lawful shows clean. is h lawful (read.found (tables_of h) shows (rest.clean clean)) in
     let more_at : (h : History) → Of h → ShowsIfOpen old (tables_of h) → HasCleanDisk new → Then h =
@@ -337,6 +387,9 @@ then_carries_for Of Then judge first old mid new F a read result more is rest =
       stays = λ clean is_open. rest.stays clean (read.leaves.answered (rest.clean clean)).1;
       shut = λ clean shut. never_both old.is_open (read.leaves.answered (rest.clean clean)).0 shut;
       told = λ h lawful shows clean. tells_as (first h) (judge h) result (is_at h lawful shows clean) (rest.told h (more_at h lawful shows clean) (between h shows clean) clean);
+      cause = λ h lawful shows clean.
+          cause_from Refuses h (first h) (judge h) result old mid new (is_at h lawful shows clean) read.leaves.survives.counts (read.leaves.answered (rest.clean clean)).1
+          (rest.cause h (more_at h lawful shows clean) (between h shows clean) clean);
       shown = λ h lawful shows clean.
           subst (λ v. ShowsIfOpen new (tables_of (after h v result))) (is_at h lawful shows clean) (rest.shown h (more_at h lawful shows clean) (between h shows clean) clean);
       same = λ settled clean.
@@ -351,8 +404,8 @@ then_carries_for Of Then judge first old mid new F a read result more is rest =
           ];
     }
 
-pub then_carries : (judge first : History → Verdict) {A : Type 0} (old mid new : State) (F : Tables → A → Type 0) (a : A) (read : IsRead old mid (Ok a) F) (result : Result Reply Refusal)
-    → ((h : History) → IsLawfulHistory h → F (tables_of h) a → first h ≡ judge h) → CarriesOut mid new result first → CarriesOut old new result judge
+pub then_carries : {Refuses : Refusing} (judge first : History → Verdict) {A : Type 0} (old mid new : State) (F : Tables → A → Type 0) (a : A) (read : IsRead old mid (Ok a) F) (result : Result Reply Refusal)
+    → ((h : History) → IsLawfulHistory h → F (tables_of h) a → first h ≡ judge h) → CarriesOut Refuses mid new result first → CarriesOut Refuses old new result judge
 then_carries judge first old mid new F a read result is rest =
     then_carries_for IsLawfulHistory IsLawfulHistory judge first old mid new F a read result (λ h lawful found. lawful) is rest
 
@@ -366,9 +419,9 @@ kept_then old mid new F a read back then settled clean is_open =
     (last.0 ∙ kept.0, last.1 ∙ kept.1)
 
 -- what is so of many histories is so of fewer
-pub for_fewer : (Of Less : History → Type 0) (old new : State) (result : Result Reply Refusal) (judge : History → Verdict)
+pub for_fewer : {Refuses : Refusing} (Of Less : History → Type 0) (old new : State) (result : Result Reply Refusal) (judge : History → Verdict)
     → ((h : History) → Less h → Of h)
-    → CarriesFor Of old new result judge → CarriesFor Less old new result judge
+    → CarriesFor Refuses Of old new result judge → CarriesFor Refuses Less old new result judge
 for_fewer Of Less old new result judge is all = record {
   idle = all.idle;
   clean = all.clean;
@@ -377,6 +430,7 @@ for_fewer Of Less old new result judge is all = record {
   stays = all.stays;
   shut = all.shut;
   told = λ h less. all.told h (is h less);
+  cause = λ h less. all.cause h (is h less);
   shown = λ h less. all.shown h (is h less);
   same = all.same;
   crash = λ h less. all.crash h (is h less);

@@ -1,6 +1,6 @@
 -- One kind of request: what its rules ask is looked back, and then it is decided.
 use Rattle.std.proofs.Common.{◌≡◌, ◌∙◌, List, ◌∷◌, Bool, Option, Some, None, Ok, Err, refl, sym, ap, subst}
-use Rattle.sqlite.specs.State.{State}
+use Rattle.sqlite.specs.State.{State, HasCleanDisk}
 use Rattle.review_policy.specs.Rules.{first_denial}
 use Rattle.review_policy.specs.declared.ask.Ask.{Ask}
 use Rattle.review_policy.specs.declared.answer.Reply.{Reply}
@@ -17,8 +17,8 @@ use Rattle.office_policy.specs.Lawful.{IsLawfulHistory}
 use Rattle.office_policy.specs.TablesOf.{tables_of}
 use Rattle.office_policy.specs.LooksBack.{LooksBack}
 use Rattle.office_desk.specs.declared.refusal.Refusal.TheVariants as refusals
-use Rattle.office_desk.specs.Carries.{CarriesFor}
-use Rattle.office_desk.proofs.Carrying.{Adds, refused_at_once, refused_after, told_after, written, write_fails}
+use Rattle.office_desk.specs.Carries.{Refusing, CarriesFor}
+use Rattle.office_desk.proofs.Carrying.{IsMet, Adds, refused_at_once, refused_after, told_after, written, write_fails}
 use Rattle.office_desk.proofs.Handling.{denied_is, allowed_is}
 
 -- what is told of its refusals is their rule alone, and its rules ask no more than what is looked back
@@ -36,13 +36,13 @@ module _ {Of : History → Type 0} (lawful : (h : History) → Of h → IsLawful
   allowed_at h e = allowed_is h caller a (ap first_denial (kind.asked h) ∙ e)
 
   -- a rule refuses it whatever is found
-  pub refuses_at_once : (s : State) (d : Denial) → IsIdle s → ((x : X) → first_denial (rules x) ≡ Err d)
-      → CarriesFor Of s s (Err (refusals.Denied d None)) (λ h. verdict_of h caller a)
+  pub refuses_at_once : {Refuses : Refusing} (s : State) (d : Denial) → IsIdle s → ((x : X) → first_denial (rules x) ≡ Err d)
+      → CarriesFor Refuses Of s s (Err (refusals.Denied d None)) (λ h. verdict_of h caller a)
   refuses_at_once s d idle e = refused_at_once (λ h. verdict_of h caller a) s d None idle (λ h of. denied_at h d (e (look h)))
 
   module _ (old mid : State) (x : X) (read : IsRead old mid (Ok x) (LooksBack look)) where
     -- a rule refuses it by what is found
-    pub refuses : (d : Denial) → first_denial (rules x) ≡ Err d → CarriesFor Of old mid (Err (refusals.Denied d None)) (λ h. verdict_of h caller a)
+    pub refuses : {Refuses : Refusing} (d : Denial) → first_denial (rules x) ≡ Err d → CarriesFor Refuses Of old mid (Err (refusals.Denied d None)) (λ h. verdict_of h caller a)
     refuses d e =
         refused_after (λ h. verdict_of h caller a) old mid (LooksBack look) x read d None
         (λ h of found. denied_at h d (subst (λ y. first_denial (rules y) ≡ Err d) (found h (lawful h of) refl) e))
@@ -52,7 +52,7 @@ module _ {Of : History → Type 0} (lawful : (h : History) → Of h → IsLawful
       passes_at h same = allowed_at h (subst (λ y. first_denial (rules y) ≡ Ok tt) same allowed)
 
       -- what is found is told
-      pub tells : ((h : History) → x ≡ look h → done_of h caller a ≡ accepted reply None) → CarriesFor Of old mid (Ok reply) (λ h. verdict_of h caller a)
+      pub tells : {Refuses : Refusing} → ((h : History) → x ≡ look h → done_of h caller a ≡ accepted reply None) → CarriesFor Refuses Of old mid (Ok reply) (λ h. verdict_of h caller a)
       tells done =
           told_after (λ h. verdict_of h caller a) old mid (LooksBack look) x read reply
           (λ h of found. let same = found h (lawful h of) refl in passes_at h same ∙ done h same)
@@ -67,10 +67,10 @@ module _ {Of : History → Type 0} (lawful : (h : History) → Of h → IsLawful
         }
 
         -- it is carried out
-        pub writes : {B : Type 0} (b : B) → IsWrite mid new (Ok b) (Into change) → CarriesFor Of old new (Ok reply) (λ h. verdict_of h caller a)
+        pub writes : {Refuses : Refusing} {B : Type 0} (b : B) → IsWrite mid new (Ok b) (Into change) → CarriesFor Refuses Of old new (Ok reply) (λ h. verdict_of h caller a)
         writes b write = written (λ h. verdict_of h caller a) old mid new (LooksBack look) x read reply (Into change) adds b write
 
         -- the write fails
-        pub fails_to_write : {B : Type 0} (f : StoreFault) → IsWrite {A = B} mid new (Err f) (Into change)
-            → CarriesFor Of old new (Err (refusals.Fault f)) (λ h. verdict_of h caller a)
-        fails_to_write f write = write_fails (λ h. verdict_of h caller a) old mid new (LooksBack look) x read reply (Into change) adds f write
+        pub fails_to_write : {Refuses : Refusing} {B : Type 0} (f : StoreFault) → IsWrite {A = B} mid new (Err f) (Into change) → (HasCleanDisk new → IsMet Refuses mid new (Into change) f)
+            → CarriesFor Refuses Of old new (Err (refusals.Fault f)) (λ h. verdict_of h caller a)
+        fails_to_write f write met = write_fails (λ h. verdict_of h caller a) old mid new (LooksBack look) x read reply (Into change) adds f write met

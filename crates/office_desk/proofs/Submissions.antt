@@ -17,7 +17,6 @@ use Rattle.profile_text.specs.declared.fault.DocFault.{DocFault}
 use Rattle.profile_text.specs.Digest.{digest_of}
 use Rattle.profile_text.specs.Reading.{reading_of}
 use Rattle.profile_text.specs.Text.{text_of}
-use Rattle.office_tables.specs.declared.fault.StoreFault.TheVariants.{NoMemory, NotAnOffice}
 use Rattle.office_tables.specs.declared.row.UserRow.{UserRow}
 use Rattle.office_tables.specs.declared.row.RevisionRow.{RevisionRow}
 use Rattle.office_tables.specs.Lists.{holds_role}
@@ -35,7 +34,7 @@ use Rattle.office_policy.proofs.Submissions.{last_found, last_number, next_free}
 use Rattle.office_desk.specs.declared.refusal.Refusal.{Refusal}
 use Rattle.office_desk.specs.declared.refusal.Refusal.TheVariants as refusals
 use Rattle.office_desk.specs.AtOnce.{IsRefusedAtOnce}
-use Rattle.office_desk.specs.Carries.{CarriesOut}
+use Rattle.office_desk.specs.Carries.{Refusing, CarriesOut}
 use Rattle.office_desk.proofs.Carrying.{Adds, refused_at_once, failed_at_once}
 use Rattle.office_desk.proofs.Handling.{denied_is, allowed_is}
 
@@ -65,11 +64,11 @@ read_untold Document profile = refl
 read_untold _ profile = refl
 
 -- a refusal at once is carried out
-pub turned_away : (judge : History → Verdict) (s : State) (refusal : Refusal) → IsIdle s → IsRefusedAtOnce refusal judge
-    → CarriesOut s s (Err refusal) judge
+pub turned_away : {Refuses : Refusing} (judge : History → Verdict) (s : State) (refusal : Refusal) → IsIdle s → IsRefusedAtOnce refusal judge
+    → CarriesOut Refuses s s (Err refusal) judge
 turned_away judge s (refusals.Denied denial fault) idle is = refused_at_once judge s denial fault idle (λ h lawful. is h)
 turned_away judge s (refusals.Fault fault) idle is =
-    failed_at_once judge s fault idle (λ same. let never : NoMemory ≡ NotAnOffice = sym is ∙ same in cc)
+    failed_at_once judge s fault idle is
 
 module _ (h : History) (caller : UserRow) (p : ProfileName) (document : Vec ℕ Global) where
   -- the rules, by what the document reads as

@@ -3,6 +3,7 @@
 ghost use Rattle.std.specs.Prelude.{◌≡◌, IsTrue};
 ghost use Rattle.sqlite.specs.Held.{state};
 ghost use Rattle.sqlite.specs.State.{HasCleanDisk};
+ghost use Rattle.office_store.specs.Refusing.{RefusesToMake};
 ghost use Rattle.office_store.specs.Shown.{IsIdle};
 ghost use Rattle.office_policy.specs.Handled.{only_reads};
 ghost use Rattle.office_policy.specs.Verdict.{verdict};
@@ -35,7 +36,7 @@ fn carry_out_for<S: Alter>(
     ask: &Ask,
 ) -> Result<Reply, Refusal>
     requires { IsIdle (state S.Store conn.old) }
-    ensures { CarriesAsk caller.now (state S.Store conn.old) (state S.Store conn.new) result ask.now }
+    ensures { CarriesAsk (RefusesToMake S.Store) caller.now (state S.Store conn.old) (state S.Store conn.new) result ask.now }
 {
     match ask {
         Ask::Enrol {
@@ -70,7 +71,7 @@ pub(crate) fn carry_out<S: Alter>(
     request: &Request,
 ) -> Result<Reply, Refusal>
     requires { IsIdle (state S.Store conn.old) }
-    ensures carried { CarriesOut (state S.Store conn.old) (state S.Store conn.new) result (λ h. verdict h request.now) }
+    ensures carried { CarriesOut (RefusesToMake S.Store) (state S.Store conn.old) (state S.Store conn.new) result (λ h. verdict h request.now) }
     ensures open { HasCleanDisk (state S.Store conn.new) → UnlessFault result (IsTrue (state S.Store conn.old).is_open) }
     ensures settled { IsSettled (state S.Store conn.new) }
     ensures same { IsTrue (only_reads request.now.ask) → IsKept (state S.Store conn.old) (state S.Store conn.new) }

@@ -6,6 +6,7 @@ ghost use Rattle.review_policy.specs.declared.ask.Ask.TheVariants as ask;
 ghost use Rattle.review_policy.specs.declared.facts.TheConstants.EnrolFacts.{PASSING};
 ghost use Rattle.office_tables.specs.Lists.{holds_role};
 ghost use Rattle.office_store.specs.Calls.{IsRead};
+ghost use Rattle.office_store.specs.Refusing.{RefusesToMake};
 ghost use Rattle.office_store.specs.Shown.{IsIdle};
 ghost use Rattle.office_policy.specs.Users.{user_of, user_showing, is_named};
 ghost use Rattle.office_policy.specs.Facts.{enrol_facts, is_elsewhere, is_another};
@@ -111,7 +112,7 @@ pub(crate) fn enrol<S: Alter>(
     digest: &[u8; 32],
 ) -> Result<Reply, Refusal>
     requires { IsIdle (state S.Store conn.old) }
-    ensures { CarriesOut (state S.Store conn.old) (state S.Store conn.new) result
+    ensures { CarriesOut (RefusesToMake S.Store) (state S.Store conn.old) (state S.Store conn.new) result
         (λ h. verdict_of h (Some caller.now) (ask.Enrol user.now team.now roles digest.now)) }
 {
     decide_enrol(&facts_of_caller(caller, user))?;

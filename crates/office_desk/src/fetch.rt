@@ -6,6 +6,7 @@ ghost use Rattle.review_policy.specs.declared.ask.Ask.TheVariants as ask;
 ghost use Rattle.review_policy.specs.declared.facts.TheConstants.FetchFacts.{PASSING};
 ghost use Rattle.office_tables.specs.Lists.{holds_role};
 ghost use Rattle.office_store.specs.Calls.{IsRead};
+ghost use Rattle.office_store.specs.Refusing.{RefusesToMake};
 ghost use Rattle.office_store.specs.Shown.{IsIdle};
 ghost use Rattle.office_policy.specs.Users.{is_of_team};
 ghost use Rattle.office_policy.specs.Facts.{fetch_facts};
@@ -74,7 +75,7 @@ pub(crate) fn fetch<S: Alter>(
     name: &ProfileName,
 ) -> Result<Reply, Refusal>
     requires { IsIdle (state S.Store conn.old) }
-    ensures { ReadsOut (state S.Store conn.old) (state S.Store conn.new) result (λ h. verdict_of h (Some caller.now) (ask.Fetch name.now)) }
+    ensures { ReadsOut (RefusesToMake S.Store) (state S.Store conn.old) (state S.Store conn.new) result (λ h. verdict_of h (Some caller.now) (ask.Fetch name.now)) }
 {
     decide_fetch(&facts_of_caller(caller, &name.team))?;
     let (found, is_held) = look_at(alloc, conn, name)?;

@@ -6,6 +6,7 @@ ghost use Rattle.review_policy.specs.declared.ask.Ask.TheVariants as ask;
 ghost use Rattle.review_policy.specs.declared.denial.Need.TheVariants as needs;
 ghost use Rattle.review_policy.specs.declared.facts.TheConstants.IssueFacts.{PASSING};
 ghost use Rattle.office_tables.specs.Lists.{holds_role};
+ghost use Rattle.office_store.specs.Refusing.{RefusesToMake};
 ghost use Rattle.office_store.specs.Shown.{IsIdle};
 ghost use Rattle.office_store.specs.Calls.{IsRead};
 ghost use Rattle.office_policy.specs.Baseline.{document_or_closed};
@@ -131,7 +132,7 @@ pub(crate) fn issue<S: Alter>(
     number: u32,
 ) -> Result<Reply, Refusal>
     requires { IsIdle (state S.Store conn.old) }
-    ensures { CarriesOut (state S.Store conn.old) (state S.Store conn.new) result (λ h. verdict_of h (Some caller.now) (ask.Issue name.now number)) }
+    ensures { CarriesOut (RefusesToMake S.Store) (state S.Store conn.old) (state S.Store conn.new) result (λ h. verdict_of h (Some caller.now) (ask.Issue name.now number)) }
 {
     decide_issue(&facts_of_caller(caller))?;
     let looked = look_up(alloc, conn, caller, name, number)?;

@@ -117,7 +117,7 @@ impl<S: Alter> Office<S> {
             → IfErr result (λ refusal. HasCleanDisk (state S.Store refusal.1)
             → TellsOpening (state S.Store conn) (state S.Store refusal.1) (Err refusal.0)) }
         ensures known { (h : History) → IsLawfulHistory h → Shows (state S.Store conn) (tables_of h)
-            → IfErr result (λ refusal. HasCleanDisk (state S.Store refusal.1) → IsFailure refusal.0) }
+            → IfErr result (λ refusal. HasCleanDisk (state S.Store refusal.1) → IsFailure (state S.Store conn) (state S.Store refusal.1) refusal.0) }
         ensures unopened { (t : Tables) → ShowsOld (state S.Store conn) t → IfOk result (λ office. HasCleanDisk (state S.Store office) → ⊥) }
         ensures old { (t : Tables) → ShowsOld (state S.Store conn) t
             → IsRefusedFor S.Store IsOldOrFailure result }

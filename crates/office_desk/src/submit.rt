@@ -9,6 +9,7 @@ ghost use Rattle.profile_text.specs.Digest.{digest_of};
 ghost use Rattle.profile_text.specs.Reading.{reading_of};
 ghost use Rattle.office_tables.specs.Lists.{holds_role};
 ghost use Rattle.office_tables.specs.Reads.{submitted};
+ghost use Rattle.office_store.specs.Refusing.{RefusesToMake};
 ghost use Rattle.office_store.specs.Shown.{IsIdle};
 ghost use Rattle.office_policy.specs.Users.{is_of_team};
 ghost use Rattle.office_policy.specs.Revisions.{if_open, number_of};
@@ -136,7 +137,7 @@ pub(crate) fn submit<S: Alter>(
     document: &Vec<u8>,
 ) -> Result<Reply, Refusal>
     requires { IsIdle (state S.Store conn.old) }
-    ensures { CarriesOut (state S.Store conn.old) (state S.Store conn.new) result (λ h. verdict_of h (Some caller.now) (ask.Submit name.now document.now)) }
+    ensures { CarriesOut (RefusesToMake S.Store) (state S.Store conn.old) (state S.Store conn.new) result (λ h. verdict_of h (Some caller.now) (ask.Submit name.now document.now)) }
 {
     let text = handed_in(alloc, caller, name, document)?;
     let last = last(alloc, conn, name)?;

@@ -4,6 +4,7 @@ ghost use Rattle.std.specs.Prelude.{◌≡◌, Some, not};
 ghost use Rattle.sqlite.specs.Held.{state};
 ghost use Rattle.review_policy.specs.declared.ask.Ask.TheVariants as ask;
 ghost use Rattle.review_policy.specs.declared.facts.TheConstants.VoteFacts.{PASSING};
+ghost use Rattle.office_store.specs.Refusing.{RefusesToMake};
 ghost use Rattle.office_store.specs.Shown.{IsIdle};
 ghost use Rattle.office_tables.specs.Lists.{holds_role};
 ghost use Rattle.office_policy.specs.Facts.{vote_facts, has_digest};
@@ -68,7 +69,7 @@ pub(crate) fn vote<S: Alter>(
     approves: bool,
 ) -> Result<Reply, Refusal>
     requires { IsIdle (state S.Store conn.old) }
-    ensures { CarriesFor (Knows caller.now) (state S.Store conn.old) (state S.Store conn.new) result
+    ensures { CarriesFor (RefusesToMake S.Store) (Knows caller.now) (state S.Store conn.old) (state S.Store conn.new) result
         (λ h. verdict_of h (Some caller.now) (ask.Vote name.now number digest.now approves)) }
 {
     decide_vote(&facts_of_caller(caller))?;

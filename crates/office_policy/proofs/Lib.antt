@@ -31,5 +31,6 @@ pub mod Rows
 pub mod Groups
 pub mod GroupedFacts
 pub mod LeftFacts
+pub mod CauseFacts
 pub mod RunFacts
 pub mod SurvivalFacts

@@ -5,6 +5,8 @@ use Rattle.review_policy.specs.declared.ask.Ask.TheVariants as ask
 use Rattle.review_policy.specs.declared.ask.Request.{Request}
 use Rattle.review_policy.specs.declared.answer.Answer.{Answer}
 use Rattle.review_policy.specs.declared.answer.Answer.TheVariants.{Done, Denied, Fault}
+use Rattle.review_policy.specs.declared.answer.Fault.{Fault as TheFault}
+use Rattle.review_policy.specs.declared.answer.Fault.TheVariants as faults
 use Rattle.office_policy.specs.History.{History}
 use Rattle.office_policy.specs.Verdict.{Verdict, accepted, denied, verdict}
 use Rattle.office_policy.specs.Runs.{IsAnswer, history_after}
@@ -36,6 +38,28 @@ abbrev pub HasRisen : ℕ → ℕ → Type 0
 HasRisen old new = min (old + 1) (2 ^ 64 - 1) ≤ new
 
 module _ {X : Type 0} (m : Meaning X) where
+  -- what it keeps its tables in refuses the event of the verdict with this fault
+  abbrev pub RefusesEvent : History → Verdict → TheFault → Type 0
+  RefusesEvent h (accepted reply (Some e)) fault = m.refuses h e fault
+  RefusesEvent h (accepted reply None) fault = ⊥
+  RefusesEvent h (denied denial told) fault = ⊥
+
+  -- it failed or refused a call between the two, or refuses what the request is to write
+  abbrev pub IsMet : (old new : X) → History → Request → TheFault → Type 0
+  IsMet old new h request fault =
+      HasRisen (m.faults old) (m.faults new) ⊎ RefusesEvent h (verdict h request) fault
+
+  -- a fault other than `memory` was met so, or it is `disk` and a fault had shut the office before;
+  -- none is for the form of its tables
+  abbrev pub HasCause : (old new : X) → History → Request → Answer → Type 0
+  HasCause old new h request (Done reply) = Unit {0}
+  HasCause old new h request (Denied denial fault) = Unit {0}
+  HasCause old new h request (Fault faults.Memory) = Unit {0}
+  HasCause old new h request (Fault faults.Disk) =
+      m.is_open old → IsMet old new h request faults.Disk
+  HasCause old new h request (Fault faults.Full) = IsMet old new h request faults.Full
+  HasCause old new h request (Fault faults.NotAnOffice) = ⊥
+
   -- what is left is the office of the history with the event of the verdict, where it has one
   abbrev pub AreWithEvent : History → Verdict → m.Left → Type 0
   AreWithEvent h (accepted reply (Some e)) left = m.are_of (e ∷ h) left
@@ -68,6 +92,8 @@ module _ {X : Type 0} (m : Meaning X) where
     pub survives : Survives old new
     -- the answer is that of the verdict, or a fault of memory, of the disk or of room on it
     pub answer : (h : History) → m.is_of h old → m.is_clean new → IsAnswer h request told
+    -- and a fault other than `memory` has a cause
+    pub cause : (h : History) → m.is_of h old → m.is_clean new → HasCause old new h request told
     -- what it gives out was approved: bytewise, by others, and by as many as its widening asked for
     pub approved : (h : History) → m.is_of h old → m.is_clean new → GivesOutApproved h request told
     -- the office is of the history with the event of what was carried out

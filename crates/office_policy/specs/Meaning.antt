@@ -1,6 +1,7 @@
 -- What an office is to those who see no store.
 use Rattle.std.specs.Prelude.{ℕ}
-use Rattle.office_policy.specs.History.{History}
+use Rattle.review_policy.specs.declared.answer.Fault.{Fault}
+use Rattle.office_policy.specs.History.{Event, History}
 use Rattle.office_policy.specs.Lawful.{IsLawfulHistory}
 
 -- what is meant by a value that handles requests
@@ -11,6 +12,8 @@ pub record Meaning (X : Type 0) : Type 1 where
   pub is_open : X → Type 0
   -- how many times what it keeps its tables in has failed or refused, up to the greatest u64
   pub faults : X → ℕ
+  -- what it keeps its tables in may refuse, with this fault, to write the event after this history
+  pub refuses : History → Event → Fault → Type 0
   -- it is the office of this history, unless a fault has shut it
   pub is_of : History → X → Type 0
   -- the second has what the first had, unless a fault has shut it

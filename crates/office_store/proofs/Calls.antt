@@ -5,12 +5,13 @@ use Rattle.sqlite.specs.Held.{Held, state}
 use Rattle.sqlite.specs.Store.{Ghosts}
 use Rattle.sqlite.specs.declared.error.Error.{Error}
 use Rattle.sqlite.specs.Order.{Row}
-use Rattle.sqlite.specs.State.{State, HasCleanDisk, Survives, CommitsShowing, Shown, Shows as Sees}
+use Rattle.sqlite.specs.State.{State, HasCleanDisk, Survives, CommitsShowing, FailsToQuery, Shown, Shows as Sees}
 use Rattle.sqlite.specs.Tree.{Trees}
 use Rattle.sqlite.proofs.StateLemmas.{survives_weaker}
 use Rattle.office_tables.specs.Tables.{Tables}
 use Rattle.office_tables.specs.declared.fault.StoreFault.{StoreFault}
-use Rattle.office_tables.specs.declared.fault.StoreFault.TheVariants.{NotAnOffice}
+use Rattle.office_tables.specs.declared.fault.StoreFault.TheVariants.{NoMemory, NotAnOffice}
+use Rattle.office_rows.specs.Causes.{HasFailed}
 use Rattle.office_rows.specs.Faults.{fault_of_error, FindsRow}
 use Rattle.office_rows.specs.Rows.{IsFaultOf}
 use Rattle.office_rows.specs.Queries.{IsQuery, IsAsItWas, IsAsked}
@@ -19,6 +20,8 @@ use Rattle.office_rows.specs.Statements.{Statement, begun, RanAll, FailedIn}
 use Rattle.office_rows.specs.Told.{IsTold}
 use Rattle.office_rows.proofs.Transactions.{ran_open}
 use Rattle.office_rows.proofs.Shut.{failed_shut}
+use Rattle.office_rows.proofs.Sure.{IsSure, sure_failed, shut_failed, first_fault, rows_fault}
+use Rattle.office_store.specs.Schema.{office_schema}
 use Rattle.office_store.specs.Shown.{IsIdle, IsOffice, Shows, ShowsIfOpen, AreOffice, LeavesOnly, LeavesNoMore, MayLeave}
 use Rattle.office_store.specs.Steps.{AreSteps}
 use Rattle.office_store.specs.Calls.{Leaves, IsRead, IsWrite, Into}
@@ -53,11 +56,15 @@ Settles new = (trees : Trees) → IsTrue new.is_open → new.may_leave trees →
 pub leaves_only : (new : State) → Settles new → (t : Tables) → Shows new t → LeavesOnly new t
 leaves_only new law t shows trees may = trees_of new.now trees t shows.office (law trees shows.is_open may ∙ ap (λ (d : Database). d.trees) (sym shows.settled))
 
+-- what fails so never faults the form of the tables
+pub never_unformed : {A : Type 0} (old new : State) (r : Result A StoreFault) → IfErr r (HasFailed old new) → r ≢ Err NotAnOffice
+never_unformed {A} old new r cause same = subst (λ (s : Result A StoreFault). IfErr s (HasFailed old new)) same cause
+
 -- ---- a query
 
 pub read_of : {X : Type 0} (old new : State) (r : Result X StoreFault) (Found : Tables → X → Type 0) → IsIdle old → new.in_transaction ≡ false → IsAsked old new r → Settles new
-    → ((t : Tables) → Shows old t → HasCleanDisk new → IfOk r (Found t) × (r ≢ Err NotAnOffice)) → IsRead old new r Found
-read_of old new r Found idle mode asked law finds = record {
+    → ((t : Tables) → ShowsIfOpen old t → HasCleanDisk new → IfErr r (HasFailed old new)) → ((t : Tables) → Shows old t → HasCleanDisk new → IfOk r (Found t)) → IsRead old new r Found
+read_of old new r Found idle mode asked law fails finds = record {
   leaves = record {
     idle = record { autocommit = mode; unlimited = asked.crash.limit ∙ idle.unlimited };
     clean = λ clean. let before : HasCleanDisk old = omega (arith, asked.crash.clean) in before;
@@ -66,8 +73,8 @@ read_of old new r Found idle mode asked law finds = record {
     shut = asked.shut;
     settled = leaves_only new law;
   };
-  found = λ t shows clean. if_open _ _ r (Found t) (asked.answered clean) (λ is_open. (finds t (shows is_open) clean).0);
-  formed = λ t shows clean. by_open old.is_open (r ≢ Err NotAnOffice) (λ is_open. (finds t (shows is_open) clean).1) (λ shut. (asked.shut clean shut).1);
+  found = λ t shows clean. if_open _ _ r (Found t) (asked.answered clean) (λ is_open. finds t (shows is_open) clean);
+  cause = fails;
   shown = λ t shows clean is_open.
       let was = opened old.is_open new.is_open is_open (λ shut. (asked.shut clean shut).0) in
       shows_again old new t (shows was) (asked.same (shows was).settled clean) is_open;
@@ -75,21 +82,33 @@ read_of old new r Found idle mode asked law finds = record {
   crash = λ clean trees may. elim (asked.crash.crash clean trees may) [ inl before ↦ before | inr none ↦ absurd none ];
 }
 
+-- why a query that the schema takes fails
+abbrev Fails : List ℕ → Row → State → State → Type 0
+Fails sql given old new = (e : Error) → FailsToQuery sql given old new e → HasFailed old new (fault_of_error e)
+
+fails_of : (sql : List ℕ) → IsQuery sql → (given params : Row) (old new : State) → IsIdle old → given ≡ params → IsSure office_schema sql params → (t : Tables) → ShowsIfOpen old t → Fails sql given old new
+fails_of sql query given params old new idle are sure t shows =
+    by_open old.is_open (Fails sql given old new)
+    (λ is_open e. sure_failed office_schema sql given (subst (IsSure office_schema sql) (sym are) sure) old new e (shows is_open).office.schema idle.unlimited)
+    (λ shut e. shut_failed sql given old new e (query old.now.schema) shut)
+
 -- a query of the first row, by these parameters
 pub first_read : (sql : List ℕ) → IsQuery sql → (given params : Row) (old new : State) (r : Result (Option Row) StoreFault) (Found : Tables → Option Row → Type 0) → IsIdle old
     → (old.in_transaction ≡ false → new.in_transaction ≡ false) → Settles new → Survives old new (CommitsShowing sql given old) → (HasCleanDisk new → FindsRow sql given old new r) → given ≡ params
-    → ((t : Tables) → Shows old t → FindsRow sql params old new r → IfOk r (Found t) × (r ≢ Err NotAnOffice)) → IsRead old new r Found
-first_read sql query given params old new r Found idle mode law survives row are finds =
+    → IsSure office_schema sql params → ((t : Tables) → Shows old t → FindsRow sql params old new r → IfOk r (Found t)) → IsRead old new r Found
+first_read sql query given params old new r Found idle mode law survives row are sure finds =
     read_of old new r Found idle (mode idle.autocommit) (first_asked sql query given old new r row survives) law
+    (λ t shows clean. first_fault (HasFailed old new) sql given old new (fails_of sql query given params old new idle are sure t shows) r (row clean))
     (λ t shows clean. finds t shows (subst (λ (p : Row). FindsRow sql p old new r) are (row clean)))
 
 -- a query of all its rows
 pub rows_read : {X : Type 0} (items : X → List Row) (sql : List ℕ) → IsQuery sql → (given params : Row) (old new : State) (r : Result X StoreFault) (Found : Tables → X → Type 0) → IsIdle old
     → (old.in_transaction ≡ false → new.in_transaction ≡ false) → Settles new → Survives old new (CommitsShowing sql given old)
-    → (HasCleanDisk new → IfOk r (λ x. Shown sql given old new (items x))) → (HasCleanDisk new → IfErr r (IsFaultOf sql given old new)) → given ≡ params
-    → ((t : Tables) → Shows old t → IfOk r (λ x. Shown sql params old new (items x)) → IfErr r (IsFaultOf sql params old new) → IfOk r (Found t) × (r ≢ Err NotAnOffice)) → IsRead old new r Found
-rows_read items sql query given params old new r Found idle mode law survives rows fault are finds =
+    → (HasCleanDisk new → IfOk r (λ x. Shown sql given old new (items x))) → (HasCleanDisk new → IfErr r (IsFaultOf sql given old new)) → given ≡ params → IsSure office_schema sql params
+    → ((t : Tables) → Shows old t → IfOk r (λ x. Shown sql params old new (items x)) → IfErr r (IsFaultOf sql params old new) → IfOk r (Found t)) → IsRead old new r Found
+rows_read items sql query given params old new r Found idle mode law survives rows fault are sure finds =
     read_of old new r Found idle (mode idle.autocommit) (rows_asked sql query given old new items r rows fault survives) law
+    (λ t shows clean. rows_fault (HasFailed old new) sql given old new (fails_of sql query given params old new idle are sure t shows) r (fault clean))
     (λ t shows clean.
     finds t shows (subst (λ (p : Row). IfOk r (λ x. Shown sql p old new (items x))) are (rows clean)) (subst (λ (p : Row). IfErr r (IsFaultOf sql p old new)) are (fault clean)))
 
@@ -117,13 +136,25 @@ module _ {X A : Type 0} (Tells : X → Result A StoreFault → Type 0) where
   told_formed FoundRow (Ok x) r told other row none same = none x row (subst (Tells x) same told)
   told_formed FoundRow (Err e) r told other row none same = passed_on e r told other same
 
+  -- where it tells no other fault of what was found than that there is no memory
+  told_cause : (FoundRow : X → Type 0) (P : StoreFault → Type 0) (row : Result X StoreFault) (r : Result A StoreFault) → IsTold Tells row r → P NoMemory → IfErr row P → IfOk row FoundRow
+      → ((x : X) → FoundRow x → (f : StoreFault) → Tells x (Err f) → f ≡ NoMemory) → IfErr r P
+  told_cause FoundRow P (Ok x) (Ok a) told memory fails found none = tt
+  told_cause FoundRow P (Ok x) (Err f) told memory fails found none = subst P (sym (none x found f told)) memory
+  told_cause FoundRow P (Err e) (Ok a) told memory fails found none = absurd cc
+  told_cause FoundRow P (Err e) (Err f) told memory fails found none = let k : f ≡ e = cc in subst P (sym k) fails
+
+  none_shut : (Q : Type 0) (b : Bool) (row : Result X StoreFault) → OnOk row (IsTrue b × Q) → b ≡ false → IfOk row (λ _. ⊥)
+  none_shut Q b (Ok x) both shut = never_both b both.0 shut
+  none_shut Q b (Err e) both shut = tt
+
   pub told_shut : (Q : Type 0) (b : Bool) (row : Result X StoreFault) (r : Result A StoreFault) → IsTold Tells row r → OnOk row (IsTrue b × Q) → b ≡ false → row ≢ Err NotAnOffice → r ≢ Err NotAnOffice
   told_shut Q b (Ok x) r told both shut other = never_both b both.0 shut
   told_shut Q b (Err e) r told both shut other = passed_on e r told other
 
   pub read_told : (old new : State) (FoundRow : Tables → X → Type 0) (Found : Tables → A → Type 0) (row : Result X StoreFault) (r : Result A StoreFault) → IsRead old new row FoundRow → IsTold Tells row r
       → ((t : Tables) → Shows old t → (x : X) → FoundRow t x → (a : A) → Tells x (Ok a) → Found t a)
-      → ((t : Tables) → Shows old t → (x : X) → FoundRow t x → Tells x (Err NotAnOffice) → ⊥)
+      → ((t : Tables) → Shows old t → (x : X) → FoundRow t x → (f : StoreFault) → Tells x (Err f) → f ≡ NoMemory)
       → IsRead old new r Found
   read_told old new FoundRow Found row r read told some none = record {
     leaves = record {
@@ -136,9 +167,10 @@ module _ {X A : Type 0} (Tells : X → Result A StoreFault → Type 0) where
     };
     found = λ t shows clean.
         if_open _ _ r (Found t) (told_ok _ row r told (read.leaves.answered clean)) (λ is_open. told_found (FoundRow t) (Found t) row r told (read.found t shows clean) (some t (shows is_open)));
-    formed = λ t shows clean.
-        by_open old.is_open (r ≢ Err NotAnOffice) (λ is_open. told_formed (FoundRow t) row r told (read.formed t shows clean) (read.found t shows clean) (none t (shows is_open)))
-        (λ shut. told_shut _ old.is_open row r told (read.leaves.answered clean) shut (read.leaves.shut clean shut).1);
+    cause = λ t shows clean.
+        let fails = read.cause t shows clean in
+        by_open old.is_open (IfErr r (HasFailed old new)) (λ is_open. told_cause (FoundRow t) (HasFailed old new) row r told tt fails (read.found t shows clean) (none t (shows is_open)))
+        (λ shut. told_cause (λ _. ⊥) (HasFailed old new) row r told tt fails (none_shut _ old.is_open row (read.leaves.answered clean) shut) (λ x none f tells. absurd none));
     shown = read.shown;
     same = read.same;
     crash = read.crash;
@@ -149,15 +181,15 @@ module _ {X A : Type 0} (Tells : X → Result A StoreFault → Type 0) where
 -- a read that failed, and whose fault is passed on, or what is made of its answer
 module _ {X A : Type 0} (old new : State) (FoundRow : Tables → X → Type 0) (Found : Tables → A → Type 0) (row : Result X StoreFault) (read : IsRead old new row FoundRow) (r : Result A StoreFault) where
   abbrev Makes : X → Result A StoreFault → Type 0
-  Makes x s = (t : Tables) → Shows old t → FoundRow t x → IfOk s (Found t) × (s ≢ Err NotAnOffice)
+  Makes x s = (t : Tables) → Shows old t → FoundRow t x → IfOk s (Found t) × IfErr s (λ f. f ≡ NoMemory)
 
   made : IsTold Makes row r → IsRead old new r Found
-  made told = read_told Makes old new FoundRow Found row r read told (λ t shows x found a makes. (makes t shows found).0) (λ t shows x found makes. (makes t shows found).1 refl)
+  made told = read_told Makes old new FoundRow Found row r read told (λ t shows x found a makes. (makes t shows found).0) (λ t shows x found f makes. (makes t shows found).1)
 
   pub read_failed : (f : StoreFault) → row ≡ Err f → r ≡ Err f → IsRead old new r Found
   read_failed f is same = made (subst (λ (s : Result X StoreFault). IsTold Makes s r) (sym is) same)
 
-  pub read_made : (x : X) → row ≡ Ok x → ((t : Tables) → Shows old t → FoundRow t x → IfOk r (Found t) × (r ≢ Err NotAnOffice)) → IsRead old new r Found
+  pub read_made : (x : X) → row ≡ Ok x → ((t : Tables) → Shows old t → FoundRow t x → IfOk r (Found t) × IfErr r (λ f. f ≡ NoMemory)) → IsRead old new r Found
   read_made x is makes = made (subst (λ (s : Result X StoreFault). IsTold Makes s r) (sym is) makes)
 
 -- a write of these statements is one of whatever makes the same tables

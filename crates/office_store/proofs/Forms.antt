@@ -9,7 +9,8 @@ use Rattle.sqlite_value.specs.Order.{column}
 use Rattle.sqlite_rules.proofs.ListLemmas.{contains_had}
 use Rattle.office_tables.specs.Tables.{Tables}
 use Rattle.office_tables.specs.declared.fault.StoreFault.{StoreFault}
-use Rattle.office_tables.specs.declared.fault.StoreFault.TheVariants.{NotAnOffice}
+use Rattle.office_tables.specs.declared.fault.StoreFault.TheVariants.{NoMemory, NotAnOffice}
+use Rattle.office_rows.specs.Causes.{HasFailed}
 use Rattle.office_rows.specs.Faults.{FindsRow}
 use Rattle.office_rows.specs.Told.{IsTold, TellsRow}
 use Rattle.office_store.specs.declared.fault.OpeningFault.{OpeningFault}
@@ -126,8 +127,8 @@ module _ (old new : State) (added : Result (Unit {0}) OpeningFault) (form : Resu
       some : (t : Tables) → Shows old t → (f : Form) → f ≡ new_form t.listed → (a : ℕ) → Tells f (Ok a) → a ≡ t.listed
       some t shows f found a tells = let k : ◌≡◌ {A = Result ℕ StoreFault} (Ok a) (Ok t.listed) = tells ∙ opens t shows f found in let n : a ≡ t.listed = cc in n
 
-      none : (t : Tables) → Shows old t → (f : Form) → f ≡ new_form t.listed → Tells f (Err NotAnOffice) → ⊥
-      none t shows f found tells = let k : ◌≡◌ {A = Result ℕ StoreFault} (Err NotAnOffice) (Ok t.listed) = tells ∙ opens t shows f found in cc
+      none : (t : Tables) → Shows old t → (f : Form) → f ≡ new_form t.listed → (why : StoreFault) → Tells f (Err why) → why ≡ NoMemory
+      none t shows f found why tells = let k : ◌≡◌ {A = Result ℕ StoreFault} (Err why) (Ok t.listed) = tells ∙ opens t shows f found in absurd cc
 
   -- an office of schema 1 isn't opened, and is refused for that or by a failure
   pub opened_old : (listed : ℕ) → IfOk form (λ f. f ≡ old_form listed) × (form ≢ Err NotAnOffice) → OnOk result ⊥ × IfErr result IsOldOrFailure
@@ -140,11 +141,11 @@ module _ (old new : State) (added : Result (Unit {0}) OpeningFault) (form : Resu
       go (Ok f) is known = subst Refused (sym (is ∙ ap (λ (f : Form). opening_of added (Ok f)) known.0)) (tt, tt)
       go (Err e) is known = subst Refused (sym is) (tt, λ same. known.1 (ap Err same))
 
--- where an office that isn't opened counts as none and this is no office's absence, it is a failure
-pub fails : (fault : OpeningFault) → as_store {A = ℕ} (Err fault) ≢ Err NotAnOffice → IsFailure fault
-fails OldSchema other = absurd (other refl)
-fails NoIndex other = absurd (other refl)
-fails (Store f) other = λ same. other (ap Err same)
+-- where an office that isn't opened counts as none and this is a failure, it is one
+pub fails : (old new : State) (fault : OpeningFault) → IfErr {T = ℕ} (as_store (Err fault)) (HasFailed old new) → IsFailure old new fault
+fails old new OldSchema failed = failed
+fails old new NoIndex failed = failed
+fails old new (Store f) failed = failed
 
 -- what is opened has the form of an office
 pub opened_form : (old new : State) → has_old_tables old.now.schema ≡ true → (form : Result Form StoreFault) (result : Result ℕ OpeningFault) → result ≡ opening_of (added_by old.now.schema) form

@@ -25,6 +25,7 @@ pub mod Migrating
 pub mod Reopened
 pub mod Calls
 pub mod Queries
+pub mod Sure
 pub mod OfficeRow
 pub mod Told
 pub mod ToldLists

@@ -7,7 +7,7 @@ use Rattle.sqlite.specs.State.{State}
 use Rattle.sqlite_value.specs.declared.value.Value.{Value}
 use Rattle.sqlite.specs.declared.error.Error.{Error}
 use Rattle.office_tables.specs.declared.fault.StoreFault.{StoreFault}
-use Rattle.office_tables.specs.declared.fault.StoreFault.TheVariants.{NotAnOffice}
+use Rattle.office_tables.specs.declared.fault.StoreFault.TheVariants.{NoMemory, NotAnOffice}
 use Rattle.office_tables.specs.Tables.{Tables}
 use Rattle.office_rows.specs.Faults.{fault_of_error}
 use Rattle.office_rows.specs.Told.{IsOfRow, IsTold, IsUnread, TellsOne, TellsOnly, TellsWhether}
@@ -31,6 +31,12 @@ unread {A = A} encode IsFormed row r f is formed cause = elim (subst (λ (s : Re
   | inr named ↦ inr (named, λ x ok same. formed x ok same (is ∙ ap Err named))
 ]
 
+-- a reading of a row of the form fails only for no memory
+pub only_memory : {A : Type 0} (r : Result A StoreFault) → r ≢ Err NotAnOffice → IfErr r IsOfRow → IfErr r (λ f. f ≡ NoMemory)
+only_memory (Ok a) other cause = tt
+only_memory (Err f) other (inl memory) = memory
+only_memory (Err f) other (inr named) = absurd (other (ap Err named))
+
 -- ---- one row
 
 module _ {X : Type 0} (encode : X → Row) (IsFormed : X → Type 0) (old new : State) (FoundRow : Tables → Option Row → Type 0) where
@@ -46,10 +52,10 @@ module _ {X : Type 0} (encode : X → Row) (IsFormed : X → Type 0) (old new : 
       each t shows (Some w) found (Some y) tells = (some t shows w found).3 y tells
       each t shows (Some w) found None tells = absurd tells
 
-      never : (t : Tables) → Shows old t → (o : Option Row) → FoundRow t o → TellsOne encode IsFormed o (Err NotAnOffice) → ⊥
-      never t shows None found tells = absurd cc
-      never t shows (Some w) found (inl memory) = absurd cc
-      never t shows (Some w) found (inr unread) = let it = some t shows w found in unread.1 it.0 it.1 it.2
+      never : (t : Tables) → Shows old t → (o : Option Row) → FoundRow t o → (f : StoreFault) → TellsOne encode IsFormed o (Err f) → f ≡ NoMemory
+      never t shows None found f tells = absurd cc
+      never t shows (Some w) found f (inl memory) = memory
+      never t shows (Some w) found f (inr unread) = let it = some t shows w found in absurd (unread.1 it.0 it.1 it.2)
 
   -- the same of a row that is always there
   pub only_read : (Found : Tables → X → Type 0) (row : Result (Option Row) StoreFault) (r : Result X StoreFault) → IsRead old new row FoundRow → IsTold (TellsOnly encode IsFormed) row r
@@ -62,16 +68,16 @@ module _ {X : Type 0} (encode : X → Row) (IsFormed : X → Type 0) (old new : 
       each t shows None found a tells = absurd (none t shows found)
       each t shows (Some w) found a tells = (some t shows w found).3 a tells
 
-      never : (t : Tables) → Shows old t → (o : Option Row) → FoundRow t o → TellsOnly encode IsFormed o (Err NotAnOffice) → ⊥
-      never t shows None found tells = none t shows found
-      never t shows (Some w) found (inl memory) = absurd cc
-      never t shows (Some w) found (inr unread) = let it = some t shows w found in unread.1 it.0 it.1 it.2
+      never : (t : Tables) → Shows old t → (o : Option Row) → FoundRow t o → (f : StoreFault) → TellsOnly encode IsFormed o (Err f) → f ≡ NoMemory
+      never t shows None found f tells = absurd (none t shows found)
+      never t shows (Some w) found f (inl memory) = memory
+      never t shows (Some w) found f (inr unread) = let it = some t shows w found in absurd (unread.1 it.0 it.1 it.2)
 
 -- whether a row was found
 pub whether_read : (old new : State) (FoundRow : Tables → Option Row → Type 0) (Found : Tables → Bool → Type 0) (row : Result (Option Row) StoreFault) (r : Result Bool StoreFault) → IsRead old new row FoundRow
     → IsTold TellsWhether row r → ((t : Tables) (o : Option Row) → FoundRow t o → Found t (is_some o)) → IsRead old new r Found
 whether_read old new FoundRow Found row r read told finds =
-    read_told TellsWhether old new FoundRow Found row r read told (λ t shows o found a tells. subst (Found t) (let same : is_some o ≡ a = cc in same) (finds t o found)) (λ t shows o found tells. absurd cc)
+    read_told TellsWhether old new FoundRow Found row r read told (λ t shows o found a tells. subst (Found t) (let same : is_some o ≡ a = cc in same) (finds t o found)) (λ t shows o found f tells. absurd cc)
 
 -- ---- the rows of the office
 

@@ -6,7 +6,7 @@ use Rattle.sqlite.specs.Order.{Row}
 use Rattle.sqlite.specs.State.{State, Shown}
 use Rattle.office_tables.specs.Tables.{Tables}
 use Rattle.office_tables.specs.declared.fault.StoreFault.{StoreFault}
-use Rattle.office_tables.specs.declared.fault.StoreFault.TheVariants.{NotAnOffice}
+use Rattle.office_tables.specs.declared.fault.StoreFault.TheVariants.{NoMemory, NotAnOffice}
 use Rattle.office_rows.specs.Rows.{IsFaultOf}
 use Rattle.office_rows.specs.Told.{IsOfRow, IsUnread, IsTold, TellsAll, FindsRows, map_ok}
 use Rattle.office_tables.specs.declared.listed.ListedRevision.{ListedRevision}
@@ -65,7 +65,7 @@ module _ {V W X : Type 0} (rows_of : V → List Row) (items_of : W → List X) (
       → IsRead old new r Found
   list_read_told old new FoundRows Found found r read told finds = read_told Tells old new FoundRows Found found r read (each found r told)
       (λ t shows v rows w tells. let it = finds t shows v rows in it.3 w (sym tells ∙ it.2))
-      (λ t shows v rows tells. let it = finds t shows v rows in never v it.0 it.1 it.2 tells)
+      (λ t shows v rows f. let it = finds t shows v rows in never v it.0 it.1 it.2 f)
     where
       Tells : V → Result W StoreFault → Type 0
       Tells v s = TellsAll encode IsFormed (rows_of v) (map_ok s items_of)
@@ -75,9 +75,9 @@ module _ {V W X : Type 0} (rows_of : V → List Row) (items_of : W → List X) (
       each (Err e) (Ok w) told = absurd cc
       each (Err e) (Err f) told = let same : f ≡ e = cc in ap Err same
 
-      never : (v : V) (xs : List X) → AllByRecursion IsFormed xs → rows_of v ≡ map encode xs → Tells v (Err NotAnOffice) → ⊥
-      never v xs all is (inl memory) = absurd cc
-      never v xs all is (inr unread) = unread.1 xs all is
+      never : (v : V) (xs : List X) → AllByRecursion IsFormed xs → rows_of v ≡ map encode xs → (f : StoreFault) → Tells v (Err f) → f ≡ NoMemory
+      never v xs all is f (inl memory) = memory
+      never v xs all is f (inr unread) = absurd (unread.1 xs all is)
 
 -- rows that tell their values tell the lists apart
 pub same_list : {X : Type 0} (f : X → Row) → ((x y : X) → f x ≡ f y → x ≡ y) → (xs ys : List X) → map f xs ≡ map f ys → xs ≡ ys

@@ -1,9 +1,10 @@
 -- What the calls of a store leave of a connection: a read, and a write.
-use Rattle.std.specs.Prelude.{◌≡◌, ◌≢◌, false, Result, Err, IfOk, OnOk, OnErr, IsTrue}
+use Rattle.std.specs.Prelude.{◌≡◌, ◌≢◌, false, Result, Err, IfOk, IfErr, OnOk, OnErr, IsTrue}
 use Rattle.sqlite.specs.State.{State, HasCleanDisk, Survives}
 use Rattle.office_tables.specs.declared.fault.StoreFault.{StoreFault}
 use Rattle.office_tables.specs.declared.fault.StoreFault.TheVariants.{NotAnOffice}
 use Rattle.office_tables.specs.Tables.{Tables}
+use Rattle.office_rows.specs.Causes.{HasFailed}
 use Rattle.office_rows.specs.Queries.{IsAsItWas}
 use Rattle.office_store.specs.Shown.{IsIdle, Shows, ShowsIfOpen, AreOffice, LeavesOnly, LeavesNoMore, MayLeave}
 
@@ -27,8 +28,8 @@ pub record IsRead {A : Type 0} (old new : State) (result : Result A StoreFault) 
   pub leaves : Leaves old new result
   -- the answer is that of the tables that the connection shows
   pub found : (t : Tables) → ShowsIfOpen old t → HasCleanDisk new → IfOk result (Found t)
-  -- it never tells them as no office's
-  pub formed : (t : Tables) → ShowsIfOpen old t → HasCleanDisk new → result ≢ Err NotAnOffice
+  -- it fails for no memory, for the disk, or over a connection that was shut
+  pub cause : (t : Tables) → ShowsIfOpen old t → HasCleanDisk new → IfErr result (HasFailed old new)
   -- the connection shows them still, unless a fault of the disk has shut it
   pub shown : (t : Tables) → ShowsIfOpen old t → HasCleanDisk new → ShowsIfOpen new t
   -- whatever it has, it has still

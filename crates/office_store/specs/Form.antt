@@ -11,6 +11,7 @@ use Rattle.sqlite.specs.Table.{Table}
 use Rattle.sqlite_schema.specs.Names.{table_named, column_named, index_named}
 use Rattle.office_tables.specs.declared.fault.StoreFault.{StoreFault}
 use Rattle.office_tables.specs.declared.fault.StoreFault.TheVariants.{NotAnOffice}
+use Rattle.office_rows.specs.Causes.{HasFailed}
 use Rattle.office_rows.specs.Faults.{FindsRow}
 use Rattle.office_rows.specs.Told.{TellsOnly, TellsRow}
 use Rattle.sqlite_value.specs.Order.{column}
@@ -153,13 +154,13 @@ as_store (Err OldSchema) = Err NotAnOffice
 as_store (Err NoIndex) = Err NotAnOffice
 as_store (Err (Store f)) = Err f
 
--- it is refused for no memory, for a fault of the disk or for no room on it
-abbrev pub IsFailure : OpeningFault → Type 0
-IsFailure OldSchema = ⊥
-IsFailure NoIndex = ⊥
-IsFailure (Store f) = f ≢ NotAnOffice
+-- it is refused for no memory, for the disk, or over a connection that was shut
+abbrev pub IsFailure : State → State → OpeningFault → Type 0
+IsFailure old new OldSchema = ⊥
+IsFailure old new NoIndex = ⊥
+IsFailure old new (Store f) = HasFailed old new f
 
--- or since it is of schema 1
+-- it is refused by a failure, or since it is of schema 1
 abbrev pub IsOldOrFailure : OpeningFault → Type 0
 IsOldOrFailure OldSchema = Unit {0}
 IsOldOrFailure NoIndex = ⊥

@@ -13,3 +13,4 @@ pub mod Lists
 pub mod Founding
 pub mod Migration
 pub mod Reopening
+pub mod Refusing

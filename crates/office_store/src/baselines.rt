@@ -5,7 +5,7 @@ ghost use Rattle.sqlite.specs.Held.{state};
 ghost use Rattle.sqlite.specs.State.{HasCleanDisk};
 ghost use Rattle.sqlite.specs.declared.types.Value.TheVariants.{Text as SqlText};
 ghost use Rattle.office_rows.specs.Faults.{FindsRow};
-ghost use Rattle.office_rows.specs.Statements.{IsCause};
+ghost use Rattle.office_rows.specs.Statements.{HasMet};
 ghost use Rattle.office_rows.specs.Told.{IsOfRow, IsTold, TellsRow, TellsOne};
 ghost use Rattle.office_tables.specs.Changes.{with_baseline};
 ghost use Rattle.office_store.specs.declared.baselines.Adopted.{Adopted as AdoptedValue};
@@ -97,7 +97,7 @@ pub fn put_baseline<S: Alter>(
 ) -> Result<(), StoreFault>
     requires { IsIdle (state S.Store conn.old) }
     ensures write { IsWrite (state S.Store conn.old) (state S.Store conn.new) result (Into (with_baseline profile.now number)) }
-    ensures cause { HasCleanDisk (state S.Store conn.new) → IfErr result (IsCause S.Store (putting_baseline profile.now number) conn.old) }
+    ensures cause { HasCleanDisk (state S.Store conn.new) → IfErr result (HasMet S.Store (putting_baseline profile.now number) conn.old conn.new) }
 {
     write_two(
         conn,

@@ -4,7 +4,7 @@ ghost use Rattle.std.specs.Prelude.{◌≡◌, IfErr, is_some};
 ghost use Rattle.sqlite.specs.Held.{state};
 ghost use Rattle.sqlite.specs.State.{HasCleanDisk};
 ghost use Rattle.office_rows.specs.Faults.{FindsRow};
-ghost use Rattle.office_rows.specs.Statements.{IsCause};
+ghost use Rattle.office_rows.specs.Statements.{HasMet};
 ghost use Rattle.office_rows.specs.Told.{TellsRow, TellsWhether};
 ghost use Rattle.office_tables.specs.Changes.{with_hold, without_hold};
 ghost use Rattle.office_store.specs.Calls.{IsRead, IsWrite, Into};
@@ -50,7 +50,7 @@ pub fn held<S: Alter>(conn: &mut Connection<S>, profile: &ProfileName) -> Result
 pub fn put_hold<S: Alter>(conn: &mut Connection<S>, profile: &ProfileName) -> Result<(), StoreFault>
     requires { IsIdle (state S.Store conn.old) }
     ensures write { IsWrite (state S.Store conn.old) (state S.Store conn.new) result (Into (with_hold profile.now)) }
-    ensures cause { HasCleanDisk (state S.Store conn.new) → IfErr result (IsCause S.Store (holding profile.now) conn.old) }
+    ensures cause { HasCleanDisk (state S.Store conn.new) → IfErr result (HasMet S.Store (holding profile.now) conn.old conn.new) }
 {
     let key = of_profile(profile);
     write_two(conn, DELETE_HOLD, &key, INSERT_HOLD, &key)
@@ -63,7 +63,7 @@ pub fn delete_hold<S: Alter>(
 ) -> Result<(), StoreFault>
     requires { IsIdle (state S.Store conn.old) }
     ensures write { IsWrite (state S.Store conn.old) (state S.Store conn.new) result (Into (without_hold profile.now)) }
-    ensures cause { HasCleanDisk (state S.Store conn.new) → IfErr result (IsCause S.Store (releasing profile.now) conn.old) }
+    ensures cause { HasCleanDisk (state S.Store conn.new) → IfErr result (HasMet S.Store (releasing profile.now) conn.old conn.new) }
 {
     write_one(conn, DELETE_HOLD, &of_profile(profile))
 }

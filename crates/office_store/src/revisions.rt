@@ -5,7 +5,7 @@ ghost use Rattle.sqlite.specs.Held.{state};
 ghost use Rattle.sqlite.specs.State.{HasCleanDisk};
 ghost use Rattle.review_policy.specs.declared.ask.ProfileName.{ProfileName as Name};
 ghost use Rattle.office_rows.specs.Faults.{FindsRow};
-ghost use Rattle.office_rows.specs.Statements.{IsCause};
+ghost use Rattle.office_rows.specs.Statements.{HasMet};
 ghost use Rattle.office_rows.specs.Told.{IsOfRow, IsTold, TellsRow, TellsOne, TellsWhether};
 ghost use Rattle.office_tables.specs.Changes.{with_issued, with_withdrawn};
 ghost use Rattle.office_tables.specs.Reads.{IsLast, IsIssued, HasRevision, Adds};
@@ -206,7 +206,7 @@ pub fn add_revision<S: Alter>(
 ) -> Result<(), StoreFault>
     requires { IsIdle (state S.Store conn.old) }
     ensures write { IsWrite (state S.Store conn.old) (state S.Store conn.new) result (Adds profile.now revision.now) }
-    ensures cause { HasCleanDisk (state S.Store conn.new) → IfErr result (IsCause S.Store (adding_revision profile.now revision.now) conn.old) }
+    ensures cause { HasCleanDisk (state S.Store conn.new) → IfErr result (HasMet S.Store (adding_revision profile.now revision.now) conn.old conn.new) }
 {
     let added = of_revision(profile, revision);
     write_two(
@@ -226,7 +226,7 @@ pub fn set_issued<S: Alter>(
 ) -> Result<(), StoreFault>
     requires { IsIdle (state S.Store conn.old) }
     ensures write { IsWrite (state S.Store conn.old) (state S.Store conn.new) result (Into (with_issued profile.now number)) }
-    ensures cause { HasCleanDisk (state S.Store conn.new) → IfErr result (IsCause S.Store (issuing profile.now number) conn.old) }
+    ensures cause { HasCleanDisk (state S.Store conn.new) → IfErr result (HasMet S.Store (issuing profile.now number) conn.old conn.new) }
 {
     write_two(
         conn,
@@ -245,7 +245,7 @@ pub fn set_withdrawn<S: Alter>(
 ) -> Result<(), StoreFault>
     requires { IsIdle (state S.Store conn.old) }
     ensures write { IsWrite (state S.Store conn.old) (state S.Store conn.new) result (Into (with_withdrawn profile.now number)) }
-    ensures cause { HasCleanDisk (state S.Store conn.new) → IfErr result (IsCause S.Store (withdrawing profile.now number) conn.old) }
+    ensures cause { HasCleanDisk (state S.Store conn.new) → IfErr result (HasMet S.Store (withdrawing profile.now number) conn.old conn.new) }
 {
     write_one(conn, WITHDRAW_REVISION, &of_number(profile, number))
 }

@@ -5,7 +5,7 @@ ghost use Rattle.sqlite.specs.Held.{state};
 ghost use Rattle.sqlite.specs.State.{HasCleanDisk};
 ghost use Rattle.sqlite.specs.declared.types.Value.TheVariants.{Text as SqlText, Blob};
 ghost use Rattle.office_rows.specs.Faults.{FindsRow};
-ghost use Rattle.office_rows.specs.Statements.{IsCause};
+ghost use Rattle.office_rows.specs.Statements.{HasMet};
 ghost use Rattle.office_rows.specs.Told.{IsOfRow, IsTold, TellsRow, TellsOne};
 ghost use Rattle.office_tables.specs.declared.row.UserRow.{UserRow as User};
 ghost use Rattle.office_tables.specs.Changes.{with_user};
@@ -121,7 +121,7 @@ pub fn user_by_token<S: Alter>(
 pub fn put_user<S: Alter>(conn: &mut Connection<S>, user: &UserRow) -> Result<(), StoreFault>
     requires { IsIdle (state S.Store conn.old) }
     ensures write { IsWrite (state S.Store conn.old) (state S.Store conn.new) result (Into (with_user user.now)) }
-    ensures cause { HasCleanDisk (state S.Store conn.new) → IfErr result (IsCause S.Store (putting_user user.now) conn.old) }
+    ensures cause { HasCleanDisk (state S.Store conn.new) → IfErr result (HasMet S.Store (putting_user user.now) conn.old conn.new) }
 {
     write_two(
         conn,

@@ -3,7 +3,7 @@
 ghost use Rattle.std.specs.Prelude.{IfErr};
 ghost use Rattle.sqlite.specs.Held.{state};
 ghost use Rattle.sqlite.specs.State.{HasCleanDisk};
-ghost use Rattle.office_rows.specs.Statements.{IsCause};
+ghost use Rattle.office_rows.specs.Statements.{HasMet};
 ghost use Rattle.office_tables.specs.Changes.{with_vote};
 ghost use Rattle.office_store.specs.Calls.{IsWrite, Into};
 ghost use Rattle.office_store.specs.Shown.{IsIdle};
@@ -38,7 +38,7 @@ pub fn put_vote<S: Alter>(
 ) -> Result<(), StoreFault>
     requires { IsIdle (state S.Store conn.old) }
     ensures write { IsWrite (state S.Store conn.old) (state S.Store conn.new) result (Into (with_vote profile.now number voter.now (record { approves = ballot.approves; security = ballot.security }))) }
-    ensures cause { HasCleanDisk (state S.Store conn.new) → IfErr result (IsCause S.Store (putting_vote (record { profile = profile.now; number = number; voter = voter.now }, record { approves = ballot.approves; security = ballot.security })) conn.old) }
+    ensures cause { HasCleanDisk (state S.Store conn.new) → IfErr result (HasMet S.Store (putting_vote (record { profile = profile.now; number = number; voter = voter.now }, record { approves = ballot.approves; security = ballot.security })) conn.old conn.new) }
 {
     write_two(
         conn,

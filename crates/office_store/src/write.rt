@@ -4,7 +4,7 @@ ghost use Rattle.std.specs.Prelude.{◌≡◌, ◌<◌, [], ◌∷◌, length, m
 ghost use Rattle.sqlite.specs.Held.{state};
 ghost use Rattle.sqlite.specs.State.{HasCleanDisk};
 ghost use Rattle.sqlite.specs.Values.{bound};
-ghost use Rattle.office_rows.specs.Statements.{statement_of, IsCause};
+ghost use Rattle.office_rows.specs.Statements.{statement_of, HasMet};
 ghost use Rattle.office_store.specs.Calls.{IsWrite};
 ghost use Rattle.office_store.specs.Shown.{IsIdle};
 ghost use Rattle.office_store.specs.Steps.{statement, AreSteps};
@@ -22,7 +22,7 @@ fn write<S: Alter>(
     requires idle { IsIdle (state S.Store conn.old) }
     requires some { 0 < length statements.now }
     ensures write { IsWrite (state S.Store conn.old) (state S.Store conn.new) result (AreSteps S.Store (map statement_of statements.now)) }
-    ensures cause { HasCleanDisk (state S.Store conn.new) → IfErr result (IsCause S.Store (map statement_of statements.now) conn.old) }
+    ensures cause { HasCleanDisk (state S.Store conn.new) → IfErr result (HasMet S.Store (map statement_of statements.now) conn.old conn.new) }
 {
     match run_all(conn, statements) {
         Ok(()) => Ok(()),
@@ -38,7 +38,7 @@ pub(crate) fn write_one<'a, S: Alter>(
 ) -> Result<(), StoreFault>
     requires { IsIdle (state S.Store conn.old) }
     ensures write { IsWrite (state S.Store conn.old) (state S.Store conn.new) result (AreSteps S.Store (statement first.now (bound params.now) ∷ [])) }
-    ensures cause { HasCleanDisk (state S.Store conn.new) → IfErr result (IsCause S.Store (statement first.now (bound params.now) ∷ []) conn.old) }
+    ensures cause { HasCleanDisk (state S.Store conn.new) → IfErr result (HasMet S.Store (statement first.now (bound params.now) ∷ []) conn.old conn.new) }
 {
     write(conn, &[Statement { sql: first, params }])
 }
@@ -53,7 +53,7 @@ pub(crate) fn write_two<'a, S: Alter>(
 ) -> Result<(), StoreFault>
     requires { IsIdle (state S.Store conn.old) }
     ensures write { IsWrite (state S.Store conn.old) (state S.Store conn.new) result (AreSteps S.Store (statement first.now (bound first_params.now) ∷ statement second.now (bound second_params.now) ∷ [])) }
-    ensures cause { HasCleanDisk (state S.Store conn.new) → IfErr result (IsCause S.Store (statement first.now (bound first_params.now) ∷ statement second.now (bound second_params.now) ∷ []) conn.old) }
+    ensures cause { HasCleanDisk (state S.Store conn.new) → IfErr result (HasMet S.Store (statement first.now (bound first_params.now) ∷ statement second.now (bound second_params.now) ∷ []) conn.old conn.new) }
 {
     write(
         conn,

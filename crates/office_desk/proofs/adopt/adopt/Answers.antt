@@ -1,12 +1,13 @@
 use Rattle.std.proofs.Common.{◌∙◌, None, refl, sym, ap}
 use Rattle.sqlite.specs.Held.{state}
+use Rattle.office_store.specs.Refusing.{puts_baseline}
 use Rattle.review_policy.specs.declared.answer.Reply.TheVariants as reply
 use Rattle.review_policy.specs.Rules.{first_denial, adopt_rules}
 use Rattle.office_tables.specs.Changes.{with_baseline}
 use Rattle.office_policy.specs.History.{adopted}
 use Rattle.office_policy.proofs.EventFacts.{adopted_tables}
 use Rattle.office_desk.specs.declared.refusal.Refusal.TheVariants as refusals
-use Rattle.office_desk.proofs.Carrying.{left, read_fails}
+use Rattle.office_desk.proofs.Carrying.{left, read_fails, met_by}
 use Rattle.office_desk.proofs.Deciding.{refuses_at_once, refuses, writes, fails_to_write}
 use Rattle.office_desk.proofs.Adoptions.{adopting, adopt_early}
 use Rattle.office_desk.proofs.adopt.adopt.Goals as goal
@@ -41,7 +42,8 @@ returns-in_err-put_baseline g c =
     (ap (λ f. first_denial (adopt_rules f)) (sym c.all_facts.ensures) ∙ sym c.in_ok-decide_adopt-2.ensures)
     reply.Adopted (state g.S.Store c.put_baseline.new.conn) (adopted c.args.caller.now.name c.args.name.now c.args.number) (λ h. refl)
     (with_baseline c.args.name.now c.args.number) (λ h lawful. adopted_tables h c.args.caller.now.name c.args.name.now c.args.number)
-    c.in_err-put_baseline.field-0.0 c.in_err-put_baseline.ensures.write)
+    c.in_err-put_baseline.field-0.0 c.in_err-put_baseline.ensures.write
+    (λ clean. met_by g.S.Store (puts_baseline c.args.name.now c.args.number) _ _ _ (c.in_err-put_baseline.ensures.cause clean)))
 
 pub returns : goal.returns
 returns g c =

@@ -1,10 +1,11 @@
 use Rattle.std.proofs.Common.{◌∙◌, None, refl, sym, ap}
 use Rattle.sqlite.specs.Held.{state}
+use Rattle.office_store.specs.Refusing.{puts_user}
 use Rattle.review_policy.specs.declared.answer.Reply.TheVariants.{Enrolled}
 use Rattle.review_policy.specs.Rules.{first_denial, enrol_rules}
 use Rattle.office_tables.specs.declared.fault.StoreFault.TheVariants.{NoMemory}
 use Rattle.office_desk.specs.declared.refusal.Refusal.TheVariants as refusals
-use Rattle.office_desk.proofs.Carrying.{left, refused_at_once, read_fails, fails_after, refused_after, written, write_fails}
+use Rattle.office_desk.proofs.Carrying.{left, refused_at_once, read_fails, fails_after, refused_after, written, write_fails, met_by}
 use Rattle.office_desk.proofs.Enrolments.{refused_early, refused, adds}
 use Rattle.office_desk.proofs.enrol.enrol.Goals as goal
 
@@ -33,7 +34,7 @@ pub returns-in_err-row : goal.returns-in_err-row
 returns-in_err-row g c =
     left _ _ _ _ (refusals.Fault NoMemory) c.from_residual-in_err-row.ensures.1
     (fails_after _ (state g.S.Store c.args.conn.now) (state g.S.Store c.users_of.new.conn) _
-    (c.in_ok-known.known, c.in_ok-known.shower) c.in_ok-known.ensures NoMemory (λ same. cc))
+    (c.in_ok-known.known, c.in_ok-known.shower) c.in_ok-known.ensures NoMemory refl)
 
 pub returns-in_err-put_user : goal.returns-in_err-put_user
 returns-in_err-put_user g c =
@@ -43,7 +44,8 @@ returns-in_err-put_user g c =
     (λ h lawful is. adds h c.args.caller.now c.args.user.now c.args.team.now c.args.roles c.args.digest.now
     (c.in_ok-known.known, c.in_ok-known.shower) (is h lawful refl) c.in_ok-row.row c.in_ok-row.ensures
     (ap (λ f. first_denial (enrol_rules f)) (sym c.all_facts.ensures) ∙ sym c.in_ok-decide_enrol-2.ensures))
-    c.in_err-put_user.field-0.0 c.in_err-put_user.ensures.write)
+    c.in_err-put_user.field-0.0 c.in_err-put_user.ensures.write
+    (λ clean. met_by g.S.Store (puts_user c.in_ok-row.row) _ _ _ (c.in_err-put_user.ensures.cause clean)))
 
 pub returns : goal.returns
 returns g c =

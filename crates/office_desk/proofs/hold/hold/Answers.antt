@@ -1,11 +1,12 @@
 use Rattle.std.proofs.Common.{None, Ok, Err, false, refl}
 use Rattle.sqlite.specs.Held.{state}
+use Rattle.office_store.specs.Refusing.{puts_hold}
 use Rattle.review_policy.specs.declared.answer.Reply.TheVariants as reply
 use Rattle.office_tables.specs.Changes.{with_hold}
 use Rattle.office_policy.specs.History.{held}
 use Rattle.office_policy.proofs.EventFacts.{held_tables}
 use Rattle.office_desk.specs.declared.refusal.Refusal.TheVariants as refusals
-use Rattle.office_desk.proofs.Carrying.{left, read_fails}
+use Rattle.office_desk.proofs.Carrying.{left, read_fails, met_by}
 use Rattle.office_desk.proofs.Deciding.{refuses_at_once, refuses, writes, fails_to_write}
 use Rattle.office_desk.proofs.Holds.{holding, hold_early, hold_asked}
 use Rattle.office_desk.proofs.hold.hold.Goals as goal
@@ -41,7 +42,8 @@ returns-in_err-put_hold g c =
     reply.Held (state g.S.Store c.put_hold.new.conn)
     (held c.args.caller.now.name c.args.name.now) (λ h. refl) (with_hold c.args.name.now)
     (λ h lawful. held_tables h c.args.caller.now.name c.args.name.now)
-    c.in_err-put_hold.field-0.0 c.in_err-put_hold.ensures.write)
+    c.in_err-put_hold.field-0.0 c.in_err-put_hold.ensures.write
+    (λ clean. met_by g.S.Store (puts_hold c.args.name.now) _ _ _ (c.in_err-put_hold.ensures.cause clean)))
 
 pub returns : goal.returns
 returns g c =

@@ -1,11 +1,12 @@
 use Rattle.std.proofs.Common.{None, Ok, Err, true, false, refl}
 use Rattle.sqlite.specs.Held.{state}
+use Rattle.office_store.specs.Refusing.{deletes_hold}
 use Rattle.review_policy.specs.declared.answer.Reply.TheVariants as reply
 use Rattle.office_tables.specs.Changes.{without_hold}
 use Rattle.office_policy.specs.History.{released}
 use Rattle.office_policy.proofs.EventFacts.{released_tables}
 use Rattle.office_desk.specs.declared.refusal.Refusal.TheVariants as refusals
-use Rattle.office_desk.proofs.Carrying.{left, read_fails}
+use Rattle.office_desk.proofs.Carrying.{left, read_fails, met_by}
 use Rattle.office_desk.proofs.Deciding.{refuses_at_once, refuses, writes, fails_to_write}
 use Rattle.office_desk.proofs.Holds.{releasing, release_early, release_asked}
 use Rattle.office_desk.proofs.hold.release.Goals as goal
@@ -41,7 +42,8 @@ returns-in_err-delete_hold g c =
     reply.Released (state g.S.Store c.delete_hold.new.conn)
     (released c.args.caller.now.name c.args.name.now) (λ h. refl) (without_hold c.args.name.now)
     (λ h lawful. released_tables h c.args.caller.now.name c.args.name.now)
-    c.in_err-delete_hold.field-0.0 c.in_err-delete_hold.ensures.write)
+    c.in_err-delete_hold.field-0.0 c.in_err-delete_hold.ensures.write
+    (λ clean. met_by g.S.Store (deletes_hold c.args.name.now) _ _ _ (c.in_err-delete_hold.ensures.cause clean)))
 
 pub returns : goal.returns
 returns g c =

@@ -1,10 +1,11 @@
 use Rattle.std.proofs.Common.{◌∙◌, None, sym, ap, refl}
 use Rattle.sqlite.specs.Held.{state}
+use Rattle.office_store.specs.Refusing.{issues}
 use Rattle.review_policy.specs.declared.answer.Reply.TheVariants.{Issued}
 use Rattle.review_policy.specs.Rules.{first_denial, issue_rules}
 use Rattle.office_tables.specs.declared.fault.StoreFault.TheVariants.{NoMemory}
 use Rattle.office_desk.specs.declared.refusal.Refusal.TheVariants as refusals
-use Rattle.office_desk.proofs.Carrying.{left, refused_at_once, read_fails, second_fails, fails_after, refused_after, written, write_fails}
+use Rattle.office_desk.proofs.Carrying.{left, refused_at_once, read_fails, second_fails, fails_after, refused_after, written, write_fails, met_by}
 use Rattle.office_desk.proofs.Compared.{read_pair}
 use Rattle.office_desk.proofs.Issuing.{caller_refused, refused_early_on, refused_by_need, issue_adds}
 use Rattle.office_desk.proofs.issue.issue.Goals as goal
@@ -50,7 +51,7 @@ returns-in_err-need g c =
     let compared = c.in_ok-compared.compared in
     let both = read_pair old mid new _ _ looked compared c.in_ok-looked.ensures c.in_ok-compared.ensures in
     left _ _ _ _ (refusals.Fault NoMemory) c.from_residual-in_err-need.ensures.1
-    (fails_after _ old new _ (looked, compared) both NoMemory (λ same. cc))
+    (fails_after _ old new _ (looked, compared) both NoMemory refl)
 
 pub returns-in_err-decide_issue-3 : goal.returns-in_err-decide_issue-3
 returns-in_err-decide_issue-3 g c =
@@ -82,7 +83,8 @@ returns-in_err-set_issued g c =
     (λ h lawful looks. issue_adds h c.args.caller.now c.args.name.now c.args.number looked (looks.0 h lawful refl) c.in-Some.row c.in-Some.is
     compared (looks.1 h lawful refl) c.in_ok-need.need c.in_ok-need.ensures
     (ap (λ f. first_denial (issue_rules f)) (sym c.all_facts.ensures) ∙ sym c.in_ok-decide_issue-3.ensures))
-    fault c.in_err-set_issued.ensures.write)
+    fault c.in_err-set_issued.ensures.write
+    (λ clean. met_by g.S.Store (issues c.args.name.now c.args.number) _ _ _ (c.in_err-set_issued.ensures.cause clean)))
 
 pub returns : goal.returns
 returns g c =

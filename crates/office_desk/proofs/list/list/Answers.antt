@@ -1,4 +1,4 @@
-use Rattle.std.proofs.Common.{◌∙◌, None, sym, ap}
+use Rattle.std.proofs.Common.{◌∙◌, None, sym, ap, refl}
 use Rattle.sqlite.specs.Held.{state}
 use Rattle.review_policy.specs.declared.answer.Reply.TheVariants.{Listed}
 use Rattle.review_policy.specs.Rules.{first_denial, read_rules}
@@ -27,7 +27,7 @@ pub returns-in_err-profiles : goal.returns-in_err-profiles
 returns-in_err-profiles g c =
     left_reading _ _ _ _ (refusals.Fault NoMemory) c.from_residual-in_err-profiles.ensures.1
     (fails_after _ (state g.S.Store c.args.conn.now) (state g.S.Store c.revisions_of.new.conn) _ c.in_ok-revisions.revisions
-    c.in_ok-revisions.ensures.read NoMemory (λ same. cc))
+    c.in_ok-revisions.ensures.read NoMemory refl)
 
 pub returns : goal.returns
 returns g c =

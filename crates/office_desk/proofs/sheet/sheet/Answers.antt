@@ -69,7 +69,7 @@ returns-in_err-sheet g c =
     let new = state g.S.Store c.compared_with.new.conn in
     let both = read_pair old one two _ _ c.in_ok-found.found c.in_ok-votes.votes c.in_ok-found.ensures.read c.in_ok-votes.ensures.read in
     let all = read_pair old two new _ _ _ c.in_ok-compared.compared both c.in_ok-compared.ensures in
-    left_reading _ _ _ _ (refusals.Fault NoMemory) c.from_residual-in_err-sheet.ensures.1 (fails_after _ old new _ _ all NoMemory (λ same. cc))
+    left_reading _ _ _ _ (refusals.Fault NoMemory) c.from_residual-in_err-sheet.ensures.1 (fails_after _ old new _ _ all NoMemory refl)
 
 pub returns : goal.returns
 returns g c =

@@ -1,10 +1,11 @@
-use Rattle.std.proofs.Common.{rules, ◌≡◌, ◌∙◌, None, Err, sym, ap}
+use Rattle.std.proofs.Common.{rules, ◌≡◌, ◌∙◌, None, Err, sym, ap, refl}
 use Rattle.sqlite.specs.Held.{state}
+use Rattle.office_store.specs.Refusing.{adds_revision}
 use Rattle.review_policy.specs.declared.answer.Reply.TheVariants.{Submitted}
 use Rattle.review_policy.specs.Rules.{first_denial, submit_rules}
 use Rattle.office_tables.specs.declared.fault.StoreFault.TheVariants.{NoMemory}
 use Rattle.office_desk.specs.declared.refusal.Refusal.TheVariants as refusals
-use Rattle.office_desk.proofs.Carrying.{left, read_fails, fails_after, refused_after, written, write_fails}
+use Rattle.office_desk.proofs.Carrying.{left, read_fails, fails_after, refused_after, written, write_fails, met_by}
 use Rattle.office_desk.proofs.Submissions.{turned_away, refused, adds}
 use Rattle.office_desk.proofs.submit.submit.Goals as goal
 
@@ -29,7 +30,7 @@ returns-in_err-decide_submit g c =
 pub returns-in_err-revision : goal.returns-in_err-revision
 returns-in_err-revision g c =
     left _ _ _ _ (refusals.Fault NoMemory) c.from_residual-in_err-revision.ensures.1
-    (fails_after _ (state g.S.Store c.args.conn.now) (state g.S.Store c.last.new.conn) _ c.in_ok-last.last c.in_ok-last.ensures.read NoMemory (λ same. cc))
+    (fails_after _ (state g.S.Store c.args.conn.now) (state g.S.Store c.last.new.conn) _ c.in_ok-last.last c.in_ok-last.ensures.read NoMemory refl)
 
 pub returns-in_err-add_revision : goal.returns-in_err-add_revision
 returns-in_err-add_revision g c =
@@ -41,7 +42,8 @@ returns-in_err-add_revision g c =
     (λ h lawful is. adds h c.args.caller.now c.args.name.now c.args.document.now c.in_ok-text.text c.in_ok-text.ensures.text c.in_ok-last.last is
     lawful row c.in_ok-revision.ensures
     (ap (λ f. first_denial (submit_rules f)) (sym c.all_facts.ensures) ∙ sym c.in_ok-decide_submit.ensures))
-    fault c.in_err-add_revision.ensures.write)
+    fault c.in_err-add_revision.ensures.write
+    (λ clean. met_by g.S.Store (adds_revision c.args.name.now row) _ _ _ (c.in_err-add_revision.ensures.cause clean)))
 
 pub returns : goal.returns
 returns g c =

@@ -1,11 +1,12 @@
 use Rattle.std.proofs.Common.{◌∙◌, None, refl, sym, ap}
 use Rattle.sqlite.specs.Held.{state}
+use Rattle.office_store.specs.Refusing.{puts_vote}
 use Rattle.review_policy.specs.declared.answer.Reply.TheVariants as reply
 use Rattle.review_policy.specs.Rules.{first_denial, vote_rules}
 use Rattle.office_tables.specs.Changes.{with_vote}
 use Rattle.office_policy.specs.History.{voted}
 use Rattle.office_desk.specs.declared.refusal.Refusal.TheVariants as refusals
-use Rattle.office_desk.proofs.Carrying.{left, read_fails}
+use Rattle.office_desk.proofs.Carrying.{left, read_fails, met_by}
 use Rattle.office_desk.proofs.Deciding.{refuses_at_once, refuses, writes, fails_to_write}
 use Rattle.office_desk.proofs.Votes.{voting, vote_early, vote_made}
 use Rattle.office_desk.proofs.vote.vote.Goals as goal
@@ -41,7 +42,8 @@ returns-in_err-put_vote g c =
     reply.Voted (state g.S.Store c.put_vote.new.conn) (voted c.args.caller.now.name c.args.name.now c.args.number c.args.digest.now c.args.approves) (λ h. refl)
     (with_vote c.args.name.now c.args.number c.args.caller.now.name (record { approves = c.args.approves; security = c.has-security.result }))
     (vote_made c.args.caller.now c.args.name.now c.args.number c.args.digest.now c.args.approves c.has-security.result c.has-security.ensures)
-    c.in_err-put_vote.field-0.0 c.in_err-put_vote.ensures.write)
+    c.in_err-put_vote.field-0.0 c.in_err-put_vote.ensures.write
+    (λ clean. met_by g.S.Store (puts_vote (record { profile = c.args.name.now; number = c.args.number; voter = c.args.caller.now.name }, record { approves = c.args.approves; security = c.has-security.result })) _ _ _ (c.in_err-put_vote.ensures.cause clean)))
 
 pub returns : goal.returns
 returns g c =

@@ -1,12 +1,13 @@
 use Rattle.std.proofs.Common.{◌∙◌, None, refl, sym, ap}
 use Rattle.sqlite.specs.Held.{state}
+use Rattle.office_store.specs.Refusing.{withdraws}
 use Rattle.review_policy.specs.declared.answer.Reply.TheVariants as reply
 use Rattle.review_policy.specs.Rules.{first_denial, withdraw_rules}
 use Rattle.office_tables.specs.Changes.{with_withdrawn}
 use Rattle.office_policy.specs.History.{withdrawn}
 use Rattle.office_policy.proofs.EventFacts.{withdrawn_tables}
 use Rattle.office_desk.specs.declared.refusal.Refusal.TheVariants as refusals
-use Rattle.office_desk.proofs.Carrying.{left, read_fails}
+use Rattle.office_desk.proofs.Carrying.{left, read_fails, met_by}
 use Rattle.office_desk.proofs.Deciding.{refuses_at_once, refuses, writes, fails_to_write}
 use Rattle.office_desk.proofs.LookedBack.{one_revision}
 use Rattle.office_desk.proofs.Withdrawals.{withdrawing, withdraw_early}
@@ -46,7 +47,8 @@ returns-in_err-set_withdrawn g c =
     (ap (λ f. first_denial (withdraw_rules f)) (sym c.all_facts.ensures) ∙ sym c.in_ok-decide_withdraw-2.ensures)
     reply.Withdrawn (state g.S.Store c.set_withdrawn.new.conn) (withdrawn c.args.caller.now.name c.args.name.now c.args.number) (λ h. refl)
     (with_withdrawn c.args.name.now c.args.number) (λ h lawful. withdrawn_tables h c.args.caller.now.name c.args.name.now c.args.number)
-    c.in_err-set_withdrawn.field-0.0 c.in_err-set_withdrawn.ensures.write)
+    c.in_err-set_withdrawn.field-0.0 c.in_err-set_withdrawn.ensures.write
+    (λ clean. met_by g.S.Store (withdraws c.args.name.now c.args.number) _ _ _ (c.in_err-set_withdrawn.ensures.cause clean)))
 
 pub returns : goal.returns
 returns g c =

@@ -3,6 +3,7 @@ use Rattle.sqlite.specs.Held.{state}
 use Rattle.office_tables.specs.declared.fault.StoreFault.TheVariants.{NotAnOffice}
 use Rattle.office_store.specs.Form.{has_old_tables, old_form, new_form}
 use Rattle.office_store.proofs.OldReads.{shown_has_old_tables, office_has_old_tables}
+use Rattle.office_store.proofs.Calls.{never_unformed}
 use Rattle.office_store.proofs.Forms.{finds_form}
 use Rattle.office_store.proofs.Migrating.{only_asked, asked_then, one_number, old_again}
 use Rattle.office_store.proofs.migration.migrate.Goals as goal
@@ -24,7 +25,7 @@ returns-in-Err-clause-migration g c =
 pub returns-in-Err-clause-already : goal.returns-in-Err-clause-already
 returns-in-Err-clause-already g c t shows clean = (
   tt,
-  (λ e. c.office_number.ensures.read.formed t (λ _. shows) clean (c.in-Err.is ∙ (let k : c.in-Err.fault ≡ NotAnOffice = cc in ap Err k))),
+  (λ e. never_unformed (state g.S.Store c.args.conn.now) (state g.S.Store c.office_number.new.conn) c.office_number.result (c.office_number.ensures.read.cause t (λ _. shows) clean) (c.in-Err.is ∙ (let k : c.in-Err.fault ≡ NotAnOffice = cc in ap Err k))),
   c.office_number.ensures.read.shown t (λ _. shows) clean,
 )
 

@@ -2,14 +2,15 @@ use Rattle.sqlite.specs.Held.{state}
 use Rattle.office_store.specs.declared.revisions.TheConstants.{REVISION_AT}
 use Rattle.office_store.proofs.Calls.{first_read}
 use Rattle.office_store.proofs.Queries.{revision_at}
+use Rattle.office_store.proofs.Sure as sure
 use Rattle.office_store.proofs.RevisionReads.{reads_revision}
 use Rattle.office_store.proofs.revisions.row_at.Goals as goal
 
 pub returns-clause-read : goal.returns-clause-read
 returns-clause-read g c =
     first_read REVISION_AT.now revision_at _ _ (state g.S.Store c.args.conn.now) (state g.S.Store c.first_row.new.conn) c.first_row.result _ c.requires c.first_row.ensures.mode
-    (g.met.S.Store.settled c.first_row.new.conn.store) c.first_row.ensures.survives c.first_row.ensures.row c.of_number.ensures.row
-    (λ t shows h. let it = reads_revision (state g.S.Store c.args.conn.now) (state g.S.Store c.first_row.new.conn) t shows c.requires.autocommit c.args.profile.now c.args.number c.first_row.result h in (it.0, it.1))
+    (g.met.S.Store.settled c.first_row.new.conn.store) c.first_row.ensures.survives c.first_row.ensures.row c.of_number.ensures.row (sure.revision_at c.args.profile.now c.args.number)
+    (λ t shows h. let it = reads_revision (state g.S.Store c.args.conn.now) (state g.S.Store c.first_row.new.conn) t shows c.requires.autocommit c.args.profile.now c.args.number c.first_row.result h in it.0)
 
 pub returns-clause-row : goal.returns-clause-row
 returns-clause-row g c clean = rw c.of_number.ensures.row at (c.first_row.ensures.row clean)

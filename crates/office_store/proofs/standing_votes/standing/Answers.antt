@@ -3,6 +3,7 @@ use Rattle.std.proofs.lemmas.Result.{IfOk-weaker}
 use Rattle.sqlite.specs.Held.{state}
 use Rattle.office_rows.specs.Told.{map_ok}
 use Rattle.office_store.proofs.ToldLists.{votes_failed, votes_told}
+use Rattle.office_store.proofs.Told.{only_memory}
 use Rattle.office_store.proofs.Calls.{read_failed, read_made}
 use Rattle.office_tables.specs.Lists.{AreStanding}
 use Rattle.office_store.specs.Lists.{standing_of}
@@ -15,7 +16,7 @@ returns-in_err-rows-clause-read g c =
 pub returns-clause-read : goal.returns-clause-read
 returns-clause-read g c =
     read_made (state g.S.Store c.args.conn.now) (state g.S.Store c.vote_rows.new.conn) _ _ _ c.in_ok-rows.ensures.read c.read_votes.result _ refl
-    (λ t shows it. (IfOk-weaker c.read_votes.result (λ read. read.items ≡ map standing_of it.cast) (λ read. AreStanding t c.args.profile.now c.args.number read.items) (λ read is. subst (AreStanding t c.args.profile.now c.args.number) (sym is) it.standing) (c.read_votes.ensures.votes it.cast (c.as_slice.ensures.value ∙ it.rows_are)), c.read_votes.ensures.formed it.cast (c.as_slice.ensures.value ∙ it.rows_are) it.formed))
+    (λ t shows it. (IfOk-weaker c.read_votes.result (λ read. read.items ≡ map standing_of it.cast) (λ read. AreStanding t c.args.profile.now c.args.number read.items) (λ read is. subst (AreStanding t c.args.profile.now c.args.number) (sym is) it.standing) (c.read_votes.ensures.votes it.cast (c.as_slice.ensures.value ∙ it.rows_are)), only_memory c.read_votes.result (c.read_votes.ensures.formed it.cast (c.as_slice.ensures.value ∙ it.rows_are) it.formed) c.read_votes.ensures.cause))
 
 pub returns-in_err-rows-clause-told : goal.returns-in_err-rows-clause-told
 returns-in_err-rows-clause-told g c clean = record {

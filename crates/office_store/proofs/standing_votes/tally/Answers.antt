@@ -12,7 +12,7 @@ returns-in_err-votes-clause-read g c =
 pub returns-clause-read : goal.returns-clause-read
 returns-clause-read g c =
     read_made (state g.S.Store c.args.conn.now) (state g.S.Store c.standing.new.conn) _ _ _ c.in_ok-votes.ensures.read _ _ refl
-    (λ t shows standing. (record { rows = c.in_ok-votes.votes.items; standing = standing; counted = c.count.ensures ∙ ap tally_of c.as_slice.ensures.value }, λ same. cc))
+    (λ t shows standing. (record { rows = c.in_ok-votes.votes.items; standing = standing; counted = c.count.ensures ∙ ap tally_of c.as_slice.ensures.value }, tt))
 
 pub returns-in_err-votes-clause-told : goal.returns-in_err-votes-clause-told
 returns-in_err-votes-clause-told g c clean =

@@ -41,7 +41,8 @@ returns-in-Err-clause-old g c = λ t shows clean. (c.in-Err.ensures.old t shows 
 
 pub returns-in-Err-clause-known : goal.returns-in-Err-clause-known
 returns-in-Err-clause-known g c = λ h lawful shows clean.
-    fails _ ((c.in-Err.ensures.read (ap has_old_tables shows.office.schema ∙ office_has_old_tables)).formed (tables_of h) (λ is_open. shows) clean)
+    fails (state g.S.Store c.args.conn) (state g.S.Store c.check_office.new.conn) _
+    ((c.in-Err.ensures.read (ap has_old_tables shows.office.schema ∙ office_has_old_tables)).cause (tables_of h) (λ is_open. shows) clean)
 
 pub returns-in-Err-clause-same : goal.returns-in-Err-clause-same
 returns-in-Err-clause-same g c = λ settled clean.

@@ -1,0 +1,74 @@
+-- The schema of an office takes the texts of the reads.
+use Rattle.std.proofs.Common.{ℕ, List, [], ◌∷◌, refl}
+use Rattle.sqlite.specs.declared.types.Value.TheVariants.{Text, Blob}
+use Rattle.sqlite.specs.Listing.{understood}
+use Rattle.sqlite_tied.specs.Compute.{everything}
+use Rattle.review_policy.specs.declared.ask.ProfileName.{ProfileName}
+use Rattle.office_rows.proofs.Sure.{IsSure}
+use Rattle.office_store.specs.Schema.{office_schema}
+use Rattle.office_store.specs.Keys.{profile_params, revision_params, author_params}
+use Rattle.office_store.specs.declared.author.TheConstants.{REVISION_BY, AUTHORS_OF}
+use Rattle.office_store.specs.declared.baselines.TheConstants.{BASELINE_OF}
+use Rattle.office_store.specs.declared.form.TheConstants.{OFFICE_ROW}
+use Rattle.office_store.specs.declared.holds.TheConstants.{HOLD_OF}
+use Rattle.office_store.specs.declared.listing.TheConstants.{REVISIONS_OF}
+use Rattle.office_store.specs.declared.office.TheConstants.{LISTED}
+use Rattle.office_store.specs.declared.revisions.TheConstants.{REVISION_AT, REVISION_OF, ISSUED_OF, LAST_OF}
+use Rattle.office_store.specs.declared.standing_votes.TheConstants.{VOTES_ON}
+use Rattle.office_store.specs.declared.users.TheConstants.{USER_BY_NAME, USER_BY_TOKEN}
+
+pub user_by_name : (name : List ℕ) → IsSure office_schema USER_BY_NAME.now (Text name ∷ [])
+unfolding understood everything
+user_by_name name = record { text = record { whole = refl; given = refl; bare = refl; timeless = refl; query = (refl, refl, refl, refl) }; unlisted = refl }
+
+pub user_by_token : (digest : List ℕ) → IsSure office_schema USER_BY_TOKEN.now (Blob digest ∷ [])
+unfolding understood everything
+user_by_token digest = record { text = record { whole = refl; given = refl; bare = refl; timeless = refl; query = (refl, refl, refl, refl) }; unlisted = refl }
+
+pub revision_at : (p : ProfileName) (n : ℕ) → IsSure office_schema REVISION_AT.now (revision_params p n)
+unfolding understood everything
+revision_at p n = record { text = record { whole = refl; given = refl; bare = refl; timeless = refl; query = (refl, refl, refl, refl) }; unlisted = refl }
+
+pub revision_of : (p : ProfileName) → IsSure office_schema REVISION_OF.now (profile_params p)
+unfolding understood everything
+revision_of p = record { text = record { whole = refl; given = refl; bare = refl; timeless = refl; query = (refl, refl, refl, refl) }; unlisted = refl }
+
+pub issued_of : (p : ProfileName) → IsSure office_schema ISSUED_OF.now (profile_params p)
+unfolding understood everything
+issued_of p = record { text = record { whole = refl; given = refl; bare = refl; timeless = refl; query = (refl, refl, refl, refl) }; unlisted = refl }
+
+pub last_of : (p : ProfileName) → IsSure office_schema LAST_OF.now (profile_params p)
+unfolding understood everything
+last_of p = record { text = record { whole = refl; given = refl; bare = refl; timeless = refl; query = (refl, refl, refl, refl) }; unlisted = refl }
+
+pub baseline_of : (team : List ℕ) → IsSure office_schema BASELINE_OF.now (Text team ∷ [])
+unfolding understood everything
+baseline_of team = record { text = record { whole = refl; given = refl; bare = refl; timeless = refl; query = (refl, refl, refl, refl) }; unlisted = refl }
+
+pub hold_of : (p : ProfileName) → IsSure office_schema HOLD_OF.now (profile_params p)
+unfolding understood everything
+hold_of p = record { text = record { whole = refl; given = refl; bare = refl; timeless = refl; query = (refl, refl, refl, refl) }; unlisted = refl }
+
+pub listed : IsSure office_schema LISTED.now []
+unfolding understood everything
+listed = record { text = record { whole = refl; given = refl; bare = refl; timeless = refl; query = (refl, refl, refl, refl) }; unlisted = refl }
+
+pub office_row : IsSure office_schema OFFICE_ROW.now []
+unfolding understood everything
+office_row = record { text = record { whole = refl; given = refl; bare = refl; timeless = refl; query = (refl, refl, refl, refl) }; unlisted = refl }
+
+pub revision_by : (p : ProfileName) (name : List ℕ) → IsSure office_schema REVISION_BY.now (author_params p name)
+unfolding understood everything
+revision_by p name = record { text = record { whole = refl; given = refl; bare = refl; timeless = refl; query = (refl, refl, refl, refl) }; unlisted = refl }
+
+pub authors_of : (p : ProfileName) → IsSure office_schema AUTHORS_OF.now (profile_params p)
+unfolding understood everything
+authors_of p = record { text = record { whole = refl; given = refl; bare = refl; timeless = refl; query = (refl, refl, refl, refl) }; unlisted = refl }
+
+pub revisions_of : (team : List ℕ) → IsSure office_schema REVISIONS_OF.now (Text team ∷ [])
+unfolding understood everything
+revisions_of team = record { text = record { whole = refl; given = refl; bare = refl; timeless = refl; query = (refl, refl, refl, refl) }; unlisted = refl }
+
+pub votes_on : (p : ProfileName) (n : ℕ) → IsSure office_schema VOTES_ON.now (revision_params p n)
+unfolding understood everything
+votes_on p n = record { text = record { whole = refl; given = refl; bare = refl; timeless = refl; query = (refl, refl, refl, refl) }; unlisted = refl }
