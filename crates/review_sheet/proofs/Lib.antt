@@ -1,4 +1,5 @@
 mod BareSheet
+mod DetailedSheet
 mod Adding
 mod AfterFacts
 mod CapFacts

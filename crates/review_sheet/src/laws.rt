@@ -5,7 +5,7 @@ ghost use Rattle.cap_sets.specs.Execve.{IsAfter, IsAfterRoot};
 ghost use Rattle.cap_sets.specs.declared.state.CapState.{CapState};
 ghost use Rattle.review_policy.specs.Rules.{need_of};
 ghost use Rattle.review_sheet.specs.AfterExecve.{after_plain, after_root};
-ghost use Rattle.review_sheet.specs.Examples.{bare, bare_lines};
+ghost use Rattle.review_sheet.specs.Examples.{bare, bare_lines, detailed, detailed_lines};
 ghost use Rattle.review_sheet.specs.Facts.{SheetValue};
 ghost use Rattle.review_sheet.specs.Laws.{CountsBelow, CountsVotes, HasPart};
 ghost use Rattle.profile_text.specs.Profile.{holds_listed, listed_in};
@@ -13,12 +13,20 @@ ghost use Rattle.review_sheet.specs.Review.{finding_line, need_text};
 ghost use Rattle.review_sheet.specs.Sets.{plain_lines, root_lines, set_line};
 ghost use Rattle.review_sheet.specs.Sheet.{sheet_lines, sheet_text};
 ghost use Rattle.widening.specs.Findings.{findings_of, is_wider};
+ghost use Rattle.widening.specs.declared.finding.Finding.TheVariants.{AnyArch};
 
 use cap_sets::File;
 
 /// The sheet of a profile without capabilities and without a filter.
 pub fn a_sheet_of_a_profile_without_a_filter()
     ensures { sheet_lines bare ≡ bare_lines }
+{}
+
+/// The sheet of a profile with five distinct sets and a filter, against an adopted revision, with
+/// votes that count and votes that lapsed; and the one finding that no such sheet has beside these.
+pub fn a_sheet_with_each_part()
+    ensures sheet { sheet_lines detailed ≡ detailed_lines }
+    ensures any_architecture { finding_line AnyArch ≡ codes "  architecture any" }
 {}
 
 /// A sheet is its lines, each ended by a line feed.
