@@ -2,7 +2,8 @@
 
 ghost use Rattle.std.specs.Prelude.{◌≡◌, ◌∷◌, [], map, replicate, ℕ};
 ghost use Rattle.office_rows.specs.Faults.{fault_of_error};
-ghost use Rattle.office_tables.specs.declared.fault.StoreFault.TheVariants.{NoMemory, Disk, Full, NotAnOffice};
+ghost use Rattle.office_tables.specs.declared.fault.StoreFault.TheVariants.{NoMemory, Disk};
+ghost use Rattle.office_tables.specs.declared.fault.StoreFault.TheVariants.{Full, NotAnOffice};
 ghost use Rattle.sqlite.specs.declared.error.Error.TheVariants as error;
 ghost use Rattle.sqlite.specs.declared.error.ErrorCode.TheVariants as code;
 ghost use Rattle.sqlite.specs.declared.types.Type.{«Type» as SqlType};
@@ -32,13 +33,14 @@ pub fn fault_of_error(error: Error) -> StoreFault
 /// Which fault each error of `sqlite` is.
 pub fn each_error_is_its_fault()
     ensures memory { fault_of_error (error.SqliteFailure code.OutOfMemory) ≡ NoMemory }
-    ensures full { map (λ c. fault_of_error (error.SqliteFailure c)) (code.DiskFull ∷ code.TooBig ∷ [])
-        ≡ replicate 2 Full }
+    ensures full { map (λ c. fault_of_error (error.SqliteFailure c))
+        (code.DiskFull ∷ code.TooBig ∷ []) ≡ replicate 2 Full }
     ensures disk { map (λ c. fault_of_error (error.SqliteFailure c))
         (code.SystemIoFailure ∷ code.DatabaseCorrupt ∷ code.NotADatabase ∷ code.Closed
         ∷ code.CannotOpen ∷ code.DatabaseBusy ∷ [])
         ≡ replicate 6 Disk }
-    ensures constraint { (c : Constraint) → fault_of_error (error.SqliteFailure (code.ConstraintViolation c)) ≡ Disk }
+    ensures constraint { (c : Constraint)
+        → fault_of_error (error.SqliteFailure (code.ConstraintViolation c)) ≡ Disk }
     ensures refused { map (λ c. fault_of_error (error.SqliteFailure c))
         (code.TypeMismatch ∷ code.IntegerOverflow ∷ code.NoRowid ∷ code.ForeignKeyMismatch
         ∷ code.TooDeep ∷ code.NoClock ∷ code.NameTaken ∷ code.BadName ∷ code.BadKey ∷ code.BadText

@@ -1,5 +1,9 @@
 //! Why a store gives no answer.
 
+ghost use Rattle.std.specs.Prelude.{◌≡◌, ◌∷◌, [], codes, map};
+ghost use Rattle.office_tables.specs.Faults.{store_fault_word};
+ghost use Rattle.office_tables.specs.declared.fault.StoreFault.TheVariants as fault;
+
 use std::alloc::AllocError;
 use std::error::Error;
 use std::fmt;
@@ -45,3 +49,10 @@ impl From<AllocError> for StoreFault {
         StoreFault::NoMemory
     }
 }
+
+/// The word of each fault.
+pub fn each_fault_has_its_word()
+    ensures { map store_fault_word
+        (fault.NoMemory ∷ fault.Disk ∷ fault.Full ∷ fault.NotAnOffice ∷ [])
+        ≡ codes "memory" ∷ codes "disk" ∷ codes "full" ∷ codes "not-an-office" ∷ [] }
+{}
