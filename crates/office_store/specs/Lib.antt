@@ -14,3 +14,4 @@ pub mod Founding
 pub mod Migration
 pub mod Reopening
 pub mod Refusing
+pub mod Faults
