@@ -15,3 +15,4 @@ pub mod Migration
 pub mod Reopening
 pub mod Refusing
 pub mod Faults
+pub mod Examples

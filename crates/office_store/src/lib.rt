@@ -6,6 +6,7 @@ pub mod author;
 pub mod baselines;
 mod bind;
 mod column;
+pub mod examples;
 pub mod fault;
 pub mod form;
 pub mod founding;
