@@ -1,5 +1,5 @@
 -- What is read of all rows that a query found.
-use Rattle.std.proofs.Common.{inl, inr, ◌≡◌, ◌≢◌, ℕ, ◌<◌, ◌≤◌, ◌+◌, List, [], ◌∷◌, ◌++◌, map, take, get_or, length, Result, Ok, Err, IfOk, IfErr, true, arith, refl, sym, ap, ◌∙◌, subst}
+use Rattle.std.proofs.Common.{inl, inr, ◌≡◌, ◌≢◌, ℕ, ◌<◌, ◌≤◌, ◌+◌, List, [], ◌∷◌, ◌++◌, map, take, get_or, length, Result, Ok, Err, IfOk, IfErr, Bool, true, false, Option, Some, None, arith, refl, sym, ap, ◌∙◌, subst}
 use Rattle.std.specs.List.{AllByRecursion}
 use Rattle.std.proofs.lemmas.List.{take_more, take_all, map-append}
 use Rattle.sqlite.specs.Order.{Row}
@@ -11,16 +11,20 @@ use Rattle.office_rows.specs.Rows.{IsFaultOf}
 use Rattle.office_rows.specs.Told.{IsOfRow, IsUnread, IsTold, TellsAll, FindsRows, map_ok}
 use Rattle.office_tables.specs.declared.listed.ListedRevision.{ListedRevision}
 use Rattle.review_policy.specs.declared.revision.State.{State as State_}
-use Rattle.office_store.specs.Entries.{state_number}
+use Rattle.office_store.specs.Entries.{state_number, bit}
+use Rattle.review_policy.specs.Role.{has_role}
+use Rattle.review_policy.specs.declared.role.Role.TheVariants.{Reviewer, Security}
 use Rattle.review_policy.specs.declared.revision.VoteRow.{VoteRow}
 use Rattle.office_tables.specs.declared.listed.Tally.{Tally}
-use Rattle.office_tables.specs.Lists.{tally_of}
-use Rattle.office_store.specs.Lists.{name_row, listed_row, first_of, voter_of, Cast, cast_row, IsCastForm, TellsVotes, TellsTally}
+use Rattle.office_tables.specs.declared.row.UserRow.{UserRow}
+use Rattle.office_tables.specs.Lists.{holds_role, tally_of}
+use Rattle.office_store.specs.Lists.{name_row, listed_row, Cast, roles_of, cast_row, standing_of, IsCastForm, IsCastAs, AreCastAs, TellsVotes, TellsTally}
 use Rattle.office_store.specs.Shown.{Shows}
 use Rattle.office_store.specs.Calls.{IsRead}
 use Rattle.office_store.proofs.Calls.{read_told}
 use Rattle.office_store.proofs.Profiles.{same_state}
-use Rattle.std.specs.Prelude.{◌==◌}
+use Rattle.std.specs.Prelude.{ℤ, pos, ◌==◌, ◌&&◌}
+use Rattle.std.specs.Ordering.{int_eq}
 use Rattle.std.proofs.lemmas.Bool.Decides.{nat_tests}
 
 -- ---- a loop that reads each row
@@ -108,14 +112,56 @@ same_listed_row a b same =
 
 -- ---- votes, one for each row
 
-pub one_more_named : (rows : List Row) (i : ℕ) (row : Row) (votes : List VoteRow) (vote : VoteRow) → i < length rows → row ≡ get_or rows i row → first_of row ≡ voter_of vote
-    → map first_of (take i rows) ≡ map voter_of votes → map first_of (take (i + 1) rows) ≡ map voter_of (votes ++ vote ∷ [])
-one_more_named rows i row votes vote below at is so_far =
-    ap (map first_of) (take_more rows i row below) ∙ map-append first_of (take i rows) (get_or rows i row ∷ [])
-    ∙ (λ k. so_far k ++ (ap first_of (sym at) ∙ is) k ∷ []) ∙ sym (map-append voter_of votes (vote ∷ []))
+pub one_more_cast : (rows : List Row) (i : ℕ) (row : Row) (votes : List VoteRow) (vote : VoteRow) → i < length rows → row ≡ get_or rows i row → IsCastAs row vote
+    → AreCastAs (take i rows) votes → AreCastAs (take (i + 1) rows) (votes ++ vote ∷ [])
+one_more_cast rows i row votes vote below at it so_far = record {
+  cast = so_far.cast ++ it.cast ∷ [];
+  rows_are = one_more_read cast_row rows i row so_far.cast it.cast below at it.row_is so_far.rows_are;
+  stand = (λ k. so_far.stand k ++ it.stands k ∷ []) ∙ sym (map-append standing_of so_far.cast (it.cast ∷ []));
+}
 
-pub all_named : (rows : List Row) (i : ℕ) (votes : List VoteRow) → length rows ≤ i → map first_of (take i rows) ≡ map voter_of votes → map first_of rows ≡ map voter_of votes
-all_named rows i votes past so_far = sym (ap (map first_of) (take_all i rows past)) ∙ so_far
+pub all_cast : (rows : List Row) (i : ℕ) (votes : List VoteRow) → length rows ≤ i → AreCastAs (take i rows) votes → AreCastAs rows votes
+all_cast rows i votes past so_far = subst (λ (l : List Row). AreCastAs l votes) (take_all i rows past) so_far
+
+abbrev is_one : ℤ → Bool
+is_one z = int_eq z (pos 1)
+
+one_of : (b : Bool) → is_one (bit b) ≡ b
+one_of true = refl
+one_of false = refl
+
+same_bit : (a b : Bool) → bit a ≡ bit b → a ≡ b
+same_bit a b is = sym (one_of a) ∙ ap is_one is ∙ one_of b
+
+reviewer_by : (user : Option UserRow) → holds_role user Reviewer ≡ has_role (roles_of user) Reviewer
+reviewer_by None = refl
+reviewer_by (Some u) = refl
+
+security_by : (user : Option UserRow) → holds_role user Security ≡ has_role (roles_of user) Security
+security_by None = refl
+security_by (Some u) = refl
+
+-- how a vote stands is told by its row
+same_standing : (a b : Cast) → cast_row a ≡ cast_row b → standing_of a ≡ standing_of b
+same_standing a b same =
+    let voter : a.voter ≡ b.voter = cc in
+    let approves : bit a.vote.approves ≡ bit b.vote.approves = cc in
+    let had : bit a.vote.security ≡ bit b.vote.security = cc in
+    let roles : roles_of a.user ≡ roles_of b.user = cc in
+    let approve = same_bit a.vote.approves b.vote.approves approves in
+    let security = same_bit a.vote.security b.vote.security had in
+    let counts = reviewer_by a.user ∙ ap (λ n. has_role n Reviewer) roles ∙ sym (reviewer_by b.user) in
+    let secure = security_by a.user ∙ ap (λ n. has_role n Security) roles ∙ sym (security_by b.user) in
+    λ i. record { voter = voter i; approve = approve i; security = counts i && security i && secure i; counts = counts i }
+
+pub same_standings : (a b : List Cast) → map cast_row a ≡ map cast_row b → map standing_of a ≡ map standing_of b
+same_standings [] [] same = refl
+same_standings [] (y ∷ ys) same = absurd cc
+same_standings (x ∷ xs) [] same = absurd cc
+same_standings (x ∷ xs) (y ∷ ys) same =
+    let first : cast_row x ≡ cast_row y = cc in
+    let rest : map cast_row xs ≡ map cast_row ys = cc in
+    λ i. same_standing x y first i ∷ same_standings xs ys rest i
 
 pub votes_failed : {V W : Type 0} (rows_of : V → List Row) (items_of : W → List VoteRow) (found : Result V StoreFault) (r : Result W StoreFault) (f : StoreFault) → found ≡ Err f → r ≡ Err f
     → IsTold TellsVotes (map_ok found rows_of) (map_ok r items_of)
@@ -123,13 +169,13 @@ votes_failed {V} {W} rows_of items_of found r f is same =
     subst (λ (o : Result V StoreFault). IsTold TellsVotes (map_ok o rows_of) (map_ok r items_of)) (sym is) (ap (λ (o : Result W StoreFault). map_ok o items_of) same)
 
 pub votes_told : {V W : Type 0} (rows_of : V → List Row) (items_of : W → List VoteRow) (found : Result V StoreFault) (v : V) → found ≡ Ok v → (rows : List Row) → rows ≡ rows_of v → (r : Result W StoreFault)
-    → IfOk r (λ w. map first_of rows ≡ map voter_of (items_of w)) → ((cast : List Cast) → rows ≡ map cast_row cast → AllByRecursion IsCastForm cast → r ≢ Err NotAnOffice) → IfErr r IsOfRow
+    → IfOk r (λ w. AreCastAs rows (items_of w)) → ((cast : List Cast) → rows ≡ map cast_row cast → AllByRecursion IsCastForm cast → r ≢ Err NotAnOffice) → IfErr r IsOfRow
     → IsTold TellsVotes (map_ok found rows_of) (map_ok r items_of)
 votes_told {V} {W} rows_of items_of found v is rows are r read formed cause =
     subst (λ (o : Result V StoreFault). IsTold TellsVotes (map_ok o rows_of) (map_ok r items_of)) (sym is)
     (subst (λ (l : List Row). TellsVotes l (map_ok r items_of)) are (each r read formed cause))
   where
-    each : (r : Result W StoreFault) → IfOk r (λ w. map first_of rows ≡ map voter_of (items_of w)) → ((cast : List Cast) → rows ≡ map cast_row cast → AllByRecursion IsCastForm cast → r ≢ Err NotAnOffice) → IfErr r IsOfRow
+    each : (r : Result W StoreFault) → IfOk r (λ w. AreCastAs rows (items_of w)) → ((cast : List Cast) → rows ≡ map cast_row cast → AllByRecursion IsCastForm cast → r ≢ Err NotAnOffice) → IfErr r IsOfRow
         → TellsVotes rows (map_ok r items_of)
     each (Ok w) read formed cause = read
     each (Err f) read formed cause = elim cause [ inl memory ↦ inl memory | inr named ↦ inr (named, λ xs all is. formed xs is all (ap Err named)) ]

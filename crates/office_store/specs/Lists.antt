@@ -3,8 +3,6 @@ use Rattle.std.specs.Prelude.{◌≡◌, ◌<◌, ◌^◌, ℕ, pos, true, List,
 use Rattle.std.specs.List.{AllByRecursion}
 use Rattle.sqlite.specs.declared.types.Value.TheVariants.{Int, Text}
 use Rattle.sqlite.specs.Order.{Row}
-use Rattle.sqlite_value.specs.Order.{column}
-use Rattle.sqlite_value.specs.declared.value.Value.{Value}
 use Rattle.review_policy.specs.Words.{is_word}
 use Rattle.review_policy.specs.declared.ask.ProfileName.{ProfileName}
 use Rattle.review_policy.specs.declared.revision.VoteRow.{VoteRow}
@@ -78,15 +76,21 @@ pub record AreVoteRows (t : Tables) (p : ProfileName) (number : ℕ) (rows : Lis
   pub standing : AreStanding t p number (map standing_of cast)
   pub formed : AllByRecursion IsCastForm cast
 
-abbrev pub voter_of : VoteRow → Value
-voter_of v = Text v.voter
+-- the row is that of a vote, which stands as this by the roles that the row has
+pub record IsCastAs (row : Row) (vote : VoteRow) : Type 0 where
+  pub cast : Cast
+  pub row_is : row ≡ cast_row cast
+  pub stands : vote ≡ standing_of cast
 
-abbrev pub first_of : Row → Value
-first_of row = column row 0
+-- the rows are those of votes, which stand as these
+pub record AreCastAs (rows : List Row) (votes : List VoteRow) : Type 0 where
+  pub cast : List Cast
+  pub rows_are : rows ≡ map cast_row cast
+  pub stand : votes ≡ map standing_of cast
 
--- a vote is told of each row, of the voter that it names
+-- the votes are told of the rows
 abbrev pub TellsVotes : List Row → Result (List VoteRow) StoreFault → Type 0
-TellsVotes rows (Ok votes) = map first_of rows ≡ map voter_of votes
+TellsVotes rows (Ok votes) = AreCastAs rows votes
 TellsVotes rows (Err f) = IsUnread (map cast_row) (AllByRecursion IsCastForm) rows f
 
 -- the tally is told of such votes

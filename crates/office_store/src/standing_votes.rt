@@ -9,13 +9,14 @@ ghost use Rattle.office_tables.specs.Lists.{AreStanding, IsTally, tally_of};
 ghost use Rattle.office_rows.specs.Told.{IsOfRow, map_ok};
 ghost use Rattle.office_store.specs.Connections.{FindsAll, Reads, ReadsAll};
 ghost use Rattle.office_store.specs.Entries.{bit};
-ghost use Rattle.office_store.specs.Lists.{Cast, cast_row, standing_of, IsCastForm, AreVoteRows, first_of, voter_of, TellsVotes, TellsTally};
+ghost use Rattle.office_store.specs.Lists.{Cast, cast_row, standing_of, IsCastForm, IsCastAs};
+ghost use Rattle.office_store.specs.Lists.{AreCastAs, AreVoteRows, TellsVotes, TellsTally};
 ghost use Rattle.office_store.specs.Keys.{revision_params};
 ghost use Rattle.office_store.specs.Shown.{IsIdle};
 
 use crate::bind::of_number;
-use crate::column::{roles_at, word_at};
-use office_rows::{all_rows, fault_of_error};
+use crate::column::{number_at, roles_at, word_at};
+use office_rows::all_rows;
 use office_tables::{StoreFault, Tally};
 use review_policy::{ProfileName, Role, VoteRow};
 use sqlite::{Alter, Connection, Row};
@@ -40,40 +41,55 @@ fn vote_rows<S: Alter>(
     all_rows(conn, VOTES_ON, &of_number(profile, number))
 }
 
-// The truth value of a column.
+// The truth value of a column, which is 0 or 1.
 fn flag_at(row: &Row, at: usize) -> Result<bool, StoreFault>
-    ensures flag { (flag : Bool) → column row.now at ≡ Int (bit flag) → IfOk result (λ read. read ≡ flag) }
+    ensures flag { IfOk result (λ flag. (at < length row.now)
+        × (column row.now at ≡ Int (bit flag))) }
     ensures formed { (flag : Bool) → at < length row.now → column row.now at ≡ Int (bit flag) → result ≢ Err StoreFault.NotAnOffice }
     ensures cause { IfErr result IsOfRow }
 {
-    row.get(at).map_err(fault_of_error)
+    match number_at(row, at)? {
+        0 => Ok(false),
+        1 => Ok(true),
+        _ => Err(StoreFault::NotAnOffice),
+    }
+}
+
+// Whether a vote has security: it counts, and its voter had security at it and has it now.
+fn is_secure(counts: bool, had_security: bool, has_security: bool) -> bool
+    ensures { result ≡ (counts && had_security && has_security) }
+{
+    counts && had_security && has_security
 }
 
 // The vote of a row, as it stands by its voter's present roles.
 fn read_vote(alloc: Global, row: &Row) -> Result<VoteRow, StoreFault>
-    ensures vote { (cast : Cast) → row.now ≡ cast_row cast → IfOk result (λ vote. vote ≡ standing_of cast) }
+    ensures read { IfOk result (IsCastAs row.now) }
     ensures formed { (cast : Cast) → row.now ≡ cast_row cast → IsCastForm cast → result ≢ Err StoreFault.NotAnOffice }
-    ensures voter { IfOk result (λ vote. first_of row.now ≡ voter_of vote) }
     ensures cause { IfErr result IsOfRow }
 {
+    if row.column_count() != 4 {
+        return Err(StoreFault::NotAnOffice);
+    }
     let voter = word_at(alloc, row, 0)?;
     let approve = flag_at(row, 1)?;
     let had_security = flag_at(row, 2)?;
     let roles = roles_at(row, 3)?;
     let counts = roles.has(Role::Reviewer);
+    let has_security = roles.has(Role::Security);
+    let security = is_secure(counts, had_security, has_security);
     Ok(VoteRow {
         voter,
         approve,
-        security: counts && had_security && roles.has(Role::Security),
+        security,
         counts,
     })
 }
 
 // The votes of rows.
 fn read_votes(alloc: Global, rows: &[Row]) -> Result<Vec<VoteRow>, StoreFault>
-    ensures votes { (cast : List Cast) → rows.now ≡ map cast_row cast → IfOk result (λ votes. votes.items ≡ map standing_of cast) }
+    ensures read { IfOk result (λ votes. AreCastAs rows.now votes.items) }
     ensures formed { (cast : List Cast) → rows.now ≡ map cast_row cast → AllByRecursion IsCastForm cast → result ≢ Err StoreFault.NotAnOffice }
-    ensures voters { IfOk result (λ votes. map first_of rows.now ≡ map voter_of votes.items) }
     ensures cause { IfErr result IsOfRow }
 {
     let mut votes = Vec::new(alloc);
