@@ -1,3 +1,4 @@
 pub mod AnswerFacts
 pub mod KindFacts
+pub mod VoteFacts
 pub mod RequestFacts

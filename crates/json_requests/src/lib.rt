@@ -8,6 +8,7 @@ mod body;
 mod denial;
 pub mod fault;
 pub mod kind;
+pub mod laws;
 pub mod member;
 pub mod object;
 pub mod request;
