@@ -1,6 +1,11 @@
 // Answers, by what was done.
 
-ghost use Rattle.std.specs.Prelude.{◌≡◌};
+ghost use Rattle.std.specs.Prelude.{◌≡◌, ◌∷◌, [], map};
+ghost use Rattle.review_policy.specs.WordTables.{fault_word};
+ghost use Rattle.review_policy.specs.declared.answer.Fault.TheVariants as faults;
+ghost use Rattle.office_tables.specs.Faults.{store_fault_word};
+ghost use Rattle.office_tables.specs.declared.fault.StoreFault.{StoreFault as FaultValue};
+ghost use Rattle.office_tables.specs.declared.fault.StoreFault.TheVariants as stores;
 ghost use Rattle.office_desk.specs.Told.{told_of, answer_to};
 
 use crate::refusal::Refusal;
@@ -29,3 +34,11 @@ pub(crate) fn answer_to(carried: Result<Reply, Refusal>) -> Answer
         Err(Refusal::Fault(fault)) => Answer::Fault(told(fault)),
     }
 }
+
+/// Each fault of the store is told as what it is, by its own word.
+pub fn each_fault_is_told_by_its_word()
+    ensures told { map told_of
+        (stores.NoMemory ∷ stores.Disk ∷ stores.Full ∷ stores.NotAnOffice ∷ [])
+        ≡ faults.Memory ∷ faults.Disk ∷ faults.Full ∷ faults.NotAnOffice ∷ [] }
+    ensures word { (fault : FaultValue) → fault_word (told_of fault) ≡ store_fault_word fault }
+{}

@@ -26,4 +26,5 @@ mod submit;
 mod vote;
 mod withdraw;
 
+pub use answer::each_fault_is_told_by_its_word;
 pub use office::Office;
