@@ -1,0 +1,9 @@
+pub mod Tables
+pub mod RoleFacts
+pub mod TextFacts
+pub mod PrintedLines
+pub mod FoundLines
+pub mod LineFacts
+pub mod LineExamples
+pub mod NoFeeds
+pub mod JournalFacts

@@ -1,0 +1,9 @@
+pub mod Kinds
+pub mod Lines
+pub mod Forms
+pub mod Shown
+pub mod Read
+pub mod Faults
+pub mod Examples
+pub mod Journal
+pub mod Reading

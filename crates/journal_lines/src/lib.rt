@@ -1,0 +1,17 @@
+//! The lines of a journal: what happened in an office, an event to a line, as JSON.
+#![tactic(auto)]
+
+pub mod fault;
+mod kind;
+pub mod laws;
+pub mod line;
+mod part;
+pub mod print;
+pub mod read;
+pub mod reader;
+
+pub use fault::Unread;
+pub use line::{Event, Line};
+pub use print::text;
+pub use read::read_line;
+pub use reader::{Faulty, Reader};
