@@ -4,6 +4,7 @@
 mod calls;
 mod implications;
 mod limits;
+mod names;
 mod sets;
 mod told;
 mod wider;

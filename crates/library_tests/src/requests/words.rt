@@ -1,8 +1,22 @@
 // Words, texts and sets of roles, as calls have them.
 
-use review_policy::{Role, Roles, Text, Word};
+use review_policy::{Role, Roles, Text, Token, Word, WordFault};
 use std::alloc::{AllocError, Global};
 use std::test::Fail;
+
+#[test]
+fn words_and_tokens_are_of_their_forms(rt: HostRuntime) -> Result<(), Fail> {
+    let alloc = rt.alloc();
+    let word = Word::new(alloc, "web-1")?;
+    let refused = [
+        Word::new(alloc, "").err(),
+        Word::new(alloc, "Web").err(),
+        Token::new(alloc, "a b").err(),
+    ];
+    assert_eq!(rt; word.as_str(), "web-1");
+    assert_eq!(rt; refused, [Some(WordFault::NotAWord); 3]);
+    Ok(())
+}
 
 // Whether words with these texts are the same.
 fn are_same(alloc: Global, text: &str, other: &str) -> Result<bool, Fail> {
