@@ -1,20 +1,25 @@
 -- What the entries of a name are told by, and entries that are grouped.
-use Rattle.std.proofs.Common.{◌≡◌, ◌∙◌, ap, refl, sym, ℕ, ◌+◌, ◌<◌, List, [], ◌∷◌, ◌++◌, Bool, true, false, not, cond, ◌||◌, ◌&&◌, length, take, drop, get_or, nat_le, nat_lt, bytes_eq, Option, Some, None, unwrap_or, append_assoc, arith, inl, inr}
+use Rattle.std.proofs.Common.{◌≡◌, ◌∙◌, ap, refl, sym, ℕ, zero, suc, ◌+◌, ◌<◌, ◌≤◌, ◌⊎◌, List, [], ◌∷◌, ◌++◌, All, Bool, true, false, not, cond, ◌||◌, ◌&&◌, length, set, take, drop, get_or, nat_le, nat_lt, bytes_eq, append_assoc, arith, inl, inr, subst}
 use Rattle.std.specs.Prelude.{filter}
 use Rattle.std.specs.Borrow.{Bor}
-use Rattle.std.specs.BTreeMap.{BTreeMap, is_at}
 use Rattle.std.specs.Cmp.Lexicographic.{slice_cmp}
-use Rattle.std.specs.List.{list_all, list_any}
-use Rattle.std.specs.Map.{lookup}
-use Rattle.std.specs.Option.{option_map_or}
-use Rattle.std.specs.Ordering.{nat_cmp}
+use Rattle.std.specs.List.{HoldsAt, list_all, list_any}
+use Rattle.std.specs.List.Sorted.{IsNonDecreasingBy, IsPartitionPoint}
+use Rattle.std.specs.Ordering.{is_eq, nat_cmp, ordering_index}
+use Rattle.std.specs.declared.cmp.Ordering.{Ordering}
+use Rattle.std.specs.declared.cmp.Ordering.TheVariants.{Equal, Greater, Less}
 use Rattle.std.proofs.Math.Seq.{drop-append_seam}
-use Rattle.std.proofs.lemmas.Bool.{and_from, cases_Bool, lt-ltb, ltb-true}
-use Rattle.std.proofs.lemmas.List.{drop_more, length-append, length-take-le, take_more}
+use Rattle.std.proofs.lemmas.Bool.{and_from, cases_Bool, cases_eq, lt-ltb, ltb-false, ltb-true}
+use Rattle.std.proofs.lemmas.Cmp.{nat_list_cmp_total}
+use Rattle.std.proofs.lemmas.Grind.{get_or-set_at}
+use Rattle.std.proofs.lemmas.List.{drop_more, get_or-set_other, get_or_default, length-append, length-set, length-take-le, take_more}
 use Rattle.std.proofs.lemmas.List.Concat.{flat_map-append}
 use Rattle.std.proofs.lemmas.List.Elements.{All-weaker}
 use Rattle.std.proofs.lemmas.List.Folds.{list_any-append, list_any_more}
 use Rattle.std.proofs.lemmas.List.Sums.{AllPass-from_list_all}
+use Rattle.std.proofs.lemmas.Map.Keys.{Less-from_sorted}
+use Rattle.std.proofs.lemmas.Map.Lookups.{exact_bytes}
+use Rattle.std.proofs.lemmas.Map.Text.{is_eq-slice_cmp}
 use Rattle.std.proofs.lemmas.Slice.Eq.{bytes_eq-Decides}
 use Rattle.smallvec.specs.SmallVec.{SmallVec}
 use Rattle.seccomp_doc.specs.declared.action.Action.{Action}
@@ -23,8 +28,9 @@ use Rattle.seccomp_doc.specs.Filter.{EntryValue, FilterValue}
 use Rattle.seccomp_doc.specs.Meaning.{has_name}
 use Rattle.implication.specs.Implication.{entry_implies}
 use Rattle.widening.specs.Calls.{entry_rank, is_at_most_entries, is_at_most_possible, is_covered, is_default_covered, is_kept, is_plain, keeps_to, permits_no_more, rules_of}
-use Rattle.widening.specs.Groups.{AreWithin, HasSameElements, entries_at, places_from, places_of, places_under}
+use Rattle.widening.specs.Groups.{AddsPlace, AddsUnder, AreWithin, HasSameElements, IsGrouping, entries_at, group_at, name_at, places_from, places_of}
 use Rattle.widening.specs.Ranks.{rules_with}
+use Rattle.widening.specs.Texts.{AreInOrder, texts_in}
 use Rattle.widening.proofs.Searches.{list_any-flat_map, or_none}
 use Rattle.widening.proofs.TextFacts.{bytes_eq-swap}
 
@@ -79,21 +85,23 @@ or_spread false true false true = refl
 or_spread false true false false = refl
 or_spread false false t h = refl
 
--- `old`, `mid` and `new` give the places under a name: at first, before this name of the entry, and after it
-pub name_added : (old mid new : List ℕ → List ℕ) (names : List (List ℕ)) (i : ℕ) (name shown : List ℕ) (place : ℕ) →
-    i < length names → name ≡ get_or names i name → shown ≡ name →
-    ((q : List ℕ) (test : ℕ → Bool) → list_any test (mid q) ≡ (list_any test (old q) || (list_any (bytes_eq q) (take i names) && test place))) →
-    ((q : List ℕ) (test : ℕ → Bool) → list_any test (new q) ≡ (list_any test (mid q) || (bytes_eq shown q && test place))) →
-    (q : List ℕ) (test : ℕ → Bool) → list_any test (new q) ≡ (list_any test (old q) || (list_any (bytes_eq q) (take (i + 1) names) && test place))
-name_added old mid new names i name shown place within is same before adds q test =
-    let a = list_any test (old q) in
-    let b = list_any (bytes_eq q) (take i names) in
-    let more : list_any (bytes_eq q) (take (i + 1) names) ≡ (b || bytes_eq q name) = list_any_more (bytes_eq q) names i name within ∙ ap (λ n. b || bytes_eq q n) (sym is) in
-    adds q test
-    ∙ ap (λ x. x || (bytes_eq shown q && test place)) (before q test)
-    ∙ or_spread a b (test place) (bytes_eq shown q)
-    ∙ ap (λ h. a || ((b || h) && test place)) (bytes_eq-swap shown q ∙ ap (bytes_eq q) same)
-    ∙ ap (λ x. a || (x && test place)) (sym more)
+-- one name more of an entry: `mid` are the groups before it, and `new` those after it
+pub name_added : (names : List (Bor (List ℕ))) (old mid new : List (SmallVec ℕ)) (added : List (List ℕ)) (i : ℕ) (name shown : List ℕ) (place : ℕ) →
+    i < length added → name ≡ get_or added i name → shown ≡ name →
+    AddsUnder names old mid (take i added) place → AddsUnder names mid new (shown ∷ []) place → AddsUnder names old new (take (i + 1) added) place
+name_added names old mid new added i name shown place within is same before adds = (
+  adds.0 ∙ before.0,
+  λ at test inside.
+      let q = name_at names at in
+      let a = list_any test (group_at old at) in
+      let b = list_any (bytes_eq q) (take i added) in
+      let more : list_any (bytes_eq q) (take (i + 1) added) ≡ (b || bytes_eq q name) = list_any_more (bytes_eq q) added i name within ∙ ap (λ n. b || bytes_eq q n) (sym is) in
+      adds.1 at test inside
+      ∙ ap (λ x. x || (list_any (bytes_eq q) (shown ∷ []) && test place)) (before.1 at test inside)
+      ∙ ap (λ h. (a || (b && test place)) || (h && test place)) (or_none (bytes_eq q shown) ∙ ap (bytes_eq q) same)
+      ∙ or_spread a b (test place) (bytes_eq q name)
+      ∙ ap (λ x. a || (x && test place)) (sym more),
+)
 
 places_from-push : (first : ℕ) (test : EntryValue → Bool) (es : List EntryValue) (e : EntryValue) →
     places_from first test (es ++ e ∷ []) ≡ places_from first test es ++ cond (test e) ((first + length es) ∷ []) []
@@ -111,27 +119,132 @@ any_last : (test : ℕ → Bool) (h : Bool) (n : ℕ) → list_any test (cond h 
 any_last test true n = or_none (test n)
 any_last test false n = refl
 
-pub entry_added : (old new : List ℕ → List ℕ) (es : List EntryValue) (i : ℕ) (e : EntryValue) → i < length es → e ≡ get_or es i e →
-    ((q : List ℕ) → HasSameElements (old q) (places_of q (take i es))) →
-    ((q : List ℕ) (test : ℕ → Bool) → list_any test (new q) ≡ (list_any test (old q) || (list_any (bytes_eq q) e.names && test i))) →
-    (q : List ℕ) → HasSameElements (new q) (places_of q (take (i + 1) es))
-entry_added old new es i e within is before adds q test =
-    let count : length (take i es) ≡ i = length-take-le i es (omega arith) in
-    adds q test ∙ ap (λ b. b || (has_name q e && test i)) (before q test)
-    ∙ ap (λ b. list_any test (places_of q (take i es)) || b) (ap (λ n. has_name q e && test n) (sym count) ∙ sym (any_last test (has_name q e) (length (take i es))))
-    ∙ sym (list_any-append test (places_of q (take i es)) (cond (has_name q e) (length (take i es) ∷ []) []))
-    ∙ ap (list_any test) (ap (λ n. places_of q (take i es) ++ cond (has_name q e) (n ∷ []) []) (omega arith) ∙ sym (places_from-push 0 (has_name q) (take i es) e))
-    ∙ ap (λ ds. list_any test (places_of q ds)) (ap (λ d. take i es ++ d ∷ []) is ∙ sym (take_more es i e within))
+pub entry_added : (names : List (Bor (List ℕ))) (old new : List (SmallVec ℕ)) (es : List EntryValue) (i : ℕ) (e : EntryValue) → i < length es → e ≡ get_or es i e →
+    IsGrouping (take i es) names old → AddsUnder names old new e.names i → IsGrouping (take (i + 1) es) names new
+entry_added names old new es i e within is before adds = (
+  adds.0 ∙ before.0,
+  λ at inside test.
+      let q = name_at names at in
+      let count : length (take i es) ≡ i = length-take-le i es (omega arith) in
+      adds.1 at test inside ∙ ap (λ b. b || (has_name q e && test i)) (before.1 at inside test)
+      ∙ ap (λ b. list_any test (places_of q (take i es)) || b) (ap (λ n. has_name q e && test n) (sym count) ∙ sym (any_last test (has_name q e) (length (take i es))))
+      ∙ sym (list_any-append test (places_of q (take i es)) (cond (has_name q e) (length (take i es) ∷ []) []))
+      ∙ ap (list_any test) (ap (λ n. places_of q (take i es) ++ cond (has_name q e) (n ∷ []) []) (omega arith) ∙ sym (places_from-push 0 (has_name q) (take i es) e))
+      ∙ ap (λ ds. list_any test (places_of q ds)) (ap (λ d. take i es ++ d ∷ []) is ∙ sym (take_more es i e within)),
+)
 
 -- ---- one group
 
--- without entries there is no group
-pub none_under : (groups : BTreeMap (Bor (List ℕ)) (SmallVec ℕ)) → groups.entries ≡ [] → (name : List ℕ) → places_under groups name ≡ []
-none_under groups none name = ap (λ es. option_map_or (λ g. g.items) (lookup (is_at (λ key. slice_cmp nat_cmp name key.now)) es) []) none
+-- without entries no group has a place
+pub none_grouped : (names : List (Bor (List ℕ))) (groups : List (SmallVec ℕ)) → length groups ≡ length names → All (λ group. group.items ≡ []) groups →
+    IsGrouping [] names groups
+none_grouped names groups count empty = (count, λ at inside test. ap (list_any test) (empty at _ (omega (arith, inside, count))))
 
-pub group_or : (o : Option (SmallVec ℕ)) (empty : SmallVec ℕ) → empty.items ≡ [] → (unwrap_or o empty).items ≡ option_map_or (λ g. g.items) o []
-group_or None empty none = none
-group_or (Some group) empty none = refl
+-- the text at a place, where another stands for one that isn't there
+pub shown_at : (names : List (Bor (List ℕ))) (at : ℕ) (other : Bor (List ℕ)) → (get_or names at other).now ≡ get_or (texts_in names) at other.now
+shown_at [] at other = refl
+shown_at (name ∷ names) zero other = refl
+shown_at (name ∷ names) (suc at) other = shown_at names at other
+
+abbrev nothing : Bor (List ℕ)
+nothing = record { ref_ptr = (0, 0); now = [] }
+
+length-texts_in : (names : List (Bor (List ℕ))) → length (texts_in names) ≡ length names
+length-texts_in [] = refl
+length-texts_in (name ∷ names) = ap suc (length-texts_in names)
+
+-- of two names the one that stands first is less
+less_at : (names : List (Bor (List ℕ))) (i j : ℕ) (other : List ℕ) → AreInOrder names → i < j → j < length names →
+    slice_cmp nat_cmp (get_or (texts_in names) i other) (get_or (texts_in names) j other) ≡ Less
+less_at names i j other order before inside = Less-from_sorted (slice_cmp nat_cmp) (texts_in names) i j other order before (omega (arith, inside, length-texts_in names))
+
+unlike : (x y : List ℕ) → slice_cmp nat_cmp x y ≡ Less → bytes_eq x y ≡ false
+unlike x y less = sym (is_eq-slice_cmp x y) ∙ ap is_eq less
+
+before_or_not : (i j : ℕ) → (i < j) ⊎ (j ≤ i)
+before_or_not i j = elim (cases_Bool (nat_lt i j)) as (λ _. (i < j) ⊎ (j ≤ i)) [ inl below ↦ inl (ltb-true i j below) | inr other ↦ inr (ltb-false i j other) ]
+
+apart : (names : List (Bor (List ℕ))) (i j : ℕ) → AreInOrder names → (i ≡ j → ⊥) → i < length names → j < length names → bytes_eq (name_at names i) (name_at names j) ≡ false
+apart names i j order other within inside = elim (before_or_not i j) as (λ _. bytes_eq (name_at names i) (name_at names j) ≡ false) [
+  | inl first ↦ unlike (name_at names i) (name_at names j) (less_at names i j [] order first inside)
+  | inr later ↦ bytes_eq-swap (name_at names i) (name_at names j) ∙ unlike (name_at names j) (name_at names i) (less_at names j i [] order (after i j other later) within)
+]
+  where
+    after : (i j : ℕ) → (i ≡ j → ⊥) → j ≤ i → j < i
+    after i j other later = elim (before_or_not j i) as (λ _. j < i) [ inl below ↦ below | inr above ↦ absurd (other (omega (arith, above, later))) ]
+
+at_most_two : (o : Ordering) → ordering_index o ≤ 2
+at_most_two Less = omega arith
+at_most_two Equal = omega arith
+at_most_two Greater = omega arith
+
+rises : (a b x : List ℕ) (o : Ordering) → slice_cmp nat_cmp b x ≡ o → slice_cmp nat_cmp a b ≡ Less → ordering_index (slice_cmp nat_cmp a x) ≤ ordering_index (slice_cmp nat_cmp b x)
+rises a b x Less is less = let first : slice_cmp nat_cmp a x ≡ Less = nat_list_cmp_total.trans a b x less is in rw (first, is) (omega arith)
+rises a b x Equal is less = let first : slice_cmp nat_cmp a x ≡ Less = ap (slice_cmp nat_cmp a) (sym (exact_bytes b x is)) ∙ less in rw (first, is) (omega arith)
+rises a b x Greater is less = rw is (at_most_two (slice_cmp nat_cmp a x))
+
+all_rise : (names : List (Bor (List ℕ))) (name : List ℕ) → AreInOrder names → IsNonDecreasingBy (λ y. ordering_index (slice_cmp nat_cmp y.now name)) names
+all_rise names name order i j other before inside = elim (before_or_not i j) as (λ _. ordering_index (slice_cmp nat_cmp (get_or names i other).now name) ≤ ordering_index (slice_cmp nat_cmp (get_or names j other).now name)) [
+  | inl first ↦ rises (get_or names i other).now (get_or names j other).now name _ refl (rw (shown_at names i other, shown_at names j other) (less_at names i j other.now order first inside))
+  | inr later ↦ let same : i ≡ j = omega (arith, later, before) in rw same (omega arith)
+]
+
+-- a name that a search doesn't find isn't among the names
+pub not_found : (names : List (Bor (List ℕ))) (name : List ℕ) (i at : ℕ) → AreInOrder names →
+    (IsNonDecreasingBy (λ y. ordering_index (slice_cmp nat_cmp y.now name)) names
+    → IsPartitionPoint (λ y. slice_cmp nat_cmp y.now name ≡ Less) (λ y. slice_cmp nat_cmp y.now name ≡ Greater) names i) →
+    at < length names → bytes_eq (name_at names at) name ≡ false
+not_found names name i at order parts inside =
+    let both = parts (all_rise names name order) in
+    elim (before_or_not at i) as (λ _. bytes_eq (name_at names at) name ≡ false) [
+      | inl first ↦ unlike (name_at names at) name (ap (λ x. slice_cmp nat_cmp x name) (sym (shown_at names at nothing)) ∙ both.0 at nothing (omega arith) first)
+      | inr later ↦ sym (is_eq-slice_cmp (name_at names at) name) ∙ ap is_eq (ap (λ x. slice_cmp nat_cmp x name) (sym (shown_at names at nothing)) ∙ both.1 at nothing later inside)
+    ]
+
+-- such a name has no group
+pub none_added : (names : List (Bor (List ℕ))) (groups : List (SmallVec ℕ)) (name : List ℕ) (place : ℕ) →
+    ((at : ℕ) → at < length names → bytes_eq (name_at names at) name ≡ false) → AddsUnder names groups groups (name ∷ []) place
+none_added names groups name place none = (
+  refl,
+  λ at test inside.
+      sym (or_none (list_any test (group_at groups at)))
+      ∙ ap (λ h. list_any test (group_at groups at) || ((h || false) && test place)) (sym (none at inside)),
+)
+
+pub found_at : (names : List (Bor (List ℕ))) (name : List ℕ) (at : ℕ) → HoldsAt (λ y. slice_cmp nat_cmp y.now name ≡ Equal) names at → name ≡ name_at names at
+found_at names name at holds = sym (exact_bytes (get_or names at nothing).now name (holds nothing)) ∙ shown_at names at nothing
+
+pub place_added : (groups : List (SmallVec ℕ)) (at : ℕ) (group : SmallVec ℕ) (after : List ℕ) (place : ℕ) → at < length groups →
+    AddsPlace (get_or groups at group).items after place → AddsPlace (group_at groups at) after place
+place_added groups at group after place inside adds = subst (λ (g : SmallVec ℕ). AddsPlace g.items after place) (get_or_default groups at group _ inside) adds
+
+-- the groups, where a place was added to that of a name
+pub under_added : (names : List (Bor (List ℕ))) (old : List (SmallVec ℕ)) (at : ℕ) (name : List ℕ) (after : SmallVec ℕ) (place : ℕ) → AreInOrder names →
+    length old ≡ length names → at < length names → name ≡ name_at names at → AddsPlace (group_at old at) after.items place →
+    AddsUnder names old (set old at after) (name ∷ []) place
+under_added names old at name after place order count within is adds = (
+  length-set old at after,
+  λ j test inside.
+      let new = set old at after in
+      let here : bytes_eq (name_at names j) name ≡ bytes_eq (name_at names j) (name_at names at) = ap (bytes_eq (name_at names j)) is in
+      elim (cases_eq j at) as (λ _. list_any test (group_at new j) ≡ (list_any test (group_at old j) || ((bytes_eq (name_at names j) name || false) && test place))) [
+        | inl same ↦
+            let told : bytes_eq (name_at names j) name ≡ true = here ∙ ap (λ n. bytes_eq (name_at names n) (name_at names at)) same ∙ (bytes_eq-Decides (name_at names at) (name_at names at)).1 refl in
+            ap (λ (group : SmallVec ℕ). list_any test group.items) (get_or-set_at old at j after _ same (omega (arith, within, count)))
+            ∙ adds test
+            ∙ ap (λ n. list_any test (group_at old n) || test place) (sym same)
+            ∙ ap (λ h. list_any test (group_at old j) || ((h || false) && test place)) (sym told)
+        | inr other ↦
+            ap (λ (group : SmallVec ℕ). list_any test group.items) (get_or-set_other old at j after _ other)
+            ∙ sym (or_none (list_any test (group_at old j)))
+            ∙ ap (λ h. list_any test (group_at old j) || ((h || false) && test place)) (sym (here ∙ apart names j at order other inside within))
+      ],
+)
+
+-- the places of the group at a place
+pub group_is : (groups : List (SmallVec ℕ)) (at : ℕ) (group : SmallVec ℕ) (places : List ℕ) → at < length groups → group ≡ get_or groups at group →
+    places ≡ group.items → places ≡ group_at groups at
+group_is groups at group places inside is shown = shown ∙ ap (λ (g : SmallVec ℕ). g.items) (is ∙ get_or_default groups at group _ inside)
 
 -- ---- the entries at places
 
@@ -184,26 +297,6 @@ pub entries_at-more : (es : List EntryValue) (places : List ℕ) (i place : ℕ)
     place < length es → e ≡ get_or es place e → entries_at es (take (i + 1) places) ≡ entries_at es (take i places) ++ e ∷ []
 entries_at-more es places i place e within is place_within e_is =
     ap (entries_at es) (take_more places i place within ∙ ap (λ p. take i places ++ p ∷ []) (sym is)) ∙ entries_at-push es (take i places) place e place_within e_is
-
--- the places under a name, where a place was added under one
-pub under_added : (name q : List ℕ) (old : List ℕ → List ℕ) (after : SmallVec ℕ) (found other : Option (SmallVec ℕ)) (place : ℕ) (test : ℕ → Bool) →
-    found ≡ cond (bytes_eq name q) (Some after) other → option_map_or (λ g. g.items) other [] ≡ old q →
-    ((t : ℕ → Bool) → list_any t after.items ≡ (list_any t (old name) || t place)) →
-    list_any test (option_map_or (λ g. g.items) found []) ≡ (list_any test (old q) || (bytes_eq name q && test place))
-under_added name q old after found other place test is elsewhere adds =
-    ap (λ o. list_any test (option_map_or (λ g. g.items) o [])) is
-    ∙ elim (cases_Bool (bytes_eq name q)) as (λ _. list_any test (option_map_or (λ g. g.items) (cond (bytes_eq name q) (Some after) other) []) ≡ (list_any test (old q) || (bytes_eq name q && test place))) [
-      | inl here ↦
-          ap (λ b. list_any test (option_map_or (λ g. g.items) (cond b (Some after) other) [])) here
-          ∙ adds test
-          ∙ ap (λ n. list_any test (old n) || test place) ((bytes_eq-Decides name q).0 here)
-          ∙ ap (λ b. list_any test (old q) || (b && test place)) (sym here)
-      | inr gone ↦
-          ap (λ b. list_any test (option_map_or (λ g. g.items) (cond b (Some after) other) [])) gone
-          ∙ ap (list_any test) elsewhere
-          ∙ sym (or_none (list_any test (old q)))
-          ∙ ap (λ b. list_any test (old q) || (b && test place)) (sym gone)
-    ]
 
 -- the test of a name by the groups of two filters
 pub grouped_keeps : (base new : FilterValue) (name : List ℕ) (d n : Action) (xs zs : List EntryValue) → d ≡ base.default → n ≡ new.default →

@@ -24,7 +24,7 @@ use Rattle.widening.specs.declared.finding.Finding.{Finding}
 use Rattle.widening.specs.declared.finding.Finding.TheVariants.{AnyArch, Arch, Call, Cap, Default, Flag}
 use Rattle.widening.specs.Calls.{entry_names, is_permitted_more}
 use Rattle.widening.specs.Findings.{arch_findings, between_filters, call_findings, call_names, called, called_by, cap_findings, compared_sets, default_findings, filter_findings, findings_of, flag_findings, gained, is_emptied, set_findings}
-use Rattle.widening.specs.Texts.{added_texts, in_byte_order, put_in_order, texts_in}
+use Rattle.widening.specs.Texts.{AreInOrder, added_texts, in_byte_order, put_in_order, texts_in}
 use Rattle.widening.proofs.TextFacts.{any_sorted_once, list_any-in_byte_order}
 
 -- what holds of all and of one more holds of all with that put in its place
@@ -84,12 +84,19 @@ in_order_is keys texts sorted same =
     btree_set_from_contains nat_list_cmp_total (record { keys = keys }) (record { keys = in_byte_order texts }) sorted (sorted_in_order [] texts nothing_sorted)
     (λ q. same (is_at (slice_cmp nat_cmp q)) ∙ sym (list_any-in_byte_order (is_at (slice_cmp nat_cmp q)) texts)) exact_bytes
 
+strictly_once : (sorted : List (Bor (List ℕ))) → IsSorted (λ x y. slice_cmp nat_cmp x.now y.now) sorted → AreInOrder (dedup (λ x y. bytes_eq x.now y.now) sorted)
+strictly_once sorted in_order = sorted_shown _ (IsStrictlySortedBy-dedup (on_texts (λ x. x.now)) (λ x y. texts_ties x.now y.now) sorted in_order)
+
+pub ordered_once : (sorted new : List (Bor (List ℕ))) → IsSorted (λ x y. slice_cmp nat_cmp x.now y.now) sorted →
+    new ≡ dedup (λ x y. bytes_eq x.now y.now) sorted → AreInOrder new
+ordered_once sorted new in_order is = subst AreInOrder (sym is) (strictly_once sorted in_order)
+
 pub sorted_once : (old sorted new : List (Bor (List ℕ))) → IsPermutation old sorted → IsSorted (λ x y. slice_cmp nat_cmp x.now y.now) sorted →
     new ≡ dedup (λ x y. bytes_eq x.now y.now) sorted → texts_in new ≡ in_byte_order (texts_in old)
 sorted_once old sorted new moved in_order is =
     ap texts_in is
     ∙ in_order_is (texts_in (dedup (λ x y. bytes_eq x.now y.now) sorted)) (texts_in old)
-    (sorted_shown _ (IsStrictlySortedBy-dedup (on_texts (λ x. x.now)) (λ x y. texts_ties x.now y.now) sorted in_order))
+    (strictly_once sorted in_order)
     (λ p. any_sorted_once p old sorted moved)
 
 -- ---- the names among the findings

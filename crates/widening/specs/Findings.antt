@@ -53,6 +53,10 @@ flag_findings base new = map Flag (added_texts base new)
 abbrev pub call_names : FilterValue → FilterValue → List (List ℕ)
 call_names base new = in_byte_order (entry_names base.entries ++ entry_names new.entries)
 
+-- a name, where the new filter may permit its calls more
+abbrev pub call_finding : FilterValue → FilterValue → List ℕ → List Finding
+call_finding base new name = if is_permitted_more base new name then Call name ∷ [] else []
+
 -- each name whose calls the new filter may permit more
 abbrev pub call_findings : FilterValue → FilterValue → List Finding
 call_findings base new = map Call (filter (is_permitted_more base new) (call_names base new))

@@ -1,14 +1,11 @@
 -- Entries grouped by the names of their calls, each told by its place in the filter.
-use Rattle.std.specs.Prelude.{◌≡◌, ℕ, ◌+◌, ◌<◌, List, [], ◌∷◌, Bool, ◌&&◌, ◌||◌, if◌then◌else◌, bytes_eq, take, drop, flat_map, All, length, Option}
+use Rattle.std.specs.Prelude.{◌≡◌, ℕ, ◌+◌, ◌<◌, List, [], ◌∷◌, Bool, ◌&&◌, ◌||◌, if◌then◌else◌, bytes_eq, take, drop, flat_map, All, get_or, length}
 use Rattle.std.specs.Borrow.{Bor}
-use Rattle.std.specs.BTreeMap.{BTreeMap, get_by}
-use Rattle.std.specs.Cmp.Lexicographic.{slice_cmp}
 use Rattle.std.specs.List.{list_any}
-use Rattle.std.specs.Option.{option_map_or}
-use Rattle.std.specs.Ordering.{nat_cmp}
 use Rattle.smallvec.specs.SmallVec.{SmallVec}
 use Rattle.seccomp_doc.specs.Filter.{EntryValue}
 use Rattle.seccomp_doc.specs.Meaning.{has_name}
+use Rattle.widening.specs.Texts.{texts_in}
 
 -- the places of the entries that pass, where the first stands at this one
 abbrev pub places_from : ℕ → (EntryValue → Bool) → List EntryValue → List ℕ
@@ -27,28 +24,35 @@ entries_at entries places = flat_map (λ place. take 1 (drop place entries)) pla
 abbrev pub AreWithin : List EntryValue → List ℕ → Type 0
 AreWithin entries places = All (λ place. place < length entries) places
 
--- the group of a name, where there is one
-abbrev pub group_at : BTreeMap (Bor (List ℕ)) (SmallVec ℕ) → List ℕ → Option (SmallVec ℕ)
-group_at groups name = get_by (λ key. slice_cmp nat_cmp name key.now) groups
+-- the name at a place
+abbrev pub name_at : List (Bor (List ℕ)) → ℕ → List ℕ
+name_at names at = get_or (texts_in names) at []
 
--- the places under a name
-abbrev pub places_under : BTreeMap (Bor (List ℕ)) (SmallVec ℕ) → List ℕ → List ℕ
-places_under groups name = option_map_or (λ group. group.items) (group_at groups name) []
+-- the places in the group at a place
+abbrev pub group_at : List (SmallVec ℕ) → ℕ → List ℕ
+group_at groups at = (get_or groups at (record { items = []; capacity = 1 })).items
 
 -- the two lists have the same elements, in whatever order and however often
 abbrev pub HasSameElements : {X : Type 0} → List X → List X → Type 0
 HasSameElements xs ys = (test : _ → Bool) → list_any test xs ≡ list_any test ys
 
--- under each name are the places of the entries that have it
-abbrev pub IsGrouping : List EntryValue → BTreeMap (Bor (List ℕ)) (SmallVec ℕ) → Type 0
-IsGrouping entries groups = (name : List ℕ) → HasSameElements (places_under groups name) (places_of name entries)
+-- each name has a group: the places of the entries that have it
+abbrev pub IsGrouping : List EntryValue → List (Bor (List ℕ)) → List (SmallVec ℕ) → Type 0
+IsGrouping entries names groups =
+    (length groups ≡ length names)
+    × ((at : ℕ) → at < length names →
+    HasSameElements (group_at groups at) (places_of (name_at names at) entries))
 
 -- a place is added to a list of them
 abbrev pub AddsPlace : List ℕ → List ℕ → ℕ → Type 0
 AddsPlace old new place = (test : ℕ → Bool) → list_any test new ≡ (list_any test old || test place)
 
--- the place is added under each of these names
-abbrev pub AddsUnder : BTreeMap (Bor (List ℕ)) (SmallVec ℕ) → BTreeMap (Bor (List ℕ)) (SmallVec ℕ) → List (List ℕ) → ℕ → Type 0
-AddsUnder old new names place =
-    (name : List ℕ) (test : ℕ → Bool) →
-    list_any test (places_under new name) ≡ (list_any test (places_under old name) || (list_any (bytes_eq name) names && test place))
+-- the place is added to the group of each name that is among those added
+abbrev pub AddsUnder :
+    List (Bor (List ℕ)) → List (SmallVec ℕ) → List (SmallVec ℕ) → List (List ℕ) → ℕ → Type 0
+AddsUnder names old new added place =
+    (length new ≡ length old)
+    × ((at : ℕ) (test : ℕ → Bool) → at < length names →
+    list_any test (group_at new at)
+    ≡ (list_any test (group_at old at)
+    || (list_any (bytes_eq (name_at names at)) added && test place)))

@@ -4,6 +4,7 @@ use Rattle.std.specs.Borrow.{Bor}
 use Rattle.std.specs.BTreeSet.{insert_key}
 use Rattle.std.specs.Cmp.Lexicographic.{slice_cmp}
 use Rattle.std.specs.List.{list_any}
+use Rattle.std.specs.List.Sorted.{IsStrictlySortedBy}
 use Rattle.std.specs.Ordering.{nat_cmp}
 
 -- the list has the text
@@ -34,3 +35,7 @@ in_byte_order texts = put_in_order [] texts
 -- the texts that a list refers to
 abbrev pub texts_in : List (Bor (List ℕ)) → List (List ℕ)
 texts_in texts = map (λ text. text.now) texts
+
+-- texts in byte order, each once
+abbrev pub AreInOrder : List (Bor (List ℕ)) → Type 0
+AreInOrder texts = IsStrictlySortedBy (slice_cmp nat_cmp) (texts_in texts)

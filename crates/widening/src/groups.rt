@@ -1,19 +1,18 @@
 // Entries grouped by the names of their calls.
 
-ghost use Rattle.std.specs.Prelude.{◌≡◌, [], ℕ, Bool, List, ◌&&◌, ◌||◌, bytes_eq, filter, IfOk, OnOk};
-ghost use Rattle.std.specs.List.{list_any};
+ghost use Rattle.std.specs.Prelude.{◌≡◌, ◌<◌, [], ◌∷◌, filter, length, IfOk, OnOk};
 ghost use Rattle.seccomp_doc.specs.Meaning.{has_name};
 ghost use Rattle.widening.specs.Calls.{keeps_to};
-ghost use Rattle.widening.specs.Groups.{AddsPlace, AddsUnder, AreWithin, HasSameElements, IsGrouping, entries_at, places_under};
+ghost use Rattle.widening.specs.Groups.{AddsPlace, AddsUnder, AreWithin, HasSameElements, IsGrouping, entries_at, name_at};
 ghost use Rattle.widening.specs.Memo.{IsMemo};
 ghost use Rattle.widening.specs.Ranks.{AreRanksOf, rules_with};
+ghost use Rattle.widening.specs.Texts.{AreInOrder};
 
 use crate::memo::{Memo, do_imply};
 use crate::ranks::{Asked, Ranks};
 use seccomp_doc::{Action, Entry, Filter};
 use smallvec::SmallVec;
 use std::alloc::{AllocError, Global};
-use std::collections::BTreeMap;
 
 // The entries of one name: those at these places.
 #[derive(Drop)]
@@ -32,38 +31,72 @@ impl<'b> Group<'b> {
     }
 }
 
-// A filter, and the places of its entries by the names of their calls. Most names have one entry, whose place takes no
-// allocation. `none` stands for the group of a name that no entry has.
+// The names of two filters' entries, in byte order, each once, and of each filter the places of the
+// entries of each name. Most names have one entry, whose place takes no allocation.
 #[derive(Drop)]
 pub(crate) struct Groups<'a> {
-    filter: &'a Filter,
-    by_name: BTreeMap<&'a str, SmallVec<usize, 1>>,
-    none: SmallVec<usize, 1>,
-    ghost grouped: { IsGrouping filter.now.entries by_name },
-    ghost none_is_empty: { none.items ≡ [] },
+    names: &'a [&'a str],
+    base: &'a Filter,
+    new: &'a Filter,
+    in_base: Vec<SmallVec<usize, 1>>,
+    in_new: Vec<SmallVec<usize, 1>>,
+    ghost base_grouped: { IsGrouping base.now.entries names.now in_base.items },
+    ghost new_grouped: { IsGrouping new.now.entries names.now in_new.items },
 }
 
 impl<'a> Groups<'a> {
-    // Groups the entries of a filter.
-    pub(crate) fn new(alloc: Global, filter: &'a Filter) -> Result<Groups<'a>, AllocError>
-        ensures { IfOk result (λ groups. groups.filter.now ≡ filter.now) }
+    // Groups the entries of two filters by these names.
+    pub(crate) fn new(
+        alloc: Global,
+        base: &'a Filter,
+        new: &'a Filter,
+        names: &'a [&'a str],
+    ) -> Result<Groups<'a>, AllocError>
+        requires { AreInOrder names.now }
+        ensures { IfOk result (λ groups. (groups.names.now ≡ names.now)
+            × (groups.base.now ≡ base.now) × (groups.new.now ≡ new.now)) }
     {
-        let by_name = group_by_name(alloc, filter)?;
+        let in_base = group_by_name(alloc, base, names)?;
+        let in_new = group_by_name(alloc, new, names)?;
         Ok(Groups {
-            filter,
-            by_name,
-            none: SmallVec::new(alloc),
+            names,
+            base,
+            new,
+            in_base,
+            in_new,
         })
     }
 
-    // The entries of a name.
-    fn group<'b>(&'b self, name: &str) -> Group<'b>
-        ensures filter { result.entries.now ≡ self.now.filter.now.entries }
-        ensures named { HasSameElements (entries_at result.entries.now result.places.now) (filter (has_name name.now) self.now.filter.now.entries) }
+    // The names.
+    pub(crate) fn names(&self) -> &[&str]
+        ensures { result.now ≡ self.now.names.now }
+    {
+        self.names
+    }
+
+    // The baseline's entries of the name at a place.
+    fn base_group<'b>(&'b self, at: usize) -> Group<'b>
+        requires { at < length self.now.names.now }
+        ensures entries { result.entries.now ≡ self.now.base.now.entries }
+        ensures named { HasSameElements (entries_at result.entries.now result.places.now)
+            (filter (has_name (name_at self.now.names.now at)) self.now.base.now.entries) }
     {
         Group {
-            entries: self.filter.entries(),
-            places: places_at(&self.by_name, &self.none, name),
+            entries: self.base.entries(),
+            places: self.in_base[at].as_slice(),
+        }
+    }
+
+    // The new filter's entries of the name at a place.
+    fn new_group<'b>(&'b self, at: usize) -> Group<'b>
+        requires { at < length self.now.names.now }
+        ensures entries { result.entries.now ≡ self.now.new.now.entries }
+        ensures named { HasSameElements (entries_at result.entries.now result.places.now)
+            (filter (has_name (name_at self.now.names.now at)) self.now.new.now.entries) }
+    {
+        Group {
+            entries: self.new.entries(),
+            places: self.in_new[at].as_slice(),
         }
     }
 }
@@ -80,22 +113,25 @@ fn ranks_at(default: Action, entries: &[Entry], places: &[usize]) -> Ranks
     ranks
 }
 
-// Whether the new filter permits no call of this name more than the baseline.
+// Whether the new filter permits no call of the name at a place more than the baseline.
 pub(crate) fn keeps_to(
     alloc: Global,
-    base: &Groups,
-    new: &Groups,
+    groups: &Groups,
     memo: &mut Memo,
-    name: &str,
+    at: usize,
 ) -> Result<bool, AllocError>
-    requires { IsMemo base.now.filter.now.entries new.now.filter.now.entries memo.old.of_new.items memo.old.of_base.items }
-    ensures memo { OnOk result (IsMemo base.now.filter.now.entries new.now.filter.now.entries memo.new.of_new.items memo.new.of_base.items) }
-    ensures told { IfOk result (λ told. told ≡ keeps_to base.now.filter.now new.now.filter.now name.now) }
+    requires memo { IsMemo groups.now.base.now.entries groups.now.new.now.entries
+        memo.old.of_new.items memo.old.of_base.items }
+    requires within { at < length groups.now.names.now }
+    ensures memo { OnOk result (IsMemo groups.now.base.now.entries groups.now.new.now.entries
+        memo.new.of_new.items memo.new.of_base.items) }
+    ensures told { IfOk result (λ told. told
+        ≡ keeps_to groups.now.base.now groups.now.new.now (name_at groups.now.names.now at)) }
 {
-    let base_group = base.group(name);
-    let new_group = new.group(name);
-    let base_ranks = base_group.ranks(base.filter.default_action());
-    let new_ranks = new_group.ranks(new.filter.default_action());
+    let base_group = groups.base_group(at);
+    let new_group = groups.new_group(at);
+    let base_ranks = base_group.ranks(groups.base.default_action());
+    let new_ranks = new_group.ranks(groups.new.default_action());
     let Asked { of_new, of_base } = Asked::between(base_ranks, new_ranks);
     let new_entries_do = do_imply(alloc, &mut memo.of_new, of_new, &new_group, &base_group)?;
     if !new_entries_do {
@@ -105,60 +141,82 @@ pub(crate) fn keeps_to(
     Ok(base_entries_do)
 }
 
-// The places under a name, or `none` where there is no group.
-fn places_at<'b>(
-    groups: &'b BTreeMap<&str, SmallVec<usize, 1>>,
-    none: &'b SmallVec<usize, 1>,
-    name: &str,
-) -> &'b [usize]
-    requires { none.now.items ≡ [] }
-    ensures { result.now ≡ places_under groups.now name.now }
+// The places of the entries of each of these names.
+fn group_by_name(
+    alloc: Global,
+    filter: &Filter,
+    names: &[&str],
+) -> Result<Vec<SmallVec<usize, 1>>, AllocError>
+    requires { AreInOrder names.now }
+    ensures { IfOk result (λ groups. IsGrouping filter.now.entries names.now groups.items) }
 {
-    groups.get(name).unwrap_or(none).as_slice()
+    let mut groups = without_places(alloc, names)?;
+    add_entries(&mut groups, names, filter.entries())?;
+    Ok(groups)
 }
 
-// The places of the entries of each name.
-fn group_by_name<'a>(
-    alloc: Global,
-    filter: &'a Filter,
-) -> Result<BTreeMap<&'a str, SmallVec<usize, 1>>, AllocError>
-    ensures { IfOk result (IsGrouping filter.now.entries) }
+// No places for each of these names.
+fn without_places(alloc: Global, names: &[&str]) -> Result<Vec<SmallVec<usize, 1>>, AllocError>
+    ensures { IfOk result (λ groups. IsGrouping [] names.now groups.items) }
 {
-    let mut groups = BTreeMap::new(alloc);
-    let entries = filter.entries();
-    for place in 0..entries.len() {
-        add_entry(alloc, &mut groups, &entries[place], place)?;
+    let mut groups = Vec::with_capacity(alloc, names.len())?;
+    for _ in 0..names.len() {
+        groups.push(SmallVec::new(alloc))?;
     }
     Ok(groups)
 }
 
-// Adds the place of an entry under each of its names.
-fn add_entry<'a>(
-    alloc: Global,
-    groups: &mut BTreeMap<&'a str, SmallVec<usize, 1>>,
-    entry: &'a Entry,
-    place: usize,
+// Adds the places of entries to groups without any.
+fn add_entries(
+    groups: &mut [SmallVec<usize, 1>],
+    names: &[&str],
+    entries: &[Entry],
 ) -> Result<(), AllocError>
-    ensures { OnOk result (AddsUnder groups.old groups.new entry.now.names place) }
+    requires order { AreInOrder names.now }
+    requires none { IsGrouping [] names.now groups.old }
+    ensures { OnOk result (IsGrouping entries.now names.now groups.new) }
 {
-    for name in entry.names() {
-        add_under(alloc, groups, name.as_str(), place)?;
+    for place in 0..entries.len() {
+        add_entry(groups, names, &entries[place], place)?;
     }
     Ok(())
 }
 
-// Adds a place under a name.
-fn add_under<'a>(
-    alloc: Global,
-    groups: &mut BTreeMap<&'a str, SmallVec<usize, 1>>,
-    name: &'a str,
+// Adds the place of an entry under each of its names.
+fn add_entry(
+    groups: &mut [SmallVec<usize, 1>],
+    names: &[&str],
+    entry: &Entry,
     place: usize,
 ) -> Result<(), AllocError>
-    ensures { OnOk result ((q : List ℕ) (test : ℕ → Bool) → list_any test (places_under groups.new q)
-        ≡ (list_any test (places_under groups.old q) || (bytes_eq name.now q && test place))) }
+    requires order { AreInOrder names.now }
+    requires count { length groups.old ≡ length names.now }
+    ensures { OnOk result (AddsUnder names.now groups.old groups.new entry.now.names place) }
 {
-    add_place(groups.entry(name)?.or_insert(SmallVec::new(alloc)), place)?;
+    for name in entry.names() {
+        add_under(groups, names, name.as_str(), place)?;
+    }
     Ok(())
+}
+
+// Adds a place under a name, where it is among the names.
+fn add_under(
+    groups: &mut [SmallVec<usize, 1>],
+    names: &[&str],
+    name: &str,
+    place: usize,
+) -> Result<(), AllocError>
+    requires order { AreInOrder names.now }
+    requires count { length groups.old ≡ length names.now }
+    ensures { OnOk result (AddsUnder names.now groups.old groups.new (name.now ∷ []) place) }
+{
+    match names.binary_search(&name) {
+        Ok(at) => {
+            add_place(&mut groups[at], place)?;
+            Ok(())
+        }
+        Err(_) => Ok(()),
+    }
 }
 
 // Adds a place, unless it is the last: an entry that has a name twice stands under it once.

@@ -1,10 +1,11 @@
 // The list of findings.
 
-ghost use Rattle.std.specs.Prelude.{◌≡◌, ◌∷◌, ◌++◌, [], filter, if◌then◌else◌, map, IfOk, OnOk};
+ghost use Rattle.std.specs.Prelude.{◌≡◌, ◌<◌, ◌++◌, filter, length, map, IfOk, OnOk};
 ghost use Rattle.widening.specs.Calls.{entry_names, is_permitted_more};
-ghost use Rattle.widening.specs.Findings.{between_filters, call_findings, default_findings, filter_findings, findings_of};
+ghost use Rattle.widening.specs.Findings.{between_filters, call_finding, call_findings, default_findings, filter_findings, findings_of};
+ghost use Rattle.widening.specs.Groups.{name_at};
 ghost use Rattle.widening.specs.Memo.{IsMemo};
-ghost use Rattle.widening.specs.Texts.{in_byte_order, texts_in};
+ghost use Rattle.widening.specs.Texts.{AreInOrder, in_byte_order, texts_in};
 
 use crate::caps::find_caps;
 use crate::finding::Finding;
@@ -90,54 +91,48 @@ fn find_calls(
     ensures { OnOk result (found.new.items ≡ found.old.items ++ call_findings base.now new.now) }
 {
     let names = names_in_order(alloc, base.entries(), new.entries())?;
-    let base_groups = Groups::new(alloc, base)?;
-    let new_groups = Groups::new(alloc, new)?;
+    let groups = Groups::new(alloc, base, new, names.as_slice())?;
     let mut memo = Memo::new(alloc, base, new)?;
-    find_named(
-        alloc,
-        found,
-        &base_groups,
-        &new_groups,
-        &mut memo,
-        names.as_slice(),
-    )
+    find_named(alloc, found, &groups, &mut memo)
 }
 
-// Adds each of these names, where the new filter may permit a call of it more.
+// Adds each of the names, where the new filter may permit a call of it more.
 fn find_named(
     alloc: Global,
     found: &mut Vec<Finding>,
-    base: &Groups,
-    new: &Groups,
+    groups: &Groups,
     memo: &mut Memo,
-    names: &[&str],
 ) -> Result<(), AllocError>
-    requires { IsMemo base.now.filter.now.entries new.now.filter.now.entries memo.old.of_new.items memo.old.of_base.items }
+    requires { IsMemo groups.now.base.now.entries groups.now.new.now.entries
+        memo.old.of_new.items memo.old.of_base.items }
     ensures { OnOk result (found.new.items ≡ found.old.items
-        ++ map Finding.Call (filter (is_permitted_more base.now.filter.now new.now.filter.now) (texts_in names.now))) }
+        ++ map Finding.Call (filter (is_permitted_more groups.now.base.now groups.now.new.now)
+        (texts_in groups.now.names.now))) }
 {
-    for name in names {
-        find_call(alloc, found, base, new, memo, name)?;
+    for at in 0..groups.names().len() {
+        find_call(alloc, found, groups, memo, at)?;
     }
     Ok(())
 }
 
-// Adds the name, where the new filter may permit a call of it more.
+// Adds the name at a place, where the new filter may permit a call of it more.
 fn find_call(
     alloc: Global,
     found: &mut Vec<Finding>,
-    base: &Groups,
-    new: &Groups,
+    groups: &Groups,
     memo: &mut Memo,
-    name: &str,
+    at: usize,
 ) -> Result<(), AllocError>
-    requires { IsMemo base.now.filter.now.entries new.now.filter.now.entries memo.old.of_new.items memo.old.of_base.items }
-    ensures memo { OnOk result (IsMemo base.now.filter.now.entries new.now.filter.now.entries memo.new.of_new.items memo.new.of_base.items) }
+    requires memo { IsMemo groups.now.base.now.entries groups.now.new.now.entries
+        memo.old.of_new.items memo.old.of_base.items }
+    requires within { at < length groups.now.names.now }
+    ensures memo { OnOk result (IsMemo groups.now.base.now.entries groups.now.new.now.entries
+        memo.new.of_new.items memo.new.of_base.items) }
     ensures found { OnOk result (found.new.items ≡ found.old.items
-        ++ (if is_permitted_more base.now.filter.now new.now.filter.now name.now then Finding.Call name.now ∷ [] else [])) }
+        ++ call_finding groups.now.base.now groups.now.new.now (name_at groups.now.names.now at)) }
 {
-    if !keeps_to(alloc, base, new, memo, name)? {
-        let name = CallName::read(alloc, name).map_err(|_| AllocError)?;
+    if !keeps_to(alloc, groups, memo, at)? {
+        let name = CallName::read(alloc, groups.names()[at]).map_err(|_| AllocError)?;
         found.push(Finding::Call(name))?;
     }
     Ok(())
@@ -149,8 +144,9 @@ fn names_in_order<'a>(
     base: &'a [Entry],
     new: &'a [Entry],
 ) -> Result<Vec<&'a str>, AllocError>
-    ensures { IfOk result (λ names. texts_in names.items
+    ensures names { IfOk result (λ names. texts_in names.items
         ≡ in_byte_order (entry_names base.now ++ entry_names new.now)) }
+    ensures order { IfOk result (λ names. AreInOrder names.items) }
 {
     let mut names = Vec::new(alloc);
     add_entries(&mut names, base)?;
@@ -161,7 +157,9 @@ fn names_in_order<'a>(
 
 // Puts texts in byte order, each once.
 fn put_in_byte_order(texts: &mut Vec<&str>) -> Result<(), AllocError>
-    ensures { OnOk result (texts_in texts.new.items ≡ in_byte_order (texts_in texts.old.items)) }
+    ensures texts { OnOk result (texts_in texts.new.items
+        ≡ in_byte_order (texts_in texts.old.items)) }
+    ensures order { OnOk result (AreInOrder texts.new.items) }
 {
     texts.sort()?;
     texts.dedup();

@@ -7,13 +7,13 @@ use Rattle.widening.proofs.listing.find_calls.Goals as goal
 
 pub returns : goal.returns
 returns c =
-    let names = texts_in c.as_slice.result.now in
-    let new_groups = c.in_ok-new_groups.new_groups.filter.now in
+    let groups = c.in_ok-groups.groups in
+    let names = texts_in groups.names.now in
     subst (λ added. OnOk c.find_named.result (c.find_named.new.found.items ≡ c.args.found.now.items ++ added))
-    (ap (λ b. map Call (filter (is_permitted_more b new_groups) names)) c.in_ok-base_groups.ensures
-    ∙ ap (λ n. map Call (filter (is_permitted_more c.args.base.now n) names)) c.in_ok-new_groups.ensures
+    (ap (λ b. map Call (filter (is_permitted_more b groups.new.now) names)) c.in_ok-groups.ensures.1
+    ∙ ap (λ n. map Call (filter (is_permitted_more c.args.base.now n) names)) c.in_ok-groups.ensures.2
     ∙ ap (λ ns. map Call (filter (is_permitted_more c.args.base.now c.args.new.now) ns))
-    (ap texts_in c.as_slice.ensures.value ∙ c.in_ok-names.ensures
+    (ap texts_in (c.in_ok-groups.ensures.0 ∙ c.as_slice.ensures.value) ∙ c.in_ok-names.ensures.names
     ∙ ap (λ es. in_byte_order (entry_names es ++ entry_names c.entries-2.result.now)) c.entries.ensures.entries
     ∙ ap (λ es. in_byte_order (entry_names c.args.base.now.entries ++ entry_names es)) c.entries-2.ensures.entries))
     c.find_named.ensures

@@ -6,8 +6,8 @@ use Rattle.widening.specs.Memo.{IsMemo}
 use Rattle.widening.specs.Texts.{texts_in}
 use Rattle.widening.proofs.listing.find_named.Given as goal
 
-abbrev pub invariant-loop-name : goal.invariant-loop-name
-invariant-loop-name l = record {
-  memo : IsMemo l.base.filter.now.entries l.new.filter.now.entries l.memo.of_new.items l.memo.of_base.items;
-  found : l.found.items ≡ l.initial.found.items ++ map Call (filter (is_permitted_more l.base.filter.now l.new.filter.now) (texts_in (take l.name-index l.names)));
+abbrev pub invariant-loop-at : goal.invariant-loop-at
+invariant-loop-at l = record {
+  memo : IsMemo l.groups.base.now.entries l.groups.new.now.entries l.memo.of_new.items l.memo.of_base.items;
+  found : l.found.items ≡ l.initial.found.items ++ map Call (filter (is_permitted_more l.groups.base.now l.groups.new.now) (take l.at (texts_in l.groups.names.now)));
 }

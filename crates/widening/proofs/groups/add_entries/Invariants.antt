@@ -1,6 +1,6 @@
 use Rattle.std.proofs.Common.{take}
 use Rattle.widening.specs.Groups.{IsGrouping}
-use Rattle.widening.proofs.groups.group_by_name.Given as goal
+use Rattle.widening.proofs.groups.add_entries.Given as goal
 
 abbrev pub invariant-loop-place : goal.invariant-loop-place
-invariant-loop-place l = IsGrouping (take l.place l.entries) l.groups
+invariant-loop-place l = IsGrouping (take l.place l.entries) l.names l.groups
