@@ -1,6 +1,6 @@
 -- What exchanges one after the other leave.
 use Rattle.std.proofs.Common.{false, ◌≡◌, ◌∙◌, ℕ, ◌+◌, List, [], ◌∷◌, ◌++◌, Option, Some, None, inl, inr, Result, Ok, Err, length, refl, sym, ap, subst, arith, append-nil, append_assoc, length-append}
-use Rattle.std.proofs.KnownBytes.{Appends-nil, Appends-trans}
+use Rattle.std.proofs.KnownBytes.{Appends-nil}
 use Rattle.std.specs.Io.KnownBytes.{Appends}
 use Rattle.std.specs.Prelude.{OnOk}
 use Rattle.std.specs.Result.{is_err}
@@ -53,7 +53,7 @@ not_begun Same Handled same = (None, same, tt)
 
 -- ---- one more
 
-of_ok : {X E : Type 0} (r : Result X E) (P : Type 0) → false ≡ is_err r → OnOk r P → P
+pub of_ok : {X E : Type 0} (r : Result X E) (P : Type 0) → false ≡ is_err r → OnOk r P → P
 of_ok (Ok x) P no_error p = p
 of_ok (Err e) P no_error p = absurd cc
 
@@ -78,12 +78,12 @@ told_more (x ∷ came) (y ∷ results) c r told tells = (told.0, told_more came 
 told_more [] (y ∷ results) c r told tells = absurd told
 told_more (x ∷ came) [] c r told tells = absurd told
 
-lines_more : (results : List (Result ℕ HttpFault)) (r : Result ℕ HttpFault) → lines_of (results ++ r ∷ []) ≡ lines_of results ++ line_of r
+pub lines_more : (results : List (Result ℕ HttpFault)) (r : Result ℕ HttpFault) → lines_of (results ++ r ∷ []) ≡ lines_of results ++ line_of r
 lines_more [] r = append-nil (line_of r)
 lines_more (x ∷ results) r = ap (λ t. line_of x ++ t) (lines_more results r) ∙ sym (append_assoc (line_of x) (lines_of results) (line_of r))
 
 module _ {X : Type 0} (m : Meaning X) where
-  none_run : (s : X) → HaveRun m s s [] []
+  pub none_run : (s : X) → HaveRun m s s [] []
   none_run s = record {
     count = refl;
     survives = survives_none m s;
@@ -138,13 +138,3 @@ module _ {X : Type 0} (m : Meaning X) where
 
     pub next_count : length (p.results ++ r ∷ []) ≡ count + 1
     next_count = omega (arith, length-append p.results (r ∷ []), p.count_is)
-
-    pub progress_more : {X E : Type 0} (after : Option (List ℕ)) (wrote : Result X E) → false ≡ is_err wrote → OnOk wrote (Appends between after (line_of r))
-        → Progress old now before after (count + 1)
-    progress_more after wrote no_error writes = record {
-      results = p.results ++ r ∷ [];
-      exchanged = next_exchanged;
-      count_is = next_count;
-      written = rw (lines_more p.results r)
-          (Appends-trans before between after (lines_of p.results) (line_of r) p.written (of_ok wrote (Appends between after (line_of r)) no_error writes));
-    }

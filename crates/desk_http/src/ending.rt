@@ -1,11 +1,12 @@
 //! The end of a connection whose client may still be sending.
 
+use crate::clock::PassClock;
 use crate::deadline::Deadline;
 use crate::fault::HttpFault;
 use crate::timed::Timed;
 use std::io::Read;
 use std::net::{Shutdown, TcpStream};
-use std::time::{Clock, Duration};
+use std::time::Duration;
 
 // For how long what the client still sends is taken, in seconds.
 const LONGEST: u64 = 1;
@@ -19,7 +20,7 @@ fn is_refused_unread(served: Result<u16, HttpFault>) -> bool {
 }
 
 // Says that the response has ended, and takes what the client still sends.
-fn take_rest<C: Clock>(clock: &C, stream: &TcpStream) {
+fn take_rest<C: PassClock>(clock: &C, stream: TcpStream) {
     let Ok(deadline) = Deadline::after(clock, Duration::from_secs(LONGEST)) else {
         return;
     };
@@ -38,9 +39,9 @@ fn take_rest<C: Clock>(clock: &C, stream: &TcpStream) {
 
 /// Ends an exchange whose request was refused unread. Were the connection closed over unread bytes, it would be reset, and the client
 /// might lose the response (RFC 9112, section 9.6).
-pub(crate) fn end_exchange<C: Clock>(
+pub(crate) fn end_exchange<C: PassClock>(
     clock: &C,
-    stream: &TcpStream,
+    stream: TcpStream,
     served: Result<u16, HttpFault>,
 ) {
     if is_refused_unread(served) {

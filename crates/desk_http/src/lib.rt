@@ -1,17 +1,26 @@
 //! HTTP with an office: one exchange, and exchanges over loopback one after the other, each with its deadline.
 #![tactic(auto)]
 
+pub mod clock;
 pub mod deadline;
 mod ending;
 pub mod fault;
+pub mod listener;
 pub mod outcome;
 mod serve;
 pub mod server;
+pub mod serving;
+mod tell;
 pub mod timed;
+pub mod timed_listener;
 
+pub use clock::PassClock;
 pub use deadline::Deadline;
 pub use fault::HttpFault;
+pub use listener::{Listener, Stream};
 pub use outcome::Outcome;
 pub use serve::{MAX_READS, serve_one};
 pub use server::Server;
+pub use serving::serve_exchanges;
 pub use timed::{Timed, Timeouts};
+pub use timed_listener::TimedListener;

@@ -1,0 +1,34 @@
+-- A listener whose streams last only so long.
+use Rattle.std.specs.Prelude.{◌≡◌, ℕ, List, None, Option, IfOk, Result}
+use Rattle.std.specs.declared.io.Error.{Error}
+use Rattle.std.specs.declared.net.tcp.TcpStream.{TcpStream}
+use Rattle.std.specs.declared.time.Duration.{Duration}
+use Rattle.office_policy.specs.Meaning.{Meaning}
+use Rattle.streams.specs.declared.whole.WriteFailed.{WriteFailed}
+use Rattle.desk_http.specs.Clocks.{EndsAfter}
+use Rattle.desk_http.specs.Listening.{AreServedWith, Listening}
+use Rattle.desk_http.specs.declared.timed.Timed.{Timed}
+use Rattle.desk_http.specs.declared.timed_listener.TimedListener.{TimedListener}
+
+module _ {C : Type 0} (Shows : C → Result Duration Error → Type 0) where
+  -- it ends so long after the listener's clock showed a moment, by that clock
+  abbrev pub IsUntil : TimedListener C → Timed C TcpStream → Type 0
+  IsUntil listener stream =
+      (stream.deadline.clock.now ≡ listener.clock.now)
+      × EndsAfter (Shows listener.clock.now) listener.longest stream.deadline.end
+
+  -- each stream that it hands out does, in both directions
+  abbrev pub lasting : Listening (TimedListener C) (Timed C TcpStream) (Timed C TcpStream)
+  lasting = record {
+    hands_out = λ old new result. (new ≡ old)
+        × IfOk result (λ stream. IsUntil old stream.reader × IsUntil old stream.writer);
+    takes_back = λ old new reader writer served. new ≡ old;
+  }
+
+  -- exchanges were served over such a listener, each for at most so long
+  abbrev pub HasServedWithin : {X : Type 0} → Duration → Meaning X → (old new : X)
+      → (written wrote : Option (List ℕ)) → ℕ → Result (Unit {0}) WriteFailed → Type 0
+  HasServedWithin longest m old new written wrote most result =
+      (before : TimedListener C) × (after : TimedListener C) × (before.longest ≡ longest)
+      × AreServedWith lasting (λ _. None) (λ _. None) m before after old new
+      written wrote most result

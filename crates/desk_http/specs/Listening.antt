@@ -1,0 +1,67 @@
+-- What a listener means, and exchanges over the streams that it hands out.
+use Rattle.std.specs.Prelude.{◌≡◌, ◌⊎◌, ◌<◌, ◌≤◌, ℕ, List, [], ◌∷◌, length, Option, Result, Ok, Err}
+use Rattle.std.specs.Io.KnownBytes.{Appends}
+use Rattle.std.specs.declared.io.Error.{Error}
+use Rattle.office_policy.specs.Meaning.{Meaning}
+use Rattle.office_policy.specs.Handled.{IsHandled}
+use Rattle.streams.specs.declared.counted.Counted.{Counted}
+use Rattle.streams.specs.declared.whole.WriteFailed.{WriteFailed}
+use Rattle.desk_http.specs.Exchanged.{HaveExchanged, lines_of}
+use Rattle.desk_http.specs.Served.{IsServed, ReadCounts, TellCounts}
+use Rattle.desk_http.specs.declared.fault.HttpFault.{HttpFault}
+use Rattle.desk_http.specs.declared.fault.HttpFault.TheVariants as fault
+use Rattle.desk_http.specs.declared.listener.Stream.{Stream}
+
+-- what is meant by a listener
+pub record Listening (N Reader Writer : Type 0) : Type 1 where
+  -- by a call of accept the first became the second, and handed this stream out, or failed
+  pub hands_out : (old new : N) → Result (Stream Reader Writer) Error → Type 0
+  -- by taking back a stream that is now so, after an exchange that came to this
+  pub takes_back : (old new : N) → Counted Reader → Counted Writer → Result ℕ HttpFault → Type 0
+
+-- over streams of which these bytes are known
+module _ {N Reader Writer X : Type 0} (l : Listening N Reader Writer)
+    (remaining : Reader → Option (List ℕ)) (contents : Writer → Option (List ℕ))
+    (m : Meaning X) where
+  module _ (before after : N) (old new : X) (result : Result ℕ HttpFault) where
+    -- over this stream was one exchange, which came to this; and it was taken back as that left it
+    pub record IsOver (stream : Stream Reader Writer) : Type 0 where
+      pub reader : Counted Reader
+      pub writer : Counted Writer
+      pub served : IsServed (new ≡ old) (IsHandled m old new)
+          (remaining stream.reader) (remaining reader.inner)
+          (contents stream.writer) (contents writer.inner) result
+      pub read : ReadCounts 0 reader.calls 600000 0 reader.faults result
+      pub wrote : TellCounts 0 writer.faults result
+      pub taken : l.takes_back before after reader writer result
+
+  -- a stream was handed out, with one exchange over it; or none could be, and nothing was handled
+  abbrev pub IsNext : (before after : N) (old new : X) → Result ℕ HttpFault → Type 0
+  IsNext before after old new result =
+      ((between : N) × (stream : Stream Reader Writer) × l.hands_out before between (Ok stream)
+      × IsOver between after old new result stream)
+      ⊎ ((e : Error) × l.hands_out before after (Err e) × (result ≡ Err fault.Read) × (new ≡ old))
+
+  -- exchanges one after the other, each over the next stream, came to these
+  abbrev pub AreServedOver : (before after : N) (old new : X) → List (Result ℕ HttpFault) → Type 0
+  AreServedOver before after old new [] = (after ≡ before) × (new ≡ old)
+  AreServedOver before after old new (r ∷ results) =
+      (between : N) × (was : X) × IsNext before between old was r
+      × AreServedOver between after was new results
+
+  -- so did these, and each left what it came to
+  pub record HaveServed (before after : N) (old new : X)
+      (results : List (Result ℕ HttpFault)) : Type 0 where
+    pub over : AreServedOver before after old new results
+    pub exchanged : HaveExchanged m old new results
+
+  -- there were so many, and just a line for each was written; or a line couldn't be written, and
+  -- there was at least one
+  abbrev pub AreServedWith : (before after : N) (old new : X) (written wrote : Option (List ℕ))
+      → ℕ → Result (Unit {0}) WriteFailed → Type 0
+  AreServedWith before after old new written wrote most (Ok done) =
+      (results : List (Result ℕ HttpFault)) × HaveServed before after old new results
+      × (length results ≡ most) × Appends written wrote (lines_of results)
+  AreServedWith before after old new written wrote most (Err failed) =
+      (results : List (Result ℕ HttpFault)) × HaveServed before after old new results
+      × (0 < length results) × (length results ≤ most)

@@ -1,0 +1,74 @@
+//! Exchanges one after the other, over the streams that a listener hands out.
+
+ghost use Rattle.desk_http.specs.Listening.{AreServedWith, IsNext, IsOver};
+
+use crate::fault::HttpFault;
+use crate::listener::{Listener, Stream};
+use crate::serve::serve_one;
+use crate::tell::tell;
+use http_requests::OfficeRouter;
+use office_policy::Handler;
+use std::alloc::Global;
+use std::io::Write;
+use streams::{Counted, WriteFailed};
+
+// Serves an exchange over a stream, and has it taken back.
+fn serve_stream<H: Handler, L: Listener>(
+    office: &mut H,
+    alloc: Global,
+    router: &OfficeRouter,
+    listener: &mut L,
+    stream: Stream<L::Reader, L::Writer>,
+) -> Result<u16, HttpFault>
+    ensures { IsOver L.meaning L.Reader.remaining L.Writer.contents H.meaning
+        listener.old listener.new office.old office.new result stream }
+{
+    let mut reader = Counted::new(stream.reader);
+    let mut writer = Counted::new(stream.writer);
+    let served = serve_one(office, alloc, router, &mut reader, &mut writer);
+    listener.take_back(reader, writer, served);
+    served
+}
+
+// Serves an exchange over the next stream. One that can't be accepted is as one that can't be read.
+fn serve_next<H: Handler, L: Listener>(
+    office: &mut H,
+    alloc: Global,
+    router: &OfficeRouter,
+    listener: &mut L,
+) -> Result<u16, HttpFault>
+    ensures { IsNext L.meaning L.Reader.remaining L.Writer.contents H.meaning
+        listener.old listener.new office.old office.new result }
+{
+    match listener.accept() {
+        Ok(stream) => serve_stream(office, alloc, router, listener, stream),
+        Err(_) => Err(HttpFault::Read),
+    }
+}
+
+/// Serves this many exchanges one after the other, each over the next stream, and writes a line for each: its status, or
+/// `fault` and the word of the fault.
+///
+/// # Errors
+///
+/// Such a line couldn't be written, which ends it.
+pub fn serve_exchanges<H: Handler, L: Listener, O: Write>(
+    office: &mut H,
+    alloc: Global,
+    router: &OfficeRouter,
+    listener: &mut L,
+    exchanges: u32,
+    output: &mut O,
+) -> Result<(), WriteFailed>
+    ensures { AreServedWith L.meaning L.Reader.remaining L.Writer.contents H.meaning
+        listener.old listener.new office.old office.new
+        (O.contents output.old) (O.contents output.new) exchanges result }
+{
+    for _ in 0..exchanges {
+        let served = serve_next(office, alloc, router, listener);
+        if tell(output, served).is_err() {
+            return Err(WriteFailed);
+        }
+    }
+    Ok(())
+}

@@ -1,0 +1,77 @@
+//! A listener whose streams last only so long.
+
+ghost use Rattle.std.specs.Prelude.{◌≡◌};
+
+use crate::clock::PassClock;
+use crate::deadline::Deadline;
+use crate::ending::end_exchange;
+use crate::fault::HttpFault;
+use crate::listener::{Listener, Stream};
+use crate::timed::Timed;
+use std::io;
+use std::net::{TcpListener, TcpStream};
+use std::time::{Clock, Duration};
+use streams::Counted;
+
+/// A listener whose streams each last at most so long, by this clock.
+#[derive(Drop)]
+pub struct TimedListener<'c, C: Clock> {
+    clock: &'c C,
+    listener: &'c TcpListener,
+    longest: Duration,
+}
+
+impl<'c, C: Clock> TimedListener<'c, C> {
+    /// The listener, whose streams last at most `longest`.
+    pub fn new(clock: &'c C, listener: &'c TcpListener, longest: Duration) -> TimedListener<'c, C>
+        ensures clock { result.clock.now ≡ clock.now }
+        ensures longest { result.longest ≡ longest }
+    {
+        TimedListener {
+            clock,
+            listener,
+            longest,
+        }
+    }
+}
+
+impl<'c, C: PassClock> Listener for TimedListener<'c, C> {
+    ghost use Rattle.desk_http.specs.Lasting.{lasting};
+
+    type Reader = Timed<'c, C, TcpStream>;
+
+    type Writer = Timed<'c, C, TcpStream>;
+
+    ghost meaning = { lasting C.shows };
+
+    fn accept(&mut self) -> io::Result<Stream<Timed<'c, C, TcpStream>, Timed<'c, C, TcpStream>>> {
+        let (stream, _) = match self.listener.accept() {
+            Ok(accepted) => accepted,
+            Err(error) => return Err(error),
+        };
+        let deadline = match Deadline::after(self.clock, self.longest) {
+            Ok(deadline) => deadline,
+            Err(error) => return Err(error),
+        };
+        let again = match stream.try_clone() {
+            Ok(again) => again,
+            Err(error) => return Err(error),
+        };
+        Ok(Stream {
+            reader: Timed::new(stream, &deadline),
+            writer: Timed::new(again, &deadline),
+        })
+    }
+
+    fn take_back(
+        &mut self,
+        reader: Counted<Timed<'c, C, TcpStream>>,
+        writer: Counted<Timed<'c, C, TcpStream>>,
+        served: Result<u16, HttpFault>,
+    )
+        ensures { self.new ≡ self.old }
+    {
+        end_exchange(self.clock, reader.into_inner().into_inner(), served);
+        drop(writer);
+    }
+}
