@@ -6,6 +6,7 @@ ghost use Rattle.serde_json.specs.View.{view, members_view};
 ghost use Rattle.cap_sets.specs.Capability.{names_of};
 ghost use Rattle.profile_text.specs.Text.{set_data, texts_data};
 ghost use Rattle.json_requests.specs.Answers.{text_member};
+ghost use Rattle.office_policy.specs.History.{founded, enrolled, submitted, voted};
 ghost use Rattle.journal_lines.specs.Lines.{event_data, kind_member, line_data, of_profile, of_revision, role_data, role_words, text_of, vote_word, words_among, line_of};
 ghost use Rattle.journal_lines.specs.Shown.{event_of, shown};
 
@@ -13,7 +14,7 @@ use crate::kind::Kind;
 use crate::line::{Event, Line};
 use cap_sets::Caps;
 use json_requests::object::{with_digest, with_number, with_text, with_value};
-use review_policy::{ProfileName, Role, Roles, Word};
+use review_policy::{ProfileName, Role, Roles, Text, Word};
 use serde_json::{Map, ToValue, Value};
 use std::alloc::{AllocError, Global};
 
@@ -149,6 +150,72 @@ fn vote_word(approves: bool) -> &'static str
     if approves { "approve" } else { "reject" }
 }
 
+// A founding.
+fn founded_object(
+    alloc: Global,
+    user: &Word,
+    team: &Word,
+    digest: &[u8; 32],
+    listed: Caps,
+) -> Result<Map<String, Value>, AllocError>
+    ensures { IfOk result (λ m. object (members_view m.entries)
+        ≡ event_data (founded user.now team.now digest.now listed)) }
+{
+    let object = of_kind(alloc, Kind::Found)?;
+    let object = with_digest(alloc, object, digest)?;
+    let object = with_value(alloc, object, "listed", names_value(alloc, listed)?)?;
+    with_user(alloc, object, user, team)
+}
+
+// An enrolment.
+fn enrolled_object(
+    alloc: Global,
+    caller: &Word,
+    user: &Word,
+    team: &Word,
+    roles: Roles,
+    digest: &[u8; 32],
+) -> Result<Map<String, Value>, AllocError>
+    ensures { IfOk result (λ m. object (members_view m.entries)
+        ≡ event_data (enrolled caller.now user.now team.now roles digest.now)) }
+{
+    let object = of_caller(alloc, Kind::Enrol, caller)?;
+    let object = with_digest(alloc, object, digest)?;
+    let object = with_value(alloc, object, "roles", roles_value(alloc, roles)?)?;
+    with_user(alloc, object, user, team)
+}
+
+// A submission.
+fn submitted_object(
+    alloc: Global,
+    caller: &Word,
+    name: &ProfileName,
+    text: &Text,
+) -> Result<Map<String, Value>, AllocError>
+    ensures { IfOk result (λ m. object (members_view m.entries)
+        ≡ event_data (submitted caller.now name.now text.now)) }
+{
+    let object = profile_object(alloc, Kind::Submit, caller, name)?;
+    with_text(alloc, object, "document", text.as_str())
+}
+
+// A vote.
+fn voted_object(
+    alloc: Global,
+    caller: &Word,
+    name: &ProfileName,
+    revision: u32,
+    digest: &[u8; 32],
+    approves: bool,
+) -> Result<Map<String, Value>, AllocError>
+    ensures { IfOk result (λ m. object (members_view m.entries)
+        ≡ event_data (voted caller.now name.now revision digest.now approves)) }
+{
+    let object = revision_object(alloc, Kind::Vote, caller, name, revision)?;
+    let object = with_digest(alloc, object, digest)?;
+    with_text(alloc, object, "vote", vote_word(approves))
+}
+
 // What happened, by its kind.
 fn event_object(alloc: Global, event: &Event) -> Result<Map<String, Value>, AllocError>
     ensures { IfOk result (λ m. object (members_view m.entries)
@@ -160,39 +227,22 @@ fn event_object(alloc: Global, event: &Event) -> Result<Map<String, Value>, Allo
             team,
             digest,
             listed,
-        } => {
-            let object = of_kind(alloc, Kind::Found)?;
-            let object = with_digest(alloc, object, digest)?;
-            let object = with_value(alloc, object, "listed", names_value(alloc, *listed)?)?;
-            with_user(alloc, object, user, team)
-        }
+        } => founded_object(alloc, user, team, digest, *listed),
         Event::Enrolled {
             caller,
             user,
             team,
             roles,
             digest,
-        } => {
-            let object = of_caller(alloc, Kind::Enrol, caller)?;
-            let object = with_digest(alloc, object, digest)?;
-            let object = with_value(alloc, object, "roles", roles_value(alloc, *roles)?)?;
-            with_user(alloc, object, user, team)
-        }
-        Event::Submitted { caller, name, text } => {
-            let object = profile_object(alloc, Kind::Submit, caller, name)?;
-            with_text(alloc, object, "document", text.as_str())
-        }
+        } => enrolled_object(alloc, caller, user, team, *roles, digest),
+        Event::Submitted { caller, name, text } => submitted_object(alloc, caller, name, text),
         Event::Voted {
             caller,
             name,
             revision,
             digest,
             approves,
-        } => {
-            let object = revision_object(alloc, Kind::Vote, caller, name, *revision)?;
-            let object = with_digest(alloc, object, digest)?;
-            with_text(alloc, object, "vote", vote_word(*approves))
-        }
+        } => voted_object(alloc, caller, name, *revision, digest, *approves),
         Event::Issued {
             caller,
             name,
