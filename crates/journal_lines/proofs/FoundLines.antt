@@ -1,6 +1,6 @@
 -- What was written of a line is found in it.
-use Rattle.std.proofs.Common.{◌≡◌, ◌∙◌, ℕ, zero, suc, ◌/◌, ◌%◌, ◌^◌, ◌<◌, ◌≤◌, List, [], ◌∷◌, All, Option, Some, Bool, true, false, refl, sym, ap, arith, map, slice_index}
-use Rattle.std.specs.Prelude.{◌&&◌, codes, nat_le}
+use Rattle.std.proofs.Common.{◌≡◌, ℕ, zero, suc, ◌/◌, ◌%◌, ◌^◌, ◌<◌, List, [], ◌∷◌, All, Some, Bool, true, false, refl, arith, map, slice_index}
+use Rattle.std.specs.Prelude.{◌&&◌, nat_le}
 use Rattle.std.specs.List.{list_all}
 use Rattle.std.proofs.lemmas.Bool.Decides.{nat_tests}
 use Rattle.std.proofs.lemmas.List.Elements.{All-head, All-tail}
@@ -15,7 +15,7 @@ use Rattle.profile_text.proofs.NameFacts.{listed_set}
 use Rattle.profile_text.specs.Sets.{caps_of}
 use Rattle.review_policy.specs.Digests.{digest_from_hex, is_lower_digit}
 use Rattle.review_policy.specs.declared.ask.ProfileName.{ProfileName}
-use Rattle.json_requests.specs.Members.{approves as vote_of, digest_at, if_revision, if_word, name_at, revision_at, roles_at, vote_at, word_at}
+use Rattle.json_requests.specs.Members.{approves as vote_of, digest_at, if_revision, name_at, revision_at, roles_at, vote_at, word_at}
 use Rattle.office_policy.specs.Formed.{IsWord, IsDigest, IsName, IsNumber}
 use Rattle.office_policy.specs.History.{Event, founded, enrolled, submitted, voted, issued, withdrawn, adopted, held, released}
 use Rattle.journal_lines.specs.declared.kind.Kind.{Kind}
@@ -24,7 +24,7 @@ use Rattle.journal_lines.specs.Forms.{IsFormed}
 use Rattle.journal_lines.specs.Lines.{Line, happened, strike, line_data, of_profile, of_revision, vote_word}
 use Rattle.journal_lines.specs.Read.{caller_at, candidate_at, enrolled_at, founded_at, listed_at, profile_event_at, revision_event_at, submitted_at, voted_at}
 use Rattle.journal_lines.proofs.RoleFacts.{roles_back}
-use Rattle.journal_lines.proofs.Tables.{holds_below, each_below}
+use Rattle.journal_lines.proofs.Tables.{each_below}
 
 -- ---- digests
 

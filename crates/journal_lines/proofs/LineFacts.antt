@@ -1,5 +1,5 @@
 -- A line's text reads back as the line.
-use Rattle.std.proofs.Common.{◌≡◌, ◌≢◌, ◌∙◌, ℕ, List, Option, Some, None, Result, Ok, Err, Bool, true, false, bytes_eq, refl, sym, ap, lit≤}
+use Rattle.std.proofs.Common.{◌≡◌, ◌∙◌, ℕ, List, Option, Some, None, Ok, Err, true, false, bytes_eq, refl, sym, ap, lit≤}
 use Rattle.std.specs.Prelude.{IsUtf8, option_and_then}
 use Rattle.std.proofs.lemmas.Slice.Eq.{bytes_eq-Decides}
 use Rattle.serde_json.specs.Data.{Data}

@@ -1,5 +1,5 @@
 -- The text of a line, read as JSON, is the value that was written.
-use Rattle.std.proofs.Common.{◌≡◌, ℕ, ◌+◌, ◌^◌, ◌<◌, ◌≤◌, List, [], ◌∷◌, All, map, Option, Some, Bool, true, false, cond, refl, arith, lit≤, lt-ltb}
+use Rattle.std.proofs.Common.{◌≡◌, ℕ, ◌+◌, ◌<◌, List, [], ◌∷◌, All, map, Some, Bool, true, false, cond, refl, arith, lit≤, lt-ltb}
 use Rattle.std.specs.Prelude.{codes, IsUtf8, filter, ◌==◌}
 use Rattle.std.specs.Int.{bit_at}
 use Rattle.std.specs.List.{list_all}

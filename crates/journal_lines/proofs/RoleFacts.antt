@@ -1,5 +1,5 @@
 -- The words of a set of roles, written and read.
-use Rattle.std.proofs.Common.{◌≡◌, ◌∙◌, ℕ, ◌+◌, ◌^◌, ◌<◌, ◌≤◌, ◌==◌, List, [], ◌∷◌, ◌++◌, length, get_or, drop, map, Option, Some, Bool, true, false, cond, refl, sym, ap, append_assoc, append-nil, arith, eqb-true}
+use Rattle.std.proofs.Common.{◌≡◌, ◌∙◌, ℕ, ◌+◌, ◌^◌, ◌<◌, ◌≤◌, ◌==◌, List, [], ◌∷◌, ◌++◌, length, get_or, drop, map, Some, Bool, true, false, cond, refl, sym, ap, append_assoc, append-nil, eqb-true}
 use Rattle.std.proofs.lemmas.List.{drop_more, drop_all}
 use Rattle.std.specs.Prelude.{filter}
 use Rattle.std.specs.Int.RustNames.{bit_or}
@@ -11,7 +11,7 @@ use Rattle.review_policy.specs.declared.role.Role.{Role}
 use Rattle.review_policy.proofs.WordFacts.{known_role}
 use Rattle.json_requests.specs.Members.{roles_of}
 use Rattle.journal_lines.specs.Lines.{role_data, role_words, words_among}
-use Rattle.journal_lines.proofs.Tables.{holds_below, each_below}
+use Rattle.journal_lines.proofs.Tables.{each_below}
 
 -- ---- read
 

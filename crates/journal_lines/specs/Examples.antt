@@ -3,7 +3,7 @@
 use Rattle.std.specs.Prelude.{ℕ, ◌+◌, ◌^◌, List, [], ◌∷◌, ◌++◌, false, codes, replicate}
 use Rattle.review_policy.specs.declared.ask.ProfileName.{ProfileName}
 use Rattle.office_policy.specs.History.{founded, enrolled, submitted, voted, issued, withdrawn, adopted, held, released}
-use Rattle.journal_lines.specs.Lines.{Line, happened, strike}
+use Rattle.journal_lines.specs.Lines.{Line, happened}
 
 abbrev pub web : ProfileName
 web = record { team = codes "blue"; profile = codes "web" }

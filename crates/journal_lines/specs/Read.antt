@@ -1,7 +1,7 @@
 -- What an object may be the line of. Members besides those of its kind aren't looked at, and
 -- neither is how roles and capabilities are ordered: a line is read by the text of what it may be.
-use Rattle.std.specs.Prelude.{ℕ, List, Option, Some, None, option_and_then, codes}
-use Rattle.serde_json.specs.Data.{Data, Items}
+use Rattle.std.specs.Prelude.{ℕ, List, Option, Some, option_and_then, codes}
+use Rattle.serde_json.specs.Data.{Data}
 use Rattle.serde_json.specs.Find.{get, as_array}
 use Rattle.profile_text.specs.Sets.{caps_of}
 use Rattle.review_policy.specs.declared.ask.ProfileName.{ProfileName}
