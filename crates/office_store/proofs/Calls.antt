@@ -25,7 +25,7 @@ use Rattle.office_store.specs.Schema.{office_schema}
 use Rattle.office_store.specs.Shown.{IsIdle, IsOffice, Shows, ShowsIfOpen, AreOffice, LeavesOnly, LeavesNoMore, MayLeave}
 use Rattle.office_store.specs.Steps.{AreSteps}
 use Rattle.office_store.specs.Calls.{Leaves, IsRead, IsWrite, Into}
-use Rattle.office_store.proofs.Committed.{trees_of, all_made, none_made}
+use Rattle.office_store.proofs.Committed.{trees_of, all_made, none_made, survives_same}
 
 pub never_both : {P : Type 0} (b : Bool) → IsTrue b → b ≡ false → P
 never_both true is_open shut = absurd cc
@@ -111,6 +111,24 @@ rows_read items sql query given params old new r Found idle mode law survives ro
     (λ t shows clean. rows_fault (HasFailed old new) sql given old new (fails_of sql query given params old new idle are sure t shows) r (fault clean))
     (λ t shows clean.
     finds t shows (subst (λ (p : Row). IfOk r (λ x. Shown sql p old new (items x))) are (rows clean)) (subst (λ (p : Row). IfErr r (IsFaultOf sql p old new)) are (fault clean)))
+
+-- nothing is read where there is no memory
+pub fails_unread : {X : Type 0} (s : State) (f : StoreFault) (Found : Tables → X → Type 0) → IsIdle s → f ≡ NoMemory → Settles s → IsRead {A = X} s s (Err f) Found
+fails_unread s f Found idle memory law = record {
+  leaves = record {
+    idle = idle;
+    clean = λ clean. clean;
+    survives = survives_same s _;
+    answered = λ clean. tt;
+    shut = λ clean shut. (shut, λ same. cc);
+    settled = leaves_only s law;
+  };
+  found = λ t shows clean. tt;
+  cause = λ t shows clean. subst (HasFailed s s) (sym memory) tt;
+  shown = λ t shows clean. shows;
+  same = λ settled clean is_open. (refl, refl);
+  crash = λ clean trees may. may;
+}
 
 -- ---- what is told of what was read
 

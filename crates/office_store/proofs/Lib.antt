@@ -13,6 +13,8 @@ pub mod OtherReads
 pub mod ListReads
 pub mod AuthorReads
 pub mod ListingReads
+pub mod Following
+pub mod WalkReads
 pub mod VoteReads
 pub mod Indexing
 pub mod FoundingSteps

@@ -71,13 +71,13 @@ listed_mean = record { is = refl; plain = (refl, refl); unlisted = refl }
 abbrev key : Revision → Row
 key e = Text e.0.profile ∷ Int (pos e.1.number) ∷ []
 
-abbrev listed_of : Revision → ListedRevision
+abbrev pub listed_of : Revision → ListedRevision
 listed_of e = record { profile = e.0.profile; number = e.1.number; state = e.1.state }
 
 abbrev shown : Revision → Row
 shown e = listed_row (listed_of e)
 
-abbrev is_of : List ℕ → Revision → Bool
+abbrev pub is_of : List ℕ → Revision → Bool
 is_of team e = bytes_eq team e.0.team
 
 keyed : (team : List ℕ) (k : ℤ × Revision) → eval_all (map {A = Term × Key} {B = Term} (λ o. o.0) by_name_and_number) ((Text team ∷ []) ∷ row_of revision_row k ∷ []) ≡ key k.1
@@ -134,13 +134,13 @@ module _ (old new : State) (t : Tables) (shows : Shows old t) where
   entries = shows.office.revisions.entries
 
   -- a revision of the team among the entries is listed
-  makes_listed : (team : List ℕ) (e : Revision) → Has entries e → is_of team e ≡ true → IsListed t team (listed_of e)
+  pub makes_listed : (team : List ℕ) (e : Revision) → Has entries e → is_of team e ≡ true → IsListed t team (listed_of e)
   makes_listed team e has of =
       let profile : ◌≡◌ {A = ProfileName} e.0 (profile_of team e.0.profile) = λ i. record { team = sym ((bytes_eq-Decides team e.0.team).0 of) i; profile = e.0.profile } in
       record { revision = e.1; there = subst (λ q. t.revisions q e.1.number ≡ Some e.1) profile (found_at old new t shows e has); state = refl }
 
   -- what is listed has an entry
-  entry_of : (team : List ℕ) (l : ListedRevision) → IsListed t team l → (e : Revision) × Has entries e × (is_of team e ≡ true) × (listed_of e ≡ l)
+  pub entry_of : (team : List ℕ) (l : ListedRevision) → IsListed t team l → (e : Revision) × Has entries e × (is_of team e ≡ true) × (listed_of e ≡ l)
   entry_of team l listed =
       let it = stands old new t shows (profile_of team l.profile) l.number listed.revision listed.there in
       let profile = ap (λ (k : ProfileName × ℕ). k.0.profile) it.key in

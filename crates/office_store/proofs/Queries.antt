@@ -9,10 +9,12 @@ use Rattle.office_store.specs.declared.baselines.TheConstants.{BASELINE_OF}
 use Rattle.office_store.specs.declared.form.TheConstants.{OFFICE_ROW}
 use Rattle.office_store.specs.declared.holds.TheConstants.{HOLD_OF}
 use Rattle.office_store.specs.declared.listing.TheConstants.{REVISIONS_OF}
+use Rattle.office_store.specs.declared.numbers.TheConstants.{LAST_NUMBER, ISSUED_NUMBER}
 use Rattle.office_store.specs.declared.office.TheConstants.{LISTED}
 use Rattle.office_store.specs.declared.revisions.TheConstants.{REVISION_AT, REVISION_OF, ISSUED_OF, LAST_OF}
 use Rattle.office_store.specs.declared.standing_votes.TheConstants.{VOTES_ON}
 use Rattle.office_store.specs.declared.users.TheConstants.{USER_BY_NAME, USER_BY_TOKEN}
+use Rattle.office_store.specs.declared.walk.TheConstants.{LISTED_ABOVE}
 
 pub user_by_name : IsQuery USER_BY_NAME.now
 unfolding everything first returning
@@ -65,6 +67,18 @@ authors_of = is_query AUTHORS_OF.now _ (record { is = refl; bare = λ schema bas
 pub revisions_of : IsQuery REVISIONS_OF.now
 unfolding everything first returning
 revisions_of = is_query REVISIONS_OF.now _ (record { is = refl; bare = λ schema base. refl })
+
+pub listed_above : IsQuery LISTED_ABOVE.now
+unfolding everything first returning
+listed_above = is_query LISTED_ABOVE.now _ (record { is = refl; bare = λ schema base. refl })
+
+pub last_number : IsQuery LAST_NUMBER.now
+unfolding everything first returning
+last_number = is_query LAST_NUMBER.now _ (record { is = refl; bare = λ schema base. refl })
+
+pub issued_number : IsQuery ISSUED_NUMBER.now
+unfolding everything first returning
+issued_number = is_query ISSUED_NUMBER.now _ (record { is = refl; bare = λ schema base. refl })
 
 pub votes_on : IsQuery VOTES_ON.now
 unfolding everything first returning

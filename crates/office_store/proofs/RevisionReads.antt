@@ -25,15 +25,17 @@ use Rattle.office_tables.specs.declared.row.RevisionRow.{RevisionRow}
 use Rattle.office_tables.specs.declared.fault.StoreFault.{StoreFault}
 use Rattle.office_tables.specs.declared.fault.StoreFault.TheVariants.{NotAnOffice}
 use Rattle.office_tables.specs.Tables.{Tables, is_profile}
-use Rattle.office_tables.specs.Reads.{IsLast, HasRevision}
+use Rattle.office_tables.specs.Reads.{IsLast, IsIssued, HasRevision}
 use Rattle.office_rows.specs.Faults.{FindsRow}
 use Rattle.office_rows.proofs.Plain.{plain_query, Means}
 use Rattle.office_rows.proofs.Stored.{find_own}
 use Rattle.office_rows.proofs.Finding.{IsFound, finds_some, found_own}
 use Rattle.office_rows.proofs.Ordered.{first_query, IsFirst, IsFirstRow, finds_first}
 use Rattle.office_store.specs.declared.revisions.TheConstants.{REVISION_AT, ISSUED_OF, LAST_OF, REVISION_OF}
+use Rattle.office_store.specs.declared.numbers.TheConstants.{LAST_NUMBER, ISSUED_NUMBER}
 use Rattle.office_store.specs.Schema.{office_schema}
 use Rattle.office_store.specs.Entries.{Revision, same_revision, revision_key, revision_row, revision_columns, IsRevision, state_number}
+use Rattle.office_store.specs.Lists.{IsRowOfNumber}
 use Rattle.office_store.specs.Reads.{IsIssuedRow, IsLastRow}
 use Rattle.office_store.specs.Shown.{Shows, ShowsIfOpen}
 use Rattle.office_store.proofs.Kept.{still_shows, answered_shows, map_of_map, some_shown}
@@ -66,6 +68,14 @@ number_column = col 1 3 ∷ []
 any_means : Means office_schema REVISION_OF.now (Select (record { lets = []; body = plain_query number_column at_profile 4 }) (codes "number" ∷ []))
 unfolding understood everything
 any_means = record { is = refl; plain = (refl, refl); unlisted = refl }
+
+last_number_means : Means office_schema LAST_NUMBER.now (Select (record { lets = []; body = first_query number_column at_profile 4 greatest }) (codes "number" ∷ []))
+unfolding understood everything
+last_number_means = record { is = refl; plain = (refl, refl); unlisted = refl }
+
+issued_number_means : Means office_schema ISSUED_NUMBER.now (Select (record { lets = []; body = plain_query number_column (in_state_of Issued) 4 }) (codes "number" ∷ []))
+unfolding understood everything
+issued_number_means = record { is = refl; plain = (refl, refl); unlisted = refl }
 
 abbrev number_of : Revision → Row
 number_of e = Int (pos e.1.number) ∷ []
@@ -136,15 +146,22 @@ module _ (old new : State) (t : Tables) (shows : Shows old t) where
         sym (map_of_map revision_columns row_of_entry _) ∙ ap (option_map revision_columns) (sym (o.revisions_are p n)) in
         (subst (λ x. IfOk r (λ row. row ≡ x)) same found, it.1, still_shows old new t shows it.2, answered_shows old new t shows it.2 r it.3)
 
-    issued_row : (p : ProfileName) (r : Result (Option Row) StoreFault) → IfOk r (IsFound (is_in_state p Issued) shown shows.office.revisions.entries) → IfOk r (IsIssuedRow t p)
-    issued_row p (Ok (Some row)) it =
-        let both = both_true (is_profile p it.0.0) (state_number Issued == state_number it.0.1.state) it.2 in
-        (it.0.1, (subst (λ q. t.revisions q it.0.1.number ≡ Some it.0.1) (sym (same_profile p it.0.0 both.0)) (found_at it.0 it.1), sym (same_state Issued it.0.1.state both.1)), it.3)
-    issued_row p (Ok None) none = λ n r at issued.
+    -- an entry of the profile that is issued
+    issued_entry : (p : ProfileName) (e : Revision) → Has shows.office.revisions.entries e → is_in_state p Issued e ≡ true → IsIssued t p (Some e.1)
+    issued_entry p e has passed =
+        let both = both_true (is_profile p e.0) (state_number Issued == state_number e.1.state) passed in
+        (subst (λ q. t.revisions q e.1.number ≡ Some e.1) (sym (same_profile p e.0 both.0)) (found_at e has), sym (same_state Issued e.1.state both.1))
+
+    none_issued : (p : ProfileName) → ((e : Revision) → Has shows.office.revisions.entries e → is_in_state p Issued e ≡ true → ⊥) → IsIssued t p None
+    none_issued p none = λ n r at issued.
         let it = stands p n r at in
         let profile : is_profile p it.entry.0 ≡ true = (profiles_decide p it.entry.0).1 (ap (λ (k : ProfileName × ℕ). k.0) it.key) in
         let state : (state_number Issued == state_number it.entry.1.state) ≡ true = subst (λ s. (state_number Issued == state_number s) ≡ true) (sym issued ∙ ap (λ (x : RevisionRow). x.state) it.is) refl in
         none it.entry it.has (λ i. profile i && state i)
+
+    issued_row : (p : ProfileName) (r : Result (Option Row) StoreFault) → IfOk r (IsFound (is_in_state p Issued) shown shows.office.revisions.entries) → IfOk r (IsIssuedRow t p)
+    issued_row p (Ok (Some row)) it = (it.0.1, issued_entry p it.0 it.1 it.2, it.3)
+    issued_row p (Ok None) none = none_issued p none
     issued_row p (Err f) it = it
 
     pub reads_issued : (p : ProfileName) (r : Result (Option Row) StoreFault) → FindsRow ISSUED_OF.now (profile_params p) old new r
@@ -187,6 +204,38 @@ module _ (old new : State) (t : Tables) (shows : Shows old t) where
         let it = finds_first revision_row shown number_of (is_of p) shown_columns at_profile greatest (profile_params p) (profile_tested p) (λ k. refl) (λ k. refl)
         office_schema LAST_OF.now 4 names last_means old new o.schema shows.settled idle o.revisions.entries o.revisions.kept r h in
         (last_shown p r it.0, it.1, still_shows old new t shows it.2, answered_shows old new t shows it.2 r it.3)
+
+    -- ---- the numbers alone
+
+    last_numbered : (p : ProfileName) (r : Result (Option Row) StoreFault) → IfOk r (IsFirstOf p number_of number_column) → IfOk r (IsRowOfNumber (IsLast t p))
+    last_numbered p (Ok (Some row)) it =
+        let last = first_is_last p number_of number_column it.0 it.1 in
+        (it.0.1, last, (revision_formed p it.0.1.number it.0.1 last.0).number, it.2)
+    last_numbered p (Ok None) none = none_is_last p none
+    last_numbered p (Err f) it = it
+
+    pub reads_last_number : (p : ProfileName) (r : Result (Option Row) StoreFault) → FindsRow LAST_NUMBER.now (profile_params p) old new r
+        → IfOk r (IsRowOfNumber (IsLast t p)) × (r ≢ Err NotAnOffice)
+    reads_last_number p r h =
+        let o = shows.office in
+        let it = finds_first revision_row number_of number_of (is_of p) number_column at_profile greatest (profile_params p) (profile_tested p) (λ k. refl) (λ k. refl)
+        office_schema LAST_NUMBER.now 4 (codes "number" ∷ []) last_number_means old new o.schema shows.settled idle o.revisions.entries o.revisions.kept r h in
+        (last_numbered p r it.0, it.1)
+
+    issued_numbered : (p : ProfileName) (r : Result (Option Row) StoreFault) → IfOk r (IsFound (is_in_state p Issued) number_of shows.office.revisions.entries) → IfOk r (IsRowOfNumber (IsIssued t p))
+    issued_numbered p (Ok (Some row)) it =
+        let is = issued_entry p it.0 it.1 it.2 in
+        (it.0.1, is, (revision_formed p it.0.1.number it.0.1 is.0).number, it.3)
+    issued_numbered p (Ok None) none = none_issued p none
+    issued_numbered p (Err f) it = it
+
+    pub reads_issued_number : (p : ProfileName) (r : Result (Option Row) StoreFault) → FindsRow ISSUED_NUMBER.now (profile_params p) old new r
+        → IfOk r (IsRowOfNumber (IsIssued t p)) × (r ≢ Err NotAnOffice)
+    reads_issued_number p r h =
+        let o = shows.office in
+        let it = finds_some revision_row number_of (is_in_state p Issued) number_column (in_state_of Issued) office_schema ISSUED_NUMBER.now (profile_params p) 4 (codes "number" ∷ []) issued_number_means (state_tested p Issued) (λ k. refl)
+        old new o.schema shows.settled idle o.revisions.entries o.revisions.kept r h in
+        (issued_numbered p r it.0, it.1)
 
     any_row : (p : ProfileName) (r : Result (Option Row) StoreFault) → IfOk r (IsFound (is_of p) number_of shows.office.revisions.entries) → IfOk r (λ row. is_some row ≡ true ↔ HasRevision t p)
     any_row p (Ok (Some row)) it = (

@@ -4,7 +4,7 @@ use Rattle.sqlite.specs.Order.{Row}
 use Rattle.sqlite.specs.declared.types.Value.{Value}
 use Rattle.sqlite_value.specs.Order.{column}
 
-one_column : (row : Row) (a : Value) → length row ≡ 1 → column row 0 ≡ a → row ≡ a ∷ []
+pub one_column : (row : Row) (a : Value) → length row ≡ 1 → column row 0 ≡ a → row ≡ a ∷ []
 one_column [] a long p = absurd (omega (arith, long))
 one_column (k ∷ []) a long p = λ i. p i ∷ []
 one_column (k ∷ l ∷ row) a long p = absurd (omega (arith, long))

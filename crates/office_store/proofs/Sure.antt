@@ -12,10 +12,12 @@ use Rattle.office_store.specs.declared.baselines.TheConstants.{BASELINE_OF}
 use Rattle.office_store.specs.declared.form.TheConstants.{OFFICE_ROW}
 use Rattle.office_store.specs.declared.holds.TheConstants.{HOLD_OF}
 use Rattle.office_store.specs.declared.listing.TheConstants.{REVISIONS_OF}
+use Rattle.office_store.specs.declared.numbers.TheConstants.{LAST_NUMBER, ISSUED_NUMBER}
 use Rattle.office_store.specs.declared.office.TheConstants.{LISTED}
 use Rattle.office_store.specs.declared.revisions.TheConstants.{REVISION_AT, REVISION_OF, ISSUED_OF, LAST_OF}
 use Rattle.office_store.specs.declared.standing_votes.TheConstants.{VOTES_ON}
 use Rattle.office_store.specs.declared.users.TheConstants.{USER_BY_NAME, USER_BY_TOKEN}
+use Rattle.office_store.specs.declared.walk.TheConstants.{LISTED_ABOVE}
 
 pub user_by_name : (name : List ℕ) → IsSure office_schema USER_BY_NAME.now (Text name ∷ [])
 unfolding understood everything
@@ -40,6 +42,14 @@ issued_of p = record { text = record { whole = refl; given = refl; bare = refl; 
 pub last_of : (p : ProfileName) → IsSure office_schema LAST_OF.now (profile_params p)
 unfolding understood everything
 last_of p = record { text = record { whole = refl; given = refl; bare = refl; timeless = refl; query = (refl, refl, refl, refl) }; unlisted = refl }
+
+pub last_number : (p : ProfileName) → IsSure office_schema LAST_NUMBER.now (profile_params p)
+unfolding understood everything
+last_number p = record { text = record { whole = refl; given = refl; bare = refl; timeless = refl; query = (refl, refl, refl, refl) }; unlisted = refl }
+
+pub issued_number : (p : ProfileName) → IsSure office_schema ISSUED_NUMBER.now (profile_params p)
+unfolding understood everything
+issued_number p = record { text = record { whole = refl; given = refl; bare = refl; timeless = refl; query = (refl, refl, refl, refl) }; unlisted = refl }
 
 pub baseline_of : (team : List ℕ) → IsSure office_schema BASELINE_OF.now (Text team ∷ [])
 unfolding understood everything
@@ -68,6 +78,10 @@ authors_of p = record { text = record { whole = refl; given = refl; bare = refl;
 pub revisions_of : (team : List ℕ) → IsSure office_schema REVISIONS_OF.now (Text team ∷ [])
 unfolding understood everything
 revisions_of team = record { text = record { whole = refl; given = refl; bare = refl; timeless = refl; query = (refl, refl, refl, refl) }; unlisted = refl }
+
+pub listed_above : (team text : List ℕ) → IsSure office_schema LISTED_ABOVE.now (Text team ∷ Text text ∷ [])
+unfolding understood everything
+listed_above team text = record { text = record { whole = refl; given = refl; bare = refl; timeless = refl; query = (refl, refl, refl, refl) }; unlisted = refl }
 
 pub votes_on : (p : ProfileName) (n : ℕ) → IsSure office_schema VOTES_ON.now (revision_params p n)
 unfolding understood everything

@@ -18,7 +18,7 @@ use Rattle.review_policy.specs.declared.revision.VoteRow.{VoteRow}
 use Rattle.office_tables.specs.declared.listed.Tally.{Tally}
 use Rattle.office_tables.specs.declared.row.UserRow.{UserRow}
 use Rattle.office_tables.specs.Lists.{holds_role, tally_of}
-use Rattle.office_store.specs.Lists.{name_row, listed_row, Cast, roles_of, cast_row, standing_of, IsCastForm, IsCastAs, AreCastAs, TellsVotes, TellsTally}
+use Rattle.office_store.specs.Lists.{number_row, name_row, listed_row, Cast, roles_of, cast_row, standing_of, IsCastForm, IsCastAs, AreCastAs, TellsVotes, TellsTally}
 use Rattle.office_store.specs.Shown.{Shows}
 use Rattle.office_store.specs.Calls.{IsRead}
 use Rattle.office_store.proofs.Calls.{read_told}
@@ -95,6 +95,9 @@ same_list f one (x ∷ xs) (y ∷ ys) same =
 
 pub same_name_row : (a b : List ℕ) → name_row a ≡ name_row b → a ≡ b
 same_name_row a b same = let k : a ≡ b = cc in k
+
+pub same_number_row : (a b : ℕ) (row : Row) → row ≡ number_row a → row ≡ number_row b → a ≡ b
+same_number_row a b row is other = let same : number_row a ≡ number_row b = sym is ∙ other in let k : a ≡ b = cc in k
 
 numbered_as : (s r : State_) → state_number s ≡ state_number r → s ≡ r
 numbered_as s r same = same_state s r (both same)

@@ -1,15 +1,17 @@
 -- What the reads of several rows show.
-use Rattle.std.specs.Prelude.{◌≡◌, ◌<◌, ◌^◌, ℕ, pos, true, List, [], ◌∷◌, map, Option, Some, None, Result, Ok, Err}
+use Rattle.std.specs.Prelude.{◌≡◌, ◌≢◌, ◌<◌, ◌^◌, ℕ, pos, true, List, [], ◌∷◌, map, Option, Some, None, Result, Ok, Err}
 use Rattle.std.specs.List.{AllByRecursion}
+use Rattle.std.specs.declared.cmp.Ordering.TheVariants.{Less}
 use Rattle.sqlite.specs.declared.types.Value.TheVariants.{Int, Text}
 use Rattle.sqlite.specs.Order.{Row}
 use Rattle.review_policy.specs.Words.{is_word}
 use Rattle.review_policy.specs.declared.ask.ProfileName.{ProfileName}
 use Rattle.review_policy.specs.declared.revision.VoteRow.{VoteRow}
 use Rattle.office_tables.specs.declared.row.UserRow.{UserRow}
+use Rattle.office_tables.specs.declared.row.RevisionRow.{RevisionRow}
 use Rattle.office_tables.specs.declared.listed.ListedRevision.{ListedRevision}
 use Rattle.office_tables.specs.Tables.{Tables, Vote}
-use Rattle.office_tables.specs.Lists.{AreAuthors, AreRevisionsOf, AreStanding, standing_vote, tally_of}
+use Rattle.office_tables.specs.Lists.{AreAuthors, IsListed, AreRevisionsOf, AreStanding, name_cmp, standing_vote, tally_of}
 use Rattle.office_tables.specs.declared.fault.StoreFault.{StoreFault}
 use Rattle.office_tables.specs.declared.listed.Tally.{Tally}
 use Rattle.office_rows.specs.Told.{IsUnread}
@@ -45,6 +47,49 @@ pub record AreListedRows (t : Tables) (team : List ℕ) (rows : List Row) : Type
   pub rows_are : rows ≡ map listed_row listed
   pub revisions : AreRevisionsOf t team listed
   pub formed : AllByRecursion IsListedForm listed
+
+-- ---- from one profile of a team to the next
+
+-- a revision of the first profile of the team whose name passes, or that no name of one passes
+abbrev pub IsFirstListed : Tables → List ℕ → (List ℕ → Type 0) → Option ListedRevision → Type 0
+IsFirstListed t team Passes None = (l : ListedRevision) → IsListed t team l → Passes l.profile → ⊥
+IsFirstListed t team Passes (Some l) =
+    IsListed t team l
+    × Passes l.profile
+    × ((m : ListedRevision) → IsListed t team m → Passes m.profile → name_cmp m.profile l.profile ≢ Less)
+
+-- a name comes after that one, where there is that one
+abbrev pub ComesAfter : Option (List ℕ) → List ℕ → Type 0
+ComesAfter None name = Unit {0}
+ComesAfter (Some before) name = name_cmp before name ≡ Less
+
+-- a revision of the first profile of the team, or of the first after that of a name
+abbrev pub IsNextListed : Tables → List ℕ → Option (List ℕ) → Option ListedRevision → Type 0
+IsNextListed t team after = IsFirstListed t team (ComesAfter after)
+
+-- the row of a revision of the first profile of the team whose name is above a text
+abbrev pub IsRowAbove : Tables → List ℕ → List ℕ → Option Row → Type 0
+IsRowAbove t team text None = IsNextListed t team (Some text) None
+IsRowAbove t team text (Some row) =
+    (l : ListedRevision) × IsNextListed t team (Some text) (Some l) × IsListedForm l × (row ≡ listed_row l)
+
+-- ---- the number of a revision
+
+abbrev pub number_row : ℕ → Row
+number_row n = Int (pos n) ∷ []
+
+abbrev pub IsNumber : ℕ → Type 0
+IsNumber n = n < 2 ^ 32
+
+-- the number of such a revision, or that there is none
+abbrev pub IsNumberOf : (Option RevisionRow → Type 0) → Option ℕ → Type 0
+IsNumberOf IsIt None = IsIt None
+IsNumberOf IsIt (Some n) = (r : RevisionRow) × IsIt (Some r) × (r.number ≡ n)
+
+-- the row of that number
+abbrev pub IsRowOfNumber : (Option RevisionRow → Type 0) → Option Row → Type 0
+IsRowOfNumber IsIt None = IsIt None
+IsRowOfNumber IsIt (Some row) = (r : RevisionRow) × IsIt (Some r) × IsNumber r.number × (row ≡ number_row r.number)
 
 -- ---- votes
 

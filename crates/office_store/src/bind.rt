@@ -21,6 +21,14 @@ pub(crate) fn of_word(word: &Word) -> [ValueRef<'_>; 1]
     [word.as_str().to_sql()]
 }
 
+/// A word, and a text that isn't one.
+pub(crate) fn of_bound<'a>(word: &'a Word, text: &'a str) -> [ValueRef<'a>; 2]
+    ensures { bound result ≡ SqlText word.now ∷ SqlText text.now ∷ [] }
+{
+    let word = word.as_str();
+    [word.to_sql(), text.to_sql()]
+}
+
 /// The key of a profile.
 pub(crate) fn of_profile(profile: &ProfileName) -> [ValueRef<'_>; 2]
     ensures row { bound result ≡ profile_params profile.now }

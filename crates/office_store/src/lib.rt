@@ -13,6 +13,7 @@ pub mod founding;
 pub mod holds;
 pub mod listing;
 pub mod migration;
+pub mod numbers;
 pub mod office;
 pub mod reopening;
 pub mod revisions;
@@ -20,6 +21,7 @@ pub mod schema;
 pub mod standing_votes;
 pub mod users;
 pub mod votes;
+pub mod walk;
 mod write;
 
 pub use author::{authors, is_author};
@@ -30,6 +32,7 @@ pub use founding::found;
 pub use holds::{delete_hold, held, put_hold};
 pub use listing::revisions_of;
 pub use migration::migrate;
+pub use numbers::{issued_number, last_number};
 pub use office::listed;
 pub use revisions::{
     add_revision, has_revision, issued, last, revision, set_issued, set_withdrawn,
@@ -37,3 +40,4 @@ pub use revisions::{
 pub use standing_votes::{standing, tally};
 pub use users::{put_user, user_by_name, user_by_token};
 pub use votes::{Ballot, put_vote};
+pub use walk::{first_listed, next_listed};

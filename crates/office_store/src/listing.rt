@@ -34,7 +34,7 @@ fn listed_rows<S: Alter>(conn: &mut Connection<S>, team: &Word) -> Result<Vec<Ro
 }
 
 // The revision that a row names.
-fn read_listed(alloc: Global, row: &Row) -> Result<ListedRevision, StoreFault>
+pub(crate) fn read_listed(alloc: Global, row: &Row) -> Result<ListedRevision, StoreFault>
     ensures listed { IfOk result (λ listed. row.now ≡ listed_row listed) }
     ensures formed { (listed : Listed) → IsListedForm listed → row.now ≡ listed_row listed → result ≢ Err StoreFault.NotAnOffice }
     ensures cause { IfErr result IsOfRow }

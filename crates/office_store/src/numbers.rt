@@ -1,0 +1,105 @@
+//! The numbers of the last and of the issued revision of a profile, which the indexes have: no text is read for them.
+
+ghost use Rattle.std.specs.Prelude.{◌≡◌, ◌≢◌, ◌<◌, ◌^◌, ℕ, Err, IfOk, IfErr};
+ghost use Rattle.sqlite.specs.Held.{state};
+ghost use Rattle.sqlite.specs.State.{HasCleanDisk};
+ghost use Rattle.office_rows.specs.Faults.{FindsRow};
+ghost use Rattle.office_rows.specs.Told.{IsOfRow, IsTold, TellsRow, TellsOne};
+ghost use Rattle.office_tables.specs.Reads.{IsLast, IsIssued};
+ghost use Rattle.office_store.specs.Calls.{IsRead};
+ghost use Rattle.office_store.specs.Keys.{profile_params};
+ghost use Rattle.office_store.specs.Lists.{number_row, IsNumber, IsRowOfNumber, IsNumberOf};
+ghost use Rattle.office_store.specs.Shown.{IsIdle};
+
+use crate::bind::of_profile;
+use crate::column::number_at;
+use office_rows::first_row;
+use office_tables::StoreFault;
+use review_policy::ProfileName;
+use sqlite::{Alter, Connection, Row};
+
+pub(crate) const LAST_NUMBER: &str =
+    "SELECT number FROM revisions WHERE team = ?1 AND profile = ?2 ORDER BY number DESC LIMIT 1";
+
+pub(crate) const ISSUED_NUMBER: &str =
+    "SELECT number FROM revisions WHERE team = ?1 AND profile = ?2 AND state = 2";
+
+// The number of a row of one.
+fn read_number(row: &Row) -> Result<u32, StoreFault>
+    ensures number { IfOk result (λ number. row.now ≡ number_row number) }
+    ensures formed { (number : ℕ) → IsNumber number → row.now ≡ number_row number → result ≢ Err StoreFault.NotAnOffice }
+    ensures cause { IfErr result IsOfRow }
+{
+    if row.column_count() != 1 {
+        return Err(StoreFault::NotAnOffice);
+    }
+    number_at(row, 0)
+}
+
+// The number of the row that a query found, if it found one.
+fn number_of(found: Result<Option<Row>, StoreFault>) -> Result<Option<u32>, StoreFault>
+    ensures { IsTold (TellsOne number_row IsNumber) found result }
+{
+    match found? {
+        Some(row) => Ok(Some(read_number(&row)?)),
+        None => Ok(None),
+    }
+}
+
+// The row of the number of the last revision of a profile.
+fn last_number_row<S: Alter>(
+    conn: &mut Connection<S>,
+    profile: &ProfileName,
+) -> Result<Option<Row>, StoreFault>
+    requires { IsIdle (state S.Store conn.old) }
+    ensures read { IsRead (state S.Store conn.old) (state S.Store conn.new) result
+        (λ t row. IsRowOfNumber (IsLast t profile.now) row) }
+    ensures row { HasCleanDisk (state S.Store conn.new)
+        → FindsRow LAST_NUMBER.now (profile_params profile.now) (state S.Store conn.old) (state S.Store conn.new) result }
+{
+    first_row(conn, LAST_NUMBER, &of_profile(profile))
+}
+
+// The row of the number of the issued revision of a profile.
+fn issued_number_row<S: Alter>(
+    conn: &mut Connection<S>,
+    profile: &ProfileName,
+) -> Result<Option<Row>, StoreFault>
+    requires { IsIdle (state S.Store conn.old) }
+    ensures read { IsRead (state S.Store conn.old) (state S.Store conn.new) result
+        (λ t row. IsRowOfNumber (IsIssued t profile.now) row) }
+    ensures row { HasCleanDisk (state S.Store conn.new)
+        → FindsRow ISSUED_NUMBER.now (profile_params profile.now) (state S.Store conn.old) (state S.Store conn.new) result }
+{
+    first_row(conn, ISSUED_NUMBER, &of_profile(profile))
+}
+
+/// The greatest number of a revision of a profile.
+pub fn last_number<S: Alter>(
+    conn: &mut Connection<S>,
+    profile: &ProfileName,
+) -> Result<Option<u32>, StoreFault>
+    requires { IsIdle (state S.Store conn.old) }
+    ensures read { IsRead (state S.Store conn.old) (state S.Store conn.new) result
+        (λ t number. IsNumberOf (IsLast t profile.now) number) }
+    ensures told { HasCleanDisk (state S.Store conn.new)
+        → TellsRow LAST_NUMBER.now (profile_params profile.now) (state S.Store conn.old) (state S.Store conn.new)
+        (TellsOne number_row IsNumber) result }
+{
+    number_of(last_number_row(conn, profile))
+}
+
+/// The number of the revision of a profile that is issued.
+pub fn issued_number<S: Alter>(
+    conn: &mut Connection<S>,
+    profile: &ProfileName,
+) -> Result<Option<u32>, StoreFault>
+    requires { IsIdle (state S.Store conn.old) }
+    ensures read { IsRead (state S.Store conn.old) (state S.Store conn.new) result
+        (λ t number. IsNumberOf (IsIssued t profile.now) number) }
+    ensures told { HasCleanDisk (state S.Store conn.new)
+        → TellsRow ISSUED_NUMBER.now (profile_params profile.now) (state S.Store conn.old) (state S.Store conn.new)
+        (TellsOne number_row IsNumber) result }
+{
+    number_of(issued_number_row(conn, profile))
+}

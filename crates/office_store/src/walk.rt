@@ -1,0 +1,90 @@
+//! From one profile of a team to the next.
+
+ghost use Rattle.std.specs.Prelude.{◌≡◌, [], ◌∷◌, ◌++◌, string_bytes, None, Some, IfOk, IfErr};
+ghost use Rattle.sqlite.specs.Held.{state};
+ghost use Rattle.sqlite.specs.State.{HasCleanDisk};
+ghost use Rattle.sqlite.specs.declared.types.Value.TheVariants.{Text as SqlText};
+ghost use Rattle.office_rows.specs.Faults.{FindsRow};
+ghost use Rattle.office_rows.specs.Told.{IsTold, TellsOne};
+ghost use Rattle.office_store.specs.Calls.{IsRead};
+ghost use Rattle.office_store.specs.Lists.{listed_row, IsListedForm, IsRowAbove, IsNextListed};
+ghost use Rattle.office_store.specs.Shown.{IsIdle};
+
+use crate::bind::of_bound;
+use crate::listing::read_listed;
+use office_rows::first_row;
+use office_tables::{ListedRevision, StoreFault};
+use review_policy::Word;
+use sqlite::{Alter, Connection, Row};
+use std::alloc::Global;
+
+// The index by state has this order and all three columns, so that one entry of it is read.
+pub(crate) const LISTED_ABOVE: &str =
+    "SELECT profile, number, state FROM revisions WHERE team = ?1 AND profile > ?2 ORDER BY profile, state, number LIMIT 1";
+
+// The row of a revision of the first profile of a team whose name is above a text.
+fn row_above<S: Alter>(
+    conn: &mut Connection<S>,
+    team: &Word,
+    bound: &str,
+) -> Result<Option<Row>, StoreFault>
+    requires { IsIdle (state S.Store conn.old) }
+    ensures read { IsRead (state S.Store conn.old) (state S.Store conn.new) result
+        (λ t row. IsRowAbove t team.now bound.now row) }
+    ensures row { HasCleanDisk (state S.Store conn.new)
+        → FindsRow LISTED_ABOVE.now (SqlText team.now ∷ SqlText bound.now ∷ [])
+        (state S.Store conn.old) (state S.Store conn.new) result }
+{
+    first_row(conn, LISTED_ABOVE, &of_bound(team, bound))
+}
+
+// The revision of the row that a query found, if it found one.
+fn found_listed(
+    alloc: Global,
+    found: Result<Option<Row>, StoreFault>,
+) -> Result<Option<ListedRevision>, StoreFault>
+    ensures { IsTold (TellsOne listed_row IsListedForm) found result }
+{
+    match found? {
+        Some(row) => Ok(Some(read_listed(alloc, &row)?)),
+        None => Ok(None),
+    }
+}
+
+// A text above a name and below each other word that is above that one, since no word has a byte as low as a space. A scan
+// from the name itself would read all its revisions.
+fn bound_after(alloc: Global, name: &Word) -> Result<String, StoreFault>
+    ensures bound { IfOk result (λ bound. string_bytes bound ≡ name.now ++ 32 ∷ []) }
+    ensures cause { IfErr result (λ f. f ≡ StoreFault.NoMemory) }
+{
+    let bound = [name.as_str(), " "].concat(alloc)?;
+    Ok(bound)
+}
+
+/// A revision of the first profile of a team, by name: the one that it has open, where it has one.
+pub fn first_listed<S: Alter>(
+    alloc: Global,
+    conn: &mut Connection<S>,
+    team: &Word,
+) -> Result<Option<ListedRevision>, StoreFault>
+    requires { IsIdle (state S.Store conn.old) }
+    ensures { IsRead (state S.Store conn.old) (state S.Store conn.new) result
+        (λ t listed. IsNextListed t team.now None listed) }
+{
+    found_listed(alloc, row_above(conn, team, ""))
+}
+
+/// The same of the first profile after that of a name.
+pub fn next_listed<S: Alter>(
+    alloc: Global,
+    conn: &mut Connection<S>,
+    team: &Word,
+    name: &Word,
+) -> Result<Option<ListedRevision>, StoreFault>
+    requires { IsIdle (state S.Store conn.old) }
+    ensures { IsRead (state S.Store conn.old) (state S.Store conn.new) result
+        (λ t listed. IsNextListed t team.now (Some name.now) listed) }
+{
+    let bound = bound_after(alloc, name)?;
+    found_listed(alloc, row_above(conn, team, bound.as_str()))
+}
