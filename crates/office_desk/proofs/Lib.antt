@@ -4,6 +4,8 @@ pub mod Openings
 pub mod Deciding
 pub mod LookedBack
 pub mod Enrolments
+pub mod Standing
+pub mod Walking
 pub mod Readings
 pub mod Early
 pub mod Votes

@@ -1,21 +1,16 @@
 -- What a few reads find together is what looking back finds.
 use Rattle.std.proofs.Common.{◌≡◌, ◌∙◌, ◌↔◌, ◌==◌, ℕ, List, Bool, true, false, not, Option, Ok, ap, subst}
 use Rattle.sqlite.specs.State.{State}
-use Rattle.review_policy.specs.declared.answer.ListedProfile.{ListedProfile}
 use Rattle.review_policy.specs.declared.ask.ProfileName.{ProfileName}
 use Rattle.office_tables.specs.declared.row.RevisionRow.{RevisionRow}
-use Rattle.office_tables.specs.declared.listed.ListedRevision.{ListedRevision}
 use Rattle.office_tables.specs.Tables.{Tables}
-use Rattle.office_tables.specs.Lists.{IsAuthor, AreRevisionsOf}
+use Rattle.office_tables.specs.Lists.{IsAuthor}
 use Rattle.office_store.specs.Calls.{IsRead}
 use Rattle.office_tables.specs.Reads.{HasRevision, IsIssued}
 use Rattle.office_policy.specs.Revisions.{revision_of, revision_count}
-use Rattle.office_policy.specs.Listing.{listing_of}
-use Rattle.office_policy.specs.Grouped.{profiles_in}
 use Rattle.office_policy.specs.LooksBack.{LooksBack}
 use Rattle.office_policy.proofs.LookUps.{author_is, found_is}
 use Rattle.office_policy.proofs.IssuedFacts.{issued_is}
-use Rattle.office_policy.proofs.GroupedFacts.{listing_is}
 use Rattle.office_desk.specs.Looked.{authored_at, issued_at, hold_at}
 use Rattle.office_desk.proofs.Carrying.{read_as}
 
@@ -23,11 +18,6 @@ use Rattle.office_desk.proofs.Carrying.{read_as}
 pub one_revision : (old new : State) (p : ProfileName) (n : ℕ) (found : Option RevisionRow) → IsRead old new (Ok found) (λ t r. r ≡ t.revisions p n)
     → IsRead old new (Ok found) (LooksBack (λ h. revision_of h p n))
 one_revision old new p n found = read_as old new _ _ found found (λ t is h lawful same. is ∙ ap (λ u. u.revisions p n) same)
-
--- the profiles of a team
-pub profiles_listed : (team : List ℕ) (rows : List ListedRevision) (profiles : List ListedProfile) → profiles ≡ profiles_in rows → (t : Tables)
-    → AreRevisionsOf t team rows → LooksBack (λ h. listing_of h team) t profiles
-profiles_listed team rows profiles is t are h lawful same = is ∙ listing_is h team rows (subst (λ u. AreRevisionsOf u team rows) same are)
 
 -- a revision, and whether a user is an author of its profile
 pub authored : (p : ProfileName) (n : ℕ) (name : List ℕ) (found : Option RevisionRow) (author : Bool) (t : Tables) → found ≡ t.revisions p n

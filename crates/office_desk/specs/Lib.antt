@@ -6,4 +6,5 @@ pub mod Meant
 pub mod Opened
 pub mod Compared
 pub mod Issuing
+pub mod Listed
 pub mod Looked

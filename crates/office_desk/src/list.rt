@@ -8,10 +8,9 @@ ghost use Rattle.office_store.specs.Shown.{IsIdle};
 ghost use Rattle.office_policy.specs.Verdict.{verdict_of};
 ghost use Rattle.office_desk.specs.Carries.{ReadsOut};
 
-use crate::grouping::profiles_in;
+use crate::profiles::profiles_of;
 use crate::reading::read_facts;
 use crate::refusal::Refusal;
-use office_store::revisions_of;
 use office_tables::UserRow;
 use review_policy::{Reply, Word, decide_read};
 use sqlite::{Alter, Connection};
@@ -28,7 +27,6 @@ pub(crate) fn list<S: Alter>(
     ensures { ReadsOut (RefusesToMake S.Store) (state S.Store conn.old) (state S.Store conn.new) result (λ h. verdict_of h (Some caller.now) (ask.List team.now)) }
 {
     decide_read(&read_facts(caller, team, false))?;
-    let revisions = revisions_of(alloc, conn, team)?;
-    let profiles = profiles_in(alloc, revisions.as_slice())?;
+    let profiles = profiles_of(alloc, conn, team)?;
     Ok(Reply::Listed { profiles })
 }

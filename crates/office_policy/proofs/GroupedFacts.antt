@@ -64,22 +64,22 @@ module _ (h : History) (team : List ℕ) where
   abbrev issue : List ℕ → ℕ
   issue name = number_of (issued_revision h (p_of name))
 
-  profiles_rising : IsRising NameBelow (profiles_of h team)
+  pub profiles_rising : IsRising NameBelow (profiles_of h team)
   profiles_rising = subst (IsRising NameBelow) (listing_names h team (profiles_of h team)) (names_rising (listed_names (listing_of h team)) (in_order h team))
 
-  profile_has : (name : List ℕ) → Has (profiles_of h team) name → 1 ≤ count name
+  pub profile_has : (name : List ℕ) → Has (profiles_of h team) name → 1 ≤ count name
   profile_has name is =
       let among = subst (λ xs. Has xs name) (sym (listing_names h team (profiles_of h team))) is in
       omega (arith, (all_listed h team name).0 (in_has (listed_names (listing_of h team)) name among))
 
-  has_profile : (name : List ℕ) → 1 ≤ count name → Has (profiles_of h team) name
+  pub has_profile : (name : List ℕ) → 1 ≤ count name → Has (profiles_of h team) name
   has_profile name some =
       let among = (all_listed h team name).1 (omega (arith, some)) in
       subst (λ xs. Has xs name) (listing_names h team (profiles_of h team)) (has_in (listed_names (listing_of h team)) name among)
 
   -- ---- the revisions of the tables
 
-  listed_row : (l : ListedRevision) → 1 ≤ l.number → l.number ≤ count l.profile → l.state ≡ state l.profile l.number → IsListed (tables_of h) team l
+  pub listed_row : (l : ListedRevision) → 1 ≤ l.number → l.number ≤ count l.profile → l.state ≡ state l.profile l.number → IsListed (tables_of h) team l
   listed_row l first last same =
       by_submission (submission_of h (p_of l.profile) l.number) refl (some_within h (p_of l.profile) l.number (omega (arith, first)) last)
     where
@@ -91,7 +91,7 @@ module _ (h : History) (team : List ℕ) where
         state = sym same;
       }
 
-  row_listed : (l : ListedRevision) → IsListed (tables_of h) team l → IsRow state count (profiles_of h team) l
+  pub row_listed : (l : ListedRevision) → IsListed (tables_of h) team l → IsRow state count (profiles_of h team) l
   row_listed l it = by_submission (submission_of h (p_of l.profile) l.number) refl it.there
     where
       by_submission : (s : Option Submission) → submission_of h (p_of l.profile) l.number ≡ s
@@ -119,7 +119,7 @@ module _ (h : History) (team : List ℕ) where
 
   -- ---- the number that is issued
 
-  issue_of : (name : List ℕ) → IsIssueOf state count name (issue name)
+  pub issue_of : (name : List ℕ) → IsIssueOf state count name (issue name)
   issue_of name = record { one = one; issued = by_found (issued_revision h (p_of name)) refl }
     where
       by_row : (n : ℕ) (s : Option Submission) → submission_of h (p_of name) n ≡ s → is_some s ≡ true → is_issued (Some (state name n)) ≡ true → n ≡ issue name

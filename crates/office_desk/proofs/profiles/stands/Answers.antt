@@ -1,0 +1,11 @@
+use Rattle.std.proofs.Common.{sym, subst}
+use Rattle.sqlite.specs.Held.{state}
+use Rattle.review_policy.specs.declared.revision.State.TheVariants.{Open}
+use Rattle.office_desk.specs.Listed.{IsOneOf}
+use Rattle.office_desk.proofs.Standing.{read_weaker}
+use Rattle.office_desk.proofs.profiles.stands.Goals as goal
+
+pub returns-in-Open : goal.returns-in-Open
+returns-in-Open g c =
+    read_weaker (state g.S.Store c.args.conn.now) (state g.S.Store c.with_open.new.conn) _ _ c.with_open.result
+    (λ t standing known h lawful same one. known h lawful same (subst (IsOneOf h c.args.name.now c.args.number) c.in-Open.is one)) c.with_open.ensures
