@@ -5,5 +5,6 @@ mod deadlines;
 mod loopback;
 mod memory;
 pub(crate) mod messages;
+mod review;
 mod stops;
 mod trial;

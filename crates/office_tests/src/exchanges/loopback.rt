@@ -1,7 +1,7 @@
 // Exchanges over loopback.
 
 use crate::exchanges::clock::Ticking;
-use crate::exchanges::messages::{CALL, LONG_BODY, NO_ROUTE, TOO_LARGE, UNKNOWN};
+use crate::exchanges::messages::{CALL, LISTING, LONG_BODY, NO_ROUTE, TOO_LARGE, UNKNOWN};
 use crate::exchanges::trial::Trial;
 use crate::fake_streams::{Sink, Taking};
 use std::io;
@@ -111,10 +111,13 @@ impl<'a> Server<'a> {
 #[test]
 fn two_clients_are_answered(rt: HostRuntime) -> Result<(), Fail> {
     let mut server = Server::open(&rt)?;
-    server.assert_both(&rt, &rt, LONG, CALL, true, UNKNOWN, "403\n403\n")?;
+    let first = server.connect(LISTING, true)?;
+    let second = server.connect(LISTING, true)?;
+    server.assert_lines(&rt, &rt, LONG, 2, Taking::All, true, "403\n403\n")?;
+    server.assert_answer(&rt, first, UNKNOWN)?;
+    server.assert_answer(&rt, second, UNKNOWN)?;
     // No exchange has no line.
-    server.assert_lines(&rt, &rt, LONG, 0, Taking::Nothing, true, "")?;
-    Ok(())
+    server.assert_lines(&rt, &rt, LONG, 0, Taking::Nothing, true, "")
 }
 
 // Parts of messages.

@@ -40,7 +40,12 @@ pub const CALL: &str = "GET /p/blue/web/1 HTTP/1.1\r\n\
      Host: office\r\n\
      Authorization: Bearer nobody\r\n\r\n";
 
-// The response to it.
+// Another, for what a team has.
+pub const LISTING: &str = "GET /p/blue HTTP/1.1\r\n\
+     Host: x\r\n\
+     Authorization: Bearer nobody\r\n\r\n";
+
+// The response to each.
 pub const UNKNOWN: &str = "HTTP/1.1 403 Forbidden\r\n\
      Content-Type: application/json\r\n\
      Content-Length: 52\r\n\

@@ -311,6 +311,23 @@ Ok(())
 Ok(Tally { approvals: 1, secure: 1, rejections: 0 })
 > standing blue web - 1
 Ok([VoteRow { voter: Word { text: \"ray\" }, approve: false, security: false, counts: false }, VoteRow { voter: Word { text: \"sue\" }, approve: true, security: true, counts: true }])
+
+# A vote's columns are 0 or 1.
+> found
+Ok(())
+> put_vote blue web sue 1 approve
+Ok(())
+> sql UPDATE votes SET approve = 2
+> standing blue web - 1
+Err(NotAnOffice)
+> tally blue web - 1
+Err(NotAnOffice)
+> sql UPDATE votes SET approve = 1, security = -1
+> standing blue web - 1
+Err(NotAnOffice)
+> sql UPDATE votes SET security = 0
+> standing blue web - 1
+Ok([VoteRow { voter: Word { text: \"sue\" }, approve: true, security: false, counts: false }])
 ";
 
 #[test]
