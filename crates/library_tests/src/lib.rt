@@ -2,6 +2,8 @@
 //! as, what requests are answered and what is refused over HTTP stands in the transcripts of `office_transcripts`.
 #![tactic(auto)]
 
+#[cfg(test)]
+mod journal;
 pub mod lines;
 #[cfg(test)]
 mod profiles;
