@@ -1,6 +1,7 @@
 // Command lines.
 
 mod documents;
+mod limits;
 mod offices;
 mod said;
 mod served;

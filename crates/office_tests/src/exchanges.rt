@@ -2,6 +2,7 @@
 
 mod clock;
 mod deadlines;
+mod limits;
 mod loopback;
 mod memory;
 pub(crate) mod messages;

@@ -12,6 +12,8 @@ mod fake_streams;
 #[cfg(test)]
 mod lines;
 #[cfg(test)]
+mod long_texts;
+#[cfg(test)]
 mod office;
 #[cfg(test)]
 mod offices;

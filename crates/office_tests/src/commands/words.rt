@@ -1,6 +1,6 @@
 // Words that are no command line, help, the stream that each text goes to, and an output that fails.
 
-use crate::commands::said::{assert_said, run_here, said};
+use crate::commands::said::{assert_said, founding, run_here, said};
 use crate::fake_streams::{Giving, Source};
 use std::io::{ErrorKind, Write};
 use std::process::Abort;
@@ -74,11 +74,12 @@ fn usage_names_the_office_whatever_the_program_file_is_called(rt: HostRuntime) -
     Ok(())
 }
 
+const SHOW: &str = r#"{"ask":"show","token":"abc","team":"blue","profile":"web","revision":1}"#;
+
 #[test]
 fn a_last_line_without_a_line_feed_is_answered(rt: HostRuntime) -> Result<(), Fail> {
-    let show = r#"{"ask":"show","token":"abc","team":"blue","profile":"web","revision":1}"#;
     let denied = "0 > {\"answer\":\"denied\",\"rule\":2,\"word\":\"role-missing\"}\n";
-    assert_said(&rt, &rt, "office", show, Giving::Whole, denied)
+    assert_said(&rt, &rt, "office", SHOW, Giving::Whole, denied)
 }
 
 // A writer that takes nothing.
@@ -95,6 +96,20 @@ impl Write for Closed {
     }
 }
 
+// What is said of these lines to a command whose output takes nothing.
+fn assert_unwritten(
+    rt: &impl Abort,
+    host: &HostRuntime,
+    line: &str,
+    lines: &str,
+) -> Result<(), Fail> {
+    let input = Source::new(lines.as_bytes(), Giving::Whole);
+    let (status, errors) = run_here(host, line, input, &mut Closed)?;
+    assert_eq!(rt; status, 1, "{line}");
+    assert_eq!(rt; errors.as_slice(), b"office: write\n".as_slice(), "{line}");
+    Ok(())
+}
+
 #[test]
 fn an_output_that_fails_is_told(rt: HostRuntime) -> Result<(), Fail> {
     fs::write(&rt, "unwritten.json", r#"{"capabilities":{}}"#)?;
@@ -104,10 +119,19 @@ fn an_output_that_fails_is_told(rt: HostRuntime) -> Result<(), Fail> {
         "office --help",
         "office --version",
     ] {
-        let input = Source::new(b"", Giving::Whole);
-        let (status, errors) = run_here(&rt, line, input, &mut Closed)?;
-        assert_eq!(rt; status, 1, "{line}");
-        assert_eq!(rt; errors.as_slice(), b"office: write\n".as_slice(), "{line}");
+        assert_unwritten(&rt, &rt, line, "")?;
     }
     Ok(())
+}
+
+#[test]
+fn an_output_that_fails_is_told_of_an_office_in_a_file(rt: HostRuntime) -> Result<(), Fail> {
+    let _ = fs::remove_file(&rt, "unwritten.db");
+    let init = founding(rt.alloc(), "unwritten.db")?;
+    assert_unwritten(&rt, &rt, init.as_str(), "")?;
+    // It is founded all the same.
+    let founded = "1 office: already-founded\n> ";
+    assert_said(&rt, &rt, init.as_str(), "", Giving::Whole, founded)?;
+    assert_unwritten(&rt, &rt, "office desk unwritten.db", SHOW)?;
+    assert_unwritten(&rt, &rt, "office serve unwritten.db --requests 1", "")
 }
