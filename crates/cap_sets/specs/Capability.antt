@@ -1,6 +1,7 @@
--- The capabilities by number and name, and sets of them.
--- A set is known by its members: a contract sees it as the number whose bit n is set where capability n is a member.
-use Rattle.std.specs.Prelude.{◌≡◌, ℕ, ◌+◌, ◌^◌, ◌==◌, ◌<◌, List, [], ◌∷◌, Option, Some, None, if◌then◌else◌, codes, drop, nat_eq, option_and_then, slice_get}
+-- The capabilities by number and name, and sets of them. A set is known by its members: a contract
+-- sees it as the number whose bit n is set where capability n is a member.
+use Rattle.std.specs.Prelude.{◌≡◌, ℕ, ◌+◌, ◌^◌, ◌==◌, ◌<◌, List, [], ◌∷◌, Option, Some, None}
+use Rattle.std.specs.Prelude.{if◌then◌else◌, codes, drop, nat_eq, option_and_then, slice_get}
 use Rattle.std.specs.Int.{bit_at}
 use Rattle.std.specs.Int.RustNames.{bit_or}
 use Rattle.std.specs.Cmp.Lexicographic.{pointwise}
@@ -74,7 +75,8 @@ single n = 2 ^ n
 -- the number of a name, where the first of these names has number n
 unfoldable pub number_from : ℕ → List (List ℕ) → List ℕ → Option ℕ
 number_from n [] name = None
-number_from n (first ∷ names) name = if pointwise nat_eq first name then Some n else number_from (n + 1) names name
+number_from n (first ∷ names) name =
+    if pointwise nat_eq first name then Some n else number_from (n + 1) names name
 
 -- the number of the capability of this name
 abbrev pub number_named : List ℕ → Option ℕ
@@ -83,7 +85,8 @@ number_named name = number_from 0 cap_names name
 -- the set with the capabilities of these names too, where each is one's
 abbrev pub with_names : ℕ → List (List ℕ) → Option ℕ
 with_names caps [] = Some caps
-with_names caps (name ∷ names) = option_and_then (λ number. with_names (bit_or caps (single number)) names) (number_named name)
+with_names caps (name ∷ names) =
+    option_and_then (λ number. with_names (bit_or caps (single number)) names) (number_named name)
 
 -- the set of just the capabilities of these names, where each is one's
 abbrev pub set_named : List (List ℕ) → Option ℕ
@@ -92,7 +95,9 @@ set_named names = with_names 0 names
 -- the names of the members, where the first of these names has number n
 unfoldable pub names_from : ℕ → List (List ℕ) → ℕ → List (List ℕ)
 names_from n [] caps = []
-names_from n (name ∷ names) caps = if bit_at caps n == 1 then name ∷ names_from (n + 1) names caps else names_from (n + 1) names caps
+names_from n (name ∷ names) caps =
+    if bit_at caps n == 1 then name ∷ names_from (n + 1) names caps
+    else names_from (n + 1) names caps
 
 -- the names of the members from this number on
 abbrev pub names_left : ℕ → ℕ → List (List ℕ)

@@ -1,5 +1,5 @@
--- What execve makes of the capability sets of a process: capabilities(7), "Transformation of capabilities during
--- execve()". P is the state before, F the file and P' the state after.
+-- What execve makes of the capability sets of a process: capabilities(7), "Transformation of
+-- capabilities during execve()". P is the state before, F the file and P' the state after.
 use Rattle.std.specs.Prelude.{◌≡◌, ℕ, Bool, false, IsTrue, MatchBool}
 use Rattle.cap_sets.specs.NumberSet.{NumberSet, nothing, members, HasExactly, ◌∪◌, ◌∩◌}
 use Rattle.cap_sets.specs.declared.exec.File.{File}
@@ -38,21 +38,26 @@ abbrev pub effective_after : CapState → File → NumberSet
 effective_after before file n =
     MatchBool (file_effective file) (permitted_after before file n) (ambient_after before file n)
 
--- the state after execve, where the effective bit is not set on a file whose permitted capabilities are not all gained
+-- the state after execve, where the effective bit is not set on a file whose permitted capabilities
+-- are not all gained
 pub record IsAfter (before : CapState) (file : File) (after : CapState) : Type 0 where
-  pub gained : IsTrue (file_effective file) → (n : ℕ) → file_permitted file n → permitted_after before file n
+  pub gained : IsTrue (file_effective file) → (n : ℕ) → file_permitted file n
+      → permitted_after before file n
   pub ambient : HasExactly after.ambient (ambient_after before file)
   pub permitted : HasExactly after.permitted (permitted_after before file)
   pub effective : HasExactly after.effective (effective_after before file)
   pub inheritable : after.inheritable ≡ before.inheritable
   pub bounding : after.bounding ≡ before.bounding
 
--- no state is after execve: the effective bit is set, and P'(permitted) lacks a member of F(permitted)
+-- no state is after execve: the effective bit is set, and P'(permitted) lacks a member of
+-- F(permitted)
 abbrev pub IsDenied : CapState → File → Type 0
 IsDenied before file =
-    IsTrue (file_effective file) × ((n : ℕ) × (file_permitted file n × ¬ permitted_after before file n))
+    IsTrue (file_effective file)
+    × ((n : ℕ) × (file_permitted file n × ¬ permitted_after before file n))
 
--- the state after execve of a plain file by root: P'(permitted) = P(inheritable) | P(bounding), all of it effective
+-- the state after execve of a plain file by root: P'(permitted) = P(inheritable) | P(bounding), all
+-- of it effective
 pub record IsAfterRoot (before after : CapState) : Type 0 where
   pub permitted : HasExactly after.permitted (members before.inheritable ∪ members before.bounding)
   pub effective : after.effective ≡ after.permitted

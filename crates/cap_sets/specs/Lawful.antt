@@ -1,5 +1,6 @@
 -- Lawful states of a process, and the first fault of five sets that are none.
-use Rattle.std.specs.Prelude.{ℕ, ◌==◌, Bool, not, ◌&&◌, List, ◌++◌, Option, option_map, find, codes, decimal}
+use Rattle.std.specs.Prelude.{ℕ, ◌==◌, Bool, not, ◌&&◌, List, ◌++◌, Option, option_map, find, codes}
+use Rattle.std.specs.Prelude.{decimal}
 use Rattle.std.specs.Int.{bit_at}
 use Rattle.std.specs.Int.RustNames.{bit_and}
 use Rattle.std.specs.List.{range_with_len}
@@ -18,12 +19,13 @@ pub record IsLawfulState (effective permitted inheritable ambient : ℕ) : Type 
 abbrev pub is_outside : ℕ → ℕ → ℕ → Bool
 is_outside a b n = bit_at a n == 1 && not (bit_at b n == 1)
 
--- the lowest capability that is in the first set and not in the second; what is in a set is below the number that it is
+-- the lowest capability that is in the first set and not in the second; what is in a set is below
+-- the number that it is
 unfoldable pub lowest_outside : ℕ → ℕ → Option ℕ
 lowest_outside a b = find (is_outside a b) (range_with_len 0 a)
 
--- the first fault: the lowest effective capability that isn't permitted, or else the lowest ambient one that isn't both
--- permitted and inheritable
+-- the first fault: the lowest effective capability that isn't permitted, or else the lowest ambient
+-- one that isn't both permitted and inheritable
 unfoldable pub first_fault : (effective permitted inheritable ambient : ℕ) → Option CapFault
 first_fault effective permitted inheritable ambient =
     option_or

@@ -1,10 +1,13 @@
 // A set of capabilities.
 
-ghost use Rattle.std.specs.Prelude.{◌≡◌, ◌<◌, ◌^◌, ◌↔◌, ◌==◌, ℕ, List, Some, None, Contains, IsTrue, IsSome, IfSome, IfNone, map, nat_lt, if◌then◌else◌, option_map};
+ghost use Rattle.std.specs.Prelude.{◌≡◌, ◌<◌, ◌^◌, ◌↔◌, ◌==◌, ℕ, List, Some, None, Contains};
+ghost use Rattle.std.specs.Prelude.{IsTrue, IsSome, IfSome, IfNone, map, nat_lt, if◌then◌else◌};
+ghost use Rattle.std.specs.Prelude.{option_map};
 ghost use Rattle.std.specs.Bool.{OnFalse};
 ghost use Rattle.std.specs.Int.{bit_at};
 ghost use Rattle.std.specs.Int.RustNames.{bit_and, bit_or};
-ghost use Rattle.cap_sets.specs.Capability.{Has, IsNamed, IsWithin, single, number_named, names_of, set_named, IsLowest};
+ghost use Rattle.cap_sets.specs.Capability.{Has, IsNamed, IsWithin, single, number_named, names_of};
+ghost use Rattle.cap_sets.specs.Capability.{set_named, IsLowest};
 ghost use Rattle.cap_sets.specs.Lawful.{lowest_outside};
 ghost use Rattle.cap_sets.specs.NumberSet.{HasExactly, nothing, members, ◌∪◌, ◌∩◌};
 
@@ -52,7 +55,8 @@ impl Caps {
         }
     }
 
-    /// The set of just the capabilities of these names, each any number of times; none where one is no capability's name.
+    /// The set of just the capabilities of these names, each any number of times; none where one is
+    /// no capability's name.
     pub fn from_names(names: &[&str]) -> Option<Caps>
         ensures { result ≡ set_named (map (λ name. name.now) names.now) }
     {
@@ -106,7 +110,8 @@ impl Caps {
 
     /// The names of the members, by rising number.
     pub fn names(self) -> Names
-        ensures members { (name : List ℕ) → Contains result name ↔ ((n : ℕ) × IsNamed n name × Has self n) }
+        ensures members { (name : List ℕ)
+            → Contains result name ↔ ((n : ℕ) × IsNamed n name × Has self n) }
         ensures rising { result ≡ names_of self }
     {
         Names::new(self)

@@ -2,7 +2,9 @@
 
 ghost use Rattle.std.specs.Prelude.{◌≡◌, IfOk, IfErr, OnErr};
 ghost use Rattle.cap_sets.specs.NumberSet.{HasExactly};
-ghost use Rattle.cap_sets.specs.Execve.{file_permitted, file_inheritable, file_effective, ambient_after, permitted_after, IsAfter, IsDenied, IsAfterRoot};
+ghost use Rattle.cap_sets.specs.Execve.{file_permitted, file_inheritable, file_effective};
+ghost use Rattle.cap_sets.specs.Execve.{ambient_after, permitted_after, IsAfter, IsDenied};
+ghost use Rattle.cap_sets.specs.Execve.{IsAfterRoot};
 
 use crate::caps::Caps;
 use crate::state::CapState;
@@ -25,8 +27,8 @@ pub enum File {
     },
 }
 
-/// `execve` fails with EPERM: the file's effective bit is set, and the process would not gain all of the file's
-/// permitted capabilities.
+/// `execve` fails with EPERM: the file's effective bit is set, and the process would not gain all
+/// of the file's permitted capabilities.
 #[derive(Clone, Copy, PartialEq, Eq, Debug)]
 pub struct Eperm;
 
@@ -94,11 +96,13 @@ fn permitted_after(before: &CapState, file: &File, ambient: Caps) -> Caps
     inherited.union(granted).union(ambient)
 }
 
-/// The state of a process after it executed a file, where no user id is 0 and the file has no set-id bits.
+/// The state of a process after it executed a file, where no user id is 0 and the file has no
+/// set-id bits.
 ///
 /// # Errors
 ///
-/// `Eperm` where the file's effective bit is set, and the process would not gain all of its permitted capabilities.
+/// `Eperm` where the file's effective bit is set, and the process would not gain all of its
+/// permitted capabilities.
 pub fn execve(before: &CapState, file: File) -> Result<CapState, Eperm>
     ensures after { IfOk result (IsAfter before.now file) }
     ensures denied { IfErr result (λ _. IsDenied before.now file) }
@@ -123,8 +127,8 @@ pub fn execve(before: &CapState, file: File) -> Result<CapState, Eperm>
     })
 }
 
-/// The state of a process whose real and effective user ids are 0, after it executed a file that has neither
-/// capabilities nor set-id bits.
+/// The state of a process whose real and effective user ids are 0, after it executed a file that
+/// has neither capabilities nor set-id bits.
 pub fn execve_root(before: &CapState) -> CapState
     ensures { IsAfterRoot before.now result }
 {

@@ -8,15 +8,16 @@ use crate::caps::Caps;
 use std::error::Error;
 use std::fmt;
 
-/// The five capability sets of a process, in a lawful state: effective is within permitted, and ambient is within
-/// both permitted and inheritable.
+/// The five capability sets of a process, in a lawful state: effective is within permitted, and
+/// ambient is within both permitted and inheritable.
 #[derive(Clone, Copy, PartialEq, Eq, Debug)]
 pub struct CapState {
     /// What the kernel checks the process against.
     pub effective: Caps,
     /// What the process may make effective.
     pub permitted: Caps,
-    /// What stays inheritable through execve, and is permitted after it where the file's inheritable set has it too.
+    /// What stays inheritable through execve, and is permitted after it where the file's
+    /// inheritable set has it too.
     pub inheritable: Caps,
     /// What the process may gain from a file's permitted set.
     pub bounding: Caps,
@@ -66,8 +67,10 @@ impl CapState {
         ambient: Caps,
     ) -> Result<CapState, CapFault>
         ensures lawful { IfOk result (λ _. IsLawfulState effective permitted inheritable ambient) }
-        ensures sets { IfOk result (λ state. (state.effective ≡ effective) × (state.permitted ≡ permitted)
-            × (state.inheritable ≡ inheritable) × (state.bounding ≡ bounding) × (state.ambient ≡ ambient)) }
+        ensures sets { IfOk result (λ state. (state.effective ≡ effective)
+            × (state.permitted ≡ permitted)
+            × (state.inheritable ≡ inheritable) × (state.bounding ≡ bounding)
+            × (state.ambient ≡ ambient)) }
         ensures fault { result_err result ≡ first_fault effective permitted inheritable ambient }
     {
         if let Some(number) = effective.lowest_outside(permitted) {

@@ -2,7 +2,8 @@
 use Rattle.std.specs.Prelude.{[], ◌∷◌, List, Option, String, codes, map, string_bytes, true}
 use Rattle.std.specs.declared.alloc.Global.{Global}
 use Rattle.clap.specs.Words.{App, Kinds, Row, Shape, Text, fault_of, new_app, subcommand_of}
-use Rattle.command_line.specs.Parts.{flag_rule, needed_rule, number_rule, option_rule, several_rule, with_commands, with_rules, with_version}
+use Rattle.command_line.specs.Parts.{flag_rule, needed_rule, number_rule, option_rule, several_rule}
+use Rattle.command_line.specs.Parts.{with_commands, with_rules, with_version}
 
 -- `check FILE`
 abbrev pub check_app : App

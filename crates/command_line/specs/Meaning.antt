@@ -1,11 +1,13 @@
 -- What the words of a command line ask for, by the command that clap finds in them and the values
 -- that it gives.
-use Rattle.std.specs.Prelude.{◌≡◌, ℕ, Bool, false, Option, Some, None, List, [], codes, map, option_map, unwrap_or}
+use Rattle.std.specs.Prelude.{◌≡◌, ℕ, Bool, false, Option, Some, None, List, [], codes, map}
+use Rattle.std.specs.Prelude.{option_map, unwrap_or}
 use Rattle.std.specs.Str.Parse.{digits_value, without_leading_plus}
 use Rattle.clap.specs.Words.{IsUnsignedIn, Row, Text, all_of, first_of, found_of, one_of, rows_of}
 use Rattle.clap.specs.declared.parser.matches.ArgMatches.{ArgMatches}
 use Rattle.command_line.specs.declared.command.Command.{Command}
-use Rattle.command_line.specs.declared.command.Command.TheVariants.{Trial, Check, Execve, Init, Desk, Serve, Migrate, Compare}
+use Rattle.command_line.specs.declared.command.Command.TheVariants.{Trial, Check, Execve, Init}
+use Rattle.command_line.specs.declared.command.Command.TheVariants.{Desk, Serve, Migrate, Compare}
 use Rattle.command_line.specs.declared.command.ExecveWords.{ExecveWords}
 use Rattle.command_line.specs.declared.command.InitWords.{InitWords}
 use Rattle.command_line.specs.declared.command.ServeWords.{ServeWords}

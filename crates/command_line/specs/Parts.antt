@@ -1,13 +1,15 @@
 -- What commands are made of, as clap reads it.
 use Rattle.std.specs.Prelude.{◌≡◌, ◌∷◌, ◌++◌, [], ℕ, Bool, List, Some, false, true, map}
-use Rattle.clap.specs.Words.{App, Rule, Shape, new_app, new_rule, rule_of, shape_of, with_rule, with_subcommand}
+use Rattle.clap.specs.Words.{App, Rule, Shape, new_app, new_rule, rule_of, shape_of, with_rule}
+use Rattle.clap.specs.Words.{with_subcommand}
 use Rattle.clap.specs.declared.builder.action.ArgAction.TheVariants.{Append, SetTrue}
 use Rattle.clap.specs.declared.builder.arg.Arg.{Arg}
 use Rattle.clap.specs.declared.builder.command.Command.{Command}
 use Rattle.clap.specs.declared.builder.command.Command.TheViews.{out-Command as fields_of}
 use Rattle.clap.specs.declared.builder.value_parser.ValueParser.TheVariants.{Unsigned}
 use Rattle.command_line.specs.declared.parts.Form.{Form}
-use Rattle.command_line.specs.declared.parts.Form.TheVariants.{Needed, Several, Flag, Valued, Number, NumberOr}
+use Rattle.command_line.specs.declared.parts.Form.TheVariants.{Needed, Several, Flag, Valued}
+use Rattle.command_line.specs.declared.parts.Form.TheVariants.{Number, NumberOr}
 use Rattle.command_line.specs.declared.parts.Parameter.{Parameter}
 
 -- the command with `--version`

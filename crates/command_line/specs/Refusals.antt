@@ -2,10 +2,12 @@
 use Rattle.std.specs.Prelude.{◌≡◌, ◌≢◌, ◌⊎◌, ℕ, Option, List}
 use Rattle.clap.specs.Words.{IsAmong, Kinds, Row, Text}
 use Rattle.clap.specs.declared.error.kind.ErrorKind.{ErrorKind}
-use Rattle.clap.specs.declared.error.kind.ErrorKind.TheVariants.{DisplayHelp, DisplayVersion, OutOfMemory}
+use Rattle.clap.specs.declared.error.kind.ErrorKind.TheVariants.{DisplayHelp, DisplayVersion}
+use Rattle.clap.specs.declared.error.kind.ErrorKind.TheVariants.{OutOfMemory}
 use Rattle.command_line.specs.declared.command.Command.{Command}
 use Rattle.command_line.specs.declared.fault.WordsFault.{WordsFault}
-use Rattle.command_line.specs.declared.fault.WordsFault.TheVariants.{Help, Version, Refused, NoMemory}
+use Rattle.command_line.specs.declared.fault.WordsFault.TheVariants.{Help, Version, Refused}
+use Rattle.command_line.specs.declared.fault.WordsFault.TheVariants.{NoMemory}
 use Rattle.command_line.specs.Meaning.{AsksFor, IsCommand, IsNumberIn}
 
 -- what is reported of an error of clap's by its kind; out of memory may stand in place of its text

@@ -28,7 +28,8 @@ Examples:
   office execve examples/web.json --file-permitted CAP_NET_RAW --file-effective
   office execve examples/web.json --root";
 
-/// Adds `execve FILE [--root] [--file-permitted LIST] [--file-inheritable LIST] [--file-effective]`.
+/// Adds `execve FILE [--root] [--file-permitted LIST] [--file-inheritable LIST]
+/// [--file-effective]`.
 pub(crate) fn add_execve<'a>(
     alloc: Global,
     commands: &mut Vec<clap::Command<'a>>,

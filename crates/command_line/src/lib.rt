@@ -1,7 +1,7 @@
 //! The words of the command line: which command they ask for, and with which values.
 //!
-//! They are read with `clap`. What its parse makes of words is defined there; here stand the commands, and what their
-//! values mean.
+//! They are read with `clap`. What its parse makes of words is defined there; here stand the
+//! commands, and what their values mean.
 #![tactic(auto)]
 
 mod check;

@@ -72,7 +72,8 @@ fn port_of(given: &ArgMatches<'_>) -> Option<u16>
     given.get_one::<u16>("port")
 }
 
-// N. `clap` takes it within these limits only, and here the value itself is known to lie within them.
+// N. `clap` takes it within these limits only, and here the value itself is known to lie within
+// them.
 fn requests_of(given: &ArgMatches<'_>) -> Option<u32>
     ensures number { IfSome result (λ n.
         IsNumberIn 1 1000000 n (value_of (codes "requests") given.now)) }
@@ -86,7 +87,8 @@ fn requests_of(given: &ArgMatches<'_>) -> Option<u32>
     }
 }
 
-/// What `serve` asks for with these values; none without DB, P and N, the numbers within their limits.
+/// What `serve` asks for with these values; none without DB, P and N, the numbers within their
+/// limits.
 pub(crate) fn serve_of<'w>(given: &ArgMatches<'w>) -> Option<Command<'w>>
     ensures command { IfSome result (AsksFor (codes "serve") (values_of given.now)) }
     ensures lacking { IfNone result (NoneAskedFor (codes "serve") (values_of given.now)) }

@@ -20,7 +20,8 @@ use crate::serve::{add_serve, serve_of};
 use clap::ArgMatches;
 use std::alloc::{AllocError, Global};
 
-// The version of the program: that of the newest heading of CHANGELOG.md, which the stored run of `office_transcripts` compares.
+// The version of the program: that of the newest heading of CHANGELOG.md, which the stored run of
+// `office_transcripts` compares.
 const VERSION: &str = "0.1.0";
 
 const ABOUT: &str = "A review office for container sandbox profiles";
@@ -120,8 +121,8 @@ fn asked_for<'w>(alloc: Global, matches: &ArgMatches<'w>) -> Result<Command<'w>,
 ///
 /// # Errors
 ///
-/// Help, the version or a refusal, each where `clap` gives it. `NoMemory` may stand in place of any answer: no contract can
-/// say that memory was refused.
+/// Help, the version or a refusal, each where `clap` gives it. `NoMemory` may stand in place of any
+/// answer: no contract can say that memory was refused.
 pub fn read_words<'w>(alloc: Global, words: &'w [String]) -> Result<Command<'w>, WordsFault>
     ensures command { IfOk result (AskFor words.entry.now) }
     ensures refused { IfErr result (AskForNone words.entry.now) }

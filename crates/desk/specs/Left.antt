@@ -6,7 +6,8 @@ use Rattle.office_policy.specs.Left.{LeftAfterOne, AreLeft}
 use Rattle.desk.specs.declared.outcome.Outcome.{Outcome}
 use Rattle.desk.specs.declared.outcome.Outcome.TheVariants.{Bad, NoMemory, Answered}
 use Rattle.desk.specs.Parts.{AreFirstOf}
-use Rattle.desk.specs.Outcomes.{AreOutcomes, history_after_line, history_after_lines, requests_of, answers_of}
+use Rattle.desk.specs.Outcomes.{AreOutcomes, history_after_line, history_after_lines, requests_of}
+use Rattle.desk.specs.Outcomes.{answers_of}
 
 module _ {X : Type 0} (m : Meaning X) where
   -- a crash leaves no other than these

@@ -1,5 +1,6 @@
 -- What the desk leaves of an office, a reader and a writer.
-use Rattle.std.specs.Prelude.{◌≡◌, ℕ, zero, suc, ◌<◌, ◌≤◌, List, [], ◌∷◌, ◌++◌, Option, IfSome, length, take}
+use Rattle.std.specs.Prelude.{◌≡◌, ℕ, zero, suc, ◌<◌, ◌≤◌, List, [], ◌∷◌, ◌++◌, Option, IfSome}
+use Rattle.std.specs.Prelude.{length, take}
 use Rattle.std.specs.Io.KnownBytes.{Keeps, Appends, Consumes}
 use Rattle.office_policy.specs.History.{History}
 use Rattle.office_policy.specs.Runs.{history_after}
@@ -10,7 +11,8 @@ use Rattle.streams.specs.Lines.{lines_of}
 use Rattle.desk.specs.declared.outcome.Outcome.{Outcome}
 use Rattle.desk.specs.declared.outcome.Outcome.TheVariants as came
 use Rattle.desk.specs.Left.{LeavesWithin, LeftAfterLine, LeftAfterLines}
-use Rattle.desk.specs.Outcomes.{IsOutcome, history_after_line, AreOutcomes, history_after_lines, requests_of, answers_of, told, transcript}
+use Rattle.desk.specs.Outcomes.{IsOutcome, history_after_line, AreOutcomes, history_after_lines}
+use Rattle.desk.specs.Outcomes.{requests_of, answers_of, told, transcript}
 use Rattle.desk.specs.Parts.{IsCut}
 use Rattle.desk.specs.declared.fault.DeskFault.{DeskFault}
 use Rattle.desk.specs.declared.fault.DeskFault.TheVariants.{Read, Write, TooManyReads, NoMemory}
@@ -113,4 +115,5 @@ module _ {X : Type 0} (m : Meaning X) where
         IfSome unread (λ input. StopsWriting old new before after (lines_of input) (Write line))
     StandsAfter (NoMemory zero) = Keeps before after
     StandsAfter (NoMemory (suc k)) =
-        IfSome unread (λ input. StopsWriting old new before after (lines_of input) (NoMemory (suc k)))
+        IfSome unread
+        (λ input. StopsWriting old new before after (lines_of input) (NoMemory (suc k)))

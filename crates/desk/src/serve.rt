@@ -74,13 +74,14 @@ fn serve_first<H: Handler, W: Write>(
 
 /// Handles the lines of a stream one after the other, and writes the answer to each.
 ///
-/// A line is what stands between line feeds; a last one without a line feed is a line where it isn't empty and the
-/// stream ends. How the reader cuts the stream doesn't matter. Each line is answered before the reader is called again.
-/// A line that is out of memory to be read is answered by that fault, and so is a request that runs out of it; both
-/// change nothing.
+/// A line is what stands between line feeds; a last one without a line feed is a line where it
+/// isn't empty and the stream ends. How the reader cuts the stream doesn't matter. Each line is
+/// answered before the reader is called again. A line that is out of memory to be read is answered
+/// by that fault, and so is a request that runs out of it; both change nothing.
 ///
-/// After a crash what is left is the office of the last history, or that office with one event more: that of a request
-/// among the lines of this call that was answered by a fault, as a fault may come once what was asked for is written.
+/// After a crash what is left is the office of the last history, or that office with one event
+/// more: that of a request among the lines of this call that was answered by a fault, as a fault
+/// may come once what was asked for is written.
 ///
 /// # Errors
 ///

@@ -1,9 +1,5 @@
 -- What exchanges one after the other leave.
-use Rattle.std.proofs.Common.{false, ◌≡◌, ◌∙◌, ℕ, ◌+◌, List, [], ◌∷◌, ◌++◌, Option, Some, None, inl, inr, Result, Ok, Err, length, refl, sym, ap, subst, arith, append-nil, append_assoc, length-append}
-use Rattle.std.proofs.KnownBytes.{Appends-nil}
-use Rattle.std.specs.Io.KnownBytes.{Appends}
-use Rattle.std.specs.Prelude.{OnOk}
-use Rattle.std.specs.Result.{is_err}
+use Rattle.std.proofs.Common.{◌≡◌, ℕ, List, [], ◌∷◌, ◌++◌, Option, Some, None, inl, inr, Result, Ok, Err, refl, sym, ap, subst, append-nil}
 use Rattle.office_policy.specs.Meaning.{Meaning}
 use Rattle.review_policy.specs.declared.ask.Request.{Request}
 use Rattle.review_policy.specs.declared.answer.Answer.{Answer}
@@ -16,7 +12,7 @@ use Rattle.desk_http.specs.declared.fault.HttpFault.{HttpFault}
 use Rattle.desk_http.specs.declared.fault.HttpFault.TheVariants as fault
 use Rattle.desk_http.specs.declared.outcome.Outcome.{Outcome}
 use Rattle.desk_http.specs.declared.outcome.Outcome.TheVariants.{Refused, NoMemory, Answered}
-use Rattle.desk_http.specs.Exchanged.{Tells, Leaves, IsExchanged, line_of, requests_in, answers_in, AreTold, lines_of, HaveExchanged}
+use Rattle.desk_http.specs.Exchanged.{Tells, Leaves, IsExchanged, requests_in, answers_in, AreTold, HaveExchanged}
 
 -- ---- one exchange
 
@@ -53,10 +49,6 @@ not_begun Same Handled same = (None, same, tt)
 
 -- ---- one more
 
-pub of_ok : {X E : Type 0} (r : Result X E) (P : Type 0) → false ≡ is_err r → OnOk r P → P
-of_ok (Ok x) P no_error p = p
-of_ok (Err e) P no_error p = absurd cc
-
 requests_more : (came : List (Option Outcome)) (c : Option Outcome) → requests_in (came ++ c ∷ []) ≡ requests_in came ++ requests_in (c ∷ [])
 requests_more [] c = refl
 requests_more (Some (Answered request answer) ∷ came) c = ap (λ rs. request ∷ rs) (requests_more came c)
@@ -77,10 +69,6 @@ told_more [] [] c r told tells = (tells, tt)
 told_more (x ∷ came) (y ∷ results) c r told tells = (told.0, told_more came results c r told.1 tells)
 told_more [] (y ∷ results) c r told tells = absurd told
 told_more (x ∷ came) [] c r told tells = absurd told
-
-pub lines_more : (results : List (Result ℕ HttpFault)) (r : Result ℕ HttpFault) → lines_of (results ++ r ∷ []) ≡ lines_of results ++ line_of r
-lines_more [] r = append-nil (line_of r)
-lines_more (x ∷ results) r = ap (λ t. line_of x ++ t) (lines_more results r) ∙ sym (append_assoc (line_of x) (lines_of results) (line_of r))
 
 module _ {X : Type 0} (m : Meaning X) where
   pub none_run : (s : X) → HaveRun m s s [] []
@@ -116,25 +104,16 @@ module _ {X : Type 0} (m : Meaning X) where
     ran_more came (Some NoMemory) ran same = by_none came (Some NoMemory) refl refl same ran
     ran_more came None ran same = by_none came None refl refl same ran
 
-  -- so many exchanges, with a line for each
-  pub record Progress (old now : X) (before current : Option (List ℕ)) (count : ℕ) : Type 0 where
-    pub results : List (Result ℕ HttpFault)
-    pub exchanged : HaveExchanged m old now results
-    pub count_is : length results ≡ count
-    pub written : Appends before current (lines_of results)
-
-  pub progress_none : (s : X) (w : Option (List ℕ)) → Progress s s w w 0
-  progress_none s w = record { results = []; exchanged = record { came = []; told = tt; handled = none_run s }; count_is = refl; written = Appends-nil w }
-
   -- one more
-  module _ (old was now : X) (before between : Option (List ℕ)) (count : ℕ) (r : Result ℕ HttpFault)
-      (p : Progress old was before between count) (step : IsExchanged (now ≡ was) (IsHandled m was now) r) where
-    pub next_exchanged : HaveExchanged m old now (p.results ++ r ∷ [])
+  module _ (old was now : X) (results : List (Result ℕ HttpFault)) (r : Result ℕ HttpFault)
+      (so_far : HaveExchanged m old was results) (step : IsExchanged (now ≡ was) (IsHandled m was now) r) where
+    pub next_exchanged : HaveExchanged m old now (results ++ r ∷ [])
     next_exchanged = record {
-      came = p.exchanged.came ++ step.0 ∷ [];
-      told = told_more p.exchanged.came p.results step.0 r p.exchanged.told step.2;
-      handled = ran_more old was now p.exchanged.came step.0 p.exchanged.handled step.1;
+      came = so_far.came ++ step.0 ∷ [];
+      told = told_more so_far.came results step.0 r so_far.told step.2;
+      handled = ran_more old was now so_far.came step.0 so_far.handled step.1;
     }
 
-    pub next_count : length (p.results ++ r ∷ []) ≡ count + 1
-    next_count = omega (arith, length-append p.results (r ∷ []), p.count_is)
+  -- no exchange leaves all as it was
+  pub none_exchanged : (s : X) → HaveExchanged m s s []
+  none_exchanged s = record { came = []; told = tt; handled = none_run s }

@@ -1,19 +1,17 @@
 -- What exchanges over the streams of a listener leave.
-use Rattle.std.proofs.Common.{false, ◌≡◌, length, ℕ, ◌+◌, List, [], ◌∷◌, ◌++◌, Option, inl, inr, Result, Ok, Err, refl, sym, subst}
-use Rattle.std.proofs.KnownBytes.{Appends-nil, Appends-trans}
-use Rattle.std.specs.Io.KnownBytes.{Appends}
-use Rattle.std.specs.Prelude.{OnOk}
-use Rattle.std.specs.Result.{is_err}
+use Rattle.std.proofs.Common.{◌≡◌, ◌<◌, length, ℕ, ◌+◌, List, [], ◌∷◌, ◌++◌, Option, inl, inr, Result, Ok, Err, refl, sym, subst, arith, length-append}
 use Rattle.office_policy.specs.Meaning.{Meaning}
 use Rattle.office_policy.specs.Handled.{IsHandled}
 use Rattle.desk_http.specs.declared.fault.HttpFault.{HttpFault}
-use Rattle.desk_http.specs.Exchanged.{AreServed, IsExchanged, line_of, lines_of}
+use Rattle.desk_http.specs.Exchanged.{IsExchanged}
+use Rattle.desk_http.specs.Lines.{line_of, lines_of, IsCut, IsWhole}
 use Rattle.desk_http.specs.Listening.{Listening, AreServedOver, AreServedWith, HaveServed, IsNext, IsOver}
 use Rattle.desk_http.specs.Served.{IsServed, ReadCounts, TellCounts}
 use Rattle.desk_http.specs.declared.listener.Stream.{Stream}
 use Rattle.streams.specs.declared.whole.WriteFailed.{WriteFailed}
 use Rattle.streams.specs.declared.counted.Counted.{Counted}
-use Rattle.desk_http.proofs.ExchangedFacts.{exchanged, lines_more, not_begun, none_run, of_ok, Progress, next_count, next_exchanged}
+use Rattle.desk_http.proofs.ExchangedFacts.{exchanged, not_begun, none_exchanged, next_exchanged}
+use Rattle.desk_http.proofs.LineFacts.{lines_more, put_none, whole_then}
 
 module _ {N Reader Writer X : Type 0} (l : Listening N Reader Writer)
     (remaining : Reader → Option (List ℕ)) (contents : Writer → Option (List ℕ)) (m : Meaning X) where
@@ -60,49 +58,56 @@ module _ {N Reader Writer X : Type 0} (l : Listening N Reader Writer)
       (over.0, over.1, over.2, over_more results over.0 between after over.1 was new r over.3 next)
 
   -- so many exchanges, with a line for each
-  pub record Lined (before now : N) (old current : X) (written wrote : Option (List ℕ)) (count : ℕ) : Type 0 where
-    pub results : List (Result ℕ HttpFault)
-    pub served : HaveServed l remaining contents m before now old current results
-    pub count_is : length results ≡ count
-    pub lined : Appends written wrote (lines_of results)
+  module _ {O : Type 0} (holds : O → Option (List ℕ)) where
+    pub record Lined (before now : N) (old current : X) (output wrote : Counted O) (count : ℕ) : Type 0 where
+      pub results : List (Result ℕ HttpFault)
+      pub served : HaveServed l remaining contents m before now old current results
+      pub count_is : length results ≡ count
+      pub lined : IsWhole holds output wrote (lines_of results)
 
-  pub lined_none : (n : N) (x : X) (w : Option (List ℕ)) → Lined n n x x w w 0
-  lined_none n x w = record {
-    results = [];
-    served = record { over = (refl, refl); exchanged = record { came = []; told = tt; handled = none_run m x } };
-    count_is = refl;
-    lined = Appends-nil w;
-  }
-
-  module _ (before between after : N) (old was new : X) (written wrote : Option (List ℕ)) (count : ℕ) (r : Result ℕ HttpFault)
-      (p : Lined before between old was written wrote count) (next : IsNext l remaining contents m between after was new r) where
-    abbrev progress : Progress m old was written wrote count
-    progress = record { results = p.results; exchanged = p.served.exchanged; count_is = p.count_is; written = p.lined }
-
-    pub next_served : HaveServed l remaining contents m before after old new (p.results ++ r ∷ [])
-    next_served = record {
-      over = over_more p.results before between after old was new r p.served.over next;
-      exchanged = next_exchanged m old was new written wrote count r progress (next_came between after was new r next);
+    pub lined_none : (n : N) (x : X) (o : Counted O) → Lined n n x x o o 0
+    lined_none n x o = record {
+      results = [];
+      served = record { over = (refl, refl); exchanged = none_exchanged m x };
+      count_is = refl;
+      lined = put_none holds o;
     }
 
-    pub next_length : length (p.results ++ r ∷ []) ≡ count + 1
-    next_length = next_count m old was new written wrote count r progress (next_came between after was new r next)
+    module _ (before between after : N) (old was new : X) (output wrote : Counted O) (count : ℕ) (r : Result ℕ HttpFault)
+        (p : Lined before between old was output wrote count) (next : IsNext l remaining contents m between after was new r) where
+      next_served : HaveServed l remaining contents m before after old new (p.results ++ r ∷ [])
+      next_served = record {
+        over = over_more p.results before between after old was new r p.served.over next;
+        exchanged = next_exchanged m old was new p.results r p.served.exchanged (next_came between after was new r next);
+      }
 
-    pub lined_more : {A E : Type 0} (last : Option (List ℕ)) (told : Result A E) → false ≡ is_err told
-        → OnOk told (Appends wrote last (line_of r))
-        → Lined before after old new written last (count + 1)
-    lined_more last told no_error writes = record {
-      results = p.results ++ r ∷ [];
-      served = next_served;
-      count_is = next_length;
-      lined = rw (lines_more p.results r)
-          (Appends-trans written wrote last (lines_of p.results) (line_of r) p.lined (of_ok told (Appends wrote last (line_of r)) no_error writes));
+      next_length : length (p.results ++ r ∷ []) ≡ count + 1
+      next_length = omega (arith, length-append p.results (r ∷ []), p.count_is)
+
+      pub lined_more : (last : Counted O) → IsWhole holds wrote last (line_of r) → Lined before after old new output last (count + 1)
+      lined_more last told = record {
+        results = p.results ++ r ∷ [];
+        served = next_served;
+        count_is = next_length;
+        lined = rw (lines_more p.results r) (whole_then holds output wrote last (lines_of p.results) (line_of r) p.lined told);
+      }
+
+      -- of the line of the last a part is written
+      pub lined_cut : (last : Counted O) (failed : WriteFailed) (most : ℕ) → count < most → IsCut holds wrote last (line_of r)
+          → AreServedWith l remaining contents m holds before after old new output last most (Err failed)
+      lined_cut last failed most more cut = record {
+        results = p.results ++ r ∷ [];
+        served = next_served;
+        count = omega (arith, next_length, more);
+        lined = (p.results, r, wrote, refl, p.lined, cut);
+      }
+
+    -- there are no more
+    pub lined_all : (before now : N) (old current : X) (output wrote : Counted O) (count most : ℕ) (p : Lined before now old current output wrote count)
+        → length p.results ≡ most → AreServedWith l remaining contents m holds before now old current output wrote most (Ok (tt {0}))
+    lined_all before now old current output wrote count most p is = record {
+      results = p.results;
+      served = p.served;
+      count = is;
+      lined = p.lined;
     }
-
-  -- what came of them all
-  module _ (before after : N) (old new : X) (written wrote : Option (List ℕ)) (most : ℕ) where
-    pub are_served : (result : Result (Unit {0}) WriteFailed)
-        → AreServedWith l remaining contents m before after old new written wrote most result
-        → AreServed m old new written wrote most result
-    are_served (Ok done) all = (all.0, all.1.exchanged, all.2, all.3)
-    are_served (Err failed) some = (some.0, some.1.exchanged, some.2, some.3)

@@ -1,12 +1,9 @@
--- What exchanges leave of an office, and the lines that tell them.
-use Rattle.std.specs.Prelude.{◌≡◌, ◌<◌, ◌≤◌, ℕ, List, [], ◌∷◌, ◌++◌, length, codes, decimal, Option, Some, None, Result, Ok, Err}
-use Rattle.std.specs.Io.KnownBytes.{Appends}
+-- What exchanges leave of an office.
+use Rattle.std.specs.Prelude.{◌≡◌, ℕ, List, [], ◌∷◌, Option, Some, None, Result, Ok, Err}
 use Rattle.office_policy.specs.Meaning.{Meaning}
 use Rattle.review_policy.specs.declared.ask.Request.{Request}
 use Rattle.review_policy.specs.declared.answer.Answer.{Answer}
 use Rattle.office_policy.specs.Ran.{HaveRun}
-use Rattle.streams.specs.declared.whole.WriteFailed.{WriteFailed}
-use Rattle.desk_http.specs.Faults.{fault_word}
 use Rattle.desk_http.specs.Outcomes.{told_code}
 use Rattle.desk_http.specs.declared.fault.HttpFault.{HttpFault}
 use Rattle.desk_http.specs.declared.fault.HttpFault.TheVariants as fault
@@ -39,11 +36,6 @@ abbrev pub IsExchanged : (Same : Type 0) (Handled : Request → Answer → Type 
 IsExchanged Same Handled result =
     (came : Option Outcome) × Leaves Same Handled came × Tells came result
 
--- the line that tells it: its status, or its fault
-abbrev pub line_of : Result ℕ HttpFault → List ℕ
-line_of (Ok status) = decimal status ++ codes "\n"
-line_of (Err e) = codes "fault " ++ fault_word e ++ codes "\n"
-
 -- ---- many
 
 -- the requests that were handled in them, and their answers
@@ -63,25 +55,9 @@ AreTold [] [] = Unit {0}
 AreTold (c ∷ came) (r ∷ results) = Tells c r × AreTold came results
 AreTold _ _ = ⊥
 
--- the lines that tell them
-abbrev pub lines_of : List (Result ℕ HttpFault) → List ℕ
-lines_of [] = []
-lines_of (r ∷ results) = line_of r ++ lines_of results
-
-module _ {X : Type 0} (m : Meaning X) where
-  -- the requests of some exchanges were handled one after the other
-  pub record HaveExchanged (old new : X) (results : List (Result ℕ HttpFault)) : Type 0 where
-    pub came : List (Option Outcome)
-    pub told : AreTold came results
-    pub handled : HaveRun m old new (requests_in came) (answers_in came)
-
-  -- there were so many, and a line was written for each; or a line couldn't be written, and there
-  -- was at least one
-  abbrev pub AreServed : (old new : X) (before after : Option (List ℕ)) → ℕ
-      → Result (Unit {0}) WriteFailed → Type 0
-  AreServed old new before after most (Ok done) =
-      (results : List (Result ℕ HttpFault)) × HaveExchanged old new results
-      × (length results ≡ most) × Appends before after (lines_of results)
-  AreServed old new before after most (Err failed) =
-      (results : List (Result ℕ HttpFault)) × HaveExchanged old new results
-      × (0 < length results) × (length results ≤ most)
+-- the requests of some exchanges were handled one after the other
+pub record HaveExchanged {X : Type 0} (m : Meaning X) (old new : X)
+    (results : List (Result ℕ HttpFault)) : Type 0 where
+  pub came : List (Option Outcome)
+  pub told : AreTold came results
+  pub handled : HaveRun m old new (requests_in came) (answers_in came)

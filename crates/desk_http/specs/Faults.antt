@@ -1,7 +1,8 @@
 -- The words of the faults of exchanges.
 use Rattle.std.specs.Prelude.{ℕ, List, codes}
 use Rattle.desk_http.specs.declared.fault.HttpFault.{HttpFault}
-use Rattle.desk_http.specs.declared.fault.HttpFault.TheVariants.{Read, Ended, TooManyReads, Write, NoMemory}
+use Rattle.desk_http.specs.declared.fault.HttpFault.TheVariants.{Read, Ended, TooManyReads, Write}
+use Rattle.desk_http.specs.declared.fault.HttpFault.TheVariants.{NoMemory}
 
 abbrev pub fault_word : HttpFault → List ℕ
 fault_word Read = codes "read"

@@ -1,9 +1,11 @@
 -- A listener whose streams last only so long.
 use Rattle.std.specs.Prelude.{◌≡◌, ℕ, List, None, Option, IfOk, Result}
 use Rattle.std.specs.declared.io.Error.{Error}
+use Rattle.std.specs.declared.net.tcp.TcpListener.{TcpListener}
 use Rattle.std.specs.declared.net.tcp.TcpStream.{TcpStream}
 use Rattle.std.specs.declared.time.Duration.{Duration}
 use Rattle.office_policy.specs.Meaning.{Meaning}
+use Rattle.streams.specs.declared.counted.Counted.{Counted}
 use Rattle.streams.specs.declared.whole.WriteFailed.{WriteFailed}
 use Rattle.desk_http.specs.Clocks.{EndsAfter}
 use Rattle.desk_http.specs.Listening.{AreServedWith, Listening}
@@ -25,10 +27,15 @@ module _ {C : Type 0} (Shows : C → Result Duration Error → Type 0) where
     takes_back = λ old new reader writer served. new ≡ old;
   }
 
-  -- exchanges were served over such a listener, each for at most so long
-  abbrev pub HasServedWithin : {X : Type 0} → Duration → Meaning X → (old new : X)
-      → (written wrote : Option (List ℕ)) → ℕ → Result (Unit {0}) WriteFailed → Type 0
-  HasServedWithin longest m old new written wrote most result =
-      (before : TimedListener C) × (after : TimedListener C) × (before.longest ≡ longest)
-      × AreServedWith lasting (λ _. None) (λ _. None) m before after old new
-      written wrote most result
+  -- exchanges were served over such a listener: over the streams of this one, each by this clock
+  -- and for at most so long
+  pub record HasServedWithin {O X : Type 0} (holds : O → Option (List ℕ)) (clock : C)
+      (listener : TcpListener) (longest : Duration) (m : Meaning X) (old new : X)
+      (output wrote : Counted O) (most : ℕ) (result : Result (Unit {0}) WriteFailed) : Type 0 where
+    pub before : TimedListener C
+    pub after : TimedListener C
+    pub by_clock : before.clock.now ≡ clock
+    pub at_listener : before.listener.now ≡ listener
+    pub within : before.longest ≡ longest
+    pub over : AreServedWith lasting (λ _. None) (λ _. None) m holds before after old new
+        output wrote most result

@@ -1,12 +1,12 @@
 -- What a listener means, and exchanges over the streams that it hands out.
-use Rattle.std.specs.Prelude.{◌≡◌, ◌⊎◌, ◌<◌, ◌≤◌, ℕ, List, [], ◌∷◌, length, Option, Result, Ok, Err}
-use Rattle.std.specs.Io.KnownBytes.{Appends}
+use Rattle.std.specs.Prelude.{◌≡◌, ◌⊎◌, ◌≤◌, ℕ, List, [], ◌∷◌, length, Option, Result, Ok, Err}
 use Rattle.std.specs.declared.io.Error.{Error}
 use Rattle.office_policy.specs.Meaning.{Meaning}
 use Rattle.office_policy.specs.Handled.{IsHandled}
 use Rattle.streams.specs.declared.counted.Counted.{Counted}
 use Rattle.streams.specs.declared.whole.WriteFailed.{WriteFailed}
-use Rattle.desk_http.specs.Exchanged.{HaveExchanged, lines_of}
+use Rattle.desk_http.specs.Exchanged.{HaveExchanged}
+use Rattle.desk_http.specs.Lines.{AreLined}
 use Rattle.desk_http.specs.Served.{IsServed, ReadCounts, TellCounts}
 use Rattle.desk_http.specs.declared.fault.HttpFault.{HttpFault}
 use Rattle.desk_http.specs.declared.fault.HttpFault.TheVariants as fault
@@ -18,6 +18,11 @@ pub record Listening (N Reader Writer : Type 0) : Type 1 where
   pub hands_out : (old new : N) → Result (Stream Reader Writer) Error → Type 0
   -- by taking back a stream that is now so, after an exchange that came to this
   pub takes_back : (old new : N) → Counted Reader → Counted Writer → Result ℕ HttpFault → Type 0
+
+-- so many were as many as were asked for; or no more, where a line couldn't be written
+abbrev pub AreSoMany : (count most : ℕ) → Result (Unit {0}) WriteFailed → Type 0
+AreSoMany count most (Ok done) = count ≡ most
+AreSoMany count most (Err failed) = count ≤ most
 
 -- over streams of which these bytes are known
 module _ {N Reader Writer X : Type 0} (l : Listening N Reader Writer)
@@ -55,13 +60,12 @@ module _ {N Reader Writer X : Type 0} (l : Listening N Reader Writer)
     pub over : AreServedOver before after old new results
     pub exchanged : HaveExchanged m old new results
 
-  -- there were so many, and just a line for each was written; or a line couldn't be written, and
-  -- there was at least one
-  abbrev pub AreServedWith : (before after : N) (old new : X) (written wrote : Option (List ℕ))
-      → ℕ → Result (Unit {0}) WriteFailed → Type 0
-  AreServedWith before after old new written wrote most (Ok done) =
-      (results : List (Result ℕ HttpFault)) × HaveServed before after old new results
-      × (length results ≡ most) × Appends written wrote (lines_of results)
-  AreServedWith before after old new written wrote most (Err failed) =
-      (results : List (Result ℕ HttpFault)) × HaveServed before after old new results
-      × (0 < length results) × (length results ≤ most)
+  -- they were as many as were asked for, with just a line for each; or a line couldn't be written,
+  -- which ended it
+  pub record AreServedWith {O : Type 0} (holds : O → Option (List ℕ)) (before after : N)
+      (old new : X) (output wrote : Counted O) (most : ℕ)
+      (result : Result (Unit {0}) WriteFailed) : Type 0 where
+    pub results : List (Result ℕ HttpFault)
+    pub served : HaveServed before after old new results
+    pub count : AreSoMany (length results) most result
+    pub lined : AreLined holds output wrote results result

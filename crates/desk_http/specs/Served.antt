@@ -38,8 +38,8 @@ IsTold before after outcome result =
 -- `Handled` of these two
 module _ (Same : Type 0) (Handled : Request → Answer → Type 0) where
   -- what was read of the stream is refused so; or it asks this request, which was handled with this
-  -- answer; or it is too little, and the stream ended, or couldn't be read on; where it is out of memory, it is only
-  -- said that nothing was handled
+  -- answer; or it is too little, and the stream ended, or couldn't be read on; where it is out of
+  -- memory, it is only said that nothing was handled
   abbrev pub HasOutcome : Option (List ℕ) → Option (List ℕ) → Result Outcome HttpFault → Type 0
   HasOutcome unread rest (Ok (Refused why)) = HasCome unread rest IsExchange (refused why) × Same
   HasOutcome unread rest (Ok (Answered request answer)) =
@@ -51,8 +51,8 @@ module _ (Same : Type 0) (Handled : Request → Answer → Type 0) where
   HasOutcome unread rest (Err fault.TooManyReads) = HasCome unread rest IsExchange ended × Same
   HasOutcome unread rest (Err _) = ⊥
 
-  -- the same by the whole stream: it is refused so, or asks this request, or ends too soon, whatever
-  -- was read of it
+  -- the same by the whole stream: it is refused so, or asks this request, or ends too soon,
+  -- whatever was read of it
   abbrev pub HasOutcomeOf : List ℕ → Result Outcome HttpFault → Type 0
   HasOutcomeOf input (Ok (Refused why)) = IsExchange input (refused why) × Same
   HasOutcomeOf input (Ok (Answered request answer)) =

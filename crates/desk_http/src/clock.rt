@@ -7,8 +7,8 @@ ghost use Rattle.std.specs.declared.time.Duration.{Duration};
 use std::io;
 use std::time::{Clock, Duration};
 
-/// A clock, as seen by who passes on what it shows. Of `shows` nothing is known but that a look meets it, so that who
-/// promises it has looked.
+/// A clock, as seen by who passes on what it shows. Of `shows` nothing is known but that a look
+/// meets it, so that who promises it has looked.
 pub trait PassClock: Clock {
     /// What the clock shows, or why it doesn't.
     ghost shows: { Self → Result Duration Error → Type 0 };

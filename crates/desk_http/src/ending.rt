@@ -37,8 +37,8 @@ fn take_rest<C: PassClock>(clock: &C, stream: TcpStream) {
     }
 }
 
-/// Ends an exchange whose request was refused unread. Were the connection closed over unread bytes, it would be reset, and the client
-/// might lose the response (RFC 9112, section 9.6).
+/// Ends an exchange whose request was refused unread. Were the connection closed over unread bytes,
+/// it would be reset, and the client might lose the response (RFC 9112, section 9.6).
 pub(crate) fn end_exchange<C: PassClock>(
     clock: &C,
     stream: TcpStream,

@@ -1,5 +1,8 @@
 //! Why an exchange has no response.
 
+ghost use Rattle.std.specs.Prelude.{◌≡◌};
+ghost use Rattle.desk_http.specs.Faults.{fault_word};
+
 use std::error::Error;
 use std::fmt;
 
@@ -12,11 +15,27 @@ pub enum HttpFault {
     Ended,
     /// As often as is allowed the reader was called. Nothing was handled or written.
     TooManyReads,
-    /// The writer failed in the response with this status. What that reports was done, and only a front part of it was
-    /// written.
+    /// The writer failed in the response with this status. What that reports was done, and only a
+    /// front part of it was written.
     Write { status: u16 },
-    /// There was no memory for the response with this status, of which nothing was written. What it reports was done.
+    /// There was no memory for the response with this status, of which nothing was written. What it
+    /// reports was done.
     NoMemory { status: u16 },
+}
+
+impl HttpFault {
+    // Its word.
+    pub(crate) fn word(self) -> &'static str
+        ensures { result.now ≡ fault_word self }
+    {
+        match self {
+            HttpFault::Read => "read",
+            HttpFault::Ended => "ended",
+            HttpFault::TooManyReads => "too-many-reads",
+            HttpFault::Write { status: _ } => "write",
+            HttpFault::NoMemory { status: _ } => "memory",
+        }
+    }
 }
 
 impl fmt::Display for HttpFault {
@@ -26,13 +45,7 @@ impl fmt::Display for HttpFault {
     ghost output = { λ fault. Some (fault_word fault) };
 
     fn fmt<W: fmt::Write>(&self, f: &mut fmt::Formatter<W>) -> fmt::Result {
-        f.write_str(match self {
-            HttpFault::Read => "read",
-            HttpFault::Ended => "ended",
-            HttpFault::TooManyReads => "too-many-reads",
-            HttpFault::Write { status: _ } => "write",
-            HttpFault::NoMemory { status: _ } => "memory",
-        })
+        f.write_str(self.word())
     }
 }
 

@@ -1,4 +1,5 @@
-//! HTTP with an office: one exchange, and exchanges over loopback one after the other, each with its deadline.
+//! HTTP with an office: one exchange, and exchanges over loopback one after the other, each with
+//! its deadline.
 #![tactic(auto)]
 
 pub mod clock;

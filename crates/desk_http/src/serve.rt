@@ -3,7 +3,8 @@
 ghost use Rattle.std.specs.Prelude.{◌≡◌, ◌+◌, ◌≤◌, ◌^◌};
 ghost use Rattle.office_policy.specs.History.{History};
 ghost use Rattle.office_policy.specs.Handled.{IsHandled, LeavesOnly};
-ghost use Rattle.desk_http.specs.Served.{IsServed, IsServedOf, IsTold, IsWritten, LeftByOne, ReadCounts, StaysWhole, TellCounts};
+ghost use Rattle.desk_http.specs.Served.{IsServed, IsServedOf, IsTold, IsWritten, LeftByOne};
+ghost use Rattle.desk_http.specs.Served.{ReadCounts, StaysWhole, TellCounts};
 
 use crate::fault::HttpFault;
 use crate::outcome::Outcome;
@@ -78,14 +79,15 @@ fn exchange<H: Handler, R: Read, W: Write>(
     tell(alloc, &outcome, writer)
 }
 
-/// Hears the request that a stream begins with, handles it and writes the response, of which the status is given. The
-/// connection is closed afterwards.
+/// Hears the request that a stream begins with, handles it and writes the response, of which the
+/// status is given. The connection is closed afterwards.
 ///
-/// A head that is refused, is so whatever follows it. Out of memory before the request is handled is answered by that
-/// fault and changes nothing.
+/// A head that is refused, is so whatever follows it. Out of memory before the request is handled
+/// is answered by that fault and changes nothing.
 ///
-/// Where before the call a crash left just the office of a history, afterwards it leaves just the office of the history after
-/// the request, or where that was answered by a fault, the same with the event of the request.
+/// Where before the call a crash left just the office of a history, afterwards it leaves just the
+/// office of the history after the request, or where that was answered by a fault, the same with
+/// the event of the request.
 ///
 /// # Errors
 ///

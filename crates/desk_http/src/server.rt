@@ -1,7 +1,6 @@
 //! A server over loopback.
 
 ghost use Rattle.std.specs.Prelude.{◌≡◌, IfOk};
-ghost use Rattle.desk_http.specs.Exchanged.{AreServed};
 ghost use Rattle.desk_http.specs.Lasting.{HasServedWithin};
 
 use crate::clock::PassClock;
@@ -13,7 +12,7 @@ use std::alloc::{AllocError, Global};
 use std::io::Write;
 use std::net::TcpListener;
 use std::time::{Clock, Duration};
-use streams::WriteFailed;
+use streams::{Counted, WriteFailed};
 
 /// What serves exchanges over connections, each for at most a fixed time.
 #[derive(Drop)]
@@ -31,7 +30,8 @@ impl<'c, C: PassClock> Server<'c, C> {
     ///
     /// Out of memory. No contract can say when.
     pub fn new(clock: &'c C, alloc: Global, longest: Duration) -> Result<Server<'c, C>, AllocError>
-        ensures { IfOk result (λ server. server.longest ≡ longest) }
+        ensures clock { IfOk result (λ server. server.clock.now ≡ clock.now) }
+        ensures longest { IfOk result (λ server. server.longest ≡ longest) }
     {
         let router = OfficeRouter::new(alloc)?;
         Ok(Server {
@@ -42,26 +42,25 @@ impl<'c, C: PassClock> Server<'c, C> {
         })
     }
 
-    /// Serves this many exchanges one after the other, and writes a line for each: its status, or `fault` and the word of
-    /// the fault.
+    /// Serves this many exchanges one after the other, and writes a line for each: its status, or
+    /// `fault` and the word of the fault.
     ///
-    /// A client that is silent, or too slow, is left, and the next one is served. Where the clock fails it is as if the
-    /// connection had.
+    /// A client that is silent, or too slow, is left, and the next one is served. Where the clock
+    /// fails it is as if the connection had.
     ///
     /// # Errors
     ///
-    /// Such a line couldn't be written, which ends it.
+    /// A call of the writer failed in such a line, which ends it.
     pub fn serve_all<H: Handler, O: Write>(
         &self,
         office: &mut H,
         listener: &TcpListener,
         exchanges: u32,
-        output: &mut O,
+        output: &mut Counted<O>,
     ) -> Result<(), WriteFailed>
-        ensures served { AreServed H.meaning office.old office.new
-            (O.contents output.old) (O.contents output.new) exchanges result }
-        ensures within { HasServedWithin C.shows self.now.longest H.meaning office.old office.new
-            (O.contents output.old) (O.contents output.new) exchanges result }
+        ensures { HasServedWithin C.shows O.contents self.now.clock.now listener.now
+            self.now.longest H.meaning office.old office.new output.old output.new
+            exchanges result }
     {
         let mut listener = TimedListener::new(self.clock, listener, self.longest);
         serve_exchanges(

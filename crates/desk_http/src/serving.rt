@@ -46,28 +46,29 @@ fn serve_next<H: Handler, L: Listener>(
     }
 }
 
-/// Serves this many exchanges one after the other, each over the next stream, and writes a line for each: its status, or
-/// `fault` and the word of the fault.
+/// Serves this many exchanges one after the other, each over the next stream, and writes a line for
+/// each: its status, or `fault` and the word of the fault.
 ///
 /// # Errors
 ///
-/// Such a line couldn't be written, which ends it.
+/// A call of the writer failed in such a line, which ends it.
 pub fn serve_exchanges<H: Handler, L: Listener, O: Write>(
     office: &mut H,
     alloc: Global,
     router: &OfficeRouter,
     listener: &mut L,
     exchanges: u32,
-    output: &mut O,
+    output: &mut Counted<O>,
 ) -> Result<(), WriteFailed>
     ensures { AreServedWith L.meaning L.Reader.remaining L.Writer.contents H.meaning
-        listener.old listener.new office.old office.new
-        (O.contents output.old) (O.contents output.new) exchanges result }
+        O.contents listener.old listener.new office.old office.new
+        output.old output.new exchanges result }
 {
     for _ in 0..exchanges {
         let served = serve_next(office, alloc, router, listener);
-        if tell(output, served).is_err() {
-            return Err(WriteFailed);
+        match tell(output, served) {
+            Ok(()) => {}
+            Err(failed) => return Err(failed),
         }
     }
     Ok(())

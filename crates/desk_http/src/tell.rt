@@ -1,20 +1,53 @@
 //! The lines that report exchanges.
 
-ghost use Rattle.std.specs.Prelude.{OnOk};
-ghost use Rattle.std.specs.Io.KnownBytes.{Appends};
-ghost use Rattle.desk_http.specs.Exchanged.{line_of};
+ghost use Rattle.std.specs.Prelude.{◌++◌, codes};
+ghost use Rattle.desk_http.specs.Lines.{line_of, IsPut};
 
 use crate::fault::HttpFault;
-use std::io;
+use itoa::Buffer;
 use std::io::Write;
+use streams::{Counted, WriteFailed, write_whole};
+
+// Writes a text.
+fn put<O: Write>(output: &mut Counted<O>, text: &str) -> Result<(), WriteFailed>
+    ensures { IsPut O.contents output.old output.new text.now result }
+{
+    write_whole(output, text.as_bytes())
+}
+
+// Writes a text and a line feed.
+fn put_line<O: Write>(output: &mut Counted<O>, text: &str) -> Result<(), WriteFailed>
+    ensures { IsPut O.contents output.old output.new (text.now ++ codes "\n") result }
+{
+    match put(output, text) {
+        Ok(()) => put(output, "\n"),
+        Err(failed) => Err(failed),
+    }
+}
+
+// Writes the line of a fault.
+fn put_fault<O: Write>(output: &mut Counted<O>, word: &str) -> Result<(), WriteFailed>
+    ensures { IsPut O.contents output.old output.new
+        (codes "fault " ++ (word.now ++ codes "\n")) result }
+{
+    match put(output, "fault ") {
+        Ok(()) => put_line(output, word),
+        Err(failed) => Err(failed),
+    }
+}
 
 /// Writes the line that reports an exchange.
-pub(crate) fn tell<O: Write>(output: &mut O, served: Result<u16, HttpFault>) -> io::Result<()>
-    ensures { OnOk result (Appends (O.contents output.old) (O.contents output.new)
-        (line_of served)) }
+pub(crate) fn tell<O: Write>(
+    output: &mut Counted<O>,
+    served: Result<u16, HttpFault>,
+) -> Result<(), WriteFailed>
+    ensures { IsPut O.contents output.old output.new (line_of served) result }
 {
     match served {
-        Ok(status) => writeln!(output, "{status}"),
-        Err(fault) => writeln!(output, "fault {fault}"),
+        Ok(status) => {
+            let mut digits = Buffer::new();
+            put_line(output, digits.format(status))
+        }
+        Err(fault) => put_fault(output, fault.word()),
     }
 }

@@ -42,7 +42,8 @@ impl Timeouts for TcpStream {
     }
 }
 
-/// A stream with the same bytes, of which no call waits past a deadline: each fails that would, and each after it.
+/// A stream with the same bytes, of which no call waits past a deadline: each fails that would, and
+/// each after it.
 #[derive(Drop)]
 pub struct Timed<'c, C: Clock, T> {
     stream: T,
@@ -121,6 +122,7 @@ impl<C: PassClock, T: PassWrite + Timeouts> Write for Timed<'_, C, T> {
 
     fn flush(&mut self) -> io::Result<()>
         ensures bytes { Keeps (T.contents self.old.stream) (T.contents self.new.stream) }
+        ensures passed { T.flushes self.old.stream self.new.stream result }
     {
         self.stream.pass_flush()
     }

@@ -25,6 +25,7 @@ impl<'c, C: Clock> TimedListener<'c, C> {
     /// The listener, whose streams last at most `longest`.
     pub fn new(clock: &'c C, listener: &'c TcpListener, longest: Duration) -> TimedListener<'c, C>
         ensures clock { result.clock.now ≡ clock.now }
+        ensures listener { result.listener.now ≡ listener.now }
         ensures longest { result.longest ≡ longest }
     {
         TimedListener {

@@ -2,7 +2,8 @@
 use Rattle.std.specs.Prelude.{ℕ, List, [], ◌∷◌, Option, Some, None}
 use Rattle.review_policy.specs.declared.ask.ProfileName.{ProfileName}
 use Rattle.json_requests.specs.Bodies.{enrol_in, vote_in}
-use Rattle.json_requests.specs.Plain.{PlainAsk, submit, issue, withdraw, adopt, show, sheet, list, fetch, hold, release}
+use Rattle.json_requests.specs.Plain.{PlainAsk, submit, issue, withdraw, adopt, show, sheet, list}
+use Rattle.json_requests.specs.Plain.{fetch, hold, release}
 use Rattle.http_requests.specs.declared.route.Route.{Route}
 use Rattle.http_requests.specs.declared.route.Route.TheVariants.{Users, Team, Profile, Revision}
 use Rattle.http_requests.specs.declared.route.ProfileAct.{ProfileAct}

@@ -1,5 +1,6 @@
 -- What the bytes of an exchange ask.
-use Rattle.std.specs.Prelude.{◌≡◌, ◌⊎◌, ◌<◌, ◌≤◌, ℕ, List, length, take, drop, nat_lt, codes, Option, Some, None, Result, Ok, Err, if◌then◌else◌}
+use Rattle.std.specs.Prelude.{◌≡◌, ◌⊎◌, ◌<◌, ◌≤◌, ℕ, List, length, take, drop, nat_lt, codes}
+use Rattle.std.specs.Prelude.{Option, Some, None, Result, Ok, Err, if◌then◌else◌}
 use Rattle.httparse.specs.Grammar.{RequestHead}
 use Rattle.json_requests.specs.Plain.{PlainAsk, PlainRequest}
 use Rattle.http_requests.specs.Asks.{asked_of}
@@ -8,7 +9,8 @@ use Rattle.http_requests.specs.Fields.{judge_fields, shown_token, values_of}
 use Rattle.http_requests.specs.Heads.{IsHeadOf, HasNoHead, fields_of}
 use Rattle.http_requests.specs.Targets.{answer_of, route_of}
 use Rattle.http_requests.specs.declared.refusal.Refusal.{Refusal}
-use Rattle.http_requests.specs.declared.refusal.Refusal.TheVariants.{HeadTooLong, BadHead, NoToken, NotARequest}
+use Rattle.http_requests.specs.declared.refusal.Refusal.TheVariants.{HeadTooLong, BadHead, NoToken}
+use Rattle.http_requests.specs.declared.refusal.Refusal.TheVariants.{NotARequest}
 use Rattle.http_requests.specs.declared.route.Route.{Route}
 
 -- what the bytes of an exchange come to: a request, a refusal, or nothing, where they end too soon

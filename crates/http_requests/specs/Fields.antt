@@ -1,5 +1,7 @@
 -- What the fields of a head say.
-use Rattle.std.specs.Prelude.{ℕ, Bool, true, false, ◌&&◌, ◌==◌, not, List, [], ◌∷◌, map, filter, take, drop, nat_le, Option, Some, None, Result, Ok, Err, if◌then◌else◌, codes, bytes_eq, ⊤}
+use Rattle.std.specs.Prelude.{ℕ, Bool, true, false, ◌&&◌, ◌==◌, not, List, [], ◌∷◌, map, filter}
+use Rattle.std.specs.Prelude.{take, drop, nat_le, Option, Some, None, Result, Ok, Err}
+use Rattle.std.specs.Prelude.{if◌then◌else◌, codes, bytes_eq, ⊤}
 use Rattle.std.specs.Char.{to_ascii_lowercase}
 use Rattle.std.specs.Str.Parse.{digits_value}
 use Rattle.httparse.specs.Spans.{IsWithin, span_bytes}
@@ -8,7 +10,8 @@ use Rattle.http_requests.specs.Numbers.{is_number}
 use Rattle.http_requests.specs.declared.field.Found.{Found}
 use Rattle.http_requests.specs.declared.field.Found.TheVariants.{Absent, One, Several}
 use Rattle.http_requests.specs.declared.refusal.Refusal.{Refusal}
-use Rattle.http_requests.specs.declared.refusal.Refusal.TheVariants.{BadHost, TransferEncoding, BadLength, TooLarge}
+use Rattle.http_requests.specs.declared.refusal.Refusal.TheVariants.{BadHost, TransferEncoding}
+use Rattle.http_requests.specs.declared.refusal.Refusal.TheVariants.{BadLength, TooLarge}
 
 -- a field's name and its value
 abbrev pub Pair : Type 0

@@ -7,7 +7,10 @@ use Rattle.http_requests.specs.declared.message.ContentType.TheVariants.{Json, P
 use Rattle.http_requests.specs.declared.method.Method.{Method}
 use Rattle.http_requests.specs.declared.method.Method.TheVariants.{Get, Post}
 use Rattle.http_requests.specs.declared.status.Status.{Status}
-use Rattle.http_requests.specs.declared.status.Status.TheVariants.{Done, BadRequest, Forbidden, NotFound, MethodNotAllowed, PayloadTooLarge, ServiceUnavailable}
+use Rattle.http_requests.specs.declared.status.Status.TheVariants.{Done, BadRequest, Forbidden}
+use Rattle.http_requests.specs.declared.status.Status.TheVariants.{NotFound, MethodNotAllowed}
+use Rattle.http_requests.specs.declared.status.Status.TheVariants.{PayloadTooLarge}
+use Rattle.http_requests.specs.declared.status.Status.TheVariants.{ServiceUnavailable}
 
 -- the end of a line
 abbrev pub crlf : List ℕ

@@ -1,10 +1,13 @@
 -- What a path asks for, by its parts between slashes.
-use Rattle.std.specs.Prelude.{ℕ, ◌==◌, ◌&&◌, Bool, true, false, List, [], ◌∷◌, Option, None, option_map, find, codes, get_or, if◌then◌else◌}
+use Rattle.std.specs.Prelude.{ℕ, ◌==◌, ◌&&◌, Bool, true, false, List, [], ◌∷◌, Option, None}
+use Rattle.std.specs.Prelude.{option_map, find, codes, get_or, if◌then◌else◌}
 use Rattle.matchit.specs.Seek.{same_text}
 use Rattle.http_requests.specs.declared.form.Form.{Form}
-use Rattle.http_requests.specs.declared.form.Form.TheVariants.{OfUsers, OfTeam, OfProfile, OfRevision}
+use Rattle.http_requests.specs.declared.form.Form.TheVariants.{OfUsers, OfTeam, OfProfile}
+use Rattle.http_requests.specs.declared.form.Form.TheVariants.{OfRevision}
 use Rattle.http_requests.specs.declared.route.ProfileAct.TheVariants.{Submit, Fetch, Hold, Release}
-use Rattle.http_requests.specs.declared.route.RevisionAct.TheVariants.{Show, Sheet, Vote, Issue, Withdraw, Adopt}
+use Rattle.http_requests.specs.declared.route.RevisionAct.TheVariants.{Show, Sheet, Vote, Issue}
+use Rattle.http_requests.specs.declared.route.RevisionAct.TheVariants.{Withdraw, Adopt}
 
 -- a part of a route: just this text, or any that is not empty
 pub data Part : Type 0 where

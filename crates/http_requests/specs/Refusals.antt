@@ -2,9 +2,14 @@
 -- of RFC 9112 where that is said.
 use Rattle.std.specs.Prelude.{ℕ, List, codes}
 use Rattle.http_requests.specs.declared.refusal.Refusal.{Refusal}
-use Rattle.http_requests.specs.declared.refusal.Refusal.TheVariants.{HeadTooLong, BadHead, BadHost, TransferEncoding, BadLength, TooLarge, NoRoute, WrongMethod, NoToken, NotARequest}
+use Rattle.http_requests.specs.declared.refusal.Refusal.TheVariants.{HeadTooLong, BadHead, BadHost}
+use Rattle.http_requests.specs.declared.refusal.Refusal.TheVariants.{TransferEncoding, BadLength}
+use Rattle.http_requests.specs.declared.refusal.Refusal.TheVariants.{TooLarge, NoRoute, WrongMethod}
+use Rattle.http_requests.specs.declared.refusal.Refusal.TheVariants.{NoToken, NotARequest}
 use Rattle.http_requests.specs.declared.status.Status.{Status}
-use Rattle.http_requests.specs.declared.status.Status.TheVariants.{BadRequest, NotFound, MethodNotAllowed, PayloadTooLarge}
+use Rattle.http_requests.specs.declared.status.Status.TheVariants.{BadRequest, NotFound}
+use Rattle.http_requests.specs.declared.status.Status.TheVariants.{MethodNotAllowed}
+use Rattle.http_requests.specs.declared.status.Status.TheVariants.{PayloadTooLarge}
 
 -- the status of a refusal
 abbrev pub refused_status : Refusal → Status

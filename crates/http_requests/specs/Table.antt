@@ -1,14 +1,17 @@
 -- The routes as a router reads them, and the rows that it has once they are in it.
-use Rattle.std.specs.Prelude.{ℕ, List, [], ◌∷◌, Result, Ok, Err, Bool, true, false, not, ◌&&◌, is_some, codes, fold}
+use Rattle.std.specs.Prelude.{ℕ, List, [], ◌∷◌, Result, Ok, Err, Bool, true, false, not, ◌&&◌}
+use Rattle.std.specs.Prelude.{is_some, codes, fold}
 use Rattle.matchit.specs.Rows.{RowsOf}
 use Rattle.matchit.specs.Order.{placed}
 use Rattle.matchit.specs.Route.{Scan, parse_route}
 use Rattle.matchit.specs.Router.{RouteOf, nearest, route_from}
 use Rattle.matchit.specs.declared.error.InsertError.{InsertError}
 use Rattle.http_requests.specs.declared.form.Form.{Form}
-use Rattle.http_requests.specs.declared.form.Form.TheVariants.{OfUsers, OfTeam, OfProfile, OfRevision}
+use Rattle.http_requests.specs.declared.form.Form.TheVariants.{OfUsers, OfTeam, OfProfile}
+use Rattle.http_requests.specs.declared.form.Form.TheVariants.{OfRevision}
 use Rattle.http_requests.specs.declared.route.ProfileAct.TheVariants.{Submit, Fetch, Hold, Release}
-use Rattle.http_requests.specs.declared.route.RevisionAct.TheVariants.{Show, Sheet, Vote, Issue, Withdraw, Adopt}
+use Rattle.http_requests.specs.declared.route.RevisionAct.TheVariants.{Show, Sheet, Vote, Issue}
+use Rattle.http_requests.specs.declared.route.RevisionAct.TheVariants.{Withdraw, Adopt}
 
 abbrev pub Routes : Type 0
 Routes = RowsOf (RouteOf Form)

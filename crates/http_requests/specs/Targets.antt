@@ -1,5 +1,6 @@
 -- What a target names, and which method it has.
-use Rattle.std.specs.Prelude.{ℕ, List, Option, Some, None, option_map, option_and_then, Result, Ok, Err, bytes_eq, if◌then◌else◌}
+use Rattle.std.specs.Prelude.{ℕ, List, Option, Some, None, option_map, option_and_then, Result, Ok}
+use Rattle.std.specs.Prelude.{Err, bytes_eq, if◌then◌else◌}
 use Rattle.review_policy.specs.Words.{is_word}
 use Rattle.review_policy.specs.declared.ask.ProfileName.{ProfileName}
 use Rattle.json_requests.specs.Members.{◌>>=◌}
@@ -7,7 +8,8 @@ use Rattle.http_requests.specs.Message.{method_text}
 use Rattle.http_requests.specs.Numbers.{revision_number_of}
 use Rattle.http_requests.specs.Parts.{form_of, part_at}
 use Rattle.http_requests.specs.declared.form.Form.{Form}
-use Rattle.http_requests.specs.declared.form.Form.TheVariants.{OfUsers, OfTeam, OfProfile, OfRevision}
+use Rattle.http_requests.specs.declared.form.Form.TheVariants.{OfUsers, OfTeam, OfProfile}
+use Rattle.http_requests.specs.declared.form.Form.TheVariants.{OfRevision}
 use Rattle.http_requests.specs.declared.method.Method.{Method}
 use Rattle.http_requests.specs.declared.method.Method.TheVariants.{Get, Post}
 use Rattle.http_requests.specs.declared.refusal.Refusal.{Refusal}
@@ -15,7 +17,8 @@ use Rattle.http_requests.specs.declared.refusal.Refusal.TheVariants.{NoRoute, Wr
 use Rattle.http_requests.specs.declared.route.ProfileAct.{ProfileAct}
 use Rattle.http_requests.specs.declared.route.ProfileAct.TheVariants.{Submit, Fetch, Hold, Release}
 use Rattle.http_requests.specs.declared.route.RevisionAct.{RevisionAct}
-use Rattle.http_requests.specs.declared.route.RevisionAct.TheVariants.{Show, Sheet, Vote, Issue, Withdraw, Adopt}
+use Rattle.http_requests.specs.declared.route.RevisionAct.TheVariants.{Show, Sheet, Vote, Issue}
+use Rattle.http_requests.specs.declared.route.RevisionAct.TheVariants.{Withdraw, Adopt}
 use Rattle.http_requests.specs.declared.route.Route.{Route}
 use Rattle.http_requests.specs.declared.route.Route.TheVariants.{Users, Team, Profile, Revision}
 

@@ -55,9 +55,9 @@ fn of_revision(
     }
 }
 
-/// What a request with this route and this body asks. Of an enrolment the body is an object of just `user`, `team`, `roles`
-/// and `digest`; of a vote one of just `digest` and `vote`; of a submission it is the document, whatever its bytes; and of all
-/// else it is empty.
+/// What a request with this route and this body asks. Of an enrolment the body is an object of just
+/// `user`, `team`, `roles` and `digest`; of a vote one of just `digest` and `vote`; of a submission
+/// it is the document, whatever its bytes; and of all else it is empty.
 ///
 /// # Errors
 ///

@@ -9,8 +9,8 @@ use std::alloc::Global;
 use std::io::Read;
 use streams::{Counted, SomeRead, Unread, read_some};
 
-/// The body of this size, of which a front part may have been read with the head; more than that isn't looked at. An interrupted
-/// read is made again, until the reader has counted `most_calls`.
+/// The body of this size, of which a front part may have been read with the head; more than that
+/// isn't looked at. An interrupted read is made again, until the reader has counted `most_calls`.
 ///
 /// # Errors
 ///

@@ -10,8 +10,9 @@ const MAX_HEAD: usize = 8_192;
 
 /// How many bytes the head at the front has, or none while its end hasn't come.
 ///
-/// The head ends at the first line feed that follows an empty line (RFC 9112, sections 2.1 and 2.2). Of the bytes that have come, the first `searched`
-/// were looked at before, and no head ended in them.
+/// The head ends at the first line feed that follows an empty line (RFC 9112, sections 2.1 and
+/// 2.2). Of the bytes that have come, the first `searched` were looked at before, and no head ended
+/// in them.
 ///
 /// # Errors
 ///

@@ -2,7 +2,8 @@
 
 ghost use Rattle.std.specs.Prelude.{◌≡◌, ℕ, List, length, map, All};
 ghost use Rattle.httparse.specs.Spans.{header_bytes, span_bytes, IsHeaderWithin, IsWithin};
-ghost use Rattle.http_requests.specs.Fields.{is_named, next, same_in_any_case, shown, values_of, IsFoundWithin};
+ghost use Rattle.http_requests.specs.Fields.{is_named, next, same_in_any_case, shown, values_of};
+ghost use Rattle.http_requests.specs.Fields.{IsFoundWithin};
 
 use httparse::spans::{HeaderSpan, Span};
 

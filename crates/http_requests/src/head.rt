@@ -14,7 +14,8 @@ use httparse::spans::{EMPTY_HEADER_SPAN, HeaderSpan, Span, parse_request};
 use review_policy::Token;
 use std::alloc::{AllocError, Global};
 
-/// The parts of a head, where they stand in its buffer, and the length of the body that it announces.
+/// The parts of a head, where they stand in its buffer, and the length of the body that it
+/// announces.
 #[derive(Clone, Copy, Debug)]
 pub(crate) struct Head {
     /// The method, as written.
@@ -28,9 +29,10 @@ pub(crate) struct Head {
 }
 
 impl Head {
-    /// The token that the caller shows: the field `Authorization`, given once, is `Bearer` in any case, one space and
-    /// a token (RFC 9110, section 11.6.2). None where it isn't so, which is refused as [`Refusal::NoToken`]. Fails where it is
-    /// out of memory, and no contract can say when. `bytes` is the buffer that the head was read from.
+    /// The token that the caller shows: the field `Authorization`, given once, is `Bearer` in any
+    /// case, one space and a token (RFC 9110, section 11.6.2). None where it isn't so, which is
+    /// refused as [`Refusal::NoToken`]. Fails where it is out of memory, and no contract can say
+    /// when. `bytes` is the buffer that the head was read from.
     pub(crate) fn token(&self, alloc: Global, bytes: &[u8]) -> Result<Option<Token>, AllocError>
         requires { IsFoundWithin (length bytes.now) self.now.authorization }
         ensures { IfOk result (λ token. token
@@ -47,8 +49,8 @@ impl Head {
 ///
 /// # Errors
 ///
-/// The first that is so of [`Refusal::BadHead`], [`Refusal::BadHost`], [`Refusal::TransferEncoding`],
-/// [`Refusal::BadLength`] and [`Refusal::TooLarge`].
+/// The first that is so of [`Refusal::BadHead`], [`Refusal::BadHost`],
+/// [`Refusal::TransferEncoding`], [`Refusal::BadLength`] and [`Refusal::TooLarge`].
 pub(crate) fn read_head(bytes: &[u8]) -> Result<Head, Refusal>
     ensures within { IfOk result (λ head. IsHeadWithin (length bytes.now) head) }
     ensures answer { Answers bytes.now result }
@@ -69,7 +71,8 @@ pub(crate) fn read_head(bytes: &[u8]) -> Result<Head, Refusal>
     }
 }
 
-// What the fields of a head of this minor version come to: the length of the body, or the first refusal.
+// What the fields of a head of this minor version come to: the length of the body, or the first
+// refusal.
 fn judge_fields(bytes: &[u8], headers: &[HeaderSpan], minor: u8) -> Result<u32, Refusal>
     requires { All (IsHeaderWithin (length bytes.now)) headers.now }
     ensures { result ≡ judge_fields minor (map (header_bytes bytes.now) headers.now) }

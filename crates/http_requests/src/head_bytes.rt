@@ -21,7 +21,8 @@ pub(crate) struct HeadBytes {
     pub(crate) end: usize,
 }
 
-/// Reads until the head has ended. An interrupted read is made again, until the reader has counted `most_calls`.
+/// Reads until the head has ended. An interrupted read is made again, until the reader has counted
+/// `most_calls`.
 ///
 /// # Errors
 ///

@@ -1,4 +1,5 @@
-//! Laws of exchanges. Each is a function without a parameter whose contract is the law; it does nothing.
+//! Laws of exchanges. Each is a function without a parameter whose contract is the law; it does
+//! nothing.
 
 ghost use Rattle.std.specs.Prelude.{◌≡◌, ◌≢◌, ◌++◌, ℕ, List};
 ghost use Rattle.http_requests.specs.Exchanges.{Exchange, IsExchange, ended};

@@ -1,4 +1,5 @@
-//! HTTP without an office: the head of a request, its target's route, its body, what they ask together, and responses.
+//! HTTP without an office: the head of a request, its target's route, its body, what they ask
+//! together, and responses.
 //!
 //! Bytes are read as RFC 9112 (HTTP/1.1) has them, and mean what RFC 9110 (HTTP semantics) says.
 #![tactic(auto)]

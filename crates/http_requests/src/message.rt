@@ -29,9 +29,9 @@ impl ContentType {
 
 /// The response with this status and this body, after which the connection is closed.
 ///
-/// Its lines end with CR LF. It has the field `Allow` where the status is [`Status::MethodNotAllowed`], and
-/// `Content-Length` is the number of the body's bytes. Fails where it is out of memory, and no contract can
-/// say when.
+/// Its lines end with CR LF. It has the field `Allow` where the status is
+/// [`Status::MethodNotAllowed`], and `Content-Length` is the number of the body's bytes. Fails
+/// where it is out of memory, and no contract can say when.
 pub(crate) fn message_text(
     alloc: Global,
     status: Status,

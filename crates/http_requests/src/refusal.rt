@@ -9,17 +9,19 @@ use crate::status::Status;
 /// Why what came over HTTP is no request, in the order in which it is looked at.
 #[derive(Clone, Copy, Debug, PartialEq, Eq)]
 pub enum Refusal {
-    /// No head ends within the first 8,192 bytes (RFC 9110, section 5.4, and RFC 9112, section 3: a server limits what it
-    /// reads of fields and of a request line).
+    /// No head ends within the first 8,192 bytes (RFC 9110, section 5.4, and RFC 9112, section 3: a
+    /// server limits what it reads of fields and of a request line).
     HeadTooLong,
-    /// The bytes are no head of a request of HTTP/1.0 or HTTP/1.1 with at most 64 fields (RFC 9112, sections 2.2, 3 and 5).
+    /// The bytes are no head of a request of HTTP/1.0 or HTTP/1.1 with at most 64 fields (RFC 9112,
+    /// sections 2.2, 3 and 5).
     BadHead,
     /// There are two fields `Host`, or none in HTTP/1.1 (RFC 9112, section 3.2).
     BadHost,
-    /// There is a field `Transfer-Encoding`: the office reads no transfer coding (RFC 9112, section 6.1).
+    /// There is a field `Transfer-Encoding`: the office reads no transfer coding (RFC 9112, section
+    /// 6.1).
     TransferEncoding,
-    /// There are two fields `Content-Length`, or one that is no decimal number (RFC 9110, section 8.6, and RFC 9112,
-    /// section 6.3).
+    /// There are two fields `Content-Length`, or one that is no decimal number (RFC 9110, section
+    /// 8.6, and RFC 9112, section 6.3).
     BadLength,
     /// The body is announced as longer than 262,144 bytes (RFC 9110, section 15.5.14).
     TooLarge,

@@ -54,8 +54,9 @@ fn hear_after<R: Read>(
     Ok(Request { token, ask })
 }
 
-/// Hears the request that a stream begins with: its head is looked at as soon as it has ended, and its body is read only where
-/// nothing of the head refuses the request. An interrupted read is made again, until the reader has counted `most_calls`.
+/// Hears the request that a stream begins with: its head is looked at as soon as it has ended, and
+/// its body is read only where nothing of the head refuses the request. An interrupted read is made
+/// again, until the reader has counted `most_calls`.
 ///
 /// # Errors
 ///

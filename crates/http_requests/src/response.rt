@@ -1,7 +1,8 @@
 //! The responses of the office: to each answer, and to what is no request.
 
 ghost use Rattle.std.specs.Prelude.{◌≡◌, IfOk, string_bytes};
-ghost use Rattle.http_requests.specs.Responses.{refusal_with, response_to, response_with, status_of};
+ghost use Rattle.http_requests.specs.Responses.{refusal_with, response_to, response_with};
+ghost use Rattle.http_requests.specs.Responses.{status_of};
 
 use crate::message::{ContentType, message_text};
 use crate::status::Status;
@@ -20,8 +21,8 @@ pub fn answer_status(answer: &Answer) -> Status
     }
 }
 
-/// The response with this status to an answer: of a fetch the document itself, of a sheet its text, and of all else the text
-/// of the answer.
+/// The response with this status to an answer: of a fetch the document itself, of a sheet its text,
+/// and of all else the text of the answer.
 ///
 /// # Errors
 ///
@@ -55,7 +56,8 @@ pub fn refusal_response(alloc: Global, status: Status, word: &str) -> Result<Str
     message_text(alloc, status, ContentType::Json, text.as_str())
 }
 
-/// The response to an answer that says that there was no memory. It is a constant, since there may be no memory to make it.
+/// The response to an answer that says that there was no memory. It is a constant, since there may
+/// be no memory to make it.
 #[tactic(auto, unfolding(crate::proofs::OnLiterals::response_on_literals))]
 pub fn memory_response() -> &'static str
     ensures { result.now ≡ response_to (Answer.Fault Fault.Memory) }

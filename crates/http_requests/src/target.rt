@@ -3,7 +3,8 @@
 ghost use Rattle.std.specs.Prelude.{◌≡◌, IfOk, IsUtf8, None, Ok, Err};
 ghost use Rattle.http_requests.specs.Heard.{HasRoute};
 ghost use Rattle.http_requests.specs.Parts.{part_at};
-ghost use Rattle.http_requests.specs.Targets.{answer_of, profile_route, revision_route, route_of, route_with, team_route};
+ghost use Rattle.http_requests.specs.Targets.{answer_of, profile_route, revision_route, route_of};
+ghost use Rattle.http_requests.specs.Targets.{route_with, team_route};
 
 use crate::form::Form;
 use crate::parameter::{name, revision_number, word};
@@ -19,9 +20,10 @@ use std::str;
 ///
 /// # Errors
 ///
-/// [`Refusal::NoRoute`] where the target isn't UTF-8, or where its parts between slashes aren't those of a route, with
-/// words for team and profile and a number from 1 to 9,999 without leading zeros; else [`Refusal::WrongMethod`] where
-/// `method`, as written, isn't the route's. Out of memory may come in place of any answer.
+/// [`Refusal::NoRoute`] where the target isn't UTF-8, or where its parts between slashes aren't
+/// those of a route, with words for team and profile and a number from 1 to 9,999 without leading
+/// zeros; else [`Refusal::WrongMethod`] where `method`, as written, isn't the route's. Out of
+/// memory may come in place of any answer.
 pub(crate) fn find_route(
     alloc: Global,
     router: &OfficeRouter,

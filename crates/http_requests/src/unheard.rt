@@ -12,7 +12,8 @@ pub enum Unheard {
     Refused(Refusal),
     /// The stream ended inside a head or a body.
     Ended,
-    /// Not all of it was read. Out of memory may stand in place of any answer, and no contract can say when.
+    /// Not all of it was read. Out of memory may stand in place of any answer, and no contract can
+    /// say when.
     Unread(Unread),
 }
 

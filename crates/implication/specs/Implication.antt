@@ -1,5 +1,7 @@
--- When a comparison implies another, by the sets of words that they admit, and when an entry implies another.
-use Rattle.std.specs.Prelude.{◌≡◌, ℕ, ◌<◌, ◌^◌, zero, suc, List, Bool, true, false, not, ◌&&◌, ◌||◌, ◌==◌, IsTrue, MatchBool, All}
+-- When a comparison implies another, by the sets of words that they admit, and when an entry
+-- implies another.
+use Rattle.std.specs.Prelude.{◌≡◌, ℕ, ◌<◌, ◌^◌, zero, suc, List, Bool, true, false, not, ◌&&◌, ◌||◌}
+use Rattle.std.specs.Prelude.{◌==◌, IsTrue, MatchBool, All}
 use Rattle.std.specs.List.{list_any, list_all}
 use Rattle.seccomp_doc.specs.declared.compare.Compare.{Compare}
 use Rattle.seccomp_doc.specs.Compare.{admits}
@@ -36,4 +38,5 @@ TellsAllAdmitted answer set d = MatchBool answer (AllAdmitted set d) (SomeRefuse
 
 -- the entry admits all words that the other admits
 abbrev pub AdmitsAllOf : EntryValue → EntryValue → Type 0
-AdmitsAllOf f e = (words : List ℕ) → All (λ word. word < 2 ^ 64) words → IsTrue (admits_words e.args words) → IsTrue (admits_words f.args words)
+AdmitsAllOf f e = (words : List ℕ) → All (λ word. word < 2 ^ 64) words
+    → IsTrue (admits_words e.args words) → IsTrue (admits_words f.args words)

@@ -11,7 +11,8 @@ has_bits mask bits word = bit_and word mask == bits
 
 -- all words of a range have the same bits under a mask
 abbrev pub AllAgree : ℕ → ℕ → ℕ → Type 0
-AllAgree mask first last = (word : ℕ) → first ≤ word → word ≤ last → bit_and word mask ≡ bit_and first mask
+AllAgree mask first last =
+    (word : ℕ) → first ≤ word → word ≤ last → bit_and word mask ≡ bit_and first mask
 
 -- some word of the range has other bits under the mask than the first one
 pub record SomeDiffers (mask first last : ℕ) : Type 0 where

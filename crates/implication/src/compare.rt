@@ -8,15 +8,16 @@ use crate::mask::mask_implies;
 use crate::range::{above_implies, below_implies, range_implies};
 use seccomp_doc::{Compare, Op};
 
-/// Whether every 64-bit word that a comparison admits is admitted by the other. Their indexes aren't looked at. A
-/// comparison that admits no word implies all.
+/// Whether every 64-bit word that a comparison admits is admitted by the other. Their indexes
+/// aren't looked at. A comparison that admits no word implies all.
 ///
 /// It takes no memory, and looks at the ends of ranges and the bits of masks alone.
 pub fn implies(compare: Compare, other: Compare) -> bool
     ensures value { result ≡ implies compare other }
 
     // Where it is false, some word is admitted by the one and refused by the other.
-    ensures exact { MatchBool result (AllAdmitted (admits compare) other) (SomeRefused (admits compare) other) }
+    ensures exact { MatchBool result
+        (AllAdmitted (admits compare) other) (SomeRefused (admits compare) other) }
 {
     let value = compare.value;
     match compare.op {

@@ -32,7 +32,8 @@ pub(crate) fn range_implies(first: u64, last: u64, other: Compare) -> bool
     }
 }
 
-// Whether all words from one to another are alike in the bits of a mask: in its lowest bit and all bits above that.
+// Whether all words from one to another are alike in the bits of a mask: in its lowest bit and all
+// bits above that.
 fn agree_under(mask: u64, first: u64, last: u64) -> bool
     requires { first ≤ last }
     ensures { MatchBool result (AllAgree mask first last) (SomeDiffers mask first last) }

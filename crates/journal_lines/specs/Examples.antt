@@ -2,7 +2,8 @@
 -- members of an object and leaves out spaces.
 use Rattle.std.specs.Prelude.{ℕ, ◌+◌, ◌^◌, List, [], ◌∷◌, ◌++◌, false, codes, replicate}
 use Rattle.review_policy.specs.declared.ask.ProfileName.{ProfileName}
-use Rattle.office_policy.specs.History.{founded, enrolled, submitted, voted, issued, withdrawn, adopted, held, released}
+use Rattle.office_policy.specs.History.{founded, enrolled, submitted, voted, issued, withdrawn}
+use Rattle.office_policy.specs.History.{adopted, held, released}
 use Rattle.journal_lines.specs.Lines.{Line, happened}
 
 abbrev pub web : ProfileName

@@ -1,6 +1,7 @@
 -- The forms of what happens: those of the requests that it was, and a text is UTF-8.
 use Rattle.std.specs.Prelude.{◌<◌, ◌^◌, IsUtf8}
-use Rattle.office_policy.specs.History.{Event, founded, enrolled, submitted, voted, issued, withdrawn, adopted, held, released}
+use Rattle.office_policy.specs.History.{Event, founded, enrolled, submitted, voted, issued}
+use Rattle.office_policy.specs.History.{withdrawn, adopted, held, released}
 use Rattle.office_policy.specs.Formed.{IsWord, IsDigest, IsRoles, IsName, IsNumber}
 use Rattle.journal_lines.specs.Lines.{Line, happened, strike}
 

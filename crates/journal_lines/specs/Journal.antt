@@ -1,5 +1,6 @@
 -- What a journal says: its lines, the oldest first, and the events of them that stand.
-use Rattle.std.specs.Prelude.{◌≡◌, ℕ, List, [], ◌∷◌, Option, Some, None, option_and_then, flat_map, All}
+use Rattle.std.specs.Prelude.{◌≡◌, ℕ, List, [], ◌∷◌, Option, Some, None, option_and_then, flat_map}
+use Rattle.std.specs.Prelude.{All}
 use Rattle.office_policy.specs.History.{Event, History}
 use Rattle.office_policy.specs.Runs.{with_event}
 use Rattle.journal_lines.specs.Forms.{IsFormed}

@@ -2,7 +2,9 @@
 use Rattle.std.specs.Prelude.{ℕ, List, [], ◌∷◌, Option, find, codes}
 use Rattle.std.specs.Str.{bytes_eq}
 use Rattle.journal_lines.specs.declared.kind.Kind.{Kind}
-use Rattle.journal_lines.specs.declared.kind.Kind.TheVariants.{Found, Enrol, Submit, Vote, Issue, Withdraw, Adopt, Hold, Release, Strike}
+use Rattle.journal_lines.specs.declared.kind.Kind.TheVariants.{Found, Enrol, Submit, Vote, Issue}
+use Rattle.journal_lines.specs.declared.kind.Kind.TheVariants.{Withdraw, Adopt, Hold, Release}
+use Rattle.journal_lines.specs.declared.kind.Kind.TheVariants.{Strike}
 
 -- the word of each kind: that of the request that it was, and for the founding and for a line that
 -- strikes out the one before it a word of their own

@@ -1,6 +1,7 @@
 -- The lines of a journal: compact JSON, with the members of each object in byte order of their
 -- names.
-use Rattle.std.specs.Prelude.{ℕ, List, ◌∷◌, [], ◌++◌, Bool, true, false, map, filter, if◌then◌else◌, codes}
+use Rattle.std.specs.Prelude.{ℕ, List, ◌∷◌, [], ◌++◌, Bool, true, false, map, filter, if◌then◌else◌}
+use Rattle.std.specs.Prelude.{codes}
 use Rattle.serde_json.specs.Data.{Data, string, object, Members, no_members, member}
 use Rattle.serde_json.specs.Written.{compact_text}
 use Rattle.profile_text.specs.Text.{set_data, texts_data}
@@ -9,9 +10,12 @@ use Rattle.review_policy.specs.WordTables.{all_roles, role_word}
 use Rattle.review_policy.specs.declared.ask.ProfileName.{ProfileName}
 use Rattle.review_policy.specs.declared.role.Role.{Role}
 use Rattle.json_requests.specs.Answers.{text_member, number_member, digest_member}
-use Rattle.office_policy.specs.History.{Event, founded, enrolled, submitted, voted, issued, withdrawn, adopted, held, released}
+use Rattle.office_policy.specs.History.{Event, founded, enrolled, submitted, voted, issued}
+use Rattle.office_policy.specs.History.{withdrawn, adopted, held, released}
 use Rattle.journal_lines.specs.declared.kind.Kind.{Kind}
-use Rattle.journal_lines.specs.declared.kind.Kind.TheVariants.{Found, Enrol, Submit, Vote, Issue, Withdraw, Adopt, Hold, Release, Strike}
+use Rattle.journal_lines.specs.declared.kind.Kind.TheVariants.{Found, Enrol, Submit, Vote, Issue}
+use Rattle.journal_lines.specs.declared.kind.Kind.TheVariants.{Withdraw, Adopt, Hold, Release}
+use Rattle.journal_lines.specs.declared.kind.Kind.TheVariants.{Strike}
 use Rattle.journal_lines.specs.Kinds.{kind_word}
 
 -- a line says what happened, or strikes out the event of the line before it, which didn't happen

@@ -5,11 +5,15 @@ use Rattle.serde_json.specs.Data.{Data}
 use Rattle.serde_json.specs.Find.{get, as_array}
 use Rattle.profile_text.specs.Sets.{caps_of}
 use Rattle.review_policy.specs.declared.ask.ProfileName.{ProfileName}
-use Rattle.json_requests.specs.Members.{◌>>=◌, text_at, word_at, name_at, revision_at, digest_at, vote_at, roles_at}
+use Rattle.json_requests.specs.Members.{◌>>=◌, text_at, word_at, name_at, revision_at, digest_at}
+use Rattle.json_requests.specs.Members.{vote_at, roles_at}
 use Rattle.json_requests.specs.Requests.{value_of}
-use Rattle.office_policy.specs.History.{Event, founded, enrolled, submitted, voted, issued, withdrawn, adopted, held, released}
+use Rattle.office_policy.specs.History.{Event, founded, enrolled, submitted, voted, issued}
+use Rattle.office_policy.specs.History.{withdrawn, adopted, held, released}
 use Rattle.journal_lines.specs.declared.kind.Kind.{Kind}
-use Rattle.journal_lines.specs.declared.kind.Kind.TheVariants.{Found, Enrol, Submit, Vote, Issue, Withdraw, Adopt, Hold, Release, Strike}
+use Rattle.journal_lines.specs.declared.kind.Kind.TheVariants.{Found, Enrol, Submit, Vote, Issue}
+use Rattle.journal_lines.specs.declared.kind.Kind.TheVariants.{Withdraw, Adopt, Hold, Release}
+use Rattle.journal_lines.specs.declared.kind.Kind.TheVariants.{Strike}
 use Rattle.journal_lines.specs.Kinds.{kind_of}
 use Rattle.journal_lines.specs.Lines.{Line, happened, strike}
 

@@ -11,7 +11,7 @@ pub mod read;
 pub mod reader;
 
 pub use fault::Unread;
-pub use line::{Event, Line};
+pub use line::Line;
 pub use print::text;
 pub use read::read_line;
 pub use reader::{Faulty, Reader};

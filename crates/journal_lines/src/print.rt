@@ -1,19 +1,24 @@
 //! The text of a line.
 
 ghost use Rattle.std.specs.Prelude.{◌≡◌, ◌∷◌, [], ◌++◌, IfOk, OnOk, codes, map, string_bytes};
-ghost use Rattle.serde_json.specs.Data.{no_members, number, object, put as with_member, string, unsigned};
+ghost use Rattle.serde_json.specs.Data.{no_members, number, object, put as with_member, string};
+ghost use Rattle.serde_json.specs.Data.{unsigned};
 ghost use Rattle.serde_json.specs.View.{view, members_view};
 ghost use Rattle.cap_sets.specs.Capability.{names_of};
 ghost use Rattle.profile_text.specs.Text.{set_data, texts_data};
 ghost use Rattle.json_requests.specs.Answers.{text_member};
 ghost use Rattle.office_policy.specs.History.{founded, enrolled, submitted, voted};
-ghost use Rattle.journal_lines.specs.Lines.{event_data, kind_member, line_data, of_profile, of_revision, role_data, role_words, text_of, vote_word, words_among, line_of};
-ghost use Rattle.journal_lines.specs.Shown.{event_of, shown};
+ghost use Rattle.office_policy.specs.Happened.{event_meant};
+ghost use Rattle.journal_lines.specs.Lines.{event_data, kind_member, line_data, of_profile};
+ghost use Rattle.journal_lines.specs.Lines.{of_revision, role_data, role_words, text_of, vote_word};
+ghost use Rattle.journal_lines.specs.Lines.{words_among, line_of};
+ghost use Rattle.journal_lines.specs.Shown.{shown};
 
 use crate::kind::Kind;
-use crate::line::{Event, Line};
+use crate::line::Line;
 use cap_sets::Caps;
 use json_requests::object::{with_digest, with_number, with_text, with_value};
+use office_policy::Event;
 use review_policy::{ProfileName, Role, Roles, Text, Word};
 use serde_json::{Map, ToValue, Value};
 use std::alloc::{AllocError, Global};
@@ -219,7 +224,7 @@ fn voted_object(
 // What happened, by its kind.
 fn event_object(alloc: Global, event: &Event) -> Result<Map<String, Value>, AllocError>
     ensures { IfOk result (λ m. object (members_view m.entries)
-        ≡ event_data (event_of event.now)) }
+        ≡ event_data (event_meant event.now)) }
 {
     match event {
         Event::Founded {

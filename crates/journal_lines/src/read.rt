@@ -43,8 +43,8 @@ fn is_its_text(alloc: Global, line: &Line, bytes: &[u8]) -> Result<bool, AllocEr
     Ok(written.as_bytes() == bytes)
 }
 
-/// The line that a text is, which is passed without its line feed. It is read where it is the line's text to the byte:
-/// each line has one text.
+/// The line that a text is, which is passed without its line feed. It is read where it is the
+/// line's text to the byte: each line has one text.
 #[tactic(auto, using(crate::proofs::LineFacts::unread, crate::proofs::LineFacts::read_same, crate::proofs::LineFacts::read_other))]
 pub fn read_line(alloc: Global, bytes: &[u8]) -> Result<Line, Unread>
     ensures { IsRead bytes.now result }

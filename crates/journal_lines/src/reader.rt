@@ -1,12 +1,13 @@
 //! A journal, read a line at a time.
 
 ghost use Rattle.std.specs.Prelude.{◌≡◌, None, option_map};
+ghost use Rattle.office_policy.specs.Happened.{event_meant};
 ghost use Rattle.journal_lines.specs.Reading.{Takes, held};
-ghost use Rattle.journal_lines.specs.Shown.{event_of};
 
 use crate::fault::Unread;
-use crate::line::{Event, Line};
+use crate::line::Line;
 use crate::read::read_line;
+use office_policy::Event;
 use std::alloc::Global;
 use thiserror::Error;
 
@@ -24,8 +25,8 @@ pub enum Faulty {
     NoMemory,
 }
 
-/// Reads a journal, the oldest line first. The event of the last line is held back, since the next line may strike it out;
-/// no other is kept.
+/// Reads a journal, the oldest line first. The event of the last line is held back, since the next
+/// line may strike it out; no other is kept.
 #[derive(Drop)]
 pub struct Reader {
     held: Option<Event>,
@@ -39,7 +40,8 @@ impl Reader {
         Reader { held: None }
     }
 
-    /// Takes the text of the next line, without its line feed: the event before it, where that stands.
+    /// Takes the text of the next line, without its line feed: the event before it, where that
+    /// stands.
     pub fn take(&mut self, alloc: Global, text: &[u8]) -> Result<Option<Event>, Faulty>
         ensures { Takes self.old self.new text.now result }
     {
@@ -56,7 +58,7 @@ impl Reader {
 
     /// The event that is held back: that of the last line, where the journal ends here.
     pub fn end(self) -> Option<Event>
-        ensures { option_map event_of result ≡ held self }
+        ensures { option_map event_meant result ≡ held self }
     {
         self.held
     }

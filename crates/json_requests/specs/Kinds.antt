@@ -3,7 +3,9 @@ use Rattle.std.specs.Prelude.{ℕ, List, [], ◌∷◌, Bool, ◌||◌, Option, 
 use Rattle.std.specs.List.{list_any}
 use Rattle.std.specs.Str.{bytes_eq}
 use Rattle.json_requests.specs.declared.kind.Kind.{Kind}
-use Rattle.json_requests.specs.declared.kind.Kind.TheVariants.{Enrol, Submit, Vote, Issue, Withdraw, Adopt, Show, Sheet, Fetch, Hold, Release}
+use Rattle.json_requests.specs.declared.kind.Kind.TheVariants.{Enrol, Submit, Vote, Issue, Withdraw}
+use Rattle.json_requests.specs.declared.kind.Kind.TheVariants.{Adopt, Show, Sheet, Fetch, Hold}
+use Rattle.json_requests.specs.declared.kind.Kind.TheVariants.{Release}
 use Rattle.json_requests.specs.declared.kind.Kind.TheVariants as kinds
 
 -- the word of each kind

@@ -1,5 +1,6 @@
 -- What a line asks.
-use Rattle.std.specs.Prelude.{◌≡◌, ℕ, List, Option, Some, None, Result, Ok, Err, if◌then◌else◌, option_and_then, codes, length, nat_lt}
+use Rattle.std.specs.Prelude.{◌≡◌, ℕ, List, Option, Some, None, Result, Ok, Err, if◌then◌else◌}
+use Rattle.std.specs.Prelude.{option_and_then, codes, length, nat_lt}
 use Rattle.std.specs.Str.{is_utf8}
 use Rattle.serde_json.specs.Data.{Data}
 use Rattle.serde_json.specs.Read.{read}
@@ -10,10 +11,12 @@ use Rattle.json_requests.specs.declared.bad.BadLine.TheVariants as bad
 use Rattle.json_requests.specs.declared.kind.Kind.{Kind}
 use Rattle.json_requests.specs.declared.kind.Kind.TheVariants as kinds
 use Rattle.json_requests.specs.Kinds.{kind_of}
-use Rattle.json_requests.specs.Members.{◌>>=◌, text_at, word_at, token_at, name_at, revision_at, digest_at, vote_at, roles_at}
+use Rattle.json_requests.specs.Members.{◌>>=◌, text_at, word_at, token_at, name_at, revision_at}
+use Rattle.json_requests.specs.Members.{digest_at, vote_at, roles_at}
 use Rattle.json_requests.specs.Shapes.{has_no_other}
 use Rattle.json_requests.specs.declared.shape.Shape.TheVariants.{Line}
-use Rattle.json_requests.specs.Plain.{PlainAsk, PlainRequest, plain, enrol, submit, vote, issue, withdraw, adopt, show, sheet, list, fetch, hold, release}
+use Rattle.json_requests.specs.Plain.{PlainAsk, PlainRequest, plain, enrol, submit, vote, issue}
+use Rattle.json_requests.specs.Plain.{withdraw, adopt, show, sheet, list, fetch, hold, release}
 
 -- ---- by kind, from the members of the kind
 

@@ -2,7 +2,8 @@
 use Rattle.std.specs.Prelude.{ℕ, ◌&&◌, List, [], ◌∷◌, Bool, true, false, codes}
 use Rattle.std.specs.List.{list_any}
 use Rattle.std.specs.Str.{bytes_eq}
-use Rattle.serde_json.specs.Data.{Data, null, boolean, number, string, array, object, Members, no_members, member}
+use Rattle.serde_json.specs.Data.{Data, null, boolean, number, string, array, object, Members}
+use Rattle.serde_json.specs.Data.{no_members, member}
 use Rattle.json_requests.specs.declared.kind.Kind.TheVariants.{Enrol}
 use Rattle.json_requests.specs.declared.shape.Shape.{Shape}
 use Rattle.json_requests.specs.declared.shape.Shape.TheVariants.{Line, EnrolBody, VoteBody}

@@ -1,139 +1,126 @@
-//! The lines of answers.
+//! The texts of answers, written a token at a time.
 
-ghost use Rattle.std.specs.Prelude.{◌≡◌, codes, IfOk, string_bytes};
-ghost use Rattle.serde_json.specs.Data.{object, put as with_member, string};
-ghost use Rattle.serde_json.specs.View.{view, members_view};
-ghost use Rattle.json_requests.specs.Answers.{with_digest, listed_data, listing_data, reply_members, answer_members, fault_members, answer_data, answer_text, line_of};
+ghost use Rattle.std.specs.Prelude.{◌≡◌, codes, IfOk, OnOk, string_bytes};
+ghost use Rattle.serde_json.specs.Data.{member, no_members, object};
+ghost use Rattle.json_tree.specs.Tokens.{Appends, open_tokens, tokens_of};
+ghost use Rattle.json_requests.specs.Answers.{answer_data, answer_members, answer_text, line_of};
+ghost use Rattle.json_requests.specs.Answers.{fault_members, listed_data, listing_data};
+ghost use Rattle.json_requests.specs.Answers.{reply_members};
 
-use crate::denial::denied_object;
-use crate::object::{answer_object, with_digest, with_number, with_text, with_value};
-use review_policy::{Answer, Fault, ListedProfile, Reply, Text};
-use serde_json::{Map, Value};
+use crate::denial::write_denied;
+use crate::write::{write_digest, write_number, write_text};
+use json::Writer;
+use json_tree::written_text;
+use review_policy::{Answer, Fault, ListedProfile, Reply};
 use std::alloc::{AllocError, Global};
 
-// An object with two more members, a document and its digest.
-fn with_document(
-    alloc: Global,
-    object: Map<String, Value>,
-    digest: &[u8; 32],
-    document: &Text,
-) -> Result<Map<String, Value>, AllocError>
-    ensures { IfOk result (λ m. members_view m.entries
-        ≡ with_member (codes "document") (string document.now)
-        (with_digest digest.now (members_view object.entries))) }
-{
-    let object = with_digest(alloc, object, digest)?;
-    with_text(alloc, object, "document", document.as_str())
-}
+// How many bytes a text has room for before it grows.
+const FIRST_ROOM: usize = 8192;
 
 // A profile of a list.
-fn listed_value(alloc: Global, listed: &ListedProfile) -> Result<Value, AllocError>
-    ensures { IfOk result (λ v. view v ≡ listed_data listed.now) }
+fn write_listed(out: &mut Writer, listed: &ListedProfile) -> Result<(), AllocError>
+    ensures { OnOk result (Appends out.old out.new (tokens_of (listed_data listed.now))) }
 {
-    let object = with_number(alloc, Map::new(alloc), "issued", listed.issued as u64)?;
-    let object = with_text(alloc, object, "profile", listed.profile.as_str())?;
-    let object = with_number(alloc, object, "revisions", listed.revisions as u64)?;
-    let object = with_text(alloc, object, "state", listed.state.word())?;
-    Ok(Value::Object(object))
+    out.begin_object()?;
+    write_number(out, "issued", listed.issued as u64)?;
+    write_text(out, "profile", listed.profile.as_str())?;
+    write_number(out, "revisions", listed.revisions as u64)?;
+    write_text(out, "state", listed.state.word())?;
+    out.end_object()
 }
 
 // The profiles of a list.
-fn listing_value(alloc: Global, profiles: &[ListedProfile]) -> Result<Value, AllocError>
-    ensures { IfOk result (λ v. view v ≡ listing_data profiles.now) }
+fn write_listing(out: &mut Writer, profiles: &[ListedProfile]) -> Result<(), AllocError>
+    ensures { OnOk result (Appends out.old out.new
+        (open_tokens (member (codes "profiles") (listing_data profiles.now) no_members))) }
 {
-    let mut values = Vec::new(alloc);
+    out.key("profiles")?;
+    out.begin_array()?;
     for listed in profiles {
-        values.push(listed_value(alloc, listed)?)?;
+        write_listed(out, listed)?;
     }
-    Ok(Value::Array(values))
+    out.end_array()
 }
 
-// An object with one more member, the profiles of a list.
-fn with_listing(
-    alloc: Global,
-    object: Map<String, Value>,
-    profiles: &[ListedProfile],
-) -> Result<Map<String, Value>, AllocError>
-    ensures { IfOk result (λ m. members_view m.entries
-        ≡ with_member (codes "profiles") (listing_data profiles.now) (members_view object.entries)) }
+// What an answer that a request is done has besides `answer`.
+fn write_reply(out: &mut Writer, alloc: Global, reply: &Reply) -> Result<(), AllocError>
+    ensures { OnOk result (Appends out.old out.new (open_tokens (reply_members reply.now))) }
 {
-    let listing = listing_value(alloc, profiles)?;
-    with_value(alloc, object, "profiles", listing)
-}
-
-// The answer that a request is done, by its kind.
-fn done_object(alloc: Global, reply: &Reply) -> Result<Map<String, Value>, AllocError>
-    ensures { IfOk result (λ m. members_view m.entries
-        ≡ answer_members (codes "done") (reply_members reply.now)) }
-{
-    let object = answer_object(alloc, "done")?;
     match reply {
         Reply::Submitted { digest, revision } => {
-            let object = with_digest(alloc, object, digest)?;
-            with_number(alloc, object, "revision", *revision as u64)
+            write_digest(out, alloc, digest)?;
+            write_number(out, "revision", *revision as u64)
         }
-        Reply::Issued { digest } => with_digest(alloc, object, digest),
+        Reply::Issued { digest } => write_digest(out, alloc, digest),
         Reply::Shown {
             digest,
             document,
             state,
         } => {
-            let object = with_document(alloc, object, digest, document)?;
-            with_text(alloc, object, "state", state.word())
+            write_digest(out, alloc, digest)?;
+            write_text(out, "document", document.as_str())?;
+            write_text(out, "state", state.word())
         }
-        Reply::Sheet { sheet } => with_text(alloc, object, "sheet", sheet.as_str()),
-        Reply::Listed { profiles } => with_listing(alloc, object, profiles.profiles()),
+        Reply::Sheet { sheet } => write_text(out, "sheet", sheet.as_str()),
+        Reply::Listed { profiles } => write_listing(out, profiles.profiles()),
         Reply::Fetched {
             digest,
             document,
             revision,
         } => {
-            let object = with_document(alloc, object, digest, document)?;
-            with_number(alloc, object, "revision", *revision as u64)
+            write_digest(out, alloc, digest)?;
+            write_text(out, "document", document.as_str())?;
+            write_number(out, "revision", *revision as u64)
         }
         Reply::Enrolled
         | Reply::Voted
         | Reply::Withdrawn
         | Reply::Adopted
         | Reply::Held
-        | Reply::Released => Ok(object),
+        | Reply::Released => Ok(()),
     }
+}
+
+// The answer that a request is done, by its kind.
+fn write_done(out: &mut Writer, alloc: Global, reply: &Reply) -> Result<(), AllocError>
+    ensures { OnOk result (Appends out.old out.new
+        (tokens_of (object (answer_members (codes "done") (reply_members reply.now))))) }
+{
+    out.begin_object()?;
+    write_text(out, "answer", "done")?;
+    write_reply(out, alloc, reply)?;
+    out.end_object()
 }
 
 // The answer that a request failed.
-fn fault_object(alloc: Global, fault: Fault) -> Result<Map<String, Value>, AllocError>
-    ensures { IfOk result (λ m. members_view m.entries
-        ≡ answer_members (codes "fault") (fault_members fault)) }
+fn write_fault(out: &mut Writer, fault: Fault) -> Result<(), AllocError>
+    ensures { OnOk result (Appends out.old out.new
+        (tokens_of (object (answer_members (codes "fault") (fault_members fault))))) }
 {
-    let object = answer_object(alloc, "fault")?;
-    with_text(alloc, object, "word", fault.word())
+    out.begin_object()?;
+    write_text(out, "answer", "fault")?;
+    write_text(out, "word", fault.word())?;
+    out.end_object()
 }
 
-// The members of an answer.
-fn object_of(alloc: Global, answer: &Answer) -> Result<Map<String, Value>, AllocError>
-    ensures { IfOk result (λ m. object (members_view m.entries) ≡ answer_data answer.now) }
+// An answer.
+fn write_answer(out: &mut Writer, alloc: Global, answer: &Answer) -> Result<(), AllocError>
+    ensures { OnOk result (Appends out.old out.new (tokens_of (answer_data answer.now))) }
 {
     match answer {
-        Answer::Done(reply) => done_object(alloc, reply),
-        Answer::Denied { denial, fault } => denied_object(alloc, *denial, fault),
-        Answer::Fault(fault) => fault_object(alloc, *fault),
+        Answer::Done(reply) => write_done(out, alloc, reply),
+        Answer::Denied { denial, fault } => write_denied(out, *denial, fault),
+        Answer::Fault(fault) => write_fault(out, *fault),
     }
-}
-
-// An answer as JSON.
-fn answer_value(alloc: Global, answer: &Answer) -> Result<Value, AllocError>
-    ensures { IfOk result (λ v. view v ≡ answer_data answer.now) }
-{
-    let object = object_of(alloc, answer)?;
-    Ok(Value::Object(object))
 }
 
 /// The text of an answer: JSON with no space, its members in byte order.
 pub fn answer_text(alloc: Global, answer: &Answer) -> Result<String, AllocError>
     ensures { IfOk result (λ text. string_bytes text ≡ answer_text answer.now) }
 {
-    let value = answer_value(alloc, answer)?;
-    value.to_string(alloc)
+    let mut out = Writer::new(Vec::with_capacity(alloc, FIRST_ROOM)?);
+    write_answer(&mut out, alloc, answer)?;
+    Ok(written_text(out))
 }
 
 /// The line of an answer: its text and a line feed.

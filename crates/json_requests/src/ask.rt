@@ -4,8 +4,10 @@ ghost use Rattle.std.specs.Prelude.{ℕ};
 ghost use Rattle.serde_json.specs.View.{view};
 ghost use Rattle.review_policy.specs.declared.ask.ProfileName.{ProfileName};
 ghost use Rattle.json_requests.specs.Faults.{Gives};
-ghost use Rattle.json_requests.specs.Plain.{PlainAsk, plain_ask, issue, withdraw, adopt, show, sheet, fetch, hold, release};
-ghost use Rattle.json_requests.specs.Requests.{ask_at, enrol_at, submit_at, vote_on, of_revision, list_at, of_profile};
+ghost use Rattle.json_requests.specs.Plain.{PlainAsk, plain_ask, issue, withdraw, adopt, show};
+ghost use Rattle.json_requests.specs.Plain.{sheet, fetch, hold, release};
+ghost use Rattle.json_requests.specs.Requests.{ask_at, enrol_at, submit_at, vote_on, of_revision};
+ghost use Rattle.json_requests.specs.Requests.{list_at, of_profile};
 
 use crate::fault::LineFault;
 use crate::kind::Kind;

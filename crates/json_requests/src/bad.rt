@@ -1,11 +1,12 @@
 //! The answers to lines that are no requests.
 
-ghost use Rattle.std.specs.Prelude.{◌≡◌, IfOk, string_bytes};
-ghost use Rattle.serde_json.specs.View.{view};
+ghost use Rattle.std.specs.Prelude.{◌≡◌, IfOk, OnOk, string_bytes};
+ghost use Rattle.json_tree.specs.Tokens.{Appends, tokens_of};
 ghost use Rattle.json_requests.specs.Bad.{bad_data, bad_text, bad_word, bad_line};
 
-use crate::object::{answer_object, with_text};
-use serde_json::Value;
+use crate::write::write_text;
+use json::Writer;
+use json_tree::written_text;
 use std::alloc::{AllocError, Global};
 
 /// Why a line is no request.
@@ -20,12 +21,13 @@ pub enum BadLine {
 }
 
 // The answer that names a word as bad.
-fn bad_value(alloc: Global, word: &str) -> Result<Value, AllocError>
-    ensures { IfOk result (λ v. view v ≡ bad_data word.now) }
+fn write_bad(out: &mut Writer, word: &str) -> Result<(), AllocError>
+    ensures { OnOk result (Appends out.old out.new (tokens_of (bad_data word.now))) }
 {
-    let object = answer_object(alloc, "bad")?;
-    let object = with_text(alloc, object, "word", word)?;
-    Ok(Value::Object(object))
+    out.begin_object()?;
+    write_text(out, "answer", "bad")?;
+    write_text(out, "word", word)?;
+    out.end_object()
 }
 
 /// The text of the answer that names a word as bad: JSON with no space, its members in byte order.
@@ -37,8 +39,9 @@ fn bad_value(alloc: Global, word: &str) -> Result<Value, AllocError>
 pub fn bad_text(alloc: Global, word: &str) -> Result<String, AllocError>
     ensures { IfOk result (λ text. string_bytes text ≡ bad_text word.now) }
 {
-    let value = bad_value(alloc, word)?;
-    value.to_string(alloc)
+    let mut out = Writer::new(Vec::new(alloc));
+    write_bad(&mut out, word)?;
+    Ok(written_text(out))
 }
 
 impl BadLine {

@@ -61,11 +61,13 @@ fn vote_at(name: ProfileName, revision: u32, value: &Value) -> Result<Ask, LineF
     }
 }
 
-/// The enrolment that a body asks: an object of just `user`, `team`, `roles` and `digest`, each as in a line.
+/// The enrolment that a body asks: an object of just `user`, `team`, `roles` and `digest`, each as
+/// in a line.
 ///
 /// # Errors
 ///
-/// `NotARequest` where it is none, also where it is no JSON; `NoMemory`, which may stand in place of any answer.
+/// `NotARequest` where it is none, also where it is no JSON; `NoMemory`, which may stand in place
+/// of any answer.
 pub fn read_enrol(alloc: Global, body: &[u8]) -> Result<Ask, LineFault>
     ensures { Gives plain_ask result (enrol_in body.now) }
 {
@@ -73,11 +75,13 @@ pub fn read_enrol(alloc: Global, body: &[u8]) -> Result<Ask, LineFault>
     enrol_at(alloc, &value)
 }
 
-/// The vote on this revision that a body asks: an object of just `digest` and `vote`, each as in a line.
+/// The vote on this revision that a body asks: an object of just `digest` and `vote`, each as in a
+/// line.
 ///
 /// # Errors
 ///
-/// `NotARequest` where it is none, also where it is no JSON; `NoMemory`, which may stand in place of any answer.
+/// `NotARequest` where it is none, also where it is no JSON; `NoMemory`, which may stand in place
+/// of any answer.
 pub fn read_vote(
     alloc: Global,
     name: ProfileName,

@@ -1,13 +1,15 @@
 //! The JSON of a denial.
 
-ghost use Rattle.std.specs.Prelude.{◌≡◌, codes, IfOk};
-ghost use Rattle.serde_json.specs.View.{members_view};
-ghost use Rattle.json_requests.specs.Answers.{answer_members, need_number, shortage_of, rule_members, denied_members};
+ghost use Rattle.std.specs.Prelude.{◌≡◌, codes, OnOk};
+ghost use Rattle.serde_json.specs.Data.{no_members, object};
+ghost use Rattle.json_tree.specs.Tokens.{Appends, open_tokens, tokens_of};
+ghost use Rattle.json_requests.specs.Answers.{answer_members, denied_members, need_number};
+ghost use Rattle.json_requests.specs.Answers.{reason_members, rule_members, shortage_of};
 
-use crate::object::{answer_object, with_number, with_text};
+use crate::write::{write_number, write_text};
+use json::Writer;
 use review_policy::{Denial, Need, Rule, Text};
-use serde_json::{Map, Value};
-use std::alloc::{AllocError, Global};
+use std::alloc::AllocError;
 
 // How many approvals there were and how many are needed, where they were too few.
 fn shortage_of(rule: Rule) -> Option<(u64, Need)>
@@ -28,34 +30,43 @@ fn need_number(need: Need) -> u64
     }
 }
 
-// The answer that a rule refuses a request, with the number and the word of the rule.
-fn rule_object(alloc: Global, denial: Denial) -> Result<Map<String, Value>, AllocError>
-    ensures { IfOk result (λ m. members_view m.entries
-        ≡ answer_members (codes "denied") (rule_members denial)) }
+// The number and the word of the rule.
+fn write_rule(out: &mut Writer, denial: Denial) -> Result<(), AllocError>
+    ensures { OnOk result (Appends out.old out.new (open_tokens (rule_members denial))) }
 {
-    let object = answer_object(alloc, "denied")?;
-    let object = with_number(alloc, object, "rule", denial.number as u64)?;
-    with_text(alloc, object, "word", denial.rule.word())
+    write_number(out, "rule", denial.number as u64)?;
+    write_text(out, "word", denial.rule.word())
+}
+
+// The shortage of approvals, or the fault of a document.
+fn write_reason(out: &mut Writer, rule: Rule, fault: &Option<Text>) -> Result<(), AllocError>
+    ensures { OnOk result (Appends out.old out.new
+        (open_tokens (reason_members (shortage_of rule) fault.now no_members))) }
+{
+    match shortage_of(rule) {
+        Some((got, need)) => {
+            write_number(out, "got", got)?;
+            write_number(out, "need", need_number(need))
+        }
+        None => match fault {
+            Some(text) => write_text(out, "fault", text.as_str()),
+            None => Ok(()),
+        },
+    }
 }
 
 /// The answer that a rule refuses a request.
-pub(crate) fn denied_object(
-    alloc: Global,
+pub(crate) fn write_denied(
+    out: &mut Writer,
     denial: Denial,
     fault: &Option<Text>,
-) -> Result<Map<String, Value>, AllocError>
-    ensures { IfOk result (λ m. members_view m.entries
-        ≡ answer_members (codes "denied") (denied_members denial fault.now)) }
+) -> Result<(), AllocError>
+    ensures { OnOk result (Appends out.old out.new
+        (tokens_of (object (answer_members (codes "denied") (denied_members denial fault.now))))) }
 {
-    let object = rule_object(alloc, denial)?;
-    match shortage_of(denial.rule) {
-        Some((got, need)) => {
-            let object = with_number(alloc, object, "got", got)?;
-            with_number(alloc, object, "need", need_number(need))
-        }
-        None => match fault {
-            Some(text) => with_text(alloc, object, "fault", text.as_str()),
-            None => Ok(object),
-        },
-    }
+    out.begin_object()?;
+    write_text(out, "answer", "denied")?;
+    write_reason(out, denial.rule, fault)?;
+    write_rule(out, denial)?;
+    out.end_object()
 }

@@ -1,4 +1,5 @@
-//! Laws of requests. Each is a function without a parameter whose contract is the law; it does nothing.
+//! Laws of requests. Each is a function without a parameter whose contract is the law; it does
+//! nothing.
 
 ghost use Rattle.std.specs.Prelude.{◌≡◌, ◌↔◌, ℕ, List, Some, true, false, codes};
 ghost use Rattle.json_requests.specs.Members.{approves};

@@ -1,4 +1,5 @@
-//! Requests and answers as JSON: one request to a line or to the body of an exchange, and one answer to a line.
+//! Requests and answers as JSON: one request to a line or to the body of an exchange, and one
+//! answer to a line.
 #![tactic(auto)]
 
 pub mod answer;
@@ -13,6 +14,7 @@ pub mod member;
 pub mod object;
 pub mod request;
 mod shape;
+mod write;
 
 pub use answer::{answer_text, line};
 pub use bad::{BadLine, bad_text};

@@ -5,7 +5,8 @@ ghost use Rattle.serde_json.specs.Find.{as_str};
 ghost use Rattle.serde_json.specs.View.{view, items_view};
 ghost use Rattle.review_policy.specs.WordTables.{role_of};
 ghost use Rattle.json_requests.specs.Faults.{Gives};
-ghost use Rattle.json_requests.specs.Members.{text_at, word_at, token_at, name_at, revision_at, digest_at, vote_at, roles_of, roles_at};
+ghost use Rattle.json_requests.specs.Members.{text_at, word_at, token_at, name_at, revision_at};
+ghost use Rattle.json_requests.specs.Members.{digest_at, vote_at, roles_of, roles_at};
 
 use crate::fault::LineFault;
 use review_policy::{ProfileName, Role, Roles, Token, Word, WordFault, digest_from_hex};

@@ -1,9 +1,9 @@
 //! Objects of JSON, made member by member.
 
 ghost use Rattle.std.specs.Prelude.{◌≡◌, codes, IfOk};
-ghost use Rattle.serde_json.specs.Data.{no_members, number, put as with_member, string, unsigned};
+ghost use Rattle.serde_json.specs.Data.{number, put as with_member, string, unsigned};
 ghost use Rattle.serde_json.specs.View.{view, members_view};
-ghost use Rattle.json_requests.specs.Answers.{answer_members, with_digest};
+ghost use Rattle.json_requests.specs.Answers.{with_digest};
 
 use serde_json::{Map, ToValue, Value, put};
 use std::alloc::{AllocError, Global};
@@ -60,12 +60,4 @@ pub fn with_digest(
 {
     let text = hex::encode(alloc, digest.as_slice())?;
     with_text(alloc, object, "digest", text.as_str())
-}
-
-/// An object with just the kind of an answer.
-pub(crate) fn answer_object(alloc: Global, kind: &str) -> Result<Map<String, Value>, AllocError>
-    ensures { IfOk result (λ m. members_view m.entries
-        ≡ answer_members kind.now no_members) }
-{
-    with_text(alloc, Map::new(alloc), "answer", kind)
 }

@@ -45,8 +45,9 @@ fn request_of(alloc: Global, value: &Value) -> Result<Request, LineFault>
     }
 }
 
-/// The request of a line, which is passed without its line feed. The length of the line isn't looked at: one that is
-/// longer than 300,000 bytes is answered as [`BadLine::TooLong`](crate::BadLine) before it gets here.
+/// The request of a line, which is passed without its line feed. The length of the line isn't
+/// looked at: one that is longer than 300,000 bytes is answered as
+/// [`BadLine::TooLong`](crate::BadLine) before it gets here.
 pub fn read_line(alloc: Global, line: &[u8]) -> Result<Request, LineFault>
     ensures request { Reads result (request_in line.now) }
     ensures asked { length line.now ≤ 300000 → Reads result (asked line.now) }

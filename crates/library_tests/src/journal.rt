@@ -30,8 +30,9 @@ fn each_line_is_read_and_written_again(rt: HostRuntime) -> Result<(), Fail> {
     Ok(())
 }
 
-// Another order, a space, another writing of a letter, a member too many, one too few, one twice, numbers out of range, a word,
-// a digest and roles that aren't of their forms, a kind that changes nothing, and no object.
+// Another order, a space, another writing of a letter, a member too many, one too few, one twice,
+// numbers out of range, a word, a digest and roles that aren't of their forms, a kind that changes
+// nothing, and no object.
 const OTHERS: [&str; 15] = [
     "{\"event\":\"hold\",\"by\":\"sec\",\"profile\":\"web\",\"team\":\"blue\"}",
     "{\"by\": \"sec\",\"event\":\"hold\",\"profile\":\"web\",\"team\":\"blue\"}",

@@ -1,18 +1,25 @@
--- What each command has done where it ended well: what it printed of which bytes, and the status that it ended with.
-use Rattle.std.specs.Prelude.{◌≡◌, ◌⊎◌, ℕ, List, [], ◌∷◌, Option, None, Ok, IfSome, String, codes, string_bytes}
+-- What each command has done, by the outcome: what it printed of which bytes, what it said on
+-- standard error, and the status that it ended with.
+use Rattle.std.specs.Prelude.{◌≡◌, ◌⊎◌, ℕ, List, [], ◌∷◌, Option, None, Result, Ok, Err, IfSome}
+use Rattle.std.specs.Prelude.{String, codes, string_bytes}
 use Rattle.std.specs.declared.alloc.Global.{Global}
-use Rattle.std.specs.Io.KnownBytes.{Appends}
+use Rattle.std.specs.declared.io.Error.{Error}
+use Rattle.std.specs.declared.net.socket_addr.SocketAddr.{SocketAddr}
+use Rattle.std.specs.declared.net.tcp.TcpListener.{TcpListener}
+use Rattle.std.specs.declared.time.Duration.{Duration}
 use Rattle.sqlite.specs.Held.{Held}
+use Rattle.sqlite.specs.Steps.{over_memory}
 use Rattle.sqlite.specs.Store.{Ghosts}
 use Rattle.command_line.specs.Words.{AskFor, AskForNone}
 use Rattle.command_line.specs.declared.fault.WordsFault.{WordsFault}
-use Rattle.command_line.specs.declared.fault.WordsFault.TheVariants.{Help, Version, Refused, NoMemory}
+use Rattle.command_line.specs.declared.fault.WordsFault.TheVariants.{Help, Version, Refused}
+use Rattle.command_line.specs.declared.fault.WordsFault.TheVariants.{NoMemory}
 use Rattle.command_line.specs.declared.command.Command.{Command}
-use Rattle.command_line.specs.declared.command.Command.TheVariants.{Trial, Check, Execve, Init, Desk, Serve, Migrate, Compare}
+use Rattle.command_line.specs.declared.command.Command.TheVariants as command
 use Rattle.command_line.specs.declared.command.ExecveWords.{ExecveWords}
-use Rattle.desk.specs.Stands.{AreAnswered, HasHandled}
-use Rattle.streams.specs.Lines.{lines_of}
+use Rattle.desk_http.specs.Lines.{IsCut, IsWhole}
 use Rattle.office_desk.specs.Meant.{meaning_over}
+use Rattle.streams.specs.declared.counted.Counted.{Counted}
 use Rattle.profile_commands.specs.Comparing.{IsCompared}
 use Rattle.profile_commands.specs.Executions.{execution_of, IsExecuted}
 use Rattle.profile_commands.specs.Refusal.{IsChecked}
@@ -21,10 +28,15 @@ use Rattle.profile_commands.specs.declared.execve.Outcome.{Outcome}
 use Rattle.profile_commands.specs.declared.execve.Outcome.TheVariants.{Done, Denied}
 use Rattle.office_commands.specs.declared.compare.Source.{Source}
 use Rattle.office_commands.specs.declared.compare.Source.TheVariants.{Opened, Unopened}
+use Rattle.office_commands.specs.declared.fault.CommandFault.{CommandFault}
+use Rattle.office_commands.specs.declared.fault.CommandFault.TheVariants as fault
 use Rattle.office_commands.specs.Foundings.{founding_of_words, WasFounded}
+use Rattle.office_commands.specs.Lines.{HasAnswered}
 use Rattle.office_commands.specs.Migrations.{WasMigrated}
 use Rattle.office_commands.specs.Openings.{WasServed}
-use Rattle.office_commands.specs.Serving.{HasServedAll}
+use Rattle.office_commands.specs.Said.{IsRefusal, IsSaid}
+use Rattle.office_commands.specs.Serving.{HasServed}
+use Rattle.office_commands.specs.Trials.{WasTried}
 
 -- what is printed of an execve: the lines of the state after it, or EPERM
 abbrev pub outcome_text : Outcome → List ℕ
@@ -41,77 +53,125 @@ abbrev pub findings_status : List ℕ → ℕ
 findings_status [] = 0
 findings_status (byte ∷ text) = 1
 
+-- a file that was opened so, or that couldn't be
+abbrev pub IsSource : {F : Type 0} → (Result F Error → Type 0) → Source F → Type 0
+IsSource Opens (Opened file) = Opens (Ok file)
+IsSource Opens Unopened = (e : Error) × Opens (Err e)
+
 -- the bytes of a file, where it was opened
 abbrev pub source_bytes : {F : Type 0} → (F → Option (List ℕ)) → Source F → Option (List ℕ)
 source_bytes bytes_of (Opened file) = bytes_of file
 source_bytes bytes_of Unopened = None
 
--- What was printed after what the output had, of files whose bytes are these.
-module _ {F : Type 0} (bytes_of : F → Option (List ℕ)) (old new : Option (List ℕ)) where
-  -- `check`: the canonical text of the document in a file, and a line feed
-  pub record HasChecked : Type 0 where
+-- What an output has after what it had, of files of which this is known as they are opened at a
+-- path, and whose bytes are these.
+module _ {F O : Type 0} (Opens : List ℕ → Result F Error → Type 0)
+    (bytes_of : F → Option (List ℕ)) (contents : O → Option (List ℕ))
+    (output wrote : Counted O) where
+  -- `check`: the canonical text of the document in the file at a path, and a line feed
+  pub record HasChecked (path : List ℕ) : Type 0 where
     pub file : F
+    pub opened : Opens path (Ok file)
     pub text : String Global
     pub checked : IfSome (bytes_of file) (λ bytes. IsChecked bytes (Ok text))
-    pub printed : Appends old new (string_bytes text)
+    pub printed : IsWhole contents output wrote (string_bytes text)
 
-  -- `execve`: what comes of the execution that the words describe, for the document in a file
+  -- `execve`: what comes of the execution that the words describe, for the document in the file
+  -- that they name
   pub record HasExecuted (words : ExecveWords) (status : ℕ) : Type 0 where
     pub file : F
+    pub opened : Opens words.file.now (Ok file)
     pub execution : Execution
     pub outcome : Outcome
     pub described : execution_of words ≡ Ok execution
     pub executed : IfSome (bytes_of file) (λ bytes. IsExecuted execution bytes (Ok outcome))
-    pub printed : Appends old new (outcome_text outcome)
+    pub printed : IsWhole contents output wrote (outcome_text outcome)
     pub ended : status ≡ outcome_status outcome
 
-  -- `compare`: the findings between the documents in two files
-  pub record HasCompared (status : ℕ) : Type 0 where
+  -- `compare`: the findings between the documents in the files at two paths, BASE and NEW
+  pub record HasCompared (base_path new_path : List ℕ) (status : ℕ) : Type 0 where
     pub base : Source F
+    pub base_opened : IsSource (Opens base_path) base
     pub shown : Source F
+    pub shown_opened : IsSource (Opens new_path) shown
     pub text : String Global
-    pub compared : IfSome (source_bytes bytes_of base) (λ b. IfSome (source_bytes bytes_of shown) (λ s. IsCompared b s text))
-    pub printed : Appends old new (string_bytes text)
+    pub compared : IfSome (source_bytes bytes_of base)
+        (λ b. IfSome (source_bytes bytes_of shown) (λ s. IsCompared b s text))
+    pub printed : IsWhole contents output wrote (string_bytes text)
     pub ended : status ≡ findings_status (string_bytes text)
 
 -- the status of a command that was refused or failed
 abbrev pub failed_status : Command → ℕ
-failed_status (Compare base shown) = 2
+failed_status (command.Compare base shown) = 2
 failed_status _ = 1
 
--- Help and the version were printed whole, or the status says that they weren't.
-abbrev pub HasTold : WordsFault → (old new : Option (List ℕ)) → ℕ → Type 0
-HasTold (Help text) old new status = (Appends old new (string_bytes text) × (status ≡ 0)) ⊎ (status ≡ 1)
-HasTold (Version text) old new status = (Appends old new (string_bytes text) × (status ≡ 0)) ⊎ (status ≡ 1)
-HasTold (Refused text) old new status = (new ≡ old) × (status ≡ 2)
-HasTold NoMemory old new status = (new ≡ old) × (status ≡ 1)
-
--- A command that ended well with this status, over input that was to come and databases of which this is known as they are opened
--- and closed.
-module _ {S : Type 0} (g : Ghosts S) (Opened-at : List ℕ → Held S → Type 0) (Closed : Held S → Type 0) where
-  abbrev pub HasRun : {F : Type 0} → (F → Option (List ℕ)) → Command → (came old new : Option (List ℕ)) → ℕ → Type 0
-  HasRun bytes_of Trial came old new status = status ≡ 0
-  HasRun bytes_of (Check file) came old new status = HasChecked bytes_of old new × (status ≡ 0)
-  HasRun bytes_of (Execve words) came old new status = HasExecuted bytes_of old new words status
-  HasRun bytes_of (Init words) came old new status =
-      WasFounded g (Opened-at words.database.now) Closed (founding_of_words words) × Appends old new (codes "founded\n") × (status ≡ 0)
-  HasRun bytes_of (Desk database) came old new status =
-      WasServed g (Opened-at database.now) (λ before after. HasHandled (meaning_over g) before after
-      × IfSome came (λ bytes. AreAnswered (meaning_over g) before after old new (lines_of bytes))) Closed
+-- What a command did that ended well with this status, over input that was to come, databases of
+-- which this is known as they are opened and closed, a network of which this is known as its clock
+-- is read, as it binds and as it tells where it listens, and files of which this is known as they
+-- are opened.
+module _ {S N F O : Type 0} (g : Ghosts S) (Opened-at : List ℕ → Held S → Type 0)
+    (Closed : Held S → Type 0) (Shows : N → Result Duration Error → Type 0)
+    (Binds : N → SocketAddr → Result TcpListener Error → Type 0)
+    (Tells : N → TcpListener → Result SocketAddr Error → Type 0)
+    (Opens : List ℕ → Result F Error → Type 0)
+    (bytes_of : F → Option (List ℕ)) (contents : O → Option (List ℕ)) where
+  abbrev pub HasRun : Command → (came : Option (List ℕ)) (output wrote : Counted O) → ℕ → Type 0
+  HasRun command.Trial came output wrote status =
+      WasTried (HasAnswered contents (meaning_over over_memory) came output wrote)
       × (status ≡ 0)
-  HasRun bytes_of (Serve words) came old new status =
-      WasServed g (Opened-at words.database.now) (λ before after. HasServedAll (meaning_over g) before after words.requests) Closed
+  HasRun (command.Check file) came output wrote status =
+      HasChecked Opens bytes_of contents output wrote file.now × (status ≡ 0)
+  HasRun (command.Execve words) came output wrote status =
+      HasExecuted Opens bytes_of contents output wrote words status
+  HasRun (command.Init words) came output wrote status =
+      WasFounded g (Opened-at words.database.now) Closed (founding_of_words words)
+      × IsWhole contents output wrote (codes "founded\n") × (status ≡ 0)
+  HasRun (command.Desk database) came output wrote status =
+      WasServed g (Opened-at database.now)
+      (HasAnswered contents (meaning_over g) came output wrote) Closed
       × (status ≡ 0)
-  HasRun bytes_of (Migrate database) came old new status =
-      WasMigrated g (Opened-at database.now) Closed × Appends old new (codes "migrated\n") × (status ≡ 0)
-  HasRun bytes_of (Compare base shown) came old new status = HasCompared bytes_of old new status
+  HasRun (command.Serve words) came output wrote status =
+      WasServed g (Opened-at words.database.now) (λ old new. HasServed Shows Binds Tells contents
+      (meaning_over g) words old new output wrote) Closed
+      × (status ≡ 0)
+  HasRun (command.Migrate database) came output wrote status =
+      WasMigrated g (Opened-at database.now) Closed
+      × IsWhole contents output wrote (codes "migrated\n") × (status ≡ 0)
+  HasRun (command.Compare base new) came output wrote status =
+      HasCompared Opens bytes_of contents output wrote base.now new.now status
 
-  -- A command ended with this status: well, or it was refused or failed.
-  abbrev pub HasEnded : {F : Type 0} → (F → Option (List ℕ)) → Command → (came old new : Option (List ℕ)) → ℕ → Type 0
-  HasEnded bytes_of command came old new status = HasRun bytes_of command came old new status ⊎ (status ≡ failed_status command)
+-- what was said on standard error
+module _ {E : Type 0} (said_of : E → Option (List ℕ)) (errors said : Counted E) where
+  -- A command ended with this status: well, as this says, with nothing said; or it was refused or
+  -- failed, as that says, and why was said.
+  abbrev pub HasEnded : Command → (Run : ℕ → Type 0) → (Fails : CommandFault → Type 0) → ℕ → Type 0
+  HasEnded asked Run Fails status = (Run status × (said ≡ errors))
+      ⊎ ((why : CommandFault) × Fails why × (status ≡ failed_status asked)
+      × IsRefusal said_of errors said why)
 
-  -- Words were carried out: the command that they ask for, or why they ask for none was said.
-  abbrev pub HasRunWords : {F : Type 0} → (F → Option (List ℕ)) → List (String Global) → (came old new : Option (List ℕ)) → ℕ → Type 0
-  HasRunWords bytes_of words came old new status =
-      ((command : Command) × AskFor words command × HasEnded bytes_of command came old new status)
-      ⊎ ((fault : WordsFault) × AskForNone words fault × HasTold fault old new status)
+  module _ {O : Type 0} (contents : O → Option (List ℕ)) (output wrote : Counted O) where
+    -- a text was printed, with nothing said; or it couldn't be printed whole, which was said
+    abbrev pub IsPrinted : List ℕ → ℕ → Type 0
+    IsPrinted text status =
+        (IsWhole contents output wrote text × (said ≡ errors) × (status ≡ 0))
+        ⊎ (IsCut contents output wrote text × IsRefusal said_of errors said fault.Write
+        × (status ≡ 1))
+
+    -- Why words ask for no command was told: help and the version are printed, and a refusal is
+    -- said.
+    abbrev pub HasTold : WordsFault → ℕ → Type 0
+    HasTold (Help text) status = IsPrinted (string_bytes text) status
+    HasTold (Version text) status = IsPrinted (string_bytes text) status
+    HasTold (Refused text) status =
+        (wrote ≡ output) × IsSaid said_of errors said (string_bytes text) × (status ≡ 2)
+    HasTold NoMemory status =
+        (wrote ≡ output) × IsRefusal said_of errors said fault.NoMemory × (status ≡ 1)
+
+    -- Words were carried out: the command that they ask for, with this done where it ended well and
+    -- that where it failed, or why they ask for none was told.
+    abbrev pub HasRunWords : (Run : Command → ℕ → Type 0)
+        → (Fails : Command → CommandFault → Type 0)
+        → List (String Global) → ℕ → Type 0
+    HasRunWords Run Fails words status =
+        ((asked : Command) × AskFor words asked × HasEnded asked (Run asked) (Fails asked) status)
+        ⊎ ((why : WordsFault) × AskForNone words why × HasTold why status)

@@ -1,8 +1,10 @@
 -- The founding that words describe, or why they describe none.
-use Rattle.std.specs.Prelude.{◌≡◌, ℕ, ◌&&◌, List, [], ◌∷◌, map, Option, Some, None, Result, Ok, Err}
+use Rattle.std.specs.Prelude.{◌≡◌, ◌⊎◌, ℕ, ◌&&◌, List, [], ◌∷◌, map, Option, Some, None, Result, Ok}
+use Rattle.std.specs.Prelude.{Err}
 use Rattle.std.specs.Prelude.{if◌then◌else◌}
 use Rattle.sqlite.specs.Held.{Held, state}
 use Rattle.sqlite.specs.Store.{Ghosts}
+use Rattle.sqlite.specs.declared.error.Error.{Error}
 use Rattle.sqlite.specs.State.{HasCleanDisk}
 use Rattle.command_line.specs.declared.command.InitWords.{InitWords}
 use Rattle.office_store.specs.Schema.{no_schema}
@@ -16,9 +18,8 @@ use Rattle.review_policy.specs.Words.{is_word}
 use Rattle.review_policy.specs.declared.word.WordFault.{WordFault}
 use Rattle.review_policy.specs.declared.word.WordFault.TheVariants as words
 use Rattle.office_commands.specs.declared.founding_fault.FoundingWordsFault.{FoundingWordsFault}
-use Rattle.office_commands.specs.declared.founding_fault.FoundingWordsFault.TheVariants.{BadWord}
-use Rattle.office_commands.specs.declared.founding_fault.FoundingWordsFault.TheVariants.{UnknownCapability}
-use Rattle.office_commands.specs.declared.founding_fault.FoundingWordsFault.TheVariants.{NoMemory}
+use Rattle.office_commands.specs.declared.founding_fault.FoundingWordsFault.TheVariants as refusal
+use Rattle.office_commands.specs.Openings.{IsEnded}
 use Rattle.office_commands.specs.declared.founding.Founding.{Founding}
 use Rattle.office_commands.specs.declared.fault.CommandFault.{CommandFault}
 use Rattle.office_commands.specs.declared.fault.CommandFault.TheVariants as fault
@@ -29,8 +30,8 @@ Described = Result Founding FoundingWordsFault
 
 -- the founding by these two words, where DIGEST is one and each CAP is a capability's name
 abbrev pub founding_by : List ℕ → List ℕ → Option (List ℕ) → Option ℕ → Described
-founding_by name team None listed = Err BadWord
-founding_by name team (Some digest) None = Err UnknownCapability
+founding_by name team None listed = Err refusal.BadWord
+founding_by name team (Some digest) None = Err refusal.UnknownCapability
 founding_by name team (Some digest) (Some listed) =
     Ok (record { name = name; team = team; digest = digest; listed = listed })
 
@@ -40,19 +41,19 @@ abbrev pub founding_of : (name team digest : List ℕ) → List (List ℕ) → D
 founding_of name team digest capabilities =
     if is_word name && is_word team
     then founding_by name team (digest_from_hex digest) (set_named capabilities)
-    else Err BadWord
+    else Err refusal.BadWord
 
 -- what is answered is what the words describe; memory may have been refused in place of it
 abbrev pub Gives : Described → Described → Type 0
 Gives (Ok founding) described = described ≡ Ok founding
-Gives (Err BadWord) described = described ≡ Err BadWord
-Gives (Err UnknownCapability) described = described ≡ Err UnknownCapability
-Gives (Err NoMemory) described = Unit {0}
+Gives (Err refusal.BadWord) described = described ≡ Err refusal.BadWord
+Gives (Err refusal.UnknownCapability) described = described ≡ Err refusal.UnknownCapability
+Gives (Err refusal.NoMemory) described = Unit {0}
 
 -- what is reported where NAME or TEAM gave no word
 abbrev pub IsFaultOfWord : WordFault → FoundingWordsFault → Type 0
-IsFaultOfWord words.NotAWord told = told ≡ BadWord
-IsFaultOfWord words.NoMemory told = told ≡ NoMemory
+IsFaultOfWord words.NotAWord told = told ≡ refusal.BadWord
+IsFaultOfWord words.NoMemory told = told ≡ refusal.NoMemory
 
 -- the founding that the words of `init` describe
 abbrev pub founding_of_words : InitWords → Described
@@ -96,9 +97,21 @@ IsDescribed (Ok founding) = Unit {0}
 IsDescribed (Err fault) = ⊥
 
 -- Why nothing is founded: by the words where they describe no founding, and by the store only where
--- they describe one. Memory may have been refused in place of either.
-abbrev pub IsUnfoundedAs : Described → CommandFault → Type 0
-IsUnfoundedAs described (fault.FoundingWords why) = Gives (Err why) described
-IsUnfoundedAs described (fault.Founding why) = IsDescribed described
-IsUnfoundedAs described (fault.Store why) = IsDescribed described
-IsUnfoundedAs described _ = ⊥
+-- they describe one, whose database was then closed. Memory may have been refused in place of
+-- either.
+abbrev pub IsUnfoundedAs : {S : Type 0} → (Ended : Held S → Result (Unit {0}) Error → Type 0)
+    → Described → CommandFault → Type 0
+IsUnfoundedAs Ended described (fault.FoundingWords why) = Gives (Err why) described
+IsUnfoundedAs {S} Ended described (fault.Founding why) =
+    IsDescribed described × ((conn : Held S) × IsEnded Ended conn)
+IsUnfoundedAs Ended described (fault.Store why) = IsDescribed described
+IsUnfoundedAs Ended described _ = ⊥
+
+-- the same, or it was founded in a database that was opened, of which this is known, and couldn't
+-- be closed
+abbrev pub IsUnfounded : {S : Type 0} → Ghosts S → (Opened : Held S → Type 0)
+    → (Ended : Held S → Result (Unit {0}) Error → Type 0) → Described → CommandFault → Type 0
+IsUnfounded {S} g Opened Ended described why =
+    IsUnfoundedAs Ended described why
+    ⊎ ((why ≡ fault.Close) × (office : Held S) × IsFoundedIn g Opened described office
+    × IsEnded Ended office)

@@ -1,7 +1,11 @@
 pub mod Commands
+pub mod Failing
+pub mod FaultTexts
+pub mod Said
 pub mod Openings
 pub mod Serving
 pub mod Foundings
+pub mod Trials
 pub mod Lines
 pub mod Migrations
 pub mod Hosts

@@ -17,11 +17,16 @@ abbrev pub fault_of_opening : Error → StoreFault
 fault_of_opening (error.SqliteFailure code.NotADatabase) = NotAnOffice
 fault_of_opening e = fault_of_error e
 
--- what is at a path can't be opened, or is no office of this schema
-abbrev pub IsOfOpening : CommandFault → Type 0
-IsOfOpening (fault.Store why) = Unit {0}
-IsOfOpening (fault.Opening why) = Unit {0}
-IsOfOpening _ = ⊥
+-- a database was closed, and of what came of that this is known
+abbrev pub IsEnded : {S : Type 0} → (Held S → Result (Unit {0}) Error → Type 0) → Held S → Type 0
+IsEnded Ended conn = (told : Result (Unit {0}) Error) × Ended conn told
+
+-- what is at a path can't be opened; or it is no office of this schema, and was closed
+abbrev pub IsOfOpening : {S : Type 0} → (Held S → Result (Unit {0}) Error → Type 0) → CommandFault
+    → Type 0
+IsOfOpening Ended (fault.Store why) = Unit {0}
+IsOfOpening {S} Ended (fault.Opening why) = (conn : Held S) × IsEnded Ended conn
+IsOfOpening Ended _ = ⊥
 
 -- a database was opened, of which this is known, and then its limit on steps was taken away
 abbrev pub IsUnlimited : {S : Type 0} → (Held S → Type 0) → Held S → Type 0
@@ -44,12 +49,17 @@ module _ {S : Type 0} (g : Ghosts S) (Opened : Held S → Type 0) where
     pub done : Done old new
     pub closed : Closed new
 
-  -- the same of a command that serves an office; where it failed, there was no office, or less was
-  -- done
-  abbrev pub IsServed : (Done Begun : (old new : Held S) → Type 0) (Closed : Held S → Type 0)
+  -- The same of a command that serves an office. Where it failed, there was no office; or it
+  -- stopped for this, and the office was closed, whatever came of that; or all was done and the
+  -- office couldn't be closed.
+  abbrev pub IsServed : (Done : (old new : Held S) → Type 0)
+      → (Stops : CommandFault → (old new : Held S) → Type 0) (Closed : Held S → Type 0)
+      → (Ended : Held S → Result (Unit {0}) Error → Type 0)
       → Result (Unit {0}) CommandFault → Type 0
-  IsServed Done Begun Closed (Ok done) = WasServed Done Closed
-  IsServed Done Begun Closed (Err why) = IsOfOpening why ⊎ WasServed Begun (λ _. Unit {0})
+  IsServed Done Stops Closed Ended (Ok done) = WasServed Done Closed
+  IsServed Done Stops Closed Ended (Err why) =
+      IsOfOpening Ended why ⊎ WasServed (Stops why) (IsEnded Ended)
+      ⊎ ((why ≡ fault.Close) × WasServed Done (IsEnded Ended))
 
 -- of serving and then closing the first fault is reported
 abbrev pub IsFirstOf : (served closed result : Result (Unit {0}) CommandFault) → Type 0

@@ -1,16 +1,16 @@
 //! `compare`: what one document permits more than another.
 
-ghost use Rattle.std.specs.Prelude.{IfOk, IfSome};
+ghost use Rattle.std.specs.Prelude.{IfErr, IfOk, IfSome};
 ghost use Rattle.profile_commands.specs.Comparing.{IsCompared};
 ghost use Rattle.office_commands.specs.declared.compare.Source.{Source};
-ghost use Rattle.office_commands.specs.Commands.{source_bytes};
+ghost use Rattle.office_commands.specs.Commands.{IsSource, source_bytes};
+ghost use Rattle.office_commands.specs.Failing.{IsUncompared};
 
-use crate::fault::CommandFault;
-use profile_commands::compare_documents;
+use crate::files::PassFiles;
+use profile_commands::{ComparedFault, compare_documents};
 use std::alloc::Global;
-use std::fs::Files;
+use std::io;
 use std::io::{ErrorKind, Read};
-use std::{fs, io};
 use streams::Counted;
 
 // A file, or what stands for one that can't be opened: a reader that fails.
@@ -34,26 +34,30 @@ impl<T: Read + Drop> Read for Source<T> {
 }
 
 // The file at this path, for reading.
-fn reader_at<F: Files>(files: &F, path: &str) -> Source<F::File> {
-    match fs::open(files, path) {
+fn reader_at<F: PassFiles>(files: &F, path: &str) -> Source<F::File>
+    ensures { IsSource (F.opens files.now path.now) result }
+{
+    match files.open_at(path) {
         Ok(file) => Source::Opened(file),
         Err(_) => Source::Unopened,
     }
 }
 
 /// What the document in the file `new` permits more than that in `base`, a line for each finding.
-pub(crate) fn compare_files<F: Files>(
+pub(crate) fn compare_files<F: PassFiles>(
     files: &F,
     alloc: Global,
     base: &str,
     new: &str,
-) -> Result<String, CommandFault>
-    ensures { IfOk result (λ text. (old shown : Source F.File)
+) -> Result<String, ComparedFault>
+    ensures compared { IfOk result (λ text. (old shown : Source F.File)
+        × IsSource (F.opens files.now base.now) old × IsSource (F.opens files.now new.now) shown
         × IfSome (source_bytes F.File.remaining old) (λ b.
         IfSome (source_bytes F.File.remaining shown) (λ s. IsCompared b s text))) }
+    ensures failed { IfErr result (λ why. IsUncompared (F.opens files.now) F.File.remaining
+        base.now new.now why) }
 {
     let mut base = Counted::new(reader_at(files, base));
     let mut new = Counted::new(reader_at(files, new));
-    let text = compare_documents(alloc, &mut base, &mut new)?;
-    Ok(text)
+    compare_documents(alloc, &mut base, &mut new)
 }

@@ -1,55 +1,139 @@
 //! Why a command is refused or failed.
 
+ghost use Rattle.std.specs.Prelude.{◌≡◌};
+ghost use Rattle.office_commands.specs.FaultTexts.{execution_fault_word, unread_word};
+
 use crate::founding_fault::FoundingWordsFault;
 use desk::DeskFault;
 use office_store::{FoundingFault, MigrationFault, OpeningFault};
 use office_tables::StoreFault;
 use profile_commands::{ComparedFault, ExecutionFault, FileFault};
-use thiserror::Error;
+use std::fmt;
+use streams::Unread;
 
 /// Why a command is refused or failed, with the words that the program says on standard error.
-#[derive(Debug, Drop, Error)]
+#[derive(Debug, Drop)]
 pub enum CommandFault {
     /// The words of `execve` describe no execution.
-    #[error("{0}")]
-    Execution(#[from] ExecutionFault),
+    Execution(ExecutionFault),
     /// A file can't be opened.
-    #[error("read")]
     Open,
     /// The document in a file gave nothing.
-    #[error("{0}")]
-    File(#[from] FileFault),
+    File(FileFault),
     /// Two documents weren't compared.
-    #[error("{0}")]
-    Compared(#[from] ComparedFault),
+    Compared(ComparedFault),
     /// The words of `init` describe no founding.
-    #[error("{0}")]
-    FoundingWords(#[from] FoundingWordsFault),
+    FoundingWords(FoundingWordsFault),
     /// No office was founded.
-    #[error("{0}")]
-    Founding(#[from] FoundingFault),
+    Founding(FoundingFault),
     /// An office wasn't migrated.
-    #[error("{0}")]
-    Migration(#[from] MigrationFault),
+    Migration(MigrationFault),
     /// What stands at a path can't be opened.
-    #[error("{0}")]
-    Store(#[from] StoreFault),
+    Store(StoreFault),
     /// What was opened at a path is no office of this schema.
-    #[error("{0}")]
-    Opening(#[from] OpeningFault),
+    Opening(OpeningFault),
     /// An office can't be closed.
-    #[error("disk")]
     Close,
     /// The desk stopped.
-    #[error("{0}")]
-    Desk(#[from] DeskFault),
+    Desk(DeskFault),
     /// Nothing listens at the port.
-    #[error("bind")]
     Bind,
     /// Standard output can't be written.
-    #[error("write")]
     Write,
     /// Memory was refused. No contract can say when: it may stand in place of any answer.
-    #[error("memory")]
     NoMemory,
+}
+
+// The word of why words describe no execution.
+fn execution_word(fault: ExecutionFault) -> &'static str
+    ensures { result.now ≡ execution_fault_word fault }
+{
+    match fault {
+        ExecutionFault::RootTakesNoFile => "root-takes-no-file",
+        ExecutionFault::UnknownCapability => "unknown-capability",
+    }
+}
+
+// The word of why a file wasn't read.
+fn unread_word(unread: Unread) -> &'static str
+    ensures { result.now ≡ unread_word unread }
+{
+    match unread {
+        Unread::Failed => "read",
+        Unread::TooManyReads => "too-many-reads",
+        Unread::NoMemory => "memory",
+    }
+}
+
+impl fmt::Display for CommandFault {
+    ghost use Rattle.std.specs.Prelude.{Some};
+    ghost use Rattle.office_commands.specs.FaultTexts.{command_fault_text};
+
+    ghost output = { λ fault. Some (command_fault_text fault) };
+
+    fn fmt<W: fmt::Write>(&self, f: &mut fmt::Formatter<W>) -> fmt::Result {
+        match self {
+            CommandFault::Execution(fault) => f.write_str(execution_word(*fault)),
+            CommandFault::File(FileFault::Unread(why)) => f.write_str(unread_word(*why)),
+            CommandFault::File(FileFault::Document(why)) => write!(f, "{why}"),
+            CommandFault::Compared(ComparedFault::Base(FileFault::Unread(why))) => {
+                write!(f, "base: {}", unread_word(*why))
+            }
+            CommandFault::Compared(ComparedFault::Base(FileFault::Document(why))) => {
+                write!(f, "base: {why}")
+            }
+            CommandFault::Compared(ComparedFault::New(FileFault::Unread(why))) => {
+                write!(f, "new: {}", unread_word(*why))
+            }
+            CommandFault::Compared(ComparedFault::New(FileFault::Document(why))) => {
+                write!(f, "new: {why}")
+            }
+            CommandFault::FoundingWords(fault) => write!(f, "{fault}"),
+            CommandFault::Founding(fault) => write!(f, "{fault}"),
+            CommandFault::Migration(fault) => write!(f, "{fault}"),
+            CommandFault::Store(fault) => write!(f, "{fault}"),
+            CommandFault::Opening(fault) => write!(f, "{fault}"),
+            CommandFault::Desk(fault) => write!(f, "{fault}"),
+            CommandFault::Open => f.write_str("read"),
+            CommandFault::Close => f.write_str("disk"),
+            CommandFault::Bind => f.write_str("bind"),
+            CommandFault::Write => f.write_str("write"),
+            CommandFault::NoMemory | CommandFault::Compared(ComparedFault::NoMemory) => {
+                f.write_str("memory")
+            }
+        }
+    }
+}
+
+impl From<ExecutionFault> for CommandFault {
+    ghost use Rattle.std.specs.Prelude.{◌≡◌};
+    ghost use Rattle.office_commands.specs.declared.fault.CommandFault.TheVariants.{Execution};
+
+    ghost from_gives = { λ why fault. fault ≡ Execution why };
+
+    fn from(why: ExecutionFault) -> CommandFault {
+        CommandFault::Execution(why)
+    }
+}
+
+impl From<FileFault> for CommandFault {
+    ghost use Rattle.std.specs.Prelude.{◌≡◌};
+    ghost use Rattle.office_commands.specs.declared.fault.CommandFault.TheVariants.{File};
+
+    ghost from_gives = { λ why fault. fault ≡ File why };
+
+    fn from(why: FileFault) -> CommandFault {
+        CommandFault::File(why)
+    }
+}
+
+impl From<ComparedFault> for CommandFault {
+    ghost use Rattle.std.specs.Prelude.{◌≡◌};
+    ghost use Rattle.office_commands.specs.declared.fault.CommandFault.TheVariants.{Compared};
+
+    ghost from_gives = { λ why fault. fault ≡ Compared why };
+
+    fn from(why: ComparedFault) -> CommandFault {
+        CommandFault::Compared(why)
+    }
 }

@@ -34,8 +34,9 @@ impl From<WordFault> for FoundingWordsFault {
     }
 }
 
-/// The founding that the words NAME, TEAM, DIGEST and the CAPs describe: NAME and TEAM are words, DIGEST is 64 lower-case
-/// hexadecimal digits, and each CAP is a capability's name, as `CAP_CHOWN`; one that stands twice counts once.
+/// The founding that the words NAME, TEAM, DIGEST and the CAPs describe: NAME and TEAM are words,
+/// DIGEST is 64 lower-case hexadecimal digits, and each CAP is a capability's name, as `CAP_CHOWN`;
+/// one that stands twice counts once.
 ///
 /// # Errors
 ///

@@ -1,17 +1,32 @@
 //! Why words describe no founding.
 
-use thiserror::Error;
+use std::error::Error;
+use std::fmt;
 
 /// Why words describe no founding, with the word that the program says on standard error.
-#[derive(Clone, Copy, Debug, Drop, PartialEq, Eq, Error)]
+#[derive(Clone, Copy, Debug, Drop, PartialEq, Eq)]
 pub enum FoundingWordsFault {
     /// NAME or TEAM is no word, or DIGEST isn't 64 lower-case hexadecimal digits.
-    #[error("bad-word")]
     BadWord,
     /// A CAP is no name of a capability.
-    #[error("unknown-capability")]
     UnknownCapability,
     /// Memory was refused. No contract can say when: it may stand in place of any answer.
-    #[error("memory")]
     NoMemory,
 }
+
+impl fmt::Display for FoundingWordsFault {
+    ghost use Rattle.std.specs.Prelude.{Some};
+    ghost use Rattle.office_commands.specs.FaultTexts.{founding_words_fault_word};
+
+    ghost output = { λ fault. Some (founding_words_fault_word fault) };
+
+    fn fmt<W: fmt::Write>(&self, f: &mut fmt::Formatter<W>) -> fmt::Result {
+        f.write_str(match self {
+            FoundingWordsFault::BadWord => "bad-word",
+            FoundingWordsFault::UnknownCapability => "unknown-capability",
+            FoundingWordsFault::NoMemory => "memory",
+        })
+    }
+}
+
+impl Error for FoundingWordsFault {}

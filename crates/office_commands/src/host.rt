@@ -15,7 +15,6 @@ fn run_from<T: Start + Copy>(
     output: &mut dyn Write,
     errors: &mut dyn Write,
 ) -> u8 {
-    let mut errors = errors;
     let databases = HostFiles::new(rt, start);
     run_words(
         rt,
@@ -25,7 +24,7 @@ fn run_from<T: Start + Copy>(
         words,
         &mut Counted::new(input),
         &mut Counted::new(output),
-        &mut errors,
+        &mut Counted::new(errors),
     )
 }
 

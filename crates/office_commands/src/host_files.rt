@@ -19,8 +19,8 @@ fn names_file(path: &str) -> bool {
     path != ":memory:" && !path.starts_with("file:")
 }
 
-// Makes an empty file where nothing is. The mode is given to the call that makes it, so that nobody else can ever have it open,
-// and set again since the umask took from it.
+// Makes an empty file where nothing is. The mode is given to the call that makes it, so that nobody
+// else can ever have it open, and set again since the umask took from it.
 fn make_file(rt: &HostRuntime, path: &str) -> io::Result<()> {
     let file = OpenOptions::new()
         .write(true)
@@ -45,8 +45,8 @@ fn have_file(rt: &HostRuntime, path: &str) -> Result<(), Error> {
     }
 }
 
-/// The databases in the files of the host. `T` stands for what the files hold as they are opened: what is proved of a
-/// command over them is proved for all contents.
+/// The databases in the files of the host. `T` stands for what the files hold as they are opened:
+/// what is proved of a command over them is proved for all contents.
 #[derive(Drop)]
 pub struct HostFiles<'r, T: Start + Copy> {
     rt: &'r HostRuntime,
@@ -86,7 +86,8 @@ impl<T: Start + Copy> Databases for HostFiles<'_, T> {
     }
 }
 
-/// Files whose contents the program doesn't know, and of which a torn write leaves each byte old or new.
+/// Files whose contents the program doesn't know, and of which a torn write leaves each byte old or
+/// new.
 #[derive(Clone, Copy)]
 pub struct Unread;
 

@@ -6,7 +6,8 @@ ghost use Rattle.sqlite.specs.State.{HasCleanDisk};
 ghost use Rattle.office_store.specs.Founding.{first_user, FailsToFound};
 ghost use Rattle.office_store.specs.Schema.{no_schema};
 ghost use Rattle.office_store.specs.Shown.{IsIdle};
-ghost use Rattle.office_commands.specs.Foundings.{founding_of_words, IsFoundedBy, IsFoundedIn, IsUnfoundedAs, WasFounded};
+ghost use Rattle.office_commands.specs.Foundings.{founding_of_words, IsFoundedBy, IsFoundedIn};
+ghost use Rattle.office_commands.specs.Foundings.{IsUnfounded, IsUnfoundedAs, WasFounded};
 
 use crate::databases::Databases;
 use crate::fault::CommandFault;
@@ -18,8 +19,8 @@ use office_store::FoundingFault;
 use sqlite::{Alter, Connection};
 use std::alloc::Global;
 
-// Founds the office of a founding in a store.
-fn found_in<S: Alter>(
+/// Founds the office of a founding in a store.
+pub(crate) fn found_in<S: Alter>(
     conn: Connection<S>,
     founding: &Founding,
 ) -> Result<Office<S>, (FoundingFault, Connection<S>)>
@@ -27,7 +28,9 @@ fn found_in<S: Alter>(
     ensures founded { IfOk result (IsFoundedBy S.Store founding.now) }
     ensures empty { OnOk result ((state S.Store conn).now.schema ≡ no_schema) }
     ensures cause { IfErr result (λ refusal. HasCleanDisk (state S.Store refusal.1)
-        → FailsToFound S.Store (first_user founding.now.name founding.now.team founding.now.digest) founding.now.listed conn refusal.0) }
+        → FailsToFound S.Store
+        (first_user founding.now.name founding.now.team founding.now.digest)
+        founding.now.listed conn refusal.0) }
 {
     Office::found(
         conn,
@@ -46,8 +49,9 @@ fn founded_at<S: Alter + Drop, D: Databases<Database = Connection<S>>>(
     alloc: Global,
     words: &InitWords<'_>,
 ) -> Result<Office<S>, CommandFault>
-    ensures founded { IfOk result (IsFoundedIn S.Store (D.opened words.now.database.now) (founding_of_words words.now)) }
-    ensures refused { IfErr result (IsUnfoundedAs (founding_of_words words.now)) }
+    ensures founded { IfOk result (IsFoundedIn S.Store (D.opened words.now.database.now)
+        (founding_of_words words.now)) }
+    ensures refused { IfErr result (IsUnfoundedAs D.ended (founding_of_words words.now)) }
 {
     let founding = match founding_of(
         alloc,
@@ -79,7 +83,10 @@ pub(crate) fn found_at<S: Alter + Drop, D: Databases<Database = Connection<S>>>(
     alloc: Global,
     words: &InitWords<'_>,
 ) -> Result<(), CommandFault>
-    ensures { OnOk result (WasFounded S.Store (D.opened words.now.database.now) D.closed (founding_of_words words.now)) }
+    ensures founded { OnOk result (WasFounded S.Store (D.opened words.now.database.now) D.closed
+        (founding_of_words words.now)) }
+    ensures failed { IfErr result (IsUnfounded S.Store (D.opened words.now.database.now) D.ended
+        (founding_of_words words.now)) }
 {
     let office = founded_at(databases, alloc, words)?;
     close(databases, office)

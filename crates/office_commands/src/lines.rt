@@ -1,9 +1,8 @@
 //! The desk of an office over the streams of the program.
 
-ghost use Rattle.std.specs.Prelude.{◌^◌, ◌≤◌, IfErr, IfSome, OnOk};
-ghost use Rattle.desk.specs.Stands.{AreAnswered, HasHandled, StandsAfter};
-ghost use Rattle.streams.specs.Lines.{lines_of};
-ghost use Rattle.office_commands.specs.Lines.{IsOfDesk};
+ghost use Rattle.std.specs.Prelude.{◌^◌, ◌≤◌, IfErr, OnOk};
+ghost use Rattle.desk.specs.Stands.{HasHandled};
+ghost use Rattle.office_commands.specs.Lines.{HasAnswered, HasStopped};
 
 use crate::fault::CommandFault;
 use desk::desk;
@@ -23,12 +22,11 @@ pub(crate) fn answer_lines<H: Handler, R: Read, W: Write>(
     requires read_faults { input.old.faults ≤ 2 ^ 62 }
     requires write_faults { output.old.faults ≤ 2 ^ 62 }
     ensures handled { HasHandled H.meaning office.old office.new }
-    ensures answered { OnOk result (IfSome (R.remaining input.old.inner) (λ bytes.
-        AreAnswered H.meaning office.old office.new
-        (W.contents output.old.inner) (W.contents output.new.inner) (lines_of bytes))) }
-    ensures stopped { IfErr result (IsOfDesk (StandsAfter H.meaning office.old office.new
-        (R.remaining input.old.inner) (R.remaining input.new.inner)
-        (W.contents output.old.inner) (W.contents output.new.inner))) }
+    ensures answered { OnOk result (HasAnswered W.contents H.meaning
+        (R.remaining input.old.inner) output.old output.new office.old office.new) }
+    ensures stopped { IfErr result (λ why. HasStopped W.contents H.meaning
+        (R.remaining input.old.inner) (R.remaining input.new.inner) output.old output.new why
+        office.old office.new) }
 {
     match desk(office, alloc, input, output) {
         Ok(()) => Ok(()),

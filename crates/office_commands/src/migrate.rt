@@ -1,7 +1,7 @@
 //! `migrate`: an office of schema 1 in a file is made one of schema 2.
 
-ghost use Rattle.std.specs.Prelude.{OnOk};
-ghost use Rattle.office_commands.specs.Migrations.{WasMigrated};
+ghost use Rattle.std.specs.Prelude.{IfErr, OnOk};
+ghost use Rattle.office_commands.specs.Migrations.{IsUnmigrated, WasMigrated};
 
 use crate::databases::Databases;
 use crate::fault::CommandFault;
@@ -10,7 +10,8 @@ use office_store::migrate;
 use sqlite::{Alter, Connection};
 use std::fs::Files;
 
-/// Makes the office of schema 1 at a path one of schema 2, and closes it, also where that was refused.
+/// Makes the office of schema 1 at a path one of schema 2, and closes it, also where that was
+/// refused.
 ///
 /// # Errors
 ///
@@ -20,7 +21,8 @@ pub(crate) fn migrate_at<F: Files, S: Alter + Drop, D: Databases<Database = Conn
     databases: &D,
     path: &str,
 ) -> Result<(), CommandFault>
-    ensures { OnOk result (WasMigrated S.Store (D.opened path.now) D.closed) }
+    ensures migrated { OnOk result (WasMigrated S.Store (D.opened path.now) D.closed) }
+    ensures failed { IfErr result (IsUnmigrated S.Store (D.opened path.now) D.ended) }
 {
     let mut conn = match database_at(files, databases, path) {
         Ok(conn) => conn,

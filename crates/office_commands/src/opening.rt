@@ -3,7 +3,8 @@
 ghost use Rattle.std.specs.Prelude.{◌≡◌, IfErr, IfOk, OnOk};
 ghost use Rattle.sqlite.specs.Held.{state};
 ghost use Rattle.office_store.specs.Shown.{IsIdle};
-ghost use Rattle.office_commands.specs.Openings.{fault_of_opening, IsFirstOf, IsOfOpening, IsOpenedOffice, IsUnlimited};
+ghost use Rattle.office_commands.specs.Openings.{fault_of_opening, IsEnded, IsFirstOf, IsOfOpening};
+ghost use Rattle.office_commands.specs.Openings.{IsOpenedOffice, IsUnlimited};
 
 use crate::databases::Databases;
 use crate::fault::CommandFault;
@@ -38,7 +39,8 @@ fn is_there<F: Files>(files: &F, path: &str) -> Result<bool, StoreFault>
 ///
 /// # Errors
 ///
-/// `NotAnOffice` where what is there is no database; `Disk` also where another connection has it open.
+/// `NotAnOffice` where what is there is no database; `Disk` also where another connection has it
+/// open.
 pub(crate) fn open<S: Alter + Drop, D: Databases<Database = Connection<S>>>(
     databases: &D,
     path: &str,
@@ -91,7 +93,7 @@ pub(crate) fn office_at<F: Files, S: Alter + Drop, D: Databases<Database = Conne
     path: &str,
 ) -> Result<Office<S>, CommandFault>
     ensures opened { IfOk result (IsOpenedOffice S.Store (D.opened path.now)) }
-    ensures fault { IfErr result IsOfOpening }
+    ensures fault { IfErr result (IsOfOpening D.ended) }
 {
     let conn = match database_at(files, databases, path) {
         Ok(conn) => conn,
@@ -117,6 +119,7 @@ pub(crate) fn close<S: Alter, D: Databases<Database = Connection<S>>>(
     office: Office<S>,
 ) -> Result<(), CommandFault>
     ensures closed { OnOk result (D.closed office) }
+    ensures ended { IsEnded D.ended office }
     ensures fault { IfErr result (λ fault. fault ≡ CommandFault.Close) }
 {
     match databases.close(office.into_connection()) {

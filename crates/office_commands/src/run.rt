@@ -1,71 +1,58 @@
 //! The commands of the program.
 
-ghost use Rattle.std.specs.Prelude.{◌≡◌, ◌^◌, ◌≤◌, IfErr, IfOk, MatchResult, OnOk, string_bytes};
-ghost use Rattle.std.specs.Io.KnownBytes.{Appends};
-ghost use Rattle.streams.specs.Counts.{one_more};
-ghost use Rattle.office_commands.specs.Commands.{findings_status, HasChecked, HasCompared, HasExecuted, HasRun, HasRunWords, HasTold, failed_status};
+ghost use Rattle.std.specs.Prelude.{◌≡◌, ◌^◌, ◌≤◌, IfErr, IfOk, MatchResult, string_bytes};
+ghost use Rattle.std.specs.declared.io.Error.{Error};
+ghost use Rattle.office_commands.specs.Commands.{failed_status, findings_status, HasChecked};
+ghost use Rattle.office_commands.specs.Commands.{HasCompared, HasExecuted, HasRun, HasRunWords};
+ghost use Rattle.office_commands.specs.Commands.{HasTold, IsPrinted};
+ghost use Rattle.office_commands.specs.Failing.{FailsToCheck, FailsToCompare, FailsToExecute};
+ghost use Rattle.office_commands.specs.Failing.{HasFailed};
+ghost use Rattle.office_commands.specs.Said.{IsRefusal};
 
 use crate::compare::compare_files;
 use crate::databases::Databases;
 use crate::fault::CommandFault;
+use crate::files::PassFiles;
 use crate::init::found_at;
 use crate::migrate::migrate_at;
-use crate::serve::{Network, serve_http};
+use crate::network::Network;
+use crate::serve::serve_http;
 use crate::stored::serve_stored;
 use crate::trial::serve_trial;
+use crate::written::{print, refuse, say};
 use command_line::{Command, ExecveWords, WordsFault, read_words};
 use profile_commands::{Outcome, check_document, execution_of, execve_document};
 use sqlite::{Alter, Connection};
 use std::alloc::Global;
-use std::fs;
-use std::fs::Files;
 use std::io::{Read, Write};
-use streams::{Counted, write_whole};
+use streams::Counted;
 
 // The file at this path, for reading.
-fn open<F: Files>(files: &F, path: &str) -> Result<Counted<F::File>, CommandFault>
+fn open<F: PassFiles>(files: &F, path: &str) -> Result<Counted<F::File>, CommandFault>
+    ensures opened { IfOk result (λ reader. F.opens files.now path.now (Ok reader.inner)) }
     ensures calls { IfOk result (λ reader. reader.calls ≡ 0) }
     ensures faults { IfOk result (λ reader. reader.faults ≡ 0) }
-    ensures fault { IfErr result (λ fault. fault ≡ CommandFault.Open) }
+    ensures fault { IfErr result (λ fault. (fault ≡ CommandFault.Open)
+        × ((e : Error) × F.opens files.now path.now (Err e))) }
 {
-    match fs::open(files, path) {
+    match files.open_at(path) {
         Ok(file) => Ok(Counted::new(file)),
         Err(_) => Err(CommandFault::Open),
     }
 }
 
-// Writes all of a text that a command prints.
-fn print<W: Write>(output: &mut Counted<W>, text: &str) -> Result<(), CommandFault>
-    ensures whole { OnOk result (Appends (W.contents output.old.inner) (W.contents output.new.inner) text.now) }
-    ensures fault { IfErr result (λ fault. (fault ≡ CommandFault.Write) × (output.new.faults ≡ one_more output.old.faults)) }
-{
-    match write_whole(output, text.as_bytes()) {
-        Ok(()) => Ok(()),
-        Err(_) => Err(CommandFault::Write),
-    }
-}
-
-// Says why a command was refused, or why words ask for none. Where that fails too there is no more to say.
-fn say<E: Write>(errors: &mut E, text: &str) {
-    let _ = write_whole(&mut Counted::new(errors), text.as_bytes());
-}
-
-// Says on standard error why a command was refused or failed.
-fn refuse<E: Write>(alloc: Global, errors: &mut E, fault: &CommandFault) {
-    match format!(in alloc; "office: {fault}\n") {
-        Ok(text) => say(errors, text.as_str()),
-        Err(_) => say(errors, "office: memory\n"),
-    }
-}
-
 // `check`.
-fn run_check<F: Files, O: Write>(
+fn run_check<F: PassFiles, O: Write>(
     files: &F,
     alloc: Global,
     file: &str,
     output: &mut Counted<O>,
 ) -> Result<u8, CommandFault>
-    ensures { IfOk result (λ status. HasChecked F.File.remaining (O.contents output.old.inner) (O.contents output.new.inner) × (status ≡ 0)) }
+    ensures done { IfOk result (λ status.
+        HasChecked (F.opens files.now) F.File.remaining O.contents output.old output.new file.now
+        × (status ≡ 0)) }
+    ensures failed { IfErr result (FailsToCheck (F.opens files.now) F.File.remaining O.contents
+        output.old output.new file.now) }
 {
     let mut reader = open(files, file)?;
     let text = check_document(alloc, &mut reader)?;
@@ -74,13 +61,17 @@ fn run_check<F: Files, O: Write>(
 }
 
 // `execve`.
-fn run_execve<F: Files, O: Write>(
+fn run_execve<F: PassFiles, O: Write>(
     files: &F,
     alloc: Global,
     words: &ExecveWords<'_>,
     output: &mut Counted<O>,
 ) -> Result<u8, CommandFault>
-    ensures { IfOk result (HasExecuted F.File.remaining (O.contents output.old.inner) (O.contents output.new.inner) words.now) }
+    ensures done { IfOk result
+        (HasExecuted (F.opens files.now) F.File.remaining O.contents output.old output.new
+        words.now) }
+    ensures failed { IfErr result (FailsToExecute (F.opens files.now) F.File.remaining O.contents
+        output.old output.new words.now) }
 {
     let execution = execution_of(words)?;
     let mut reader = open(files, words.file)?;
@@ -104,14 +95,17 @@ fn findings_status(text: &String) -> u8
 }
 
 // `compare`.
-fn run_compare<F: Files, O: Write>(
+fn run_compare<F: PassFiles, O: Write>(
     files: &F,
     alloc: Global,
     base: &str,
     new: &str,
     output: &mut Counted<O>,
 ) -> Result<u8, CommandFault>
-    ensures { IfOk result (HasCompared F.File.remaining (O.contents output.old.inner) (O.contents output.new.inner)) }
+    ensures done { IfOk result (HasCompared (F.opens files.now) F.File.remaining O.contents
+        output.old output.new base.now new.now) }
+    ensures failed { IfErr result (FailsToCompare (F.opens files.now) F.File.remaining O.contents
+        output.old output.new base.now new.now) }
 {
     let text = compare_files(files, alloc, base, new)?;
     print(output, text.as_str())?;
@@ -130,7 +124,7 @@ fn failed_status(command: &Command<'_>) -> u8
 
 // Carries a command out, and says with which status that ends the program.
 fn run<
-    F: Files,
+    F: PassFiles,
     S: Alter + Drop,
     D: Databases<Database = Connection<S>>,
     N: Network,
@@ -148,7 +142,12 @@ fn run<
     requires reads { input.old.calls ≤ 2 ^ 62 }
     requires read_faults { input.old.faults ≤ 2 ^ 62 }
     requires write_faults { output.old.faults ≤ 2 ^ 62 }
-    ensures { IfOk result (HasRun S.Store D.opened D.closed F.File.remaining command.entry (I.remaining input.old.inner) (O.contents output.old.inner) (O.contents output.new.inner)) }
+    ensures done { IfOk result (HasRun S.Store D.opened D.closed N.shows N.binds N.tells
+        (F.opens files.now) F.File.remaining O.contents command.entry
+        (I.remaining input.old.inner) output.old output.new) }
+    ensures failed { IfErr result (HasFailed S.Store D.opened D.closed D.ended
+        N.shows N.binds N.tells (F.opens files.now) F.File.remaining O.contents command.entry
+        (I.remaining input.old.inner) (I.remaining input.new.inner) output.old output.new) }
 {
     match command {
         Command::Trial => {
@@ -179,41 +178,61 @@ fn run<
     }
 }
 
-// Tells why words ask for no command: help and the version on standard output, and all else on standard error.
+// Prints a text, or says that it couldn't be printed.
+fn print_or_refuse<O: Write, E: Write>(
+    alloc: Global,
+    text: &str,
+    output: &mut Counted<O>,
+    errors: &mut Counted<E>,
+) -> u8
+    ensures { IsPrinted E.contents errors.old errors.new O.contents output.old output.new
+        text.now result }
+{
+    match print(output, text) {
+        Ok(()) => 0,
+        Err(fault) => {
+            refuse(alloc, errors, &fault);
+            1
+        }
+    }
+}
+
+// Tells why words ask for no command: help and the version on standard output, and all else on
+// standard error.
 fn tell<O: Write, E: Write>(
     alloc: Global,
     fault: &WordsFault,
     output: &mut Counted<O>,
-    errors: &mut E,
-) -> Result<u8, CommandFault>
-    ensures told { IfOk result (HasTold fault.now (O.contents output.old.inner) (O.contents output.new.inner)) }
-    ensures failed { IfErr result (λ _. HasTold fault.now (O.contents output.old.inner) (O.contents output.new.inner) 1) }
+    errors: &mut Counted<E>,
+) -> u8
+    ensures { HasTold E.contents errors.old errors.new O.contents output.old output.new
+        fault.now result }
 {
     match fault {
-        WordsFault::Help(text) => {
-            print(output, text.as_str())?;
-            Ok(0)
-        }
-        WordsFault::Version(text) => {
-            print(output, text.as_str())?;
-            Ok(0)
-        }
+        WordsFault::Help(text) => print_or_refuse(alloc, text.as_str(), output, errors),
+        WordsFault::Version(text) => print_or_refuse(alloc, text.as_str(), output, errors),
         WordsFault::Refused(text) => {
             say(errors, text.as_str());
-            Ok(2)
+            2
         }
-        WordsFault::NoMemory => Err(CommandFault::NoMemory),
+        WordsFault::NoMemory => {
+            refuse(alloc, errors, &CommandFault::NoMemory);
+            1
+        }
     }
 }
 
-// The status that the program ends with: this one where a command was refused or failed, which is said.
+// The status that the program ends with: this one where a command was refused or failed, which is
+// said.
 fn status_of<E: Write>(
     alloc: Global,
-    errors: &mut E,
+    errors: &mut Counted<E>,
     ended: Result<u8, CommandFault>,
     failed: u8,
 ) -> u8
-    ensures { MatchResult ended (λ status. result ≡ status) (λ _. result ≡ failed) }
+    ensures { MatchResult ended
+        (λ status. (result ≡ status) × (errors.new ≡ errors.old))
+        (λ why. (result ≡ failed) × IsRefusal E.contents errors.old errors.new why) }
 {
     match ended {
         Ok(status) => status,
@@ -224,11 +243,12 @@ fn status_of<E: Write>(
     }
 }
 
-/// Carries out what the words of a command line ask for, the first of them being the program's name. Gives the status
-/// that the program ends with: 0, or 1 where the command was refused or failed, or 2 where the words were refused. That of
-/// `compare` is 1 where it printed findings, and 2 where it was refused or failed.
+/// Carries out what the words of a command line ask for, the first of them being the program's
+/// name. Gives the status that the program ends with: 0, or 1 where the command was refused or
+/// failed, or 2 where the words were refused. That of `compare` is 1 where it printed findings, and
+/// 2 where it was refused or failed.
 pub fn run_words<
-    F: Files,
+    F: PassFiles,
     S: Alter + Drop,
     D: Databases<Database = Connection<S>>,
     N: Network,
@@ -243,13 +263,19 @@ pub fn run_words<
     words: &[String],
     input: &mut Counted<I>,
     output: &mut Counted<O>,
-    errors: &mut E,
+    errors: &mut Counted<E>,
 ) -> u8
     requires reads { input.old.calls ≤ 2 ^ 62 }
     requires read_faults { input.old.faults ≤ 2 ^ 62 }
     requires write_faults { output.old.faults ≤ 2 ^ 62 }
-    ensures { HasRunWords S.Store D.opened D.closed F.File.remaining words.entry.now
-        (I.remaining input.old.inner) (O.contents output.old.inner) (O.contents output.new.inner) result }
+    ensures { HasRunWords E.contents errors.old errors.new O.contents output.old output.new
+        (λ command. HasRun S.Store D.opened D.closed N.shows N.binds N.tells
+        (F.opens files.now) F.File.remaining O.contents
+        command (I.remaining input.old.inner) output.old output.new)
+        (λ command. HasFailed S.Store D.opened D.closed D.ended N.shows N.binds N.tells
+        (F.opens files.now) F.File.remaining O.contents command
+        (I.remaining input.old.inner) (I.remaining input.new.inner) output.old output.new)
+        words.entry.now result }
 {
     match read_words(alloc, words) {
         Ok(command) => {
@@ -257,9 +283,6 @@ pub fn run_words<
             let ended = run(files, databases, network, alloc, command, input, output);
             status_of(alloc, errors, ended, failed)
         }
-        Err(fault) => {
-            let told = tell(alloc, &fault, output, errors);
-            status_of(alloc, errors, told, 1)
-        }
+        Err(fault) => tell(alloc, &fault, output, errors),
     }
 }

@@ -1,25 +1,29 @@
 //! `serve`: an office in a file, over HTTP on loopback.
 
-ghost use Rattle.office_desk.specs.Meant.{meaning_over};
-ghost use Rattle.office_commands.specs.Openings.{IsServed};
-ghost use Rattle.office_commands.specs.Serving.{HasServed, HasServedAll, HasServedUpTo, IsLoopback, longest_exchange};
-ghost use Rattle.std.specs.Prelude.{◌≡◌};
+ghost use Rattle.std.specs.Prelude.{◌≡◌, IfErr, IfOk, string_bytes};
 ghost use Rattle.std.specs.Duration.{as_nanos};
 ghost use Rattle.std.specs.Net.Socket.{socket_ip, socket_port};
+ghost use Rattle.office_desk.specs.Meant.{meaning_over};
+ghost use Rattle.office_commands.specs.Openings.{IsServed};
+ghost use Rattle.office_commands.specs.Serving.{HasBegun, HasServed, IsAt, IsLoopback, IsServing};
+ghost use Rattle.office_commands.specs.Serving.{IsTellingPort, IsUnbound, listening_line};
+ghost use Rattle.office_commands.specs.Serving.{longest_exchange};
 
 use crate::databases::Databases;
 use crate::fault::CommandFault;
+use crate::network::Network;
 use crate::opening::{close, first_fault, office_at};
+use crate::written::print;
 use command_line::ServeWords;
 use desk_http::Server;
 use office_policy::Handler;
 use sqlite::{Alter, Connection};
-use std::alloc::Global;
+use std::alloc::{AllocError, Global};
 use std::fs::Files;
 use std::io::Write;
-use std::net::{IpAddr, Ipv4Addr, Net, SocketAddr, TcpListener, TcpStream};
-use std::time::{Clock, Duration};
-use streams::{Counted, WriteFailed, write_whole};
+use std::net::{IpAddr, Ipv4Addr, SocketAddr, TcpListener};
+use std::time::Duration;
+use streams::{Counted, WriteFailed};
 
 // How long an exchange may last.
 fn longest() -> Duration
@@ -27,11 +31,6 @@ fn longest() -> Duration
 {
     Duration::from_secs(10)
 }
-
-/// What the program has of a network: sockets, and a clock for their deadlines.
-pub trait Network: Net<Stream = TcpStream, Listener = TcpListener> + Clock {}
-
-impl Network for HostRuntime {}
 
 // A port of loopback.
 fn loopback(port: u16) -> SocketAddr
@@ -41,17 +40,27 @@ fn loopback(port: u16) -> SocketAddr
     SocketAddr::new(IpAddr::V4(Ipv4Addr::new(127, 0, 0, 1)), port)
 }
 
-// A listener at an address, which is one of loopback, and its port.
-fn bind<N: Network>(network: &N, address: SocketAddr) -> Result<(TcpListener, u16), CommandFault>
-    requires { IsLoopback (socket_ip address) }
+// The line that says at which port it listens.
+fn listening_line(alloc: Global, port: u16) -> Result<String, AllocError>
+    ensures { IfOk result (λ line. string_bytes line ≡ listening_line port) }
 {
-    let Ok(listener) = TcpListener::bind(network, address) else {
-        return Err(CommandFault::Bind);
+    format!(in alloc; "listening 127.0.0.1:{port}\n")
+}
+
+// What listens at a port of loopback, and at which one, where that is any free one.
+fn bind<N: Network>(network: &N, port: u16) -> Result<(TcpListener, u16), CommandFault>
+    ensures at { IfOk result (λ bound. IsAt N.binds port network.now bound.0) }
+    ensures told { IfOk result (λ bound. IsTellingPort N.tells network.now bound.0 bound.1) }
+    ensures fault { IfErr result IsUnbound }
+{
+    let listener = match network.listen(loopback(port)) {
+        Ok(listener) => listener,
+        Err(_) => return Err(CommandFault::Bind),
     };
-    let Ok(bound) = listener.local_addr() else {
-        return Err(CommandFault::Bind);
-    };
-    Ok((listener, bound.port()))
+    match network.address_of(&listener) {
+        Ok(bound) => Ok((listener, bound.port())),
+        Err(_) => Err(CommandFault::Bind),
+    }
 }
 
 // Says at which port it listens, and serves the exchanges.
@@ -60,19 +69,24 @@ fn serve_bound<N: Network, H: Handler, O: Write>(
     office: &mut H,
     alloc: Global,
     words: &ServeWords<'_>,
-    output: &mut O,
+    output: &mut Counted<O>,
 ) -> Result<(), CommandFault>
-    ensures { HasServed H.meaning office.old office.new words.now.requests result }
+    ensures { IsServing N.shows N.binds N.tells O.contents H.meaning words.now
+        office.old office.new output.old output.new result }
 {
     let Ok(server) = Server::new(network, alloc, longest()) else {
         return Err(CommandFault::NoMemory);
     };
-    let (listener, port) = bind(network, loopback(words.port))?;
-    let Ok(listening) = format!(in alloc; "listening {}:{port}\n", Ipv4Addr::LOCALHOST) else {
+    let (listener, port) = match bind(network, words.port) {
+        Ok(bound) => bound,
+        Err(fault) => return Err(fault),
+    };
+    let Ok(line) = listening_line(alloc, port) else {
         return Err(CommandFault::NoMemory);
     };
-    if write_whole(&mut Counted::new(&mut *output), listening.as_bytes()).is_err() {
-        return Err(CommandFault::Write);
+    match print(output, line.as_str()) {
+        Ok(()) => {}
+        Err(fault) => return Err(fault),
     }
     match server.serve_all(office, &listener, words.requests, output) {
         Ok(()) => Ok(()),
@@ -80,8 +94,9 @@ fn serve_bound<N: Network, H: Handler, O: Write>(
     }
 }
 
-/// Serves exchanges with the office at a path, and closes it, also where that failed. Where closing fails too, the first
-/// fault is told. The port is bound last, so that nothing is heard where there is no office.
+/// Serves exchanges with the office at a path, and closes it, also where that failed. Where closing
+/// fails too, the first fault is told. The port is bound last, so that nothing is heard where there
+/// is no office.
 pub(crate) fn serve_http<
     F: Files,
     S: Alter + Drop,
@@ -94,11 +109,14 @@ pub(crate) fn serve_http<
     network: &N,
     alloc: Global,
     words: &ServeWords<'_>,
-    output: &mut O,
+    output: &mut Counted<O>,
 ) -> Result<(), CommandFault>
     ensures { IsServed S.Store (D.opened words.now.database.now)
-        (λ old new. HasServedAll (meaning_over S.Store) old new words.now.requests)
-        (λ old new. HasServedUpTo (meaning_over S.Store) old new words.now.requests) D.closed result }
+        (λ old new. HasServed N.shows N.binds N.tells O.contents (meaning_over S.Store) words.now
+        old new output.old output.new)
+        (λ why old new. HasBegun N.shows N.binds N.tells O.contents (meaning_over S.Store) words.now
+        old new output.old output.new why)
+        D.closed D.ended result }
 {
     let mut office = match office_at(files, databases, words.database) {
         Ok(office) => office,

@@ -1,9 +1,8 @@
 //! `desk`: the desk of an office in a file.
 
-ghost use Rattle.std.specs.Prelude.{◌^◌, ◌≤◌, IfSome};
-ghost use Rattle.desk.specs.Stands.{AreAnswered, HasHandled};
+ghost use Rattle.std.specs.Prelude.{◌^◌, ◌≤◌};
 ghost use Rattle.office_desk.specs.Meant.{meaning_over};
-ghost use Rattle.streams.specs.Lines.{lines_of};
+ghost use Rattle.office_commands.specs.Lines.{HasAnswered, HasStopped};
 ghost use Rattle.office_commands.specs.Openings.{IsServed};
 
 use crate::databases::Databases;
@@ -16,8 +15,8 @@ use std::fs::Files;
 use std::io::{Read, Write};
 use streams::Counted;
 
-/// Answers the lines of a reader at the desk of the office at a path, and closes the office, also after a fault of the
-/// desk. Where closing fails too, the desk's fault is told.
+/// Answers the lines of a reader at the desk of the office at a path, and closes the office, also
+/// after a fault of the desk. Where closing fails too, the desk's fault is told.
 pub(crate) fn serve_stored<
     F: Files,
     S: Alter + Drop,
@@ -36,9 +35,11 @@ pub(crate) fn serve_stored<
     requires read_faults { input.old.faults ≤ 2 ^ 62 }
     requires write_faults { output.old.faults ≤ 2 ^ 62 }
     ensures { IsServed S.Store (D.opened path.now)
-        (λ old new. HasHandled (meaning_over S.Store) old new × IfSome (R.remaining input.old.inner) (λ bytes. AreAnswered (meaning_over S.Store) old new
-        (W.contents output.old.inner) (W.contents output.new.inner) (lines_of bytes)))
-        (HasHandled (meaning_over S.Store)) D.closed result }
+        (HasAnswered W.contents (meaning_over S.Store)
+        (R.remaining input.old.inner) output.old output.new)
+        (HasStopped W.contents (meaning_over S.Store)
+        (R.remaining input.old.inner) (R.remaining input.new.inner) output.old output.new)
+        D.closed D.ended result }
 {
     let mut office = match office_at(files, databases, path) {
         Ok(office) => office,

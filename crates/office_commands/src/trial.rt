@@ -1,44 +1,49 @@
 //! The trial desk.
 
-ghost use Rattle.std.specs.Prelude.{◌^◌, ◌≤◌};
+ghost use Rattle.std.specs.Prelude.{◌≡◌, ◌^◌, ◌≤◌, IfErr, IfOk};
+ghost use Rattle.office_desk.specs.Meant.{meaning_over};
+ghost use Rattle.sqlite.specs.Steps.{over_memory};
+ghost use Rattle.office_commands.specs.Foundings.{IsFoundedAs};
+ghost use Rattle.office_commands.specs.Lines.{HasAnswered, HasStopped};
+ghost use Rattle.office_commands.specs.Trials.{trial_founding, HasTried};
 
 use crate::fault::CommandFault;
+use crate::founding::{Founding, founding_of};
+use crate::founding_fault::FoundingWordsFault;
+use crate::init::found_in;
 use crate::lines::answer_lines;
-use cap_sets::Caps;
 use office_desk::Office;
-use profile_text::digest;
-use review_policy::{Word, WordFault};
 use sqlite::{Connection, MemStore};
-use std::alloc::{AllocError, Global};
+use std::alloc::Global;
 use std::io::{Read, Write};
 use streams::Counted;
 
-// The office was not founded, for want of memory.
-#[derive(Clone, Copy, Debug, PartialEq, Eq)]
-struct NotFounded;
+// The SHA-256 of the token abc.
+const DIGEST: &str = "ba7816bf8f01cfea414140de5dae2223b00361a396177a9cb410ff61f20015ad";
 
-impl From<AllocError> for NotFounded {
-    fn from(_error: AllocError) -> NotFounded {
-        NotFounded
-    }
+// The founding of the office that the trial desk begins with: its first user is root of the team
+// office, a registrar with the token abc, and its one listed capability is CAP_SYS_ADMIN.
+#[tactic(auto, unfolding(crate::specs::Trials::trial_founding))]
+fn trial_founding(alloc: Global) -> Result<Founding, FoundingWordsFault>
+    ensures { IfOk result (λ founding. trial_founding ≡ Ok founding) }
+{
+    founding_of(alloc, "root", "office", DIGEST, &["CAP_SYS_ADMIN"])
 }
 
-impl From<WordFault> for NotFounded {
-    fn from(_fault: WordFault) -> NotFounded {
-        NotFounded
-    }
-}
-
-// The office that the trial desk begins with, in memory: its first user is root of the team office, a registrar with the
-// token abc, and its one listed capability is CAP_SYS_ADMIN.
-fn trial_office(alloc: Global) -> Result<Office<MemStore>, NotFounded> {
-    let name = Word::new(alloc, "root")?;
-    let team = Word::new(alloc, "office")?;
-    let listed = Caps::from_name("CAP_SYS_ADMIN").unwrap_or(Caps::empty());
-    let conn = Connection::open_in_memory(alloc)?;
-    match Office::found(conn, &name, &team, &digest(b"abc"), listed) {
+// The office of that founding, in memory.
+fn trial_office(alloc: Global) -> Result<Office<MemStore>, CommandFault>
+    ensures founded { IfOk result (IsFoundedAs over_memory trial_founding) }
+    ensures fault { IfErr result (λ fault. fault ≡ CommandFault.NoMemory) }
+{
+    let Ok(founding) = trial_founding(alloc) else {
+        return Err(CommandFault::NoMemory);
+    };
+    let Ok(conn) = Connection::open_in_memory(alloc) else {
+        return Err(CommandFault::NoMemory);
+    };
+    match found_in(conn, &founding) {
         Ok(office) => Ok(office),
-        Err(_) => Err(NotFounded),
+        Err(_) => Err(CommandFault::NoMemory),
     }
 }
 
@@ -51,9 +56,15 @@ pub(crate) fn serve_trial<R: Read, W: Write>(
     requires reads { input.old.calls ≤ 2 ^ 62 }
     requires read_faults { input.old.faults ≤ 2 ^ 62 }
     requires write_faults { output.old.faults ≤ 2 ^ 62 }
+    ensures { HasTried (HasAnswered W.contents (meaning_over over_memory)
+        (R.remaining input.old.inner) output.old output.new)
+        (HasStopped W.contents (meaning_over over_memory)
+        (R.remaining input.old.inner) (R.remaining input.new.inner) output.old output.new)
+        result }
 {
-    let Ok(mut office) = trial_office(alloc) else {
-        return Err(CommandFault::NoMemory);
+    let mut office = match trial_office(alloc) {
+        Ok(office) => office,
+        Err(fault) => return Err(fault),
     };
     answer_lines(&mut office, alloc, input, output)
 }

@@ -1,437 +1,272 @@
--- From reads and a write to what a request does.
-use Rattle.std.proofs.Common.{inl, inr, arith, ◌≤◌, ◌⊎◌, ◌≡◌, ◌≢◌, ◌∙◌, Bool, true, false, Option, Some, None, Result, Ok, Err, IsTrue, IsErrAnd, OnErr, List, ℕ, refl, sym, ap, subst, ◌∷◌}
+-- How what was allowed is carried out, and what that leaves of an office.
+use Rattle.std.proofs.Common.{inl, inr, arith, ◌⊎◌, ◌≡◌, ◌∙◌, ◌∷◌, ℕ, List, suc, Bool, true, false, Option, Some, None, Result, Ok, Err, refl, sym, ap, subst}
+use Rattle.std.specs.Prelude.{⊤, option_map}
 use Rattle.sqlite.specs.Held.{Held, state}
+use Rattle.sqlite.specs.State.{HasCleanDisk}
 use Rattle.sqlite.specs.Store.{Ghosts}
-use Rattle.sqlite.specs.State.{State, HasCleanDisk}
-use Rattle.sqlite.proofs.StateLemmas.{survives_then}
-use Rattle.review_policy.specs.declared.answer.Reply.{Reply}
-use Rattle.review_policy.specs.declared.denial.Denial.{Denial}
+use Rattle.sqlite_trees.specs.Tree.{Trees}
+use Rattle.review_policy.specs.Words.{is_token}
+use Rattle.review_policy.specs.declared.ask.Ask.{Ask}
+use Rattle.review_policy.specs.declared.ask.Ask.TheVariants as ask
+use Rattle.review_policy.specs.declared.ask.ProfileName.{ProfileName}
+use Rattle.review_policy.specs.declared.ask.Request.{Request}
+use Rattle.review_policy.specs.declared.answer.Answer.TheVariants.{Done, Fault}
+use Rattle.review_policy.specs.declared.answer.Fault.TheVariants as faults
+use Rattle.review_policy.specs.declared.role.Role.TheVariants.{Security}
+use Rattle.review_policy.specs.Role.{has_role}
+use Rattle.profile_text.specs.Digest.{digest_of}
 use Rattle.office_tables.specs.declared.fault.StoreFault.{StoreFault}
-use Rattle.office_tables.specs.declared.fault.StoreFault.TheVariants.{NoMemory, NotAnOffice}
-use Rattle.office_tables.specs.Tables.{Tables}
-use Rattle.office_rows.specs.Causes.{HasFailed}
-use Rattle.office_rows.specs.Statements.{HasMet}
+use Rattle.office_tables.specs.declared.row.RevisionRow.{RevisionRow}
+use Rattle.office_tables.specs.Changes.{with_vote}
+use Rattle.office_tables.specs.Lists.{holds_role}
+use Rattle.office_tables.specs.Reads.{Adds, submitted as new_row}
 use Rattle.office_rows.proofs.Sure.{met_between}
-use Rattle.office_rows.specs.Queries.{IsAsItWas}
-use Rattle.office_store.specs.Refusing.{Write, statements_of, Makes as MakesBy, RefusesToMake}
-use Rattle.office_store.specs.Shown.{IsIdle, Shows, ShowsIfOpen, MayLeave}
-use Rattle.office_store.specs.Calls.{IsRead, IsWrite}
-use Rattle.office_store.proofs.Calls.{never_unformed}
-use Rattle.office_store.proofs.Committed.{survives_same}
-use Rattle.office_policy.specs.History.{Event, History}
-use Rattle.office_policy.specs.Verdict.{Verdict, accepted, denied}
-use Rattle.office_policy.specs.Lawful.{IsLawfulHistory}
+use Rattle.office_store.specs.Entries.{vote_entry}
+use Rattle.office_store.specs.Refusing.{Write, puts_user, adds_revision, issues, withdraws, puts_vote, puts_baseline, puts_hold, deletes_hold, Makes}
+use Rattle.office_store.specs.Shown.{ShowsIfOpen}
+use Rattle.office_policy.specs.declared.judge.Allowed.{Allowed}
+use Rattle.office_policy.specs.History.{Event, enrolled, submitted, voted, issued, withdrawn, adopted, held, released, History}
+use Rattle.office_policy.specs.Users.{user_of}
+use Rattle.office_policy.specs.Revisions.{revision_count}
+use Rattle.office_policy.specs.Verdict.{verdict}
+use Rattle.office_policy.specs.Formed.{HasForms}
+use Rattle.office_policy.specs.Lawful.{IsAllowed, IsLawfulHistory}
 use Rattle.office_policy.specs.TablesOf.{tables_of}
-use Rattle.office_policy.specs.Runs.{answer_of}
-use Rattle.office_desk.specs.declared.refusal.Refusal.{Refusal}
-use Rattle.office_desk.specs.declared.refusal.Refusal.TheVariants as refusals
-use Rattle.office_desk.specs.Carries.{Tells, Refusing, RefusesEvent, HasCause, after, AreWithEvent, CarriesFor, CarriesOut, IsKept, ReadsOut}
+use Rattle.office_policy.specs.Runs.{IsAnswer, answer_of, event_of, with_event}
+use Rattle.office_policy.specs.Handled.{AreWithEvent, IsHandled, RefusesEvent, Survives, only_reads}
+use Rattle.office_policy.specs.Judging.{IsAllowedTo, IsNextRevision, IsPermitted, answer_in, event_in}
+use Rattle.office_policy.proofs.EventFacts.{enrolled_tables, submitted_tables, voted_tables, issued_tables, withdrawn_tables, adopted_tables, held_tables, released_tables}
+use Rattle.office_policy.proofs.HeadlineFacts.{given_out_approved}
+use Rattle.office_policy.proofs.LawFacts.{allowed_follows}
+use Rattle.office_policy.proofs.Submissions.{next_free}
+use Rattle.office_policy.proofs.SurvivalFacts.{survives_none, survives_on}
+use Rattle.office_policy.proofs.UserFacts.{showing_is}
+use Rattle.office_desk.specs.Carries.{Asks, CarriesOut, Tries, write_of}
+use Rattle.office_desk.specs.Offices.{IsOffice}
+use Rattle.office_desk.specs.Meant.{meaning_over}
+use Rattle.office_desk.specs.Told.{outcome_of, told_of}
+use Rattle.office_desk.proofs.Handling.{caused, lawful_after, passing, was_open_by}
+use Rattle.office_desk.proofs.Judging.{never_both}
 
-pub never_both : {P : Type 0} (b : Bool) → IsTrue b → b ≡ false → P
-never_both true is_open shut = absurd cc
-never_both false is_open shut = absurd cc
+-- ---- what is written
 
-never_memory : {P : Type 0} (f : StoreFault) → f ≡ NoMemory → f ≡ NotAnOffice → P
-never_memory f memory same = absurd (let k : NoMemory ≡ NotAnOffice = sym memory ∙ same in cc)
+-- what is written where this write makes the tables with this event
+abbrev MakesWith : History → Event → Write → Type 0
+MakesWith h e w = Makes w (tables_of h) (tables_of (e ∷ h))
 
-of_memory : (old new : State) (f : StoreFault) → f ≡ NoMemory → HasFailed old new f
-of_memory old new f memory = subst (HasFailed old new) (sym memory) tt
+same : {A : Type 0} (x y : A) → Some x ≡ Some y → x ≡ y
+same x y is = cc
 
--- a `?` that leaves with this refusal
-pub left : {Refuses : Refusing} {Of : History → Type 0} (judge : History → Verdict) (old new : State) (result : Result Reply Refusal) (refusal : Refusal)
-    → IsErrAnd result (λ r. r ≡ refusal) → CarriesFor Refuses Of old new (Err refusal) judge → CarriesFor Refuses Of old new result judge
-left {Refuses = Refuses} {Of = Of} judge old new (Ok reply) refusal is carried = absurd is
-left {Refuses = Refuses} {Of = Of} judge old new (Err r) refusal is carried = subst (λ e. CarriesFor Refuses Of old new (Err e) judge) (sym is) carried
+-- the write and the event of what was allowed
+both : (h : History) (e f : Event) (w v : Write) → Some e ≡ Some f → Some w ≡ Some v → MakesWith h e w → MakesWith h f v
+both h e f w v same_event same_write makes = subst (λ x. MakesWith h x v) (same e f same_event) (subst (MakesWith h e) (same w v same_write) makes)
 
--- the same of a request that only reads
-pub left_reading : {Refuses : Refusing} (judge : History → Verdict) (old new : State) (result : Result Reply Refusal) (refusal : Refusal)
-    → IsErrAnd result (λ r. r ≡ refusal) → CarriesOut Refuses old new (Err refusal) judge → ReadsOut Refuses old new result judge
-left_reading judge old new result refusal is carried = record { carried = left judge old new result refusal is carried; same = carried.same }
+-- the write of its kind is that of what was asked
+pub asks_for : {S : Type 0} (g : Ghosts S) (a b : Ask) (allowed : Allowed) (old new : Held S) (result : Result ⊤ StoreFault) (w : Write) → b ≡ a → write_of a allowed ≡ Some w
+    → Asks g w old new result → CarriesOut g b allowed old new result
+asks_for g a b allowed old new result w is has asks = record { write = w; is = ap (λ x. write_of x allowed) is ∙ has; tried = inl asks }
 
--- and the same of a read
-pub read_left : {A : Type 0} (old new : State) (F : Tables → A → Type 0) (result : Result A StoreFault) (f : StoreFault) → IsErrAnd result (λ e. e ≡ f)
-    → IsRead {A = A} old new (Err f) F → IsRead old new result F
-read_left old new F (Ok a) f is read = absurd is
-read_left old new F (Err e) f is read = subst (λ x. IsRead old new (Err x) F) (sym is) read
+-- the event of what changes something
+pub changing : (a : Ask) (allowed : Allowed) (e : Event) → event_in a allowed ≡ Some e → only_reads a ≡ false
+changing (ask.Enrol user team roles digest) allowed e is = refl
+changing (ask.Submit p document) allowed e is = refl
+changing (ask.Vote p n digest approve) allowed e is = refl
+changing (ask.Issue p n) allowed e is = refl
+changing (ask.Withdraw p n) allowed e is = refl
+changing (ask.Adopt p n) allowed e is = refl
+changing (ask.Hold p) allowed e is = refl
+changing (ask.Release p) allowed e is = refl
+changing (ask.Show p n) allowed e is = absurd cc
+changing (ask.Sheet p n) allowed e is = absurd cc
+changing (ask.List team) allowed e is = absurd cc
+changing (ask.Fetch p) allowed e is = absurd cc
 
--- ---- one read after another
+module _ (h : History) (lawful : IsLawfulHistory h) (allowed : Allowed) (known : user_of h allowed.caller.name ≡ Some allowed.caller) where
+  -- the vote is kept with whether its voter holds security, by the voter's row
+  vote_made : (p : ProfileName) (n : ℕ) (digest : List ℕ) (approves : Bool)
+      → MakesWith h (voted allowed.caller.name p n digest approves) (puts_vote (vote_entry p n allowed.caller.name approves (has_role allowed.caller.roles Security)))
+  vote_made p n digest approves =
+      sym
+      (ap (λ s. with_vote p n allowed.caller.name (record { approves = approves; security = s }) (tables_of h)) (ap (λ u. holds_role u Security) (sym known))
+      ∙ voted_tables h allowed.caller.name p n digest approves)
 
--- what was found says as much in other words
-pub read_as : {A B : Type 0} (old new : State) (F : Tables → A → Type 0) (H : Tables → B → Type 0) (a : A) (b : B) → ((t : Tables) → F t a → H t b)
-    → IsRead old new (Ok a) F → IsRead old new (Ok b) H
-read_as old new F H a b again read = record {
-  leaves = record {
-    idle = read.leaves.idle;
-    clean = read.leaves.clean;
-    survives = read.leaves.survives;
-    answered = read.leaves.answered;
-    shut = λ clean shut. ((read.leaves.shut clean shut).0, λ same. cc);
-    settled = read.leaves.settled;
-  };
-  found = λ t shows clean. again t (read.found t shows clean);
-  cause = λ t shows clean. tt;
-  shown = read.shown;
-  same = read.same;
-  crash = read.crash;
-}
+  -- the revision is the next one, which is free
+  revision_made : (p : ProfileName) (row : RevisionRow) → row ≡ new_row (suc (revision_count h p)) allowed.caller.name row.body (digest_of row.body)
+      → MakesWith h (submitted allowed.caller.name p row.body) (adds_revision p row)
+  revision_made p row is =
+      subst (λ r. Adds p r (tables_of h) (tables_of (submitted allowed.caller.name p row.body ∷ h))) (sym is)
+      (next_free h p, sym (submitted_tables h lawful allowed.caller.name p row.body))
 
--- what failed, whatever was to be found
-pub read_fails_as : {A B : Type 0} (old new : State) (F : Tables → A → Type 0) (H : Tables → B → Type 0) (f : StoreFault) → IsRead {A = A} old new (Err f) F → IsRead {A = B} old new (Err f) H
-read_fails_as old new F H f read = record {
-  leaves = record {
-    idle = read.leaves.idle;
-    clean = read.leaves.clean;
-    survives = read.leaves.survives;
-    answered = λ clean. tt;
-    shut = λ clean shut. ((read.leaves.shut clean shut).0, λ same. (read.leaves.shut clean shut).1 (let k : f ≡ NotAnOffice = cc in ap Err k));
-    settled = read.leaves.settled;
-  };
-  found = λ t shows clean. tt;
-  cause = read.cause;
-  shown = read.shown;
-  same = read.same;
-  crash = read.crash;
-}
+  -- the write of what was allowed makes the tables with its event
+  makes_of : (a : Ask) (e : Event) → event_in a allowed ≡ Some e → IsAllowed h e → IsNextRevision h a allowed → (w : Write) → write_of a allowed ≡ Some w → MakesWith h e w
+  makes_of (ask.Enrol user team roles digest) e asked may next w is =
+      both h (enrolled allowed.caller.name user team roles digest) e (puts_user (record { name = user; team = team; roles = roles; digest = digest })) w asked is
+      (sym (enrolled_tables h allowed.caller.name user team roles digest))
+  makes_of (ask.Submit p document) e asked may next w is = by_revision allowed.revision refl asked is
+    where
+      by_revision : (r : Option RevisionRow) → allowed.revision ≡ r → option_map (λ row. submitted allowed.caller.name p row.body) r ≡ Some e → option_map (adds_revision p) r ≡ Some w → MakesWith h e w
+      by_revision None at event write = absurd cc
+      by_revision (Some row) at event write = both h (submitted allowed.caller.name p row.body) e (adds_revision p row) w event write (revision_made p row (next row at))
+  makes_of (ask.Vote p n digest approve) e asked may next w is =
+      both h (voted allowed.caller.name p n digest approve) e (puts_vote (vote_entry p n allowed.caller.name approve (has_role allowed.caller.roles Security))) w asked is
+      (vote_made p n digest approve)
+  makes_of (ask.Issue p n) e asked may next w is =
+      let follows = allowed_follows h (issued allowed.caller.name p n) (subst (IsAllowed h) (sym (same (issued allowed.caller.name p n) e asked)) may) in
+      both h (issued allowed.caller.name p n) e (issues p n) w asked is (sym (issued_tables h allowed.caller.name p n follows.still_open))
+  makes_of (ask.Withdraw p n) e asked may next w is =
+      both h (withdrawn allowed.caller.name p n) e (withdraws p n) w asked is (sym (withdrawn_tables h allowed.caller.name p n))
+  makes_of (ask.Adopt p n) e asked may next w is =
+      both h (adopted allowed.caller.name p n) e (puts_baseline p n) w asked is (sym (adopted_tables h allowed.caller.name p n))
+  makes_of (ask.Hold p) e asked may next w is =
+      both h (held allowed.caller.name p) e (puts_hold p) w asked is (sym (held_tables h allowed.caller.name p))
+  makes_of (ask.Release p) e asked may next w is =
+      both h (released allowed.caller.name p) e (deletes_hold p) w asked is (sym (released_tables h allowed.caller.name p))
+  makes_of (ask.Show p n) e asked may next w is = absurd cc
+  makes_of (ask.Sheet p n) e asked may next w is = absurd cc
+  makes_of (ask.List team) e asked may next w is = absurd cc
+  makes_of (ask.Fetch p) e asked may next w is = absurd cc
 
--- a fault of memory after a read
-pub read_in_vain : {A B : Type 0} (old new : State) (F : Tables → A → Type 0) (H : Tables → B → Type 0) (a : A) (f : StoreFault) → f ≡ NoMemory → IsRead old new (Ok a) F → IsRead {A = B} old new (Err f) H
-read_in_vain old new F H a f memory read = record {
-  leaves = record {
-    idle = read.leaves.idle;
-    clean = read.leaves.clean;
-    survives = read.leaves.survives;
-    answered = λ clean. tt;
-    shut = λ clean shut. ((read.leaves.shut clean shut).0, λ same. never_memory f memory cc);
-    settled = read.leaves.settled;
-  };
-  found = λ t shows clean. tt;
-  cause = λ t shows clean. of_memory old new f memory;
-  shown = read.shown;
-  same = read.same;
-  crash = read.crash;
-}
+-- ---- what that leaves
 
-module _ {A B : Type 0} (old mid new : State) (F : Tables → A → Type 0) (G : Tables → B → Type 0) (a : A) (first : IsRead old mid (Ok a) F) where
-  -- what both found
-  pub read_both : {C : Type 0} (H : Tables → C → Type 0) (b : B) (c : C) → ((t : Tables) → F t a → G t b → H t c) → IsRead mid new (Ok b) G → IsRead old new (Ok c) H
-  read_both H b c both second = record {
-    leaves = record {
-      idle = second.leaves.idle;
-      clean = λ clean. first.leaves.clean (second.leaves.clean clean);
-      survives = survives_then old mid new _ _ (λ _. Unit {0}) (λ _ trees left. tt) (λ _ trees left. tt) first.leaves.survives second.leaves.survives;
-      answered = λ clean. ((first.leaves.answered (second.leaves.clean clean)).0, (second.leaves.answered clean).1);
-      shut = λ clean shut. never_both old.is_open (first.leaves.answered (second.leaves.clean clean)).0 shut;
-      settled = second.leaves.settled;
-    };
-    found = λ t shows clean.
-        let before = second.leaves.clean clean in
-        both t (first.found t shows before) (second.found t (first.shown t shows before) clean);
-    cause = λ t shows clean. tt;
-    shown = λ t shows clean. second.shown t (first.shown t shows (second.leaves.clean clean)) clean;
-    same = λ settled clean is_open.
-        let before = second.leaves.clean clean in
-        let kept = first.same settled before (first.leaves.answered before).1 in
-        let mid_settled : mid.now ≡ mid.committed = kept.0 ∙ settled ∙ sym kept.1 in
-        let last = second.same mid_settled clean is_open in
-        (last.0 ∙ kept.0, last.1 ∙ kept.1);
-    crash = λ clean trees may. first.crash (second.leaves.clean clean) trees (second.crash clean trees may);
+module _ {S : Type 0} (g : Ghosts S) (old new : Held S) where
+  -- a call of the store survives
+  call_survives : (w : Write) (result : Result ⊤ StoreFault) → Asks g w old new result → Survives (meaning_over g) old new
+  call_survives w result asks = record {
+    clean = asks.written.leaves.clean;
+    counts = asks.written.leaves.survives.counts;
+    closes = asks.written.leaves.survives.closes;
+    shut = λ clean. was_open_by (state g old).is_open (state g new).is_open (λ shut. (asks.written.leaves.shut clean shut).0);
   }
 
-  -- the second failed
-  pub second_fails : {C : Type 0} (H : Tables → C → Type 0) (f : StoreFault) → IsRead {A = B} mid new (Err f) G → IsRead {A = C} old new (Err f) H
-  second_fails H f second = record {
-    leaves = record {
-      idle = second.leaves.idle;
-      clean = λ clean. first.leaves.clean (second.leaves.clean clean);
-      survives = survives_then old mid new _ _ (λ _. Unit {0}) (λ _ trees left. tt) (λ _ trees left. tt) first.leaves.survives second.leaves.survives;
-      answered = λ clean. tt;
-      shut = λ clean shut. never_both old.is_open (first.leaves.answered (second.leaves.clean clean)).0 shut;
-      settled = second.leaves.settled;
-    };
-    found = λ t shows clean. tt;
-    cause = λ t shows clean.
-        let before = second.leaves.clean clean in
-        met_between old mid new new f first.leaves.survives.counts (omega arith) (λ shut. never_both mid.is_open (first.leaves.answered before).1 shut)
-        (second.cause t (first.shown t shows before) clean);
-    shown = λ t shows clean. second.shown t (first.shown t shows (second.leaves.clean clean)) clean;
-    same = λ settled clean is_open.
-        let before = second.leaves.clean clean in
-        let kept = first.same settled before (first.leaves.answered before).1 in
-        let mid_settled : mid.now ≡ mid.committed = kept.0 ∙ settled ∙ sym kept.1 in
-        let last = second.same mid_settled clean is_open in
-        (last.0 ∙ kept.0, last.1 ∙ kept.1);
-    crash = λ clean trees may. first.crash (second.leaves.clean clean) trees (second.crash clean trees may);
+  pub carried_survives : (a : Ask) (allowed : Allowed) (result : Result ⊤ StoreFault) → CarriesOut g a allowed old new result → Survives (meaning_over g) old new
+  carried_survives a allowed result carried = elim carried.tried [
+    | inl asks ↦ call_survives carried.write result asks
+    | inr unasked ↦ subst (Survives (meaning_over g) old) (sym unasked.same) (survives_none (meaning_over g) old)
+  ]
+
+module _ {S : Type 0} (g : Ghosts S) (before old new : Held S) (r : Request) (token : is_token r.token ≡ true) (forms : HasForms r.ask) (allowed : Allowed)
+    (permitted : IsPermitted (meaning_over g) before old r allowed) where
+  -- there was no memory for the write
+  unwritten : IsHandled (meaning_over g) before old r (Fault faults.Memory)
+  unwritten = record {
+    survives = permitted.leaves.survives;
+    answer = λ h office clean. tt;
+    cause = λ h office clean. tt;
+    approved = λ h office clean. tt;
+    office = permitted.leaves.office;
+    stands = λ h office clean. tt;
+    kept = permitted.leaves.kept;
+    crash = λ h office clean left may. inl (permitted.leaves.crash clean left may);
   }
 
--- ---- a request that reads
+  module _ (w : Write) (is : write_of r.ask allowed ≡ Some w) where
+    -- a write of what is allowed on this history
+    makes : (h : History) → IsLawfulHistory h → (to : IsAllowedTo h r allowed) → MakesWith h to.event w
+    makes h lawful to = makes_of h lawful allowed (showing_is h (digest_of r.token) allowed.caller to.caller).0 r.ask to.event to.asked to.lawful to.revision w is
 
-module _ {Refuses : Refusing} {Of : History → Type 0} (judge : History → Verdict) where
-  -- it is refused before anything is read
-  pub refused_at_once : (s : State) (d : Denial) (fault : Option (List ℕ)) → IsIdle s → ((h : History) → Of h → judge h ≡ denied d fault)
-      → CarriesFor Refuses Of s s (Err (refusals.Denied d fault)) judge
-  refused_at_once s d fault idle is = record {
-    idle = idle;
-    clean = λ clean. clean;
-    survives = survives_same s _;
-    settled = λ settled. settled;
-    stays = λ clean is_open. is_open;
-    shut = λ clean shut. shut;
-    told = λ h lawful shows clean. ap answer_of (is h lawful);
-    cause = λ h lawful shows clean. tt;
-    shown = λ h lawful shows clean. shows;
-    same = λ settled clean is_open. (refl, refl);
-    crash = λ h lawful shows clean trees may. inl may;
-  }
+    module _ (result : Result ⊤ StoreFault) (asks : Asks g w old new result) where
+      survives : Survives (meaning_over g) before new
+      survives = survives_on (meaning_over g) before old new permitted.leaves.survives (call_survives g old new w result asks)
 
-  -- nothing is done for no memory
-  pub failed_at_once : (s : State) (f : StoreFault) → IsIdle s → f ≡ NoMemory → CarriesFor Refuses Of s s (Err (refusals.Fault f)) judge
-  failed_at_once s f idle memory = record {
-    idle = idle;
-    clean = λ clean. clean;
-    survives = survives_same s _;
-    settled = λ settled. settled;
-    stays = λ clean is_open. tt;
-    shut = λ clean shut. shut;
-    told = λ h lawful shows clean. never_memory f memory;
-    cause = λ h lawful shows clean. inl (of_memory s s f memory);
-    shown = λ h lawful shows clean. shows;
-    same = λ settled clean is_open. (refl, refl);
-    crash = λ h lawful shows clean trees may. inl may;
-  }
+      -- what is allowed where the disk is clean
+      may_at : (h : History) → IsOffice h (state g before) → HasCleanDisk (state g new) → IsAllowedTo h r allowed
+      may_at h office clean = permitted.allowed h office (asks.written.leaves.clean clean)
 
-  module _ {A : Type 0} (old new : State) (F : Tables → A → Type 0) where
-    -- a read failed
-    pub read_fails : (f : StoreFault) → IsRead {A = A} old new (Err f) F → CarriesFor Refuses Of old new (Err (refusals.Fault f)) judge
-    read_fails f read = record {
-      idle = read.leaves.idle;
-      clean = read.leaves.clean;
-      survives = read.leaves.survives;
-      settled = λ settled. read.leaves.settled;
-      stays = λ clean is_open. tt;
-      shut = λ clean shut. (read.leaves.shut clean shut).0;
-      told = λ h lawful shows clean is. never_unformed {A = A} old new (Err f) (read.cause (tables_of h) shows clean) (ap Err is);
-      cause = λ h lawful shows clean. inl (read.cause (tables_of h) shows clean);
-      shown = λ h lawful shows clean. read.shown (tables_of h) shows clean;
-      same = read.same;
-      crash = λ h lawful shows clean trees may. inl (read.crash clean trees may);
-    }
+      shows_at : (h : History) → IsOffice h (state g before) → HasCleanDisk (state g new) → ShowsIfOpen (state g old) (tables_of h)
+      shows_at h office clean = (permitted.leaves.office h office).tables (asks.written.leaves.clean clean)
 
-    module _ (a : A) (read : IsRead old new (Ok a) F) where
-      -- memory was wanted after it
-      pub fails_after : (f : StoreFault) → f ≡ NoMemory → CarriesFor Refuses Of old new (Err (refusals.Fault f)) judge
-      fails_after f memory = record {
-        idle = read.leaves.idle;
-        clean = read.leaves.clean;
-        survives = read.leaves.survives;
-        settled = λ settled. read.leaves.settled;
-        stays = λ clean is_open. tt;
-        shut = λ clean shut. (read.leaves.shut clean shut).0;
-        told = λ h lawful shows clean. never_memory f memory;
-        cause = λ h lawful shows clean. inl (of_memory old new f memory);
-        shown = λ h lawful shows clean. read.shown (tables_of h) shows clean;
-        same = read.same;
-        crash = λ h lawful shows clean trees may. inl (read.crash clean trees may);
-      }
+      crash : (h : History) → IsOffice h (state g before) → HasCleanDisk (state g new) → (trees : Trees) → (state g new).may_leave trees
+          → (state g before).may_leave trees ⊎ AreWithEvent (meaning_over g) h (verdict h r) trees
+      crash h office clean trees may =
+          let to = may_at h office clean in
+          elim (asks.written.crash (tables_of h) (tables_of (to.event ∷ h)) (shows_at h office clean) (makes h office.lawful to) clean trees may) [
+            | inl earlier ↦ inl (permitted.leaves.crash (asks.written.leaves.clean clean) trees earlier)
+            | inr left ↦ inr (subst (λ v. AreWithEvent (meaning_over g) h v trees) (sym to.verdict) left)
+          ]
 
-      -- what it found is refused
-      pub refused_after : (d : Denial) (fault : Option (List ℕ)) → ((h : History) → Of h → F (tables_of h) a → judge h ≡ denied d fault)
-          → CarriesFor Refuses Of old new (Err (refusals.Denied d fault)) judge
-      refused_after d fault is = record {
-        idle = read.leaves.idle;
-        clean = read.leaves.clean;
-        survives = read.leaves.survives;
-        settled = λ settled. read.leaves.settled;
-        stays = λ clean is_open. (read.leaves.answered clean).1;
-        shut = λ clean shut. (read.leaves.shut clean shut).0;
-        told = λ h lawful shows clean. ap answer_of (is h lawful (read.found (tables_of h) shows clean));
-        cause = λ h lawful shows clean. tt;
-        shown = λ h lawful shows clean. read.shown (tables_of h) shows clean;
-        same = read.same;
-        crash = λ h lawful shows clean trees may. inl (read.crash clean trees may);
-      }
+    -- it is written
+    done : Asks g w old new (Ok tt) → IsHandled (meaning_over g) before new r (Done allowed.reply)
+    done asks =
+        let answer : (h : History) → IsOffice h (state g before) → HasCleanDisk (state g new) → IsAnswer h r (Done allowed.reply) = λ h office clean.
+        sym (ap answer_of (may_at (Ok tt) asks h office clean).verdict) in
+        let shown : (h : History) → IsOffice h (state g before) → HasCleanDisk (state g new) → ShowsIfOpen (state g new) (tables_of (with_event (event_of (verdict h r)) h)) = λ h office clean.
+        let to = may_at (Ok tt) asks h office clean in
+        let shows = asks.written.done (tables_of h) (tables_of (to.event ∷ h)) (shows_at (Ok tt) asks h office clean) (makes h office.lawful to) clean in
+        subst (λ v. ShowsIfOpen (state g new) (tables_of (with_event (event_of v) h))) (sym to.verdict) (λ is_open. shows) in
+        let office : (h : History) → IsOffice h (state g before) → IsOffice (with_event (event_of (verdict h r)) h) (state g new) = λ h office. record {
+          idle = asks.written.leaves.idle;
+          lawful = lawful_after h r (verdict h r) token forms refl office.lawful;
+          tables = shown h office;
+        } in
+        record {
+          survives = survives (Ok tt) asks;
+          answer = answer;
+          cause = λ h office clean. tt;
+          approved = λ h office clean. given_out_approved h r (Done allowed.reply) office.lawful (answer h office clean);
+          office = office;
+          stands = λ h of clean.
+              let is_open = (asks.written.leaves.answered clean).1 in
+              record {
+                is_of = office h of;
+                is_open = is_open;
+                leaves = asks.written.leaves.settled (tables_of (with_event (event_of (verdict h r)) h)) (shown h of clean is_open);
+              };
+          kept = λ clean reads. absurd (let k : only_reads r.ask ≡ true = reads in let c : true ≡ false = sym k ∙ changing r.ask allowed permitted.event.event permitted.event.asked in cc);
+          crash = crash (Ok tt) asks;
+        }
 
-      -- what it found is told
-      pub told_after : (reply : Reply) → ((h : History) → Of h → F (tables_of h) a → judge h ≡ accepted reply None)
-          → CarriesFor Refuses Of old new (Ok reply) judge
-      told_after reply is = record {
-        idle = read.leaves.idle;
-        clean = read.leaves.clean;
-        survives = read.leaves.survives;
-        settled = λ settled. read.leaves.settled;
-        stays = λ clean is_open. (read.leaves.answered clean).1;
-        shut = λ clean shut. (read.leaves.shut clean shut).0;
-        told = λ h lawful shows clean. ap answer_of (is h lawful (read.found (tables_of h) shows clean));
-        cause = λ h lawful shows clean. tt;
-        shown = λ h lawful shows clean.
-            subst (λ v. ShowsIfOpen new (tables_of (after h v (Ok reply)))) (sym (is h lawful (read.found (tables_of h) shows clean))) (read.shown (tables_of h) shows clean);
-        same = λ settled clean. tt;
-        crash = λ h lawful shows clean trees may. inl (read.crash clean trees may);
-      }
+    -- there was a fault
+    failed : (fault : StoreFault) → Asks g w old new (Err fault) → IsHandled (meaning_over g) before new r (Fault (told_of fault))
+    failed fault asks =
+        let result : Result ⊤ StoreFault = Err fault in
+        record {
+          survives = survives result asks;
+          answer = λ h office clean.
+              let to = may_at result asks h office clean in
+              passing h r fault
+              (λ same. asks.written.formed (tables_of h) (tables_of (to.event ∷ h)) (shows_at result asks h office clean) (makes h office.lawful to) clean (ap Err same));
+          cause = λ h office clean.
+              let to = may_at result asks h office clean in
+              let earlier = asks.written.leaves.clean clean in
+              let is_open = (permitted.stands h office earlier).is_open in
+              let shows = shows_at result asks h office clean in
+              let formed = asks.written.formed (tables_of h) (tables_of (to.event ∷ h)) shows (makes h office.lawful to) clean in
+              caused g before new h r fault (λ same. formed (ap Err same))
+              (elim (asks.cause clean).met [
+                | inl met ↦ inl (met_between (state g before) (state g old) (state g new) (state g new) fault permitted.leaves.survives.counts (omega arith) (never_both (state g old).is_open is_open) met)
+                | inr refused ↦ inr (subst (λ v. RefusesEvent (meaning_over g) h v (told_of fault)) (sym to.verdict) (
+                  fault,
+                  refl,
+                  record {
+                    write = w;
+                    makes = makes h office.lawful to;
+                    over = old;
+                    idle = (permitted.leaves.office h office).idle;
+                    shows = shows is_open;
+                    refused = refused;
+                  },
+                ))
+              ]);
+          approved = λ h office clean. tt;
+          office = λ h office. record {
+            idle = asks.written.leaves.idle;
+            lawful = office.lawful;
+            tables = λ clean. asks.written.undone (tables_of h) (shows_at result asks h office clean) clean;
+          };
+          stands = λ h office clean. tt;
+          kept = λ clean.
+              (meaning_over g).keeps_on before old new (permitted.leaves.kept (asks.written.leaves.clean clean))
+              (record { shut = (call_survives g old new w result asks).shut clean; same = λ settled. asks.written.same settled clean });
+          crash = crash result asks;
+        }
 
--- ---- a request that writes
+    tried : (result : Result ⊤ StoreFault) → Tries g w old new result → IsHandled (meaning_over g) before new r (answer_in allowed (outcome_of result))
+    tried (Ok tt) (inl asks) = done asks
+    tried (Err fault) (inl asks) = failed fault asks
+    tried result (inr unasked) =
+        subst (λ x. IsHandled (meaning_over g) before new r (answer_in allowed (outcome_of x))) (sym unasked.memory)
+        (subst (λ x. IsHandled (meaning_over g) before x r (Fault faults.Memory)) (sym unasked.same) unwritten)
 
--- a write met this fault, or the store refuses all that makes the tables which it was to make
-abbrev pub IsMet : Refusing → (mid new : State) → (Tables → Tables → Type 0) → StoreFault → Type 0
-IsMet Refuses mid new Makes f = HasFailed mid new f ⊎ ((t u : Tables) → IsIdle mid → Shows mid t → Makes t u → Refuses t u f)
-
--- so it is of a write of the store
-pub met_by : {S : Type 0} (g : Ghosts S) (w : Write) (mid new : Held S) (f : StoreFault) → HasMet g (statements_of w) mid new f → IsMet (RefusesToMake g) (state g mid) (state g new) (MakesBy w) f
-met_by g w mid new f it = elim it.met [
-  | inl failed ↦ inl failed
-  | inr refused ↦ inr (λ t u idle shows makes. record { write = w; makes = makes; over = mid; idle = idle; shows = shows; refused = refused })
-]
-
--- the verdict adds an event, and the write makes the tables with it
-pub record Adds (h : History) (v : Verdict) (reply : Reply) (Makes : Tables → Tables → Type 0) : Type 0 where
-  pub event : Event
-  pub is : v ≡ accepted reply (Some event)
-  pub makes : Makes (tables_of h) (tables_of (event ∷ h))
-
-module _ {Of : History → Type 0} (judge : History → Verdict) {A B : Type 0} (old mid new : State) (F : Tables → A → Type 0) (a : A) (read : IsRead old mid (Ok a) F)
-    (reply : Reply) (Makes : Tables → Tables → Type 0) (adds : (h : History) → Of h → F (tables_of h) a → Adds h (judge h) reply Makes) where
-  module _ (result : Result B StoreFault) (write : IsWrite mid new result Makes) where
-    adds_at : (h : History) → Of h → ShowsIfOpen old (tables_of h) → HasCleanDisk new → Adds h (judge h) reply Makes
-    adds_at h lawful shows clean = adds h lawful (read.found (tables_of h) shows (write.leaves.clean clean))
-
-    crash_of : (h : History) → Of h → ShowsIfOpen old (tables_of h) → MayLeave old new (AreWithEvent h (judge h))
-    crash_of h lawful shows clean trees may =
-        let before = write.leaves.clean clean in
-        let it = adds_at h lawful shows clean in
-        elim (write.crash (tables_of h) (tables_of (it.event ∷ h)) (read.shown (tables_of h) shows before) it.makes clean trees may) [
-          | inl earlier ↦ inl (read.crash before trees earlier)
-          | inr left ↦ inr (subst (λ v. AreWithEvent h v trees) (sym it.is) left)
-        ]
-
-  -- it is carried out
-  pub written : {Refuses : Refusing} (b : B) → IsWrite mid new (Ok b) Makes → CarriesFor Refuses Of old new (Ok reply) judge
-  written b write = record {
-    idle = write.leaves.idle;
-    clean = λ clean. read.leaves.clean (write.leaves.clean clean);
-    survives = survives_then old mid new _ _ (λ _. Unit {0}) (λ _ trees left. tt) (λ _ trees left. tt) read.leaves.survives write.leaves.survives;
-    settled = λ settled. write.leaves.settled;
-    stays = λ clean is_open. (write.leaves.answered clean).1;
-    shut = λ clean shut. never_both old.is_open (read.leaves.answered (write.leaves.clean clean)).0 shut;
-    told = λ h lawful shows clean. ap answer_of (adds_at (Ok b) write h lawful shows clean).is;
-    cause = λ h lawful shows clean. tt;
-    shown = λ h lawful shows clean.
-        let it = adds_at (Ok b) write h lawful shows clean in
-        let done = write.done (tables_of h) (tables_of (it.event ∷ h)) (read.shown (tables_of h) shows (write.leaves.clean clean)) it.makes clean in
-        subst (λ v. ShowsIfOpen new (tables_of (after h v (Ok reply)))) (sym it.is) (λ is_open. done);
-    same = λ settled clean. tt;
-    crash = crash_of (Ok b) write;
-  }
-
-  -- it failed
-  pub write_fails : {Refuses : Refusing} (f : StoreFault) → IsWrite {A = B} mid new (Err f) Makes → (HasCleanDisk new → IsMet Refuses mid new Makes f) → CarriesFor Refuses Of old new (Err (refusals.Fault f)) judge
-  write_fails {Refuses = Refuses} f write met = record {
-    idle = write.leaves.idle;
-    clean = λ clean. read.leaves.clean (write.leaves.clean clean);
-    survives = survives_then old mid new _ _ (λ _. Unit {0}) (λ _ trees left. tt) (λ _ trees left. tt) read.leaves.survives write.leaves.survives;
-    settled = λ settled. write.leaves.settled;
-    stays = λ clean is_open. tt;
-    shut = λ clean shut. never_both old.is_open (read.leaves.answered (write.leaves.clean clean)).0 shut;
-    told = λ h lawful shows clean is.
-        let it = adds_at (Err f) write h lawful shows clean in
-        write.formed (tables_of h) (tables_of (it.event ∷ h)) (read.shown (tables_of h) shows (write.leaves.clean clean)) it.makes clean (ap Err is);
-    cause = λ h lawful shows clean.
-        let before = write.leaves.clean clean in
-        let is_open = (read.leaves.answered before).1 in
-        let it = adds_at (Err f) write h lawful shows clean in
-        elim (met clean) [
-          | inl failed ↦ inl (met_between old mid new new f read.leaves.survives.counts (omega arith) (never_both mid.is_open is_open) failed)
-          | inr refused ↦ inr (subst (λ v. RefusesEvent Refuses h v f) (sym it.is)
-              (refused (tables_of h) (tables_of (it.event ∷ h)) read.leaves.idle (read.shown (tables_of h) shows before is_open) it.makes))
-        ];
-    shown = λ h lawful shows clean. write.undone (tables_of h) (read.shown (tables_of h) shows (write.leaves.clean clean)) clean;
-    same = λ settled clean is_open.
-        let before = write.leaves.clean clean in
-        let kept = read.same settled before (read.leaves.answered before).1 in
-        let mid_settled : mid.now ≡ mid.committed = kept.0 ∙ settled ∙ sym kept.1 in
-        let last = write.same mid_settled clean is_open in
-        (last.0 ∙ kept.0, last.1 ∙ kept.1);
-    crash = crash_of (Err f) write;
-  }
-
--- ---- a read before the rest of a request
-
-tells_as : (v w : Verdict) (result : Result Reply Refusal) → v ≡ w → Tells v result → Tells w result
-tells_as v w result is tells = subst (λ u. Tells u result) is tells
-
-cause_from : (Refuses : Refusing) (h : History) (v w : Verdict) (result : Result Reply Refusal) (old mid new : State) → v ≡ w → old.faults ≤ mid.faults → IsTrue mid.is_open
-    → HasCause Refuses mid new h v result → HasCause Refuses old new h w result
-cause_from Refuses h v w (Ok reply) old mid new is before is_open cause = tt
-cause_from Refuses h v w (Err (refusals.Denied denial fault)) old mid new is before is_open cause = tt
-cause_from Refuses h v w (Err (refusals.Fault f)) old mid new is before is_open (inl failed) = inl (met_between old mid new new f before (omega arith) (never_both mid.is_open is_open) failed)
-cause_from Refuses h v w (Err (refusals.Fault f)) old mid new is before is_open (inr refused) = inr (subst (λ x. RefusesEvent Refuses h x f) is refused)
-
-same_from : (result : Result Reply Refusal) (old mid new : State) → OnErr result (IsAsItWas mid new) → (mid.now ≡ old.now) × (mid.committed ≡ old.committed) → OnErr result (IsAsItWas old new)
-same_from (Ok reply) old mid new same kept = tt
-same_from (Err refusal) old mid new same kept = λ is_open. ((same is_open).0 ∙ kept.0, (same is_open).1 ∙ kept.1)
-
--- what was found may tell more of the history
-pub then_carries_for : {Refuses : Refusing} (Of Then : History → Type 0) (judge first : History → Verdict) {A : Type 0} (old mid new : State) (F : Tables → A → Type 0)
-    (a : A) (read : IsRead old mid (Ok a) F) (result : Result Reply Refusal)
-    → ((h : History) → Of h → F (tables_of h) a → Then h) → ((h : History) → Of h → F (tables_of h) a → first h ≡ judge h)
-    → CarriesFor Refuses Then mid new result first → CarriesFor Refuses Of old new result judge
-then_carries_for {Refuses = Refuses} Of Then judge first old mid new F a read result more is rest =
-    let is_at : (h : History) → Of h → ShowsIfOpen old (tables_of h) → HasCleanDisk new → first h ≡ judge h =
-    λ h lawful shows clean. is h lawful (read.found (tables_of h) shows (rest.clean clean)) in
-    let more_at : (h : History) → Of h → ShowsIfOpen old (tables_of h) → HasCleanDisk new → Then h =
-    λ h lawful shows clean. more h lawful (read.found (tables_of h) shows (rest.clean clean)) in
-    let between : (h : History) → ShowsIfOpen old (tables_of h) → HasCleanDisk new → ShowsIfOpen mid (tables_of h) = λ h shows clean. read.shown (tables_of h) shows (rest.clean clean) in
-    record {
-      idle = rest.idle;
-      clean = λ clean. read.leaves.clean (rest.clean clean);
-      survives = survives_then old mid new _ _ (λ _. Unit {0}) (λ _ trees left. tt) (λ _ trees left. tt) read.leaves.survives rest.survives;
-      settled = λ settled. rest.settled read.leaves.settled;
-      stays = λ clean is_open. rest.stays clean (read.leaves.answered (rest.clean clean)).1;
-      shut = λ clean shut. never_both old.is_open (read.leaves.answered (rest.clean clean)).0 shut;
-      told = λ h lawful shows clean. tells_as (first h) (judge h) result (is_at h lawful shows clean) (rest.told h (more_at h lawful shows clean) (between h shows clean) clean);
-      cause = λ h lawful shows clean.
-          cause_from Refuses h (first h) (judge h) result old mid new (is_at h lawful shows clean) read.leaves.survives.counts (read.leaves.answered (rest.clean clean)).1
-          (rest.cause h (more_at h lawful shows clean) (between h shows clean) clean);
-      shown = λ h lawful shows clean.
-          subst (λ v. ShowsIfOpen new (tables_of (after h v result))) (is_at h lawful shows clean) (rest.shown h (more_at h lawful shows clean) (between h shows clean) clean);
-      same = λ settled clean.
-          let before = rest.clean clean in
-          let kept = read.same settled before (read.leaves.answered before).1 in
-          let mid_settled : mid.now ≡ mid.committed = kept.0 ∙ settled ∙ sym kept.1 in
-          same_from result old mid new (rest.same mid_settled clean) kept;
-      crash = λ h lawful shows clean trees may.
-          elim (rest.crash h (more h lawful (read.found (tables_of h) shows (rest.clean clean))) (between h shows clean) clean trees may) [
-            | inl earlier ↦ inl (read.crash (rest.clean clean) trees earlier)
-            | inr left ↦ inr (subst (λ v. AreWithEvent h v trees) (is_at h lawful shows clean) left)
-          ];
-    }
-
-pub then_carries : {Refuses : Refusing} (judge first : History → Verdict) {A : Type 0} (old mid new : State) (F : Tables → A → Type 0) (a : A) (read : IsRead old mid (Ok a) F) (result : Result Reply Refusal)
-    → ((h : History) → IsLawfulHistory h → F (tables_of h) a → first h ≡ judge h) → CarriesOut Refuses mid new result first → CarriesOut Refuses old new result judge
-then_carries judge first old mid new F a read result is rest =
-    then_carries_for IsLawfulHistory IsLawfulHistory judge first old mid new F a read result (λ h lawful found. lawful) is rest
-
--- what a read keeps, what comes after it may keep
-pub kept_then : {A : Type 0} (old mid new : State) (F : Tables → A → Type 0) (a : A) → IsRead old mid (Ok a) F → (HasCleanDisk new → HasCleanDisk mid) → IsKept mid new → IsKept old new
-kept_then old mid new F a read back then settled clean is_open =
-    let before = back clean in
-    let kept = read.same settled before (read.leaves.answered before).1 in
-    let between : mid.now ≡ mid.committed = kept.0 ∙ settled ∙ sym kept.1 in
-    let last = then between clean is_open in
-    (last.0 ∙ kept.0, last.1 ∙ kept.1)
-
--- what is so of many histories is so of fewer
-pub for_fewer : {Refuses : Refusing} (Of Less : History → Type 0) (old new : State) (result : Result Reply Refusal) (judge : History → Verdict)
-    → ((h : History) → Less h → Of h)
-    → CarriesFor Refuses Of old new result judge → CarriesFor Refuses Less old new result judge
-for_fewer Of Less old new result judge is all = record {
-  idle = all.idle;
-  clean = all.clean;
-  survives = all.survives;
-  settled = all.settled;
-  stays = all.stays;
-  shut = all.shut;
-  told = λ h less. all.told h (is h less);
-  cause = λ h less. all.cause h (is h less);
-  shown = λ h less. all.shown h (is h less);
-  same = all.same;
-  crash = λ h less. all.crash h (is h less);
-}
+  -- whatever it came to
+  pub carried_is : (result : Result ⊤ StoreFault) → CarriesOut g r.ask allowed old new result → IsHandled (meaning_over g) before new r (answer_in allowed (outcome_of result))
+  carried_is result carried = tried carried.write carried.is result carried.tried

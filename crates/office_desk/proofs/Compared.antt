@@ -11,7 +11,7 @@ use Rattle.office_policy.specs.Revisions.{revision_of}
 use Rattle.office_policy.specs.Baseline.{adoption_of, adopted_revision, listed_of, standing_adoption, unless_withdrawn}
 use Rattle.office_policy.specs.LooksBack.{LooksBack}
 use Rattle.office_desk.specs.Compared.{compared_at}
-use Rattle.office_desk.proofs.Carrying.{read_both}
+use Rattle.office_desk.proofs.Judging.{read_both}
 
 -- what two reads found, one after the other
 pub read_pair : {A B : Type 0} (old mid new : State) (F : Tables → A → Type 0) (G : Tables → B → Type 0) (a : A) (b : B)

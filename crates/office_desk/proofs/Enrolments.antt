@@ -1,5 +1,5 @@
 -- How an enrolment meets its verdict.
-use Rattle.std.proofs.Common.{◌≡◌, ◌∙◌, ℕ, List, Bool, true, false, not, Option, Some, None, Err, Ok, sym, ap, subst}
+use Rattle.std.proofs.Common.{◌≡◌, ◌∙◌, ℕ, List, Bool, true, false, not, Option, Some, None, Err, Ok, ap, subst}
 use Rattle.std.specs.Prelude.{Result, ⊤}
 use Rattle.review_policy.specs.declared.ask.Ask.TheVariants as ask
 use Rattle.review_policy.specs.declared.answer.Reply.TheVariants.{Enrolled}
@@ -10,18 +10,14 @@ use Rattle.review_policy.specs.Rules.{first_denial, enrol_rules}
 use Rattle.office_tables.specs.declared.row.UserRow.{UserRow}
 use Rattle.office_tables.specs.Tables.{Tables}
 use Rattle.office_tables.specs.Reads.{IsUserShowing}
-use Rattle.office_tables.specs.Changes.{with_user}
 use Rattle.office_tables.specs.Lists.{holds_role}
-use Rattle.office_store.specs.Calls.{Into}
-use Rattle.office_policy.specs.History.{History, enrolled}
+use Rattle.office_policy.specs.History.{History}
 use Rattle.office_policy.specs.Users.{user_of, user_showing, is_named}
 use Rattle.office_policy.specs.Facts.{enrol_facts, is_elsewhere, is_another}
 use Rattle.office_policy.specs.Verdict.{denied, verdict_of}
-use Rattle.office_policy.specs.TablesOf.{tables_of}
 use Rattle.office_policy.specs.LooksBack.{LooksBack}
-use Rattle.office_policy.proofs.EventFacts.{enrolled_tables}
 use Rattle.office_policy.proofs.LookUps.{shower_is}
-use Rattle.office_desk.proofs.Carrying.{Adds}
+use Rattle.office_desk.specs.Judged.{Accepts}
 use Rattle.office_desk.proofs.Handling.{denied_is, allowed_is}
 
 by_caller : (missing own fixed taken : Bool) (d : Denial)
@@ -62,11 +58,6 @@ module _ (h : History) (caller : UserRow) (user team : List ℕ) (roles : ℕ) (
         → verdict_of h (Some caller) (ask.Enrol user team roles digest) ≡ denied d None
     refused d e = denied_is h (Some caller) (ask.Enrol user team roles digest) d (subst (λ f. Decides caller user team f (Err d)) is e)
 
-    -- an enrolment that is allowed adds its event
-    pub adds : (row : UserRow) → row ≡ record { name = user; team = team; roles = roles; digest = digest } → Decides caller user team found (Ok tt)
-        → Adds h (verdict_of h (Some caller) (ask.Enrol user team roles digest)) Enrolled (Into (with_user row))
-    adds row of e = record {
-      event = enrolled caller.name user team roles digest;
-      is = allowed_is h (Some caller) (ask.Enrol user team roles digest) (subst (λ f. Decides caller user team f (Ok tt)) is e);
-      makes = sym (ap (λ r. with_user r (tables_of h)) of ∙ enrolled_tables h caller.name user team roles digest);
-    }
+    -- none refuses it
+    pub accepts : Decides caller user team found (Ok tt) → Accepts caller (ask.Enrol user team roles digest) h Enrolled
+    accepts e = allowed_is h (Some caller) (ask.Enrol user team roles digest) (subst (λ f. Decides caller user team f (Ok tt)) is e)

@@ -1,46 +1,50 @@
--- How a request meets its verdict, and what it leaves of an office.
-use Rattle.std.proofs.Common.{◌⊎◌, inl, inr, ◌≡◌, ◌≢◌, ◌∙◌, ℕ, List, Bool, true, false, Option, Some, None, Result, Ok, Err, IsTrue, refl, sym, ap, subst}
+-- How a request meets its verdict, and what judging it leaves of an office.
+use Rattle.std.proofs.Common.{inl, inr, ◌⊎◌, ◌≡◌, ◌≢◌, ◌∙◌, List, ℕ, Bool, true, false, Option, Some, None, Result, Ok, Err, IsTrue, refl, sym, ap, subst}
 use Rattle.sqlite.specs.Held.{Held, state}
 use Rattle.sqlite.specs.State.{State, HasCleanDisk}
 use Rattle.sqlite.specs.Store.{Ghosts}
-use Rattle.sqlite_trees.specs.Tree.{Trees}
 use Rattle.review_policy.specs.Words.{is_token}
 use Rattle.review_policy.specs.Rules.{first_denial}
 use Rattle.review_policy.specs.declared.ask.Ask.{Ask}
 use Rattle.review_policy.specs.declared.ask.Ask.TheVariants as ask
 use Rattle.review_policy.specs.declared.ask.Request.{Request}
-use Rattle.review_policy.specs.declared.answer.Answer.{Answer}
 use Rattle.review_policy.specs.declared.answer.Answer.TheVariants.{Done, Denied, Fault}
+use Rattle.review_policy.specs.declared.answer.Fault.{Fault as TheFault}
 use Rattle.review_policy.specs.declared.answer.Reply.{Reply}
 use Rattle.review_policy.specs.declared.denial.Denial.{Denial}
 use Rattle.review_policy.specs.declared.denial.Rule.TheVariants.{CallerUnknown}
 use Rattle.office_tables.specs.declared.fault.StoreFault.{StoreFault}
 use Rattle.office_tables.specs.declared.fault.StoreFault.TheVariants.{NoMemory, Disk, Full, NotAnOffice}
+use Rattle.office_tables.specs.declared.row.RevisionRow.{RevisionRow}
 use Rattle.office_tables.specs.declared.row.UserRow.{UserRow}
 use Rattle.office_tables.specs.Reads.{IsUserShowing}
 use Rattle.profile_text.specs.Digest.{digest_of}
+use Rattle.office_policy.specs.declared.judge.Allowed.{Allowed}
+use Rattle.office_policy.specs.declared.judge.Judgement.{Judgement}
+use Rattle.office_policy.specs.declared.judge.Judgement.TheVariants as judgements
 use Rattle.office_policy.specs.Users.{user_showing}
 use Rattle.office_policy.proofs.LookUps.{shower_is}
 use Rattle.office_rows.specs.Causes.{HasFailed}
-use Rattle.office_store.specs.Refusing.{RefusesToMake}
 use Rattle.office_store.specs.Shown.{ShowsIfOpen}
-use Rattle.office_policy.specs.History.{History}
+use Rattle.office_policy.specs.History.{Event, History}
 use Rattle.office_policy.specs.Verdict.{Verdict, accepted, denied, rules_of, done_of, fault_beside, judged, verdict_of, verdict}
-use Rattle.office_policy.specs.Formed.{HasForms}
+use Rattle.office_policy.specs.Formed.{HasForms, IsFormed}
 use Rattle.office_policy.specs.Lawful.{IsLawfulHistory}
 use Rattle.office_policy.specs.TablesOf.{tables_of}
 use Rattle.office_policy.specs.Runs.{answer_of, event_of, with_event, IsAnswer}
-use Rattle.office_policy.specs.Handled.{AreWithEvent as AreSeenWithEvent, RefusesEvent as SeesRefused, HasCause, IsHandled, Stands, Survives, only_reads}
+use Rattle.office_policy.specs.Handled.{HasCause, RefusesEvent, Stands, Survives}
+use Rattle.office_policy.specs.Judging.{HasEvent, IsAnswered, IsJudged, IsNextRevision, IsPermitted, LeavesAll, event_in}
 use Rattle.office_policy.proofs.HeadlineFacts.{given_out_approved}
-use Rattle.office_policy.proofs.LawFacts.{lawful_more}
+use Rattle.office_policy.proofs.LawFacts.{lawful_more, requested_allowed}
 use Rattle.office_policy.proofs.Numbered.{numbered}
 use Rattle.office_desk.specs.declared.refusal.Refusal.{Refusal}
 use Rattle.office_desk.specs.declared.refusal.Refusal.TheVariants as refusals
 use Rattle.office_desk.specs.Offices.{IsOffice}
-use Rattle.office_desk.specs.Told.{told_of, answer_to}
-use Rattle.office_desk.specs.Carries.{AreWithEvent, Refusing, RefusesEvent, UnlessFault, IsSettled, CarriesFor, CarriesOut, Knows, IsKept, ReadsOut, CarriesAsk}
-use Rattle.office_desk.specs.Meant.{Keeps, meaning_over}
-use Rattle.office_desk.proofs.Carrying.{never_both, for_fewer}
+use Rattle.office_desk.specs.Told.{told_of, judgement_of}
+use Rattle.office_desk.specs.Judged.{ComesTo, HasEventIn, IsSettled, Judges, JudgesAsk, JudgesFor, JudgesRequest, JudgesSubmission, UnlessFault, plainly, submission_of}
+use Rattle.office_desk.specs.Steps.{allowed_of, answered_of, submitted_of}
+use Rattle.office_desk.specs.Meant.{meaning_over}
+use Rattle.office_desk.proofs.Judging.{judged_as, never_both, refused_as}
 
 -- ---- verdicts
 
@@ -67,195 +71,234 @@ stranger h (ask.Fetch p) = refl
 stranger h (ask.Hold p) = refl
 stranger h (ask.Release p) = refl
 
--- what is asked is carried out, of the histories that know its caller; it is no request that only reads
-pub asked_known : {Refuses : Refusing} (old new : State) (result : Result Reply Refusal) (caller : UserRow) (a b : Ask) → b ≡ a → only_reads a ≡ false
-    → CarriesFor Refuses (Knows caller) old new result (λ h. verdict_of h (Some caller) a)
-    → CarriesAsk Refuses caller old new result b
-asked_known {Refuses = Refuses} old new result caller a b is changes carried = record {
-  carried = subst (λ x. CarriesFor Refuses (Knows caller) old new result (λ h. verdict_of h (Some caller) x)) (sym is) carried;
-  same = λ reads. absurd (let k : only_reads b ≡ true = reads in let c : true ≡ false = sym k ∙ ap only_reads is ∙ changes in cc);
-}
-
--- the same of what is carried out of all lawful ones
-pub asked : {Refuses : Refusing} (old new : State) (result : Result Reply Refusal) (caller : UserRow) (a b : Ask) → b ≡ a → only_reads a ≡ false
-    → CarriesOut Refuses old new result (λ h. verdict_of h (Some caller) a) → CarriesAsk Refuses caller old new result b
-asked {Refuses = Refuses} old new result caller a b is changes carried =
-    asked_known old new result caller a b is changes
-    (for_fewer IsLawfulHistory (Knows caller) old new result (λ h. verdict_of h (Some caller) a) (λ h knows. knows.lawful) carried)
-
--- and of a request that only reads
-pub asked_reading : {Refuses : Refusing} (old new : State) (result : Result Reply Refusal) (caller : UserRow) (a b : Ask) → b ≡ a
-    → ReadsOut Refuses old new result (λ h. verdict_of h (Some caller) a) → CarriesAsk Refuses caller old new result b
-asked_reading {Refuses = Refuses} old new result caller a b is read = record {
-  carried = subst (λ x. CarriesFor Refuses (Knows caller) old new result (λ h. verdict_of h (Some caller) x)) (sym is)
-      (for_fewer IsLawfulHistory (Knows caller) old new result (λ h. verdict_of h (Some caller) a) (λ h knows. knows.lawful) read.carried);
-  same = λ reads. read.same;
-}
-
--- a history knows the user who was found
-pub known : (h : History) → IsLawfulHistory h → (digest : List ℕ) (user : Option UserRow) (caller : UserRow) → user ≡ Some caller → IsUserShowing (tables_of h) digest user
-    → Knows caller h
-known h lawful digest user caller is showing = record { lawful = lawful; row = (subst (IsUserShowing (tables_of h) digest) is showing).0 }
-
 -- the caller is the user who was found by the token's digest
 pub called : (h : History) → IsLawfulHistory h → (r : Request) (digest : List ℕ) (user : Option UserRow) → digest ≡ digest_of r.token → IsUserShowing (tables_of h) digest user
     → verdict_of h user r.ask ≡ verdict h r
 called h lawful r digest user is showing = ap (λ u. verdict_of h u r.ask) (shower_is h lawful digest user showing ∙ ap (user_showing h) is)
 
-pub unless_fault : (result : Result Reply Refusal) (P : Type 0) → P → UnlessFault result P
-unless_fault (Ok reply) P p = p
-unless_fault (Err (refusals.Denied denial fault)) P p = p
-unless_fault (Err (refusals.Fault fault)) P p = tt
+-- who is the one who shows the token
+pub shows : (h : History) → IsLawfulHistory h → (r : Request) (digest : List ℕ) (user : Option UserRow) → digest ≡ digest_of r.token → IsUserShowing (tables_of h) digest user
+    → user_showing h (digest_of r.token) ≡ user
+shows h lawful r digest user is showing = sym (shower_is h lawful digest user showing ∙ ap (user_showing h) is)
 
-was_open_by : (old new : Bool) → (old ≡ false → new ≡ false) → IsTrue new → IsTrue old
-was_open_by true new shut is_open = refl
-was_open_by false new shut is_open = absurd (let k : new ≡ true = is_open in let c : true ≡ false = sym k ∙ shut refl in cc)
+-- ---- what a request comes to, by its kind
+
+module _ (old new : State) (caller : UserRow) (a b : Ask) (is : b ≡ a) where
+  for_same : (told : Result Judgement Refusal) → JudgesFor old new told caller a → JudgesFor old new told caller b
+  for_same told judged = subst (JudgesFor old new told caller) (sym is) judged
+
+  -- what only reads is answered
+  pub reads : ((reply : Reply) → event_in a (plainly caller reply) ≡ None) → (read : Result Reply Refusal) → JudgesAsk old new read caller a
+      → (told : Result Judgement Refusal) → told ≡ answered_of read → JudgesFor old new told caller b
+  reads none (Ok reply) judged told same =
+      for_same told (subst (λ t. JudgesFor old new t caller a) (sym same) (record {
+        judged = judged_as (λ h. verdict_of h (Some caller) a) old new reply (judgements.Answered (Done reply)) (λ h found. found ∙ ap (accepted reply) (none reply)) judged;
+        event = tt;
+      }))
+  reads none (Err refusal) judged told same =
+      for_same told (subst (λ t. JudgesFor old new t caller a) (sym same) (record { judged = refused_as (λ h. verdict_of h (Some caller) a) old new refusal judged; event = tt }))
+
+  -- what changes something is allowed
+  pub changes : (e : Event) → ((reply : Reply) → event_in a (plainly caller reply) ≡ Some e) → ((h : History) (allowed : Allowed) → IsNextRevision h a allowed)
+      → (decided : Result Reply Refusal) → JudgesAsk old new decided caller a → (told : Result Judgement Refusal) → told ≡ allowed_of decided caller → JudgesFor old new told caller b
+  changes e has next (Ok reply) judged told same =
+      for_same told (subst (λ t. JudgesFor old new t caller a) (sym same) (record {
+        judged = judged_as (λ h. verdict_of h (Some caller) a) old new reply (judgements.Allowed (plainly caller reply)) (λ h found. (refl, found, next h (plainly caller reply))) judged;
+        event = record { event = e; asked = has reply };
+      }))
+  changes e has next (Err refusal) judged told same =
+      for_same told (subst (λ t. JudgesFor old new t caller a) (sym same) (record { judged = refused_as (λ h. verdict_of h (Some caller) a) old new refusal judged; event = tt }))
+
+  -- and so is a submission
+  pub adds : ((row : RevisionRow) → (e : Event) × (event_in a (submission_of caller row) ≡ Some e))
+      → (decided : Result RevisionRow Refusal) → JudgesSubmission old new decided caller a → (told : Result Judgement Refusal) → told ≡ submitted_of decided caller → JudgesFor old new told caller b
+  adds has (Ok row) judged told same =
+      for_same told (subst (λ t. JudgesFor old new t caller a) (sym same) (record {
+        judged = judged_as (λ h. verdict_of h (Some caller) a) old new row (judgements.Allowed (submission_of caller row)) (λ h found. (refl, found.0, found.1)) judged;
+        event = record { event = (has row).0; asked = (has row).1 };
+      }))
+  adds has (Err refusal) judged told same =
+      for_same told (subst (λ t. JudgesFor old new t caller a) (sym same) (record { judged = refused_as (λ h. verdict_of h (Some caller) a) old new refusal judged; event = tt }))
+
+-- the caller who was found is the one who shows the token
+pub comes_as : (a : Ask) (first judge : History → Verdict) (h : History) (IsFirst IsCaller : History → UserRow → Type 0) → first h ≡ judge h → ((user : UserRow) → IsFirst h user → IsCaller h user)
+    → (told : Judgement) → ComesTo a first IsFirst h told → ComesTo a judge IsCaller h told
+comes_as a first judge h IsFirst IsCaller is shows (judgements.Answered (Done reply)) comes = sym is ∙ comes
+comes_as a first judge h IsFirst IsCaller is shows (judgements.Answered (Denied d fault)) comes = absurd comes
+comes_as a first judge h IsFirst IsCaller is shows (judgements.Answered (Fault fault)) comes = absurd comes
+comes_as a first judge h IsFirst IsCaller is shows (judgements.Allowed allowed) comes = (shows allowed.caller comes.0, sym is ∙ comes.1, comes.2)
 
 -- ---- the office after a request
 
-lawful_after : (h : History) (r : Request) (v : Verdict) → is_token r.token ≡ true → HasForms r.ask → verdict h r ≡ v → IsLawfulHistory h → IsLawfulHistory (with_event (event_of v) h)
+pub was_open_by : (old new : Bool) → (old ≡ false → new ≡ false) → IsTrue new → IsTrue old
+was_open_by true new shut is_open = refl
+was_open_by false new shut is_open = absurd (let k : new ≡ true = is_open in let c : true ≡ false = sym k ∙ shut refl in cc)
+
+pub lawful_after : (h : History) (r : Request) (v : Verdict) → is_token r.token ≡ true → HasForms r.ask → verdict h r ≡ v → IsLawfulHistory h → IsLawfulHistory (with_event (event_of v) h)
 lawful_after h r (accepted reply None) token forms is lawful = lawful
 lawful_after h r (accepted reply (Some e)) token forms is lawful =
     lawful_more h e lawful (record { request = r; formed = record { token = token; forms = forms; number = numbered h lawful r reply e is }; reply = reply; allowed = is })
 lawful_after h r (denied denial fault) token forms is lawful = lawful
 
-none_added : (v : Verdict) (d : Denial) (fault : Option (List ℕ)) → answer_of v ≡ Denied d fault → event_of v ≡ None
-none_added (accepted reply event) d fault is = absurd cc
-none_added (denied denial told) d fault is = refl
-
-passing : (h : History) (r : Request) (fault : StoreFault) → fault ≢ NotAnOffice → IsAnswer h r (Fault (told_of fault))
+pub passing : (h : History) (r : Request) (fault : StoreFault) → fault ≢ NotAnOffice → IsAnswer h r (Fault (told_of fault))
 passing h r NoMemory passes = tt
 passing h r Disk passes = tt
 passing h r Full passes = tt
 passing h r NotAnOffice passes = absurd (passes refl)
 
--- an event that the store refuses is one that the office refuses
-refused_event : {S : Type 0} (g : Ghosts S) (h : History) (v : Verdict) (fault : StoreFault) → RefusesEvent (RefusesToMake g) h v fault → SeesRefused (meaning_over g) h v (told_of fault)
-refused_event g h (accepted reply (Some e)) fault refused = (fault, refl, refused)
-refused_event g h (accepted reply None) fault refused = refused
-refused_event g h (denied denial told) fault refused = refused
-
 -- a fault over the connection is one of the office
-caused : {S : Type 0} (g : Ghosts S) (old new : Held S) (h : History) (r : Request) (fault : StoreFault) → fault ≢ NotAnOffice
-    → HasFailed (state g old) (state g new) fault ⊎ RefusesEvent (RefusesToMake g) h (verdict h r) fault → HasCause (meaning_over g) old new h r (Fault (told_of fault))
+pub caused : {S : Type 0} (g : Ghosts S) (old new : Held S) (h : History) (r : Request) (fault : StoreFault) → fault ≢ NotAnOffice
+    → HasFailed (state g old) (state g new) fault ⊎ RefusesEvent (meaning_over g) h (verdict h r) (told_of fault) → HasCause (meaning_over g) old new h r (Fault (told_of fault))
 caused g old new h r NoMemory passes cause = tt
 caused g old new h r Disk passes (inl (inl risen)) = λ is_open. inl risen
 caused g old new h r Disk passes (inl (inr shut)) = λ is_open. never_both (state g old).is_open is_open shut
-caused g old new h r Disk passes (inr refused) = λ is_open. inr (refused_event g h (verdict h r) Disk refused)
+caused g old new h r Disk passes (inr refused) = λ is_open. inr refused
 caused g old new h r Full passes (inl risen) = inl risen
-caused g old new h r Full passes (inr refused) = inr (refused_event g h (verdict h r) Full refused)
+caused g old new h r Full passes (inr refused) = inr refused
 caused g old new h r NotAnOffice passes cause = absurd (passes refl)
 
-event_seen : {S : Type 0} (g : Ghosts S) (h : History) (v : Verdict) (trees : Trees) → AreWithEvent h v trees → AreSeenWithEvent (meaning_over g) h v trees
-event_seen g h (accepted reply (Some e)) trees left = left
-event_seen g h (accepted reply None) trees left = absurd left
-event_seen g h (denied denial fault) trees left = absurd left
-
-module _ {S : Type 0} (g : Ghosts S) (old new : Held S) (r : Request) (token : is_token r.token ≡ true) (forms : HasForms r.ask) where
-  -- what was carried out survives, and a connection that was shut stays so
-  survives : (result : Result Reply Refusal) → CarriesOut (RefusesToMake g) (state g old) (state g new) result (λ h. verdict h r) → Survives (meaning_over g) old new
-  survives result carried = record {
-    clean = carried.clean;
-    counts = carried.survives.counts;
-    closes = carried.survives.closes;
-    shut = λ clean. was_open_by (state g old).is_open (state g new).is_open (carried.shut clean);
-  }
-
-  keeps : (result : Result Reply Refusal) → CarriesOut (RefusesToMake g) (state g old) (state g new) result (λ h. verdict h r) → IsKept (state g old) (state g new)
-      → HasCleanDisk (state g new) → Keeps (state g old) (state g new)
-  keeps result carried same clean = record { shut = (survives result carried).shut clean; same = λ settled. same settled clean }
-
-  crash : (result : Result Reply Refusal) → CarriesOut (RefusesToMake g) (state g old) (state g new) result (λ h. verdict h r)
-      → (h : History) → IsOffice h (state g old) → HasCleanDisk (state g new) → (trees : Trees) → (state g new).may_leave trees
-      → (state g old).may_leave trees ⊎ AreSeenWithEvent (meaning_over g) h (verdict h r) trees
-  crash result carried h office clean trees may =
-      elim (carried.crash h office.lawful (office.tables (carried.clean clean)) clean trees may) [
-        | inl before ↦ inl before
-        | inr with_event ↦ inr (event_seen g h (verdict h r) trees with_event)
-      ]
-
-  stands : (result : Result Reply Refusal) → CarriesOut (RefusesToMake g) (state g old) (state g new) result (λ h. verdict h r) → IsSettled (state g new)
-      → (h : History) → IsOffice h (state g new) → HasCleanDisk (state g new) → IsTrue (state g new).is_open → Stands (meaning_over g) h new
-  stands result carried settled h office clean is_open =
-      record { is_of = office; is_open = is_open; leaves = settled (tables_of h) (office.tables clean is_open) }
-
-  -- it was carried out
-  handled_done : (reply : Reply) → CarriesOut (RefusesToMake g) (state g old) (state g new) (Ok reply) (λ h. verdict h r) → (HasCleanDisk (state g new) → IsTrue (state g old).is_open)
-      → IsSettled (state g new) → (IsTrue (only_reads r.ask) → IsKept (state g old) (state g new)) → IsHandled (meaning_over g) old new r (Done reply)
-  handled_done reply carried was_open settled same =
-      let answer : (h : History) → IsOffice h (state g old) → HasCleanDisk (state g new) → IsAnswer h r (Done reply) = λ h office clean.
-      sym (carried.told h office.lawful (office.tables (carried.clean clean)) clean) in
-      let office : (h : History) → IsOffice h (state g old) → IsOffice (with_event (event_of (verdict h r)) h) (state g new) = λ h office. record {
-        idle = carried.idle;
-        lawful = lawful_after h r (verdict h r) token forms refl office.lawful;
-        tables = λ clean. carried.shown h office.lawful (office.tables (carried.clean clean)) clean;
+module _ {S : Type 0} (g : Ghosts S) (old new : Held S) where
+  -- judging changes nothing
+  left_all : {A : Type 0} {Found : History → A → Type 0} (result : Result A Refusal) (judge : History → Verdict) → Judges (state g old) (state g new) result judge Found → LeavesAll (meaning_over g) old new
+  left_all result judge judged =
+      let survives : Survives (meaning_over g) old new = record {
+        clean = judged.clean;
+        counts = judged.survives.counts;
+        closes = judged.survives.closes;
+        shut = λ clean. was_open_by (state g old).is_open (state g new).is_open (judged.shut clean);
       } in
       record {
-        survives = survives (Ok reply) carried;
-        answer = answer;
-        cause = λ h office clean. tt;
-        approved = λ h office clean. given_out_approved h r (Done reply) office.lawful (answer h office clean);
-        office = office;
-        stands = λ h of clean. stands (Ok reply) carried settled (with_event (event_of (verdict h r)) h) (office h of) clean (carried.stays clean (was_open clean));
-        kept = λ clean reads. keeps (Ok reply) carried (same reads) clean;
-        crash = crash (Ok reply) carried;
-      }
-
-  -- a rule refused it
-  handled_denied : (d : Denial) (fault : Option (List ℕ)) → CarriesOut (RefusesToMake g) (state g old) (state g new) (Err (refusals.Denied d fault)) (λ h. verdict h r)
-      → (HasCleanDisk (state g new) → IsTrue (state g old).is_open) → IsSettled (state g new) → IsHandled (meaning_over g) old new r (Denied d fault)
-  handled_denied d fault carried was_open settled =
-      let refused : Result Reply Refusal = Err (refusals.Denied d fault) in
-      let none : (h : History) → IsOffice h (state g old) → HasCleanDisk (state g new) → with_event (event_of (verdict h r)) h ≡ h = λ h office clean.
-      ap (λ e. with_event e h) (none_added (verdict h r) d fault (carried.told h office.lawful (office.tables (carried.clean clean)) clean)) in
-      let shown : (h : History) → IsOffice h (state g old) → HasCleanDisk (state g new) → ShowsIfOpen (state g new) (tables_of (with_event (event_of (verdict h r)) h)) = λ h office clean.
-      subst (λ k. ShowsIfOpen (state g new) (tables_of k)) (sym (none h office clean)) (carried.shown h office.lawful (office.tables (carried.clean clean)) clean) in
-      let office : (h : History) → IsOffice h (state g old) → IsOffice (with_event (event_of (verdict h r)) h) (state g new) = λ h office. record {
-        idle = carried.idle;
-        lawful = lawful_after h r (verdict h r) token forms refl office.lawful;
-        tables = shown h office;
-      } in
-      record {
-        survives = survives refused carried;
-        answer = λ h office clean. sym (carried.told h office.lawful (office.tables (carried.clean clean)) clean);
-        cause = λ h office clean. tt;
-        approved = λ h office clean. tt;
-        office = office;
-        stands = λ h of clean. stands refused carried settled (with_event (event_of (verdict h r)) h) (office h of) clean (carried.stays clean (was_open clean));
-        kept = λ clean. keeps refused carried carried.same clean;
-        crash = crash refused carried;
-      }
-
-  -- there was a fault
-  handled_fault : (fault : StoreFault) → CarriesOut (RefusesToMake g) (state g old) (state g new) (Err (refusals.Fault fault)) (λ h. verdict h r)
-      → IsHandled (meaning_over g) old new r (Fault (told_of fault))
-  handled_fault fault carried =
-      let failed : Result Reply Refusal = Err (refusals.Fault fault) in
-      record {
-        survives = survives failed carried;
-        answer = λ h office clean. passing h r fault (carried.told h office.lawful (office.tables (carried.clean clean)) clean);
-        cause = λ h office clean.
-            let shows = office.tables (carried.clean clean) in
-            caused g old new h r fault (carried.told h office.lawful shows clean) (carried.cause h office.lawful shows clean);
-        approved = λ h office clean. tt;
+        survives = survives;
         office = λ h office. record {
-          idle = carried.idle;
+          idle = judged.idle;
           lawful = office.lawful;
-          tables = λ clean. carried.shown h office.lawful (office.tables (carried.clean clean)) clean;
+          tables = λ clean. judged.shown (tables_of h) (office.tables (judged.clean clean)) clean;
         };
-        stands = λ h office clean. tt;
-        kept = λ clean. keeps failed carried carried.same clean;
-        crash = crash failed carried;
+        kept = λ clean. record { shut = survives.shut clean; same = λ settled. judged.same settled clean };
+        crash = judged.crash;
+      }
+
+  module _ (leaves : LeavesAll (meaning_over g) old new) (settled : IsSettled (state g new)) where
+    stands : (h : History) → IsOffice h (state g new) → HasCleanDisk (state g new) → IsTrue (state g new).is_open → Stands (meaning_over g) h new
+    stands h office clean is_open = record { is_of = office; is_open = is_open; leaves = settled (tables_of h) (office.tables clean is_open) }
+
+    module _ (r : Request) (token : is_token r.token ≡ true) (forms : HasForms r.ask) where
+      abbrev Always : (History → Type 0) → Type 0
+      Always P = (h : History) → IsOffice h (state g old) → HasCleanDisk (state g new) → P h
+
+      -- an office whose verdict adds no event
+      unchanged : Always (λ h. event_of (verdict h r) ≡ None) → (h : History) → IsOffice h (state g old) → IsOffice (with_event (event_of (verdict h r)) h) (state g new)
+      unchanged none h office = record {
+        idle = (leaves.office h office).idle;
+        lawful = lawful_after h r (verdict h r) token forms refl office.lawful;
+        tables = λ clean. subst (λ e. ShowsIfOpen (state g new) (tables_of (with_event e h))) (sym (none h office clean)) ((leaves.office h office).tables clean);
+      }
+
+      module _ (is_open : HasCleanDisk (state g new) → IsTrue (state g new).is_open) where
+        -- what only reads was answered
+        answered_done : (reply : Reply) → Always (λ h. verdict h r ≡ accepted reply None) → IsAnswered (meaning_over g) old new r (Done reply)
+        answered_done reply is =
+            let none : Always (λ h. event_of (verdict h r) ≡ None) = λ h office clean. ap event_of (is h office clean) in
+            let answer : Always (λ h. IsAnswer h r (Done reply)) = λ h office clean. sym (ap answer_of (is h office clean)) in
+            record {
+              leaves = leaves;
+              handled = record {
+                survives = leaves.survives;
+                answer = answer;
+                cause = λ h office clean. tt;
+                approved = λ h office clean. given_out_approved h r (Done reply) office.lawful (answer h office clean);
+                office = unchanged none;
+                stands = λ h office clean. stands (with_event (event_of (verdict h r)) h) (unchanged none h office) clean (is_open clean);
+                kept = λ clean reads. leaves.kept clean;
+                crash = λ h office clean left may. inl (leaves.crash clean left may);
+              };
+              same = λ h office clean. ap (λ e. with_event e h) (none h office clean);
+            }
+
+        -- a rule refused it
+        answered_denied : (d : Denial) (fault : Option (List ℕ)) → Always (λ h. verdict h r ≡ denied d fault) → IsAnswered (meaning_over g) old new r (Denied d fault)
+        answered_denied d fault is =
+            let none : Always (λ h. event_of (verdict h r) ≡ None) = λ h office clean. ap event_of (is h office clean) in
+            record {
+              leaves = leaves;
+              handled = record {
+                survives = leaves.survives;
+                answer = λ h office clean. sym (ap answer_of (is h office clean));
+                cause = λ h office clean. tt;
+                approved = λ h office clean. tt;
+                office = unchanged none;
+                stands = λ h office clean. stands (with_event (event_of (verdict h r)) h) (unchanged none h office) clean (is_open clean);
+                kept = leaves.kept;
+                crash = λ h office clean left may. inl (leaves.crash clean left may);
+              };
+              same = λ h office clean. ap (λ e. with_event e h) (none h office clean);
+            }
+
+        -- it is allowed, and has an event
+        permitted : (allowed : Allowed) → HasEvent r.ask allowed → Always (λ h. ComesTo r.ask (λ h. verdict h r) (λ h user. user_showing h (digest_of r.token) ≡ Some user) h (judgements.Allowed allowed))
+            → IsPermitted (meaning_over g) old new r allowed
+        permitted allowed has comes = record {
+          leaves = leaves;
+          event = has;
+          allowed = λ h office clean.
+              let told = comes h office clean in
+              let verdict_is : verdict h r ≡ accepted allowed.reply (Some has.event) = told.1 ∙ ap (accepted allowed.reply) has.asked in
+              let formed : IsFormed r = record { token = token; forms = forms; number = numbered h office.lawful r allowed.reply has.event verdict_is } in
+              record {
+                formed = formed;
+                caller = told.0;
+                event = has.event;
+                asked = has.asked;
+                verdict = verdict_is;
+                revision = told.2;
+                lawful = requested_allowed h has.event (record { request = r; formed = formed; reply = allowed.reply; allowed = verdict_is });
+              };
+          stands = λ h office clean. stands h (leaves.office h office) clean (is_open clean);
+        }
+
+      -- there was a fault
+      answered_fault : (fault : TheFault) → Always (λ h. IsAnswer h r (Fault fault)) → Always (λ h. HasCause (meaning_over g) old new h r (Fault fault)) → IsAnswered (meaning_over g) old new r (Fault fault)
+      answered_fault fault answer cause = record {
+        leaves = leaves;
+        handled = record {
+          survives = leaves.survives;
+          answer = answer;
+          cause = cause;
+          approved = λ h office clean. tt;
+          office = leaves.office;
+          stands = λ h office clean. tt;
+          kept = leaves.kept;
+          crash = λ h office clean left may. inl (leaves.crash clean left may);
+        };
+        same = λ h office clean. refl;
       }
 
   -- whatever it came to
-  pub handled : (result : Result Reply Refusal) (told : Answer) → told ≡ answer_to result → CarriesOut (RefusesToMake g) (state g old) (state g new) result (λ h. verdict h r)
-      → (HasCleanDisk (state g new) → UnlessFault result (IsTrue (state g old).is_open)) → IsSettled (state g new)
-      → (IsTrue (only_reads r.ask) → IsKept (state g old) (state g new)) → IsHandled (meaning_over g) old new r told
-  handled result told is carried was_open settled same = subst (IsHandled (meaning_over g) old new r) (sym is) (by_result result carried was_open)
+  pub judged_is : (r : Request) → is_token r.token ≡ true → HasForms r.ask → (result : Result Judgement Refusal) → JudgesRequest (state g old) (state g new) result r → HasEventIn r.ask result
+      → (HasCleanDisk (state g new) → UnlessFault result (IsTrue (state g old).is_open)) → IsSettled (state g new) → (told : Judgement) → told ≡ judgement_of result → IsJudged (meaning_over g) old new r told
+  judged_is r token forms result judged has was_open settled told is = subst (IsJudged (meaning_over g) old new r) (sym is) (by_result result judged has was_open)
     where
-      by_result : (result : Result Reply Refusal) → CarriesOut (RefusesToMake g) (state g old) (state g new) result (λ h. verdict h r)
-          → (HasCleanDisk (state g new) → UnlessFault result (IsTrue (state g old).is_open)) → IsHandled (meaning_over g) old new r (answer_to result)
-      by_result (Ok reply) carried was_open = handled_done reply carried was_open settled same
-      by_result (Err (refusals.Denied d fault)) carried was_open = handled_denied d fault carried was_open settled
-      by_result (Err (refusals.Fault fault)) carried was_open = handled_fault fault carried
+      by_result : (result : Result Judgement Refusal) → JudgesRequest (state g old) (state g new) result r → HasEventIn r.ask result
+          → (HasCleanDisk (state g new) → UnlessFault result (IsTrue (state g old).is_open)) → IsJudged (meaning_over g) old new r (judgement_of result)
+      by_result (Ok (judgements.Answered (Done reply))) judged has was_open =
+          answered_done (left_all (Ok (judgements.Answered (Done reply))) (λ h. verdict h r) judged) settled r token forms (λ clean. judged.stays clean (was_open clean)) reply
+          (λ h office clean. judged.told h office.lawful (office.tables (judged.clean clean)) clean)
+      by_result (Ok (judgements.Answered (Denied d fault))) judged has was_open =
+          answered_denied (left_all (Ok (judgements.Answered (Denied d fault))) (λ h. verdict h r) judged) settled r token forms (λ clean. judged.stays clean (was_open clean)) d fault
+          (λ h office clean. absurd (judged.told h office.lawful (office.tables (judged.clean clean)) clean))
+      by_result (Ok (judgements.Answered (Fault fault))) judged has was_open =
+          answered_fault (left_all (Ok (judgements.Answered (Fault fault))) (λ h. verdict h r) judged) settled r token forms fault
+          (λ h office clean. absurd (judged.told h office.lawful (office.tables (judged.clean clean)) clean))
+          (λ h office clean. absurd (judged.told h office.lawful (office.tables (judged.clean clean)) clean))
+      by_result (Ok (judgements.Allowed allowed)) judged has was_open =
+          permitted (left_all (Ok (judgements.Allowed allowed)) (λ h. verdict h r) judged) settled r token forms (λ clean. judged.stays clean (was_open clean)) allowed has
+          (λ h office clean. judged.told h office.lawful (office.tables (judged.clean clean)) clean)
+      by_result (Err (refusals.Denied d fault)) judged has was_open =
+          answered_denied (left_all {A = Judgement} (Err (refusals.Denied d fault)) (λ h. verdict h r) judged) settled r token forms (λ clean. judged.stays clean (was_open clean)) d fault
+          (λ h office clean. judged.told h office.lawful (office.tables (judged.clean clean)) clean)
+      by_result (Err (refusals.Fault fault)) judged has was_open =
+          answered_fault (left_all {A = Judgement} (Err (refusals.Fault fault)) (λ h. verdict h r) judged) settled r token forms (told_of fault)
+          (λ h office clean. passing h r fault (judged.told h office.lawful (office.tables (judged.clean clean)) clean))
+          (λ h office clean.
+          let shows = office.tables (judged.clean clean) in
+          caused g old new h r fault (judged.told h office.lawful shows clean) (inl (judged.cause h office.lawful shows clean)))

@@ -10,16 +10,14 @@ use Rattle.review_policy.specs.declared.denial.Need.TheVariants.{One, TwoWithSec
 use Rattle.review_policy.specs.declared.facts.IssueFacts.{IssueFacts}
 use Rattle.review_policy.specs.declared.facts.TheConstants.IssueFacts.{PASSING}
 use Rattle.review_policy.specs.declared.role.Role.TheVariants.{Issuer}
-use Rattle.review_policy.specs.Rules.{first_denial, first_from, issue_rules, is_open}
+use Rattle.review_policy.specs.Rules.{first_denial, first_from, issue_rules}
 use Rattle.office_tables.specs.declared.row.UserRow.{UserRow}
 use Rattle.office_tables.specs.declared.row.RevisionRow.{RevisionRow}
 use Rattle.office_tables.specs.declared.listed.Tally.{Tally}
 use Rattle.office_tables.specs.Tables.{Tables}
-use Rattle.office_tables.specs.Changes.{with_issued}
 use Rattle.office_tables.specs.Lists.{IsAuthor, IsTally, holds_role}
-use Rattle.office_store.specs.Calls.{Into}
 use Rattle.office_policy.specs.History.{History, issued}
-use Rattle.office_policy.specs.Revisions.{revision_of, is_author, state_in}
+use Rattle.office_policy.specs.Revisions.{revision_of, is_author}
 use Rattle.office_policy.specs.Votes.{tally_at}
 use Rattle.office_policy.specs.Holds.{is_held}
 use Rattle.office_policy.specs.Baseline.{document_or_closed}
@@ -27,16 +25,14 @@ use Rattle.office_policy.specs.Documents.{document_of}
 use Rattle.office_policy.specs.Need.{need_against, need_of_row, need_at}
 use Rattle.office_policy.specs.Facts.{issue_facts}
 use Rattle.office_policy.specs.Verdict.{accepted, denied, of_revision, verdict_of}
-use Rattle.office_policy.proofs.RuleFacts.{none_refuses}
 use Rattle.office_policy.proofs.VoterFacts.{tally_is}
 use Rattle.office_policy.specs.LooksBack.{LooksBack}
-use Rattle.office_policy.proofs.EventFacts.{issued_tables}
 use Rattle.office_policy.proofs.LookUps.{author_is}
 use Rattle.office_desk.specs.declared.baseline.Comparison.{Comparison}
 use Rattle.office_desk.specs.declared.issue.Looked.{Looked}
 use Rattle.office_desk.specs.Compared.{compared_at}
+use Rattle.office_desk.specs.Judged.{Accepts}
 use Rattle.office_desk.specs.Issuing.{deciding_need, is_enough_for_any, looked_at, one_approval}
-use Rattle.office_desk.proofs.Carrying.{Adds}
 use Rattle.office_desk.proofs.Early.{alike_behind, refused_early}
 use Rattle.office_desk.proofs.Handling.{denied_is, allowed_is}
 
@@ -97,10 +93,6 @@ decided_alike caller l need = decided_by caller l need (is_enough_for_any l.tall
 
 -- ---- how it is decided
 
-is_so : (b : Bool) → not b ≡ false → b ≡ true
-is_so true e = refl
-is_so false e = absurd cc
-
 module _ (h : History) (caller : UserRow) (p : ProfileName) (n : ℕ) where
   -- a caller without the role is refused whatever the revision
   pub caller_refused : (d : Denial) → first_denial (issue_rules (facts_of_caller caller)) ≡ Err d
@@ -147,19 +139,9 @@ module _ (h : History) (caller : UserRow) (p : ProfileName) (n : ℕ) where
           → verdict_of h (Some caller) (ask.Issue p n) ≡ denied d None
       refused_by_need d e = denied_by d (decides ∙ e)
 
-      -- an issue that is allowed adds its event
-      pub issue_adds : first_denial (issue_rules (facts_by caller l asked)) ≡ Ok tt
-          → Adds h (verdict_of h (Some caller) (ask.Issue p n)) (reply.Issued r.digest) (Into (with_issued p n))
-      issue_adds e =
-          let allowed : first_denial (issue_rules (facts_by caller l (need_at h p n))) ≡ Ok tt = decides ∙ e in
-          let none = none_refuses 1 (issue_rules (facts_by caller l (need_at h p n))) allowed in
-          let still_open : is_open (state_in (revision_of h p n)) ≡ true =
-          subst (λ k. is_open (state_in k.revision) ≡ true) is (is_so (is_open (state_in l.revision)) none.1.1.1.1.0) in
-          record {
-            event = issued caller.name p n;
-            is =
-                allowed_is h (Some caller) (ask.Issue p n)
-                (subst (λ k. first_denial (issue_rules (facts_by caller k (need_at h p n))) ≡ Ok tt) is allowed)
-                ∙ ap (λ o. of_revision o (λ r. accepted (reply.Issued r.digest) (Some (issued caller.name p n)))) row_is;
-            makes = sym (issued_tables h caller.name p n still_open);
-          }
+      -- none refuses it
+      pub accepts : first_denial (issue_rules (facts_by caller l asked)) ≡ Ok tt → Accepts caller (ask.Issue p n) h (reply.Issued r.digest)
+      accepts e =
+          allowed_is h (Some caller) (ask.Issue p n)
+          (subst (λ k. first_denial (issue_rules (facts_by caller k (need_at h p n))) ≡ Ok tt) is (decides ∙ e))
+          ∙ ap (λ o. of_revision o (λ r. accepted (reply.Issued r.digest) (Some (issued caller.name p n)))) row_is

@@ -1,5 +1,6 @@
-pub mod Carrying
+pub mod Judging
 pub mod Handling
+pub mod Carrying
 pub mod Openings
 pub mod Deciding
 pub mod LookedBack

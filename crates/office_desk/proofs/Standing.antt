@@ -16,7 +16,6 @@ use Rattle.office_tables.specs.Reads.{IsLast, IsIssued}
 use Rattle.office_store.specs.Calls.{IsRead}
 use Rattle.office_store.specs.Lists.{IsNumberOf}
 use Rattle.office_policy.specs.History.{History}
-use Rattle.office_policy.specs.Lawful.{IsLawfulHistory}
 use Rattle.office_policy.specs.Listing.{listed_profile}
 use Rattle.office_policy.specs.LooksBack.{LooksBack}
 use Rattle.office_policy.specs.Revisions.{Submission, submission_of, revision_count, revision_of, issued_revision, number_of, state_in, state_of}
@@ -29,8 +28,11 @@ use Rattle.office_policy.proofs.RevisionFacts.{some_within}
 use Rattle.office_policy.proofs.StateFacts.{row_at}
 use Rattle.office_policy.proofs.Submissions.{last_number}
 use Rattle.office_desk.specs.declared.profiles.Standing.{Standing}
-use Rattle.office_desk.proofs.Carrying.{read_as, read_fails_as, read_both, second_fails}
+use Rattle.office_desk.proofs.Judging.{read_as, read_fails_as, read_both, second_fails}
+use Rattle.office_store.specs.Summaries.{summary_of}
+use Rattle.office_store.specs.declared.summaries.Summary.{Summary}
 use Rattle.office_desk.specs.Listed.{standing_of, issued_if, IsOneOf, StandsWhere}
+use Rattle.office_desk.specs.Summarized.{as_asked}
 
 -- ---- one read, and one after another, whatever comes of the last
 
@@ -58,8 +60,14 @@ issue_numbered p n t it h lawful same = sym it.2 ∙ ap number_of (issued_is h p
 pub none_issued : (p : ProfileName) (t : Tables) → IsNumberOf (IsIssued t p) None → LooksBack (λ h. number_of (issued_revision h p)) t 0
 none_issued p t none h lawful same = ap number_of (issued_is h p None (subst (λ u. IsIssued u p None) same none))
 
-pub in_state : (p : ProfileName) (n : ℕ) (found : Option RevisionRow) (t : Tables) → found ≡ t.revisions p n → LooksBack (λ h. state_in (revision_of h p n)) t (state_in found)
-in_state p n found t is h lawful same = ap state_in (is ∙ ap (λ u. u.revisions p n) same)
+pub in_state : (p : ProfileName) (n : ℕ) (found : Option Summary) (t : Tables) → found ≡ option_map summary_of (t.revisions p n)
+    → LooksBack (λ h. state_in (revision_of h p n)) t (state_in (as_asked found))
+in_state p n found t is h lawful same =
+    ap (λ s. state_in (as_asked s)) (is ∙ ap (λ u. option_map summary_of (u.revisions p n)) same) ∙ kept (revision_of h p n)
+  where
+    kept : (r : Option RevisionRow) → state_in (as_asked (option_map summary_of r)) ≡ state_in r
+    kept None = refl
+    kept (Some r) = refl
 
 -- ---- what they say together
 

@@ -1,5 +1,5 @@
 -- How a document that is handed in meets its verdict.
-use Rattle.std.proofs.Common.{◌≡◌, ◌∙◌, ℕ, suc, List, ◌∷◌, Bool, not, Option, Some, None, Err, Ok, refl, sym, ap, subst, Vec, Global}
+use Rattle.std.proofs.Common.{◌≡◌, ◌∙◌, ℕ, suc, List, Bool, not, Option, Some, None, Err, Ok, refl, sym, ap, subst, Vec, Global}
 use Rattle.std.specs.Prelude.{Result, ⊤}
 use Rattle.sqlite.specs.State.{State}
 use Rattle.review_policy.specs.declared.ask.ProfileName.{ProfileName}
@@ -20,22 +20,21 @@ use Rattle.profile_text.specs.Text.{text_of}
 use Rattle.office_tables.specs.declared.row.UserRow.{UserRow}
 use Rattle.office_tables.specs.declared.row.RevisionRow.{RevisionRow}
 use Rattle.office_tables.specs.Lists.{holds_role}
-use Rattle.office_tables.specs.Reads.{IsLast, Adds as AddsRow, submitted as new_row}
+use Rattle.office_tables.specs.Reads.{IsLast, submitted as new_row}
 use Rattle.office_store.specs.Shown.{IsIdle}
 use Rattle.office_policy.specs.History.{History, submitted}
 use Rattle.office_policy.specs.Users.{is_of_team}
 use Rattle.office_policy.specs.Revisions.{revision_count, last_revision, if_open, number_of}
 use Rattle.office_policy.specs.Facts.{canonical, is_text_of, submit_facts}
 use Rattle.office_policy.specs.Verdict.{Verdict, accepted, denied, fault_told, new_revision, verdict_of}
-use Rattle.office_policy.specs.Lawful.{IsLawfulHistory}
+use Rattle.office_policy.specs.Judging.{IsNextRevision}
 use Rattle.office_policy.specs.TablesOf.{tables_of}
-use Rattle.office_policy.proofs.EventFacts.{submitted_tables}
-use Rattle.office_policy.proofs.Submissions.{last_found, last_number, next_free}
+use Rattle.office_policy.proofs.Submissions.{last_found, last_number}
 use Rattle.office_desk.specs.declared.refusal.Refusal.{Refusal}
 use Rattle.office_desk.specs.declared.refusal.Refusal.TheVariants as refusals
 use Rattle.office_desk.specs.AtOnce.{IsRefusedAtOnce}
-use Rattle.office_desk.specs.Carries.{Refusing, CarriesOut}
-use Rattle.office_desk.proofs.Carrying.{Adds, refused_at_once, failed_at_once}
+use Rattle.office_desk.specs.Judged.{AcceptsRevision, Judges, submission_of}
+use Rattle.office_desk.proofs.Judging.{refused_at_once, failed_at_once}
 use Rattle.office_desk.proofs.Handling.{denied_is, allowed_is}
 
 -- what is asked of a document that reads: of its caller and team, whether its text is the open one, and how many revisions
@@ -63,12 +62,18 @@ read_untold : (rule : Rule) (profile : Profile) → fault_told rule (Ok profile)
 read_untold Document profile = refl
 read_untold _ profile = refl
 
--- a refusal at once is carried out
-pub turned_away : {Refuses : Refusing} (judge : History → Verdict) (s : State) (refusal : Refusal) → IsIdle s → IsRefusedAtOnce refusal judge
-    → CarriesOut Refuses s s (Err refusal) judge
+-- a refusal at once is told
+pub turned_away : {A : Type 0} {Found : History → A → Type 0} (judge : History → Verdict) (s : State) (refusal : Refusal) → IsIdle s → IsRefusedAtOnce refusal judge
+    → Judges {A = A} s s (Err refusal) judge Found
 turned_away judge s (refusals.Denied denial fault) idle is = refused_at_once judge s denial fault idle (λ h lawful. is h)
-turned_away judge s (refusals.Fault fault) idle is =
-    failed_at_once judge s fault idle is
+turned_away judge s (refusals.Fault fault) idle is = failed_at_once judge s fault idle is
+
+-- a revision that is the next one of its profile is so by what is asked
+next_is : (h : History) (caller : UserRow) (p : ProfileName) (document : Vec ℕ Global) (row : RevisionRow) → row ≡ new_row (suc (revision_count h p)) caller.name row.body (digest_of row.body)
+    → IsNextRevision h (ask.Submit p document) (submission_of caller row)
+next_is h caller p document row is other same =
+    let k : row ≡ other = cc in
+    subst (λ r. r ≡ new_row (suc (revision_count h p)) caller.name r.body (digest_of r.body)) k is
 
 module _ (h : History) (caller : UserRow) (p : ProfileName) (document : Vec ℕ Global) where
   -- the rules, by what the document reads as
@@ -99,20 +104,16 @@ module _ (h : History) (caller : UserRow) (p : ProfileName) (document : Vec ℕ 
         denied_is h (Some caller) (ask.Submit p document) d (decided_on ∙ e)
         ∙ ap (λ r. denied d (fault_told d.rule r)) is_read ∙ ap (denied d) (read_untold d.rule profile)
 
-    -- a submission that is allowed adds its event
-    pub adds : IsLawfulHistory h → (row : RevisionRow) → row ≡ new_row (suc (number_of last)) caller.name text (digest_of text)
+    -- none refuses it
+    pub accepts : (row : RevisionRow) → row ≡ new_row (suc (number_of last)) caller.name text (digest_of text)
         → decision_on caller p.team text last ≡ Ok tt
-        → Adds h (verdict_of h (Some caller) (ask.Submit p document)) (Submitted row.digest row.number) (AddsRow p row)
-    adds lawful row is_row e =
+        → AcceptsRevision caller (ask.Submit p document) h row
+    accepts row is_row e =
         let is_next : row ≡ new_row (suc (revision_count h p)) caller.name text (digest_of text) =
         is_row ∙ ap (λ n. new_row (suc n) caller.name text (digest_of text)) (last_number h p last is_last) in
-        record {
-          event = submitted caller.name p text;
-          is =
-              allowed_is h (Some caller) (ask.Submit p document) (decided_on ∙ e) ∙ ap (new_revision h (Some caller) p) is_read
+        let is_text : text ≡ row.body = sym (ap (λ r. r.body) is_next) in (
+          allowed_is h (Some caller) (ask.Submit p document) (decided_on ∙ e) ∙ ap (new_revision h (Some caller) p) is_read
               ∙ ap (λ (t : List ℕ). accepted (Submitted (digest_of t) (suc (revision_count h p))) (Some (submitted caller.name p t))) is_its
-              ∙ ap (λ (r : RevisionRow). accepted (Submitted r.digest r.number) (Some (submitted caller.name p text))) (sym is_next);
-          makes =
-              subst (λ r. AddsRow p r (tables_of h) (tables_of (submitted caller.name p text ∷ h))) (sym is_next)
-              (next_free h p, sym (submitted_tables h lawful caller.name p text));
-        }
+              ∙ ap (λ (r : RevisionRow). accepted (Submitted r.digest r.number) (Some (submitted caller.name p r.body))) (sym is_next),
+          next_is h caller p document row (is_next ∙ ap (λ t. new_row (suc (revision_count h p)) caller.name t (digest_of t)) is_text),
+        )

@@ -1,5 +1,7 @@
 pub mod Offices
 pub mod Told
+pub mod Judged
+pub mod Steps
 pub mod Carries
 pub mod AtOnce
 pub mod Meant
@@ -8,3 +10,4 @@ pub mod Compared
 pub mod Issuing
 pub mod Listed
 pub mod Looked
+pub mod Summarized

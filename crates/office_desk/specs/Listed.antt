@@ -35,10 +35,13 @@ pub record IsOneOf (h : History) (p : ProfileName) (number : ℕ) (state : State
 
 -- how the profile stands, over the tables of a lawful history in which this is known
 abbrev pub StandsWhere : (History → Type 0) → ProfileName → Tables → Standing → Type 0
-StandsWhere Known p t s = (h : History) → IsLawfulHistory h → t ≡ tables_of h → Known h → s ≡ standing_of h p
+StandsWhere Known p t s =
+    (h : History) → IsLawfulHistory h → t ≡ tables_of h → Known h → s ≡ standing_of h p
 
 -- what is listed of the profile of a revision, and a revision of the next profile
-abbrev pub IsStep : List ℕ → ListedRevision → Tables → ListedProfile × Option ListedRevision → Type 0
+abbrev pub IsStep : List ℕ → ListedRevision → Tables → ListedProfile × Option ListedRevision
+    → Type 0
 IsStep team first t step =
     (h : History) → IsLawfulHistory h → t ≡ tables_of h → IsListed t team first
-    → (step.0 ≡ listed_profile h (profile_of team first.profile)) × IsNextListed t team (Some first.profile) step.1
+    → (step.0 ≡ listed_profile h (profile_of team first.profile))
+    × IsNextListed t team (Some first.profile) step.1

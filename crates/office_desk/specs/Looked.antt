@@ -1,14 +1,20 @@
 -- What the rules of a request ask of the tables, by looking back.
-use Rattle.std.specs.Prelude.{◌==◌, ℕ, List, Bool, Option}
+use Rattle.std.specs.Prelude.{◌==◌, ℕ, List, Bool, Option, option_map}
 use Rattle.review_policy.specs.declared.ask.ProfileName.{ProfileName}
 use Rattle.office_tables.specs.declared.row.RevisionRow.{RevisionRow}
+use Rattle.office_store.specs.declared.summaries.Summary.{Summary}
+use Rattle.office_store.specs.Summaries.{summary_of}
 use Rattle.office_policy.specs.History.{History}
 use Rattle.office_policy.specs.Revisions.{revision_of, revision_count, issued_revision, is_author}
 use Rattle.office_policy.specs.Holds.{is_held}
 
--- a revision, and whether a user is an author of its profile
-abbrev pub authored_at : ProfileName → ℕ → List ℕ → History → Option RevisionRow × Bool
-authored_at p n name h = (revision_of h p n, is_author h p name)
+-- a revision without its text
+abbrev pub summary_at : ProfileName → ℕ → History → Option Summary
+summary_at p n h = option_map summary_of (revision_of h p n)
+
+-- the same, and whether a user is an author of its profile
+abbrev pub authored_at : ProfileName → ℕ → List ℕ → History → Option Summary × Bool
+authored_at p n name h = (summary_at p n h, is_author h p name)
 
 -- the issued revision of a profile, and whether that is held
 abbrev pub issued_at : ProfileName → History → Option RevisionRow × Bool

@@ -1,12 +1,13 @@
 -- What is answered of what a request came to.
-use Rattle.std.specs.Prelude.{Result, Ok, Err}
+use Rattle.std.specs.Prelude.{Result, Ok, Err, ⊤}
 use Rattle.review_policy.specs.declared.answer.Answer.{Answer}
-use Rattle.review_policy.specs.declared.answer.Answer.TheVariants.{Done, Denied, Fault}
-use Rattle.review_policy.specs.declared.answer.Reply.{Reply}
+use Rattle.review_policy.specs.declared.answer.Answer.TheVariants.{Denied, Fault}
 use Rattle.review_policy.specs.declared.answer.Fault.{Fault as TheFault}
 use Rattle.review_policy.specs.declared.answer.Fault.TheVariants as faults
 use Rattle.office_tables.specs.declared.fault.StoreFault.{StoreFault}
 use Rattle.office_tables.specs.declared.fault.StoreFault.TheVariants as stores
+use Rattle.office_policy.specs.declared.judge.Judgement.{Judgement}
+use Rattle.office_policy.specs.declared.judge.Judgement.TheVariants.{Answered}
 use Rattle.office_desk.specs.declared.refusal.Refusal.{Refusal}
 use Rattle.office_desk.specs.declared.refusal.Refusal.TheVariants as refusals
 
@@ -17,8 +18,17 @@ told_of stores.Disk = faults.Disk
 told_of stores.Full = faults.Full
 told_of stores.NotAnOffice = faults.NotAnOffice
 
--- the answer to a request that came to this
-abbrev pub answer_to : Result Reply Refusal → Answer
-answer_to (Ok reply) = Done reply
-answer_to (Err (refusals.Denied denial fault)) = Denied denial fault
-answer_to (Err (refusals.Fault fault)) = Fault (told_of fault)
+-- the answer to a request that was refused so
+abbrev pub answer_to : Refusal → Answer
+answer_to (refusals.Denied denial fault) = Denied denial fault
+answer_to (refusals.Fault fault) = Fault (told_of fault)
+
+-- what a request comes to: a refusal is its answer
+abbrev pub judgement_of : Result Judgement Refusal → Judgement
+judgement_of (Ok judgement) = judgement
+judgement_of (Err refusal) = Answered (answer_to refusal)
+
+-- what carrying it out comes to
+abbrev pub outcome_of : Result ⊤ StoreFault → Result ⊤ TheFault
+outcome_of (Ok done) = Ok done
+outcome_of (Err fault) = Err (told_of fault)

@@ -6,11 +6,12 @@ ghost use Rattle.review_policy.specs.declared.answer.Fault.TheVariants as faults
 ghost use Rattle.office_tables.specs.Faults.{store_fault_word};
 ghost use Rattle.office_tables.specs.declared.fault.StoreFault.{StoreFault as FaultValue};
 ghost use Rattle.office_tables.specs.declared.fault.StoreFault.TheVariants as stores;
-ghost use Rattle.office_desk.specs.Told.{told_of, answer_to};
+ghost use Rattle.office_desk.specs.Told.{told_of, answer_to, judgement_of, outcome_of};
 
 use crate::refusal::Refusal;
+use office_policy::Judgement;
 use office_tables::StoreFault;
-use review_policy::{Answer, Fault, Reply};
+use review_policy::{Answer, Fault};
 
 // What is answered where the store has a fault.
 fn told(fault: StoreFault) -> Fault
@@ -24,14 +25,33 @@ fn told(fault: StoreFault) -> Fault
     }
 }
 
-// The answer to a request that came to this.
-pub(crate) fn answer_to(carried: Result<Reply, Refusal>) -> Answer
-    ensures { result ≡ answer_to carried }
+// The answer to a request that was refused so.
+fn answer_to(refusal: Refusal) -> Answer
+    ensures { result ≡ answer_to refusal }
+{
+    match refusal {
+        Refusal::Denied { denial, fault } => Answer::Denied { denial, fault },
+        Refusal::Fault(fault) => Answer::Fault(told(fault)),
+    }
+}
+
+// What a request comes to: a refusal is its answer.
+pub(crate) fn judgement(judged: Result<Judgement, Refusal>) -> Judgement
+    ensures { result ≡ judgement_of judged }
+{
+    match judged {
+        Ok(judgement) => judgement,
+        Err(refusal) => Judgement::Answered(answer_to(refusal)),
+    }
+}
+
+// What carrying it out comes to.
+pub(crate) fn outcome(carried: Result<(), StoreFault>) -> Result<(), Fault>
+    ensures { result ≡ outcome_of carried }
 {
     match carried {
-        Ok(reply) => Answer::Done(reply),
-        Err(Refusal::Denied { denial, fault }) => Answer::Denied { denial, fault },
-        Err(Refusal::Fault(fault)) => Answer::Fault(told(fault)),
+        Ok(()) => Ok(()),
+        Err(fault) => Err(told(fault)),
     }
 }
 

@@ -4,7 +4,8 @@ ghost use Rattle.std.specs.Prelude.{◌≡◌, IfOk, option_map};
 ghost use Rattle.sqlite.specs.Held.{state};
 ghost use Rattle.office_store.specs.Shown.{IsIdle};
 ghost use Rattle.office_store.specs.Connections.{Reads};
-ghost use Rattle.office_policy.specs.Baseline.{adopted_revision, document_or_closed, unless_withdrawn};
+ghost use Rattle.office_policy.specs.Baseline.{adopted_revision, document_or_closed};
+ghost use Rattle.office_policy.specs.Baseline.{unless_withdrawn};
 ghost use Rattle.office_policy.specs.LooksBack.{LooksBack};
 ghost use Rattle.office_desk.specs.Compared.{compared_at, need_of};
 
@@ -17,8 +18,8 @@ use review_policy::{Need, ProfileName, State, Text, Word};
 use sqlite::{Alter, Connection};
 use std::alloc::{AllocError, Global};
 
-// What the revisions of a team are compared with: the listed capabilities, and the revision that the team last adopted, by
-// the name of its profile, where that isn't withdrawn.
+// What the revisions of a team are compared with: the listed capabilities, and the revision that
+// the team last adopted, by the name of its profile, where that isn't withdrawn.
 #[derive(Drop)]
 pub(crate) struct Comparison {
     pub(crate) listed: Caps,

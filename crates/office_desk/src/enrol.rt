@@ -1,18 +1,18 @@
 // Enrolments.
 
-ghost use Rattle.std.specs.Prelude.{◌≡◌, Some, IfOk, not};
+ghost use Rattle.std.specs.Prelude.{◌≡◌, ℕ, Some, IfOk, not};
 ghost use Rattle.sqlite.specs.Held.{state};
 ghost use Rattle.review_policy.specs.declared.ask.Ask.TheVariants as ask;
 ghost use Rattle.review_policy.specs.declared.facts.TheConstants.EnrolFacts.{PASSING};
 ghost use Rattle.office_tables.specs.Lists.{holds_role};
 ghost use Rattle.office_store.specs.Calls.{IsRead};
-ghost use Rattle.office_store.specs.Refusing.{RefusesToMake};
+ghost use Rattle.office_store.specs.Refusing.{puts_user};
 ghost use Rattle.office_store.specs.Shown.{IsIdle};
 ghost use Rattle.office_policy.specs.Users.{user_of, user_showing, is_named};
 ghost use Rattle.office_policy.specs.Facts.{enrol_facts, is_elsewhere, is_another};
-ghost use Rattle.office_policy.specs.Verdict.{verdict_of};
 ghost use Rattle.office_policy.specs.LooksBack.{LooksBack};
-ghost use Rattle.office_desk.specs.Carries.{CarriesOut};
+ghost use Rattle.office_desk.specs.Carries.{Tries};
+ghost use Rattle.office_desk.specs.Judged.{JudgesAsk};
 
 use crate::refusal::Refusal;
 use office_store::{put_user, user_by_name, user_by_token};
@@ -88,6 +88,26 @@ fn users_of<S: Alter>(
     Ok((known, shower))
 }
 
+// Judges an enrolment.
+pub(crate) fn judge_enrolment<S: Alter>(
+    alloc: Global,
+    conn: &mut Connection<S>,
+    caller: &UserRow,
+    user: &Word,
+    team: &Word,
+    digest: &[u8; 32],
+) -> Result<Reply, Refusal>
+    requires { IsIdle (state S.Store conn.old) }
+    ensures { (roles : ℕ)
+        → JudgesAsk (state S.Store conn.old) (state S.Store conn.new) result
+        caller.now (ask.Enrol user.now team.now roles digest.now) }
+{
+    decide_enrol(&facts_of_caller(caller, user))?;
+    let (known, shower) = users_of(alloc, conn, user, digest)?;
+    decide_enrol(&all_facts(caller, &known, &shower, user, team))?;
+    Ok(Reply::Enrolled)
+}
+
 // The row of a user who is enrolled.
 fn row_of(user: &Word, team: &Word, roles: Roles, digest: &[u8; 32]) -> Result<UserRow, AllocError>
     ensures { IfOk result (λ row. row
@@ -102,23 +122,19 @@ fn row_of(user: &Word, team: &Word, roles: Roles, digest: &[u8; 32]) -> Result<U
 }
 
 // Enrols a user, or gives an enrolled one these roles and this token.
-pub(crate) fn enrol<S: Alter>(
-    alloc: Global,
+pub(crate) fn write_enrolment<S: Alter>(
     conn: &mut Connection<S>,
-    caller: &UserRow,
     user: &Word,
     team: &Word,
     roles: Roles,
     digest: &[u8; 32],
-) -> Result<Reply, Refusal>
+) -> Result<(), StoreFault>
     requires { IsIdle (state S.Store conn.old) }
-    ensures { CarriesOut (RefusesToMake S.Store) (state S.Store conn.old) (state S.Store conn.new) result
-        (λ h. verdict_of h (Some caller.now) (ask.Enrol user.now team.now roles digest.now)) }
+    ensures { Tries S.Store
+        (puts_user
+        (record { name = user.now; team = team.now; roles = roles; digest = digest.now }))
+        conn.old conn.new result }
 {
-    decide_enrol(&facts_of_caller(caller, user))?;
-    let (known, shower) = users_of(alloc, conn, user, digest)?;
-    decide_enrol(&all_facts(caller, &known, &shower, user, team))?;
     let row = row_of(user, team, roles, digest)?;
-    put_user(conn, &row)?;
-    Ok(Reply::Enrolled)
+    put_user(conn, &row)
 }

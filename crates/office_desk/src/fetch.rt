@@ -6,14 +6,12 @@ ghost use Rattle.review_policy.specs.declared.ask.Ask.TheVariants as ask;
 ghost use Rattle.review_policy.specs.declared.facts.TheConstants.FetchFacts.{PASSING};
 ghost use Rattle.office_tables.specs.Lists.{holds_role};
 ghost use Rattle.office_store.specs.Calls.{IsRead};
-ghost use Rattle.office_store.specs.Refusing.{RefusesToMake};
 ghost use Rattle.office_store.specs.Shown.{IsIdle};
 ghost use Rattle.office_policy.specs.Users.{is_of_team};
 ghost use Rattle.office_policy.specs.Facts.{fetch_facts};
-ghost use Rattle.office_policy.specs.Verdict.{verdict_of};
 ghost use Rattle.office_policy.specs.LooksBack.{LooksBack};
 ghost use Rattle.office_desk.specs.Looked.{issued_at};
-ghost use Rattle.office_desk.specs.Carries.{ReadsOut};
+ghost use Rattle.office_desk.specs.Judged.{JudgesAsk};
 
 use crate::refusal::Refusal;
 use office_store::{held, issued};
@@ -67,7 +65,7 @@ fn look_at<S: Alter>(
     Ok((found, is_held))
 }
 
-// Tells the text that is issued of a profile, with its digest and its number.
+// Returns the text that is issued of a profile, with its digest and its number.
 pub(crate) fn fetch<S: Alter>(
     alloc: Global,
     conn: &mut Connection<S>,
@@ -75,7 +73,8 @@ pub(crate) fn fetch<S: Alter>(
     name: &ProfileName,
 ) -> Result<Reply, Refusal>
     requires { IsIdle (state S.Store conn.old) }
-    ensures { ReadsOut (RefusesToMake S.Store) (state S.Store conn.old) (state S.Store conn.new) result (λ h. verdict_of h (Some caller.now) (ask.Fetch name.now)) }
+    ensures { JudgesAsk (state S.Store conn.old) (state S.Store conn.new) result
+        caller.now (ask.Fetch name.now) }
 {
     decide_fetch(&facts_of_caller(caller, &name.team))?;
     let (found, is_held) = look_at(alloc, conn, name)?;

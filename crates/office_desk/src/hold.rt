@@ -1,15 +1,14 @@
 // Holds of profiles, and their release.
 
-ghost use Rattle.std.specs.Prelude.{Some};
 ghost use Rattle.sqlite.specs.Held.{state};
 ghost use Rattle.review_policy.specs.declared.ask.Ask.TheVariants as ask;
 ghost use Rattle.office_store.specs.Calls.{IsRead};
-ghost use Rattle.office_store.specs.Refusing.{RefusesToMake};
+ghost use Rattle.office_store.specs.Refusing.{deletes_hold, puts_hold};
 ghost use Rattle.office_store.specs.Shown.{IsIdle};
-ghost use Rattle.office_policy.specs.Verdict.{verdict_of};
 ghost use Rattle.office_policy.specs.LooksBack.{LooksBack};
 ghost use Rattle.office_desk.specs.Looked.{hold_at};
-ghost use Rattle.office_desk.specs.Carries.{CarriesOut};
+ghost use Rattle.office_desk.specs.Carries.{Asks};
+ghost use Rattle.office_desk.specs.Judged.{JudgesAsk};
 
 use crate::refusal::Refusal;
 use office_store::{delete_hold, has_revision, held, put_hold};
@@ -33,14 +32,15 @@ fn look_at<S: Alter>(
     Ok((!is_there, is_held))
 }
 
-// Holds a profile.
-pub(crate) fn hold<S: Alter>(
+// Judges a hold.
+pub(crate) fn judge_hold<S: Alter>(
     conn: &mut Connection<S>,
     caller: &UserRow,
     name: &ProfileName,
 ) -> Result<Reply, Refusal>
     requires { IsIdle (state S.Store conn.old) }
-    ensures { CarriesOut (RefusesToMake S.Store) (state S.Store conn.old) (state S.Store conn.new) result (λ h. verdict_of h (Some caller.now) (ask.Hold name.now)) }
+    ensures { JudgesAsk (state S.Store conn.old) (state S.Store conn.new) result
+        caller.now (ask.Hold name.now) }
 {
     let asked = HoldFacts {
         role_missing: !caller.roles.has(Role::Security),
@@ -53,18 +53,29 @@ pub(crate) fn hold<S: Alter>(
         already_held,
         ..asked
     })?;
-    put_hold(conn, name)?;
     Ok(Reply::Held)
 }
 
-// Ends the hold of a profile.
-pub(crate) fn release<S: Alter>(
+// Holds a profile.
+pub(crate) fn write_hold<S: Alter>(
+    conn: &mut Connection<S>,
+    name: &ProfileName,
+) -> Result<(), StoreFault>
+    requires { IsIdle (state S.Store conn.old) }
+    ensures { Asks S.Store (puts_hold name.now) conn.old conn.new result }
+{
+    put_hold(conn, name)
+}
+
+// Judges a release.
+pub(crate) fn judge_release<S: Alter>(
     conn: &mut Connection<S>,
     caller: &UserRow,
     name: &ProfileName,
 ) -> Result<Reply, Refusal>
     requires { IsIdle (state S.Store conn.old) }
-    ensures { CarriesOut (RefusesToMake S.Store) (state S.Store conn.old) (state S.Store conn.new) result (λ h. verdict_of h (Some caller.now) (ask.Release name.now)) }
+    ensures { JudgesAsk (state S.Store conn.old) (state S.Store conn.new) result
+        caller.now (ask.Release name.now) }
 {
     let asked = ReleaseFacts {
         role_missing: !caller.roles.has(Role::Security),
@@ -77,6 +88,16 @@ pub(crate) fn release<S: Alter>(
         not_held: !is_held,
         ..asked
     })?;
-    delete_hold(conn, name)?;
     Ok(Reply::Released)
+}
+
+// Ends the hold of a profile.
+pub(crate) fn write_release<S: Alter>(
+    conn: &mut Connection<S>,
+    name: &ProfileName,
+) -> Result<(), StoreFault>
+    requires { IsIdle (state S.Store conn.old) }
+    ensures { Asks S.Store (deletes_hold name.now) conn.old conn.new result }
+{
+    delete_hold(conn, name)
 }

@@ -6,17 +6,18 @@ ghost use Rattle.review_policy.specs.declared.ask.Ask.TheVariants as ask;
 ghost use Rattle.review_policy.specs.declared.denial.Need.TheVariants as needs;
 ghost use Rattle.review_policy.specs.declared.facts.TheConstants.IssueFacts.{PASSING};
 ghost use Rattle.office_tables.specs.Lists.{holds_role};
-ghost use Rattle.office_store.specs.Refusing.{RefusesToMake};
+ghost use Rattle.office_store.specs.Refusing.{issues};
 ghost use Rattle.office_store.specs.Shown.{IsIdle};
 ghost use Rattle.office_store.specs.Calls.{IsRead};
 ghost use Rattle.office_policy.specs.Baseline.{document_or_closed};
 ghost use Rattle.office_policy.specs.Documents.{document_of};
 ghost use Rattle.office_policy.specs.Facts.{issue_facts};
 ghost use Rattle.office_policy.specs.Need.{need_against};
-ghost use Rattle.office_policy.specs.Verdict.{verdict_of};
 ghost use Rattle.office_policy.specs.LooksBack.{LooksBack};
-ghost use Rattle.office_desk.specs.Carries.{CarriesOut};
-ghost use Rattle.office_desk.specs.Issuing.{deciding_need, is_enough_for_any, looked_at, one_approval};
+ghost use Rattle.office_desk.specs.Carries.{Asks};
+ghost use Rattle.office_desk.specs.Judged.{JudgesAsk};
+ghost use Rattle.office_desk.specs.Issuing.{deciding_need, is_enough_for_any, looked_at};
+ghost use Rattle.office_desk.specs.Issuing.{one_approval};
 
 use crate::baseline::{Comparison, compared_with, need_of};
 use crate::refusal::Refusal;
@@ -106,7 +107,8 @@ fn is_enough_for_any(tally: &Tally) -> bool
     tally.approvals >= 2 && tally.secure > 0
 }
 
-// A need by which the rules decide as by that of the text, which is worked out only where it can matter.
+// A need by which the rules decide as by that of the text, which is worked out only where it can
+// matter.
 fn deciding_need(
     alloc: Global,
     tally: &Tally,
@@ -123,8 +125,8 @@ fn deciding_need(
     need_of(alloc, compared, body)
 }
 
-// Issues a revision. Its need is asked for where nothing else refuses it.
-pub(crate) fn issue<S: Alter>(
+// Judges an issue. The need of the revision is asked for where nothing else refuses it.
+pub(crate) fn judge_issue<S: Alter>(
     alloc: Global,
     conn: &mut Connection<S>,
     caller: &UserRow,
@@ -132,7 +134,8 @@ pub(crate) fn issue<S: Alter>(
     number: u32,
 ) -> Result<Reply, Refusal>
     requires { IsIdle (state S.Store conn.old) }
-    ensures { CarriesOut (RefusesToMake S.Store) (state S.Store conn.old) (state S.Store conn.new) result (λ h. verdict_of h (Some caller.now) (ask.Issue name.now number)) }
+    ensures { JudgesAsk (state S.Store conn.old) (state S.Store conn.new) result
+        caller.now (ask.Issue name.now number) }
 {
     decide_issue(&facts_of_caller(caller))?;
     let looked = look_up(alloc, conn, caller, name, number)?;
@@ -143,6 +146,17 @@ pub(crate) fn issue<S: Alter>(
     let compared = compared_with(alloc, conn, &name.team)?;
     let need = deciding_need(alloc, &looked.tally, &compared, &row.body)?;
     decide_issue(&all_facts(caller, &looked, need))?;
-    set_issued(conn, name, number)?;
     Ok(Reply::Issued { digest: row.digest })
+}
+
+// Issues a revision.
+pub(crate) fn write_issue<S: Alter>(
+    conn: &mut Connection<S>,
+    name: &ProfileName,
+    number: u32,
+) -> Result<(), StoreFault>
+    requires { IsIdle (state S.Store conn.old) }
+    ensures { Asks S.Store (issues name.now number) conn.old conn.new result }
+{
+    set_issued(conn, name, number)
 }

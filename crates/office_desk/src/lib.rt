@@ -1,4 +1,5 @@
-//! Requests against the tables of an office: what the policy allows is carried out, and nothing else.
+//! Requests against the tables of an office: what the policy allows is carried out, and nothing
+//! else.
 #![tactic(auto)]
 
 mod adopt;
@@ -11,6 +12,7 @@ mod fetch;
 mod forms;
 mod hold;
 mod issue;
+mod judge;
 mod list;
 pub mod migrated;
 mod need;

@@ -1,4 +1,5 @@
-//! An office of schema 1 that was migrated is the office of its history. The function is a law, and does nothing.
+//! An office of schema 1 that was migrated is the office of its history. The function is a law, and
+//! does nothing.
 
 ghost use Rattle.sqlite.specs.Held.{state};
 ghost use Rattle.sqlite.specs.State.{HasCleanDisk};
@@ -10,8 +11,9 @@ ghost use Rattle.office_desk.specs.Opened.{Answers, AnswersAll, IsMigrated};
 use crate::office::Office;
 use sqlite::Alter;
 
-/// Where a store showed, under schema 1, the tables of a lawful history, the office over what `migrate` left of it stands, and is
-/// of that history: it answers each request, and each list of them, as the history has it, which is the answer that it was.
+/// Where a store showed, under schema 1, the tables of a lawful history, the office over what
+/// `migrate` left of it stands, and is of that history: it answers each request, and each list of
+/// them, as the history has it, which is the answer that it was.
 pub fn a_migrated_office_is_of_its_history<S: Alter>(office: &Office<S>)
     ensures stands { (h : History) → IsMigrated S.Store h office.now
         → HasCleanDisk (state S.Store office.now) → Stands (meaning_over S.Store) h office.now }

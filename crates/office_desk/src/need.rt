@@ -10,7 +10,8 @@ use review_policy::{Need, Text, need};
 use std::alloc::{AllocError, Global};
 use widening::findings;
 
-// The document of a canonical text. Each text that was handed in reads; the closed profile stands for any other.
+// The document of a canonical text. Each text that was handed in reads; the closed profile stands
+// for any other.
 pub(crate) fn document(alloc: Global, body: &Text) -> Result<Profile, AllocError>
     ensures { IfOk result (λ profile. profile ≡ document_of body.now) }
 {

@@ -2,19 +2,21 @@
 
 ghost use Rattle.std.specs.Prelude.{◌≡◌};
 
-use crate::answer::answer_to;
+use crate::answer::{judgement, outcome};
 use crate::carry_out::carry_out;
 use crate::forms::{founding_forms, request_forms};
+use crate::judge::judge;
 use cap_sets::Caps;
-use office_policy::Handler;
+use office_policy::{Allowed, Handler, Judge, Judgement};
 use office_store::{FoundingFault, OpeningFault, check_office, found};
 use office_tables::StoreFault;
-use review_policy::{Answer, Request, Word};
+use review_policy::{Answer, Fault, Request, Word};
 use sqlite::{Alter, Connection};
 use std::alloc::Global;
 use std::marker::Model;
 
-/// An office over a connection that has no transaction open and no limit on steps. Contracts see it as that connection.
+/// An office over a connection that has no transaction open and no limit on steps. Contracts see it
+/// as that connection.
 #[derive(Drop)]
 pub struct Office<S: Alter> {
     conn: Connection<S>,
@@ -34,10 +36,12 @@ impl<S: Alter> Model for Office<S> {
 }
 
 impl<S: Alter> Office<S> {
-    ghost use Rattle.std.specs.Prelude.{◌≡◌, ◌↔◌, ℕ, false, true, [], ◌∷◌, Err, IsTrue, IfOk, IfErr, OnOk};
+    ghost use Rattle.std.specs.Prelude.{◌≡◌, ◌↔◌, ℕ, false, true, [], ◌∷◌, Err};
+    ghost use Rattle.std.specs.Prelude.{IsTrue, IfOk, IfErr, OnOk};
     ghost use Rattle.sqlite.specs.Held.{state};
     ghost use Rattle.sqlite.specs.State.{HasCleanDisk};
-    ghost use Rattle.office_store.specs.Form.{HasForm, IsFailure, IsOldOrFailure, TellsOpening, has_old_tables};
+    ghost use Rattle.office_store.specs.Form.{HasForm, IsFailure, IsOldOrFailure, TellsOpening};
+    ghost use Rattle.office_store.specs.Form.{has_old_tables};
     ghost use Rattle.office_store.specs.Founding.{has_table, IsForeign, first_user, FailsToFound};
     ghost use Rattle.office_store.specs.Migration.{ShowsOld};
     ghost use Rattle.office_store.specs.Schema.{no_schema};
@@ -51,15 +55,17 @@ impl<S: Alter> Office<S> {
     ghost use Rattle.office_desk.specs.Meant.{meaning_over};
     ghost use Rattle.office_desk.specs.Opened.{IsOver, IsRefusedFor, IsHandedBack};
 
-    /// Founds an office in an empty store, with its first user, who is a registrar and shows the token of this digest, and
-    /// with the listed capabilities: a document that holds one of them needs two approvals.
+    /// Founds an office in an empty store, with its first user, who is a registrar and shows the
+    /// token of this digest, and with the listed capabilities: a document that holds one of them
+    /// needs two approvals.
     ///
     /// A crash leaves the store as it was or the founded office, and after `Ok` the founded office.
     ///
     /// # Errors
     ///
-    /// `AlreadyFounded` where one of an office's tables is there; `NotAnOffice` where none of them is and something else
-    /// is; else the fault of the store. The connection is handed back, with what it had where it is still open.
+    /// `AlreadyFounded` where one of an office's tables is there; `NotAnOffice` where none of them
+    /// is and something else is; else the fault of the store. The connection is handed back, with
+    /// what it had where it is still open.
     pub fn found(
         conn: Connection<S>,
         name: &Word,
@@ -96,13 +102,14 @@ impl<S: Alter> Office<S> {
         }
     }
 
-    /// The office that a store has: it has the six tables, each with its columns, and the two indexes, and its office's row has
-    /// its form.
+    /// The office that a store has: it has the six tables, each with its columns, and the two
+    /// indexes, and its office's row has its form.
     ///
     /// # Errors
     ///
-    /// `NotAnOffice` where it isn't one; `OldSchema` where it is one of schema 1; `NoIndex` where it lacks an index; else the
-    /// fault of the store. The connection is handed back, with what it had where it is still open.
+    /// `NotAnOffice` where it isn't one; `OldSchema` where it is one of schema 1; `NoIndex` where
+    /// it lacks an index; else the fault of the store. The connection is handed back, with what it
+    /// had where it is still open.
     pub fn over(conn: Connection<S>) -> Result<Office<S>, (OpeningFault, Connection<S>)>
         requires { IsIdle (state S.Store conn) }
         ensures form { IfOk result (λ office. HasCleanDisk (state S.Store office)
@@ -117,8 +124,10 @@ impl<S: Alter> Office<S> {
             → IfErr result (λ refusal. HasCleanDisk (state S.Store refusal.1)
             → TellsOpening (state S.Store conn) (state S.Store refusal.1) (Err refusal.0)) }
         ensures known { (h : History) → IsLawfulHistory h → Shows (state S.Store conn) (tables_of h)
-            → IfErr result (λ refusal. HasCleanDisk (state S.Store refusal.1) → IsFailure (state S.Store conn) (state S.Store refusal.1) refusal.0) }
-        ensures unopened { (t : Tables) → ShowsOld (state S.Store conn) t → IfOk result (λ office. HasCleanDisk (state S.Store office) → ⊥) }
+            → IfErr result (λ refusal. HasCleanDisk (state S.Store refusal.1)
+            → IsFailure (state S.Store conn) (state S.Store refusal.1) refusal.0) }
+        ensures unopened { (t : Tables) → ShowsOld (state S.Store conn) t
+            → IfOk result (λ office. HasCleanDisk (state S.Store office) → ⊥) }
         ensures old { (t : Tables) → ShowsOld (state S.Store conn) t
             → IsRefusedFor S.Store IsOldOrFailure result }
         ensures same { IsHandedBack S.Store conn result }
@@ -151,7 +160,29 @@ impl<S: Alter> Handler for Office<S> {
     ghost meaning = { meaning_over S.Store };
 
     fn handle(&mut self, alloc: Global, request: &Request) -> Answer {
+        match self.judge(alloc, request) {
+            Judgement::Answered(answer) => answer,
+            Judgement::Allowed(allowed) => match self.carry_out(alloc, request, &allowed) {
+                Ok(()) => Answer::Done(allowed.reply),
+                Err(fault) => Answer::Fault(fault),
+            },
+        }
+    }
+}
+
+impl<S: Alter> Judge for Office<S> {
+    fn judge(&mut self, alloc: Global, request: &Request) -> Judgement {
         request_forms(request);
-        answer_to(carry_out(alloc, &mut self.conn, request))
+        judgement(judge(alloc, &mut self.conn, request))
+    }
+
+    fn carry_out(
+        &mut self,
+        _alloc: Global,
+        request: &Request,
+        allowed: &Allowed,
+    ) -> Result<(), Fault> {
+        request_forms(request);
+        outcome(carry_out(&mut self.conn, &request.ask, allowed))
     }
 }

@@ -1,4 +1,5 @@
-// The profiles of a team, from one to the next: of each a few entries of indexes are read, and not all its revisions.
+// The profiles of a team, from one to the next: of each a few entries of indexes are read, and not
+// all its revisions.
 
 ghost use Rattle.std.specs.Prelude.{◌≡◌, ℕ, List, IfSome, unwrap_or};
 ghost use Rattle.sqlite.specs.Held.{state};
@@ -9,18 +10,20 @@ ghost use Rattle.office_store.specs.Shown.{IsIdle};
 ghost use Rattle.office_policy.specs.History.{History};
 ghost use Rattle.office_policy.specs.Listing.{listed_profile, listing_of};
 ghost use Rattle.office_policy.specs.LooksBack.{LooksBack};
-ghost use Rattle.office_policy.specs.Revisions.{revision_count, revision_of, issued_revision, number_of, state_in};
+ghost use Rattle.office_policy.specs.Revisions.{revision_count, revision_of, issued_revision};
+ghost use Rattle.office_policy.specs.Revisions.{number_of, state_in};
 ghost use Rattle.office_policy.specs.TablesOf.{tables_of};
 ghost use Rattle.office_desk.specs.Listed.{IsOneOf, StandsWhere, IsStep, issued_if, standing_of};
 
-use crate::revisions::state_in;
-use office_store::{first_listed, issued_number, last_number, next_listed, revision};
+use crate::revisions::state_of;
+use office_store::{first_listed, issued_number, last_number, next_listed, summary_at};
 use office_tables::{ListedRevision, StoreFault};
 use review_policy::{ListedProfile, Listing, ProfileName, State, Word};
 use sqlite::{Alter, Connection};
 use std::alloc::Global;
 
-/// How a profile stands: the number of its last revision and its state, and the number that is issued, or 0.
+/// How a profile stands: the number of its last revision and its state, and the number that is
+/// issued, or 0.
 #[derive(Clone, Copy)]
 pub(crate) struct Standing {
     pub(crate) last: u32,
@@ -54,7 +57,6 @@ fn issue<S: Alter>(conn: &mut Connection<S>, name: &ProfileName) -> Result<u32, 
 
 // The state of a revision.
 fn state_at<S: Alter>(
-    alloc: Global,
     conn: &mut Connection<S>,
     name: &ProfileName,
     number: u32,
@@ -63,8 +65,8 @@ fn state_at<S: Alter>(
     ensures { IsRead (state S.Store conn.old) (state S.Store conn.new) result
         (LooksBack (λ h. state_in (revision_of h name.now number))) }
 {
-    let found = revision(alloc, conn, name, number)?;
-    Ok(state_in(&found))
+    let found = summary_at(conn, name, number)?;
+    Ok(state_of(&found))
 }
 
 // How a profile stands whose first revision is open: it has no other.
@@ -92,8 +94,8 @@ fn issued_if(number: u32, in_state: State) -> u32
     }
 }
 
-// How a profile stands of which a revision is known, where the last number says the rest: there is no other, or that one is the
-// last and issued.
+// How a profile stands of which a revision is known, where the last number says the rest: there is
+// no other, or that one is the last and issued.
 fn known(last: u32, number: u32, in_state: State) -> Option<Standing>
     ensures { (h : History) (p : Name) → last ≡ revision_count h p → IsOneOf h p number in_state
         → IfSome result (λ standing. standing ≡ standing_of h p) }
@@ -123,9 +125,9 @@ fn state_or(found: Option<State>, other: State) -> State
     }
 }
 
-// How a profile stands, by the issued one of its revisions, and where that says too little by the row of the last one.
+// How a profile stands, by the issued one of its revisions, and where that says too little by the
+// row of the last one.
 fn looked_up<S: Alter>(
-    alloc: Global,
     conn: &mut Connection<S>,
     name: &ProfileName,
     last: u32,
@@ -134,7 +136,8 @@ fn looked_up<S: Alter>(
 ) -> Result<Standing, StoreFault>
     requires { IsIdle (state S.Store conn.old) }
     ensures { IsRead (state S.Store conn.old) (state S.Store conn.new) result
-        (StandsWhere (λ h. (last ≡ revision_count h name.now) × IsOneOf h name.now number in_state) name.now) }
+        (StandsWhere (λ h. (last ≡ revision_count h name.now)
+        × IsOneOf h name.now number in_state) name.now) }
 {
     let issued = issue(conn, name)?;
     if number == last {
@@ -151,7 +154,7 @@ fn looked_up<S: Alter>(
             state: State::Issued,
         });
     }
-    let found = state_at(alloc, conn, name, last)?;
+    let found = state_at(conn, name, last)?;
     Ok(Standing {
         last,
         issued,
@@ -179,7 +182,6 @@ fn with_open<S: Alter>(
 
 // How a profile stands of which a revision is known that isn't open.
 fn without_open<S: Alter>(
-    alloc: Global,
     conn: &mut Connection<S>,
     name: &ProfileName,
     number: u32,
@@ -192,13 +194,12 @@ fn without_open<S: Alter>(
     let last = count(conn, name)?;
     match known(last, number, in_state) {
         Some(standing) => Ok(standing),
-        None => looked_up(alloc, conn, name, last, number, in_state),
+        None => looked_up(conn, name, last, number, in_state),
     }
 }
 
 // How a profile stands of which a revision is known.
 fn stands<S: Alter>(
-    alloc: Global,
     conn: &mut Connection<S>,
     name: &ProfileName,
     number: u32,
@@ -210,26 +211,26 @@ fn stands<S: Alter>(
 {
     match in_state {
         State::Open => with_open(conn, name, number),
-        _ => without_open(alloc, conn, name, number, in_state),
+        _ => without_open(conn, name, number, in_state),
     }
 }
 
 // How the profile of a team stands of which a revision is known.
 fn standing_in<S: Alter>(
-    alloc: Global,
     conn: &mut Connection<S>,
     team: &Word,
     first: &ListedRevision,
 ) -> Result<Standing, StoreFault>
     requires { IsIdle (state S.Store conn.old) }
     ensures { IsRead (state S.Store conn.old) (state S.Store conn.new) result
-        (StandsWhere (λ h. IsListed (tables_of h) team.now first.now) (profile_of team.now first.now.profile)) }
+        (StandsWhere (λ h. IsListed (tables_of h) team.now first.now)
+        (profile_of team.now first.now.profile)) }
 {
     let name = ProfileName {
         team: team.clone()?,
         profile: first.profile.clone()?,
     };
-    stands(alloc, conn, &name, first.number, first.state)
+    stands(conn, &name, first.number, first.state)
 }
 
 // What is listed of a profile, as it stands.
@@ -260,7 +261,7 @@ fn listed<S: Alter>(
     match known_at_once(first.number, first.state) {
         Some(standing) => Ok((listed_as(first.profile, standing), next)),
         None => {
-            let standing = standing_in(alloc, conn, team, &first)?;
+            let standing = standing_in(conn, team, &first)?;
             Ok((listed_as(first.profile, standing), next))
         }
     }

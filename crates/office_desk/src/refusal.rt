@@ -6,8 +6,8 @@ use office_tables::StoreFault;
 use review_policy::{Denial, Text};
 use std::alloc::AllocError;
 
-// Why a request isn't carried out: the first rule that refuses it, for a document that doesn't read with its fault; or a
-// fault of the store.
+// Why a request isn't carried out: the first rule that refuses it, for a document that doesn't read
+// with its fault; or a fault of the store.
 #[derive(Debug, Drop)]
 pub(crate) enum Refusal {
     Denied { denial: Denial, fault: Option<Text> },

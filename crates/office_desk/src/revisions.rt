@@ -7,12 +7,12 @@ ghost use Rattle.office_store.specs.Shown.{IsIdle};
 ghost use Rattle.office_policy.specs.LooksBack.{LooksBack};
 ghost use Rattle.office_policy.specs.Revisions.{state_in};
 ghost use Rattle.office_desk.specs.Looked.{authored_at};
+ghost use Rattle.office_desk.specs.Summarized.{as_asked};
 
-use office_store::{is_author, revision};
+use office_store::{Summary, is_author, summary_at};
 use office_tables::{RevisionRow, StoreFault};
 use review_policy::{ProfileName, State, Word};
 use sqlite::{Alter, Connection};
-use std::alloc::Global;
 
 // The state of a revision that is there.
 pub(crate) fn state_in(revision: &Option<RevisionRow>) -> Option<State>
@@ -24,19 +24,29 @@ pub(crate) fn state_in(revision: &Option<RevisionRow>) -> Option<State>
     }
 }
 
-// A revision of a profile, and whether a user of that name is an author of the profile.
+// The state of a revision that is there, by what is known of it without its text.
+pub(crate) fn state_of(found: &Option<Summary>) -> Option<State>
+    ensures { result ≡ state_in (as_asked found.now) }
+{
+    match found {
+        Some(summary) => Some(summary.state),
+        None => None,
+    }
+}
+
+// A revision of a profile without its text, and whether a user of that name is an author of the
+// profile.
 pub(crate) fn authored<S: Alter>(
-    alloc: Global,
     conn: &mut Connection<S>,
     name: &ProfileName,
     number: u32,
     user: &Word,
-) -> Result<(Option<RevisionRow>, bool), StoreFault>
+) -> Result<(Option<Summary>, bool), StoreFault>
     requires { IsIdle (state S.Store conn.old) }
     ensures { Reads S.Store conn.old conn.new result
         (λ t found. LooksBack (authored_at name.now number user.now) t found) }
 {
-    let found = revision(alloc, conn, name, number)?;
+    let found = summary_at(conn, name, number)?;
     let is_author = is_author(conn, name, user)?;
     Ok((found, is_author))
 }

@@ -4,10 +4,8 @@ ghost use Rattle.std.specs.Prelude.{◌≡◌, Some, IfOk, option_map};
 ghost use Rattle.sqlite.specs.Held.{state};
 ghost use Rattle.review_policy.specs.declared.ask.Ask.TheVariants as ask;
 ghost use Rattle.review_sheet.specs.Sheet.{sheet_text};
-ghost use Rattle.office_store.specs.Refusing.{RefusesToMake};
 ghost use Rattle.office_store.specs.Shown.{IsIdle};
-ghost use Rattle.office_policy.specs.Verdict.{verdict_of};
-ghost use Rattle.office_desk.specs.Carries.{ReadsOut};
+ghost use Rattle.office_desk.specs.Judged.{JudgesAsk};
 ghost use Rattle.office_desk.specs.Compared.{sheet_against};
 
 use crate::baseline::{Comparison, base, compared_with};
@@ -68,7 +66,8 @@ pub(crate) fn sheet<S: Alter>(
     number: u32,
 ) -> Result<Reply, Refusal>
     requires { IsIdle (state S.Store conn.old) }
-    ensures { ReadsOut (RefusesToMake S.Store) (state S.Store conn.old) (state S.Store conn.new) result (λ h. verdict_of h (Some caller.now) (ask.Sheet name.now number)) }
+    ensures { JudgesAsk (state S.Store conn.old) (state S.Store conn.new) result
+        caller.now (ask.Sheet name.now number) }
 {
     decide_read(&read_facts(caller, &name.team, false))?;
     let found = revision(alloc, conn, name, number)?;

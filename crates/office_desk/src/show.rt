@@ -3,10 +3,8 @@
 ghost use Rattle.std.specs.Prelude.{◌≡◌, Some};
 ghost use Rattle.sqlite.specs.Held.{state};
 ghost use Rattle.review_policy.specs.declared.ask.Ask.TheVariants as ask;
-ghost use Rattle.office_store.specs.Refusing.{RefusesToMake};
 ghost use Rattle.office_store.specs.Shown.{IsIdle};
-ghost use Rattle.office_policy.specs.Verdict.{verdict_of};
-ghost use Rattle.office_desk.specs.Carries.{ReadsOut};
+ghost use Rattle.office_desk.specs.Judged.{JudgesAsk};
 
 use crate::reading::read_facts;
 use crate::refusal::Refusal;
@@ -25,7 +23,8 @@ pub(crate) fn show<S: Alter>(
     number: u32,
 ) -> Result<Reply, Refusal>
     requires { IsIdle (state S.Store conn.old) }
-    ensures { ReadsOut (RefusesToMake S.Store) (state S.Store conn.old) (state S.Store conn.new) result (λ h. verdict_of h (Some caller.now) (ask.Show name.now number)) }
+    ensures { JudgesAsk (state S.Store conn.old) (state S.Store conn.new) result
+        caller.now (ask.Show name.now number) }
 {
     decide_read(&read_facts(caller, &name.team, false))?;
     let found = revision(alloc, conn, name, number)?;

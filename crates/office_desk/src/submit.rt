@@ -9,20 +9,21 @@ ghost use Rattle.profile_text.specs.Digest.{digest_of};
 ghost use Rattle.profile_text.specs.Reading.{reading_of};
 ghost use Rattle.office_tables.specs.Lists.{holds_role};
 ghost use Rattle.office_tables.specs.Reads.{submitted};
-ghost use Rattle.office_store.specs.Refusing.{RefusesToMake};
+ghost use Rattle.office_store.specs.Refusing.{adds_revision};
 ghost use Rattle.office_store.specs.Shown.{IsIdle};
 ghost use Rattle.office_policy.specs.Users.{is_of_team};
 ghost use Rattle.office_policy.specs.Revisions.{if_open, number_of};
 ghost use Rattle.office_policy.specs.Facts.{canonical, is_text_of};
 ghost use Rattle.office_policy.specs.Verdict.{verdict_of};
 ghost use Rattle.office_desk.specs.AtOnce.{IsRefusedAtOnce};
-ghost use Rattle.office_desk.specs.Carries.{CarriesOut};
+ghost use Rattle.office_desk.specs.Carries.{Asks};
+ghost use Rattle.office_desk.specs.Judged.{JudgesSubmission};
 
 use crate::refusal::Refusal;
 use office_store::{add_revision, last};
 use office_tables::{RevisionRow, StoreFault, UserRow};
 use profile_text::{DocFault, digest, fault_text, read_with_text};
-use review_policy::{ProfileName, Reply, Role, State, SubmitFacts, Text, Word, decide_submit};
+use review_policy::{ProfileName, Role, State, SubmitFacts, Text, Word, decide_submit};
 use sqlite::{Alter, Connection};
 use std::alloc::{AllocError, Global};
 
@@ -95,8 +96,8 @@ fn next_revision(
     })
 }
 
-// The canonical text of the document, where the caller may hand in one of this team, and it reads; else the refusal, which
-// says of a document that doesn't read why.
+// The canonical text of the document, where the caller may hand in one of this team, and it reads;
+// else the refusal, which says of a document that doesn't read why.
 fn handed_in(
     alloc: Global,
     caller: &UserRow,
@@ -128,24 +129,32 @@ fn handed_in(
     }
 }
 
-// Reads a document, and makes its canonical text the next revision of the profile.
-pub(crate) fn submit<S: Alter>(
+// Reads a document, and judges whether its canonical text becomes the next revision of the profile.
+pub(crate) fn judge_submission<S: Alter>(
     alloc: Global,
     conn: &mut Connection<S>,
     caller: &UserRow,
     name: &ProfileName,
     document: &Vec<u8>,
-) -> Result<Reply, Refusal>
+) -> Result<RevisionRow, Refusal>
     requires { IsIdle (state S.Store conn.old) }
-    ensures { CarriesOut (RefusesToMake S.Store) (state S.Store conn.old) (state S.Store conn.new) result (λ h. verdict_of h (Some caller.now) (ask.Submit name.now document.now)) }
+    ensures { JudgesSubmission (state S.Store conn.old) (state S.Store conn.new) result
+        caller.now (ask.Submit name.now document.now) }
 {
     let text = handed_in(alloc, caller, name, document)?;
     let last = last(alloc, conn, name)?;
     decide_submit(&all_facts(caller, &name.team, &text, &last))?;
-    let revision = next_revision(caller, &last, text)?;
-    add_revision(conn, name, &revision)?;
-    Ok(Reply::Submitted {
-        digest: revision.digest,
-        revision: revision.number,
-    })
+    Ok(next_revision(caller, &last, text)?)
+}
+
+// Adds the next revision of a profile.
+pub(crate) fn write_submission<S: Alter>(
+    conn: &mut Connection<S>,
+    name: &ProfileName,
+    revision: &RevisionRow,
+) -> Result<(), StoreFault>
+    requires { IsIdle (state S.Store conn.old) }
+    ensures { Asks S.Store (adds_revision name.now revision.now) conn.old conn.new result }
+{
+    add_revision(conn, name, revision)
 }

@@ -4,21 +4,21 @@ ghost use Rattle.std.specs.Prelude.{◌≡◌, Some, not, ◌||◌};
 ghost use Rattle.sqlite.specs.Held.{state};
 ghost use Rattle.review_policy.specs.declared.ask.Ask.TheVariants as ask;
 ghost use Rattle.review_policy.specs.declared.facts.TheConstants.WithdrawFacts.{PASSING};
-ghost use Rattle.office_store.specs.Refusing.{RefusesToMake};
+ghost use Rattle.office_store.specs.Refusing.{withdraws};
 ghost use Rattle.office_store.specs.Shown.{IsIdle};
 ghost use Rattle.office_tables.specs.Lists.{holds_role};
 ghost use Rattle.office_policy.specs.Users.{is_of_team};
 ghost use Rattle.office_policy.specs.Facts.{withdraw_facts};
-ghost use Rattle.office_policy.specs.Verdict.{verdict_of};
-ghost use Rattle.office_desk.specs.Carries.{CarriesOut};
+ghost use Rattle.office_desk.specs.Carries.{Asks};
+ghost use Rattle.office_desk.specs.Judged.{JudgesAsk};
+ghost use Rattle.office_desk.specs.Summarized.{as_asked};
 
 use crate::refusal::Refusal;
-use crate::revisions::state_in;
-use office_store::{revision, set_withdrawn};
-use office_tables::{RevisionRow, UserRow};
+use crate::revisions::state_of;
+use office_store::{Summary, set_withdrawn, summary_at};
+use office_tables::{StoreFault, UserRow};
 use review_policy::{ProfileName, Reply, Role, WithdrawFacts, Word, decide_withdraw};
 use sqlite::{Alter, Connection};
-use std::alloc::Global;
 
 // What the rules ask of a caller and a team.
 fn facts_of_caller(caller: &UserRow, team: &Word) -> WithdrawFacts
@@ -37,29 +37,40 @@ fn facts_of_caller(caller: &UserRow, team: &Word) -> WithdrawFacts
 }
 
 // All that the rules ask.
-fn all_facts(caller: &UserRow, team: &Word, found: &Option<RevisionRow>) -> WithdrawFacts
-    ensures { result ≡ withdraw_facts (Some caller.now) team.now found.now }
+fn all_facts(caller: &UserRow, team: &Word, found: &Option<Summary>) -> WithdrawFacts
+    ensures { result ≡ withdraw_facts (Some caller.now) team.now (as_asked found.now) }
 {
     WithdrawFacts {
-        state: state_in(found),
+        state: state_of(found),
         ..facts_of_caller(caller, team)
     }
 }
 
-// Takes a revision back.
-pub(crate) fn withdraw<S: Alter>(
-    alloc: Global,
+// Judges a withdrawal.
+pub(crate) fn judge_withdrawal<S: Alter>(
     conn: &mut Connection<S>,
     caller: &UserRow,
     name: &ProfileName,
     number: u32,
 ) -> Result<Reply, Refusal>
     requires { IsIdle (state S.Store conn.old) }
-    ensures { CarriesOut (RefusesToMake S.Store) (state S.Store conn.old) (state S.Store conn.new) result (λ h. verdict_of h (Some caller.now) (ask.Withdraw name.now number)) }
+    ensures { JudgesAsk (state S.Store conn.old) (state S.Store conn.new) result
+        caller.now (ask.Withdraw name.now number) }
 {
     decide_withdraw(&facts_of_caller(caller, &name.team))?;
-    let found = revision(alloc, conn, name, number)?;
+    let found = summary_at(conn, name, number)?;
     decide_withdraw(&all_facts(caller, &name.team, &found))?;
-    set_withdrawn(conn, name, number)?;
     Ok(Reply::Withdrawn)
+}
+
+// Takes a revision back.
+pub(crate) fn write_withdrawal<S: Alter>(
+    conn: &mut Connection<S>,
+    name: &ProfileName,
+    number: u32,
+) -> Result<(), StoreFault>
+    requires { IsIdle (state S.Store conn.old) }
+    ensures { Asks S.Store (withdraws name.now number) conn.old conn.new result }
+{
+    set_withdrawn(conn, name, number)
 }

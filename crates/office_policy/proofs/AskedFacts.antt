@@ -56,7 +56,7 @@ pub asked_by : (h : History) (r : Request) (reply : Reply) (e : Option Event) �
 asked_by h r reply e is =
     subst (DoesAsked (caller_in h r) r.ask) (carried_out h r r.ask reply e refl is).done (done_asked h (user_showing h (digest_of r.token)) r.ask)
 
--- what is told of a revision that is there
+-- what is answered of a revision that is there
 told_of : (h : History) (p : ProfileName) (n : ℕ) (tell : RevisionRow → Reply) (told : Reply) (e : Option Event)
     → of_revision (revision_of h p n) (λ r. accepted (tell r) None) ≡ accepted told e → OfRevision h p n (λ row. told ≡ tell row)
 told_of h p n tell told e is = by_row (revision_of h p n) refl is

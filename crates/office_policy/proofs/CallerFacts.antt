@@ -20,11 +20,12 @@ use Rattle.office_policy.specs.Users.{user_showing, name_of}
 use Rattle.office_policy.specs.Revisions.{revision_of, issued_revision}
 use Rattle.office_policy.specs.Sheets.{sheet_of}
 use Rattle.office_policy.specs.Verdict.{Verdict, accepted, denied, new_revision, rules_of, done_of, verdict}
-use Rattle.office_policy.specs.Callers.{is_of_caller, of_caller, may_ask, IsAskedBy, IsForCaller}
+use Rattle.office_policy.specs.Callers.{is_of_caller, of_caller, may_ask, caller_of, IsAskedBy, IsForCaller}
 use Rattle.office_policy.specs.CallerTable.{decided}
+use Rattle.office_policy.specs.Lawful.{IsAllowed}
 use Rattle.office_policy.proofs.UserFacts.{showing_is}
 use Rattle.office_policy.proofs.LawFacts.{of_revision_by}
-use Rattle.office_policy.proofs.GivenOut.{IsCarriedOut, carried_out}
+use Rattle.office_policy.proofs.GivenOut.{IsCarriedOut, carried_out_of, carried_out}
 
 -- where no rule refuses, none of those that ask who the caller is does
 none_of_caller : (n : ℕ) (rules : List (Rule × Bool)) → first_from n rules ≡ Ok tt → first_from n (of_caller rules) ≡ Ok tt
@@ -74,6 +75,18 @@ stranger_out h a = search rules
 -- what is carried out is let through by those rules
 pub is_let_through : (h : History) (caller : Option UserRow) (a : Ask) → first_denial (rules_of h caller a) ≡ Ok tt → is_ok (decided h caller a) ≡ true
 is_let_through h caller a none = ap is_ok (none_of_caller 1 (rules_of h caller a) none)
+
+module _ (h : History) (e : Event) (is : IsAllowed h e) where
+  -- what is carried out for the caller
+  done : IsCarriedOut h (Some is.caller) is.ask is.reply (Some e)
+  done = carried_out_of h (Some is.caller) is.ask is.reply (Some e) is.allowed
+
+  -- an allowed event has the name of the caller, who may ask it
+  pub allowed_by : caller_of e ≡ Some is.caller.name
+  allowed_by = subst (IsDoneBy is.caller.name) done.done (done_by h (Some is.caller) is.ask)
+
+  pub allowed_may : may_ask is.caller is.ask ≡ true
+  allowed_may = sym (let_through h is.caller is.ask) ∙ is_let_through h (Some is.caller) is.ask done.none_refuses
 
 pub for_caller : (h : History) (r : Request) (reply : Reply) (e : Option Event) → verdict h r ≡ accepted reply e → IsForCaller h r e
 for_caller h r reply e is = by_user (user_showing h (digest_of r.token)) refl (carried_out h r r.ask reply e refl is)

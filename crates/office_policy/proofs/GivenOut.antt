@@ -31,7 +31,7 @@ pub record IsCarriedOut (h : History) (caller : Option UserRow) (a : Ask) (reply
   pub none_refuses : first_denial (rules_of h caller a) ≡ Ok tt
   pub done : done_of h caller a ≡ accepted reply e
 
-carried_out_of : (h : History) (caller : Option UserRow) (a : Ask) (reply : Reply) (e : Option Event) → verdict_of h caller a ≡ accepted reply e → IsCarriedOut h caller a reply e
+pub carried_out_of : (h : History) (caller : Option UserRow) (a : Ask) (reply : Reply) (e : Option Event) → verdict_of h caller a ≡ accepted reply e → IsCarriedOut h caller a reply e
 carried_out_of h caller a reply e is =
     elim (first_denial (rules_of h caller a)) as (λ r. first_denial (rules_of h caller a) ≡ r → judged h caller a r ≡ accepted reply e → IsCarriedOut h caller a reply e) [
       | Ok u ↦ λ none done. record { none_refuses = none; done = done }

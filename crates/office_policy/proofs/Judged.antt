@@ -26,7 +26,7 @@ use Rattle.office_policy.specs.Sheets.{sheet_of}
 use Rattle.review_sheet.specs.Sheet.{sheet_text}
 use Rattle.office_policy.specs.Facts.{submit_facts, issue_facts, read_facts, fetch_facts}
 use Rattle.office_policy.specs.Verdict.{Verdict, accepted, denied, unreached, of_revision, new_revision, verdict_of, judged, rules_of, done_of, fault_beside}
-use Rattle.office_policy.specs.Laws.{IsJudged}
+use Rattle.office_policy.specs.Laws.{IsDecided}
 use Rattle.office_policy.proofs.RuleFacts.{none_refuses}
 
 -- a refusal has a number from that of the first rule on
@@ -91,5 +91,5 @@ verdict_told h caller a =
       | Err d ↦ λ first. refused_told d (fault_beside h a d.rule) (numbered 1 (rules_of h caller a) d first)
     ] refl
 
-pub all_judged : (h : History) (request : Request) → IsJudged h request
+pub all_judged : (h : History) (request : Request) → IsDecided h request
 all_judged h request = verdict_told h (user_showing h (digest_of request.token)) request.ask

@@ -22,14 +22,14 @@ use Rattle.office_tables.specs.declared.row.RevisionRow.{RevisionRow}
 use Rattle.office_tables.specs.Lists.{holds_role}
 use Rattle.office_policy.specs.History.{Event, founded, enrolled, submitted, voted, issued, withdrawn, adopted, held, released, History}
 use Rattle.office_policy.specs.Users.{user_of, user_showing, registrar_alone, name_of}
-use Rattle.office_policy.specs.Revisions.{revision_of, revision_count, last_revision, issued_revision, is_author, state_in}
+use Rattle.office_policy.specs.Revisions.{revision_of, revision_count, last_revision, issued_revision, is_author, if_open, state_in}
 use Rattle.office_policy.specs.Votes.{tally_at}
 use Rattle.office_policy.specs.Holds.{is_held}
 use Rattle.office_policy.specs.Need.{need_at}
 use Rattle.office_policy.specs.Sheets.{sheet_of}
-use Rattle.office_policy.specs.Facts.{is_elsewhere, is_another, has_digest, enrol_facts, submit_facts, vote_facts, issue_facts, withdraw_facts, adopt_facts}
+use Rattle.office_policy.specs.Facts.{is_elsewhere, is_another, canonical, is_text_of, has_digest, enrol_facts, submit_facts, vote_facts, issue_facts, withdraw_facts, adopt_facts}
 use Rattle.office_policy.specs.Verdict.{Verdict, accepted, denied, unreached, of_revision, new_revision, verdict_of, verdict, judged, rules_of, done_of}
-use Rattle.office_policy.specs.Lawful.{IsLawfulHistory, IsAllowed}
+use Rattle.office_policy.specs.Lawful.{IsLawfulHistory, IsAllowed, IsRequested}
 use Rattle.office_policy.specs.Laws.{AreApart}
 use Rattle.office_policy.proofs.RuleFacts.{none_refuses}
 use Rattle.office_policy.proofs.UserFacts.{same_bytes, user_named, showing_one, showing_is}
@@ -39,9 +39,10 @@ pub record EnrolAllowed (h : History) (name team digest : List ℕ) : Type 0 whe
   pub same_team : is_elsewhere (user_of h name) team ≡ false
   pub free_token : is_another (user_showing h digest) name ≡ false
 
--- an allowed submission is by an author, has a number left, and carries the canonical text of what was read
+-- an allowed submission is by an author, isn't of the open text again, has a number left, and carries the canonical text of what was read
 pub record SubmitAllowed (h : History) (caller : List ℕ) (p : ProfileName) (text : List ℕ) : Type 0 where
   pub author : holds_role (user_of h caller) Author ≡ true
+  pub fresh : is_text_of (Some text) (if_open (last_revision h p)) ≡ false
   pub room : nat_le max_revisions (revision_count h p) ≡ false
   pub profile : Profile
   pub reads : reading_of text ≡ Ok profile
@@ -117,10 +118,10 @@ module _ (h : History) (caller : Option UserRow) (named : is_none caller ≡ fal
   role_held role known has = subst (λ u. holds_role u role ≡ true) (sym (named known)) (not_false (holds_role caller role) has)
 
   submission_follows : (p : ProfileName) (bytes : List ℕ) (reading : Result Profile DocFault) → reading_of bytes ≡ reading → holds_role (user_of h (name_of caller)) Author ≡ true
-      → nat_le max_revisions (revision_count h p) ≡ false → FollowsIn h (new_revision h caller p reading)
-  submission_follows p bytes (Ok profile) read author room =
-      record { author = author; room = room; profile = profile; reads = read_again bytes profile read; canonical = refl }
-  submission_follows p bytes (Err f) read author room = tt
+      → is_text_of (canonical reading) (if_open (last_revision h p)) ≡ false → nat_le max_revisions (revision_count h p) ≡ false → FollowsIn h (new_revision h caller p reading)
+  submission_follows p bytes (Ok profile) read author fresh room =
+      record { author = author; fresh = fresh; room = room; profile = profile; reads = read_again bytes profile read; canonical = refl }
+  submission_follows p bytes (Err f) read author fresh room = tt
 
   -- what is done where no rule refuses follows
   done_follows : (a : Ask) → first_denial (rules_of h caller a) ≡ Ok tt → FollowsIn h (done_of h caller a)
@@ -129,7 +130,7 @@ module _ (h : History) (caller : Option UserRow) (named : is_none caller ≡ fal
       record { same_team = none.1.1.1.0; free_token = none.1.1.1.1.0 }
   done_follows (ask.Submit p document) e =
       let none = none_refuses 1 (submit_rules (submit_facts caller p.team (reading_of document.items) (last_revision h p) (revision_count h p))) e in
-      submission_follows p document.items (reading_of document.items) refl (role_held Author none.0 none.1.0) none.1.1.1.1.1.0
+      submission_follows p document.items (reading_of document.items) refl (role_held Author none.0 none.1.0) none.1.1.1.1.0 none.1.1.1.1.1.0
   done_follows (ask.Vote p n digest approve) e =
       let none = none_refuses 1 (vote_rules (vote_facts caller (revision_of h p n) (is_author h p (name_of caller)) digest)) e in
       record {
@@ -184,12 +185,50 @@ event_follows h r reply e is =
 
 -- what an allowed event follows
 pub allowed_follows : (h : History) (e : Event) → IsAllowed h e → Follows h e
-allowed_follows h e is = event_follows h is.request is.reply e is.allowed
+allowed_follows h e is = subst (FollowsIn h) is.allowed (verdict_of_follows h (Some is.caller) (λ there. is.enrolled) is.ask)
 
--- a lawful history goes on lawfully by an allowed event
-pub lawful_more : (h : History) (e : Event) → IsLawfulHistory h → IsAllowed h e → IsLawfulHistory (e ∷ h)
+abbrev IsDenied : Verdict → Type 0
+IsDenied (accepted r e) = ⊥
+IsDenied (denied d f) = Unit {0}
+
+-- who is no user is denied whatever is asked
+stranger_denied : (h : History) (a : Ask) → IsDenied (verdict_of h None a)
+stranger_denied h (ask.Enrol user team roles digest) = tt
+stranger_denied h (ask.Submit p document) = tt
+stranger_denied h (ask.Vote p n digest approve) = tt
+stranger_denied h (ask.Issue p n) = tt
+stranger_denied h (ask.Withdraw p n) = tt
+stranger_denied h (ask.Adopt p n) = tt
+stranger_denied h (ask.Show p n) = tt
+stranger_denied h (ask.Sheet p n) = tt
+stranger_denied h (ask.List team) = tt
+stranger_denied h (ask.Fetch p) = tt
+stranger_denied h (ask.Hold p) = tt
+stranger_denied h (ask.Release p) = tt
+
+-- the event of an accepted request is allowed, to the user that shows its token
+pub requested_allowed : (h : History) (e : Event) → IsRequested h e → IsAllowed h e
+requested_allowed h e is = by_caller (user_showing h token) refl is.allowed
+  where
+    token : List ℕ
+    token = digest_of is.request.token
+
+    by_caller : (u : Option UserRow) → user_showing h token ≡ u → verdict_of h u is.request.ask ≡ accepted is.reply (Some e) → IsAllowed h e
+    by_caller None shown allowed = absurd (subst IsDenied allowed (stranger_denied h is.request.ask))
+    by_caller (Some u) shown allowed = record {
+      caller = u;
+      enrolled = (showing_is h token u shown).0;
+      ask = is.request.ask;
+      forms = is.formed.forms;
+      number = is.formed.number;
+      reply = is.reply;
+      allowed = allowed;
+    }
+
+-- a lawful history goes on lawfully by the event of an accepted request
+pub lawful_more : (h : History) (e : Event) → IsLawfulHistory h → IsRequested h e → IsLawfulHistory (e ∷ h)
 lawful_more [] e lawful is = absurd lawful
-lawful_more (f ∷ h) e lawful is = (is, lawful)
+lawful_more (f ∷ h) e lawful is = (requested_allowed (f ∷ h) e is, lawful)
 
 -- users stay apart where one is enrolled under a digest of no other
 apart_enrolled : (h : History) → AreApart h → (c n t : List ℕ) (r : ℕ) (d : List ℕ) → EnrolAllowed h n t d → AreApart (enrolled c n t r d ∷ h)

@@ -22,6 +22,7 @@ pub mod HeadlineFacts
 pub mod TeamFacts
 pub mod EventFacts
 pub mod Submissions
+pub mod ShownFacts
 pub mod Issues
 pub mod LookUps
 pub mod IssuedFacts

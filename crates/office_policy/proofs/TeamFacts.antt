@@ -221,9 +221,6 @@ module _ (p : ProfileName) where
 
 -- ---- the team's baseline, and its profiles
 module _ (team : List ℕ) where
-  profile_named : List ℕ → ProfileName
-  profile_named name = record { team = team; profile = name }
-
   adoption_alone : (h : History) → adoption_of (filter (concerns team) h) team ≡ adoption_of h team
   adoption_alone = alone team (λ h. adoption_of h team) past more
     where

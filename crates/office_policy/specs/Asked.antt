@@ -11,7 +11,8 @@ use Rattle.review_policy.specs.declared.answer.Reply.{Reply}
 use Rattle.review_policy.specs.declared.answer.Reply.TheVariants as reply
 use Rattle.review_sheet.specs.Sheet.{sheet_text}
 use Rattle.office_tables.specs.declared.row.RevisionRow.{RevisionRow}
-use Rattle.office_policy.specs.History.{Event, enrolled, submitted, voted, issued, withdrawn, adopted, held, released, History}
+use Rattle.office_policy.specs.History.{Event, enrolled, submitted, voted, issued, withdrawn}
+use Rattle.office_policy.specs.History.{adopted, held, released, History}
 use Rattle.office_policy.specs.Revisions.{revision_of}
 use Rattle.office_policy.specs.Listing.{listing_of}
 use Rattle.office_policy.specs.Sheets.{sheet_of}
@@ -43,7 +44,7 @@ IsAsked caller (ask.Release p) e = e ≡ Some (released caller p)
 abbrev pub OfRevision : History → ProfileName → ℕ → (RevisionRow → Type 0) → Type 0
 OfRevision h p n Holds = (row : RevisionRow) × (revision_of h p n ≡ Some row) × Holds row
 
--- what is told is what the caller looks at: a revision, its sheet, or the profiles of a team
+-- what is answered is what the caller looks at: a revision, its sheet, or the profiles of a team
 abbrev pub IsSeen : History → Ask → Reply → Type 0
 IsSeen h (ask.Show p n) told =
     OfRevision h p n (λ row. told ≡ reply.Shown row.digest row.body row.state)

@@ -1,5 +1,6 @@
 -- What a request leaves of an office, and what it is answered.
-use Rattle.std.specs.Prelude.{◌⊎◌, ◌+◌, ◌-◌, ◌^◌, ◌≤◌, ℕ, min, Bool, true, false, ◌∷◌, Some, None, IsTrue}
+use Rattle.std.specs.Prelude.{◌⊎◌, ◌+◌, ◌-◌, ◌^◌, ◌≤◌, ℕ, min, Bool, true, false, ◌∷◌, Some, None}
+use Rattle.std.specs.Prelude.{IsTrue}
 use Rattle.review_policy.specs.declared.ask.Ask.{Ask}
 use Rattle.review_policy.specs.declared.ask.Ask.TheVariants as ask
 use Rattle.review_policy.specs.declared.ask.Request.{Request}
@@ -83,7 +84,8 @@ module _ {X : Type 0} (m : Meaning X) where
     -- no fault is forgotten
     pub counts : m.faults old ≤ m.faults new
     -- only a fault shuts it
-    pub closes : m.is_clean new → m.is_open old → m.is_open new ⊎ HasRisen (m.faults old) (m.faults new)
+    pub closes : m.is_clean new → m.is_open old
+        → m.is_open new ⊎ HasRisen (m.faults old) (m.faults new)
     -- and what is open was open before
     pub shut : m.is_clean new → m.is_open new → m.is_open old
 
@@ -103,6 +105,7 @@ module _ {X : Type 0} (m : Meaning X) where
         → UnlessFaulty told (Stands (history_after h request told) new)
     -- where nothing was changed it has what it had, whatever that is
     pub kept : m.is_clean new → UnlessChanged request.ask told (m.keeps old new)
-    -- a crash may leave what it could leave before, or the office with the event of the verdict, where it has one
-    pub crash : (h : History) → m.is_of h old → m.is_clean new → (left : m.Left) → m.may_leave new left
-        → m.may_leave old left ⊎ AreWithEvent h (verdict h request) left
+    -- a crash may leave what it could leave before, or the office with the event of the verdict,
+    -- where it has one
+    pub crash : (h : History) → m.is_of h old → m.is_clean new → (left : m.Left)
+        → m.may_leave new left → m.may_leave old left ⊎ AreWithEvent h (verdict h request) left

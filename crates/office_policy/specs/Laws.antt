@@ -54,8 +54,8 @@ OneIssued h p =
     → is_issued (state_in (revision_of h p k)) ≡ true → n ≡ k
 
 -- a rule refuses the request, or it is carried out
-abbrev pub IsJudged : History → Request → Type 0
-IsJudged h r = verdict h r ≢ unreached
+abbrev pub IsDecided : History → Request → Type 0
+IsDecided h r = verdict h r ≢ unreached
 
 -- the names of a list of profiles
 abbrev pub listed_names : List ListedProfile → List (List ℕ)

@@ -1,4 +1,5 @@
 pub mod History
+pub mod Happened
 pub mod Users
 pub mod Names
 pub mod Revisions
@@ -14,6 +15,7 @@ pub mod Verdict
 pub mod Formed
 pub mod Lawful
 pub mod TablesOf
+pub mod ShowsEvent
 pub mod Runs
 pub mod Laws
 pub mod Teams
@@ -31,3 +33,4 @@ pub mod Meaning
 pub mod Handled
 pub mod Left
 pub mod Ran
+pub mod Judging

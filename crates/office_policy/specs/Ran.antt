@@ -11,7 +11,8 @@ use Rattle.office_policy.specs.Left.{LeftAfter}
 
 -- nothing was changed: each request was refused, met a fault, or only reads
 abbrev pub NoneChanged : List Request → List Answer → Type 0
-NoneChanged (r ∷ requests) (Done reply ∷ answers) = IsTrue (only_reads r.ask) × NoneChanged requests answers
+NoneChanged (r ∷ requests) (Done reply ∷ answers) =
+    IsTrue (only_reads r.ask) × NoneChanged requests answers
 NoneChanged (r ∷ requests) (Denied denial fault ∷ answers) = NoneChanged requests answers
 NoneChanged (r ∷ requests) (Fault fault ∷ answers) = NoneChanged requests answers
 NoneChanged _ _ = Unit {0}
@@ -31,7 +32,9 @@ HaveCauses m old new h (r ∷ requests) (answer ∷ answers) =
 HaveCauses m old new h _ _ = Unit {0}
 
 -- the requests were handled one after the other, and answered by these
-pub record HaveRun {X : Type 0} (m : Meaning X) (old new : X) (requests : List Request) (told : List Answer) : Type 0 where
+pub record HaveRun
+    {X : Type 0} (m : Meaning X) (old new : X)
+    (requests : List Request) (told : List Answer) : Type 0 where
   -- one answer to each
   pub count : length told ≡ length requests
   pub survives : Survives m old new
@@ -47,5 +50,5 @@ pub record HaveRun {X : Type 0} (m : Meaning X) (old new : X) (requests : List R
   -- where nothing was changed it has what it had, whatever that is
   pub kept : m.is_clean new → NoneChanged requests told → m.keeps old new
   -- what a crash may leave
-  pub crash : (h : History) → m.is_of h old → m.is_clean new → (left : m.Left) → m.may_leave new left
-      → LeftAfter m (m.may_leave old) h requests told left
+  pub crash : (h : History) → m.is_of h old → m.is_clean new → (left : m.Left)
+      → m.may_leave new left → LeftAfter m (m.may_leave old) h requests told left

@@ -1,7 +1,7 @@
 //! Who may ask what, as tables of single roles and as laws of every user. Each is a function
 //! without a parameter whose contract is the law; it does nothing.
 
-ghost use Rattle.std.specs.Prelude.{◌≡◌, ℕ, Vec, Option, Some, None, map, is_ok};
+ghost use Rattle.std.specs.Prelude.{◌≡◌, ℕ, true, Vec, Option, Some, None, map, is_ok};
 ghost use Rattle.std.specs.declared.alloc.Global.{Global};
 ghost use Rattle.profile_text.specs.Digest.{digest_of};
 ghost use Rattle.review_policy.specs.declared.ask.Ask.{Ask};
@@ -11,11 +11,13 @@ ghost use Rattle.review_policy.specs.declared.denial.Rule.TheVariants.{CallerUnk
 ghost use Rattle.office_tables.specs.declared.row.UserRow.{UserRow};
 ghost use Rattle.office_policy.specs.History.{Event, History};
 ghost use Rattle.office_policy.specs.Verdict.{verdict, accepted};
-ghost use Rattle.office_policy.specs.Callers.{IsForCaller, may_ask};
+ghost use Rattle.office_policy.specs.Lawful.{IsAllowed};
+ghost use Rattle.office_policy.specs.Callers.{IsForCaller, may_ask, caller_of};
 ghost use Rattle.office_policy.specs.Asked.{IsAsked, IsSeen};
 ghost use Rattle.office_policy.specs.Users.{name_of, user_showing};
 ghost use Rattle.office_policy.specs.Examples.{blue, red, refused};
-ghost use Rattle.office_policy.specs.CallerTable.{decided, decided_for_each, each_kind, of_own_team, of_other_team};
+ghost use Rattle.office_policy.specs.CallerTable.{decided, decided_for_each, each_kind};
+ghost use Rattle.office_policy.specs.CallerTable.{of_own_team, of_other_team};
 
 /// What the rules of caller, role and team decide where a user of the named team holds one role and
 /// no other: for each kind of request and each role, whatever has happened.
@@ -45,17 +47,25 @@ pub fn what_is_accepted_was_allowed()
         ≡ accepted reply e → IsForCaller h r e }
 {}
 
+/// What is allowed to a user has the name of that user, who may ask it.
+pub fn what_is_allowed_is_of_its_caller()
+    ensures caller { (h : History) (e : Event) (is : IsAllowed h e) → caller_of e
+        ≡ Some is.caller.name }
+    ensures may { (h : History) (e : Event) (is : IsAllowed h e) → may_ask is.caller is.ask
+        ≡ true }
+{}
+
 /// What happens where a request is carried out is just what was asked, by its caller: an enrolment
 /// with these roles and this digest; a vote on this revision, by this digest, that approves or
-/// rejects as it was cast; an issue, a withdrawal or an adoption of this revision. Where something is
-/// only looked at, nothing happens.
+/// rejects as it was cast; an issue, a withdrawal or an adoption of this revision. Where something
+/// is only looked at, nothing happens.
 pub fn what_happens_was_asked()
     ensures { (h : History) (r : Request) (reply : Reply) (e : Option Event) → verdict h r
         ≡ accepted reply e → IsAsked (name_of (user_showing h (digest_of r.token))) r.ask e }
 {}
 
-/// What is shown is the revision that was asked for, a sheet is of just that one, and what is listed
-/// is the profiles of the team.
+/// What is shown is the revision that was asked for, a sheet is of just that one, and what is
+/// listed is the profiles of the team.
 pub fn what_is_seen_was_asked()
     ensures { (h : History) (r : Request) (reply : Reply) (e : Option Event) → verdict h r
         ≡ accepted reply e → IsSeen h r.ask reply }

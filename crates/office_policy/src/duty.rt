@@ -1,5 +1,5 @@
-//! Separation of duty, as laws of histories. Each is a function without a parameter whose contract is the law; it does
-//! nothing.
+//! Separation of duty, as laws of histories. Each is a function without a parameter whose contract
+//! is the law; it does nothing.
 
 ghost use Rattle.std.specs.Prelude.{◌≡◌, ◌∷◌, false, List, ℕ, Option, filter};
 ghost use Rattle.profile_text.specs.Digest.{digest_of};
@@ -15,7 +15,9 @@ ghost use Rattle.office_policy.specs.Holds.{is_held};
 ghost use Rattle.office_policy.specs.Verdict.{verdict, accepted};
 ghost use Rattle.office_policy.specs.Lawful.{IsLawfulHistory};
 ghost use Rattle.office_policy.specs.Teams.{concerns, team_of};
-ghost use Rattle.office_policy.specs.Duty.{IsSubmission, AreOthers, AreOfTheText, AreEnough, LacksTwo, IsPlainRevision, IsTextOf, IsDigestOf, IsFetched, ReadsBack};
+ghost use Rattle.office_policy.specs.Duty.{IsSubmission, AreOthers, AreOfTheText, AreEnough};
+ghost use Rattle.office_policy.specs.Duty.{LacksTwo, IsPlainRevision, IsTextOf, IsDigestOf};
+ghost use Rattle.office_policy.specs.Duty.{IsFetched, ReadsBack};
 ghost use Rattle.office_policy.specs.Headline.{IsOfApproved, WasApproved};
 
 /// What is submitted is known by the digest of the text that happens, the canonical text of the
@@ -33,7 +35,8 @@ pub fn what_is_shown_was_submitted()
         → verdict h r ≡ accepted (reply.Shown digest text state) e → IsTextOf h p n digest text }
 {}
 
-/// What is fetched is the text that the submission of that number carried; it was issued, and is issued now.
+/// What is fetched is the text that the submission of that number carried; it was issued, and is
+/// issued now.
 pub fn what_is_fetched_was_issued()
     ensures { (h : History) (r : Request) (p : ProfileName) (n : ℕ) (digest text : List ℕ)
         (e : Option Event) → r.ask ≡ ask.Fetch p
@@ -62,22 +65,23 @@ pub fn texts_read_back()
     ensures { (h : History) → IsLawfulHistory h → ReadsBack h }
 {}
 
-/// Each approval of an issued revision named the digest of exactly the issued text, after its submission, and nothing of the
-/// profile was submitted since.
+/// Each approval of an issued revision named the digest of exactly the issued text, after its
+/// submission, and nothing of the profile was submitted since.
 pub fn approvals_are_of_the_issued_text()
     ensures { (h : History) (issuer : List ℕ) (p : ProfileName) (n : ℕ)
         → IsLawfulHistory (issued issuer p n ∷ h) → AreOfTheText h p n }
 {}
 
-/// The approvals of an issued revision are of distinct names, each a reviewer at the vote and at the issue, none an author of
-/// the profile. The issuer is no author of it either.
+/// The approvals of an issued revision are of distinct names, each a reviewer at the vote and at
+/// the issue, none an author of the profile. The issuer is no author of it either.
 pub fn approvals_are_by_others()
     ensures { (h : History) (issuer : List ℕ) (p : ProfileName) (n : ℕ)
         → IsLawfulHistory (issued issuer p n ∷ h) → AreOthers h issuer p n }
 {}
 
-/// An issued revision has the approvals that its need asks for at the issue. Where it has fewer than two, or none with
-/// security, it holds no listed capability and permits no more than the baseline.
+/// An issued revision has the approvals that its need asks for at the issue. Where it has fewer
+/// than two, or none with security, it holds no listed capability and permits no more than the
+/// baseline.
 pub fn issues_have_the_approvals_that_they_need()
     ensures enough { (h : History) (issuer : List ℕ) (p : ProfileName) (n : ℕ)
         → IsLawfulHistory (issued issuer p n ∷ h) → AreEnough h p n }
@@ -103,8 +107,8 @@ pub fn what_is_fetched_was_approved()
         → WasApproved h r.ask digest text n }
 {}
 
-/// A request has the same verdict on two histories that have the same events that concern the team that it names, in the same
-/// order: what happens to the profiles of other teams changes nothing.
+/// A request has the same verdict on two histories that have the same events that concern the team
+/// that it names, in the same order: what happens to the profiles of other teams changes nothing.
 pub fn teams_are_apart()
     ensures { (h k : History) (r : Request) → filter (concerns (team_of r.ask)) h
         ≡ filter (concerns (team_of r.ask)) k → verdict h r ≡ verdict k r }

@@ -1,5 +1,6 @@
-//! Laws of changes: what a write makes of the tables of a history are the tables of the history with its event. Each is a
-//! function without a parameter whose contract is the law; it does nothing.
+//! Laws of changes: what a write makes of the tables of a history are the tables of the history
+//! with its event. Each is a function without a parameter whose contract is the law; it does
+//! nothing.
 
 ghost use Rattle.std.specs.Prelude.{◌≡◌, ◌∷◌, [], List, ℕ, Bool, true, suc, None};
 ghost use Rattle.profile_text.specs.Digest.{digest_of};
@@ -7,16 +8,19 @@ ghost use Rattle.review_policy.specs.declared.ask.ProfileName.{ProfileName};
 ghost use Rattle.review_policy.specs.declared.role.Role.TheVariants.{Security};
 ghost use Rattle.review_policy.specs.Rules.{is_open};
 ghost use Rattle.office_tables.specs.Lists.{holds_role};
-ghost use Rattle.office_tables.specs.Changes.{founded_tables, with_user, with_revision, with_vote, with_issued, with_withdrawn, with_baseline, with_hold, without_hold};
+ghost use Rattle.office_tables.specs.Changes.{founded_tables, with_user, with_revision, with_vote};
+ghost use Rattle.office_tables.specs.Changes.{with_issued, with_withdrawn, with_baseline};
+ghost use Rattle.office_tables.specs.Changes.{with_hold, without_hold};
 ghost use Rattle.office_tables.specs.Reads.{submitted as new_revision};
-ghost use Rattle.office_policy.specs.History.{History, founded, enrolled, submitted, voted, issued, withdrawn, adopted, held, released};
+ghost use Rattle.office_policy.specs.History.{History, founded, enrolled, submitted, voted, issued};
+ghost use Rattle.office_policy.specs.History.{withdrawn, adopted, held, released};
 ghost use Rattle.office_policy.specs.Users.{user_of, registrar_alone};
 ghost use Rattle.office_policy.specs.Revisions.{revision_of, revision_count, state_in};
 ghost use Rattle.office_policy.specs.TablesOf.{tables_of};
 ghost use Rattle.office_policy.specs.Lawful.{IsLawfulHistory};
 
-/// The tables of a new office are those of its founding: its first user, who is registrar and no more, and the listed
-/// capabilities.
+/// The tables of a new office are those of its founding: its first user, who is registrar and no
+/// more, and the listed capabilities.
 pub fn a_founding_makes_the_first_tables()
     ensures { (name team digest : List ℕ) (listed : ℕ)
         → founded_tables
@@ -46,7 +50,8 @@ pub fn the_next_number_is_free()
     ensures { (h : History) (p : ProfileName) → revision_of h p (suc (revision_count h p)) ≡ None }
 {}
 
-/// A vote is kept in the place of any earlier one of that voter on the revision, with whether the voter holds security at it.
+/// A vote is kept in the place of any earlier one of that voter on the revision, with whether the
+/// voter holds security at it.
 pub fn a_vote_is_put()
     ensures { (h : History) (caller : List ℕ) (p : ProfileName) (n : ℕ) (digest : List ℕ)
         (approves : Bool) → with_vote p n caller

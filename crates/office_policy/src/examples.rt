@@ -7,22 +7,39 @@ ghost use Rattle.review_policy.specs.declared.ask.Ask.TheVariants as ask;
 ghost use Rattle.review_policy.specs.declared.answer.Reply.TheVariants as reply;
 ghost use Rattle.review_policy.specs.declared.denial.Need.TheVariants.{One, TwoWithSecurity};
 ghost use Rattle.review_policy.specs.declared.denial.Rule.TheVariants as rule;
-ghost use Rattle.review_policy.specs.declared.revision.State.TheVariants.{Open, Closed, Issued, Replaced, Withdrawn};
-ghost use Rattle.office_policy.specs.History.{enrolled, submitted, issued, withdrawn, adopted, held, released};
+ghost use Rattle.review_policy.specs.declared.revision.State.TheVariants.{Open, Closed, Issued};
+ghost use Rattle.review_policy.specs.declared.revision.State.TheVariants.{Replaced, Withdrawn};
+ghost use Rattle.office_policy.specs.History.{enrolled, submitted, issued, withdrawn, adopted};
+ghost use Rattle.office_policy.specs.History.{held, released};
 ghost use Rattle.office_policy.specs.Users.{user_of, user_showing};
-ghost use Rattle.office_policy.specs.Revisions.{state_of, last_revision, issued_revision, number_of};
-ghost use Rattle.office_policy.specs.Votes.{voters_of, kept_vote_of, standing_votes, approvals, secure_approvals, rejections};
+ghost use Rattle.office_policy.specs.Revisions.{state_of, last_revision, issued_revision};
+ghost use Rattle.office_policy.specs.Revisions.{number_of};
+ghost use Rattle.office_policy.specs.Votes.{voters_of, kept_vote_of, standing_votes, approvals};
+ghost use Rattle.office_policy.specs.Votes.{secure_approvals, rejections};
 ghost use Rattle.office_policy.specs.Documents.{document_of};
 ghost use Rattle.office_policy.specs.Baseline.{adopted_revision, baseline_of, listed_of};
 ghost use Rattle.office_policy.specs.Need.{need_against, need_at};
 ghost use Rattle.office_policy.specs.Sheets.{sheet_of};
 ghost use Rattle.office_policy.specs.Listing.{listing_of};
 ghost use Rattle.office_policy.specs.Verdict.{accepted};
-ghost use Rattle.office_policy.specs.Examples.{blue, red, desk, root, ann, ben, rev, ray, sue, iss, blue_machine, red_machine, web, unknown_profile, listed, office, text};
-ghost use Rattle.office_policy.specs.Examples.{submits, approves, rejects, issues, withdraws, adopts, holds, has_roles, founding, rob, enrols_rob, one_submitted, both_submitted, with_trusted_ann, reviewers_approve, adopts_first, both_approve, first_issued, second_approved, baseline_withdrawn, second_issued, second_withdrawn, held_when_issued, approved_while_held, released_then, issued_then, refused, decision, told, approving, submitting_none, issue_by, issue, vote_naming, open_row, after_an_adoption, caps_of, with_effective, with_ambient, with_caps, need_of_same, reads, reads_and_writes};
+ghost use Rattle.office_policy.specs.Examples.{blue, red, desk, root, ann, ben, rev, ray, sue, iss};
+ghost use Rattle.office_policy.specs.Examples.{blue_machine, red_machine, web, unknown_profile};
+ghost use Rattle.office_policy.specs.Examples.{listed, office, text};
+ghost use Rattle.office_policy.specs.Examples.{submits, approves, rejects, issues, withdraws};
+ghost use Rattle.office_policy.specs.Examples.{adopts, holds, has_roles, founding, rob, enrols_rob};
+ghost use Rattle.office_policy.specs.Examples.{one_submitted, both_submitted, with_trusted_ann};
+ghost use Rattle.office_policy.specs.Examples.{reviewers_approve, adopts_first, both_approve};
+ghost use Rattle.office_policy.specs.Examples.{first_issued, second_approved, baseline_withdrawn};
+ghost use Rattle.office_policy.specs.Examples.{second_issued, second_withdrawn, held_when_issued};
+ghost use Rattle.office_policy.specs.Examples.{approved_while_held, released_then, issued_then};
+ghost use Rattle.office_policy.specs.Examples.{refused, decision, told, approving, submitting_none};
+ghost use Rattle.office_policy.specs.Examples.{issue_by, issue, vote_naming, open_row};
+ghost use Rattle.office_policy.specs.Examples.{after_an_adoption, caps_of, with_effective};
+ghost use Rattle.office_policy.specs.Examples.{with_ambient, with_caps, need_of_same, reads};
+ghost use Rattle.office_policy.specs.Examples.{reads_and_writes};
 
-/// A revision that was closed by a later one isn't issued, and its votes are no votes on the later one; a name that votes
-/// again has one vote; a rejection is asked for before approvals.
+/// A revision that was closed by a later one isn't issued, and its votes are no votes on the later
+/// one; a name that votes again has one vote; a rejection is asked for before approvals.
 pub fn examples_of_votes()
     ensures closed_revision { issue (submits ann ∷ approves rev 1 ∷ one_submitted) TwoWithSecurity 1
         ≡ refused 5 rule.NotOpen }
@@ -45,7 +62,8 @@ pub fn examples_of_votes()
     ensures rejecting_names { rejections (rejects ray 1 ∷ both_approve) web 1 ≡ ray ∷ [] }
 {}
 
-/// A vote names the digest of the revision's text, is by no author of the profile, and is on the open revision.
+/// A vote names the digest of the revision's text, is by no author of the profile, and is on the
+/// open revision.
 pub fn examples_of_voters()
     ensures digest { (bytes : List ℕ) → last_revision (submitted ann web bytes ∷ office) web
         ≡ Some (open_row 1 bytes) }
@@ -64,7 +82,8 @@ pub fn examples_of_voters()
         ≡ refused 1 rule.CallerUnknown }
 {}
 
-/// A vote counts while its voter is a reviewer, and has security where its voter held security at the vote and holds it now.
+/// A vote counts while its voter is a reviewer, and has security where its voter held security at
+/// the vote and holds it now.
 pub fn examples_of_lapsed_votes()
     ensures security_was_lost { issue (has_roles sue 4 (5 ∷ []) ∷ both_approve) TwoWithSecurity 1
         ≡ refused 8 rule.SecurityMissing }
@@ -91,8 +110,8 @@ pub fn examples_of_lapsed_votes()
         ∷ [] }
 {}
 
-/// A revision is open until a later one is submitted or it is issued; what was issued is replaced by a later issue, and what
-/// was replaced doesn't come back.
+/// A revision is open until a later one is submitted or it is issued; what was issued is replaced
+/// by a later issue, and what was replaced doesn't come back.
 pub fn examples_of_issues()
     ensures open { state_of one_submitted web 1 ≡ Open }
     ensures closed { state_of (submits ann ∷ one_submitted) web 1 ≡ Closed }
@@ -152,8 +171,8 @@ pub fn examples_of_withdrawals()
         (withdraws 2 ∷ submits ann ∷ withdraws 1 ∷ first_issued) web 1 ≡ Withdrawn }
 {}
 
-/// Security that is no author adopts an issued revision; a team's revisions are compared with what it adopted last, unless
-/// that was withdrawn.
+/// Security that is no author adopts an issued revision; a team's revisions are compared with what
+/// it adopted last, unless that was withdrawn.
 pub fn examples_of_adoption()
     ensures adopted { told first_issued sue (ask.Adopt web 1)
         ≡ accepted reply.Adopted (Some (adopted sue web 1)) }
@@ -195,7 +214,8 @@ pub fn examples_of_the_need()
     ensures one_is_enough { issue second_approved One 2 ≡ Ok tt }
 {}
 
-/// A profile that is wider than the baseline, or holds a listed capability in any of its five sets, needs two approvals.
+/// A profile that is wider than the baseline, or holds a listed capability in any of its five sets,
+/// needs two approvals.
 #[tactic(auto, unfolding(widening::specs::Findings::findings_of, widening::specs::Findings::gained))]
 pub fn examples_of_wider_profiles()
     ensures no_filter { need_against 0 closed_profile (with_caps no_caps) ≡ TwoWithSecurity }
@@ -215,7 +235,8 @@ pub fn examples_of_wider_profiles()
     ensures more_calls { need_against 0 reads reads_and_writes ≡ TwoWithSecurity }
 {}
 
-/// A held profile is neither issued nor fetched until it is released; it is shown, listed and reviewed as before.
+/// A held profile is neither issued nor fetched until it is released; it is shown, listed and
+/// reviewed as before.
 pub fn examples_of_holds()
     ensures held { told (issues 1 ∷ approves rev 1 ∷ one_submitted) sue (ask.Hold web)
         ≡ accepted reply.Held (Some (held sue web)) }
@@ -316,7 +337,8 @@ pub fn examples_of_shows()
         ≡ refused 3 rule.OtherTeam }
 {}
 
-/// A team's profiles are listed with their last revision's number and state, and the number that is issued now, or 0.
+/// A team's profiles are listed with their last revision's number and state, and the number that is
+/// issued now, or 0.
 pub fn examples_of_listings()
     ensures nothing { told office sue (ask.List blue) ≡ accepted (reply.Listed []) None }
     ensures resubmitted { listing_of (submits ann ∷ one_submitted) blue

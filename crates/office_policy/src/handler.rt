@@ -16,7 +16,8 @@ pub trait Handler {
     /// When it is the office of a history, and what a crash may leave of it.
     ghost meaning: { Meaning Self };
 
-    /// Carries a request out where every rule of the policy allows it, and else names the first rule that refuses it.
+    /// Carries a request out where every rule of the policy allows it, and else names the first
+    /// rule that refuses it.
     ///
     /// A [`Fault`](review_policy::Fault) says that nothing changed.
     fn handle(&mut self, alloc: Global, request: &Request) -> Answer
@@ -24,8 +25,9 @@ pub trait Handler {
 
     /// Handles the requests in their order, and gives an answer to each.
     ///
-    /// After a crash what is left is the office of the last history, or that office with one event more: that of a request
-    /// of this call that was answered by a fault, as a fault may come once what was asked for is written.
+    /// After a crash what is left is the office of the last history, or that office with one event
+    /// more: that of a request of this call that was answered by a fault, as a fault may come once
+    /// what was asked for is written.
     ///
     /// # Errors
     ///

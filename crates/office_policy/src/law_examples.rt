@@ -1,6 +1,7 @@
 //! Worked examples of definitions that laws alone cite, each proved by computing.
 
-ghost use Rattle.std.specs.Prelude.{◌≡◌, ◌↔◌, ◌∷◌, true, false, map, replicate, Option, List, ℕ, Vec};
+ghost use Rattle.std.specs.Prelude.{◌≡◌, ◌↔◌, [], ◌∷◌, ◌++◌, true, false, map, replicate, codes};
+ghost use Rattle.std.specs.Prelude.{Option, List, ℕ, Vec};
 ghost use Rattle.std.specs.declared.alloc.Global.{Global};
 ghost use Rattle.review_policy.specs.declared.ask.Request.{Request};
 ghost use Rattle.review_policy.specs.declared.answer.Answer.TheVariants.{Done, Denied, Fault};
@@ -8,14 +9,31 @@ ghost use Rattle.review_policy.specs.declared.answer.Fault.TheVariants as faults
 ghost use Rattle.review_policy.specs.declared.answer.Fault.{Fault as FaultWord};
 ghost use Rattle.review_policy.specs.declared.answer.Reply.{Reply};
 ghost use Rattle.review_policy.specs.declared.denial.Denial.{Denial};
-ghost use Rattle.office_policy.specs.History.{Event, History};
+ghost use Rattle.office_policy.specs.Handled.{only_reads};
+ghost use Rattle.office_policy.specs.History.{Event, History, founded, enrolled, voted, issued};
+ghost use Rattle.office_policy.specs.Lawful.{IsAllowed};
+ghost use Rattle.office_policy.specs.ShowsEvent.{Shows};
+ghost use Rattle.office_policy.specs.TablesOf.{tables_of};
 ghost use Rattle.office_policy.specs.Verdict.{verdict, accepted, denied};
 ghost use Rattle.office_policy.specs.Runs.{IsAnswer, history_after, with_event};
 ghost use Rattle.office_policy.specs.Teams.{concerns, team_of};
 ghost use Rattle.office_policy.specs.Duty.{LacksTwo};
-ghost use Rattle.office_policy.specs.Examples.{blue, red, rev, ray, sue, web, approves, rejects, one_submitted, both_approve};
+ghost use Rattle.office_policy.specs.Examples.{blue, red, desk, root, ann, ben, rev, ray, sue, web};
+ghost use Rattle.office_policy.specs.Examples.{listed, office, founding, enrols_rob, has_roles};
+ghost use Rattle.office_policy.specs.Examples.{submits, approves, rejects, issues, withdraws};
+ghost use Rattle.office_policy.specs.Examples.{adopts, holds, releases};
+ghost use Rattle.office_policy.specs.Examples.{one_submitted, both_submitted, both_approve};
+ghost use Rattle.office_policy.specs.Examples.{first_issued, second_approved, baseline_withdrawn};
+ghost use Rattle.office_policy.specs.Examples.{held_when_issued, released_then};
 ghost use Rattle.office_policy.specs.CallerTable.{each_kind};
 ghost use Rattle.office_policy.specs.LawExamples.{each_event};
+
+/// Of the twelve kinds four only read: to see a revision, its sheet, the profiles of a team, and to
+/// fetch.
+pub fn examples_of_what_only_reads()
+    ensures { (document : Vec ℕ Global) → map only_reads (each_kind document)
+        ≡ replicate 6 false ++ replicate 4 true ++ replicate 2 false }
+{}
 
 /// The founding and the enrolments concern each team; whatever else happens, the team of its
 /// profile alone.
@@ -24,6 +42,50 @@ pub fn examples_of_what_concerns_a_team()
     ensures other_team { map (concerns red) (each_event web) ≡ true ∷ true ∷ replicate 7 false }
     ensures asked { (document : Vec ℕ Global) → map team_of (each_kind document)
         ≡ replicate 12 blue }
+{}
+
+/// What a user of then may ask is allowed, whatever token the user shows. What is in the name of
+/// nobody, or of an author who votes, and a second founding are not.
+pub fn examples_of_allowed_events()
+    ensures enrolment { IsAllowed founding (enrolled root ann blue 2 (replicate 32 1)) }
+    ensures hold { IsAllowed one_submitted holds }
+    ensures nobody { IsAllowed one_submitted (issued (codes "nobody") web 1) → ⊥ }
+    ensures author { IsAllowed both_submitted (voted ben web 2 (9 ∷ []) true) → ⊥ }
+    ensures second_founding { IsAllowed office (founded root desk (0 ∷ []) listed) → ⊥ }
+{}
+
+/// The tables show what has happened, of each kind; a vote that is cast again changes nothing in
+/// them.
+pub fn examples_of_shown_events()
+    ensures founding { Shows (tables_of founding) (founded root desk (0 ∷ []) listed) }
+    ensures enrolment { Shows (tables_of (enrols_rob 2 ∷ office)) (enrols_rob 2) }
+    ensures submission { Shows (tables_of one_submitted) (submits ann) }
+    ensures vote { Shows (tables_of (approves sue 1 ∷ one_submitted)) (approves sue 1) }
+    ensures vote_again { tables_of (approves sue 1 ∷ approves sue 1 ∷ one_submitted)
+        ≡ tables_of (approves sue 1 ∷ one_submitted) }
+    ensures issue { Shows (tables_of first_issued) (issues 1) }
+    ensures withdrawal { Shows (tables_of baseline_withdrawn) (withdraws 1) }
+    ensures adoption { Shows (tables_of second_approved) (adopts 1) }
+    ensures hold { Shows (tables_of held_when_issued) holds }
+    ensures release { Shows (tables_of released_then) releases }
+{}
+
+/// They don't show what hasn't happened: other roles, a text by another author or one that is
+/// no longer open, another vote, or one cast with a security that the voter has lost.
+pub fn examples_of_events_that_are_not_shown()
+    ensures founding { Shows (tables_of []) (founded root desk (0 ∷ []) listed) → ⊥ }
+    ensures other_roles { Shows (tables_of (enrols_rob 2 ∷ office)) (enrols_rob 4) → ⊥ }
+    ensures other_author { Shows (tables_of one_submitted) (submits ben) → ⊥ }
+    ensures not_open { Shows (tables_of first_issued) (submits ann) → ⊥ }
+    ensures other_vote { Shows (tables_of (approves sue 1 ∷ one_submitted)) (rejects sue 1) → ⊥ }
+    ensures security_lost { Shows
+        (tables_of (has_roles sue 4 (5 ∷ []) ∷ approves sue 1 ∷ one_submitted)) (approves sue 1)
+        → ⊥ }
+    ensures not_issued { Shows (tables_of both_approve) (issues 1) → ⊥ }
+    ensures not_withdrawn { Shows (tables_of second_approved) (withdraws 1) → ⊥ }
+    ensures not_adopted { Shows (tables_of first_issued) (adopts 1) → ⊥ }
+    ensures not_held { Shows (tables_of first_issued) holds → ⊥ }
+    ensures not_released { Shows (tables_of held_when_issued) releases → ⊥ }
 {}
 
 /// Two approvals, one of them with security, are lacking where there are fewer than two or none has

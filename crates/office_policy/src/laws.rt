@@ -1,4 +1,5 @@
-//! Laws of histories. Each is a function without a parameter whose contract is the law; it does nothing.
+//! Laws of histories. Each is a function without a parameter whose contract is the law; it does
+//! nothing.
 
 ghost use Rattle.std.specs.Prelude.{◌≡◌, ◌≤◌, ◌∷◌, List, ℕ, Some};
 ghost use Rattle.review_policy.specs.declared.ask.ProfileName.{ProfileName};
@@ -14,8 +15,9 @@ ghost use Rattle.office_policy.specs.Votes.{tally_at};
 ghost use Rattle.office_policy.specs.Need.{need_at};
 ghost use Rattle.office_policy.specs.Sheets.{sheet_of};
 ghost use Rattle.office_policy.specs.TablesOf.{tables_of};
-ghost use Rattle.office_policy.specs.Lawful.{IsLawfulHistory};
-ghost use Rattle.office_policy.specs.Laws.{AreApart, KeepsTeams, KeepsSubmissions, NumbersRun, OpenIsLast, OneIssued, IsJudged, ListsInOrder, ListsAll};
+ghost use Rattle.office_policy.specs.Lawful.{IsLawfulHistory, IsAllowed, IsRequested};
+ghost use Rattle.office_policy.specs.Laws.{AreApart, KeepsTeams, KeepsSubmissions, NumbersRun};
+ghost use Rattle.office_policy.specs.Laws.{OpenIsLast, OneIssued, IsDecided, ListsInOrder, ListsAll};
 
 /// No two users show one digest.
 pub fn digests_are_apart()
@@ -47,9 +49,15 @@ pub fn one_revision_is_issued()
     ensures { (h : History) (p : ProfileName) → OneIssued h p }
 {}
 
-/// Each request is refused by a rule, or carried out: no verdict is the one that stands where its rules leave nothing to do.
+/// Each request is refused by a rule, or carried out: no verdict is the one that stands where its
+/// rules leave nothing to do.
 pub fn every_request_is_judged()
-    ensures { (h : History) (request : Request) → IsJudged h request }
+    ensures { (h : History) (request : Request) → IsDecided h request }
+{}
+
+/// What happens by an accepted request is allowed, to the user who shows its token.
+pub fn accepted_requests_are_allowed()
+    ensures { (h : History) (e : Event) → IsRequested h e → IsAllowed h e }
 {}
 
 /// The profiles of a team are listed in byte order of their names, each once.
@@ -68,7 +76,8 @@ pub fn numbers_are_limited()
         → revision_count h p ≤ max_revisions }
 {}
 
-/// The counts of a revision's votes, by the tables that a history leaves, are those of looking back.
+/// The counts of a revision's votes, by the tables that a history leaves, are those of looking
+/// back.
 pub fn tallies_are_of_the_tables()
     ensures { (h : History) (p : ProfileName) (n : ℕ) (tally : Tally)
         → IsTally (tables_of h) p n tally → tally ≡ tally_at h p n }

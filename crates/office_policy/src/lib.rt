@@ -1,18 +1,23 @@
-//! The policy of an office, as definitions over what has happened in it, the laws that follow from them, what the tables of a
-//! history are to it, and the trait by which others see an office.
+//! The policy of an office, as definitions over what has happened in it, the laws that follow from
+//! them, what the tables of a history are to it, and the traits by which others see an office.
 #![tactic(auto)]
 
 pub mod callers;
 pub mod duty;
+pub mod event;
 pub mod events;
 pub mod examples;
 mod handler;
 pub mod issued;
+mod judge;
 pub mod law_examples;
 pub mod laws;
 pub mod listing;
 pub mod reads;
+pub mod shown;
 pub mod standing;
 pub mod submission_examples;
 
+pub use event::Event;
 pub use handler::Handler;
+pub use judge::{Allowed, Judge, Judgement};

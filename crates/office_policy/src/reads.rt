@@ -1,5 +1,5 @@
-//! Laws of reads: what a read of the tables of a history finds is what looking back over it gives. Each is a function
-//! without a parameter whose contract is the law; it does nothing.
+//! Laws of reads: what a read of the tables of a history finds is what looking back over it gives.
+//! Each is a function without a parameter whose contract is the law; it does nothing.
 
 ghost use Rattle.std.specs.Prelude.{◌≡◌, ◌==◌, ◌↔◌, List, ℕ, Bool, true, not, Option};
 ghost use Rattle.review_policy.specs.declared.ask.ProfileName.{ProfileName};
@@ -9,11 +9,13 @@ ghost use Rattle.office_tables.specs.Reads.{IsUserShowing, IsLast, HasRevision};
 ghost use Rattle.office_tables.specs.Lists.{IsAuthor};
 ghost use Rattle.office_policy.specs.History.{History};
 ghost use Rattle.office_policy.specs.Users.{user_showing};
-ghost use Rattle.office_policy.specs.Revisions.{last_revision, number_of, revision_count, is_author};
+ghost use Rattle.office_policy.specs.Revisions.{last_revision, number_of, revision_count};
+ghost use Rattle.office_policy.specs.Revisions.{is_author};
 ghost use Rattle.office_policy.specs.TablesOf.{tables_of};
 ghost use Rattle.office_policy.specs.Lawful.{IsLawfulHistory};
 
-/// The user who shows a digest is the one that looking back finds, and where looking back finds none there is none.
+/// The user who shows a digest is the one that looking back finds, and where looking back finds
+/// none there is none.
 pub fn one_user_shows_a_digest()
     ensures { (h : History) → IsLawfulHistory h → (digest : List ℕ) (user : Option UserRow)
         → IsUserShowing (tables_of h) digest user → user ≡ user_showing h digest }

@@ -1,4 +1,5 @@
-//! Laws of standing votes. Each is a function without a parameter whose contract is the law; it does nothing.
+//! Laws of standing votes. Each is a function without a parameter whose contract is the law; it
+//! does nothing.
 
 ghost use Rattle.std.specs.Prelude.{◌≡◌, AllPairs, List, ℕ};
 ghost use Rattle.std.specs.declared.cmp.Ordering.TheVariants.{Less};

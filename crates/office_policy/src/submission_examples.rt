@@ -10,8 +10,10 @@ ghost use Rattle.review_policy.specs.declared.ask.Ask.TheVariants as ask;
 ghost use Rattle.review_policy.specs.declared.denial.Rule.TheVariants as rule;
 ghost use Rattle.office_policy.specs.History.{submitted};
 ghost use Rattle.office_policy.specs.Verdict.{denied};
-ghost use Rattle.office_policy.specs.Examples.{ann, ben, web, unknown_profile, office, issues, withdraws, refused, decision, told};
-ghost use Rattle.office_policy.specs.Submitting.{ReadsAs, FailsToRead, submits_text, submitted_as, with_revisions};
+ghost use Rattle.office_policy.specs.Examples.{ann, ben, web, unknown_profile, office, issues};
+ghost use Rattle.office_policy.specs.Examples.{withdraws, refused, decision, told};
+ghost use Rattle.office_policy.specs.Submitting.{ReadsAs, FailsToRead, submits_text, submitted_as};
+ghost use Rattle.office_policy.specs.Submitting.{with_revisions};
 
 /// The text of the open revision isn't submitted again, whoever submitted it; that of an issued,
 /// closed or withdrawn one is.

@@ -2,6 +2,9 @@
 //! ask for.
 #![tactic(auto)]
 
+ghost use Rattle.std.specs.Prelude.{◌≡◌, ◌≢◌};
+ghost use Rattle.std.specs.IoError.{error_kind};
+
 use office_commands::run_here;
 use std::io::ErrorKind;
 use std::process::ExitCode;
@@ -14,7 +17,10 @@ fn words_given(rt: &HostRuntime) -> io::Result<Vec<String>> {
 }
 
 // Says why there are no words, and with which status that ends the program.
-fn without_words(rt: &HostRuntime, error: &io::Error) -> u8 {
+fn without_words(rt: &HostRuntime, error: &io::Error) -> u8
+    ensures memory { error_kind error.now ≡ ErrorKind.OutOfMemory → result ≡ 1 }
+    ensures refused { error_kind error.now ≢ ErrorKind.OutOfMemory → result ≡ 2 }
+{
     if matches!(error.kind(), ErrorKind::OutOfMemory) {
         let _ = eprintln!(rt; "office: memory");
         return 1;

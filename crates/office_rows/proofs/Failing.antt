@@ -1,10 +1,11 @@
--- Why a DELETE, an INSERT or an UPDATE of a known meaning fails: never for the form of the tables.
-use Rattle.std.proofs.Common.{inl, inr, ◌≡◌, ℕ, ℤ, List, [], Bool, true, false, Option, None, Some, Ok, Err, Result, sym, ap, subst, ◌∙◌}
+-- Why a DELETE, an INSERT, an UPDATE or an upsert of a known meaning fails: never for the form of the tables.
+use Rattle.std.proofs.Common.{inl, inr, ◌≡◌, ℕ, ℤ, List, [], ◌∷◌, ◌++◌, Bool, true, false, Option, None, Some, Ok, Err, Result, sym, ap, subst, ◌∙◌}
 use Rattle.std.specs.Prelude.{MatchBool, slice_get, length}
 use Rattle.std.specs.List.{fold}
 use Rattle.sqlite.specs.Clock.{timed}
 use Rattle.sqlite.specs.Edit.{edit_of}
-use Rattle.sqlite_rules.specs.Edit.{taken_by}
+use Rattle.sqlite_rules.specs.Edit.{taken_by, with_rowid}
+use Rattle.sqlite.specs.Cast.{cast_row}
 use Rattle.sqlite_rules.specs.Calls.{ids_of}
 use Rattle.sqlite.specs.Rowids.TheVariants.{Given}
 use Rattle.sqlite_schema.specs.Rules.{Refers}
@@ -12,9 +13,10 @@ use Rattle.sqlite_resolve.specs.declared.compiled.Compiled.{Compiled}
 use Rattle.sqlite.specs.Order.{Row}
 use Rattle.sqlite.specs.declared.error.Error.{Error}
 use Rattle.sqlite.specs.declared.error.Error.TheVariants as error
+use Rattle.sqlite.specs.declared.error.ErrorCode.TheVariants as code
 use Rattle.sqlite.specs.Effect.{Database, edit_error, alter_error}
 use Rattle.sqlite.specs.Command.{Command}
-use Rattle.sqlite.specs.Command.TheVariants.{Insert, Update, Delete, CreateTable}
+use Rattle.sqlite.specs.Command.TheVariants.{Insert, InsertOr, Update, Delete, CreateTable}
 use Rattle.sqlite.specs.Compile.{table_defined_by}
 use Rattle.sqlite.specs.Change.{created}
 use Rattle.sqlite_catalog.specs.Calls.{RefusesTable}
@@ -23,17 +25,19 @@ use Rattle.sqlite_catalog.specs.declared.error.Refusal.TheVariants as refusal
 use Rattle.sqlite_resolve.specs.declared.error.CompileError.{CompileError}
 use Rattle.sqlite.specs.Source.{Source}
 use Rattle.sqlite.specs.Source.TheVariants as source
+use Rattle.sqlite_schema.specs.declared.command.Conflict.TheVariants.{Abort}
+use Rattle.sqlite_schema.specs.declared.command.Upsert.{Upsert}
 use Rattle.sqlite_schema.specs.declared.program.Program.{Program}
 use Rattle.sqlite_schema.specs.declared.schema.Keys.{Keys}
 use Rattle.sqlite_schema.specs.declared.schema.Among.{Among}
 use Rattle.sqlite.specs.Schema.{Schema}
 use Rattle.sqlite.specs.Table.{Table}
-use Rattle.sqlite.specs.Tree.{Trees}
+use Rattle.sqlite.specs.Tree.{Trees, rowid}
 use Rattle.sqlite.specs.Edit.{Edit}
 use Rattle.sqlite_rules.specs.declared.error.Refusal.{Refusal}
 use Rattle.sqlite_rules.specs.declared.error.Refusal.TheVariants.{Violates, Mismatch, NoRowid, BadReference, TooDeep}
 use Rattle.sqlite.specs.declared.run.Mode.{Mode}
-use Rattle.sqlite.specs.Rows.{Part, Gives, Refuses, Then, Queried, Sourced, Edited, Task, Written, Counter, CounterIn, Counts, CountsIn, Deletes, Inserts, Updates, counter_in, counting, rowids_for, count_of, higher, last_id, stamped}
+use Rattle.sqlite.specs.Rows.{Part, Gives, Refuses, Then, Queried, Sourced, Edited, Task, Written, Counter, CounterIn, Counts, CountsIn, Deletes, Inserts, InsertsOr, Updates, Puts as PutsRow, Clears, Meets, Resolves, Upserts, Judged, Tries, TriesEach, counter_in, counting, rowids_for, count_of, higher, joined, last_id, nothing, shown, stamped}
 use Rattle.sqlite.specs.Does.{Tested, Does, AtPlace, Concludes, OnRows, Tally, MakesTable, MakesSequence, lacks_sequence, no_rows}
 use Rattle.sqlite.specs.Listing.{understood}
 use Rattle.sqlite.specs.State.{State, IsNotRun, IsMisplaced, RunsCommand, ExecutesIn, ExecutesInside, shows_rows, mode_of, text_of, Fails, IsUnchanged}
@@ -127,6 +131,62 @@ inserts_of_machine task from db =
     (λ e h. counts_by task mid counter _ e _ _ h)
     (λ next. gives_of_machine {A = Written} (record { trees = next; rows = (edit_in task db rows counter).news; last = last_id (edit_in task db rows counter).news })))))
 
+-- ---- an upsert
+
+puts_of_machine : (task : Task) (new : Row) (db : Trees) → AreOfMachine (PutsRow task new db)
+puts_of_machine task new db =
+    then_of_machine (Edited task.schema task.keys db (edit_of db task.table [] Given 0 (new ∷ [])))
+    (λ next. Gives {A = Written} (record { trees = next; rows = (edit_of db task.table [] Given 0 (new ∷ [])).news; last = last_id (edit_of db task.table [] Given 0 (new ∷ [])).news }))
+    (edited_of_machine task.schema task.keys db (edit_of db task.table [] Given 0 (new ∷ [])))
+    (λ next. gives_of_machine {A = Written} (record { trees = next; rows = (edit_of db task.table [] Given 0 (new ∷ [])).news; last = last_id (edit_of db task.table [] Given 0 (new ∷ [])).news }))
+
+clears_of_machine : (task : Task) (new : Row) (db : Trees) (found : List Row) → AreOfMachine (Clears task Abort new db found)
+clears_of_machine task new db [] = puts_of_machine task new db
+clears_of_machine task new db (r ∷ rs) = puts_of_machine task new db
+
+resolves_of_machine : (task : Task) (new : Row) (db : Trees) (there : Row) (q : Option Program) → AreOfMachine (Resolves task new db there q)
+resolves_of_machine task new db there None = gives_of_machine (nothing db)
+resolves_of_machine task new db there (Some q) = updates_of_machine task q (task.params ++ rowid there ∷ shown task.table new) db
+
+meets_of_machine : (task : Task) (new : Row) (db : Trees) (clause : Upsert) (Otherwise : Part Written) (found : List Row) (e : Error) → (Otherwise (Err (Some e)) → IsOfMachine e)
+    → Meets task Otherwise new db clause found (Err (Some e)) → IsOfMachine e
+meets_of_machine task new db clause Otherwise [] e otherwise h = otherwise h
+meets_of_machine task new db clause Otherwise (there ∷ rest) e otherwise h = resolves_of_machine task new db there clause.update e h
+
+upserts_of_machine : (task : Task) (new : Row) (db : Trees) (clauses : List Upsert) → AreOfMachine (Upserts task Abort new db clauses)
+upserts_of_machine task new db [] e (found, are, h) = clears_of_machine task new db found e h
+upserts_of_machine task new db (clause ∷ more) e (found, are, h) = meets_of_machine task new db clause (Upserts task Abort new db more) found e (upserts_of_machine task new db more e) h
+
+judged_of_machine : (task : Task) (clauses : List Upsert) (new : Row) (db : Trees) (verdict : Option Refusal) → AreOfMachine (Judged task Abort clauses new db verdict)
+judged_of_machine task clauses new db None = upserts_of_machine task new db clauses
+judged_of_machine task clauses new db (Some why) = refuses_of_machine {A = Written} (edit_error why) (edit_of_machine why)
+
+tries_of_machine : (task : Task) (clauses : List Upsert) (new : Row) (db : Trees) → AreOfMachine (Tries task Abort clauses new db)
+tries_of_machine task clauses new db e (inl h) = let k : e ≡ error.SqliteFailure code.NoRowid = (let z = h.1 in cc) in rw k (λ h. cc, λ h. cc)
+tries_of_machine task clauses new db e (inr (verdict, judged, h)) = judged_of_machine task clauses new db verdict e h
+
+-- the row that is offered of a source
+abbrev offered : Task → ℤ → Written → Row → Row
+offered task top done source = with_rowid (rowids_for task.table top) (done.trees task.table.tree) (cast_row task.table source)
+
+tries_each_of_machine : (task : Task) (clauses : List Upsert) (sources : List Row) (top : ℤ) (done : Written) → AreOfMachine (TriesEach task Abort clauses sources top done)
+tries_each_of_machine task clauses [] top done e h = gives_of_machine (done, top) e h
+tries_each_of_machine task clauses (source ∷ more) top done e (inl stopped) =
+    tries_of_machine task clauses (offered task top done source) done.trees e
+    (subst (λ s. Tries task Abort clauses (offered task top done source) done.trees (Err s)) (let k : stopped.0 ≡ Some e = (let z = stopped.2 in cc) in k) stopped.1)
+tries_each_of_machine task clauses (source ∷ more) top done e (inr went) = tries_each_of_machine task clauses more (higher top (offered task top done source)) (joined done went.0) e went.2
+
+inserts_or_of_machine : (task : Task) (clauses : List Upsert) (from : Source) (db : Trees) → AreOfMachine (InsertsOr task Abort clauses from db)
+inserts_or_of_machine task clauses from db e (inl stopped) =
+    sourced_of_machine task.limit (record { schema = task.schema; trees = db }) (stamped task.table task.params) from e (subst (λ s. Sourced task.limit (record { schema = task.schema; trees = db }) (stamped task.table task.params) from (Err s)) (let k : stopped.0 ≡ Some e = (let z = stopped.2 in cc) in k) stopped.1)
+inserts_or_of_machine task clauses from db e (inr (rows, are, inl stopped)) =
+    counter_by task db e _ _ (subst (λ s. Counter task db (Err s)) (let k : stopped.0 ≡ Some e = (let z = stopped.2 in cc) in k) stopped.1)
+inserts_or_of_machine task clauses from db e (inr (rows, are, inr (counter, is, inl stopped))) =
+    tries_each_of_machine task clauses rows (count_of counter) (nothing db) e (subst (λ s. TriesEach task Abort clauses rows (count_of counter) (nothing db) (Err s)) (let k : stopped.0 ≡ Some e = (let z = stopped.2 in cc) in k) stopped.1)
+inserts_or_of_machine task clauses from db e (inr (rows, are, inr (counter, is, inr (done, tried, inl stopped)))) =
+    counts_by task done.0.trees counter done.1 e _ _ (subst (λ s. Counts task done.0.trees counter done.1 (Err s)) (let k : stopped.0 ≡ Some e = (let z = stopped.2 in cc) in k) stopped.1)
+inserts_or_of_machine task clauses from db e (inr (rows, are, inr (counter, is, inr (done, tried, inr (next, counted, h))))) = absurd (let z = h in cc)
+
 concludes_of_machine : (task : Task) (mode : Mode) (w : Written) → AreOfMachine (Concludes task mode None w)
 concludes_of_machine task mode w =
     then_of_machine (Tested mode (λ among. Refers among task.schema w.trees)) (λ in_doubt. Then (Gives {A = List Row} []) (λ rows. Gives (concluded task w rows in_doubt)))
@@ -157,6 +217,12 @@ pub does_insert : (limit : Option ℕ) (mode : Mode) (params : Row) (db : Databa
 does_insert limit mode params db text at from =
     placed_of_machine (λ t. OnRows (task_of limit mode params db t) mode None (Insert at from) db.trees) (slice_get db.schema.tables at)
     (λ t. then_of_machine (Inserts (task_of limit mode params db t) from db.trees) (Concludes (task_of limit mode params db t) mode None) (inserts_of_machine (task_of limit mode params db t) from db.trees) (concludes_of_machine (task_of limit mode params db t) mode))
+
+pub does_upsert : (limit : Option ℕ) (mode : Mode) (params : Row) (db : Database) (text : List ℕ) (at : ℕ) (from : Source) (clauses : List Upsert)
+    → AreOfMachine (Does limit mode params db text None (InsertOr at Abort from clauses))
+does_upsert limit mode params db text at from clauses =
+    placed_of_machine (λ t. OnRows (task_of limit mode params db t) mode None (InsertOr at Abort from clauses) db.trees) (slice_get db.schema.tables at)
+    (λ t. then_of_machine (InsertsOr (task_of limit mode params db t) Abort clauses from db.trees) (Concludes (task_of limit mode params db t) mode None) (inserts_or_of_machine (task_of limit mode params db t) clauses from db.trees) (concludes_of_machine (task_of limit mode params db t) mode))
 
 misplaced_of_machine : (s : State) (command : Command) (e : Error) → IsMisplaced s command e → IsOfMachine e
 misplaced_of_machine s command e (inl h) = rw h.0 (λ h. cc, λ h. cc)
@@ -200,6 +266,10 @@ update_failed sql params at q schema = write_failed schema sql params (Update at
 
 pub insert_failed : (sql : List ℕ) (params : Row) (at : ℕ) (from : Source) (schema : Schema) (old new : State) (e : Error) → old.now.schema ≡ schema → Means schema sql (Insert at from) → ExecutesInside 0 sql params old new (Err e) → IsOfMachine e
 insert_failed sql params at from schema = write_failed schema sql params (Insert at from) (λ limit mode params db has. does_insert limit mode params db (statement_of sql (understood schema sql)) at from)
+
+pub upsert_failed : (sql : List ℕ) (params : Row) (at : ℕ) (from : Source) (clauses : List Upsert) (schema : Schema) (old new : State) (e : Error) → old.now.schema ≡ schema → Means schema sql (InsertOr at Abort from clauses)
+    → ExecutesInside 0 sql params old new (Err e) → IsOfMachine e
+upsert_failed sql params at from clauses schema = write_failed schema sql params (InsertOr at Abort from clauses) (λ limit mode params db has. does_upsert limit mode params db (statement_of sql (understood schema sql)) at from clauses)
 
 -- ---- CREATE TABLE
 

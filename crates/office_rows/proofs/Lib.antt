@@ -11,6 +11,7 @@ pub mod Stored
 pub mod Finding
 pub mod Ordered
 pub mod Steps
+pub mod Upserting
 pub mod InOrder
 pub mod Distinct
 pub mod Asked

@@ -23,24 +23,44 @@ use Rattle.office_rows.proofs.Plain.{plain_query, Means}
 use Rattle.office_rows.proofs.Rowids.{has_mapped, mapped_has, has_permuted}
 
 -- what a function makes of each way to fill the slot of a table is what it makes of the entries that pass
+module _ {X Y : Type 0} (encode : X → Row) (make : Env → Y) (made : ℤ × X → Y) (passes : ℤ × X → Bool) (tests : List Term) (params : Row)
+    (tested : (k : ℤ × X) → list_all (holds (params ∷ row_of encode k ∷ [])) tests ≡ passes k)
+    (makes : (k : ℤ × X) → make (params ∷ row_of encode k ∷ []) ≡ made k) where
+  matched_pairs : (kept : List (ℤ × X))
+      → map make (flat_map (λ r. cond (list_all (holds (params ∷ r ∷ [])) tests) ((params ∷ r ∷ []) ∷ []) []) (map (row_of encode) kept)) ≡ map made (filter passes kept)
+  matched_pairs [] = refl
+  matched_pairs (k ∷ kept) = go (list_all (holds (params ∷ row_of encode k ∷ [])) tests) (passes k) (tested k) (matched_pairs kept)
+    where
+      rest : List Env
+      rest = flat_map (λ r. cond (list_all (holds (params ∷ r ∷ [])) tests) ((params ∷ r ∷ []) ∷ []) []) (map (row_of encode) kept)
+
+      go : (a b : Bool) → a ≡ b → map make rest ≡ map made (filter passes kept)
+          → map make (cond a ((params ∷ row_of encode k ∷ []) ∷ []) [] ++ rest) ≡ map made (cond b (k ∷ filter passes kept) (filter passes kept))
+      go true true e more = rw (makes k, more)
+      go false false e more = more
+      go true false e more = absurd cc
+      go false true e more = absurd cc
+
 module _ {X Y : Type 0} (encode : X → Row) (make : Env → Y) (made : ℤ × X → Y) (passes : X → Bool) (tests : List Term) (params : Row)
     (tested : (k : ℤ × X) → list_all (holds (params ∷ row_of encode k ∷ [])) tests ≡ passes k.1)
     (makes : (k : ℤ × X) → make (params ∷ row_of encode k ∷ []) ≡ made k) where
   pub matched : (kept : List (ℤ × X))
       → map make (flat_map (λ r. cond (list_all (holds (params ∷ r ∷ [])) tests) ((params ∷ r ∷ []) ∷ []) []) (map (row_of encode) kept))
       ≡ map made (filter (λ k. passes k.1) kept)
-  matched [] = refl
-  matched (k ∷ kept) = go (list_all (holds (params ∷ row_of encode k ∷ [])) tests) (passes k.1) (tested k) (matched kept)
-    where
-      rest : List Env
-      rest = flat_map (λ r. cond (list_all (holds (params ∷ r ∷ [])) tests) ((params ∷ r ∷ []) ∷ []) []) (map (row_of encode) kept)
+  matched = matched_pairs encode make made (λ k. passes k.1) tests params tested makes
 
-      go : (a b : Bool) → a ≡ b → map make rest ≡ map made (filter (λ k. passes k.1) kept)
-          → map make (cond a ((params ∷ row_of encode k ∷ []) ∷ []) [] ++ rest) ≡ map made (cond b (k ∷ filter (λ k. passes k.1) kept) (filter (λ k. passes k.1) kept))
-      go true true e more = rw (makes k, more)
-      go false false e more = more
-      go true false e more = absurd cc
-      go false true e more = absurd cc
+module _ {X : Type 0} (encode : X → Row) (shown : ℤ × X → Row) (passes : ℤ × X → Bool) (project tests : List Term) (params : Row)
+    (tested : (k : ℤ × X) → list_all (holds (params ∷ row_of encode k ∷ [])) tests ≡ passes k)
+    (showed : (k : ℤ × X) → eval_all project (params ∷ row_of encode k ∷ []) ≡ shown k) where
+  -- the answer is what is shown of the entries that pass under their rowids, in some order
+  pub answered_pairs : (db : Trees) (tree : ℕ) (rows : List Row) (xs : List X) → IsAnswer (plain_query project tests tree) db params rows → (keeps : Keeps encode (db tree) xs)
+      → IsPermutation (map shown (filter passes keeps.kept)) rows
+  answered_pairs db tree rows xs a keeps =
+      let staged : a.staged ≡ flat_map (λ r. cond (list_all (holds (params ∷ r ∷ [])) tests) ((params ∷ r ∷ []) ∷ []) []) (map (row_of encode) keeps.kept) = a.grouped ∙ rw keeps.rows_are in
+      let kept : a.kept ≡ map (output (plain_query project tests tree)) a.staged = a.distinct in
+      let outputs : map (λ (o : Output). o.1) a.kept ≡ map shown (filter passes keeps.kept) =
+      ap (map (λ (o : Output). o.1)) kept ∙ map-map _ _ a.staged ∙ ap (map (eval_all project)) staged ∙ matched_pairs encode (eval_all project) shown passes tests params tested showed keeps.kept in
+      rw (outputs, ← a.shown) at (IsPermutation-map (λ (o : Output). o.1) a.kept a.ordered a.same)
 
 module _ {X : Type 0} (encode : X → Row) (shown : ℤ × X → Row) (passes : X → Bool) (project tests : List Term) (params : Row)
     (tested : (k : ℤ × X) → list_all (holds (params ∷ row_of encode k ∷ [])) tests ≡ passes k.1)
@@ -48,12 +68,7 @@ module _ {X : Type 0} (encode : X → Row) (shown : ℤ × X → Row) (passes : 
   -- the answer is what is shown of the entries that pass, in some order
   pub answered_kept : (db : Trees) (tree : ℕ) (rows : List Row) (xs : List X) → IsAnswer (plain_query project tests tree) db params rows → (keeps : Keeps encode (db tree) xs)
       → IsPermutation (map shown (filter (λ k. passes k.1) keeps.kept)) rows
-  answered_kept db tree rows xs a keeps =
-      let staged : a.staged ≡ flat_map (λ r. cond (list_all (holds (params ∷ r ∷ [])) tests) ((params ∷ r ∷ []) ∷ []) []) (map (row_of encode) keeps.kept) = a.grouped ∙ rw keeps.rows_are in
-      let kept : a.kept ≡ map (output (plain_query project tests tree)) a.staged = a.distinct in
-      let outputs : map (λ (o : Output). o.1) a.kept ≡ map shown (filter (λ k. passes k.1) keeps.kept) =
-      ap (map (λ (o : Output). o.1)) kept ∙ map-map _ _ a.staged ∙ ap (map (eval_all project)) staged ∙ matched encode (eval_all project) shown passes tests params tested showed keeps.kept in
-      rw (outputs, ← a.shown) at (IsPermutation-map (λ (o : Output). o.1) a.kept a.ordered a.same)
+  answered_kept = answered_pairs encode shown (λ k. passes k.1) project tests params tested showed
 
 module _ {X : Type 0} (encode shown : X → Row) (passes : X → Bool) (project tests : List Term) (params : Row)
     (tested : (k : ℤ × X) → list_all (holds (params ∷ row_of encode k ∷ [])) tests ≡ passes k.1)

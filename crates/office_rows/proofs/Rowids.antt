@@ -1,7 +1,7 @@
 -- Rows under rowids of their own: what taking some out and putting one in makes of the entries.
 use Rattle.std.proofs.Common.{inl, inr, ◌≡◌, ℤ, List, [], ◌∷◌, ◌++◌, map, Bool, true, false, not, cond, refl, sym, ap, ◌∙◌, true≢false}
 use Rattle.std.specs.Prelude.{filter, ◌&&◌, ◌||◌}
-use Rattle.std.specs.List.{list_all, list_any, AllByRecursion}
+use Rattle.std.specs.List.{list_any, AllByRecursion}
 use Rattle.std.specs.Cmp.{both_ways}
 use Rattle.std.specs.Ordering.{is_eq, match_ordering}
 use Rattle.std.specs.declared.cmp.Ordering.{Ordering}
@@ -62,7 +62,7 @@ without_is (id ∷ ids) rows =
     without_is ids (without_rowid id rows) ∙ filter_twice (λ r. not (is_gone ids r)) (λ r. not (has_rowid id r)) rows
     ∙ filter_same _ _ rows (λ r h. not_or (has_rowid id r) (is_gone ids r))
 
-reflexive : (z : ℤ) → is_eq (value_cmp (Int z) (Int z)) ≡ true
+pub reflexive : (z : ℤ) → is_eq (value_cmp (Int z) (Int z)) ≡ true
 reflexive z = go (value_cmp (Int z) (Int z)) (value_cmp_total.antisymm (Int z) (Int z))
   where
     go : (o : Ordering) → o ≡ Rattle.std.specs.Ordering.ordering_reverse o → is_eq o ≡ true
@@ -79,7 +79,7 @@ symmetric y z = ap is_eq (value_cmp_total.antisymm (Int y) (Int z)) ∙ go (valu
     go Greater = refl
 
 module _ {X : Type 0} where
-  one_each : (kept : List (ℤ × X)) → AreApart kept → (a b : ℤ × X) → Has kept a → Has kept b → is_eq (value_cmp (Int a.0) (Int b.0)) ≡ true → a ≡ b
+  pub one_each : (kept : List (ℤ × X)) → AreApart kept → (a b : ℤ × X) → Has kept a → Has kept b → is_eq (value_cmp (Int a.0) (Int b.0)) ≡ true → a ≡ b
   one_each [] apart a b none h same = absurd none
   one_each (k ∷ kept) apart a b (inl x) (inl y) same = x ∙ sym y
   one_each (k ∷ kept) apart a b (inl x) (inr h) same = absurd (true≢false (sym same ∙ ap (λ (j : ℤ × X). is_eq (value_cmp (Int j.0) (Int b.0))) x ∙ all_has _ kept b apart.0 h))

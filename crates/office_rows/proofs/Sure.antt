@@ -1,14 +1,12 @@
 -- A query that its schema takes: it fails for no memory, for the disk, or over a connection that was shut.
-use Rattle.std.proofs.Common.{inl, inr, arith, ltb, ltb-false, ◌⊎◌, ◌≡◌, ◌≤◌, ℕ, List, [], ◌++◌, length, Bool, true, false, Option, None, Some, Ok, Err, Result, IfErr, IsTrue, refl, sym, ap, subst, ◌∙◌, append-nil}
+use Rattle.std.proofs.Common.{inl, inr, arith, ltb, ltb-false, ◌⊎◌, ◌≡◌, ◌≤◌, ℕ, List, [], length, Bool, true, false, Option, None, Some, Ok, Err, Result, IfErr, IsTrue, refl, sym, ap, subst, ◌∙◌, append-nil}
 use Rattle.sqlite.specs.Order.{Row}
 use Rattle.sqlite.specs.Schema.{Schema}
-use Rattle.sqlite.specs.Tree.{Trees}
-use Rattle.sqlite.specs.Query.{Query}
 use Rattle.sqlite.specs.declared.error.Error.{Error}
 use Rattle.sqlite.specs.declared.error.Error.TheVariants as error
 use Rattle.sqlite_trees.specs.declared.error.StoreError.{StoreError}
 use Rattle.sqlite_trees.specs.declared.error.StoreError.TheVariants.{OutOfMemory, Io, Corrupt, Full, Broken, Unstorable}
-use Rattle.sqlite.specs.Effect.{Database, RefusesQuery, RefusesToRead}
+use Rattle.sqlite.specs.Effect.{Database, RefusesToRead}
 use Rattle.sqlite.specs.Command.{Command}
 use Rattle.sqlite.specs.Command.TheVariants.{Select}
 use Rattle.std.specs.Prelude.{MatchBool}
@@ -18,7 +16,7 @@ use Rattle.sqlite.specs.State.{State, FailsToQuery, QueriesRow, Fails, HasCause,
 use Rattle.sqlite.specs.Steps.{FailsToCommit}
 use Rattle.sqlite.specs.Listing.{understood, reads_listing, IsSourceOf}
 use Rattle.sqlite_sql.specs.Query.{has_no_fold}
-use Rattle.sqlite_sql.specs.Program.{ProgramOverflows, overlay}
+use Rattle.sqlite_sql.specs.Program.{ProgramOverflows}
 use Rattle.sqlite_sql.proofs.QueryLemmas.{no_fold_overflows}
 use Rattle.sqlite_typing.specs.Types.{accepts_program}
 use Rattle.sqlite_resolve.specs.declared.compiled.Compiled.{Compiled}

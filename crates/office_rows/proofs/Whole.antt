@@ -1,10 +1,9 @@
 -- What a query of all rows of a table answers, whatever they are.
-use Rattle.std.proofs.Common.{inl, ◌≡◌, ℕ, List, [], ◌∷◌, map, cond, Bool, refl, sym, ap, subst, ◌∙◌}
-use Rattle.std.specs.List.{list_all, flat_map}
-use Rattle.std.specs.List.Sorted.{IsPermutation}
+use Rattle.std.proofs.Common.{inl, ◌≡◌, ℕ, List, [], ◌∷◌, map, refl, ap, ◌∙◌}
+use Rattle.std.specs.List.{flat_map}
 use Rattle.std.proofs.lemmas.List.Sorted.{IsPermutation-sym, IsPermutation-map}
 use Rattle.sqlite.specs.Order.{Row}
-use Rattle.sqlite.specs.Term.{Term, Env, eval_all, holds}
+use Rattle.sqlite.specs.Term.{Term, eval_all}
 use Rattle.sqlite.specs.Query.{IsAnswer, Output, output}
 use Rattle.sqlite_trees.specs.Tree.{Trees}
 use Rattle.sqlite_trees.proofs.ListLemmas.{map-map}

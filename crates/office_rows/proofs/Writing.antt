@@ -45,11 +45,11 @@ went (inr on) = on
 pub same_value : {B E : Type 0} {a b : B} → ◌≡◌ {A = Result B E} (Ok a) (Ok b) → a ≡ b
 same_value e = cc
 
-not_taken : (b : Bool) → (not b && true) ≡ true → b ≡ false
+pub not_taken : (b : Bool) → (not b && true) ≡ true → b ≡ false
 not_taken true e = absurd cc
 not_taken false e = refl
 
-not_counted : {A : Type 0} {a b : A} (P : Type 0) (counts test : Bool) → counts ≡ false → MatchBool (cond counts test false) P (◌≡◌ {A = Result A (Option Error)} (Ok a) (Ok b)) → a ≡ b
+pub not_counted : {A : Type 0} {a b : A} (P : Type 0) (counts test : Bool) → counts ≡ false → MatchBool (cond counts test false) P (◌≡◌ {A = Result A (Option Error)} (Ok a) (Ok b)) → a ≡ b
 not_counted P true test e h = absurd cc
 not_counted P false test e h = same_value h
 

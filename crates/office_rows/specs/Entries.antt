@@ -27,7 +27,8 @@ abbrev pub HaveOwnKeys : {K X : Type 0} → (K → X → Bool) → List X → Ty
 HaveOwnKeys {K} is_at = IsAscending (λ a b. (k : K) → is_at k a ≡ true → is_at k b ≡ false)
 
 -- the rows of a table: each is an entry of the stated form, and each entry has a key of its own
-pub record Stores {K X : Type 0} (encode : X → Row) (is_at : K → X → Bool) (IsFormed : X → Type 0) (rows : List Row) : Type 0 where
+pub record Stores {K X : Type 0} (encode : X → Row) (is_at : K → X → Bool)
+    (IsFormed : X → Type 0) (rows : List Row) : Type 0 where
   pub entries : List X
   pub kept : Keeps encode rows entries
   pub own_keys : HaveOwnKeys is_at entries

@@ -6,7 +6,8 @@ use Rattle.sqlite.specs.declared.error.Error.TheVariants as error
 use Rattle.sqlite.specs.declared.error.ErrorCode.TheVariants as code
 use Rattle.sqlite.specs.State.{State, QueriesRow}
 use Rattle.office_tables.specs.declared.fault.StoreFault.{StoreFault}
-use Rattle.office_tables.specs.declared.fault.StoreFault.TheVariants.{NoMemory, Disk, Full, NotAnOffice}
+use Rattle.office_tables.specs.declared.fault.StoreFault.TheVariants.{NoMemory, Disk, Full}
+use Rattle.office_tables.specs.declared.fault.StoreFault.TheVariants.{NotAnOffice}
 
 abbrev pub fault_of_error : Error → StoreFault
 fault_of_error (error.SqliteFailure code.OutOfMemory) = NoMemory
@@ -26,5 +27,8 @@ IsOfMachine e = (fault_of_error e ≢ NotAnOffice) × (e ≢ error.QueryReturned
 -- the first row of the answer, that there is none, or why there is no answer
 abbrev pub FindsRow : List ℕ → Row → State → State → Result (Option Row) StoreFault → Type 0
 FindsRow sql params old new (Ok (Some row)) = QueriesRow sql params old new (Ok row)
-FindsRow sql params old new (Ok None) = QueriesRow sql params old new (Err error.QueryReturnedNoRows)
-FindsRow sql params old new (Err f) = (e : Error) × QueriesRow sql params old new (Err e) × (f ≡ fault_of_error e) × (e ≢ error.QueryReturnedNoRows)
+FindsRow sql params old new (Ok None) =
+    QueriesRow sql params old new (Err error.QueryReturnedNoRows)
+FindsRow sql params old new (Err f) =
+    (e : Error) × QueriesRow sql params old new (Err e) × (f ≡ fault_of_error e)
+    × (e ≢ error.QueryReturnedNoRows)

@@ -20,7 +20,8 @@ pub record IsAsked {A : Type 0} (old new : State) (result : Result A StoreFault)
   -- an answer comes of an open connection, which stays open
   pub answered : HasCleanDisk new → OnOk result (IsTrue old.is_open × IsTrue new.is_open)
   -- one that a fault has shut stays shut, and its fault is never `NotAnOffice`
-  pub shut : HasCleanDisk new → old.is_open ≡ false → (new.is_open ≡ false) × (result ≢ Err NotAnOffice)
+  pub shut : HasCleanDisk new → old.is_open ≡ false
+      → (new.is_open ≡ false) × (result ≢ Err NotAnOffice)
   -- outside a transaction nothing is changed
   pub same : old.now ≡ old.committed → HasCleanDisk new → IsAsItWas old new
   -- a crash leaves nothing that it couldn't leave before

@@ -30,14 +30,17 @@ module _ {S : Type 0} (g : Ghosts S) where
   -- from this connection on, the statements ran in turn and left this database
   abbrev pub RanAll : List Statement → Held S → Database → Type 0
   RanAll [] h db = db ≡ (state g h).now
-  RanAll (s ∷ ss) h db = (mid : Held S) × (count : ℕ) × ExecutesInside 0 s.sql s.params (state g h) (state g mid) (Ok count) × RanAll ss mid db
+  RanAll (s ∷ ss) h db =
+      (mid : Held S) × (count : ℕ)
+      × ExecutesInside 0 s.sql s.params (state g h) (state g mid) (Ok count) × RanAll ss mid db
 
   -- from this connection on, one of the statements failed, or the commit after them
   abbrev pub FailedIn : List Statement → Held S → Error → Type 0
   FailedIn [] h e = (new : Held S) × FailsToCommit (state g h) (state g new) e
   FailedIn (s ∷ ss) h e =
       ((new : Held S) × ExecutesInside 0 s.sql s.params (state g h) (state g new) (Err e))
-      ⊎ ((mid : Held S) × (count : ℕ) × ExecutesInside 0 s.sql s.params (state g h) (state g mid) (Ok count) × FailedIn ss mid e)
+      ⊎ ((mid : Held S) × (count : ℕ)
+      × ExecutesInside 0 s.sql s.params (state g h) (state g mid) (Ok count) × FailedIn ss mid e)
 
   -- this fault is that of a statement of a transaction, or of its commit
   pub record IsCause (statements : List Statement) (h : Held S) (f : StoreFault) : Type 0 where
@@ -59,8 +62,8 @@ module _ {S : Type 0} (g : Ghosts S) where
       ⊎ ((mid : Held S) × (count : ℕ)
       × ExecutesInside 0 s.sql s.params (state g h) (state g mid) (Ok count) × RefusedIn ss mid e)
 
-  -- a transaction fails for no memory, for the disk, over a connection that was shut, or since SQLite
-  -- refuses a statement
+  -- a transaction fails for no memory, for the disk, over a connection that was shut, or since
+  -- SQLite refuses a statement
   abbrev pub FailsFor : List Statement → (old new : Held S) → Error → Type 0
   FailsFor statements old new e =
       HasFailed (state g old) (state g new) (fault_of_error e) ⊎ RefusedIn statements (begun old) e

@@ -13,8 +13,8 @@ ghost use Rattle.sqlite_schema.specs.declared.schema.Constraint.{Constraint};
 use office_tables::StoreFault;
 use sqlite::{Error, ErrorCode};
 
-/// The fault of a store that an error of `sqlite` is. A text that isn't understood and a value of another kind are
-/// `NotAnOffice`; what is neither out of memory nor out of room is `Disk`.
+/// The fault of a store that an error of `sqlite` is. A text that isn't understood and a value of
+/// another kind are `NotAnOffice`; what is neither out of memory nor out of room is `Disk`.
 pub fn fault_of_error(error: Error) -> StoreFault
     ensures { result ≡ fault_of_error error }
 {

@@ -1,5 +1,5 @@
-//! The rows of tables over `sqlite`: one query, one transaction of several statements, and what each does to the entries
-//! that the rows stand for.
+//! The rows of tables over `sqlite`: one query, one transaction of several statements, and what
+//! each does to the entries that the rows stand for.
 #![tactic(auto)]
 
 pub mod fault;

@@ -18,10 +18,12 @@ pub fn first_row<S: Alter>(
     sql: &str,
     params: &[ValueRef<'_>],
 ) -> Result<Option<Row>, StoreFault>
-    ensures row { HasCleanDisk (state S.Store conn.new) → FindsRow sql.now (bound params.now) (state S.Store conn.old) (state S.Store conn.new) result }
+    ensures row { HasCleanDisk (state S.Store conn.new) → FindsRow
+        sql.now (bound params.now) (state S.Store conn.old) (state S.Store conn.new) result }
     ensures mode { conn.old.in_transaction ≡ false → conn.new.in_transaction ≡ false }
     ensures clean { HasCleanDisk (state S.Store conn.new) → HasCleanDisk (state S.Store conn.old) }
-    ensures survives { Survives (state S.Store conn.old) (state S.Store conn.new) (CommitsShowing sql.now (bound params.now) (state S.Store conn.old)) }
+    ensures survives { Survives (state S.Store conn.old) (state S.Store conn.new)
+        (CommitsShowing sql.now (bound params.now) (state S.Store conn.old)) }
 {
     match conn.query_row(sql, params) {
         Ok(row) => Ok(Some(row)),

@@ -154,7 +154,7 @@ module _ {X A : Type 0} (Tells : X → Result A StoreFault → Type 0) where
   told_formed FoundRow (Ok x) r told other row none same = none x row (subst (Tells x) same told)
   told_formed FoundRow (Err e) r told other row none same = passed_on e r told other same
 
-  -- where it tells no other fault of what was found than that there is no memory
+  -- where it reports no other fault of what was found than that there is no memory
   told_cause : (FoundRow : X → Type 0) (P : StoreFault → Type 0) (row : Result X StoreFault) (r : Result A StoreFault) → IsTold Tells row r → P NoMemory → IfErr row P → IfOk row FoundRow
       → ((x : X) → FoundRow x → (f : StoreFault) → Tells x (Err f) → f ≡ NoMemory) → IfErr r P
   told_cause FoundRow P (Ok x) (Ok a) told memory fails found none = tt

@@ -1,6 +1,6 @@
 -- What a test of one column says of it, and the forms of columns.
 use Rattle.std.proofs.Common.{◌≡◌, ℕ, ℤ, pos, zero, suc, ◌<◌, List, [], ◌∷◌, Bool, true, false, cond, Some, refl, sym, ap, ◌∙◌, arith}
-use Rattle.std.specs.Prelude.{bytes_eq, ◌&&◌, ◌==◌, IsUtf8, length, nat_le}
+use Rattle.std.specs.Prelude.{bytes_eq, ◌&&◌, ◌||◌, ◌==◌, IsUtf8, length, nat_le}
 use Rattle.std.specs.List.{list_all}
 use Rattle.std.specs.Str.{IsAscii}
 use Rattle.std.specs.Ordering.{is_eq, int_cmp}
@@ -19,6 +19,7 @@ use Rattle.sqlite.specs.Ops.{unary, binary, is_true, from_truth}
 use Rattle.sqlite_sql.specs.declared.ops.BinaryOp.TheVariants.{Compare}
 use Rattle.sqlite_sql.specs.declared.ops.CompareOp.TheVariants.{Eq}
 use Rattle.sqlite.specs.Collation.TheVariants.{Binary}
+use Rattle.sqlite_value.specs.Order.{value_cmp}
 use Rattle.sqlite_value.proofs.OrderLemmas.{value_cmp-Int, value_cmp-Text, value_cmp-Blob}
 use Rattle.review_policy.specs.Words.{is_word, is_word_byte}
 
@@ -47,6 +48,15 @@ same_number a b = grind (arith, nat_tests)
 pub number_is : (a b : ℕ) → is_true (binary (Compare Eq Binary) (Int (pos a)) (Int (pos b))) ≡ (b == a)
 unfolding binary
 number_is a b = from_test _ ∙ ap is_eq (value_cmp-Int (pos a) (pos b)) ∙ same_number a b
+
+-- rowids as the key of a table compares them
+pub rowid_is : (a b : ℤ) → is_true (binary (Compare Eq Binary) (Int a) (Int b)) ≡ is_eq (value_cmp (Int a) (Int b))
+unfolding binary
+rowid_is a b = from_test _
+
+pub or_false : (a : Bool) → (a || false) ≡ a
+or_false true = refl
+or_false false = refl
 
 pub one_is : (a x : Bool) → a ≡ x → (a && true) ≡ x
 one_is a x e = and_true a ∙ e

@@ -1,5 +1,5 @@
 -- What the test that a store is an office finds in one.
-use Rattle.std.proofs.Common.{inl, inr, ◌≡◌, ◌≢◌, ℕ, ℤ, pos, List, [], ◌∷◌, codes, Ok, Err, Result, Option, IfOk, OnOk, Bool, true, false, refl}
+use Rattle.std.proofs.Common.{inl, inr, ◌≡◌, ℕ, ℤ, pos, List, [], ◌∷◌, codes, Ok, Result, Option, IfOk, Bool, true, false, refl}
 use Rattle.sqlite.specs.declared.types.Value.TheVariants.{Null, Int}
 use Rattle.sqlite.specs.Order.{Row}
 use Rattle.sqlite.specs.Term.{Term, col}
@@ -12,7 +12,6 @@ use Rattle.sqlite.specs.Listing.{understood}
 use Rattle.sqlite_rules.specs.Lists.{Has}
 use Rattle.std.proofs.lemmas.List.Sorted.{IsPermutation-sym}
 use Rattle.office_tables.specs.declared.fault.StoreFault.{StoreFault}
-use Rattle.office_tables.specs.declared.fault.StoreFault.TheVariants.{NotAnOffice}
 use Rattle.office_tables.specs.Tables.{Tables}
 use Rattle.office_rows.specs.Faults.{FindsRow}
 use Rattle.office_rows.proofs.Plain.{plain_query, Means}
@@ -23,8 +22,7 @@ use Rattle.office_store.specs.declared.form.TheConstants.{OFFICE_ROW}
 use Rattle.office_store.specs.Schema.{office_schema}
 use Rattle.office_store.specs.Form.{form_row}
 use Rattle.office_store.specs.Reads.{IsFormRow}
-use Rattle.office_store.specs.Shown.{Shows, ShowsIfOpen}
-use Rattle.office_store.proofs.Kept.{still_shows, answered_shows}
+use Rattle.office_store.specs.Shown.{Shows}
 use Rattle.office_store.proofs.OtherReads.{office_columns, one_office}
 
 abbrev pub columns : List Term
@@ -60,7 +58,7 @@ module _ (old new : State) (t : Tables) (shows : Shows old t) (idle : old.in_tra
       let same = answered_kept office_columns shown any columns [] [] (λ k. refl) (λ k. refl) (overlay old.now.trees []) 0 [] (t.listed ∷ []) (read.answer Null) (one_office old new t shows idle) in
       has_permuted _ _ (form_row t.listed) same (inl refl)
 
-  pub reads_form : (r : Result (Option Row) StoreFault) → FindsRow OFFICE_ROW.now [] old new r → IfOk r (IsFormRow t) × (r ≢ Err NotAnOffice) × ShowsIfOpen new t × OnOk r (Shows new t)
+  pub reads_form : (r : Result (Option Row) StoreFault) → FindsRow OFFICE_ROW.now [] old new r → IfOk r (IsFormRow t)
   reads_form r h =
       let it = finds _ office_schema OFFICE_ROW.now [] form_means old new shows.office.schema shows.settled idle (IsFormRow t) form_found form_none r h in
-      (it.0, it.1, still_shows old new t shows it.2, answered_shows old new t shows it.2 r it.3)
+      it.0

@@ -1,8 +1,7 @@
 -- A connection that was left as it was shows the tables that it showed; and what a row says of an optional entry.
-use Rattle.std.proofs.Common.{◌≡◌, Option, None, Some, Result, Ok, Err, OnOk, IsTrue, refl, sym, ◌∙◌}
+use Rattle.std.proofs.Common.{◌≡◌, Option, None, Some, refl, sym, ◌∙◌}
 use Rattle.std.specs.Prelude.{option_map, is_some}
 use Rattle.sqlite.specs.State.{State}
-use Rattle.office_tables.specs.declared.fault.StoreFault.{StoreFault}
 use Rattle.office_tables.specs.Tables.{Tables}
 use Rattle.office_rows.proofs.Errors.{IsKept}
 use Rattle.office_store.specs.Shown.{Shows, ShowsIfOpen}
@@ -11,11 +10,6 @@ pub still_shows : (old new : State) (t : Tables) → Shows old t → IsKept old 
 still_shows old new t shows kept is_open =
     let same = kept is_open in
     record { is_open = is_open; settled = same.0 ∙ shows.settled ∙ sym same.1; office = rw same.0 shows.office }
-
--- where there is an answer the connection is open
-pub answered_shows : {A : Type 0} (old new : State) (t : Tables) → Shows old t → IsKept old new → (r : Result A StoreFault) → OnOk r (IsTrue new.is_open) → OnOk r (Shows new t)
-answered_shows old new t shows kept (Ok a) is_open = still_shows old new t shows kept is_open
-answered_shows old new t shows kept (Err f) none = tt
 
 pub some_shown : {X Y : Type 0} (f : X → Y) (o : Option X) (y : Y) → Some y ≡ option_map f o → (x : X) × (o ≡ Some x) × (y ≡ f x)
 some_shown f (Some x) y e = (x, (λ _. Some x), let k : y ≡ f x = cc in k)

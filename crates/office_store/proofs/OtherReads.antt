@@ -1,12 +1,13 @@
 -- What the reads of baselines, holds and the listed capabilities find.
-use Rattle.std.proofs.Common.{◌≡◌, ◌≢◌, ◌<◌, ◌^◌, length, ℕ, pos, List, [], ◌∷◌, codes, None, Some, Ok, Err, Result, Option, IfOk, OnOk, Bool, true, false, refl, sym, ap, subst, ◌∙◌, inl, inr}
+use Rattle.std.proofs.Common.{◌≡◌, ◌<◌, ◌^◌, length, ℕ, ℤ, pos, List, [], ◌∷◌, codes, None, Some, Ok, Err, Result, Option, IfOk, Bool, true, false, refl, sym, ap, subst, ◌∙◌, inl, inr}
 use Rattle.std.specs.Prelude.{bytes_eq, option_map, find, is_some}
+use Rattle.std.specs.List.{list_all}
 use Rattle.std.proofs.lemmas.List.Sorted.{IsPermutation-refl}
 use Rattle.std.proofs.lemmas.Slice.Eq.{bytes_eq-Decides}
 use Rattle.sqlite.specs.declared.types.Value.TheVariants.{Null, Int, Text}
 use Rattle.sqlite.specs.Order.{Row}
 use Rattle.sqlite_value.specs.Order.{column}
-use Rattle.sqlite.specs.Term.{col}
+use Rattle.sqlite.specs.Term.{col, holds}
 use Rattle.sqlite.specs.Command.TheVariants.{Select}
 use Rattle.sqlite.specs.State.{State}
 use Rattle.sqlite_tied.specs.Compute.{everything}
@@ -15,9 +16,8 @@ use Rattle.sqlite_rules.specs.Lists.{Has}
 use Rattle.sqlite_rules.proofs.ListLemmas.{all_has, has_found}
 use Rattle.review_policy.specs.declared.ask.ProfileName.{ProfileName}
 use Rattle.office_tables.specs.declared.fault.StoreFault.{StoreFault}
-use Rattle.office_tables.specs.declared.fault.StoreFault.TheVariants.{NotAnOffice}
 use Rattle.office_tables.specs.Tables.{Tables, Baseline, is_profile}
-use Rattle.office_rows.specs.Entries.{Keeps}
+use Rattle.office_rows.specs.Entries.{Keeps, row_of}
 use Rattle.office_rows.specs.Faults.{FindsRow}
 use Rattle.office_rows.proofs.Plain.{plain_query, Means}
 use Rattle.office_rows.proofs.Finding.{IsFound, finds_some, found_own}
@@ -27,11 +27,13 @@ use Rattle.office_store.specs.declared.office.TheConstants.{LISTED}
 use Rattle.office_store.specs.Schema.{office_schema}
 use Rattle.office_store.specs.Entries.{BaselineEntry, baseline_row, adopted_row, IsBaseline, hold_row, IsProfileName}
 use Rattle.office_store.specs.Reads.{IsRowListed}
-use Rattle.office_store.specs.Shown.{Shows, ShowsIfOpen}
-use Rattle.office_store.proofs.Columns.{column_is}
-use Rattle.office_store.proofs.Kept.{still_shows, answered_shows, map_of_map, some_shown, some_mapped}
+use Rattle.office_store.specs.Shown.{Shows}
+use Rattle.office_store.proofs.Columns.{column_is, one_is, text_is}
+use Rattle.office_store.proofs.Kept.{map_of_map, some_shown, some_mapped}
 use Rattle.office_store.proofs.Profiles.{profile_params, at_profile, hold_tested}
-use Rattle.office_store.proofs.OtherWrites.{baseline_tested}
+
+baseline_tested : (team : List ℕ) (k : ℤ × BaselineEntry) → list_all (holds ((Text team ∷ []) ∷ row_of baseline_row k ∷ [])) (column_is 1 0 ∷ []) ≡ bytes_eq team k.1.0
+baseline_tested team k = one_is _ _ (text_is k.1.0 team)
 
 baseline_means : Means office_schema BASELINE_OF.now (Select (record { lets = []; body = plain_query (col 1 2 ∷ col 1 3 ∷ []) (column_is 1 0 ∷ []) 8 }) (codes "profile" ∷ codes "number" ∷ []))
 unfolding understood everything
@@ -76,7 +78,7 @@ module _ (old new : State) (t : Tables) (shows : Shows old t) where
 
   module _ (idle : old.in_transaction ≡ false) where
     pub reads_baseline : (team : List ℕ) (r : Result (Option Row) StoreFault) → FindsRow BASELINE_OF.now (Text team ∷ []) old new r
-        → IfOk r (λ row. row ≡ option_map adopted_row (t.baselines team)) × (r ≢ Err NotAnOffice) × ShowsIfOpen new t × OnOk r (Shows new t)
+        → IfOk r (λ row. row ≡ option_map adopted_row (t.baselines team))
     reads_baseline team r h =
         let o = shows.office in
         let it = finds_some baseline_row shown_baseline (baseline_at team) (col 1 2 ∷ col 1 3 ∷ []) (column_is 1 0 ∷ []) office_schema BASELINE_OF.now (Text team ∷ []) 8 (codes "profile" ∷ codes "number" ∷ []) baseline_means (baseline_tested team) (λ k. refl)
@@ -84,16 +86,16 @@ module _ (old new : State) (t : Tables) (shows : Shows old t) where
         let found = found_own baseline_row shown_baseline baseline_at IsBaseline (old.now.trees 8) o.baselines team r it.0 in
         let same : option_map shown_baseline (find (baseline_at team) o.baselines.entries) ≡ option_map adopted_row (t.baselines team) =
         sym (map_of_map adopted_row baseline_of _) ∙ ap (option_map adopted_row) (sym (o.baselines_are team)) in
-        (subst (λ x. IfOk r (λ row. row ≡ x)) same found, it.1, still_shows old new t shows it.2, answered_shows old new t shows it.2 r it.3)
+        subst (λ x. IfOk r (λ row. row ≡ x)) same found
 
     pub reads_hold : (p : ProfileName) (r : Result (Option Row) StoreFault) → FindsRow HOLD_OF.now (profile_params p) old new r
-        → IfOk r (λ row. is_some row ≡ t.holds p) × (r ≢ Err NotAnOffice) × ShowsIfOpen new t × OnOk r (Shows new t)
+        → IfOk r (λ row. is_some row ≡ t.holds p)
     reads_hold p r h =
         let o = shows.office in
         let it = finds_some hold_row hold_row (is_profile p) (col 1 1 ∷ col 1 2 ∷ []) at_profile office_schema HOLD_OF.now (profile_params p) 10 (codes "team" ∷ codes "profile" ∷ []) hold_means (hold_tested p) (λ k. refl)
         old new o.schema shows.settled idle o.holds.entries o.holds.kept r h in
         let found = found_own hold_row hold_row is_profile IsProfileName (old.now.trees 10) o.holds p r it.0 in
-        (held r found, it.1, still_shows old new t shows it.2, answered_shows old new t shows it.2 r it.3)
+        held r found
       where
         held : (r : Result (Option Row) StoreFault) → IfOk r (λ row. row ≡ option_map hold_row (find (is_profile p) shows.office.holds.entries)) → IfOk r (λ row. is_some row ≡ t.holds p)
         held (Ok row) is = ap is_some is ∙ some_mapped hold_row _ ∙ sym (shows.office.holds_are p)
@@ -111,11 +113,11 @@ module _ (old new : State) (t : Tables) (shows : Shows old t) where
     listed_row (Ok None) none = none t.listed (inl refl) refl
     listed_row (Err f) it = it
 
-    pub reads_listed : (r : Result (Option Row) StoreFault) → FindsRow LISTED.now [] old new r → IfOk r (IsRowListed t) × (r ≢ Err NotAnOffice) × ShowsIfOpen new t × OnOk r (Shows new t)
+    pub reads_listed : (r : Result (Option Row) StoreFault) → FindsRow LISTED.now [] old new r → IfOk r (IsRowListed t)
     reads_listed r h =
         let o = shows.office in
         let it = finds_some office_columns shown_listed any (col 1 3 ∷ []) [] office_schema LISTED.now [] 0 (codes "listed" ∷ []) listed_means (λ k. refl) (λ k. refl) old new o.schema shows.settled idle (t.listed ∷ []) one_office r h in
-        (listed_row r it.0, it.1, still_shows old new t shows it.2, answered_shows old new t shows it.2 r it.3)
+        listed_row r it.0
 
 pub same_adopted : (a b : Baseline) → adopted_row a ≡ adopted_row b → a ≡ b
 same_adopted a b same =

@@ -17,8 +17,8 @@ use Rattle.review_policy.specs.declared.revision.State.{State}
 use Rattle.review_policy.specs.declared.revision.State.TheVariants.{Open, Closed, Issued, Replaced, Withdrawn}
 use Rattle.office_tables.specs.Tables.{is_profile}
 use Rattle.office_rows.specs.Entries.{row_of}
-use Rattle.office_store.specs.Entries.{same_revision, same_vote, VoteKey, Revision, revision_key, revision_row, state_number, VoteEntry, vote_row, hold_row}
-use Rattle.office_store.proofs.Columns.{column_is, text_is, number_is, two_are, three_are, four_are}
+use Rattle.office_store.specs.Entries.{same_revision, same_vote, VoteKey, Revision, revision_key, revision_row, state_number, hold_row}
+use Rattle.office_store.proofs.Columns.{column_is, text_is, number_is, two_are, three_are}
 
 pub both_true : (a b : Bool) → (a && b) ≡ true → (a ≡ true) × (b ≡ true)
 both_true true b e = (refl, e)
@@ -88,9 +88,6 @@ at_profile = column_is 1 0 ∷ column_is 2 1 ∷ []
 abbrev pub at_revision : List Term
 at_revision = column_is 1 0 ∷ column_is 2 1 ∷ column_is 3 2 ∷ []
 
-abbrev pub at_voter : List Term
-at_voter = column_is 1 0 ∷ column_is 2 1 ∷ column_is 3 2 ∷ column_is 4 3 ∷ []
-
 pub hold_tested : (p : ProfileName) (k : ℤ × ProfileName) → list_all (holds (profile_params p ∷ row_of hold_row k ∷ [])) at_profile ≡ is_profile p k.1
 hold_tested p k = two_are _ _ _ _ (text_is k.1.team p.team) (text_is k.1.profile p.profile)
 
@@ -109,11 +106,6 @@ in_state_of s = column_is 1 0 ∷ column_is 2 1 ∷ number_in 5 (state_number s)
 
 pub state_tested : (p : ProfileName) (s : State) (k : ℤ × Revision) → list_all (holds (profile_params p ∷ row_of revision_row k ∷ [])) (in_state_of s) ≡ is_in_state p s k.1
 state_tested p s k = three_are _ _ _ _ _ _ (text_is k.1.0.team p.team) (text_is k.1.0.profile p.profile) (number_is (state_number k.1.1.state) (state_number s))
-
-pub vote_tested : (v : VoteKey) (k : ℤ × VoteEntry)
-    → list_all (holds ((Text v.profile.team ∷ Text v.profile.profile ∷ Int (pos v.number) ∷ Text v.voter ∷ []) ∷ row_of vote_row k ∷ [])) at_voter ≡ same_vote v k.1.0
-vote_tested v k =
-    four_are _ _ _ _ _ _ _ _ (text_is k.1.0.profile.team v.profile.team) (text_is k.1.0.profile.profile v.profile.profile) (number_is k.1.0.number v.number) (text_is k.1.0.voter v.voter)
 
 pub same_state : (s r : State) → (state_number s == state_number r) ≡ true → s ≡ r
 same_state s r e = numbered_as s r (same_number (state_number s) (state_number r) e)

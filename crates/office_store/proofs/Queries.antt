@@ -13,6 +13,7 @@ use Rattle.office_store.specs.declared.numbers.TheConstants.{LAST_NUMBER, ISSUED
 use Rattle.office_store.specs.declared.office.TheConstants.{LISTED}
 use Rattle.office_store.specs.declared.revisions.TheConstants.{REVISION_AT, REVISION_OF, ISSUED_OF, LAST_OF}
 use Rattle.office_store.specs.declared.standing_votes.TheConstants.{VOTES_ON}
+use Rattle.office_store.specs.declared.summaries.TheConstants.{STATE_AND_DIGEST}
 use Rattle.office_store.specs.declared.users.TheConstants.{USER_BY_NAME, USER_BY_TOKEN}
 use Rattle.office_store.specs.declared.walk.TheConstants.{LISTED_ABOVE}
 
@@ -27,6 +28,10 @@ user_by_token = is_query USER_BY_TOKEN.now _ (record { is = refl; bare = λ sche
 pub revision_at : IsQuery REVISION_AT.now
 unfolding everything first returning
 revision_at = is_query REVISION_AT.now _ (record { is = refl; bare = λ schema base. refl })
+
+pub summary_at : IsQuery STATE_AND_DIGEST.now
+unfolding everything first returning
+summary_at = is_query STATE_AND_DIGEST.now _ (record { is = refl; bare = λ schema base. refl })
 
 pub revision_of : IsQuery REVISION_OF.now
 unfolding everything first returning

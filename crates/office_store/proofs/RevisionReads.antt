@@ -1,5 +1,5 @@
 -- What the reads of revisions find.
-use Rattle.std.proofs.Common.{◌≡◌, ◌≢◌, ◌<◌, ℕ, pos, map, List, [], ◌∷◌, codes, None, Some, Ok, Err, Result, Option, IfOk, OnOk, Bool, true, false, refl, sym, ap, subst, ◌∙◌, arith}
+use Rattle.std.proofs.Common.{◌≡◌, ◌<◌, ℕ, pos, map, List, [], ◌∷◌, codes, None, Some, Ok, Err, Result, Option, IfOk, Bool, true, false, refl, sym, ap, subst, ◌∙◌, arith}
 use Rattle.std.specs.Prelude.{◌&&◌, ◌==◌, ◌↔◌, option_map, is_some, find}
 use Rattle.std.proofs.lemmas.Bool.Decides.{nat_tests}
 use Rattle.std.specs.declared.cmp.Ordering.{Ordering}
@@ -23,7 +23,6 @@ use Rattle.review_policy.specs.declared.ask.ProfileName.{ProfileName}
 use Rattle.review_policy.specs.declared.revision.State.TheVariants.{Issued}
 use Rattle.office_tables.specs.declared.row.RevisionRow.{RevisionRow}
 use Rattle.office_tables.specs.declared.fault.StoreFault.{StoreFault}
-use Rattle.office_tables.specs.declared.fault.StoreFault.TheVariants.{NotAnOffice}
 use Rattle.office_tables.specs.Tables.{Tables, is_profile}
 use Rattle.office_tables.specs.Reads.{IsLast, IsIssued, HasRevision}
 use Rattle.office_rows.specs.Faults.{FindsRow}
@@ -33,12 +32,15 @@ use Rattle.office_rows.proofs.Finding.{IsFound, finds_some, found_own}
 use Rattle.office_rows.proofs.Ordered.{first_query, IsFirst, IsFirstRow, finds_first}
 use Rattle.office_store.specs.declared.revisions.TheConstants.{REVISION_AT, ISSUED_OF, LAST_OF, REVISION_OF}
 use Rattle.office_store.specs.declared.numbers.TheConstants.{LAST_NUMBER, ISSUED_NUMBER}
+use Rattle.office_store.specs.declared.summaries.Summary.{Summary}
+use Rattle.office_store.specs.declared.summaries.TheConstants.{STATE_AND_DIGEST}
 use Rattle.office_store.specs.Schema.{office_schema}
 use Rattle.office_store.specs.Entries.{Revision, same_revision, revision_key, revision_row, revision_columns, IsRevision, state_number}
 use Rattle.office_store.specs.Lists.{IsRowOfNumber}
 use Rattle.office_store.specs.Reads.{IsIssuedRow, IsLastRow}
-use Rattle.office_store.specs.Shown.{Shows, ShowsIfOpen}
-use Rattle.office_store.proofs.Kept.{still_shows, answered_shows, map_of_map, some_shown}
+use Rattle.office_store.specs.Shown.{Shows}
+use Rattle.office_store.specs.Summaries.{summary_of, summary_row}
+use Rattle.office_store.proofs.Kept.{map_of_map, some_shown}
 use Rattle.office_store.proofs.Profiles.{profile_params, revision_params, at_profile, profile_tested, at_revision, revision_tested, in_state_of, is_in_state, state_tested, revisions_decide, profiles_decide, both_true, same_profile, same_state}
 
 abbrev shown_columns : List Term
@@ -50,6 +52,10 @@ names = codes "number" ∷ codes "author" ∷ codes "state" ∷ codes "body" ∷
 revision_means : Means office_schema REVISION_AT.now (Select (record { lets = []; body = plain_query shown_columns at_revision 4 }) names)
 unfolding understood everything
 revision_means = record { is = refl; plain = (refl, refl); unlisted = refl }
+
+summary_means : Means office_schema STATE_AND_DIGEST.now (Select (record { lets = []; body = plain_query (col 1 5 ∷ col 1 7 ∷ []) at_revision 4 }) (codes "state" ∷ codes "digest" ∷ []))
+unfolding understood everything
+summary_means = record { is = refl; plain = (refl, refl); unlisted = refl }
 
 issued_means : Means office_schema ISSUED_OF.now (Select (record { lets = []; body = plain_query shown_columns (in_state_of Issued) 4 }) names)
 unfolding understood everything
@@ -102,6 +108,9 @@ none_if (Some x) h = absurd (h x refl)
 abbrev shown : Revision → Row
 shown e = revision_columns e.1
 
+abbrev summarized : Revision → Row
+summarized e = summary_row (summary_of e.1)
+
 abbrev pub is_at : ProfileName × ℕ → Revision → Bool
 is_at k e = same_revision k (revision_key e)
 
@@ -136,7 +145,7 @@ module _ (old new : State) (t : Tables) (shows : Shows old t) where
 
   module _ (idle : old.in_transaction ≡ false) where
     pub reads_revision : (p : ProfileName) (n : ℕ) (r : Result (Option Row) StoreFault) → FindsRow REVISION_AT.now (revision_params p n) old new r
-        → IfOk r (λ row. row ≡ option_map revision_columns (t.revisions p n)) × (r ≢ Err NotAnOffice) × ShowsIfOpen new t × OnOk r (Shows new t)
+        → IfOk r (λ row. row ≡ option_map revision_columns (t.revisions p n))
     reads_revision p n r h =
         let o = shows.office in
         let it = finds_some revision_row shown (is_at (p, n)) shown_columns at_revision office_schema REVISION_AT.now (revision_params p n) 4 names revision_means (revision_tested p n) (λ k. refl)
@@ -144,7 +153,18 @@ module _ (old new : State) (t : Tables) (shows : Shows old t) where
         let found = found_own revision_row shown is_at IsRevision (old.now.trees 4) o.revisions (p, n) r it.0 in
         let same : option_map shown (find (is_at (p, n)) o.revisions.entries) ≡ option_map revision_columns (t.revisions p n) =
         sym (map_of_map revision_columns row_of_entry _) ∙ ap (option_map revision_columns) (sym (o.revisions_are p n)) in
-        (subst (λ x. IfOk r (λ row. row ≡ x)) same found, it.1, still_shows old new t shows it.2, answered_shows old new t shows it.2 r it.3)
+        subst (λ x. IfOk r (λ row. row ≡ x)) same found
+
+    pub reads_summary : (p : ProfileName) (n : ℕ) (r : Result (Option Row) StoreFault) → FindsRow STATE_AND_DIGEST.now (revision_params p n) old new r
+        → IfOk r (λ row. row ≡ option_map (λ r. summary_row (summary_of r)) (t.revisions p n))
+    reads_summary p n r h =
+        let o = shows.office in
+        let it = finds_some revision_row summarized (is_at (p, n)) (col 1 5 ∷ col 1 7 ∷ []) at_revision office_schema STATE_AND_DIGEST.now (revision_params p n) 4 (codes "state" ∷ codes "digest" ∷ []) summary_means (revision_tested p n) (λ k. refl)
+        old new o.schema shows.settled idle o.revisions.entries o.revisions.kept r h in
+        let found = found_own revision_row summarized is_at IsRevision (old.now.trees 4) o.revisions (p, n) r it.0 in
+        let same : option_map summarized (find (is_at (p, n)) o.revisions.entries) ≡ option_map (λ r. summary_row (summary_of r)) (t.revisions p n) =
+        sym (map_of_map (λ r. summary_row (summary_of r)) row_of_entry _) ∙ ap (option_map (λ r. summary_row (summary_of r))) (sym (o.revisions_are p n)) in
+        subst (λ x. IfOk r (λ row. row ≡ x)) same found
 
     -- an entry of the profile that is issued
     issued_entry : (p : ProfileName) (e : Revision) → Has shows.office.revisions.entries e → is_in_state p Issued e ≡ true → IsIssued t p (Some e.1)
@@ -165,12 +185,12 @@ module _ (old new : State) (t : Tables) (shows : Shows old t) where
     issued_row p (Err f) it = it
 
     pub reads_issued : (p : ProfileName) (r : Result (Option Row) StoreFault) → FindsRow ISSUED_OF.now (profile_params p) old new r
-        → IfOk r (IsIssuedRow t p) × (r ≢ Err NotAnOffice) × ShowsIfOpen new t × OnOk r (Shows new t)
+        → IfOk r (IsIssuedRow t p)
     reads_issued p r h =
         let o = shows.office in
         let it = finds_some revision_row shown (is_in_state p Issued) shown_columns (in_state_of Issued) office_schema ISSUED_OF.now (profile_params p) 4 names issued_means (state_tested p Issued) (λ k. refl)
         old new o.schema shows.settled idle o.revisions.entries o.revisions.kept r h in
-        (issued_row p r it.0, it.1, still_shows old new t shows it.2, answered_shows old new t shows it.2 r it.3)
+        issued_row p r it.0
 
     -- of a profile's revisions, by falling numbers, the first is its last
     first_is_last : (p : ProfileName) (show : Revision → Row) (project : List Term) (e : Revision)
@@ -198,12 +218,12 @@ module _ (old new : State) (t : Tables) (shows : Shows old t) where
     last_shown p (Err f) it = it
 
     pub reads_last : (p : ProfileName) (r : Result (Option Row) StoreFault) → FindsRow LAST_OF.now (profile_params p) old new r
-        → IfOk r (IsLastRow t p) × (r ≢ Err NotAnOffice) × ShowsIfOpen new t × OnOk r (Shows new t)
+        → IfOk r (IsLastRow t p)
     reads_last p r h =
         let o = shows.office in
         let it = finds_first revision_row shown number_of (is_of p) shown_columns at_profile greatest (profile_params p) (profile_tested p) (λ k. refl) (λ k. refl)
         office_schema LAST_OF.now 4 names last_means old new o.schema shows.settled idle o.revisions.entries o.revisions.kept r h in
-        (last_shown p r it.0, it.1, still_shows old new t shows it.2, answered_shows old new t shows it.2 r it.3)
+        last_shown p r it.0
 
     -- ---- the numbers alone
 
@@ -215,12 +235,12 @@ module _ (old new : State) (t : Tables) (shows : Shows old t) where
     last_numbered p (Err f) it = it
 
     pub reads_last_number : (p : ProfileName) (r : Result (Option Row) StoreFault) → FindsRow LAST_NUMBER.now (profile_params p) old new r
-        → IfOk r (IsRowOfNumber (IsLast t p)) × (r ≢ Err NotAnOffice)
+        → IfOk r (IsRowOfNumber (IsLast t p))
     reads_last_number p r h =
         let o = shows.office in
         let it = finds_first revision_row number_of number_of (is_of p) number_column at_profile greatest (profile_params p) (profile_tested p) (λ k. refl) (λ k. refl)
         office_schema LAST_NUMBER.now 4 (codes "number" ∷ []) last_number_means old new o.schema shows.settled idle o.revisions.entries o.revisions.kept r h in
-        (last_numbered p r it.0, it.1)
+        last_numbered p r it.0
 
     issued_numbered : (p : ProfileName) (r : Result (Option Row) StoreFault) → IfOk r (IsFound (is_in_state p Issued) number_of shows.office.revisions.entries) → IfOk r (IsRowOfNumber (IsIssued t p))
     issued_numbered p (Ok (Some row)) it =
@@ -230,12 +250,12 @@ module _ (old new : State) (t : Tables) (shows : Shows old t) where
     issued_numbered p (Err f) it = it
 
     pub reads_issued_number : (p : ProfileName) (r : Result (Option Row) StoreFault) → FindsRow ISSUED_NUMBER.now (profile_params p) old new r
-        → IfOk r (IsRowOfNumber (IsIssued t p)) × (r ≢ Err NotAnOffice)
+        → IfOk r (IsRowOfNumber (IsIssued t p))
     reads_issued_number p r h =
         let o = shows.office in
         let it = finds_some revision_row number_of (is_in_state p Issued) number_column (in_state_of Issued) office_schema ISSUED_NUMBER.now (profile_params p) 4 (codes "number" ∷ []) issued_number_means (state_tested p Issued) (λ k. refl)
         old new o.schema shows.settled idle o.revisions.entries o.revisions.kept r h in
-        (issued_numbered p r it.0, it.1)
+        issued_numbered p r it.0
 
     any_row : (p : ProfileName) (r : Result (Option Row) StoreFault) → IfOk r (IsFound (is_of p) number_of shows.office.revisions.entries) → IfOk r (λ row. is_some row ≡ true ↔ HasRevision t p)
     any_row p (Ok (Some row)) it = (
@@ -251,12 +271,12 @@ module _ (old new : State) (t : Tables) (shows : Shows old t) where
     any_row p (Err f) it = it
 
     pub reads_any : (p : ProfileName) (r : Result (Option Row) StoreFault) → FindsRow REVISION_OF.now (profile_params p) old new r
-        → IfOk r (λ row. is_some row ≡ true ↔ HasRevision t p) × (r ≢ Err NotAnOffice) × ShowsIfOpen new t × OnOk r (Shows new t)
+        → IfOk r (λ row. is_some row ≡ true ↔ HasRevision t p)
     reads_any p r h =
         let o = shows.office in
         let it = finds_some revision_row number_of (is_of p) number_column at_profile office_schema REVISION_OF.now (profile_params p) 4 (codes "number" ∷ []) any_means (profile_tested p) (λ k. refl)
         old new o.schema shows.settled idle o.revisions.entries o.revisions.kept r h in
-        (any_row p r it.0, it.1, still_shows old new t shows it.2, answered_shows old new t shows it.2 r it.3)
+        any_row p r it.0
 
 pub same_columns : (r s : RevisionRow) → revision_columns r ≡ revision_columns s → r ≡ s
 same_columns r s same =
@@ -267,3 +287,10 @@ same_columns r s same =
     let body : r.body ≡ s.body = cc in
     let digest : r.digest ≡ s.digest = cc in
     λ i. record { number = number i; author = author i; state = state i; body = body i; digest = digest i }
+
+pub same_summary : (r s : Summary) → summary_row r ≡ summary_row s → r ≡ s
+same_summary r s same =
+    let numbered : state_number r.state ≡ state_number s.state = cc in
+    let state : r.state ≡ s.state = same_state r.state s.state (subst (λ n. (state_number r.state == n) ≡ true) numbered (let k : (state_number r.state == state_number r.state) ≡ true = grind (arith, nat_tests) in k)) in
+    let digest : r.digest ≡ s.digest = cc in
+    λ i. record { state = state i; digest = digest i }

@@ -16,6 +16,7 @@ use Rattle.office_store.specs.declared.numbers.TheConstants.{LAST_NUMBER, ISSUED
 use Rattle.office_store.specs.declared.office.TheConstants.{LISTED}
 use Rattle.office_store.specs.declared.revisions.TheConstants.{REVISION_AT, REVISION_OF, ISSUED_OF, LAST_OF}
 use Rattle.office_store.specs.declared.standing_votes.TheConstants.{VOTES_ON}
+use Rattle.office_store.specs.declared.summaries.TheConstants.{STATE_AND_DIGEST}
 use Rattle.office_store.specs.declared.users.TheConstants.{USER_BY_NAME, USER_BY_TOKEN}
 use Rattle.office_store.specs.declared.walk.TheConstants.{LISTED_ABOVE}
 
@@ -30,6 +31,10 @@ user_by_token digest = record { text = record { whole = refl; given = refl; bare
 pub revision_at : (p : ProfileName) (n : ℕ) → IsSure office_schema REVISION_AT.now (revision_params p n)
 unfolding understood everything
 revision_at p n = record { text = record { whole = refl; given = refl; bare = refl; timeless = refl; query = (refl, refl, refl, refl) }; unlisted = refl }
+
+pub summary_at : (p : ProfileName) (n : ℕ) → IsSure office_schema STATE_AND_DIGEST.now (revision_params p n)
+unfolding understood everything
+summary_at p n = record { text = record { whole = refl; given = refl; bare = refl; timeless = refl; query = (refl, refl, refl, refl) }; unlisted = refl }
 
 pub revision_of : (p : ProfileName) → IsSure office_schema REVISION_OF.now (profile_params p)
 unfolding understood everything

@@ -1,5 +1,5 @@
 -- What the reads of users find.
-use Rattle.std.proofs.Common.{◌≡◌, ◌≢◌, ℕ, ℤ, List, [], ◌∷◌, codes, None, Some, Ok, Err, Result, Option, IfOk, OnOk, Bool, refl, sym, subst, ◌∙◌, false}
+use Rattle.std.proofs.Common.{◌≡◌, ℕ, ℤ, List, [], ◌∷◌, codes, None, Some, Ok, Err, Result, Option, IfOk, Bool, refl, sym, subst, ◌∙◌, false}
 use Rattle.std.specs.Prelude.{bytes_eq, option_map}
 use Rattle.std.specs.List.{list_all}
 use Rattle.std.proofs.lemmas.Slice.Eq.{bytes_eq-Decides}
@@ -13,7 +13,6 @@ use Rattle.sqlite.specs.Listing.{understood}
 use Rattle.sqlite_rules.proofs.ListLemmas.{all_has, has_found}
 use Rattle.office_tables.specs.declared.row.UserRow.{UserRow}
 use Rattle.office_tables.specs.declared.fault.StoreFault.{StoreFault}
-use Rattle.office_tables.specs.declared.fault.StoreFault.TheVariants.{NotAnOffice}
 use Rattle.office_tables.specs.Tables.{Tables}
 use Rattle.office_rows.specs.Entries.{row_of}
 use Rattle.office_rows.specs.Faults.{FindsRow}
@@ -24,9 +23,8 @@ use Rattle.office_store.specs.declared.users.TheConstants.{USER_BY_NAME, USER_BY
 use Rattle.office_store.specs.Schema.{office_schema}
 use Rattle.office_store.specs.Entries.{is_named, user_row, IsUser}
 use Rattle.office_store.specs.Reads.{IsRowShowing}
-use Rattle.office_store.specs.Shown.{Shows, ShowsIfOpen}
+use Rattle.office_store.specs.Shown.{Shows}
 use Rattle.office_store.proofs.Columns.{column_is, text_is, blob_is, one_is}
-use Rattle.office_store.proofs.Kept.{still_shows, answered_shows}
 
 abbrev all_columns : List Term
 all_columns = col 1 1 ∷ col 1 2 ∷ col 1 3 ∷ col 1 4 ∷ []
@@ -60,13 +58,13 @@ module _ (old new : State) (t : Tables) (shows : Shows old t) where
 
   module _ (idle : old.in_transaction ≡ false) where
     pub reads_named : (name : List ℕ) (r : Result (Option Row) StoreFault) → FindsRow USER_BY_NAME.now (Text name ∷ []) old new r
-        → IfOk r (λ row. row ≡ option_map user_row (t.users name)) × (r ≢ Err NotAnOffice) × ShowsIfOpen new t × OnOk r (Shows new t)
+        → IfOk r (λ row. row ≡ option_map user_row (t.users name))
     reads_named name r h =
         let o = shows.office in
         let it = finds_some user_row user_row (is_named name) all_columns (column_is 1 0 ∷ []) office_schema USER_BY_NAME.now (Text name ∷ []) 1 names by_name_means (named_tested name) (λ k. refl)
         old new o.schema shows.settled idle o.users.entries o.users.kept r h in
         let found = found_own user_row user_row is_named IsUser (old.now.trees 1) o.users name r it.0 in
-        (subst (λ u. IfOk r (λ row. row ≡ option_map user_row u)) (sym (o.users_are name)) found, it.1, still_shows old new t shows it.2, answered_shows old new t shows it.2 r it.3)
+        subst (λ u. IfOk r (λ row. row ≡ option_map user_row u)) (sym (o.users_are name)) found
 
     row_shows : (digest : List ℕ) (r : Result (Option Row) StoreFault) → IfOk r (IsFound (shows_digest digest) user_row shows.office.users.entries) → IfOk r (IsRowShowing t digest)
     row_shows digest (Ok (Some row)) it =
@@ -77,12 +75,12 @@ module _ (old new : State) (t : Tables) (shows : Shows old t) where
     row_shows digest (Err f) it = it
 
     pub reads_showing : (digest : List ℕ) (r : Result (Option Row) StoreFault) → FindsRow USER_BY_TOKEN.now (Blob digest ∷ []) old new r
-        → IfOk r (IsRowShowing t digest) × (r ≢ Err NotAnOffice) × ShowsIfOpen new t × OnOk r (Shows new t)
+        → IfOk r (IsRowShowing t digest)
     reads_showing digest r h =
         let o = shows.office in
         let it = finds_some user_row user_row (shows_digest digest) all_columns (column_is 4 0 ∷ []) office_schema USER_BY_TOKEN.now (Blob digest ∷ []) 1 names by_token_means (token_tested digest) (λ k. refl)
         old new o.schema shows.settled idle o.users.entries o.users.kept r h in
-        (row_shows digest r it.0, it.1, still_shows old new t shows it.2, answered_shows old new t shows it.2 r it.3)
+        row_shows digest r it.0
 
 pub same_user : (u v : UserRow) → user_row u ≡ user_row v → u ≡ v
 same_user u v same =

@@ -1,13 +1,16 @@
 -- What the writes of users make of the tables.
-use Rattle.std.proofs.Common.{◌≡◌, ℕ, pos, List, [], ◌∷◌, Bool, true, false, cond, Option, None, Some, refl, sym, ap, subst, ◌∙◌}
+use Rattle.std.proofs.Common.{◌≡◌, ℤ, pos, List, [], ◌∷◌, cond, None, Some, ℕ, refl, sym, ap, subst, ◌∙◌}
 use Rattle.std.specs.Prelude.{bytes_eq}
 use Rattle.std.proofs.lemmas.Slice.Eq.{bytes_eq-Decides}
-use Rattle.sqlite.specs.declared.types.Value.TheVariants.{Null, Text}
+use Rattle.sqlite.specs.declared.types.Value.TheVariants.{Null}
 use Rattle.sqlite.specs.Order.{Row}
 use Rattle.sqlite.specs.Term.{Term, lit, col}
 use Rattle.sqlite.specs.Cast.{cast_row}
 use Rattle.sqlite.specs.Store.{Ghosts}
-use Rattle.sqlite.specs.Command.TheVariants.{Insert, Delete}
+use Rattle.sqlite.specs.Command.TheVariants.{Insert, InsertOr}
+use Rattle.sqlite_schema.specs.declared.command.Conflict.TheVariants.{Abort}
+use Rattle.sqlite_rules.specs.Keys.{conflicts}
+use Rattle.sqlite_value.specs.Keys.{first_key}
 use Rattle.sqlite.specs.Source.TheVariants.{Values}
 use Rattle.sqlite.specs.Held.{state}
 use Rattle.sqlite_tied.specs.Compute.{everything}
@@ -15,24 +18,21 @@ use Rattle.sqlite.specs.Listing.{understood}
 use Rattle.office_tables.specs.declared.row.UserRow.{UserRow}
 use Rattle.office_tables.specs.Tables.{Tables}
 use Rattle.office_tables.specs.Changes.{with_user}
+use Rattle.office_rows.specs.Entries.{row_of}
 use Rattle.office_rows.specs.Statements.{Statement}
 use Rattle.office_rows.proofs.Plain.{plain_query, Means}
-use Rattle.office_rows.proofs.Failing.{delete_failed, insert_failed}
-use Rattle.office_rows.proofs.Steps.{removes, puts}
-use Rattle.office_store.specs.declared.users.TheConstants.{DELETE_USER, INSERT_USER}
+use Rattle.office_rows.proofs.Failing.{insert_failed, upsert_failed}
+use Rattle.office_rows.proofs.Steps.{puts}
+use Rattle.office_rows.proofs.Upserting.{upserted}
+use Rattle.office_store.specs.declared.users.TheConstants.{INSERT_USER, PUT_USER}
 use Rattle.office_store.specs.Schema.{office_schema, users_table}
 use Rattle.office_store.specs.Entries.{user_row, IsUser}
 use Rattle.office_store.specs.Steps.{statement, IsStep, AreSteps}
-use Rattle.office_store.proofs.Columns.{column_is, cast_null, cast_int}
+use Rattle.office_store.proofs.Columns.{column_is, text_is, rowid_is, one_is, or_false, cast_null, cast_int}
 use Rattle.office_store.proofs.Lenses.{is_users, with_users}
-use Rattle.office_store.proofs.UserReads.{named_tested}
 
 abbrev name_of : UserRow → List ℕ
 name_of u = u.name
-
-delete_means : Means office_schema DELETE_USER.now (Delete 1 (record { lets = []; body = plain_query (col 1 0 ∷ []) (column_is 1 0 ∷ []) 1 }))
-unfolding understood everything
-delete_means = record { is = refl; plain = (refl, refl); unlisted = refl }
 
 abbrev insert_terms : List Term
 insert_terms = lit Null ∷ col 0 0 ∷ col 0 1 ∷ col 0 2 ∷ col 0 3 ∷ []
@@ -41,8 +41,17 @@ insert_means : Means office_schema INSERT_USER.now (Insert 1 (Values insert_term
 unfolding understood everything
 insert_means = record { is = refl; plain = (refl, refl); unlisted = refl }
 
-abbrev pub delete_user : List ℕ → Statement
-delete_user name = record { sql = DELETE_USER.now; params = Text name ∷ [] }
+-- the columns of the user's row, where there is one
+abbrev put_columns : List Term
+put_columns = col 1 0 ∷ col 1 1 ∷ col 0 1 ∷ col 0 2 ∷ col 0 3 ∷ []
+
+put_means : Means office_schema PUT_USER.now
+    (InsertOr 1 Abort (Values insert_terms 5) (record { target = Some (1 ∷ []); update = Some (record { lets = []; body = plain_query (col 1 0 ∷ put_columns) (column_is 0 4 ∷ []) 1 }) } ∷ []))
+unfolding understood everything
+put_means = record { is = refl; plain = (refl, refl); unlisted = refl }
+
+abbrev pub put_user : UserRow → Statement
+put_user u = record { sql = PUT_USER.now; params = user_row u }
 
 abbrev pub insert_user : UserRow → Statement
 insert_user u = record { sql = INSERT_USER.now; params = user_row u }
@@ -50,19 +59,14 @@ insert_user u = record { sql = INSERT_USER.now; params = user_row u }
 cast_user : (u : UserRow) → cast_row (users_table 1) (Null ∷ user_row u) ≡ Null ∷ user_row u
 cast_user u = rw (cast_null, cast_int (pos u.roles))
 
-abbrev without_user : List ℕ → Tables → Tables
-without_user name t = record t { users = λ n. cond (bytes_eq n name) None (t.users n) }
+cast_put : (id : ℤ) (u : UserRow) → cast_row (users_table 1) (row_of user_row (id, u)) ≡ row_of user_row (id, u)
+cast_put id u = rw (cast_int id, cast_int (pos u.roles))
+
+user_agrees : (u : UserRow) (id : ℤ) (k : ℤ × UserRow) → conflicts (Some (1 ∷ [])) office_schema.indexes (users_table 1) (row_of user_row (id, u)) (row_of user_row k) ≡ bytes_eq u.name k.1.name
+unfolding first_key
+user_agrees u id k = or_false _ ∙ one_is _ _ (text_is k.1.name u.name)
 
 module _ {S : Type 0} (g : Ghosts S) where
-  delete_step : (name : List ℕ) (t : Tables) → IsStep g (delete_user name) t (without_user name t)
-  delete_step name t = record {
-    ok = λ old new count o ran.
-        let it = removes bytes_eq bytes_eq-Decides name_of user_row IsUser office_schema 1 (users_table 1) is_users DELETE_USER.now (Text name ∷ []) (state g old) (state g new) count o.schema ran o.users
-        name (column_is 1 0 ∷ []) delete_means (named_tested name) in
-        with_users (state g old).now (state g new).now t o it.writes it.left _ (λ n. ap (cond (bytes_eq n name) None) (o.users_are n) ∙ sym (it.are n));
-    err = λ old new e o failed. delete_failed DELETE_USER.now (Text name ∷ []) 1 _ office_schema (state g old) (state g new) e o.schema delete_means failed;
-  }
-
   pub insert_step : (u : UserRow) (t : Tables) → IsUser u → t.users u.name ≡ None → IsStep g (insert_user u) t (with_user u t)
   insert_step u t formed none = record {
     ok = λ old new count o ran.
@@ -72,22 +76,19 @@ module _ {S : Type 0} (g : Ghosts S) where
     err = λ old new e o failed. insert_failed INSERT_USER.now (user_row u) 1 _ office_schema (state g old) (state g new) e o.schema insert_means failed;
   }
 
-  twice : (b : Bool) (x y : Option UserRow) → cond b x (cond b None y) ≡ cond b x y
-  twice true x y = refl
-  twice false x y = refl
+  put_step : (u : UserRow) (t : Tables) → IsUser u → IsStep g (put_user u) t (with_user u t)
+  put_step u t formed = record {
+    ok = λ old new count o ran.
+        let it = upserted office_schema 1 (users_table 1) is_users PUT_USER.now (user_row u) (state g old) (state g new) count o.schema ran bytes_eq bytes_eq-Decides name_of user_row IsUser o.users
+        u formed (λ k. record u { name = k.name }) (λ k same i. record u { name = same i }) insert_terms 5 (Null ∷ user_row u) (1 ∷ []) put_columns (column_is 0 4 ∷ []) put_means refl (cast_user u)
+        (λ id. cast_put id u) (user_agrees u) (λ id more k. one_is _ _ (rowid_is k.0 id)) (λ id more k. refl) in
+        with_users (state g old).now (state g new).now t o it.writes it.left _ (λ n. ap (cond (bytes_eq n u.name) (Some u)) (o.users_are n) ∙ sym (it.are n));
+    err = λ old new e o failed. upsert_failed PUT_USER.now (user_row u) 1 _ _ office_schema (state g old) (state g new) e o.schema put_means failed;
+  }
 
-  pub put_steps : (u : UserRow) (t : Tables) → IsUser u → AreSteps g (delete_user u.name ∷ insert_user u ∷ []) t (with_user u t)
-  put_steps u t formed =
-      let gone : (without_user u.name t).users u.name ≡ None = ap (λ b. cond b None (t.users u.name)) ((bytes_eq-Decides u.name u.name).1 refl) in (
-        without_user u.name t,
-        delete_step u.name t,
-        (
-          with_user u (without_user u.name t),
-          insert_step u (without_user u.name t) formed gone,
-          λ i. record t { users = λ n. twice (bytes_eq n u.name) (Some u) (t.users n) i },
-        ),
-      )
+  pub put_steps : (u : UserRow) (t : Tables) → IsUser u → AreSteps g (put_user u ∷ []) t (with_user u t)
+  put_steps u t formed = (with_user u t, put_step u t formed, refl)
 
   -- the same, of parameters that are these
-  pub put_given : (u : UserRow) (t : Tables) → IsUser u → (p q : Row) → p ≡ Text u.name ∷ [] → q ≡ user_row u → AreSteps g (statement DELETE_USER.now p ∷ statement INSERT_USER.now q ∷ []) t (with_user u t)
-  put_given u t formed p q e f = subst (λ (r : Row × Row). AreSteps g (statement DELETE_USER.now r.0 ∷ statement INSERT_USER.now r.1 ∷ []) t (with_user u t)) (λ i. (sym e i, sym f i)) (put_steps u t formed)
+  pub put_given : (u : UserRow) (t : Tables) → IsUser u → (p : Row) → p ≡ user_row u → AreSteps g (statement PUT_USER.now p ∷ []) t (with_user u t)
+  put_given u t formed p is = subst (λ (r : Row). AreSteps g (statement PUT_USER.now r ∷ []) t (with_user u t)) (sym is) (put_steps u t formed)

@@ -1,5 +1,5 @@
 -- What the read of a profile after a name finds.
-use Rattle.std.proofs.Common.{◌≡◌, ◌≢◌, ℕ, ℤ, pos, List, [], ◌∷◌, ◌++◌, codes, map, Option, Some, None, Result, Ok, Err, IfOk, Bool, true, false, Ordering, Less, Equal, Greater, refl, sym, ap, subst, ◌∙◌, true≢false}
+use Rattle.std.proofs.Common.{◌≡◌, ℕ, ℤ, pos, List, [], ◌∷◌, ◌++◌, codes, map, Option, Some, None, Result, Ok, Err, IfOk, Bool, true, false, Ordering, Less, Equal, Greater, refl, sym, ap, subst, ◌∙◌, true≢false}
 use Rattle.std.specs.Prelude.{◌&&◌}
 use Rattle.std.specs.List.{list_all}
 use Rattle.std.specs.Ordering.{ordering_then, ordering_reverse, is_lt, is_gt}
@@ -25,16 +25,15 @@ use Rattle.sqlite_rules.proofs.ListLemmas.{all_has}
 use Rattle.review_policy.specs.Words.{is_word}
 use Rattle.office_tables.specs.declared.listed.ListedRevision.{ListedRevision}
 use Rattle.office_tables.specs.declared.fault.StoreFault.{StoreFault}
-use Rattle.office_tables.specs.declared.fault.StoreFault.TheVariants.{NotAnOffice}
 use Rattle.office_tables.specs.Tables.{Tables}
-use Rattle.office_tables.specs.Lists.{name_cmp, profile_of, IsListed}
+use Rattle.office_tables.specs.Lists.{name_cmp, IsListed}
 use Rattle.office_rows.specs.Entries.{row_of}
 use Rattle.office_rows.specs.Faults.{FindsRow}
 use Rattle.office_rows.proofs.Plain.{Means}
-use Rattle.office_rows.proofs.Ordered.{first_query, IsFirst, IsFirstRow, finds_first}
+use Rattle.office_rows.proofs.Ordered.{first_query, IsFirstRow, finds_first}
 use Rattle.office_store.specs.declared.walk.TheConstants.{LISTED_ABOVE}
 use Rattle.office_store.specs.Schema.{office_schema}
-use Rattle.office_store.specs.Entries.{Revision, revision_row, revision_key, IsRevision, state_number}
+use Rattle.office_store.specs.Entries.{Revision, revision_row, IsRevision, state_number}
 use Rattle.office_store.specs.Lists.{listed_row, IsListedForm, IsFirstListed, ComesAfter, IsNextListed, IsRowAbove}
 use Rattle.office_store.specs.Shown.{Shows}
 use Rattle.office_store.proofs.Columns.{column_is, text_is, two_are}
@@ -162,12 +161,12 @@ module _ (old new : State) (t : Tables) (shows : Shows old t) where
   row_above team text (Err f) it = it
 
   pub reads_above : (idle : old.in_transaction ≡ false) (team text : List ℕ) (r : Result (Option Row) StoreFault) → FindsRow LISTED_ABOVE.now (above_params team text) old new r
-      → IfOk r (IsRowAbove t team text) × (r ≢ Err NotAnOffice)
+      → IfOk r (IsRowAbove t team text)
   reads_above idle team text r h =
       let o = shows.office in
       let it = finds_first revision_row shown key (passes team text) shown_columns above by_name_state_and_number (above_params team text) (above_tested team text) (λ k. refl) (λ k. refl)
       office_schema LISTED_ABOVE.now 4 names above_means old new o.schema shows.settled idle o.revisions.entries o.revisions.kept r h in
-      (row_above team text r it.0, it.1)
+      row_above team text r it.0
 
   -- ---- the same of a text that says the same of each name
 

@@ -6,7 +6,8 @@ use Rattle.office_tables.specs.declared.fault.StoreFault.TheVariants.{NotAnOffic
 use Rattle.office_tables.specs.Tables.{Tables}
 use Rattle.office_rows.specs.Causes.{HasFailed}
 use Rattle.office_rows.specs.Queries.{IsAsItWas}
-use Rattle.office_store.specs.Shown.{IsIdle, Shows, ShowsIfOpen, AreOffice, LeavesOnly, LeavesNoMore, MayLeave}
+use Rattle.office_store.specs.Shown.{IsIdle, Shows, ShowsIfOpen, AreOffice, LeavesOnly}
+use Rattle.office_store.specs.Shown.{LeavesNoMore, MayLeave}
 
 -- what each call leaves, whatever the connection shows
 pub record Leaves {A : Type 0} (old new : State) (result : Result A StoreFault) : Type 0 where
@@ -19,12 +20,14 @@ pub record Leaves {A : Type 0} (old new : State) (result : Result A StoreFault) 
   -- an answer comes of an open connection, which stays open
   pub answered : HasCleanDisk new → OnOk result (IsTrue old.is_open × IsTrue new.is_open)
   -- one that a fault has shut stays shut, and its fault is never `NotAnOffice`
-  pub shut : HasCleanDisk new → old.is_open ≡ false → (new.is_open ≡ false) × (result ≢ Err NotAnOffice)
+  pub shut : HasCleanDisk new → old.is_open ≡ false
+      → (new.is_open ≡ false) × (result ≢ Err NotAnOffice)
   -- a crash leaves the tables that an open connection shows, and no others
   pub settled : (t : Tables) → Shows new t → LeavesOnly new t
 
 -- a read, whose answer is `Found` of the tables
-pub record IsRead {A : Type 0} (old new : State) (result : Result A StoreFault) (Found : Tables → A → Type 0) : Type 0 where
+pub record IsRead {A : Type 0} (old new : State) (result : Result A StoreFault)
+    (Found : Tables → A → Type 0) : Type 0 where
   pub leaves : Leaves old new result
   -- the answer is that of the tables that the connection shows
   pub found : (t : Tables) → ShowsIfOpen old t → HasCleanDisk new → IfOk result (Found t)
@@ -38,18 +41,23 @@ pub record IsRead {A : Type 0} (old new : State) (result : Result A StoreFault) 
   pub crash : LeavesNoMore old new
 
 -- a write, which makes the tables `u` of the tables `t` where `Makes t u`
-pub record IsWrite {A : Type 0} (old new : State) (result : Result A StoreFault) (Makes : Tables → Tables → Type 0) : Type 0 where
+pub record IsWrite {A : Type 0} (old new : State) (result : Result A StoreFault)
+    (Makes : Tables → Tables → Type 0) : Type 0 where
   pub leaves : Leaves old new result
   -- where it is done, the connection shows the tables that it makes of those that were shown
-  pub done : (t u : Tables) → ShowsIfOpen old t → Makes t u → HasCleanDisk new → OnOk result (Shows new u)
+  pub done : (t u : Tables) → ShowsIfOpen old t → Makes t u → HasCleanDisk new
+      → OnOk result (Shows new u)
   -- where it isn't, it shows the old ones, unless a fault of the disk has shut it
-  pub undone : (t : Tables) → ShowsIfOpen old t → HasCleanDisk new → OnErr result (ShowsIfOpen new t)
+  pub undone : (t : Tables) → ShowsIfOpen old t → HasCleanDisk new
+      → OnErr result (ShowsIfOpen new t)
   -- and has what it had, whatever that is
   pub same : old.now ≡ old.committed → HasCleanDisk new → OnErr result (IsAsItWas old new)
-  -- it never tells the tables as no office's
-  pub formed : (t u : Tables) → ShowsIfOpen old t → Makes t u → HasCleanDisk new → result ≢ Err NotAnOffice
+  -- it never reports the tables as no office's
+  pub formed : (t u : Tables) → ShowsIfOpen old t → Makes t u → HasCleanDisk new
+      → result ≢ Err NotAnOffice
   -- a crash leaves what it could leave before, or the new tables
-  pub crash : (t u : Tables) → ShowsIfOpen old t → Makes t u → MayLeave old new (λ trees. AreOffice trees u)
+  pub crash : (t u : Tables) → ShowsIfOpen old t → Makes t u
+      → MayLeave old new (λ trees. AreOffice trees u)
   -- and over a connection that was shut nothing new
   pub lost : old.is_open ≡ false → LeavesNoMore old new
 

@@ -12,9 +12,9 @@ use Rattle.office_tables.specs.declared.fault.StoreFault.TheVariants.{NotAnOffic
 use Rattle.office_tables.specs.Tables.{Tables}
 use Rattle.office_rows.specs.Faults.{FindsRow}
 use Rattle.office_rows.specs.Queries.{IsAsItWas}
-use Rattle.office_rows.specs.Statements.{Statement, begun, RanAll, FailedIn}
+use Rattle.office_rows.specs.Statements.{Statement, begun, RanAll, FailedIn, HasMet}
 use Rattle.office_rows.specs.Told.{FindsRows, TellsRow, TellsRows}
-use Rattle.office_store.specs.Calls.{IsRead}
+use Rattle.office_store.specs.Calls.{IsRead, IsWrite}
 use Rattle.office_store.specs.Shown.{Shows, AreOffice, LeavesOnly}
 
 -- a row of a value that is of its form is never refused as no office's
@@ -51,6 +51,17 @@ module _ {S : Type 0} (g : Ghosts S) where
       → (List Row → Result A StoreFault → Type 0) → Result A StoreFault → Type 0
   ReadsAll old new sql params Reading result =
       HasCleanDisk (state g new) → TellsRows sql params (state g old) (state g new) Reading result
+
+  -- a write, which makes the second tables of the first where `Makes` says so
+  abbrev pub Writes : {A : Type 0} → (old new : Held S) → Result A StoreFault
+      → (Tables → Tables → Type 0) → Type 0
+  Writes old new result Makes = IsWrite (state g old) (state g new) result Makes
+
+  -- its fault is one that the transaction of these statements met
+  abbrev pub MeetsOnErr : {A : Type 0} → (old new : Held S) → List Statement
+      → Result A StoreFault → Type 0
+  MeetsOnErr old new statements result =
+      HasCleanDisk (state g new) → IfErr result (HasMet g statements old new)
 
   -- where it is done, all the statements have run and are committed
   abbrev pub CommitsAll : (old new : Held S) → List Statement → Result (Unit {0}) Error → Type 0

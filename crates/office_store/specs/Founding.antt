@@ -1,5 +1,6 @@
 -- A store before an office is founded in it, and the statements that found one.
-use Rattle.std.specs.Prelude.{◌≡◌, ◌≢◌, ◌⊎◌, Bool, false, ℕ, pos, List, [], ◌∷◌, codes, is_some, IsTrue}
+use Rattle.std.specs.Prelude.{◌≡◌, ◌≢◌, ◌⊎◌, Bool, false, ℕ, pos, List, [], ◌∷◌, codes, is_some}
+use Rattle.std.specs.Prelude.{IsTrue}
 use Rattle.std.specs.List.{list_any}
 use Rattle.sqlite.specs.declared.types.Value.TheVariants.{Int}
 use Rattle.sqlite.specs.Order.{Row}
@@ -14,7 +15,10 @@ use Rattle.office_tables.specs.Changes.{founded_tables}
 use Rattle.office_rows.specs.Statements.{Statement, IsCause}
 use Rattle.office_store.specs.declared.fault.FoundingFault.{FoundingFault}
 use Rattle.office_store.specs.declared.fault.FoundingFault.TheVariants.{AlreadyFounded, Store}
-use Rattle.office_store.specs.declared.schema.TheConstants.{CREATE_OFFICE, CREATE_USERS, CREATE_REVISIONS, CREATE_VOTES, CREATE_BASELINES, CREATE_HOLDS, CREATE_BY_STATE, CREATE_BY_AUTHOR}
+use Rattle.office_store.specs.declared.schema.TheConstants.{CREATE_OFFICE, CREATE_USERS}
+use Rattle.office_store.specs.declared.schema.TheConstants.{CREATE_REVISIONS, CREATE_VOTES}
+use Rattle.office_store.specs.declared.schema.TheConstants.{CREATE_BASELINES, CREATE_HOLDS}
+use Rattle.office_store.specs.declared.schema.TheConstants.{CREATE_BY_STATE, CREATE_BY_AUTHOR}
 use Rattle.office_store.specs.declared.founding.TheConstants.{INSERT_OFFICE}
 use Rattle.office_store.specs.declared.users.TheConstants.{INSERT_USER}
 use Rattle.office_store.specs.Schema.{no_schema}
@@ -24,7 +28,9 @@ use Rattle.office_store.specs.Steps.{statement}
 -- whether one of the six tables is there
 abbrev pub has_table : Schema → Bool
 has_table schema =
-    list_any (λ name. is_some (table_named schema name)) (codes "office" ∷ codes "users" ∷ codes "revisions" ∷ codes "votes" ∷ codes "baselines" ∷ codes "holds" ∷ [])
+    list_any (λ name. is_some (table_named schema name))
+    (codes "office" ∷ codes "users" ∷ codes "revisions" ∷ codes "votes" ∷ codes "baselines"
+    ∷ codes "holds" ∷ [])
 
 -- something is there, and none of the six tables
 abbrev pub IsForeign : Schema → Type 0
@@ -57,8 +63,10 @@ founding none office user =
 abbrev pub founding_office : UserRow → ℕ → List Statement
 founding_office user listed = founding [] (Int (pos listed) ∷ []) (user_row user)
 
--- one of the six tables is there; something else is; or the store is empty, and one of the statements failed or their commit
+-- one of the six tables is there; something else is; or the store is empty, and one of the
+-- statements failed or their commit
 abbrev pub FailsToFound : {S : Type 0} → Ghosts S → UserRow → ℕ → Held S → FoundingFault → Type 0
 FailsToFound g user listed old AlreadyFounded = IsTrue (has_table (state g old).now.schema)
 FailsToFound g user listed old (Store f) =
-    (IsForeign (state g old).now.schema × (f ≡ NotAnOffice)) ⊎ (((state g old).now.schema ≡ no_schema) × IsCause g (founding_office user listed) old f)
+    (IsForeign (state g old).now.schema × (f ≡ NotAnOffice))
+    ⊎ (((state g old).now.schema ≡ no_schema) × IsCause g (founding_office user listed) old f)

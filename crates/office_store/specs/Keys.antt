@@ -3,7 +3,6 @@ use Rattle.std.specs.Prelude.{ℕ, pos, List, [], ◌∷◌}
 use Rattle.sqlite.specs.declared.types.Value.TheVariants.{Int, Text}
 use Rattle.sqlite.specs.Order.{Row}
 use Rattle.review_policy.specs.declared.ask.ProfileName.{ProfileName}
-use Rattle.office_store.specs.Entries.{VoteKey}
 
 abbrev pub profile_params : ProfileName → Row
 profile_params p = Text p.team ∷ Text p.profile ∷ []
@@ -13,7 +12,3 @@ revision_params p n = Text p.team ∷ Text p.profile ∷ Int (pos n) ∷ []
 
 abbrev pub author_params : ProfileName → List ℕ → Row
 author_params p name = Text p.team ∷ Text p.profile ∷ Text name ∷ []
-
-abbrev pub vote_params : VoteKey → Row
-vote_params v =
-    Text v.profile.team ∷ Text v.profile.profile ∷ Int (pos v.number) ∷ Text v.voter ∷ []

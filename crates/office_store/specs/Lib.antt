@@ -16,3 +16,4 @@ pub mod Reopening
 pub mod Refusing
 pub mod Faults
 pub mod Examples
+pub mod Summaries

@@ -1,5 +1,6 @@
 -- What the reads of several rows show.
-use Rattle.std.specs.Prelude.{◌≡◌, ◌≢◌, ◌<◌, ◌^◌, ℕ, pos, true, List, [], ◌∷◌, map, Option, Some, None, Result, Ok, Err}
+use Rattle.std.specs.Prelude.{◌≡◌, ◌≢◌, ◌<◌, ◌^◌, ℕ, pos, true, List, [], ◌∷◌, map, Option, Some}
+use Rattle.std.specs.Prelude.{None, Result, Ok, Err}
 use Rattle.std.specs.List.{AllByRecursion}
 use Rattle.std.specs.declared.cmp.Ordering.TheVariants.{Less}
 use Rattle.sqlite.specs.declared.types.Value.TheVariants.{Int, Text}
@@ -11,7 +12,8 @@ use Rattle.office_tables.specs.declared.row.UserRow.{UserRow}
 use Rattle.office_tables.specs.declared.row.RevisionRow.{RevisionRow}
 use Rattle.office_tables.specs.declared.listed.ListedRevision.{ListedRevision}
 use Rattle.office_tables.specs.Tables.{Tables, Vote}
-use Rattle.office_tables.specs.Lists.{AreAuthors, IsListed, AreRevisionsOf, AreStanding, name_cmp, standing_vote, tally_of}
+use Rattle.office_tables.specs.Lists.{AreAuthors, IsListed, AreRevisionsOf, AreStanding, name_cmp}
+use Rattle.office_tables.specs.Lists.{standing_vote, tally_of}
 use Rattle.office_tables.specs.declared.fault.StoreFault.{StoreFault}
 use Rattle.office_tables.specs.declared.listed.Tally.{Tally}
 use Rattle.office_rows.specs.Told.{IsUnread}
@@ -56,7 +58,8 @@ IsFirstListed t team Passes None = (l : ListedRevision) → IsListed t team l �
 IsFirstListed t team Passes (Some l) =
     IsListed t team l
     × Passes l.profile
-    × ((m : ListedRevision) → IsListed t team m → Passes m.profile → name_cmp m.profile l.profile ≢ Less)
+    × ((m : ListedRevision) → IsListed t team m → Passes m.profile
+    → name_cmp m.profile l.profile ≢ Less)
 
 -- a name comes after that one, where there is that one
 abbrev pub ComesAfter : Option (List ℕ) → List ℕ → Type 0
@@ -71,7 +74,8 @@ IsNextListed t team after = IsFirstListed t team (ComesAfter after)
 abbrev pub IsRowAbove : Tables → List ℕ → List ℕ → Option Row → Type 0
 IsRowAbove t team text None = IsNextListed t team (Some text) None
 IsRowAbove t team text (Some row) =
-    (l : ListedRevision) × IsNextListed t team (Some text) (Some l) × IsListedForm l × (row ≡ listed_row l)
+    (l : ListedRevision) × IsNextListed t team (Some text) (Some l) × IsListedForm l
+    × (row ≡ listed_row l)
 
 -- ---- the number of a revision
 
@@ -89,7 +93,8 @@ IsNumberOf IsIt (Some n) = (r : RevisionRow) × IsIt (Some r) × (r.number ≡ n
 -- the row of that number
 abbrev pub IsRowOfNumber : (Option RevisionRow → Type 0) → Option Row → Type 0
 IsRowOfNumber IsIt None = IsIt None
-IsRowOfNumber IsIt (Some row) = (r : RevisionRow) × IsIt (Some r) × IsNumber r.number × (row ≡ number_row r.number)
+IsRowOfNumber IsIt (Some row) =
+    (r : RevisionRow) × IsIt (Some r) × IsNumber r.number × (row ≡ number_row r.number)
 
 -- ---- votes
 
@@ -105,7 +110,9 @@ roles_of None = 0
 roles_of (Some u) = u.roles
 
 abbrev pub cast_row : Cast → Row
-cast_row c = Text c.voter ∷ Int (bit c.vote.approves) ∷ Int (bit c.vote.security) ∷ Int (pos (roles_of c.user)) ∷ []
+cast_row c =
+    Text c.voter ∷ Int (bit c.vote.approves) ∷ Int (bit c.vote.security)
+    ∷ Int (pos (roles_of c.user)) ∷ []
 
 abbrev pub standing_of : Cast → VoteRow
 standing_of c = standing_vote c.voter c.vote c.user
@@ -140,5 +147,6 @@ TellsVotes rows (Err f) = IsUnread (map cast_row) (AllByRecursion IsCastForm) ro
 
 -- the tally is told of such votes
 abbrev pub TellsTally : List Row → Result Tally StoreFault → Type 0
-TellsTally rows (Ok tally) = (votes : List VoteRow) × TellsVotes rows (Ok votes) × (tally ≡ tally_of votes)
+TellsTally rows (Ok tally) =
+    (votes : List VoteRow) × TellsVotes rows (Ok votes) × (tally ≡ tally_of votes)
 TellsTally rows (Err f) = IsUnread (map cast_row) (AllByRecursion IsCastForm) rows f

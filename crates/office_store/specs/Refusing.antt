@@ -7,13 +7,15 @@ use Rattle.office_tables.specs.declared.fault.StoreFault.{StoreFault}
 use Rattle.office_tables.specs.declared.row.UserRow.{UserRow}
 use Rattle.office_tables.specs.declared.row.RevisionRow.{RevisionRow}
 use Rattle.office_tables.specs.Tables.{Tables}
-use Rattle.office_tables.specs.Changes.{with_user, with_issued, with_withdrawn, with_vote, with_baseline, with_hold, without_hold}
+use Rattle.office_tables.specs.Changes.{with_user, with_issued, with_withdrawn, with_vote}
+use Rattle.office_tables.specs.Changes.{with_baseline, with_hold, without_hold}
 use Rattle.office_tables.specs.Reads.{Adds}
 use Rattle.office_rows.specs.Statements.{Statement, Refuses}
 use Rattle.office_store.specs.Calls.{Into}
 use Rattle.office_store.specs.Entries.{VoteEntry}
 use Rattle.office_store.specs.Shown.{IsIdle, Shows}
-use Rattle.office_store.specs.Writes.{putting_user, adding_revision, issuing, withdrawing, putting_vote, putting_baseline, holding, releasing}
+use Rattle.office_store.specs.Writes.{putting_user, adding_revision, issuing, withdrawing}
+use Rattle.office_store.specs.Writes.{putting_vote, putting_baseline, holding, releasing}
 
 pub data Write : Type 0 where
   puts_user : UserRow → Write

@@ -1,25 +1,23 @@
 -- The statements of each write.
 use Rattle.std.specs.Prelude.{ℕ, List, [], ◌∷◌}
-use Rattle.sqlite.specs.declared.types.Value.TheVariants.{Text}
 use Rattle.review_policy.specs.declared.ask.ProfileName.{ProfileName}
 use Rattle.office_tables.specs.declared.row.UserRow.{UserRow}
 use Rattle.office_tables.specs.declared.row.RevisionRow.{RevisionRow}
 use Rattle.office_rows.specs.Statements.{Statement}
-use Rattle.office_store.specs.declared.users.TheConstants.{DELETE_USER, INSERT_USER}
+use Rattle.office_store.specs.declared.users.TheConstants.{PUT_USER}
 use Rattle.office_store.specs.declared.revisions.TheConstants.{CLOSE_OPEN, INSERT_REVISION}
 use Rattle.office_store.specs.declared.revisions.TheConstants.{REPLACE_ISSUED, ISSUE_REVISION}
 use Rattle.office_store.specs.declared.revisions.TheConstants.{WITHDRAW_REVISION}
-use Rattle.office_store.specs.declared.votes.TheConstants.{DELETE_VOTE, INSERT_VOTE}
-use Rattle.office_store.specs.declared.baselines.TheConstants.{DELETE_BASELINE, INSERT_BASELINE}
+use Rattle.office_store.specs.declared.votes.TheConstants.{PUT_VOTE}
+use Rattle.office_store.specs.declared.baselines.TheConstants.{PUT_BASELINE}
 use Rattle.office_store.specs.declared.holds.TheConstants.{DELETE_HOLD, INSERT_HOLD}
 use Rattle.office_store.specs.Entries.{user_row, revision_row, VoteEntry, vote_row}
 use Rattle.office_store.specs.Entries.{baseline_entry, baseline_row, hold_row}
-use Rattle.office_store.specs.Keys.{profile_params, revision_params, vote_params}
+use Rattle.office_store.specs.Keys.{profile_params, revision_params}
 use Rattle.office_store.specs.Steps.{statement}
 
 abbrev pub putting_user : UserRow → List Statement
-putting_user u =
-    statement DELETE_USER.now (Text u.name ∷ []) ∷ statement INSERT_USER.now (user_row u) ∷ []
+putting_user u = statement PUT_USER.now (user_row u) ∷ []
 
 abbrev pub adding_revision : ProfileName → RevisionRow → List Statement
 adding_revision p r =
@@ -37,14 +35,10 @@ abbrev pub withdrawing : ProfileName → ℕ → List Statement
 withdrawing p n = statement WITHDRAW_REVISION.now (revision_params p n) ∷ []
 
 abbrev pub putting_vote : VoteEntry → List Statement
-putting_vote e =
-    statement DELETE_VOTE.now (vote_params e.0) ∷ statement INSERT_VOTE.now (vote_row e) ∷ []
+putting_vote e = statement PUT_VOTE.now (vote_row e) ∷ []
 
 abbrev pub putting_baseline : ProfileName → ℕ → List Statement
-putting_baseline p n =
-    statement DELETE_BASELINE.now (Text p.team ∷ [])
-    ∷ statement INSERT_BASELINE.now (baseline_row (baseline_entry p n))
-    ∷ []
+putting_baseline p n = statement PUT_BASELINE.now (baseline_row (baseline_entry p n)) ∷ []
 
 abbrev pub holding : ProfileName → List Statement
 holding p =

@@ -5,7 +5,8 @@ ghost use Rattle.std.specs.List.{AllByRecursion};
 ghost use Rattle.sqlite.specs.Held.{state};
 ghost use Rattle.office_rows.specs.Told.{IsOfRow, IsTold, TellsAll, TellsWhether, map_ok};
 ghost use Rattle.office_tables.specs.Lists.{IsAuthor, AreAuthors};
-ghost use Rattle.office_store.specs.Connections.{AcceptsFormed, FindsAll, FindsFirst, Reads, ReadsAll, ReadsFirst};
+ghost use Rattle.office_store.specs.Connections.{AcceptsFormed, FindsAll, FindsFirst, Reads};
+ghost use Rattle.office_store.specs.Connections.{ReadsAll, ReadsFirst};
 ghost use Rattle.office_store.specs.Keys.{author_params, profile_params};
 ghost use Rattle.office_store.specs.Lists.{name_row, IsWord, AreAuthorRows};
 ghost use Rattle.office_store.specs.Shown.{IsIdle};
@@ -104,7 +105,8 @@ fn names_of(alloc: Global, found: Result<Vec<Row>, StoreFault>) -> Result<Vec<Wo
     read_names(alloc, rows.as_slice())
 }
 
-/// The names of those who submitted a revision of a profile, each once, in the order of their bytes.
+/// The names of those who submitted a revision of a profile, each once, in the order of their
+/// bytes.
 pub fn authors<S: Alter>(
     alloc: Global,
     conn: &mut Connection<S>,

@@ -2,22 +2,20 @@
 
 ghost use Rattle.std.specs.Prelude.{◌≡◌, ◌≢◌, [], ◌∷◌, ℕ, List, Err, IfOk, IfErr, option_map};
 ghost use Rattle.sqlite.specs.Held.{state};
-ghost use Rattle.sqlite.specs.State.{HasCleanDisk};
 ghost use Rattle.sqlite.specs.declared.types.Value.TheVariants.{Text as SqlText};
-ghost use Rattle.office_rows.specs.Faults.{FindsRow};
-ghost use Rattle.office_rows.specs.Statements.{HasMet};
-ghost use Rattle.office_rows.specs.Told.{IsOfRow, IsTold, TellsRow, TellsOne};
+ghost use Rattle.office_rows.specs.Told.{IsOfRow, IsTold, TellsOne};
 ghost use Rattle.office_tables.specs.Changes.{with_baseline};
+ghost use Rattle.office_store.specs.Connections.{FindsFirst, MeetsOnErr, Reads, ReadsFirst, Writes};
 ghost use Rattle.office_store.specs.declared.baselines.Adopted.{Adopted as AdoptedValue};
 ghost use Rattle.office_store.specs.Adopted.{baseline_of, row_of_adopted, IsAdopted};
-ghost use Rattle.office_store.specs.Calls.{IsRead, IsWrite, Into};
+ghost use Rattle.office_store.specs.Calls.{Into};
 ghost use Rattle.office_store.specs.Entries.{adopted_row, IsBaseline};
 ghost use Rattle.office_store.specs.Shown.{IsIdle};
 ghost use Rattle.office_store.specs.Writes.{putting_baseline};
 
 use crate::bind::{of_baseline, of_word};
 use crate::column::{number_at, word_at};
-use crate::write::write_two;
+use crate::write::write_one;
 use office_rows::first_row;
 use office_tables::StoreFault;
 use review_policy::{ProfileName, Word};
@@ -26,10 +24,8 @@ use std::alloc::Global;
 
 pub(crate) const BASELINE_OF: &str = "SELECT profile, number FROM baselines WHERE team = ?1";
 
-pub(crate) const DELETE_BASELINE: &str = "DELETE FROM baselines WHERE team = ?1";
-
-pub(crate) const INSERT_BASELINE: &str =
-    "INSERT INTO baselines (team, profile, number) VALUES (?1, ?2, ?3)";
+pub(crate) const PUT_BASELINE: &str =
+    "INSERT INTO baselines (team, profile, number) VALUES (?1, ?2, ?3) ON CONFLICT (team) DO UPDATE SET profile = ?2, number = ?3";
 
 /// The revision that a team last adopted.
 #[derive(Debug, Drop)]
@@ -42,7 +38,9 @@ pub struct Adopted {
 // The revision that a row names.
 fn read_adopted(alloc: Global, row: &Row) -> Result<Adopted, StoreFault>
     ensures adopted { IfOk result (λ adopted. row.now ≡ row_of_adopted adopted) }
-    ensures formed { (team : List ℕ) (adopted : AdoptedValue) → IsBaseline (team, baseline_of adopted) → row.now ≡ row_of_adopted adopted → result ≢ Err StoreFault.NotAnOffice }
+    ensures formed { (team : List ℕ) (adopted : AdoptedValue)
+        → IsBaseline (team, baseline_of adopted) → row.now ≡ row_of_adopted adopted
+        → result ≢ Err StoreFault.NotAnOffice }
     ensures cause { IfErr result IsOfRow }
 {
     if row.column_count() != 2 {
@@ -70,8 +68,10 @@ fn adopted_of(
 // The row of the baseline of a team.
 fn row_of<S: Alter>(conn: &mut Connection<S>, team: &Word) -> Result<Option<Row>, StoreFault>
     requires { IsIdle (state S.Store conn.old) }
-    ensures read { IsRead (state S.Store conn.old) (state S.Store conn.new) result (λ t row. row ≡ option_map adopted_row (t.baselines team.now)) }
-    ensures row { HasCleanDisk (state S.Store conn.new) → FindsRow BASELINE_OF.now (SqlText team.now ∷ []) (state S.Store conn.old) (state S.Store conn.new) result }
+    ensures read { Reads S.Store conn.old conn.new result
+        (λ t row. row ≡ option_map adopted_row (t.baselines team.now)) }
+    ensures row { FindsFirst S.Store conn.old conn.new
+        BASELINE_OF.now (SqlText team.now ∷ []) result }
 {
     first_row(conn, BASELINE_OF, &of_word(team))
 }
@@ -83,8 +83,10 @@ pub fn baseline<S: Alter>(
     team: &Word,
 ) -> Result<Option<Adopted>, StoreFault>
     requires { IsIdle (state S.Store conn.old) }
-    ensures read { IsRead (state S.Store conn.old) (state S.Store conn.new) result (λ t adopted. option_map baseline_of adopted ≡ t.baselines team.now) }
-    ensures told { HasCleanDisk (state S.Store conn.new) → TellsRow BASELINE_OF.now (SqlText team.now ∷ []) (state S.Store conn.old) (state S.Store conn.new) (TellsOne row_of_adopted IsAdopted) result }
+    ensures read { Reads S.Store conn.old conn.new result
+        (λ t adopted. option_map baseline_of adopted ≡ t.baselines team.now) }
+    ensures told { ReadsFirst S.Store conn.old conn.new
+        BASELINE_OF.now (SqlText team.now ∷ []) (TellsOne row_of_adopted IsAdopted) result }
 {
     adopted_of(alloc, row_of(conn, team))
 }
@@ -96,14 +98,10 @@ pub fn put_baseline<S: Alter>(
     number: u32,
 ) -> Result<(), StoreFault>
     requires { IsIdle (state S.Store conn.old) }
-    ensures write { IsWrite (state S.Store conn.old) (state S.Store conn.new) result (Into (with_baseline profile.now number)) }
-    ensures cause { HasCleanDisk (state S.Store conn.new) → IfErr result (HasMet S.Store (putting_baseline profile.now number) conn.old conn.new) }
+    ensures write { Writes S.Store conn.old conn.new result
+        (Into (with_baseline profile.now number)) }
+    ensures cause { MeetsOnErr S.Store conn.old conn.new
+        (putting_baseline profile.now number) result }
 {
-    write_two(
-        conn,
-        DELETE_BASELINE,
-        &of_word(&profile.team),
-        INSERT_BASELINE,
-        &of_baseline(profile, number),
-    )
+    write_one(conn, PUT_BASELINE, &of_baseline(profile, number))
 }

@@ -4,8 +4,10 @@ ghost use Rattle.std.specs.Prelude.{◌≡◌, true, [], ◌∷◌};
 ghost use Rattle.sqlite.specs.declared.types.Value.TheVariants.{Text as SqlText, Blob};
 ghost use Rattle.sqlite.specs.Values.{bound};
 ghost use Rattle.review_policy.specs.Words.{is_word};
-ghost use Rattle.office_store.specs.Entries.{user_row, IsUser, IsProfileName, state_number, revision_row, IsRevision, vote_key, vote_entry, vote_row, IsVote, baseline_entry, baseline_row, IsBaseline};
-ghost use Rattle.office_store.specs.Keys.{profile_params, revision_params, author_params, vote_params};
+ghost use Rattle.office_store.specs.Entries.{user_row, IsUser, IsProfileName, state_number};
+ghost use Rattle.office_store.specs.Entries.{revision_row, IsRevision, vote_entry, vote_row};
+ghost use Rattle.office_store.specs.Entries.{IsVote, baseline_entry, baseline_row, IsBaseline};
+ghost use Rattle.office_store.specs.Keys.{profile_params, revision_params, author_params};
 
 use crate::column::bytes_of;
 use crate::votes::Ballot;
@@ -72,25 +74,6 @@ pub(crate) fn of_author<'a>(profile: &'a ProfileName, author: &'a Word) -> [Valu
     let team = profile.team.as_str();
     let name = profile.profile.as_str();
     [team.to_sql(), name.to_sql(), author.as_str().to_sql()]
-}
-
-/// The key of a vote.
-pub(crate) fn of_voter<'a>(
-    profile: &'a ProfileName,
-    number: u32,
-    voter: &'a Word,
-) -> [ValueRef<'a>; 4]
-    ensures row { bound result ≡ vote_params (vote_key profile.now number voter.now) }
-{
-    let team = profile.team.as_str();
-    let name = profile.profile.as_str();
-    let voter = voter.as_str();
-    [
-        team.to_sql(),
-        name.to_sql(),
-        number.to_sql(),
-        voter.to_sql(),
-    ]
 }
 
 /// The digest of a token.

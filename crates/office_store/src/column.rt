@@ -1,6 +1,8 @@
-//! The columns of a row, read as what they stand for. A column that stands for nothing is `NotAnOffice`.
+//! The columns of a row, read as what they stand for. A column that stands for nothing is
+//! `NotAnOffice`.
 
-ghost use Rattle.std.specs.Prelude.{◌≡◌, ◌≢◌, ◌<◌, ◌^◌, ℕ, List, true, pos, length, string_bytes, Err, IfOk, IfErr, IsUtf8};
+ghost use Rattle.std.specs.Prelude.{◌≡◌, ◌≢◌, ◌<◌, ◌^◌, ℕ, List, true, pos, length, string_bytes};
+ghost use Rattle.std.specs.Prelude.{Err, IfOk, IfErr, IsUtf8};
 ghost use Rattle.sqlite.specs.declared.types.Value.TheVariants.{Int, Text as SqlText, Blob};
 ghost use Rattle.sqlite_value.specs.Order.{column};
 ghost use Rattle.review_policy.specs.Words.{is_word};

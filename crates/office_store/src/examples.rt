@@ -1,6 +1,7 @@
-//! Worked examples, each proved by computing: what looking at a store says of its schema, and the words of faults.
+//! Worked examples, each proved by computing: what looking at a store says of its schema, and the
+//! words of faults.
 
-ghost use Rattle.std.specs.Prelude.{◌≡◌, ◌∷◌, [], ℕ, pos, Ok, Err, codes, map, replicate};
+ghost use Rattle.std.specs.Prelude.{◌≡◌, ◌∷◌, [], pos, Ok, Err, codes, map, replicate};
 ghost use Rattle.std.specs.Prelude.{true, false};
 ghost use Rattle.sqlite.specs.declared.types.Value.TheVariants.{Int};
 ghost use Rattle.office_tables.specs.declared.fault.StoreFault.{StoreFault};
@@ -14,6 +15,7 @@ ghost use Rattle.office_store.specs.Faults.{founding_fault_word, opening_fault_w
 ghost use Rattle.office_store.specs.Faults.{migration_fault_word};
 ghost use Rattle.office_store.specs.Form.{has_column, has_old_tables, has_tables, has_indexes};
 ghost use Rattle.office_store.specs.Form.{added_by, opening_of, old_form, new_form, numbered_row};
+ghost use Rattle.office_store.specs.Form.{IsOldOrFailure};
 ghost use Rattle.office_store.specs.Founding.{has_table};
 ghost use Rattle.office_store.specs.Schema.{no_schema, old_schema, tables_schema, office_schema};
 ghost use Rattle.office_store.specs.Schema.{office_table, users_table, revisions_table};
@@ -75,6 +77,14 @@ pub fn examples_of_openings()
         ≡ Err (opening.Store fault) }
     ensures old_row { numbered_row (old_form 5) ≡ Int (pos 1) ∷ Int (pos 1) ∷ Int (pos 5) ∷ [] }
     ensures new_row { numbered_row (new_form 5) ≡ Int (pos 1) ∷ Int (pos 2) ∷ Int (pos 5) ∷ [] }
+{}
+
+/// An office of schema 1 is refused as such, or by a failure; never for an index, or as none.
+pub fn examples_of_old_offices()
+    ensures old { IsOldOrFailure opening.OldSchema }
+    ensures failure { IsOldOrFailure (opening.Store Full) }
+    ensures no_index { ¬ IsOldOrFailure opening.NoIndex }
+    ensures foreign { ¬ IsOldOrFailure (opening.Store NotAnOffice) }
 {}
 
 /// The word of each fault; that of the store is its own.

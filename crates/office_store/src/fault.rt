@@ -29,7 +29,8 @@ impl fmt::Display for FoundingFault {
 
 impl Error for FoundingFault {}
 
-/// Why a store isn't opened as an office. Where it is still open, it is as it was. Its text is one word.
+/// Why a store isn't opened as an office. Where it is still open, it is as it was. Its text is one
+/// word.
 #[derive(Clone, Copy, Debug, Drop, PartialEq, Eq)]
 pub enum OpeningFault {
     /// The office is of schema 1, and `migrate` makes it one of schema 2.
@@ -57,8 +58,8 @@ impl fmt::Display for OpeningFault {
 
 impl Error for OpeningFault {}
 
-/// Why an office of schema 1 isn't made one of schema 2. Where the store is still open, it is as it was. Its text is one
-/// word.
+/// Why an office of schema 1 isn't made one of schema 2. Where the store is still open, it is as it
+/// was. Its text is one word.
 #[derive(Clone, Copy, Debug, Drop, PartialEq, Eq)]
 pub enum MigrationFault {
     /// The office is of schema 2.

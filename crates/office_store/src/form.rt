@@ -7,7 +7,10 @@ ghost use Rattle.sqlite.specs.State.{HasCleanDisk};
 ghost use Rattle.office_rows.specs.Told.{IsOfRow, IsTold};
 ghost use Rattle.office_tables.specs.Tables.{Tables};
 ghost use Rattle.office_store.specs.Connections.{AcceptsFormed, FindsFirst, Reads, ReadsFirst};
-ghost use Rattle.office_store.specs.Form.{has_column, has_old_tables, has_holds, has_indexes, added_by, old_form, new_form, numbered_row, opening_of, as_store, HasCaps, HasForm, IsOldOrFailure, TellsNumber, TellsOpening};
+ghost use Rattle.office_store.specs.Form.{has_column, has_old_tables, has_holds, has_indexes};
+ghost use Rattle.office_store.specs.Form.{added_by, old_form, new_form, numbered_row, opening_of};
+ghost use Rattle.office_store.specs.Form.{as_store, HasCaps, HasForm, IsOldOrFailure, TellsNumber};
+ghost use Rattle.office_store.specs.Form.{TellsOpening};
 ghost use Rattle.office_store.specs.Migration.{ShowsOld, ShowsOldIfOpen};
 ghost use Rattle.office_store.specs.Reads.{IsFormRow};
 ghost use Rattle.office_store.specs.Shown.{IsIdle};
@@ -93,7 +96,8 @@ fn check_added(schema: &Schema) -> Result<(), OpeningFault>
     Ok(())
 }
 
-/// What the row of the office says: whether its schema is 1, where it is else 2, and the listed capabilities.
+/// What the row of the office says: whether its schema is 1, where it is else 2, and the listed
+/// capabilities.
 #[derive(Clone, Copy)]
 pub(crate) struct Form {
     pub(crate) is_old: bool,
@@ -160,7 +164,8 @@ pub(crate) fn office_number<S: Alter>(conn: &mut Connection<S>) -> Result<Form, 
     number_of(office_form(conn))
 }
 
-// The listed capabilities of an office that is opened, by the form of its row, and by what its schema lacks.
+// The listed capabilities of an office that is opened, by the form of its row, and by what its
+// schema lacks.
 fn opened(
     form: Result<Form, StoreFault>,
     added: Result<(), OpeningFault>,
@@ -177,14 +182,15 @@ fn opened(
     }
 }
 
-/// The listed capabilities of the office of schema 2 that a store is: it has the six tables, each with its columns, and its
-/// office's row has key 1, schema 2 and no bit but those of capabilities.
+/// The listed capabilities of the office of schema 2 that a store is: it has the six tables, each
+/// with its columns, and its office's row has key 1, schema 2 and no bit but those of capabilities.
 ///
 /// # Errors
 ///
-/// `NotAnOffice` unless the five tables of schema 1 are there with their columns, and the office's row is of its form, with
-/// schema 1 or 2; then `OldSchema` where that is 1; then `NotAnOffice` where the table of held profiles isn't there with its
-/// columns; then `NoIndex` where one of the two indexes isn't there; else the fault of the store.
+/// `NotAnOffice` unless the five tables of schema 1 are there with their columns, and the office's
+/// row is of its form, with schema 1 or 2; then `OldSchema` where that is 1; then `NotAnOffice`
+/// where the table of held profiles isn't there with its columns; then `NoIndex` where one of the
+/// two indexes isn't there; else the fault of the store.
 pub fn check_office<S: Alter>(conn: &mut Connection<S>) -> Result<Caps, OpeningFault>
     requires { IsIdle (state S.Store conn.old) }
     ensures read { has_old_tables (state S.Store conn.old).now.schema ≡ true

@@ -1,13 +1,16 @@
 //! The founding of an office.
 
-ghost use Rattle.std.specs.Prelude.{◌≡◌, ◌≢◌, ◌↔◌, ◌<◌, ◌^◌, false, true, pos, is_some, IsTrue, Err, IfErr, OnOk};
+ghost use Rattle.std.specs.Prelude.{◌≡◌, ◌≢◌, ◌↔◌, ◌<◌, ◌^◌, false, true, pos, is_some, IsTrue};
+ghost use Rattle.std.specs.Prelude.{Err, IfErr, OnOk};
 ghost use Rattle.sqlite.specs.Held.{state};
 ghost use Rattle.sqlite.specs.State.{HasCleanDisk};
 ghost use Rattle.sqlite.specs.Values.{bound};
 ghost use Rattle.sqlite_schema.specs.Names.{table_named};
 ghost use Rattle.office_rows.specs.Statements.{IsCause};
-ghost use Rattle.office_store.specs.Connections.{CommitsAll, FailsWithin, KeepsOnOk, RollsBack, SameOnErr, ShowsOnOk, SurvivesAll, SurvivesWith};
-ghost use Rattle.office_store.specs.Founding.{has_table, IsForeign, first_user, new_office, founding, founding_office, FailsToFound};
+ghost use Rattle.office_store.specs.Connections.{CommitsAll, FailsWithin, KeepsOnOk, RollsBack};
+ghost use Rattle.office_store.specs.Connections.{SameOnErr, ShowsOnOk, SurvivesAll, SurvivesWith};
+ghost use Rattle.office_store.specs.Founding.{has_table, IsForeign, first_user, new_office};
+ghost use Rattle.office_store.specs.Founding.{founding, founding_office, FailsToFound};
 ghost use Rattle.office_store.specs.Schema.{no_schema};
 ghost use Rattle.office_store.specs.Shown.{IsIdle};
 
@@ -64,7 +67,8 @@ fn bits_of(listed: Caps) -> i64
     listed.bits() as i64
 }
 
-// Makes the tables, their indexes, the row of the office and that of its first user in one transaction.
+// Makes the tables, their indexes, the row of the office and that of its first user in one
+// transaction.
 fn run_founding<'a, S: Alter>(
     conn: &mut Connection<S>,
     none: &'a [ValueRef<'a>],
@@ -168,14 +172,15 @@ fn make_office<S: Alter>(
     }
 }
 
-/// Founds an office in an empty store: its six tables with their indexes, the listed capabilities, and its first user, who is a registrar.
+/// Founds an office in an empty store: its six tables with their indexes, the listed capabilities,
+/// and its first user, who is a registrar.
 ///
 /// A crash leaves the store as it was or the founded office, and after `Ok` the founded office.
 ///
 /// # Errors
 ///
-/// `AlreadyFounded` where one of the tables is there; `NotAnOffice` where none of them is and something else is; else the
-/// fault of the store.
+/// `AlreadyFounded` where one of the tables is there; `NotAnOffice` where none of them is and
+/// something else is; else the fault of the store.
 pub fn found<S: Alter>(
     conn: &mut Connection<S>,
     name: &Word,

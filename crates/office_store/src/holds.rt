@@ -1,13 +1,11 @@
 //! The table of holds.
 
-ghost use Rattle.std.specs.Prelude.{◌≡◌, IfErr, is_some};
+ghost use Rattle.std.specs.Prelude.{◌≡◌, is_some};
 ghost use Rattle.sqlite.specs.Held.{state};
-ghost use Rattle.sqlite.specs.State.{HasCleanDisk};
-ghost use Rattle.office_rows.specs.Faults.{FindsRow};
-ghost use Rattle.office_rows.specs.Statements.{HasMet};
-ghost use Rattle.office_rows.specs.Told.{TellsRow, TellsWhether};
+ghost use Rattle.office_rows.specs.Told.{TellsWhether};
 ghost use Rattle.office_tables.specs.Changes.{with_hold, without_hold};
-ghost use Rattle.office_store.specs.Calls.{IsRead, IsWrite, Into};
+ghost use Rattle.office_store.specs.Calls.{Into};
+ghost use Rattle.office_store.specs.Connections.{FindsFirst, MeetsOnErr, Reads, ReadsFirst, Writes};
 ghost use Rattle.office_store.specs.Keys.{profile_params};
 ghost use Rattle.office_store.specs.Shown.{IsIdle};
 ghost use Rattle.office_store.specs.Writes.{holding, releasing};
@@ -31,8 +29,10 @@ fn hold_of<S: Alter>(
     profile: &ProfileName,
 ) -> Result<Option<Row>, StoreFault>
     requires { IsIdle (state S.Store conn.old) }
-    ensures read { IsRead (state S.Store conn.old) (state S.Store conn.new) result (λ t row. is_some row ≡ t.holds profile.now) }
-    ensures row { HasCleanDisk (state S.Store conn.new) → FindsRow HOLD_OF.now (profile_params profile.now) (state S.Store conn.old) (state S.Store conn.new) result }
+    ensures read { Reads S.Store conn.old conn.new result
+        (λ t row. is_some row ≡ t.holds profile.now) }
+    ensures row { FindsFirst S.Store conn.old conn.new
+        HOLD_OF.now (profile_params profile.now) result }
 {
     first_row(conn, HOLD_OF, &of_profile(profile))
 }
@@ -40,8 +40,9 @@ fn hold_of<S: Alter>(
 /// Whether a profile is held.
 pub fn held<S: Alter>(conn: &mut Connection<S>, profile: &ProfileName) -> Result<bool, StoreFault>
     requires { IsIdle (state S.Store conn.old) }
-    ensures read { IsRead (state S.Store conn.old) (state S.Store conn.new) result (λ t held. held ≡ t.holds profile.now) }
-    ensures told { HasCleanDisk (state S.Store conn.new) → TellsRow HOLD_OF.now (profile_params profile.now) (state S.Store conn.old) (state S.Store conn.new) TellsWhether result }
+    ensures read { Reads S.Store conn.old conn.new result (λ t held. held ≡ t.holds profile.now) }
+    ensures told { ReadsFirst S.Store conn.old conn.new
+        HOLD_OF.now (profile_params profile.now) TellsWhether result }
 {
     is_there(hold_of(conn, profile))
 }
@@ -49,8 +50,8 @@ pub fn held<S: Alter>(conn: &mut Connection<S>, profile: &ProfileName) -> Result
 /// Holds a profile.
 pub fn put_hold<S: Alter>(conn: &mut Connection<S>, profile: &ProfileName) -> Result<(), StoreFault>
     requires { IsIdle (state S.Store conn.old) }
-    ensures write { IsWrite (state S.Store conn.old) (state S.Store conn.new) result (Into (with_hold profile.now)) }
-    ensures cause { HasCleanDisk (state S.Store conn.new) → IfErr result (HasMet S.Store (holding profile.now) conn.old conn.new) }
+    ensures write { Writes S.Store conn.old conn.new result (Into (with_hold profile.now)) }
+    ensures cause { MeetsOnErr S.Store conn.old conn.new (holding profile.now) result }
 {
     let key = of_profile(profile);
     write_two(conn, DELETE_HOLD, &key, INSERT_HOLD, &key)
@@ -62,8 +63,8 @@ pub fn delete_hold<S: Alter>(
     profile: &ProfileName,
 ) -> Result<(), StoreFault>
     requires { IsIdle (state S.Store conn.old) }
-    ensures write { IsWrite (state S.Store conn.old) (state S.Store conn.new) result (Into (without_hold profile.now)) }
-    ensures cause { HasCleanDisk (state S.Store conn.new) → IfErr result (HasMet S.Store (releasing profile.now) conn.old conn.new) }
+    ensures write { Writes S.Store conn.old conn.new result (Into (without_hold profile.now)) }
+    ensures cause { MeetsOnErr S.Store conn.old conn.new (releasing profile.now) result }
 {
     write_one(conn, DELETE_HOLD, &of_profile(profile))
 }

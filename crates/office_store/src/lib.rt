@@ -1,5 +1,6 @@
-//! The six tables of an office over `sqlite`, generic in the store: each call answers what the tables have, or changes them
-//! in one transaction. The connection of a call has no transaction open and no limit on steps.
+//! The six tables of an office over `sqlite`, generic in the store: each call answers what the
+//! tables have, or changes them in one transaction. The connection of a call has no transaction
+//! open and no limit on steps.
 #![tactic(auto)]
 
 pub mod author;
@@ -19,6 +20,7 @@ pub mod reopening;
 pub mod revisions;
 pub mod schema;
 pub mod standing_votes;
+pub mod summaries;
 pub mod users;
 pub mod votes;
 pub mod walk;
@@ -38,6 +40,7 @@ pub use revisions::{
     add_revision, has_revision, issued, last, revision, set_issued, set_withdrawn,
 };
 pub use standing_votes::{standing, tally};
+pub use summaries::{Summary, summary_at};
 pub use users::{put_user, user_by_name, user_by_token};
 pub use votes::{Ballot, put_vote};
 pub use walk::{first_listed, next_listed};

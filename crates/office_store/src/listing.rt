@@ -3,12 +3,11 @@
 ghost use Rattle.std.specs.Prelude.{◌≡◌, ◌≢◌, [], ◌∷◌, List, Err, IfOk, IfErr, map};
 ghost use Rattle.std.specs.List.{AllByRecursion};
 ghost use Rattle.sqlite.specs.Held.{state};
-ghost use Rattle.sqlite.specs.State.{HasCleanDisk};
 ghost use Rattle.sqlite.specs.declared.types.Value.TheVariants.{Text as SqlText};
-ghost use Rattle.office_rows.specs.Told.{IsOfRow, IsTold, FindsRows, TellsAll, TellsRows, map_ok};
+ghost use Rattle.office_rows.specs.Told.{IsOfRow, IsTold, TellsAll, map_ok};
 ghost use Rattle.office_tables.specs.Lists.{AreRevisionsOf};
 ghost use Rattle.office_tables.specs.declared.listed.ListedRevision.{ListedRevision as Listed};
-ghost use Rattle.office_store.specs.Calls.{IsRead};
+ghost use Rattle.office_store.specs.Connections.{AcceptsFormed, FindsAll, Reads, ReadsAll};
 ghost use Rattle.office_store.specs.Lists.{listed_row, IsListedForm, AreListedRows};
 ghost use Rattle.office_store.specs.Shown.{IsIdle};
 
@@ -20,15 +19,18 @@ use review_policy::Word;
 use sqlite::{Alter, Connection, Row};
 use std::alloc::Global;
 
-// The plus keeps the planner from the order of the primary key, so that it takes the index that has all three columns.
+// The plus keeps the planner from the order of the primary key, so that it takes the index that has
+// all three columns.
 pub(crate) const REVISIONS_OF: &str =
     "SELECT profile, number, state FROM revisions WHERE team = ?1 ORDER BY +profile, number";
 
 // The rows of the revisions of a team.
 fn listed_rows<S: Alter>(conn: &mut Connection<S>, team: &Word) -> Result<Vec<Row>, StoreFault>
     requires { IsIdle (state S.Store conn.old) }
-    ensures read { IsRead (state S.Store conn.old) (state S.Store conn.new) result (λ t rows. AreListedRows t team.now rows.items) }
-    ensures rows { HasCleanDisk (state S.Store conn.new) → FindsRows REVISIONS_OF.now (SqlText team.now ∷ []) (state S.Store conn.old) (state S.Store conn.new) (map_ok result (λ rows. rows.items)) }
+    ensures read { Reads S.Store conn.old conn.new result
+        (λ t rows. AreListedRows t team.now rows.items) }
+    ensures rows { FindsAll S.Store conn.old conn.new
+        REVISIONS_OF.now (SqlText team.now ∷ []) (map_ok result (λ rows. rows.items)) }
 {
     all_rows(conn, REVISIONS_OF, &of_word(team))
 }
@@ -36,7 +38,7 @@ fn listed_rows<S: Alter>(conn: &mut Connection<S>, team: &Word) -> Result<Vec<Ro
 // The revision that a row names.
 pub(crate) fn read_listed(alloc: Global, row: &Row) -> Result<ListedRevision, StoreFault>
     ensures listed { IfOk result (λ listed. row.now ≡ listed_row listed) }
-    ensures formed { (listed : Listed) → IsListedForm listed → row.now ≡ listed_row listed → result ≢ Err StoreFault.NotAnOffice }
+    ensures formed { AcceptsFormed listed_row IsListedForm row.now result }
     ensures cause { IfErr result IsOfRow }
 {
     if row.column_count() != 3 {
@@ -52,7 +54,8 @@ pub(crate) fn read_listed(alloc: Global, row: &Row) -> Result<ListedRevision, St
 // The revisions that rows name.
 fn read_all_listed(alloc: Global, rows: &[Row]) -> Result<Vec<ListedRevision>, StoreFault>
     ensures listed { IfOk result (λ listed. rows.now ≡ map listed_row listed.items) }
-    ensures formed { (listed : List Listed) → rows.now ≡ map listed_row listed → AllByRecursion IsListedForm listed → result ≢ Err StoreFault.NotAnOffice }
+    ensures formed { (listed : List Listed) → rows.now ≡ map listed_row listed
+        → AllByRecursion IsListedForm listed → result ≢ Err StoreFault.NotAnOffice }
     ensures cause { IfErr result IsOfRow }
 {
     let mut listed = Vec::new(alloc);
@@ -68,21 +71,26 @@ fn listed_of(
     alloc: Global,
     found: Result<Vec<Row>, StoreFault>,
 ) -> Result<Vec<ListedRevision>, StoreFault>
-    ensures { IsTold (TellsAll listed_row IsListedForm) (map_ok found (λ rows. rows.items)) (map_ok result (λ listed. listed.items)) }
+    ensures { IsTold (TellsAll listed_row IsListedForm)
+        (map_ok found (λ rows. rows.items)) (map_ok result (λ listed. listed.items)) }
 {
     let rows = found?;
     read_all_listed(alloc, rows.as_slice())
 }
 
-/// The revisions of all profiles of a team, by the name of the profile, in the order of its bytes, and by number.
+/// The revisions of all profiles of a team, by the name of the profile, in the order of its bytes,
+/// and by number.
 pub fn revisions_of<S: Alter>(
     alloc: Global,
     conn: &mut Connection<S>,
     team: &Word,
 ) -> Result<Vec<ListedRevision>, StoreFault>
     requires { IsIdle (state S.Store conn.old) }
-    ensures read { IsRead (state S.Store conn.old) (state S.Store conn.new) result (λ t listed. AreRevisionsOf t team.now listed.items) }
-    ensures told { HasCleanDisk (state S.Store conn.new) → TellsRows REVISIONS_OF.now (SqlText team.now ∷ []) (state S.Store conn.old) (state S.Store conn.new) (TellsAll listed_row IsListedForm) (map_ok result (λ listed. listed.items)) }
+    ensures read { Reads S.Store conn.old conn.new result
+        (λ t listed. AreRevisionsOf t team.now listed.items) }
+    ensures told { ReadsAll S.Store conn.old conn.new
+        REVISIONS_OF.now (SqlText team.now ∷ [])
+        (TellsAll listed_row IsListedForm) (map_ok result (λ listed. listed.items)) }
 {
     listed_of(alloc, listed_rows(conn, team))
 }

@@ -8,7 +8,8 @@ ghost use Rattle.office_tables.specs.Tables.{Tables};
 ghost use Rattle.office_store.specs.Connections.{CommitsAll, FailsWithin, RollsBack, SurvivesAll};
 ghost use Rattle.office_store.specs.Form.{has_old_tables};
 ghost use Rattle.office_store.specs.Shown.{IsIdle, Shows, ShowsIfOpen};
-ghost use Rattle.office_store.specs.Migration.{migration, ShowsOld, ShowsOldIfOpen, IsMigration, WasOld, FailsToMigrate};
+ghost use Rattle.office_store.specs.Migration.{migration, ShowsOld, ShowsOldIfOpen, IsMigration};
+ghost use Rattle.office_store.specs.Migration.{WasOld, FailsToMigrate};
 
 use crate::fault::MigrationFault;
 use crate::form::{has_old_tables, office_number};
@@ -68,15 +69,17 @@ fn move_office<S: Alter>(conn: &mut Connection<S>) -> Result<(), StoreFault>
     }
 }
 
-/// Makes an office of schema 1 one of schema 2, in one transaction: the table of held profiles, which has no row, the indexes
-/// of the revisions, and the number of the schema. Every row of the five tables is kept.
+/// Makes an office of schema 1 one of schema 2, in one transaction: the table of held profiles,
+/// which has no row, the indexes of the revisions, and the number of the schema. Every row of the
+/// five tables is kept.
 ///
 /// A crash leaves the office under schema 1 or under schema 2, and after `Ok` under schema 2.
 ///
 /// # Errors
 ///
-/// `NotAnOffice` unless the five tables of schema 1 are there with their columns, and the office's row is of its form, with
-/// schema 1 or 2; `AlreadyMigrated` where that is 2; else the fault of the store.
+/// `NotAnOffice` unless the five tables of schema 1 are there with their columns, and the office's
+/// row is of its form, with schema 1 or 2; `AlreadyMigrated` where that is 2; else the fault of the
+/// store.
 pub fn migrate<S: Alter>(conn: &mut Connection<S>) -> Result<(), MigrationFault>
     requires { IsIdle (state S.Store conn.old) }
     ensures migration { IsMigration (state S.Store conn.old) (state S.Store conn.new) result }

@@ -1,12 +1,11 @@
-//! The numbers of the last and of the issued revision of a profile, which the indexes have: no text is read for them.
+//! The numbers of the last and of the issued revision of a profile, which the indexes have: no text
+//! is read for them.
 
-ghost use Rattle.std.specs.Prelude.{◌≡◌, ◌≢◌, ◌<◌, ◌^◌, ℕ, Err, IfOk, IfErr};
+ghost use Rattle.std.specs.Prelude.{◌≡◌, ◌<◌, Err, IfOk, IfErr};
 ghost use Rattle.sqlite.specs.Held.{state};
-ghost use Rattle.sqlite.specs.State.{HasCleanDisk};
-ghost use Rattle.office_rows.specs.Faults.{FindsRow};
-ghost use Rattle.office_rows.specs.Told.{IsOfRow, IsTold, TellsRow, TellsOne};
+ghost use Rattle.office_rows.specs.Told.{IsOfRow, IsTold, TellsOne};
 ghost use Rattle.office_tables.specs.Reads.{IsLast, IsIssued};
-ghost use Rattle.office_store.specs.Calls.{IsRead};
+ghost use Rattle.office_store.specs.Connections.{AcceptsFormed, FindsFirst, Reads, ReadsFirst};
 ghost use Rattle.office_store.specs.Keys.{profile_params};
 ghost use Rattle.office_store.specs.Lists.{number_row, IsNumber, IsRowOfNumber, IsNumberOf};
 ghost use Rattle.office_store.specs.Shown.{IsIdle};
@@ -27,7 +26,7 @@ pub(crate) const ISSUED_NUMBER: &str =
 // The number of a row of one.
 fn read_number(row: &Row) -> Result<u32, StoreFault>
     ensures number { IfOk result (λ number. row.now ≡ number_row number) }
-    ensures formed { (number : ℕ) → IsNumber number → row.now ≡ number_row number → result ≢ Err StoreFault.NotAnOffice }
+    ensures formed { AcceptsFormed number_row IsNumber row.now result }
     ensures cause { IfErr result IsOfRow }
 {
     if row.column_count() != 1 {
@@ -52,10 +51,10 @@ fn last_number_row<S: Alter>(
     profile: &ProfileName,
 ) -> Result<Option<Row>, StoreFault>
     requires { IsIdle (state S.Store conn.old) }
-    ensures read { IsRead (state S.Store conn.old) (state S.Store conn.new) result
+    ensures read { Reads S.Store conn.old conn.new result
         (λ t row. IsRowOfNumber (IsLast t profile.now) row) }
-    ensures row { HasCleanDisk (state S.Store conn.new)
-        → FindsRow LAST_NUMBER.now (profile_params profile.now) (state S.Store conn.old) (state S.Store conn.new) result }
+    ensures row { FindsFirst S.Store conn.old conn.new
+        LAST_NUMBER.now (profile_params profile.now) result }
 {
     first_row(conn, LAST_NUMBER, &of_profile(profile))
 }
@@ -66,10 +65,10 @@ fn issued_number_row<S: Alter>(
     profile: &ProfileName,
 ) -> Result<Option<Row>, StoreFault>
     requires { IsIdle (state S.Store conn.old) }
-    ensures read { IsRead (state S.Store conn.old) (state S.Store conn.new) result
+    ensures read { Reads S.Store conn.old conn.new result
         (λ t row. IsRowOfNumber (IsIssued t profile.now) row) }
-    ensures row { HasCleanDisk (state S.Store conn.new)
-        → FindsRow ISSUED_NUMBER.now (profile_params profile.now) (state S.Store conn.old) (state S.Store conn.new) result }
+    ensures row { FindsFirst S.Store conn.old conn.new
+        ISSUED_NUMBER.now (profile_params profile.now) result }
 {
     first_row(conn, ISSUED_NUMBER, &of_profile(profile))
 }
@@ -80,11 +79,10 @@ pub fn last_number<S: Alter>(
     profile: &ProfileName,
 ) -> Result<Option<u32>, StoreFault>
     requires { IsIdle (state S.Store conn.old) }
-    ensures read { IsRead (state S.Store conn.old) (state S.Store conn.new) result
+    ensures read { Reads S.Store conn.old conn.new result
         (λ t number. IsNumberOf (IsLast t profile.now) number) }
-    ensures told { HasCleanDisk (state S.Store conn.new)
-        → TellsRow LAST_NUMBER.now (profile_params profile.now) (state S.Store conn.old) (state S.Store conn.new)
-        (TellsOne number_row IsNumber) result }
+    ensures told { ReadsFirst S.Store conn.old conn.new
+        LAST_NUMBER.now (profile_params profile.now) (TellsOne number_row IsNumber) result }
 {
     number_of(last_number_row(conn, profile))
 }
@@ -95,11 +93,10 @@ pub fn issued_number<S: Alter>(
     profile: &ProfileName,
 ) -> Result<Option<u32>, StoreFault>
     requires { IsIdle (state S.Store conn.old) }
-    ensures read { IsRead (state S.Store conn.old) (state S.Store conn.new) result
+    ensures read { Reads S.Store conn.old conn.new result
         (λ t number. IsNumberOf (IsIssued t profile.now) number) }
-    ensures told { HasCleanDisk (state S.Store conn.new)
-        → TellsRow ISSUED_NUMBER.now (profile_params profile.now) (state S.Store conn.old) (state S.Store conn.new)
-        (TellsOne number_row IsNumber) result }
+    ensures told { ReadsFirst S.Store conn.old conn.new
+        ISSUED_NUMBER.now (profile_params profile.now) (TellsOne number_row IsNumber) result }
 {
     number_of(issued_number_row(conn, profile))
 }

@@ -2,15 +2,13 @@
 
 ghost use Rattle.std.specs.Prelude.{◌≡◌, ◌≢◌, ◌↔◌, true, is_some, Err, IfOk, IfErr, option_map};
 ghost use Rattle.sqlite.specs.Held.{state};
-ghost use Rattle.sqlite.specs.State.{HasCleanDisk};
 ghost use Rattle.review_policy.specs.declared.ask.ProfileName.{ProfileName as Name};
-ghost use Rattle.office_rows.specs.Faults.{FindsRow};
-ghost use Rattle.office_rows.specs.Statements.{HasMet};
-ghost use Rattle.office_rows.specs.Told.{IsOfRow, IsTold, TellsRow, TellsOne, TellsWhether};
+ghost use Rattle.office_rows.specs.Told.{IsOfRow, IsTold, TellsOne, TellsWhether};
 ghost use Rattle.office_tables.specs.Changes.{with_issued, with_withdrawn};
 ghost use Rattle.office_tables.specs.Reads.{IsLast, IsIssued, HasRevision, Adds};
 ghost use Rattle.office_tables.specs.declared.row.RevisionRow.{RevisionRow as Revision};
-ghost use Rattle.office_store.specs.Calls.{IsRead, IsWrite, Into};
+ghost use Rattle.office_store.specs.Calls.{Into};
+ghost use Rattle.office_store.specs.Connections.{FindsFirst, MeetsOnErr, Reads, ReadsFirst, Writes};
 ghost use Rattle.office_store.specs.Entries.{revision_columns, IsRevision, IsRevisionForm};
 ghost use Rattle.office_store.specs.Keys.{profile_params, revision_params};
 ghost use Rattle.office_store.specs.Reads.{IsIssuedRow, IsLastRow};
@@ -56,8 +54,8 @@ pub(crate) const INSERT_REVISION: &str =
 // The revision that a row stands for.
 fn read_revision(alloc: Global, row: &Row) -> Result<RevisionRow, StoreFault>
     ensures revision { IfOk result (λ revision. row.now ≡ revision_columns revision) }
-    ensures formed { (profile : Name) (revision : Revision) → IsRevision (profile, revision) → row.now ≡ revision_columns revision
-        → result ≢ Err StoreFault.NotAnOffice }
+    ensures formed { (profile : Name) (revision : Revision) → IsRevision (profile, revision)
+        → row.now ≡ revision_columns revision → result ≢ Err StoreFault.NotAnOffice }
     ensures cause { IfErr result IsOfRow }
 {
     if row.column_count() != 5 {
@@ -92,10 +90,10 @@ fn row_at<S: Alter>(
     number: u32,
 ) -> Result<Option<Row>, StoreFault>
     requires { IsIdle (state S.Store conn.old) }
-    ensures read { IsRead (state S.Store conn.old) (state S.Store conn.new) result
+    ensures read { Reads S.Store conn.old conn.new result
         (λ t row. row ≡ option_map revision_columns (t.revisions profile.now number)) }
-    ensures row { HasCleanDisk (state S.Store conn.new)
-        → FindsRow REVISION_AT.now (revision_params profile.now number) (state S.Store conn.old) (state S.Store conn.new) result }
+    ensures row { FindsFirst S.Store conn.old conn.new
+        REVISION_AT.now (revision_params profile.now number) result }
 {
     first_row(conn, REVISION_AT, &of_number(profile, number))
 }
@@ -106,9 +104,9 @@ fn issued_row<S: Alter>(
     profile: &ProfileName,
 ) -> Result<Option<Row>, StoreFault>
     requires { IsIdle (state S.Store conn.old) }
-    ensures read { IsRead (state S.Store conn.old) (state S.Store conn.new) result (λ t row. IsIssuedRow t profile.now row) }
-    ensures row { HasCleanDisk (state S.Store conn.new)
-        → FindsRow ISSUED_OF.now (profile_params profile.now) (state S.Store conn.old) (state S.Store conn.new) result }
+    ensures read { Reads S.Store conn.old conn.new result (λ t row. IsIssuedRow t profile.now row) }
+    ensures row { FindsFirst S.Store conn.old conn.new
+        ISSUED_OF.now (profile_params profile.now) result }
 {
     first_row(conn, ISSUED_OF, &of_profile(profile))
 }
@@ -119,9 +117,9 @@ fn last_row<S: Alter>(
     profile: &ProfileName,
 ) -> Result<Option<Row>, StoreFault>
     requires { IsIdle (state S.Store conn.old) }
-    ensures read { IsRead (state S.Store conn.old) (state S.Store conn.new) result (λ t row. IsLastRow t profile.now row) }
-    ensures row { HasCleanDisk (state S.Store conn.new)
-        → FindsRow LAST_OF.now (profile_params profile.now) (state S.Store conn.old) (state S.Store conn.new) result }
+    ensures read { Reads S.Store conn.old conn.new result (λ t row. IsLastRow t profile.now row) }
+    ensures row { FindsFirst S.Store conn.old conn.new
+        LAST_OF.now (profile_params profile.now) result }
 {
     first_row(conn, LAST_OF, &of_profile(profile))
 }
@@ -132,9 +130,10 @@ fn row_of<S: Alter>(
     profile: &ProfileName,
 ) -> Result<Option<Row>, StoreFault>
     requires { IsIdle (state S.Store conn.old) }
-    ensures read { IsRead (state S.Store conn.old) (state S.Store conn.new) result (λ t row. is_some row ≡ true ↔ HasRevision t profile.now) }
-    ensures row { HasCleanDisk (state S.Store conn.new)
-        → FindsRow REVISION_OF.now (profile_params profile.now) (state S.Store conn.old) (state S.Store conn.new) result }
+    ensures read { Reads S.Store conn.old conn.new result
+        (λ t row. is_some row ≡ true ↔ HasRevision t profile.now) }
+    ensures row { FindsFirst S.Store conn.old conn.new
+        REVISION_OF.now (profile_params profile.now) result }
 {
     first_row(conn, REVISION_OF, &of_profile(profile))
 }
@@ -145,9 +144,10 @@ pub fn has_revision<S: Alter>(
     profile: &ProfileName,
 ) -> Result<bool, StoreFault>
     requires { IsIdle (state S.Store conn.old) }
-    ensures read { IsRead (state S.Store conn.old) (state S.Store conn.new) result (λ t found. found ≡ true ↔ HasRevision t profile.now) }
-    ensures told { HasCleanDisk (state S.Store conn.new)
-        → TellsRow REVISION_OF.now (profile_params profile.now) (state S.Store conn.old) (state S.Store conn.new) TellsWhether result }
+    ensures read { Reads S.Store conn.old conn.new result
+        (λ t found. found ≡ true ↔ HasRevision t profile.now) }
+    ensures told { ReadsFirst S.Store conn.old conn.new
+        REVISION_OF.now (profile_params profile.now) TellsWhether result }
 {
     is_there(row_of(conn, profile))
 }
@@ -160,9 +160,10 @@ pub fn revision<S: Alter>(
     number: u32,
 ) -> Result<Option<RevisionRow>, StoreFault>
     requires { IsIdle (state S.Store conn.old) }
-    ensures read { IsRead (state S.Store conn.old) (state S.Store conn.new) result (λ t revision. revision ≡ t.revisions profile.now number) }
-    ensures told { HasCleanDisk (state S.Store conn.new)
-        → TellsRow REVISION_AT.now (revision_params profile.now number) (state S.Store conn.old) (state S.Store conn.new)
+    ensures read { Reads S.Store conn.old conn.new result
+        (λ t revision. revision ≡ t.revisions profile.now number) }
+    ensures told { ReadsFirst S.Store conn.old conn.new
+        REVISION_AT.now (revision_params profile.now number)
         (TellsOne revision_columns IsRevisionForm) result }
 {
     revision_of(alloc, row_at(conn, profile, number))
@@ -175,9 +176,10 @@ pub fn issued<S: Alter>(
     profile: &ProfileName,
 ) -> Result<Option<RevisionRow>, StoreFault>
     requires { IsIdle (state S.Store conn.old) }
-    ensures read { IsRead (state S.Store conn.old) (state S.Store conn.new) result (λ t revision. IsIssued t profile.now revision) }
-    ensures told { HasCleanDisk (state S.Store conn.new)
-        → TellsRow ISSUED_OF.now (profile_params profile.now) (state S.Store conn.old) (state S.Store conn.new)
+    ensures read { Reads S.Store conn.old conn.new result
+        (λ t revision. IsIssued t profile.now revision) }
+    ensures told { ReadsFirst S.Store conn.old conn.new
+        ISSUED_OF.now (profile_params profile.now)
         (TellsOne revision_columns IsRevisionForm) result }
 {
     revision_of(alloc, issued_row(conn, profile))
@@ -190,23 +192,25 @@ pub fn last<S: Alter>(
     profile: &ProfileName,
 ) -> Result<Option<RevisionRow>, StoreFault>
     requires { IsIdle (state S.Store conn.old) }
-    ensures read { IsRead (state S.Store conn.old) (state S.Store conn.new) result (λ t revision. IsLast t profile.now revision) }
-    ensures told { HasCleanDisk (state S.Store conn.new)
-        → TellsRow LAST_OF.now (profile_params profile.now) (state S.Store conn.old) (state S.Store conn.new)
-        (TellsOne revision_columns IsRevisionForm) result }
+    ensures read { Reads S.Store conn.old conn.new result
+        (λ t revision. IsLast t profile.now revision) }
+    ensures told { ReadsFirst S.Store conn.old conn.new
+        LAST_OF.now (profile_params profile.now) (TellsOne revision_columns IsRevisionForm) result }
 {
     revision_of(alloc, last_row(conn, profile))
 }
 
-/// Adds a revision under its number, which no other of its profile has, and closes the open one of the profile.
+/// Adds a revision under its number, which no other of its profile has, and closes the open one of
+/// the profile.
 pub fn add_revision<S: Alter>(
     conn: &mut Connection<S>,
     profile: &ProfileName,
     revision: &RevisionRow,
 ) -> Result<(), StoreFault>
     requires { IsIdle (state S.Store conn.old) }
-    ensures write { IsWrite (state S.Store conn.old) (state S.Store conn.new) result (Adds profile.now revision.now) }
-    ensures cause { HasCleanDisk (state S.Store conn.new) → IfErr result (HasMet S.Store (adding_revision profile.now revision.now) conn.old conn.new) }
+    ensures write { Writes S.Store conn.old conn.new result (Adds profile.now revision.now) }
+    ensures cause { MeetsOnErr S.Store conn.old conn.new
+        (adding_revision profile.now revision.now) result }
 {
     let added = of_revision(profile, revision);
     write_two(
@@ -225,8 +229,9 @@ pub fn set_issued<S: Alter>(
     number: u32,
 ) -> Result<(), StoreFault>
     requires { IsIdle (state S.Store conn.old) }
-    ensures write { IsWrite (state S.Store conn.old) (state S.Store conn.new) result (Into (with_issued profile.now number)) }
-    ensures cause { HasCleanDisk (state S.Store conn.new) → IfErr result (HasMet S.Store (issuing profile.now number) conn.old conn.new) }
+    ensures write { Writes S.Store conn.old conn.new result
+        (Into (with_issued profile.now number)) }
+    ensures cause { MeetsOnErr S.Store conn.old conn.new (issuing profile.now number) result }
 {
     write_two(
         conn,
@@ -244,8 +249,9 @@ pub fn set_withdrawn<S: Alter>(
     number: u32,
 ) -> Result<(), StoreFault>
     requires { IsIdle (state S.Store conn.old) }
-    ensures write { IsWrite (state S.Store conn.old) (state S.Store conn.new) result (Into (with_withdrawn profile.now number)) }
-    ensures cause { HasCleanDisk (state S.Store conn.new) → IfErr result (HasMet S.Store (withdrawing profile.now number) conn.old conn.new) }
+    ensures write { Writes S.Store conn.old conn.new result
+        (Into (with_withdrawn profile.now number)) }
+    ensures cause { MeetsOnErr S.Store conn.old conn.new (withdrawing profile.now number) result }
 {
     write_one(conn, WITHDRAW_REVISION, &of_number(profile, number))
 }

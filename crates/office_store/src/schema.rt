@@ -24,7 +24,8 @@ pub const CREATE_BASELINES: &str =
 pub const CREATE_HOLDS: &str =
     "CREATE TABLE holds (team TEXT NOT NULL, profile TEXT NOT NULL, PRIMARY KEY (team, profile)) STRICT";
 
-/// Finds the open and the issued revision of a profile. It has all that a list of a team's revisions shows, so that no body is read.
+/// Finds the open and the issued revision of a profile. It has all that a list of a team's
+/// revisions shows, so that no body is read.
 pub const CREATE_BY_STATE: &str =
     "CREATE INDEX revisions_by_state ON revisions (team, profile, state, number)";
 

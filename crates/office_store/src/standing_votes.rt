@@ -9,7 +9,7 @@ ghost use Rattle.office_tables.specs.Lists.{AreStanding, IsTally, tally_of};
 ghost use Rattle.office_rows.specs.Told.{IsOfRow, map_ok};
 ghost use Rattle.office_store.specs.Connections.{FindsAll, Reads, ReadsAll};
 ghost use Rattle.office_store.specs.Entries.{bit};
-ghost use Rattle.office_store.specs.Lists.{Cast, cast_row, standing_of, IsCastForm, IsCastAs};
+ghost use Rattle.office_store.specs.Lists.{Cast, cast_row, IsCastForm, IsCastAs};
 ghost use Rattle.office_store.specs.Lists.{AreCastAs, AreVoteRows, TellsVotes, TellsTally};
 ghost use Rattle.office_store.specs.Keys.{revision_params};
 ghost use Rattle.office_store.specs.Shown.{IsIdle};
@@ -45,7 +45,8 @@ fn vote_rows<S: Alter>(
 fn flag_at(row: &Row, at: usize) -> Result<bool, StoreFault>
     ensures flag { IfOk result (λ flag. (at < length row.now)
         × (column row.now at ≡ Int (bit flag))) }
-    ensures formed { (flag : Bool) → at < length row.now → column row.now at ≡ Int (bit flag) → result ≢ Err StoreFault.NotAnOffice }
+    ensures formed { (flag : Bool) → at < length row.now → column row.now at ≡ Int (bit flag)
+        → result ≢ Err StoreFault.NotAnOffice }
     ensures cause { IfErr result IsOfRow }
 {
     match number_at(row, at)? {
@@ -65,7 +66,8 @@ fn is_secure(counts: bool, had_security: bool, has_security: bool) -> bool
 // The vote of a row, as it stands by its voter's present roles.
 fn read_vote(alloc: Global, row: &Row) -> Result<VoteRow, StoreFault>
     ensures read { IfOk result (IsCastAs row.now) }
-    ensures formed { (cast : Cast) → row.now ≡ cast_row cast → IsCastForm cast → result ≢ Err StoreFault.NotAnOffice }
+    ensures formed { (cast : Cast) → row.now ≡ cast_row cast → IsCastForm cast
+        → result ≢ Err StoreFault.NotAnOffice }
     ensures cause { IfErr result IsOfRow }
 {
     if row.column_count() != 4 {
@@ -89,7 +91,8 @@ fn read_vote(alloc: Global, row: &Row) -> Result<VoteRow, StoreFault>
 // The votes of rows.
 fn read_votes(alloc: Global, rows: &[Row]) -> Result<Vec<VoteRow>, StoreFault>
     ensures read { IfOk result (λ votes. AreCastAs rows.now votes.items) }
-    ensures formed { (cast : List Cast) → rows.now ≡ map cast_row cast → AllByRecursion IsCastForm cast → result ≢ Err StoreFault.NotAnOffice }
+    ensures formed { (cast : List Cast) → rows.now ≡ map cast_row cast
+        → AllByRecursion IsCastForm cast → result ≢ Err StoreFault.NotAnOffice }
     ensures cause { IfErr result IsOfRow }
 {
     let mut votes = Vec::new(alloc);
@@ -100,8 +103,8 @@ fn read_votes(alloc: Global, rows: &[Row]) -> Result<Vec<VoteRow>, StoreFault>
     Ok(votes)
 }
 
-/// The last vote of each user on a revision, by the name of the voter, in the order of its bytes: whether it counts, and
-/// whether it has security, follow from the voter's present roles.
+/// The last vote of each user on a revision, by the name of the voter, in the order of its bytes:
+/// whether it counts, and whether it has security, follow from the voter's present roles.
 pub fn standing<S: Alter>(
     alloc: Global,
     conn: &mut Connection<S>,
@@ -159,7 +162,8 @@ fn count(votes: &[VoteRow]) -> Tally
     }
 }
 
-/// How many of the standing votes on a revision count and approve, approve with security, and count and reject.
+/// How many of the standing votes on a revision count and approve, approve with security, and count
+/// and reject.
 pub fn tally<S: Alter>(
     alloc: Global,
     conn: &mut Connection<S>,

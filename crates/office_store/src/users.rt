@@ -1,16 +1,14 @@
 //! The table of users.
 
-ghost use Rattle.std.specs.Prelude.{◌≡◌, ◌≢◌, [], ◌∷◌, Err, IfOk, IfErr, option_map};
+ghost use Rattle.std.specs.Prelude.{◌≡◌, [], ◌∷◌, Err, IfOk, IfErr, option_map};
 ghost use Rattle.sqlite.specs.Held.{state};
-ghost use Rattle.sqlite.specs.State.{HasCleanDisk};
 ghost use Rattle.sqlite.specs.declared.types.Value.TheVariants.{Text as SqlText, Blob};
-ghost use Rattle.office_rows.specs.Faults.{FindsRow};
-ghost use Rattle.office_rows.specs.Statements.{HasMet};
-ghost use Rattle.office_rows.specs.Told.{IsOfRow, IsTold, TellsRow, TellsOne};
-ghost use Rattle.office_tables.specs.declared.row.UserRow.{UserRow as User};
+ghost use Rattle.office_rows.specs.Told.{IsOfRow, IsTold, TellsOne};
 ghost use Rattle.office_tables.specs.Changes.{with_user};
 ghost use Rattle.office_tables.specs.Reads.{IsUserShowing};
-ghost use Rattle.office_store.specs.Calls.{IsRead, IsWrite, Into};
+ghost use Rattle.office_store.specs.Calls.{Into};
+ghost use Rattle.office_store.specs.Connections.{AcceptsFormed, FindsFirst, MeetsOnErr, Reads};
+ghost use Rattle.office_store.specs.Connections.{ReadsFirst, Writes};
 ghost use Rattle.office_store.specs.Entries.{user_row, IsUser};
 ghost use Rattle.office_store.specs.Reads.{IsRowShowing};
 ghost use Rattle.office_store.specs.Shown.{IsIdle};
@@ -18,7 +16,7 @@ ghost use Rattle.office_store.specs.Writes.{putting_user};
 
 use crate::bind::{of_digest, of_user, of_word};
 use crate::column::{digest_at, roles_at, word_at};
-use crate::write::write_two;
+use crate::write::write_one;
 use office_rows::first_row;
 use office_tables::{StoreFault, UserRow};
 use review_policy::Word;
@@ -30,15 +28,16 @@ pub(crate) const USER_BY_NAME: &str = "SELECT name, team, roles, token FROM user
 pub(crate) const USER_BY_TOKEN: &str =
     "SELECT name, team, roles, token FROM users WHERE token = ?1";
 
-pub(crate) const DELETE_USER: &str = "DELETE FROM users WHERE name = ?1";
-
 pub(crate) const INSERT_USER: &str =
     "INSERT INTO users (name, team, roles, token) VALUES (?1, ?2, ?3, ?4)";
+
+pub(crate) const PUT_USER: &str =
+    "INSERT INTO users (name, team, roles, token) VALUES (?1, ?2, ?3, ?4) ON CONFLICT (name) DO UPDATE SET team = ?2, roles = ?3, token = ?4";
 
 // The user that a row stands for.
 fn read_user(alloc: Global, row: &Row) -> Result<UserRow, StoreFault>
     ensures user { IfOk result (λ user. row.now ≡ user_row user) }
-    ensures formed { (user : User) → IsUser user → row.now ≡ user_row user → result ≢ Err StoreFault.NotAnOffice }
+    ensures formed { AcceptsFormed user_row IsUser row.now result }
     ensures cause { IfErr result IsOfRow }
 {
     if row.column_count() != 4 {
@@ -68,9 +67,10 @@ fn user_of(
 // The row of the user of that name.
 fn row_named<S: Alter>(conn: &mut Connection<S>, name: &Word) -> Result<Option<Row>, StoreFault>
     requires { IsIdle (state S.Store conn.old) }
-    ensures read { IsRead (state S.Store conn.old) (state S.Store conn.new) result (λ t row. row ≡ option_map user_row (t.users name.now)) }
-    ensures row { HasCleanDisk (state S.Store conn.new)
-        → FindsRow USER_BY_NAME.now (SqlText name.now ∷ []) (state S.Store conn.old) (state S.Store conn.new) result }
+    ensures read { Reads S.Store conn.old conn.new result
+        (λ t row. row ≡ option_map user_row (t.users name.now)) }
+    ensures row { FindsFirst S.Store conn.old conn.new
+        USER_BY_NAME.now (SqlText name.now ∷ []) result }
 {
     first_row(conn, USER_BY_NAME, &of_word(name))
 }
@@ -81,9 +81,9 @@ fn row_showing<S: Alter>(
     digest: &[u8; 32],
 ) -> Result<Option<Row>, StoreFault>
     requires { IsIdle (state S.Store conn.old) }
-    ensures read { IsRead (state S.Store conn.old) (state S.Store conn.new) result (λ t row. IsRowShowing t digest.now row) }
-    ensures row { HasCleanDisk (state S.Store conn.new)
-        → FindsRow USER_BY_TOKEN.now (Blob digest.now ∷ []) (state S.Store conn.old) (state S.Store conn.new) result }
+    ensures read { Reads S.Store conn.old conn.new result (λ t row. IsRowShowing t digest.now row) }
+    ensures row { FindsFirst S.Store conn.old conn.new
+        USER_BY_TOKEN.now (Blob digest.now ∷ []) result }
 {
     first_row(conn, USER_BY_TOKEN, &of_digest(digest))
 }
@@ -95,9 +95,9 @@ pub fn user_by_name<S: Alter>(
     name: &Word,
 ) -> Result<Option<UserRow>, StoreFault>
     requires { IsIdle (state S.Store conn.old) }
-    ensures read { IsRead (state S.Store conn.old) (state S.Store conn.new) result (λ t user. user ≡ t.users name.now) }
-    ensures told { HasCleanDisk (state S.Store conn.new)
-        → TellsRow USER_BY_NAME.now (SqlText name.now ∷ []) (state S.Store conn.old) (state S.Store conn.new) (TellsOne user_row IsUser) result }
+    ensures read { Reads S.Store conn.old conn.new result (λ t user. user ≡ t.users name.now) }
+    ensures told { ReadsFirst S.Store conn.old conn.new
+        USER_BY_NAME.now (SqlText name.now ∷ []) (TellsOne user_row IsUser) result }
 {
     user_of(alloc, row_named(conn, name))
 }
@@ -109,25 +109,20 @@ pub fn user_by_token<S: Alter>(
     digest: &[u8; 32],
 ) -> Result<Option<UserRow>, StoreFault>
     requires { IsIdle (state S.Store conn.old) }
-    ensures read { IsRead (state S.Store conn.old) (state S.Store conn.new) result (λ t user. IsUserShowing t digest.now user) }
-    ensures told { HasCleanDisk (state S.Store conn.new)
-        → TellsRow USER_BY_TOKEN.now (Blob digest.now ∷ []) (state S.Store conn.old) (state S.Store conn.new) (TellsOne user_row IsUser) result }
+    ensures read { Reads S.Store conn.old conn.new result
+        (λ t user. IsUserShowing t digest.now user) }
+    ensures told { ReadsFirst S.Store conn.old conn.new
+        USER_BY_TOKEN.now (Blob digest.now ∷ []) (TellsOne user_row IsUser) result }
 {
     user_of(alloc, row_showing(conn, digest))
 }
 
-/// Puts a user in the place of any of that name. Where another user shows the same token the store refuses it, as
-/// [`StoreFault::Disk`].
+/// Puts a user in the place of any of that name. Where another user shows the same token the store
+/// refuses it, as [`StoreFault::Disk`].
 pub fn put_user<S: Alter>(conn: &mut Connection<S>, user: &UserRow) -> Result<(), StoreFault>
     requires { IsIdle (state S.Store conn.old) }
-    ensures write { IsWrite (state S.Store conn.old) (state S.Store conn.new) result (Into (with_user user.now)) }
-    ensures cause { HasCleanDisk (state S.Store conn.new) → IfErr result (HasMet S.Store (putting_user user.now) conn.old conn.new) }
+    ensures write { Writes S.Store conn.old conn.new result (Into (with_user user.now)) }
+    ensures cause { MeetsOnErr S.Store conn.old conn.new (putting_user user.now) result }
 {
-    write_two(
-        conn,
-        DELETE_USER,
-        &of_word(&user.name),
-        INSERT_USER,
-        &of_user(user),
-    )
+    write_one(conn, PUT_USER, &of_user(user))
 }

@@ -2,11 +2,9 @@
 
 ghost use Rattle.std.specs.Prelude.{◌≡◌, [], ◌∷◌, ◌++◌, string_bytes, None, Some, IfOk, IfErr};
 ghost use Rattle.sqlite.specs.Held.{state};
-ghost use Rattle.sqlite.specs.State.{HasCleanDisk};
 ghost use Rattle.sqlite.specs.declared.types.Value.TheVariants.{Text as SqlText};
-ghost use Rattle.office_rows.specs.Faults.{FindsRow};
 ghost use Rattle.office_rows.specs.Told.{IsTold, TellsOne};
-ghost use Rattle.office_store.specs.Calls.{IsRead};
+ghost use Rattle.office_store.specs.Connections.{FindsFirst, Reads};
 ghost use Rattle.office_store.specs.Lists.{listed_row, IsListedForm, IsRowAbove, IsNextListed};
 ghost use Rattle.office_store.specs.Shown.{IsIdle};
 
@@ -29,11 +27,10 @@ fn row_above<S: Alter>(
     bound: &str,
 ) -> Result<Option<Row>, StoreFault>
     requires { IsIdle (state S.Store conn.old) }
-    ensures read { IsRead (state S.Store conn.old) (state S.Store conn.new) result
+    ensures read { Reads S.Store conn.old conn.new result
         (λ t row. IsRowAbove t team.now bound.now row) }
-    ensures row { HasCleanDisk (state S.Store conn.new)
-        → FindsRow LISTED_ABOVE.now (SqlText team.now ∷ SqlText bound.now ∷ [])
-        (state S.Store conn.old) (state S.Store conn.new) result }
+    ensures row { FindsFirst S.Store conn.old conn.new
+        LISTED_ABOVE.now (SqlText team.now ∷ SqlText bound.now ∷ []) result }
 {
     first_row(conn, LISTED_ABOVE, &of_bound(team, bound))
 }
@@ -51,8 +48,8 @@ fn found_listed(
     }
 }
 
-// A text above a name and below each other word that is above that one, since no word has a byte as low as a space. A scan
-// from the name itself would read all its revisions.
+// A text above a name and below each other word that is above that one, since no word has a byte as
+// low as a space. A scan from the name itself would read all its revisions.
 fn bound_after(alloc: Global, name: &Word) -> Result<String, StoreFault>
     ensures bound { IfOk result (λ bound. string_bytes bound ≡ name.now ++ 32 ∷ []) }
     ensures cause { IfErr result (λ f. f ≡ StoreFault.NoMemory) }
@@ -68,7 +65,7 @@ pub fn first_listed<S: Alter>(
     team: &Word,
 ) -> Result<Option<ListedRevision>, StoreFault>
     requires { IsIdle (state S.Store conn.old) }
-    ensures { IsRead (state S.Store conn.old) (state S.Store conn.new) result
+    ensures { Reads S.Store conn.old conn.new result
         (λ t listed. IsNextListed t team.now None listed) }
 {
     found_listed(alloc, row_above(conn, team, ""))
@@ -82,7 +79,7 @@ pub fn next_listed<S: Alter>(
     name: &Word,
 ) -> Result<Option<ListedRevision>, StoreFault>
     requires { IsIdle (state S.Store conn.old) }
-    ensures { IsRead (state S.Store conn.old) (state S.Store conn.new) result
+    ensures { Reads S.Store conn.old conn.new result
         (λ t listed. IsNextListed t team.now (Some name.now) listed) }
 {
     let bound = bound_after(alloc, name)?;

@@ -1,11 +1,10 @@
 //! A write: statements in one transaction.
 
-ghost use Rattle.std.specs.Prelude.{◌≡◌, ◌<◌, [], ◌∷◌, length, map, IfErr};
+ghost use Rattle.std.specs.Prelude.{◌<◌, [], ◌∷◌, length, map};
 ghost use Rattle.sqlite.specs.Held.{state};
-ghost use Rattle.sqlite.specs.State.{HasCleanDisk};
 ghost use Rattle.sqlite.specs.Values.{bound};
-ghost use Rattle.office_rows.specs.Statements.{statement_of, HasMet};
-ghost use Rattle.office_store.specs.Calls.{IsWrite};
+ghost use Rattle.office_rows.specs.Statements.{statement_of};
+ghost use Rattle.office_store.specs.Connections.{MeetsOnErr, Writes};
 ghost use Rattle.office_store.specs.Shown.{IsIdle};
 ghost use Rattle.office_store.specs.Steps.{statement, AreSteps};
 
@@ -14,15 +13,17 @@ use office_tables::StoreFault;
 use sqlite::types::ValueRef;
 use sqlite::{Alter, Connection};
 
-/// Runs the statements in one transaction: the tables are what all of them make of those that were shown, or as they were.
+/// Runs the statements in one transaction: the tables are what all of them make of those that were
+/// shown, or as they were.
 fn write<S: Alter>(
     conn: &mut Connection<S>,
     statements: &[Statement<'_, '_>],
 ) -> Result<(), StoreFault>
     requires idle { IsIdle (state S.Store conn.old) }
     requires some { 0 < length statements.now }
-    ensures write { IsWrite (state S.Store conn.old) (state S.Store conn.new) result (AreSteps S.Store (map statement_of statements.now)) }
-    ensures cause { HasCleanDisk (state S.Store conn.new) → IfErr result (HasMet S.Store (map statement_of statements.now) conn.old conn.new) }
+    ensures write { Writes S.Store conn.old conn.new result
+        (AreSteps S.Store (map statement_of statements.now)) }
+    ensures cause { MeetsOnErr S.Store conn.old conn.new (map statement_of statements.now) result }
 {
     match run_all(conn, statements) {
         Ok(()) => Ok(()),
@@ -37,8 +38,10 @@ pub(crate) fn write_one<'a, S: Alter>(
     params: &'a [ValueRef<'a>],
 ) -> Result<(), StoreFault>
     requires { IsIdle (state S.Store conn.old) }
-    ensures write { IsWrite (state S.Store conn.old) (state S.Store conn.new) result (AreSteps S.Store (statement first.now (bound params.now) ∷ [])) }
-    ensures cause { HasCleanDisk (state S.Store conn.new) → IfErr result (HasMet S.Store (statement first.now (bound params.now) ∷ []) conn.old conn.new) }
+    ensures write { Writes S.Store conn.old conn.new result
+        (AreSteps S.Store (statement first.now (bound params.now) ∷ [])) }
+    ensures cause { MeetsOnErr S.Store conn.old conn.new
+        (statement first.now (bound params.now) ∷ []) result }
 {
     write(conn, &[Statement { sql: first, params }])
 }
@@ -52,8 +55,12 @@ pub(crate) fn write_two<'a, S: Alter>(
     second_params: &'a [ValueRef<'a>],
 ) -> Result<(), StoreFault>
     requires { IsIdle (state S.Store conn.old) }
-    ensures write { IsWrite (state S.Store conn.old) (state S.Store conn.new) result (AreSteps S.Store (statement first.now (bound first_params.now) ∷ statement second.now (bound second_params.now) ∷ [])) }
-    ensures cause { HasCleanDisk (state S.Store conn.new) → IfErr result (HasMet S.Store (statement first.now (bound first_params.now) ∷ statement second.now (bound second_params.now) ∷ []) conn.old conn.new) }
+    ensures write { Writes S.Store conn.old conn.new result
+        (AreSteps S.Store (statement first.now (bound first_params.now)
+        ∷ statement second.now (bound second_params.now) ∷ [])) }
+    ensures cause { MeetsOnErr S.Store conn.old conn.new
+        (statement first.now (bound first_params.now)
+        ∷ statement second.now (bound second_params.now) ∷ []) result }
 {
     write(
         conn,

@@ -1,8 +1,10 @@
 -- What each write of a store leaves of the tables.
-use Rattle.std.specs.Prelude.{ℕ, List, true, false, ◌&&◌, ◌==◌, Some, None, option_map, if◌then◌else◌, bytes_eq}
+use Rattle.std.specs.Prelude.{ℕ, List, true, false, ◌&&◌, ◌==◌, Some, None, option_map}
+use Rattle.std.specs.Prelude.{if◌then◌else◌, bytes_eq}
 use Rattle.review_policy.specs.declared.ask.ProfileName.{ProfileName}
 use Rattle.review_policy.specs.declared.revision.State.{State}
-use Rattle.review_policy.specs.declared.revision.State.TheVariants.{Open, Closed, Issued, Replaced, Withdrawn}
+use Rattle.review_policy.specs.declared.revision.State.TheVariants.{Open, Closed, Issued, Replaced}
+use Rattle.review_policy.specs.declared.revision.State.TheVariants.{Withdrawn}
 use Rattle.office_tables.specs.declared.row.UserRow.{UserRow}
 use Rattle.office_tables.specs.declared.row.RevisionRow.{RevisionRow}
 use Rattle.office_tables.specs.Tables.{Tables, Vote, is_profile}
@@ -46,7 +48,10 @@ with_revision p r t = record t {
 -- a user's vote, in the place of any earlier one of that user there
 abbrev pub with_vote : ProfileName → ℕ → List ℕ → Vote → Tables → Tables
 with_vote p number voter v t = record t {
-  votes = λ q n name. if is_profile q p && (n == number) && bytes_eq name voter then Some v else t.votes q n name;
+  votes = λ q n name.
+      if is_profile q p && (n == number) && bytes_eq name voter
+      then Some v
+      else t.votes q n name;
 }
 
 -- a revision after another of its profile was issued
@@ -62,20 +67,28 @@ abbrev pub with_issued : ProfileName → ℕ → Tables → Tables
 with_issued p number t = record t {
   revisions = λ q n.
       if is_profile q p
-      then (if n == number then option_map (in_state Issued) (t.revisions q n) else option_map after_issue (t.revisions q n))
+      then (if n == number
+      then option_map (in_state Issued) (t.revisions q n)
+      else option_map after_issue (t.revisions q n))
       else t.revisions q n;
 }
 
 -- a revision is withdrawn
 abbrev pub with_withdrawn : ProfileName → ℕ → Tables → Tables
 with_withdrawn p number t = record t {
-  revisions = λ q n. if is_profile q p && (n == number) then option_map (in_state Withdrawn) (t.revisions q n) else t.revisions q n;
+  revisions = λ q n.
+      if is_profile q p && (n == number)
+      then option_map (in_state Withdrawn) (t.revisions q n)
+      else t.revisions q n;
 }
 
 -- a team's baseline, in the place of any earlier one
 abbrev pub with_baseline : ProfileName → ℕ → Tables → Tables
 with_baseline p number t = record t {
-  baselines = λ team. if bytes_eq team p.team then Some (record { profile = p.profile; number = number }) else t.baselines team;
+  baselines = λ team.
+      if bytes_eq team p.team
+      then Some (record { profile = p.profile; number = number })
+      else t.baselines team;
 }
 
 -- a profile is held

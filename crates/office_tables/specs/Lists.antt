@@ -63,8 +63,8 @@ abbrev pub holds_role : Option UserRow → Role → Bool
 holds_role None role = false
 holds_role (Some u) role = has_role u.roles role
 
--- a vote as it stands by the present row of its voter: it counts while that is a reviewer, and it has security where it
--- counts and the voter held that role at the vote and holds it now
+-- a vote as it stands by the present row of its voter: it counts while that is a reviewer, and it
+-- has security where it counts and the voter held that role at the vote and holds it now
 abbrev pub standing_vote : List ℕ → Vote → Option UserRow → VoteRow
 standing_vote voter v user = record {
   voter = voter;
@@ -80,7 +80,8 @@ pub record IsStanding (t : Tables) (p : ProfileName) (number : ℕ) (row : VoteR
   pub stands : row ≡ standing_vote row.voter vote (t.users row.voter)
 
 -- the standing votes on a revision, one for each voter, by name
-pub record AreStanding (t : Tables) (p : ProfileName) (number : ℕ) (rows : List VoteRow) : Type 0 where
+pub record AreStanding (t : Tables) (p : ProfileName) (number : ℕ)
+    (rows : List VoteRow) : Type 0 where
   pub rising : AllPairs (λ (a b : VoteRow). name_cmp a.voter b.voter ≡ Less) rows
   pub each : (row : VoteRow) → Contains rows row → IsStanding t p number row
   pub all : (row : VoteRow) → IsStanding t p number row → Contains rows row

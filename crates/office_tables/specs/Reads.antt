@@ -9,13 +9,15 @@ use Rattle.office_tables.specs.Changes.{with_revision}
 
 -- a user who shows this digest, or that there is none
 abbrev pub IsUserShowing : Tables → List ℕ → Option UserRow → Type 0
-IsUserShowing t digest None = (name : List ℕ) (u : UserRow) → t.users name ≡ Some u → u.digest ≢ digest
+IsUserShowing t digest None =
+    (name : List ℕ) (u : UserRow) → t.users name ≡ Some u → u.digest ≢ digest
 IsUserShowing t digest (Some u) = (t.users u.name ≡ Some u) × (u.digest ≡ digest)
 
 -- the revision of a profile with the greatest number, or that there is none
 abbrev pub IsLast : Tables → ProfileName → Option RevisionRow → Type 0
 IsLast t p None = (n : ℕ) → t.revisions p n ≡ None
-IsLast t p (Some r) = (t.revisions p r.number ≡ Some r) × ((n : ℕ) → r.number < n → t.revisions p n ≡ None)
+IsLast t p (Some r) =
+    (t.revisions p r.number ≡ Some r) × ((n : ℕ) → r.number < n → t.revisions p n ≡ None)
 
 -- a revision of the profile that is issued, or that there is none
 abbrev pub IsIssued : Tables → ProfileName → Option RevisionRow → Type 0
@@ -30,7 +32,8 @@ pub record HasRevision (t : Tables) (p : ProfileName) : Type 0 where
 
 -- a revision that is submitted
 abbrev pub submitted : ℕ → List ℕ → List ℕ → List ℕ → RevisionRow
-submitted number author body digest = record { number = number; author = author; state = Open; body = body; digest = digest }
+submitted number author body digest =
+    record { number = number; author = author; state = Open; body = body; digest = digest }
 
 -- a revision is added, whose number is free
 abbrev pub Adds : ProfileName → RevisionRow → Tables → Tables → Type 0

@@ -8,12 +8,14 @@ use std::alloc::AllocError;
 use std::error::Error;
 use std::fmt;
 
-/// Why a store gives no answer. Where the store is still open, its tables are as they were. Its text is one word.
+/// Why a store gives no answer. Where the store is still open, its tables are as they were. Its
+/// text is one word.
 #[derive(Clone, Copy, Debug, Drop, PartialEq, Eq)]
 pub enum StoreFault {
     /// There was no memory. No contract can say when: it may stand in place of any answer.
     NoMemory,
-    /// The disk failed, or the store refused a call for another cause, as a second row under one key.
+    /// The disk failed, or the store refused a call for another cause, as a second row under one
+    /// key.
     Disk,
     /// The disk is full, or a value is too big for it.
     Full,

@@ -1,11 +1,12 @@
 // Exchanges over HTTP.
 
-mod clock;
+pub(crate) mod clock;
 mod deadlines;
 mod limits;
 mod loopback;
 mod memory;
 pub(crate) mod messages;
+mod queue;
 mod review;
 mod stops;
 mod trial;

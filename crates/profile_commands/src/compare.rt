@@ -3,7 +3,8 @@
 ghost use Rattle.std.specs.Prelude.{◌≡◌, ◌^◌, ◌≤◌, IfErr, IfOk, IfSome, string_bytes};
 ghost use Rattle.review_sheet.specs.Review.{findings_text};
 ghost use Rattle.widening.specs.Findings.{findings_of};
-ghost use Rattle.profile_commands.specs.Comparing.{AgreesWithBase, AgreesWithNew, IsBase, IsCompared, IsNew, HidesNoMemory};
+ghost use Rattle.profile_commands.specs.Comparing.{AgreesWithBase, AgreesWithNew, IsBase};
+ghost use Rattle.profile_commands.specs.Comparing.{IsCompared, IsNew, HidesNoMemory};
 
 use crate::document::read_document;
 use crate::fault::FileFault;
@@ -73,14 +74,15 @@ fn compared_text(alloc: Global, base: &Profile, new: &Profile) -> Result<String,
     findings_text(alloc, found.as_slice())
 }
 
-/// What the document in NEW permits more than that in BASE: a line for each finding, in order, in the words of a review
-/// sheet. The text is empty where nothing is more permissive.
+/// What the document in NEW permits more than that in BASE: a line for each finding, in order, in
+/// the words of a review sheet. The text is empty where nothing is more permissive.
 ///
 /// BASE is read first, and NEW isn't where BASE is refused.
 ///
 /// # Errors
 ///
-/// Those of `read_document`, each reported of the document that it is of, but out of memory of neither.
+/// Those of `read_document`, each reported of the document that it is of, but out of memory of
+/// neither.
 pub fn compare_documents<R: Read, S: Read>(
     alloc: Global,
     base: &mut Counted<R>,

@@ -15,8 +15,8 @@ use streams::Counted;
 ///
 /// # Errors
 ///
-/// `Unread` with `Failed`, with `TooManyReads` after 600,000 calls of read, or with `NoMemory`; `Document` with the first
-/// fault of what is no document.
+/// `Unread` with `Failed`, with `TooManyReads` after 600,000 calls of read, or with `NoMemory`;
+/// `Document` with the first fault of what is no document.
 pub fn read_document<R: Read>(alloc: Global, reader: &mut Counted<R>) -> Result<Document, FileFault>
     requires calls { reader.old.calls ≤ 2 ^ 62 }
     requires faults { reader.old.faults ≤ 2 ^ 62 }

@@ -5,14 +5,16 @@ use std::alloc::AllocError;
 use streams::Unread;
 use thiserror::Error;
 
-/// Why a command on a document in a file gave nothing, with the words that the program says on standard error.
+/// Why a command on a document in a file gave nothing, with the words that the program says on
+/// standard error.
 #[derive(Debug, Drop, Error)]
 pub enum FileFault {
-    /// The file wasn't read: why. `NoMemory` is also answered where memory was refused later, and may stand in place of
-    /// any answer.
+    /// The file wasn't read: why. `NoMemory` is also answered where memory was refused later, and
+    /// may stand in place of any answer.
     #[error("{0}")]
     Unread(Unread),
-    /// The bytes of the file are no document: the first fault that they have, which is never out of memory.
+    /// The bytes of the file are no document: the first fault that they have, which is never out of
+    /// memory.
     #[error("{0}")]
     Document(DocFault),
 }

@@ -14,8 +14,8 @@ pub(crate) const MOST_BYTES: usize = 262_145;
 /// How often the reader of a file is called at most.
 pub(crate) const MOST_READS: u64 = 600_000;
 
-/// Reads a file to its end, or its first 262,145 bytes where it has more, in at most 600,000 calls. An interrupted read
-/// is made again.
+/// Reads a file to its end, or its first 262,145 bytes where it has more, in at most 600,000 calls.
+/// An interrupted read is made again.
 pub(crate) fn file_bytes<R: Read>(alloc: Global, reader: &mut Counted<R>) -> Result<Vec<u8>, Unread>
     requires calls { reader.old.calls ≤ 2 ^ 62 }
     requires faults { reader.old.faults ≤ 2 ^ 62 }

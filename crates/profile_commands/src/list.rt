@@ -17,8 +17,8 @@ fn with_named(caps: Caps, name: &str) -> Option<Caps>
     }
 }
 
-/// The set that a LIST writes: names of capabilities joined by commas, each any number of times. None where a part
-/// between commas is no such name, so also for the empty text.
+/// The set that a LIST writes: names of capabilities joined by commas, each any number of times.
+/// None where a part between commas is no such name, so also for the empty text.
 pub fn set_listed(list: &str) -> Option<Caps>
     ensures { result ≡ set_listed list.now }
 {

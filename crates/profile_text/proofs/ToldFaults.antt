@@ -23,7 +23,7 @@ use Rattle.profile_text.specs.Shape.{Row, Shape, below, items_faults, list_fault
 use Rattle.profile_text.specs.State.{state_of}
 use Rattle.profile_text.specs.Text.{text_of}
 
--- a fault that isn't want of memory
+-- a fault other than out of memory
 abbrev IsFilterFault : FilterFault → Type 0
 IsFilterFault filter_faults.NoMemory = ⊥
 IsFilterFault _ = Unit {0}

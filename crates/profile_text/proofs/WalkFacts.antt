@@ -1,12 +1,13 @@
 -- Steps of the walk.
-use Rattle.std.proofs.Common.{◌≡◌, ◌∙◌, ℕ, ◌+◌, ◌<◌, ◌≤◌, List, [], ◌∷◌, ◌++◌, length, get_or, drop, Option, Some, None, option_map, Ok, Err, refl, ap}
+use Rattle.std.proofs.Common.{◌≡◌, ◌∙◌, ℕ, ◌+◌, ◌<◌, ◌≤◌, List, [], ◌∷◌, ◌++◌, length, map, get_or, drop, Option, Some, None, option_map, Ok, Err, refl, ap}
 use Rattle.std.proofs.lemmas.List.{drop_more, drop_all, append-nil}
-use Rattle.std.specs.Prelude.{decimal, String, string_bytes}
-use Rattle.std.specs.declared.alloc.Global.{Global}
+use Rattle.std.specs.Borrow.{Bor}
+use Rattle.std.specs.Prelude.{decimal}
 use Rattle.std.specs.Int.RustNames.{bit_or}
 use Rattle.serde_json.specs.Data.{Data, string, Members}
-use Rattle.serde_json.specs.View.{view, items_view, members_view}
-use Rattle.serde_json.specs.declared.value.Value.{Value}
+use Rattle.serde_json.specs.View.{items_of}
+use Rattle.json_tree.specs.View.{view, items_view, members_view}
+use Rattle.json_tree.specs.declared.tree.Tree.{Tree}
 use Rattle.cap_sets.specs.Capability.{number_named, single}
 use Rattle.profile_text.specs.declared.fault.DocFault.{DocFault}
 use Rattle.profile_text.specs.declared.fault.DocFault.TheVariants.{UnknownWord}
@@ -37,27 +38,28 @@ pub cap_unnamed : (path : List ℕ) (s : List ℕ) → option_map single (number
 cap_unnamed path s e = cap_unnamed_by path s (number_named s) refl e
 
 -- the item at a place, and then the others
-pub items_more : (shape : Shape) (path : List ℕ) (values : List Value) (i : ℕ) (v : Value) → i < length values → v ≡ get_or values i v
+pub items_more : (shape : Shape) (path : List ℕ) (values : List Tree) (i : ℕ) (v : Tree) → i < length values → v ≡ get_or values i v
     → items_faults shape path i (items_view (drop i values)) ≡ shape (below path (decimal i)) (view v) ++ items_faults shape path (i + 1) (items_view (drop (i + 1) values))
 unfolding items_faults
 items_more shape path values i v lt at = rw (drop_more values i v lt, ← at) refl
 
-pub items_end : (shape : Shape) (path : List ℕ) (values : List Value) (i : ℕ) → length values ≤ i → items_faults shape path i (items_view (drop i values)) ≡ []
+pub items_end : (shape : Shape) (path : List ℕ) (values : List Tree) (i : ℕ) → length values ≤ i → items_faults shape path i (items_view (drop i values)) ≡ []
 unfolding items_faults
 items_end shape path values i ge = rw (drop_all i values ge) refl
 
-pub caps_more : (values : List Value) (i : ℕ) (v : Value) → i < length values → v ≡ get_or values i v
-    → caps_of (items_view (drop i values)) ≡ bit_or (cap_of (view v)) (caps_of (items_view (drop (i + 1) values)))
+-- the capabilities of a list, whatever its values are seen as
+pub caps_more : {X : Type 0} (seen : X → Data) (values : List X) (i : ℕ) (v : X) → i < length values → v ≡ get_or values i v
+    → caps_of (items_of (map seen (drop i values))) ≡ bit_or (cap_of (seen v)) (caps_of (items_of (map seen (drop (i + 1) values))))
 unfolding caps_of
-caps_more values i v lt at = rw (drop_more values i v lt, ← at) refl
+caps_more seen values i v lt at = rw (drop_more values i v lt, ← at) refl
 
-pub caps_end : (values : List Value) (i : ℕ) → length values ≤ i → caps_of (items_view (drop i values)) ≡ 0
+pub caps_end : {X : Type 0} (seen : X → Data) (values : List X) (i : ℕ) → length values ≤ i → caps_of (items_of (map seen (drop i values))) ≡ 0
 unfolding caps_of
-caps_end values i ge = rw (drop_all i values ge) refl
+caps_end seen values i ge = rw (drop_all i values ge) refl
 
 -- a member, and then the others
-pub members_more : (rows : List Row) (path : List ℕ) (name : String Global) (v : Value) (rest : List (String Global × Value)) →
-    members_faults rows path (members_view ((name, v) ∷ rest)) ≡ row_faults (row_named rows (string_bytes name)) (below path (string_bytes name)) (view v) ++ members_faults rows path (members_view rest)
+pub members_more : (rows : List Row) (path : List ℕ) (name : Bor (List ℕ)) (v : Tree) (rest : List (Bor (List ℕ) × Tree)) →
+    members_faults rows path (members_view ((name, v) ∷ rest)) ≡ row_faults (row_named rows name.now) (below path name.now) (view v) ++ members_faults rows path (members_view rest)
 unfolding members_faults
 members_more rows path name v rest = refl
 
@@ -66,9 +68,9 @@ unfolding members_faults
 members_end rows path = refl
 
 -- a member of `capabilities`, and then the others
-pub caps_members_more : (path : List ℕ) (name : String Global) (v : Value) (rest : List (String Global × Value)) →
-    members_faults caps_rows path (members_view ((name, v) ∷ rest)) ≡ row_faults (option_map caps_row (set_named (string_bytes name))) (below path (string_bytes name)) (view v) ++ members_faults caps_rows path (members_view rest)
-caps_members_more path name v rest = members_more caps_rows path name v rest ∙ ap (λ row. row_faults row (below path (string_bytes name)) (view v) ++ members_faults caps_rows path (members_view rest)) (row_is (string_bytes name))
+pub caps_members_more : (path : List ℕ) (name : Bor (List ℕ)) (v : Tree) (rest : List (Bor (List ℕ) × Tree)) →
+    members_faults caps_rows path (members_view ((name, v) ∷ rest)) ≡ row_faults (option_map caps_row (set_named name.now)) (below path name.now) (view v) ++ members_faults caps_rows path (members_view rest)
+caps_members_more path name v rest = members_more caps_rows path name v rest ∙ ap (λ row. row_faults row (below path name.now) (view v) ++ members_faults caps_rows path (members_view rest)) (row_is name.now)
 
 -- the set of a member of `capabilities`
 pub sets_with_ok : (path : List ℕ) (set : CapSet) (d : Data) (sets : Sets) (caps : ℕ) → unless_faulty (set_faults path d) (set_of d) ≡ Ok caps

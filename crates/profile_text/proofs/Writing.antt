@@ -1,94 +1,23 @@
--- Tokens that are written one after another.
-use Rattle.std.proofs.Common.{◌≡◌, ◌≢◌, ◌∙◌, ℕ, ◌+◌, ◌<◌, ◌≤◌, List, [], ◌∷◌, ◌++◌, length, get_or, drop, map, Option, Some, None, Result, Ok, Err, refl, sym, ap, append_assoc, append-nil, arith, eqb-true, Bool, true, false}
-use Rattle.std.proofs.lemmas.List.{drop_more, drop_all}
-use Rattle.std.specs.Prelude.{OnOk, flat_map, ◌==◌}
+-- Texts of profiles that are written token by token.
+use Rattle.std.proofs.Common.{◌≡◌, ◌≢◌, ◌∙◌, ℕ, List, [], ◌∷◌, ◌++◌, length, map, Option, Some, None, refl, sym, ap, arith, eqb-true, Bool, true, false}
+use Rattle.std.specs.Prelude.{◌==◌}
 use Rattle.json.specs.Print.{print}
 use Rattle.json.specs.Token.{Token}
-use Rattle.json.specs.Tree.{items_tokens, members_tokens}
-use Rattle.json.specs.Written.{Written, Writes}
+use Rattle.json.specs.Tree.{members_tokens}
+use Rattle.json.specs.Written.{Written}
 use Rattle.serde_json.proofs.Texts.{print-outline}
-use Rattle.serde_json.specs.Data.{Data, array, Members}
-use Rattle.serde_json.specs.View.{items_of}
-use Rattle.serde_json.specs.Written.{items_outline, members_outline}
+use Rattle.serde_json.specs.Data.{Data, Members}
+use Rattle.serde_json.specs.Written.{members_outline}
+use Rattle.json_tree.specs.Tokens.{Appends, member_tokens, tokens_of}
+use Rattle.json_tree.proofs.Writing.{all_tokens, list_tokens}
 use Rattle.profile_text.specs.declared.profile.Profile.{Profile}
 use Rattle.profile_text.specs.Text.{member_if, profile_data, some_list, text_of}
-use Rattle.profile_text.specs.Tokens.{Appends, member_tokens, tokens_of}
-
--- ---- one write after another
-
-pub nothing : (a : Written) → Appends a a []
-nothing a = record { before = refl; tokens = sym (append-nil a.tokens) }
-
-pub after : {a b c : Written} {xs ys : List Token} → Appends a b xs → Appends b c ys → Appends a c (xs ++ ys)
-after {a} {b} {c} {xs} {ys} p q = record {
-  before = q.before ∙ p.before;
-  tokens = q.tokens ∙ ap (λ ts. ts ++ ys) p.tokens ∙ append_assoc a.tokens xs ys;
-}
-
--- a token was written
-pub wrote : {E : Type 0} {u : Unit {0}} {a b : Written} {t : Token} → Writes {E = E} (Ok u) a b t → Appends a b (t ∷ [])
-wrote w = record { before = w.room.0; tokens = w.ok }
-
--- the last call, which may have failed
-pub last : {E : Type 0} (r : Result (Unit {0}) E) {a b : Written} {t : Token} → Writes r a b t → OnOk r (Appends a b (t ∷ []))
-last (Ok u) w = record { before = w.room.0; tokens = w.ok }
-last (Err e) w = tt
-
-pub after_last : {E : Type 0} (r : Result (Unit {0}) E) {a b : Written} (c : Written) {xs : List Token} (ys : List Token) → Appends a b xs → OnOk r (Appends b c ys) → OnOk r (Appends a c (xs ++ ys))
-after_last (Ok u) c ys p q = after p q
-after_last (Err e) c ys p q = tt
 
 -- ---- members of an object
 
 pub member_first : (name : List ℕ) (o : Option Data) (rest : Members) → members_tokens (members_outline (member_if name o rest)) ≡ member_tokens name o ++ members_tokens (members_outline rest)
 member_first name None rest = refl
 member_first name (Some d) rest = refl
-
--- ---- the items of a list
-
-abbrev pub all_tokens : {X : Type 0} → (X → Data) → List X → List Token
-all_tokens shown xs = flat_map (λ x. tokens_of (shown x)) xs
-
--- of all that is to be written, this is left
-pub record Leaves {X : Type 0} (shown : X → Data) (all left : List X) (a b : Written) : Type 0 where
-  pub before : b.before ≡ a.before
-  pub tokens : b.tokens ++ all_tokens shown left ≡ a.tokens ++ all_tokens shown all
-
-pub leaves_all : {X : Type 0} (shown : X → Data) (all left : List X) (a : Written) → left ≡ all → Leaves shown all left a a
-leaves_all shown all left a is = record { before = refl; tokens = ap (λ xs. a.tokens ++ all_tokens shown xs) is }
-
-pub leaves_rest : {X : Type 0} {shown : X → Data} {all left : List X} {a b c : Written} (x : X) (rest : List X) → Leaves shown all left a b → left ≡ x ∷ rest → Appends b c (tokens_of (shown x)) → Leaves shown all rest a c
-leaves_rest {X} {shown} {all} {left} {a} {b} {c} x rest before is more = record {
-  before = more.before ∙ before.before;
-  tokens =
-      ap (λ ts. ts ++ all_tokens shown rest) more.tokens
-      ∙ append_assoc b.tokens (tokens_of (shown x)) (all_tokens shown rest)
-      ∙ ap (λ xs. b.tokens ++ all_tokens shown xs) (sym is)
-      ∙ before.tokens;
-}
-
-pub leaves_none : {X : Type 0} {shown : X → Data} {all left : List X} {a b : Written} → Leaves shown all left a b → left ≡ [] → Appends a b (all_tokens shown all)
-leaves_none {X} {shown} {all} {left} {a} {b} before is = record {
-  before = before.before;
-  tokens = sym (append-nil b.tokens) ∙ ap (λ xs. b.tokens ++ all_tokens shown xs) (sym is) ∙ before.tokens;
-}
-
--- the same of the items of a slice, from a position on
-pub item_written : {X : Type 0} {shown : X → Data} {a b c : Written} (xs : List X) (i : ℕ) (d x : X) → i < length xs → x ≡ get_or xs i d
-    → Leaves shown xs (drop i xs) a b → Appends b c (tokens_of (shown x)) → Leaves shown xs (drop (i + 1) xs) a c
-item_written {X} {shown} {a} {b} {c} xs i d x lt at before more =
-    let here : drop i xs ≡ x ∷ drop (i + 1) xs = rw (drop_more xs i d lt, ← at) refl in
-    leaves_rest x (drop (i + 1) xs) before here more
-
-pub items_written : {X : Type 0} {shown : X → Data} {a b : Written} (xs : List X) (i : ℕ) → length xs ≤ i → Leaves shown xs (drop i xs) a b → Appends a b (all_tokens shown xs)
-items_written xs i ge before = leaves_none before (drop_all i xs ge)
-
-items_end : {X : Type 0} (shown : X → Data) (xs : List X) → items_tokens (items_outline (items_of (map shown xs))) ≡ all_tokens shown xs ++ Token.end_array ∷ []
-items_end shown [] = refl
-items_end shown (x ∷ xs) = rw (items_end shown xs) (sym (append_assoc (tokens_of (shown x)) (all_tokens shown xs) (Token.end_array ∷ [])))
-
-pub list_tokens : {X : Type 0} (shown : X → Data) (xs : List X) → tokens_of (array (items_of (map shown xs))) ≡ Token.begin_array ∷ (all_tokens shown xs ++ Token.end_array ∷ [])
-list_tokens shown xs = ap (λ ts. Token.begin_array ∷ ts) (items_end shown xs)
 
 -- a member that is a list, unless it is empty
 pub some_tokens : {X : Type 0} (name : List ℕ) (shown : X → Data) (xs : List X) → length xs ≢ 0

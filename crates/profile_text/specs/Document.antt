@@ -6,7 +6,8 @@ use Rattle.profile_text.specs.declared.fault.DocFault.{DocFault}
 use Rattle.profile_text.specs.declared.fault.DocFault.TheVariants.{WrongShape}
 use Rattle.profile_text.specs.declared.sets.CapSet.{CapSet}
 use Rattle.profile_text.specs.Sets.{set_name, cap_sets}
-use Rattle.profile_text.specs.Shape.{Shape, Row, word_faults, list_faults, optional_faults, object_faults}
+use Rattle.profile_text.specs.Shape.{Shape, Row, word_faults, list_faults, optional_faults}
+use Rattle.profile_text.specs.Shape.{object_faults}
 use Rattle.profile_text.specs.FilterShape.{seccomp_faults}
 
 -- the name of a capability

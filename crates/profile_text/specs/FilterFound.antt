@@ -1,5 +1,6 @@
 -- What the members of the objects of a filter give, one after another.
-use Rattle.std.specs.Prelude.{ℕ, List, if◌then◌else◌, Option, Some, option_map, bytes_eq, codes, map, string_bytes}
+use Rattle.std.specs.Prelude.{ℕ, List, if◌then◌else◌, Option, Some, option_map, bytes_eq, codes}
+use Rattle.std.specs.Prelude.{map, string_bytes}
 use Rattle.std.specs.Option.{option_map_or}
 use Rattle.serde_json.specs.Data.{Data, Members}
 use Rattle.seccomp_doc.specs.declared.action.ActionWord.{ActionWord}
@@ -8,7 +9,8 @@ use Rattle.seccomp_doc.specs.Parts.{EntryPartsValue}
 use Rattle.profile_text.specs.declared.argument.FoundArg.{FoundArg}
 use Rattle.profile_text.specs.declared.entry.FoundEntry.{FoundEntry}
 use Rattle.profile_text.specs.declared.filter.FoundFilter.{FoundFilter}
-use Rattle.profile_text.specs.FilterParts.{whole_number, number_in, action_in, op_in, string_in, list_as, list_at, member_as, number_at, arg_in, entry_in}
+use Rattle.profile_text.specs.FilterParts.{whole_number, number_in, action_in, op_in, string_in}
+use Rattle.profile_text.specs.FilterParts.{list_as, list_at, member_as, number_at, arg_in, entry_in}
 use Rattle.profile_text.specs.Shape.{member_of}
 
 -- ---- a comparison
@@ -91,9 +93,11 @@ filter_found ms = record {
 
 abbrev pub filter_found_with : List ℕ → Data → FilterMembers → FilterMembers
 filter_found_with name d found = record {
-  architectures = if bytes_eq name (codes "architectures") then list_as string_in d else found.architectures;
+  architectures =
+      if bytes_eq name (codes "architectures") then list_as string_in d else found.architectures;
   default = if bytes_eq name (codes "defaultAction") then Some (action_in d) else found.default;
-  default_errno = if bytes_eq name (codes "defaultErrnoRet") then whole_number d else found.default_errno;
+  default_errno =
+      if bytes_eq name (codes "defaultErrnoRet") then whole_number d else found.default_errno;
   flags = if bytes_eq name (codes "flags") then list_as string_in d else found.flags;
   entries = if bytes_eq name (codes "syscalls") then list_as entry_in d else found.entries;
 }

@@ -1,8 +1,10 @@
--- The parts of a filter that a document names. A value that isn't of the shape that its place asks for has a fault, and
--- what stands here for it is never told.
-use Rattle.std.specs.Prelude.{ℕ, ◌^◌, List, [], ◌∷◌, nat_lt, if◌then◌else◌, Option, Some, None, option_map, unwrap_or, codes}
+-- The parts of a filter that a document names. A value that isn't of the shape that its place asks
+-- for has a fault, and what stands here for it is never told.
+use Rattle.std.specs.Prelude.{ℕ, ◌^◌, List, [], ◌∷◌, nat_lt, if◌then◌else◌, Option, Some, None}
+use Rattle.std.specs.Prelude.{option_map, unwrap_or, codes}
 use Rattle.std.specs.Option.{option_map_or}
-use Rattle.serde_json.specs.Data.{Num, unsigned, negative, float, Data, null, boolean, number, string, array, object, Items, no_items, item, Members}
+use Rattle.serde_json.specs.Data.{Num, unsigned, negative, float, Data, null, boolean, number}
+use Rattle.serde_json.specs.Data.{string, array, object, Items, no_items, item, Members}
 use Rattle.seccomp_doc.specs.declared.action.ActionWord.{ActionWord}
 use Rattle.seccomp_doc.specs.declared.action.ActionWord.TheVariants.{KillProcess}
 use Rattle.seccomp_doc.specs.declared.compare.Op.{Op}

@@ -1,8 +1,10 @@
--- What `seccomp` stands for: relations between JSON values and the parts of a filter. Nothing is walked here, and no
--- fault of a walk is named.
-use Rattle.std.specs.Prelude.{◌≡◌, ℕ, List, [], ◌∷◌, Bool, true, Option, Some, None, bytes_eq, codes, ⊤}
+-- What `seccomp` stands for: relations between JSON values and the parts of a filter. Nothing is
+-- walked here, and no fault of a walk is named.
+use Rattle.std.specs.Prelude.{◌≡◌, ℕ, List, [], ◌∷◌, Bool, true, Option, Some, None, bytes_eq}
+use Rattle.std.specs.Prelude.{codes, ⊤}
 use Rattle.std.specs.List.{list_any}
-use Rattle.serde_json.specs.Data.{Data, null, boolean, number, string, array, object, Items, no_items, item, Members, no_members, member}
+use Rattle.serde_json.specs.Data.{Data, null, boolean, number, string, array, object, Items}
+use Rattle.serde_json.specs.Data.{no_items, item, Members, no_members, member}
 use Rattle.seccomp_doc.specs.declared.action.ActionWord.{ActionWord}
 use Rattle.seccomp_doc.specs.declared.compare.Op.{Op}
 use Rattle.seccomp_doc.specs.declared.parts.ArgParts.{ArgParts}
@@ -175,7 +177,9 @@ IsEntry (string s) e = ⊥
 IsEntry (array ds) e = ⊥
 
 abbrev pub seccomp_names : List (List ℕ)
-seccomp_names = codes "architectures" ∷ codes "defaultAction" ∷ codes "defaultErrnoRet" ∷ codes "flags" ∷ codes "syscalls" ∷ []
+seccomp_names =
+    codes "architectures" ∷ codes "defaultAction" ∷ codes "defaultErrnoRet" ∷ codes "flags"
+    ∷ codes "syscalls" ∷ []
 
 pub record IsSeccompMember (name : List ℕ) (d : Data) : Type 0 where
   pub known : IsOneOf seccomp_names name
@@ -187,9 +191,12 @@ pub record IsSeccompMember (name : List ℕ) (d : Data) : Type 0 where
 
 pub record MembersAreFilter (ms : Members) (p : FilterPartsValue) : Type 0 where
   pub members : AllMembers IsSeccompMember ms
-  pub architectures : Optional (IsListOrNull (IsTextOf is_arch)) [] (member_of (codes "architectures") ms) p.architectures
+  pub architectures :
+      Optional (IsListOrNull (IsTextOf is_arch)) [] (member_of (codes "architectures") ms)
+      p.architectures
   pub default : Required IsAction (member_of (codes "defaultAction") ms) p.default
-  pub default_errno : Optional IsNumberOrNull None (member_of (codes "defaultErrnoRet") ms) p.default_errno
+  pub default_errno :
+      Optional IsNumberOrNull None (member_of (codes "defaultErrnoRet") ms) p.default_errno
   pub flags : Optional (IsListOrNull (IsTextOf is_flag)) [] (member_of (codes "flags") ms) p.flags
   pub entries : Optional (IsListOrNull IsEntry) [] (member_of (codes "syscalls") ms) p.entries
 
@@ -214,4 +221,5 @@ Makes (Some p) filter = (fault_of p ≡ None) × (filter ≡ Some (filter_of p))
 
 -- the member stands for the filter; an absent one for none
 abbrev pub StandsForFilter : Option Data → Option FilterValue → Type 0
-StandsForFilter found filter = (p : Option FilterPartsValue) × Optional IsSeccomp None found p × Makes p filter
+StandsForFilter found filter =
+    (p : Option FilterPartsValue) × Optional IsSeccomp None found p × Makes p filter

@@ -1,12 +1,15 @@
--- The members that the objects of a filter may have: Seccomp in config-linux.md of the OCI Runtime Specification.
-use Rattle.std.specs.Prelude.{ℕ, List, [], ◌∷◌, Bool, true, false, if◌then◌else◌, is_some, bytes_eq, codes}
+-- The members that the objects of a filter may have: Seccomp in config-linux.md of the OCI Runtime
+-- Specification.
+use Rattle.std.specs.Prelude.{ℕ, List, [], ◌∷◌, Bool, true, false, if◌then◌else◌, is_some, bytes_eq}
+use Rattle.std.specs.Prelude.{codes}
 use Rattle.serde_json.specs.Data.{Data, null, boolean, number, string, array, object}
 use Rattle.seccomp_doc.specs.Action.{action_word_named}
 use Rattle.seccomp_doc.specs.Compare.{op_named}
 use Rattle.seccomp_doc.specs.Word.{is_arch, is_flag}
 use Rattle.profile_text.specs.declared.fault.DocFault.TheVariants.{WrongShape, BadNumber}
 use Rattle.profile_text.specs.FilterParts.{u64_of}
-use Rattle.profile_text.specs.Shape.{Shape, Row, word_faults, list_faults, optional_faults, refused_faults, object_faults}
+use Rattle.profile_text.specs.Shape.{Shape, Row, word_faults, list_faults, optional_faults}
+use Rattle.profile_text.specs.Shape.{refused_faults, object_faults}
 
 -- a whole number from 0 to 2^64 - 1
 unfoldable pub number_faults : Shape
@@ -39,7 +42,8 @@ is_notify (object ms) = false
 
 -- an action
 unfoldable pub action_faults : Shape
-action_faults path d = if is_notify d then refused_faults path d else word_faults is_action_name path d
+action_faults path d =
+    if is_notify d then refused_faults path d else word_faults is_action_name path d
 
 -- the name of an operator
 abbrev pub is_op_name : List ℕ → Bool

@@ -2,7 +2,6 @@ pub mod Profile
 pub mod Digest
 pub mod FaultText
 pub mod Text
-pub mod Tokens
 pub mod Shape
 pub mod FilterParts
 pub mod FilterShape

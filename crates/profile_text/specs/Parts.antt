@@ -1,5 +1,6 @@
 -- The parts that a document names: five sets, and those of a filter.
-use Rattle.std.specs.Prelude.{ℕ, List, Some, None, option_map, unwrap_or, bytes_eq, codes, if◌then◌else◌}
+use Rattle.std.specs.Prelude.{ℕ, List, Some, None, option_map, unwrap_or, bytes_eq, codes}
+use Rattle.std.specs.Prelude.{if◌then◌else◌}
 use Rattle.std.specs.Option.{option_map_or}
 use Rattle.serde_json.specs.Data.{Data, null, boolean, number, string, array, object, Members}
 use Rattle.profile_text.specs.declared.document.Found.{Found}

@@ -14,7 +14,11 @@ no_caps = record {
   inheritable = 0;
   bounding = 0;
   ambient = 0;
-  lawful = record { effective_permitted = λ n h. h; ambient_permitted = λ n h. h; ambient_inheritable = λ n h. h };
+  lawful = record {
+    effective_permitted = λ n h. h;
+    ambient_permitted = λ n h. h;
+    ambient_inheritable = λ n h. h;
+  };
 }
 
 -- the profile that permits nothing: no capability, and each call ends the process
@@ -23,7 +27,8 @@ closed_profile = record { caps = no_caps; filter = Some (only_default KillProces
 
 -- the capabilities that a state has in any of its five sets
 abbrev pub all_sets : CapState → ℕ
-all_sets s = bit_or s.effective (bit_or s.permitted (bit_or s.inheritable (bit_or s.bounding s.ambient)))
+all_sets s =
+    bit_or s.effective (bit_or s.permitted (bit_or s.inheritable (bit_or s.bounding s.ambient)))
 
 -- the listed capabilities that a profile has in any set
 abbrev pub listed_in : ℕ → Profile → ℕ

@@ -1,5 +1,6 @@
 -- What bytes read as: a profile, or the first fault.
-use Rattle.std.specs.Prelude.{◌≡◌, ◌⊎◌, ℕ, List, [], ◌∷◌, length, nat_lt, if◌then◌else◌, Option, Some, None, Result, Ok, Err, string_bytes}
+use Rattle.std.specs.Prelude.{◌≡◌, ◌⊎◌, ℕ, List, [], ◌∷◌, length, nat_lt, if◌then◌else◌, Option}
+use Rattle.std.specs.Prelude.{Some, None, Result, Ok, Err, string_bytes}
 use Rattle.std.specs.Str.{is_utf8}
 use Rattle.serde_json.specs.Data.{Data}
 use Rattle.serde_json.specs.Read.{read}
@@ -11,7 +12,8 @@ use Rattle.seccomp_doc.specs.Parts.{FilterPartsValue, filter_of}
 use Rattle.seccomp_doc.specs.Checks.{fault_of}
 use Rattle.profile_text.specs.declared.document.Document.{Document}
 use Rattle.profile_text.specs.declared.fault.DocFault.{DocFault}
-use Rattle.profile_text.specs.declared.fault.DocFault.TheVariants.{TooLong, NotJson, Caps, Filter, NoMemory, TextTooLong}
+use Rattle.profile_text.specs.declared.fault.DocFault.TheVariants.{TooLong, NotJson, Caps, Filter}
+use Rattle.profile_text.specs.declared.fault.DocFault.TheVariants.{NoMemory, TextTooLong}
 use Rattle.profile_text.specs.declared.profile.Profile.{Profile}
 use Rattle.profile_text.specs.Document.{document_faults}
 use Rattle.profile_text.specs.Parts.{document_parts}
@@ -68,11 +70,12 @@ abbrev pub profile_of_json : Option Data → Result Profile DocFault
 profile_of_json None = Err NotJson
 profile_of_json (Some d) = profile_of d
 
--- what the bytes read as, or the first fault; it is never want of memory
+-- what the bytes read as, or the first fault; it is never out of memory
 unfoldable pub reading_of : List ℕ → Result Profile DocFault
-reading_of bytes = if nat_lt most_bytes (length bytes) then Err TooLong else profile_of_json (json_of bytes)
+reading_of bytes =
+    if nat_lt most_bytes (length bytes) then Err TooLong else profile_of_json (json_of bytes)
 
--- what a reader gives is what is read; want of memory may stand in its place
+-- what a reader gives is what is read; out of memory may stand in its place
 abbrev pub Gives : {X : Type 0} → Result X DocFault → Result X DocFault → Type 0
 Gives (Ok x) reading = reading ≡ Ok x
 Gives (Err fault) reading = (fault ≡ NoMemory) ⊎ (reading ≡ Err fault)

@@ -1,7 +1,9 @@
--- What a document reads as: a relation between bytes and a profile, by the JSON value that serde_json's own definition
--- gives for the bytes. Nothing is walked here, and no fault is named.
-use Rattle.std.specs.Prelude.{◌≡◌, ◌↔◌, ◌⊎◌, ◌≤◌, ◌<◌, ◌^◌, ℕ, List, length, codes, Option, Some, None, ⊤, true, All, IfSome}
-use Rattle.serde_json.specs.Data.{Data, null, boolean, number, string, array, object, Items, no_items, item, Members}
+-- What a document reads as: a relation between bytes and a profile, by the JSON value that
+-- serde_json's own definition gives for the bytes. Nothing is walked here, and no fault is named.
+use Rattle.std.specs.Prelude.{◌≡◌, ◌↔◌, ◌⊎◌, ◌≤◌, ◌<◌, ◌^◌, ℕ, List, length, codes, Option, Some}
+use Rattle.std.specs.Prelude.{None, ⊤, true, All, IfSome}
+use Rattle.serde_json.specs.Data.{Data, null, boolean, number, string, array, object, Items}
+use Rattle.serde_json.specs.Data.{no_items, item, Members}
 use Rattle.cap_sets.specs.Capability.{Has, number_named}
 use Rattle.cap_sets.specs.declared.state.CapState.{CapState}
 use Rattle.seccomp_doc.specs.Filter.{FilterValue}
@@ -9,7 +11,8 @@ use Rattle.seccomp_doc.specs.Lawful.{IsLawfulFilter}
 use Rattle.seccomp_doc.specs.Word.{is_arch, is_flag}
 use Rattle.profile_text.specs.declared.profile.Profile.{Profile}
 use Rattle.profile_text.specs.declared.sets.CapSet.{CapSet}
-use Rattle.profile_text.specs.declared.sets.CapSet.TheVariants.{Ambient, Bounding, Effective, Inheritable, Permitted}
+use Rattle.profile_text.specs.declared.sets.CapSet.TheVariants.{Ambient, Bounding, Effective}
+use Rattle.profile_text.specs.declared.sets.CapSet.TheVariants.{Inheritable, Permitted}
 use Rattle.profile_text.specs.FilterReads.{AllMembers, IsA, IsSeccomp, StandsForFilter}
 use Rattle.profile_text.specs.Reading.{json_of, most_bytes}
 use Rattle.profile_text.specs.Sets.{set_name}
@@ -35,7 +38,8 @@ abbrev pub SomeNames : Items → ℕ → Type 0
 SomeNames no_items n = ⊥
 SomeNames (item d ds) n = Names d n ⊎ SomeNames ds n
 
--- the list has names alone, and those of just the members of the set, in any order and any number of times
+-- the list has names alone, and those of just the members of the set, in any order and any number
+-- of times
 abbrev pub ListsSet : Items → ℕ → Type 0
 ListsSet ds caps = AllName ds × ((n : ℕ) → Has caps n ↔ SomeNames ds n)
 
@@ -81,7 +85,8 @@ IsCapsValue (array ds) = ⊥
 
 -- each set of the state is what its member stands for; a state is lawful
 abbrev pub StandsForCaps : Data → CapState → Type 0
-StandsForCaps (object ms) s = (set : CapSet) → StandsForSet (member_of (set_name set) ms) (state_set set s)
+StandsForCaps (object ms) s =
+    (set : CapSet) → StandsForSet (member_of (set_name set) ms) (state_set set s)
 StandsForCaps null s = ⊥
 StandsForCaps (boolean b) s = ⊥
 StandsForCaps (number n) s = ⊥
@@ -90,7 +95,8 @@ StandsForCaps (array ds) s = ⊥
 
 -- a member of a document: `capabilities`, or `seccomp`
 abbrev pub IsDocumentMember : List ℕ → Data → Type 0
-IsDocumentMember name d = ((name ≡ codes "capabilities") × IsCapsValue d) ⊎ ((name ≡ codes "seccomp") × IsA IsSeccomp d)
+IsDocumentMember name d =
+    ((name ≡ codes "capabilities") × IsCapsValue d) ⊎ ((name ≡ codes "seccomp") × IsA IsSeccomp d)
 
 -- the members of a document stand for a profile
 pub record MembersStandFor (ms : Members) (p : Profile) : Type 0 where
@@ -106,7 +112,8 @@ StandsFor (number n) p = ⊥
 StandsFor (string s) p = ⊥
 StandsFor (array ds) p = ⊥
 
--- the bytes are few enough and are a JSON value that stands for the profile, and the canonical text is short enough
+-- the bytes are few enough and are a JSON value that stands for the profile, and the canonical text
+-- is short enough
 pub record Reads (bytes : List ℕ) (p : Profile) : Type 0 where
   pub short : length bytes ≤ most_bytes
   pub stands : (d : Data) × (json_of bytes ≡ Some d) × StandsFor d p
@@ -120,7 +127,8 @@ pub record HasKnownCaps (s : CapState) : Type 0 where
   pub bounding : s.bounding < 2 ^ 41
   pub ambient : s.ambient < 2 ^ 41
 
--- a filter that `seccomp_doc` can make: a lawful one, of architectures and flags that are of the form
+-- a filter that `seccomp_doc` can make: a lawful one, of architectures and flags that are of the
+-- form
 pub record IsWhole (f : FilterValue) : Type 0 where
   pub lawful : IsLawfulFilter f
   pub architectures : All (λ a. is_arch a ≡ true) f.architectures

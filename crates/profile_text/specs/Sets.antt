@@ -1,11 +1,14 @@
--- The five sets that a document names. A set is the number whose bit n is set where capability n is a member.
+-- The five sets that a document names. A set is the number whose bit n is set where capability n is
+-- a member.
 use Rattle.std.specs.Prelude.{ℕ, List, [], ◌∷◌, Option, Some, None, find, bytes_eq, codes}
 use Rattle.std.specs.Option.{option_map_or}
 use Rattle.std.specs.Int.RustNames.{bit_or}
-use Rattle.serde_json.specs.Data.{Data, null, boolean, number, string, array, object, Items, no_items, item, Members}
+use Rattle.serde_json.specs.Data.{Data, null, boolean, number, string, array, object, Items}
+use Rattle.serde_json.specs.Data.{no_items, item, Members}
 use Rattle.cap_sets.specs.Capability.{number_named, single}
 use Rattle.profile_text.specs.declared.sets.CapSet.{CapSet}
-use Rattle.profile_text.specs.declared.sets.CapSet.TheVariants.{Ambient, Bounding, Effective, Inheritable, Permitted}
+use Rattle.profile_text.specs.declared.sets.CapSet.TheVariants.{Ambient, Bounding, Effective}
+use Rattle.profile_text.specs.declared.sets.CapSet.TheVariants.{Inheritable, Permitted}
 use Rattle.profile_text.specs.declared.sets.Sets.{Sets}
 use Rattle.profile_text.specs.Shape.{member_of}
 

@@ -1,9 +1,13 @@
--- The shapes of JSON values. A shape is known by the faults that a value has, in the order in which a walk meets them:
--- the members of an object in byte order of their names, in which serde_json has them, and lists in order.
-use Rattle.std.specs.Prelude.{ℕ, ◌+◌, List, [], ◌∷◌, ◌++◌, map, filter, find, Bool, not, ◌&&◌, if◌then◌else◌, Option, Some, None, is_some, bytes_eq, decimal}
-use Rattle.serde_json.specs.Data.{Data, null, boolean, number, string, array, object, Items, no_items, item, Members, no_members, member}
+-- The shapes of JSON values. A shape is known by the faults that a value has, in the order in which
+-- a walk meets them: the members of an object in byte order of their names, in which serde_json has
+-- them, and lists in order.
+use Rattle.std.specs.Prelude.{ℕ, ◌+◌, List, [], ◌∷◌, ◌++◌, map, filter, find, Bool, not, ◌&&◌}
+use Rattle.std.specs.Prelude.{if◌then◌else◌, Option, Some, None, is_some, bytes_eq, decimal}
+use Rattle.serde_json.specs.Data.{Data, null, boolean, number, string, array, object, Items}
+use Rattle.serde_json.specs.Data.{no_items, item, Members, no_members, member}
 use Rattle.profile_text.specs.declared.fault.DocFault.{DocFault}
-use Rattle.profile_text.specs.declared.fault.DocFault.TheVariants.{WrongShape, UnknownMember, UnknownWord, NotInProfile}
+use Rattle.profile_text.specs.declared.fault.DocFault.TheVariants.{WrongShape, UnknownMember}
+use Rattle.profile_text.specs.declared.fault.DocFault.TheVariants.{UnknownWord, NotInProfile}
 
 -- the path of the member or the item of this name, below a path
 abbrev pub below : List ℕ → List ℕ → List ℕ
@@ -16,7 +20,8 @@ Shape = List ℕ → Data → List DocFault
 -- the value of the member of this name, the last one where the name stands twice
 abbrev pub member_from : Option Data → List ℕ → Members → Option Data
 member_from found name no_members = found
-member_from found name (member n d ms) = member_from (if bytes_eq n name then Some d else found) name ms
+member_from found name (member n d ms) =
+    member_from (if bytes_eq n name then Some d else found) name ms
 
 abbrev pub member_of : List ℕ → Members → Option Data
 member_of name ms = member_from None name ms
@@ -33,7 +38,8 @@ word_faults is_word path (object ms) = WrongShape path ∷ []
 -- the items of a list, from a position on
 unfoldable pub items_faults : Shape → List ℕ → ℕ → Items → List DocFault
 items_faults shape path i no_items = []
-items_faults shape path i (item d ds) = shape (below path (decimal i)) d ++ items_faults shape path (i + 1) ds
+items_faults shape path i (item d ds) =
+    shape (below path (decimal i)) d ++ items_faults shape path (i + 1) ds
 
 -- a list of values of one shape
 unfoldable pub list_faults : Shape → Shape
@@ -75,7 +81,8 @@ row_faults (Some row) path d = row.shape path d
 -- the members of an object, one after another
 unfoldable pub members_faults : List Row → List ℕ → Members → List DocFault
 members_faults rows path no_members = []
-members_faults rows path (member name d ms) = row_faults (row_named rows name) (below path name) d ++ members_faults rows path ms
+members_faults rows path (member name d ms) =
+    row_faults (row_named rows name) (below path name) d ++ members_faults rows path ms
 
 -- what the members give, one after another, by a rule for one member more
 abbrev pub members_over : {X : Type 0} → (List ℕ → Data → X → X) → X → Members → X
@@ -85,7 +92,8 @@ members_over with x (member name d ms) = members_over with (with name d x) ms
 -- the members that must be there and aren't, in the order of the table
 abbrev pub missing_faults : List Row → List ℕ → Members → List DocFault
 missing_faults rows path ms =
-    map (λ row. WrongShape (below path row.name)) (filter (λ row. row.is_required && not (is_some (member_of row.name ms))) rows)
+    map (λ row. WrongShape (below path row.name))
+    (filter (λ row. row.is_required && not (is_some (member_of row.name ms))) rows)
 
 -- the members that are there, and then those that are missing
 unfoldable pub object_faults : List Row → List ℕ → Members → List DocFault

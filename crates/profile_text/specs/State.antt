@@ -11,7 +11,8 @@ abbrev pub fault_in : Sets → Option CapFault
 fault_in s = first_fault s.effective s.permitted s.inheritable s.ambient
 
 -- the state of five sets with no fault, and else the fault that they have
-abbrev pub state_by : (s : Sets) (fault : Option CapFault) → fault_in s ≡ fault → Result CapState CapFault
+abbrev pub state_by :
+    (s : Sets) (fault : Option CapFault) → fault_in s ≡ fault → Result CapState CapFault
 state_by s None none = Ok (record {
   effective = s.effective;
   permitted = s.permitted;

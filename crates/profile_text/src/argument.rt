@@ -1,19 +1,20 @@
 // The reader of arguments: the comparisons of an entry.
 
 ghost use Rattle.std.specs.Prelude.{codes};
-ghost use Rattle.serde_json.specs.View.{items_view, members_view, view};
+ghost use Rattle.json_tree.specs.View.{items_view, members_view, view};
 ghost use Rattle.profile_text.specs.FilterParts.{arg_at, arg_in, items_as, list_as};
 ghost use Rattle.profile_text.specs.FilterShape.{arg_faults, arg_rows};
 ghost use Rattle.profile_text.specs.Place.{path_of};
 ghost use Rattle.profile_text.specs.Reading.{Gives, GivesAs, unless_faulty};
-ghost use Rattle.profile_text.specs.Shape.{below, items_faults, list_faults, object_faults, optional_faults};
+ghost use Rattle.profile_text.specs.Shape.{below, items_faults, list_faults, object_faults};
+ghost use Rattle.profile_text.specs.Shape.{optional_faults};
 
 use crate::fault::{DocFault, Path};
 use crate::members::{FromMembers, with_members};
 use crate::place::Place;
 use crate::value::{number_of, op_of, optional_number_of};
+use json_tree::Tree;
 use seccomp_doc::{ArgParts, Op};
-use serde_json::{Map, Value};
 use std::alloc::Global;
 
 // What the members of an argument give.
@@ -48,7 +49,7 @@ impl FromMembers for FoundArg {
         alloc: Global,
         place: Place,
         name: &str,
-        value: Value,
+        value: &Tree<'_>,
     ) -> Result<(), DocFault> {
         if name == "index" {
             let index = number_of(alloc, place, name, value)?;
@@ -73,10 +74,10 @@ impl FromMembers for FoundArg {
 }
 
 // The argument of the members, of which the second value isn't required.
-fn arg_at(alloc: Global, place: Place, members: Map<String, Value>) -> Result<ArgParts, DocFault>
+fn arg_at(alloc: Global, place: Place, members: &[(&str, Tree<'_>)]) -> Result<ArgParts, DocFault>
     ensures { Gives result (unless_faulty
-        (object_faults arg_rows (path_of place) (members_view members.entries))
-        (arg_at (members_view members.entries))) }
+        (object_faults arg_rows (path_of place) (members_view members.now))
+        (arg_at (members_view members.now))) }
 {
     let start = FoundArg {
         index: None,
@@ -104,20 +105,23 @@ fn arg_at(alloc: Global, place: Place, members: Map<String, Value>) -> Result<Ar
 
 // An argument.
 #[tactic(auto, unfolding(crate::specs::FilterShape::table_faults, crate::specs::FilterParts::arg_in))]
-fn arg_of(alloc: Global, place: Place, value: Value) -> Result<ArgParts, DocFault>
-    ensures { Gives result (unless_faulty (arg_faults (path_of place) (view value)) (arg_in (view value))) }
+fn arg_of(alloc: Global, place: Place, value: &Tree<'_>) -> Result<ArgParts, DocFault>
+    ensures { Gives result (unless_faulty
+        (arg_faults (path_of place) (view value.now))
+        (arg_in (view value.now))) }
 {
     match value {
-        Value::Object(members) => arg_at(alloc, place, members),
+        Tree::Object(members) => arg_at(alloc, place, members),
         _ => Err(DocFault::WrongShape(Path::of(alloc, place)?)),
     }
 }
 
 // The arguments of a list.
-fn args_in(alloc: Global, entry: usize, values: Vec<Value>) -> Result<Vec<ArgParts>, DocFault>
+fn args_in(alloc: Global, entry: usize, values: &[Tree<'_>]) -> Result<Vec<ArgParts>, DocFault>
     ensures { GivesAs (λ args. args.items) result (unless_faulty
-        (items_faults arg_faults (below (path_of (Place.Entry entry)) (codes "args")) 0 (items_view values.items))
-        (items_as arg_in (items_view values.items))) }
+        (items_faults arg_faults (below (path_of (Place.Entry entry)) (codes "args")) 0
+        (items_view values.now))
+        (items_as arg_in (items_view values.now))) }
 {
     let mut args = Vec::with_capacity(alloc, values.len())?;
     for value in values {
@@ -133,14 +137,19 @@ fn args_in(alloc: Global, entry: usize, values: Vec<Value>) -> Result<Vec<ArgPar
 
 /// A list of arguments, or null.
 #[tactic(auto, unfolding(crate::specs::Shape::optional_faults, crate::specs::Shape::list_faults, crate::specs::FilterParts::list_as))]
-pub(crate) fn args_of(alloc: Global, entry: usize, value: Value) -> Result<Vec<ArgParts>, DocFault>
+pub(crate) fn args_of(
+    alloc: Global,
+    entry: usize,
+    value: &Tree<'_>,
+) -> Result<Vec<ArgParts>, DocFault>
     ensures { GivesAs (λ args. args.items) result (unless_faulty
-        (optional_faults (list_faults arg_faults) (below (path_of (Place.Entry entry)) (codes "args")) (view value))
-        (list_as arg_in (view value))) }
+        (optional_faults (list_faults arg_faults)
+        (below (path_of (Place.Entry entry)) (codes "args")) (view value.now))
+        (list_as arg_in (view value.now))) }
 {
     match value {
-        Value::Null => Ok(Vec::new(alloc)),
-        Value::Array(values) => args_in(alloc, entry, values),
+        Tree::Null => Ok(Vec::new(alloc)),
+        Tree::Array(values) => args_in(alloc, entry, values),
         _ => Err(DocFault::WrongShape(Path::of_member(alloc, Place::Entry(entry), "args")?)),
     }
 }

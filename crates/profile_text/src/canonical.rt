@@ -1,14 +1,14 @@
 // The canonical text of a profile.
 
-ghost use Rattle.std.specs.Prelude.{◌≡◌, [], IfOk, OnOk, Some, codes, string_bytes};
-ghost use Rattle.json.specs.Print.{print};
+ghost use Rattle.std.specs.Prelude.{◌≡◌, IfOk, OnOk, Some, codes, string_bytes};
 ghost use Rattle.profile_text.specs.Text.{caps_data, profile_data, seccomp_data, set_data, text_of};
-ghost use Rattle.profile_text.specs.Tokens.{Appends, member_tokens, tokens_of};
+ghost use Rattle.json_tree.specs.Tokens.{Appends, member_tokens, tokens_of};
 
 use crate::filter_text::write_filter;
 use crate::profile::Profile;
 use cap_sets::{CapState, Caps};
 use json::Writer;
+use json_tree::written_text;
 use seccomp_doc::Filter;
 use std::alloc::{AllocError, Global};
 
@@ -62,26 +62,16 @@ fn write_profile(out: &mut Writer, profile: &Profile) -> Result<(), AllocError>
     out.end_object()
 }
 
-// The text of what was written.
-fn written(out: Writer) -> String
-    requires { out.before ≡ [] }
-    ensures { string_bytes result ≡ print out.tokens }
-{
-    match String::from_utf8(out.into_inner()) {
-        Ok(text) => text,
-        Err(_) => unreachable!(),
-    }
-}
-
 // How many bytes a text has room for before it grows.
 const FIRST_ROOM: usize = 8192;
 
-/// The canonical text of a profile: compact JSON, with the members of each object in byte order of their names. All five
-/// capability sets are written, by rising number; a filter is written where there is one, without its empty lists.
+/// The canonical text of a profile: compact JSON, with the members of each object in byte order of
+/// their names. All five capability sets are written, by rising number; a filter is written where
+/// there is one, without its empty lists.
 pub fn print(alloc: Global, profile: &Profile) -> Result<String, AllocError>
     ensures { IfOk result (λ text. string_bytes text ≡ text_of profile.now) }
 {
     let mut out = Writer::new(Vec::with_capacity(alloc, FIRST_ROOM)?);
     write_profile(&mut out, profile)?;
-    Ok(written(out))
+    Ok(written_text(out))
 }

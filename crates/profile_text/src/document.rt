@@ -1,9 +1,10 @@
 // The reader of documents.
 
 ghost use Rattle.std.specs.Prelude.{◌≡◌, ◌<◌, [], length, Err, IfOk};
-ghost use Rattle.serde_json.specs.View.{members_view, view};
+ghost use Rattle.json_tree.specs.View.{members_view, view};
 ghost use Rattle.profile_text.specs.Document.{document_faults, document_rows};
-ghost use Rattle.profile_text.specs.Reading.{Gives, GivesAs, HasItsText, if_short, most_bytes, profile_of, reading_of, unless_faulty};
+ghost use Rattle.profile_text.specs.Reading.{Gives, GivesAs, HasItsText, if_short, most_bytes};
+ghost use Rattle.profile_text.specs.Reading.{profile_of, reading_of, unless_faulty};
 ghost use Rattle.profile_text.specs.Reads.{Reads};
 ghost use Rattle.profile_text.specs.Parts.{document_parts, found_in, parts_of};
 ghost use Rattle.profile_text.specs.Shape.{object_faults};
@@ -16,8 +17,8 @@ use crate::members::{FromMembers, with_members};
 use crate::place::Place;
 use crate::profile::Profile;
 use crate::sets::Sets;
+use json_tree::{ReadFault, Scratch, Tree};
 use seccomp_doc::FilterParts;
-use serde_json::{Map, Value};
 use std::alloc::Global;
 
 // How many bytes a document may have, and its canonical text.
@@ -69,10 +70,10 @@ impl FromMembers for Found {
         alloc: Global,
         _document: (),
         name: &str,
-        value: Value,
+        value: &Tree<'_>,
     ) -> Result<(), DocFault> {
         if name == "capabilities" {
-            let sets = capabilities_of(alloc, &value)?;
+            let sets = capabilities_of(alloc, value)?;
             self.sets = Some(sets);
             Ok(())
         } else if name == "seccomp" {
@@ -86,10 +87,10 @@ impl FromMembers for Found {
 }
 
 // The parts of the members, of which `capabilities` is required.
-fn parts_in(alloc: Global, members: Map<String, Value>) -> Result<Parts, DocFault>
+fn parts_in(alloc: Global, members: &[(&str, Tree<'_>)]) -> Result<Parts, DocFault>
     ensures { Gives result (unless_faulty
-        (object_faults document_rows [] (members_view members.entries))
-        (parts_of (found_in (members_view members.entries)))) }
+        (object_faults document_rows [] (members_view members.now))
+        (parts_of (found_in (members_view members.now)))) }
 {
     let start = Found {
         sets: None,
@@ -104,11 +105,13 @@ fn parts_in(alloc: Global, members: Map<String, Value>) -> Result<Parts, DocFaul
 
 // The parts of a document.
 #[tactic(auto, unfolding(crate::specs::Document::document_faults, crate::specs::Parts::document_parts))]
-fn parts_of(alloc: Global, value: Value) -> Result<Parts, DocFault>
-    ensures { Gives result (unless_faulty (document_faults (view value)) (document_parts (view value))) }
+fn parts_of(alloc: Global, value: &Tree<'_>) -> Result<Parts, DocFault>
+    ensures { Gives result (unless_faulty
+        (document_faults (view value.now))
+        (document_parts (view value.now))) }
 {
     match value {
-        Value::Object(members) => parts_in(alloc, members),
+        Tree::Object(members) => parts_in(alloc, members),
         _ => Err(DocFault::WrongShape(Path::new(alloc, "/")?)),
     }
 }
@@ -127,11 +130,13 @@ fn with_text(alloc: Global, profile: Profile) -> Result<Document, DocFault>
 
 // The profile and the canonical text of a JSON value.
 #[tactic(auto, unfolding(crate::specs::Reading::profile_of))]
-fn document_of(alloc: Global, value: Value) -> Result<Document, DocFault>
-    ensures reading { GivesAs (λ document. document.profile) result (profile_of (view value)) }
+fn document_of(alloc: Global, value: Tree<'_>) -> Result<Document, DocFault>
+    ensures reading { GivesAs (λ document. document.profile) result
+        (profile_of (view value.entry)) }
     ensures text { IfOk result HasItsText }
 {
-    let Parts { sets, filter } = parts_of(alloc, value)?;
+    let Parts { sets, filter } = parts_of(alloc, &value)?;
+    drop(value);
     match sets.state() {
         Ok(caps) => {
             let filter = filter_of(alloc, filter)?;
@@ -141,11 +146,12 @@ fn document_of(alloc: Global, value: Value) -> Result<Document, DocFault>
     }
 }
 
-/// Reads a document: its profile with its canonical text, or its first fault in the order of `DocFault`.
+/// Reads a document: its profile with its canonical text, or its first fault in the order of
+/// `DocFault`.
 ///
 /// # Errors
 ///
-/// Each fault of `DocFault`; `NoMemory` is answered for want of memory, and never for `TooLong`.
+/// Each fault of `DocFault`; `NoMemory` is answered where memory is refused, and never for `TooLong`.
 pub fn read_with_text(alloc: Global, bytes: &[u8]) -> Result<Document, DocFault>
     ensures reading { GivesAs (λ document. document.profile) result (reading_of bytes.now) }
     ensures stands { IfOk result (λ document. Reads bytes.now document.profile) }
@@ -155,15 +161,11 @@ pub fn read_with_text(alloc: Global, bytes: &[u8]) -> Result<Document, DocFault>
     if bytes.len() > MOST_BYTES {
         return Err(DocFault::TooLong);
     }
-    match Value::from_slice(alloc, bytes) {
+    let mut scratch = Scratch::new(alloc);
+    match Tree::from_slice(alloc, bytes, &mut scratch) {
         Ok(value) => document_of(alloc, value),
-        Err(error) => {
-            if error.is_memory() {
-                Err(DocFault::NoMemory)
-            } else {
-                Err(DocFault::NotJson)
-            }
-        }
+        Err(ReadFault::NotJson) => Err(DocFault::NotJson),
+        Err(ReadFault::NoMemory) => Err(DocFault::NoMemory),
     }
 }
 
@@ -171,7 +173,7 @@ pub fn read_with_text(alloc: Global, bytes: &[u8]) -> Result<Document, DocFault>
 ///
 /// # Errors
 ///
-/// Each fault of `DocFault`; `NoMemory` is answered for want of memory, and never for `TooLong`.
+/// Each fault of `DocFault`; `NoMemory` is answered where memory is refused, and never for `TooLong`.
 pub fn read(alloc: Global, bytes: &[u8]) -> Result<Profile, DocFault>
     ensures reading { Gives result (reading_of bytes.now) }
     ensures stands { IfOk result (Reads bytes.now) }

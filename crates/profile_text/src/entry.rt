@@ -1,20 +1,21 @@
 // The reader of entries.
 
 ghost use Rattle.std.specs.Prelude.{codes, map, string_bytes};
-ghost use Rattle.serde_json.specs.View.{items_view, members_view, view};
+ghost use Rattle.json_tree.specs.View.{items_view, members_view, view};
 ghost use Rattle.profile_text.specs.FilterParts.{entry_at, entry_in, items_as, list_as, string_in};
 ghost use Rattle.profile_text.specs.FilterShape.{entry_faults, entry_rows, text_faults};
 ghost use Rattle.profile_text.specs.Place.{path_of};
 ghost use Rattle.profile_text.specs.Reading.{Gives, GivesAs, unless_faulty};
-ghost use Rattle.profile_text.specs.Shape.{below, items_faults, list_faults, object_faults, optional_faults};
+ghost use Rattle.profile_text.specs.Shape.{below, items_faults, list_faults, object_faults};
+ghost use Rattle.profile_text.specs.Shape.{optional_faults};
 
 use crate::argument::args_of;
 use crate::fault::{DocFault, Path};
 use crate::members::{FromMembers, with_members};
 use crate::place::Place;
 use crate::value::{action_of, optional_number_of, text_of};
+use json_tree::Tree;
 use seccomp_doc::{ActionWord, ArgParts, EntryParts};
-use serde_json::{Map, Value};
 use std::alloc::Global;
 
 // The texts of a list.
@@ -22,11 +23,11 @@ fn names_in(
     alloc: Global,
     place: Place,
     name: &str,
-    values: Vec<Value>,
+    values: &[Tree<'_>],
 ) -> Result<Vec<String>, DocFault>
     ensures { GivesAs (λ names. map string_bytes names.items) result (unless_faulty
-        (items_faults text_faults (below (path_of place) name.now) 0 (items_view values.items))
-        (items_as string_in (items_view values.items))) }
+        (items_faults text_faults (below (path_of place) name.now) 0 (items_view values.now))
+        (items_as string_in (items_view values.now))) }
 {
     let mut names = Vec::with_capacity(alloc, values.len())?;
     for value in values {
@@ -38,13 +39,18 @@ fn names_in(
 
 // A list of texts.
 #[tactic(auto, unfolding(crate::specs::Shape::list_faults, crate::specs::FilterParts::list_as))]
-fn names_of(alloc: Global, place: Place, name: &str, value: Value) -> Result<Vec<String>, DocFault>
+fn names_of(
+    alloc: Global,
+    place: Place,
+    name: &str,
+    value: &Tree<'_>,
+) -> Result<Vec<String>, DocFault>
     ensures { GivesAs (λ names. map string_bytes names.items) result (unless_faulty
-        (list_faults text_faults (below (path_of place) name.now) (view value))
-        (list_as string_in (view value))) }
+        (list_faults text_faults (below (path_of place) name.now) (view value.now))
+        (list_as string_in (view value.now))) }
 {
     match value {
-        Value::Array(values) => names_in(alloc, place, name, values),
+        Tree::Array(values) => names_in(alloc, place, name, values),
         _ => Err(DocFault::WrongShape(Path::of_member(alloc, place, name)?)),
     }
 }
@@ -81,7 +87,7 @@ impl FromMembers for FoundEntry {
         alloc: Global,
         entry: usize,
         name: &str,
-        value: Value,
+        value: &Tree<'_>,
     ) -> Result<(), DocFault> {
         if name == "action" {
             let word = action_of(alloc, Place::Entry(entry), name, value)?;
@@ -109,11 +115,11 @@ impl FromMembers for FoundEntry {
 fn entry_at(
     alloc: Global,
     entry: usize,
-    members: Map<String, Value>,
+    members: &[(&str, Tree<'_>)],
 ) -> Result<EntryParts, DocFault>
     ensures { Gives result (unless_faulty
-        (object_faults entry_rows (path_of (Place.Entry entry)) (members_view members.entries))
-        (entry_at (members_view members.entries))) }
+        (object_faults entry_rows (path_of (Place.Entry entry)) (members_view members.now))
+        (entry_at (members_view members.now))) }
 {
     let start = FoundEntry {
         word: None,
@@ -143,20 +149,23 @@ fn entry_at(
 
 // An entry.
 #[tactic(auto, unfolding(crate::specs::FilterShape::table_faults, crate::specs::FilterParts::entry_in))]
-fn entry_of(alloc: Global, entry: usize, value: Value) -> Result<EntryParts, DocFault>
-    ensures { Gives result (unless_faulty (entry_faults (path_of (Place.Entry entry)) (view value)) (entry_in (view value))) }
+fn entry_of(alloc: Global, entry: usize, value: &Tree<'_>) -> Result<EntryParts, DocFault>
+    ensures { Gives result (unless_faulty
+        (entry_faults (path_of (Place.Entry entry)) (view value.now))
+        (entry_in (view value.now))) }
 {
     match value {
-        Value::Object(members) => entry_at(alloc, entry, members),
+        Tree::Object(members) => entry_at(alloc, entry, members),
         _ => Err(DocFault::WrongShape(Path::of(alloc, Place::Entry(entry))?)),
     }
 }
 
 // The entries of a list.
-fn entries_in(alloc: Global, values: Vec<Value>) -> Result<Vec<EntryParts>, DocFault>
+fn entries_in(alloc: Global, values: &[Tree<'_>]) -> Result<Vec<EntryParts>, DocFault>
     ensures { GivesAs (λ entries. entries.items) result (unless_faulty
-        (items_faults entry_faults (below (codes "/seccomp") (codes "syscalls")) 0 (items_view values.items))
-        (items_as entry_in (items_view values.items))) }
+        (items_faults entry_faults (below (codes "/seccomp") (codes "syscalls")) 0
+        (items_view values.now))
+        (items_as entry_in (items_view values.now))) }
 {
     let mut entries = Vec::with_capacity(alloc, values.len())?;
     for value in values {
@@ -168,14 +177,15 @@ fn entries_in(alloc: Global, values: Vec<Value>) -> Result<Vec<EntryParts>, DocF
 
 /// A list of entries, or null.
 #[tactic(auto, unfolding(crate::specs::Shape::optional_faults, crate::specs::Shape::list_faults, crate::specs::FilterParts::list_as))]
-pub(crate) fn entries_of(alloc: Global, value: Value) -> Result<Vec<EntryParts>, DocFault>
+pub(crate) fn entries_of(alloc: Global, value: &Tree<'_>) -> Result<Vec<EntryParts>, DocFault>
     ensures { GivesAs (λ entries. entries.items) result (unless_faulty
-        (optional_faults (list_faults entry_faults) (below (codes "/seccomp") (codes "syscalls")) (view value))
-        (list_as entry_in (view value))) }
+        (optional_faults (list_faults entry_faults) (below (codes "/seccomp") (codes "syscalls"))
+        (view value.now))
+        (list_as entry_in (view value.now))) }
 {
     match value {
-        Value::Null => Ok(Vec::new(alloc)),
-        Value::Array(values) => entries_in(alloc, values),
+        Tree::Null => Ok(Vec::new(alloc)),
+        Tree::Array(values) => entries_in(alloc, values),
         _ => Err(DocFault::WrongShape(Path::of_member(alloc, Place::Filter, "syscalls")?)),
     }
 }

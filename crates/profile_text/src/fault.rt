@@ -11,8 +11,8 @@ use std::error::Error;
 use std::fmt;
 use std::marker::Model;
 
-/// Where in a document a fault stands: a slash and the name of a member or the position of an item, from 0, again and
-/// again. Names stand as they are. The whole document is `/`.
+/// Where in a document a fault stands: a slash and the name of a member or the position of an item,
+/// from 0, again and again. Names stand as they are. The whole document is `/`.
 #[derive(Debug, Drop)]
 pub struct Path {
     text: String,
@@ -62,7 +62,8 @@ impl Path {
         name: &str,
         position: usize,
     ) -> Result<Path, AllocError>
-        ensures { IfOk result (λ path. path ≡ below (below (path_of place) name.now) (decimal position)) }
+        ensures { IfOk result
+            (λ path. path ≡ below (below (path_of place) name.now) (decimal position)) }
     {
         let text = format!(in alloc; "{place}/{name}/{position}")?;
         Ok(Path { text })
@@ -76,16 +77,18 @@ impl Path {
     }
 }
 
-/// Why bytes are no document. A document has the first fault in this order: it is too long, it isn't JSON, the first
-/// fault of a walk over its values, the fault of its capability sets, that of its filter, its canonical text is too long. Memory may be
-/// refused in place of any but the first.
+/// Why bytes are no document. A document has the first fault in this order: it is too long, it
+/// isn't JSON, the first fault of a walk over its values, the fault of its capability sets, that of
+/// its filter, its canonical text is too long. Memory may be refused in place of any but the first.
 #[derive(Debug, Drop)]
 pub enum DocFault {
     /// There are more than 262,144 bytes.
     TooLong,
-    /// The bytes are no JSON text: bytes that aren't UTF-8, or lists and objects that nest more than 127 deep, are none.
+    /// The bytes are no JSON text: bytes that aren't UTF-8, or lists and objects that nest more
+    /// than 127 deep, are none.
     NotJson,
-    /// A value is of another kind than its place asks for, or a member that is required isn't there.
+    /// A value is of another kind than its place asks for, or a member that is required isn't
+    /// there.
     WrongShape(Path),
     /// The object that it stands in has no such member.
     UnknownMember(Path),
@@ -99,7 +102,8 @@ pub enum DocFault {
     Caps(CapFault),
     /// The parts of `seccomp` are no filter.
     Filter(FilterFault),
-    /// Memory was refused, and never inside `Filter`. No contract can say when: it may stand in place of any answer.
+    /// Memory was refused, and never inside `Filter`. No contract can say when: it may stand in
+    /// place of any answer.
     NoMemory,
     /// The canonical text has more than 262,144 bytes.
     TextTooLong,
@@ -142,8 +146,8 @@ impl fmt::Display for DocFault {
 
 impl Error for DocFault {}
 
-/// The text of a fault: its word and what goes with it, as `unknown-member /capabilities/x`; for `NoMemory` it is
-/// `memory`.
+/// The text of a fault: its word and what goes with it, as `unknown-member /capabilities/x`; for
+/// `NoMemory` it is `memory`.
 pub fn fault_text(alloc: Global, fault: &DocFault) -> Result<String, AllocError>
     ensures { IfOk result (λ text. string_bytes text ≡ fault_text_of fault.now) }
 {

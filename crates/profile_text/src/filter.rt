@@ -1,7 +1,7 @@
 // The reader of `seccomp`.
 
 ghost use Rattle.std.specs.Prelude.{codes};
-ghost use Rattle.serde_json.specs.View.{members_view, view};
+ghost use Rattle.json_tree.specs.View.{members_view, view};
 ghost use Rattle.profile_text.specs.FilterParts.{filter_at, seccomp_in};
 ghost use Rattle.profile_text.specs.FilterShape.{seccomp_faults, seccomp_rows};
 ghost use Rattle.profile_text.specs.Reading.{Gives, filter_or_fault, unless_faulty};
@@ -13,8 +13,8 @@ use crate::filter_words::words_of;
 use crate::members::{FromMembers, with_members};
 use crate::place::Place;
 use crate::value::{action_of, optional_number_of};
+use json_tree::Tree;
 use seccomp_doc::{ActionWord, Arch, EntryParts, Filter, FilterFault, FilterParts, ScmpFlag};
-use serde_json::{Map, Value};
 use std::alloc::Global;
 
 // What the members of a filter give.
@@ -49,7 +49,7 @@ impl FromMembers for FoundFilter {
         alloc: Global,
         _filter: (),
         name: &str,
-        value: Value,
+        value: &Tree<'_>,
     ) -> Result<(), DocFault> {
         if name == "architectures" {
             let architectures = words_of(alloc, Place::Filter, name, value)?;
@@ -80,10 +80,10 @@ impl FromMembers for FoundFilter {
 }
 
 // The parts of the members, of which the default is required.
-fn filter_at(alloc: Global, members: Map<String, Value>) -> Result<FilterParts, DocFault>
+fn filter_at(alloc: Global, members: &[(&str, Tree<'_>)]) -> Result<FilterParts, DocFault>
     ensures { Gives result (unless_faulty
-        (object_faults seccomp_rows (codes "/seccomp") (members_view members.entries))
-        (filter_at (members_view members.entries))) }
+        (object_faults seccomp_rows (codes "/seccomp") (members_view members.now))
+        (filter_at (members_view members.now))) }
 {
     let start = FoundFilter {
         architectures: Vec::new(alloc),
@@ -113,14 +113,14 @@ fn filter_at(alloc: Global, members: Map<String, Value>) -> Result<FilterParts, 
 
 /// The parts of the filter that the member `seccomp` of a document names; null names none.
 #[tactic(auto, unfolding(crate::specs::Shape::optional_faults, crate::specs::FilterShape::table_faults, crate::specs::FilterParts::seccomp_in))]
-pub(crate) fn seccomp_of(alloc: Global, value: Value) -> Result<Option<FilterParts>, DocFault>
+pub(crate) fn seccomp_of(alloc: Global, value: &Tree<'_>) -> Result<Option<FilterParts>, DocFault>
     ensures { Gives result (unless_faulty
-        (seccomp_faults (codes "/seccomp") (view value))
-        (seccomp_in (view value))) }
+        (seccomp_faults (codes "/seccomp") (view value.now))
+        (seccomp_in (view value.now))) }
 {
     match value {
-        Value::Null => Ok(None),
-        Value::Object(members) => {
+        Tree::Null => Ok(None),
+        Tree::Object(members) => {
             let parts = filter_at(alloc, members)?;
             Ok(Some(parts))
         }

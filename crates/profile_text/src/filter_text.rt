@@ -3,8 +3,9 @@
 ghost use Rattle.std.specs.Prelude.{OnOk, Some, codes, map};
 ghost use Rattle.serde_json.specs.Data.{string};
 ghost use Rattle.seccomp_doc.specs.Action.{errno_of};
-ghost use Rattle.profile_text.specs.Text.{arg_data, entry_data, errno_data, filter_data, some_list, texts_data, value_two_data};
-ghost use Rattle.profile_text.specs.Tokens.{Appends, member_tokens, tokens_of};
+ghost use Rattle.profile_text.specs.Text.{arg_data, entry_data, errno_data, filter_data, some_list};
+ghost use Rattle.profile_text.specs.Text.{texts_data, value_two_data};
+ghost use Rattle.json_tree.specs.Tokens.{Appends, member_tokens, tokens_of};
 
 use json::Writer;
 use seccomp_doc::{Action, Arch, CallName, Compare, Entry, Filter, ScmpFlag};
@@ -12,7 +13,8 @@ use std::alloc::AllocError;
 
 // A member that is a text.
 fn write_text(out: &mut Writer, name: &str, text: &str) -> Result<(), AllocError>
-    ensures { OnOk result (Appends out.old out.new (member_tokens name.now (Some (string text.now)))) }
+    ensures { OnOk result (Appends out.old out.new
+        (member_tokens name.now (Some (string text.now)))) }
 {
     out.key(name)?;
     out.string(text)
@@ -20,7 +22,8 @@ fn write_text(out: &mut Writer, name: &str, text: &str) -> Result<(), AllocError
 
 // A member that is a number.
 fn write_number(out: &mut Writer, name: &str, number: u64) -> Result<(), AllocError>
-    ensures { OnOk result (Appends out.old out.new (member_tokens name.now (errno_data (Some number)))) }
+    ensures { OnOk result (Appends out.old out.new
+        (member_tokens name.now (errno_data (Some number)))) }
 {
     out.key(name)?;
     out.u64(number)
@@ -28,7 +31,8 @@ fn write_number(out: &mut Writer, name: &str, number: u64) -> Result<(), AllocEr
 
 // The number of an action, where it carries one.
 fn write_errno(out: &mut Writer, name: &str, action: Action) -> Result<(), AllocError>
-    ensures { OnOk result (Appends out.old out.new (member_tokens name.now (errno_data (errno_of action)))) }
+    ensures { OnOk result (Appends out.old out.new
+        (member_tokens name.now (errno_data (errno_of action)))) }
 {
     match action.errno() {
         Some(number) => write_number(out, name, u64::from(number)),

@@ -1,16 +1,17 @@
 // The readers of lists of words: architectures and flags.
 
 ghost use Rattle.std.specs.Prelude.{decimal};
-ghost use Rattle.serde_json.specs.View.{items_view, view};
+ghost use Rattle.json_tree.specs.View.{items_view, view};
 ghost use Rattle.profile_text.specs.FilterParts.{items_as, list_as, string_in};
 ghost use Rattle.profile_text.specs.Place.{path_of};
 ghost use Rattle.profile_text.specs.Reading.{Gives, GivesAs, unless_faulty};
-ghost use Rattle.profile_text.specs.Shape.{below, items_faults, list_faults, optional_faults, word_faults};
+ghost use Rattle.profile_text.specs.Shape.{below, items_faults, list_faults, optional_faults};
+ghost use Rattle.profile_text.specs.Shape.{word_faults};
 
 use crate::fault::{DocFault, Path};
 use crate::place::Place;
+use json_tree::Tree;
 use seccomp_doc::{Form, Formed, WordFault};
-use serde_json::Value;
 use std::alloc::Global;
 
 // The word at a position of a list.
@@ -20,14 +21,15 @@ fn word_of<F: Form>(
     place: Place,
     name: &str,
     position: usize,
-    value: Value,
+    value: &Tree<'_>,
 ) -> Result<Formed<F>, DocFault>
     ensures { Gives result (unless_faulty
-        (word_faults F.is_form (below (below (path_of place) name.now) (decimal position)) (view value))
-        (string_in (view value))) }
+        (word_faults F.is_form (below (below (path_of place) name.now) (decimal position))
+        (view value.now))
+        (string_in (view value.now))) }
 {
     match value {
-        Value::String(text) => match Formed::read(alloc, text.as_str()) {
+        Tree::String(text) => match Formed::read(alloc, text) {
             Ok(word) => Ok(word),
             Err(WordFault::NotAWord) => {
                 Err(DocFault::UnknownWord(Path::of_item(alloc, place, name, position)?))
@@ -43,11 +45,12 @@ fn words_in<F: Form>(
     alloc: Global,
     place: Place,
     name: &str,
-    values: Vec<Value>,
+    values: &[Tree<'_>],
 ) -> Result<Vec<Formed<F>>, DocFault>
     ensures { GivesAs (λ words. words.items) result (unless_faulty
-        (items_faults (word_faults F.is_form) (below (path_of place) name.now) 0 (items_view values.items))
-        (items_as string_in (items_view values.items))) }
+        (items_faults (word_faults F.is_form) (below (path_of place) name.now) 0
+        (items_view values.now))
+        (items_as string_in (items_view values.now))) }
 {
     let mut words = Vec::with_capacity(alloc, values.len())?;
     for value in values {
@@ -63,15 +66,16 @@ pub(crate) fn words_of<F: Form>(
     alloc: Global,
     place: Place,
     name: &str,
-    value: Value,
+    value: &Tree<'_>,
 ) -> Result<Vec<Formed<F>>, DocFault>
     ensures { GivesAs (λ words. words.items) result (unless_faulty
-        (optional_faults (list_faults (word_faults F.is_form)) (below (path_of place) name.now) (view value))
-        (list_as string_in (view value))) }
+        (optional_faults (list_faults (word_faults F.is_form)) (below (path_of place) name.now)
+        (view value.now))
+        (list_as string_in (view value.now))) }
 {
     match value {
-        Value::Null => Ok(Vec::new(alloc)),
-        Value::Array(values) => words_in(alloc, place, name, values),
+        Tree::Null => Ok(Vec::new(alloc)),
+        Tree::Array(values) => words_in(alloc, place, name, values),
         _ => Err(DocFault::WrongShape(Path::of_member(alloc, place, name)?)),
     }
 }

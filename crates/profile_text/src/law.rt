@@ -16,17 +16,19 @@ pub fn documents_stand_for_profiles()
 
 /// The canonical text of a profile reads as the profile, where it isn't too long.
 pub fn canonical_texts_read_back()
-    ensures { (p : Profile) → HasKnownCaps p.caps → HasWholeFilter p → length (text_of p) ≤ most_bytes
-        → reading_of (text_of p) ≡ Ok p }
+    ensures { (p : Profile) → HasKnownCaps p.caps → HasWholeFilter p
+        → length (text_of p) ≤ most_bytes → reading_of (text_of p) ≡ Ok p }
 {}
 
 /// What a document reads as is read again from its canonical text.
 pub fn canonical_texts_keep_the_reading()
-    ensures { (bytes : List ℕ) (p : Profile) → reading_of bytes ≡ Ok p → reading_of (text_of p) ≡ Ok p }
+    ensures { (bytes : List ℕ) (p : Profile) → reading_of bytes ≡ Ok p
+        → reading_of (text_of p) ≡ Ok p }
 {}
 
 /// Want of memory is never what bytes read as, and neither is it a fault of their filter.
 pub fn want_of_memory_is_no_reading()
     ensures alone { (bytes : List ℕ) → reading_of bytes ≢ Err DocFault.NoMemory }
-    ensures of_a_filter { (bytes : List ℕ) → reading_of bytes ≢ Err (DocFault.Filter FilterFault.NoMemory) }
+    ensures of_a_filter { (bytes : List ℕ)
+        → reading_of bytes ≢ Err (DocFault.Filter FilterFault.NoMemory) }
 {}

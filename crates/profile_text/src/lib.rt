@@ -1,7 +1,8 @@
 //! Sandbox profiles as documents: their reader, their canonical text and its digest.
 //!
-//! A document is JSON in the form of the OCI Runtime Specification 1.x: the member `process.capabilities` of `config.md`
-//! as `capabilities`, and Seccomp of `config-linux.md` as `seccomp`.
+//! A document is JSON in the form of the OCI Runtime Specification 1.x: the member
+//! `process.capabilities` of `config.md` as `capabilities`, and Seccomp of `config-linux.md` as
+//! `seccomp`.
 #![tactic(auto)]
 
 mod argument;

@@ -1,11 +1,12 @@
 // The walk over the members of an object.
 
-ghost use Rattle.serde_json.specs.View.{members_view, view};
+ghost use Rattle.json_tree.specs.View.{members_view, view};
 ghost use Rattle.profile_text.specs.Reading.{GivesAs, unless_faulty};
-ghost use Rattle.profile_text.specs.Shape.{below, members_faults, members_over, row_faults, row_named};
+ghost use Rattle.profile_text.specs.Shape.{below, members_faults, members_over, row_faults};
+ghost use Rattle.profile_text.specs.Shape.{row_named};
 
 use crate::fault::DocFault;
-use serde_json::{Map, Value};
+use json_tree::Tree;
 use std::alloc::Global;
 
 /// What the members of an object of one kind give, one after another.
@@ -38,11 +39,11 @@ pub(crate) trait FromMembers: Drop {
         alloc: Global,
         at: Self::At,
         name: &str,
-        value: Value,
+        value: &Tree<'_>,
     ) -> Result<(), DocFault>
         ensures { GivesAs (λ taken. seen self.new) result (unless_faulty
-            (row_faults (row_named rows name.now) (below (path at) name.now) (view value))
-            (with_member name.now (view value) (seen self.old))) };
+            (row_faults (row_named rows name.now) (below (path at) name.now) (view value.now))
+            (with_member name.now (view value.now) (seen self.old))) };
 }
 
 /// What the members give beside what was found, or their first fault.
@@ -50,15 +51,15 @@ pub(crate) fn with_members<F: FromMembers>(
     alloc: Global,
     at: F::At,
     start: F,
-    members: Map<String, Value>,
+    members: &[(&str, Tree<'_>)],
 ) -> Result<F, DocFault>
     ensures { GivesAs F.seen result (unless_faulty
-        (members_faults F.rows (F.path at) (members_view members.entries))
-        (members_over F.with_member (F.seen start) (members_view members.entries))) }
+        (members_faults F.rows (F.path at) (members_view members.now))
+        (members_over F.with_member (F.seen start) (members_view members.now))) }
 {
     let mut found = start;
     for (name, value) in members {
-        found.take_member(alloc, at, name.as_str(), value)?;
+        found.take_member(alloc, at, name, value)?;
     }
     Ok(found)
 }

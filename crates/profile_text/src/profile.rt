@@ -6,8 +6,8 @@ use cap_sets::{CapState, Caps};
 use seccomp_doc::{Action, Filter};
 use std::alloc::Global;
 
-/// What a container may do: its capability sets, and its filter of system calls, where it has one. Without a filter
-/// every call is allowed.
+/// What a container may do: its capability sets, and its filter of system calls, where it has one.
+/// Without a filter every call is allowed.
 #[derive(Debug, Drop)]
 pub struct Profile {
     pub caps: CapState,
@@ -25,8 +25,8 @@ impl Profile {
         Profile { caps, filter }
     }
 
-    /// The profile that permits nothing: no capabilities, and a filter whose default is to end the process. It takes no
-    /// memory.
+    /// The profile that permits nothing: no capabilities, and a filter whose default is to end the
+    /// process. It takes no memory.
     pub fn closed(alloc: Global) -> Profile
         ensures { result ≡ closed_profile }
     {

@@ -1,5 +1,6 @@
 -- What it means that the first rule that refuses is named.
-use Rattle.std.specs.Prelude.{◌≡◌, ℕ, ◌+◌, List, ◌∷◌, ◌++◌, Bool, true, false, length, Result, Ok, Err, ⊤}
+use Rattle.std.specs.Prelude.{◌≡◌, ℕ, ◌+◌, List, ◌∷◌, ◌++◌, Bool, true, false, length, Result, Ok}
+use Rattle.std.specs.Prelude.{Err, ⊤}
 use Rattle.std.specs.List.{list_any}
 use Rattle.review_policy.specs.declared.denial.Denial.{Denial}
 use Rattle.review_policy.specs.declared.denial.Rule.{Rule}
@@ -8,7 +9,8 @@ use Rattle.review_policy.specs.declared.denial.Rule.{Rule}
 abbrev pub any_refuses : List (Rule × Bool) → Bool
 any_refuses rules = list_any (λ r. r.1) rules
 
--- the rule refuses, no rule before it does, and its number is its place where that of the first rule is `first`
+-- the rule refuses, no rule before it does, and its number is its place where that of the first
+-- rule is `first`
 pub record IsFirstRefusal (first : ℕ) (rules : List (Rule × Bool)) (denial : Denial) : Type 0 where
   pub before : List (Rule × Bool)
   pub after : List (Rule × Bool)

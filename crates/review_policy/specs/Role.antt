@@ -2,7 +2,8 @@
 use Rattle.std.specs.Prelude.{ℕ, Bool, ◌==◌}
 use Rattle.std.specs.Int.{bit_at}
 use Rattle.review_policy.specs.declared.role.Role.{Role}
-use Rattle.review_policy.specs.declared.role.Role.TheVariants.{Registrar, Author, Reviewer, Security, Issuer, Machine}
+use Rattle.review_policy.specs.declared.role.Role.TheVariants.{Registrar, Author, Reviewer}
+use Rattle.review_policy.specs.declared.role.Role.TheVariants.{Security, Issuer, Machine}
 
 -- the bit of each role
 abbrev pub place_of : Role → ℕ

@@ -1,10 +1,22 @@
 -- The rules of each request, in the order in which they are asked, each with whether it refuses.
-use Rattle.std.specs.Prelude.{ℕ, suc, List, [], ◌∷◌, Bool, true, false, not, ◌||◌, ◌&&◌, nat_lt, nat_le, ◌==◌, if◌then◌else◌, Option, Some, is_none, Result, Ok, Err, ⊤}
+use Rattle.std.specs.Prelude.{ℕ, suc, List, [], ◌∷◌, Bool, true, false, not, ◌||◌, ◌&&◌, nat_lt}
+use Rattle.std.specs.Prelude.{nat_le, ◌==◌, if◌then◌else◌, Option, Some, is_none, Result, Ok, Err}
+use Rattle.std.specs.Prelude.{⊤}
 use Rattle.review_policy.specs.declared.denial.Denial.{Denial}
 use Rattle.review_policy.specs.declared.denial.Need.{Need}
 use Rattle.review_policy.specs.declared.denial.Need.TheVariants.{One, TwoWithSecurity}
 use Rattle.review_policy.specs.declared.denial.Rule.{Rule}
-use Rattle.review_policy.specs.declared.denial.Rule.TheVariants.{CallerUnknown, RoleMissing, OwnRow, TeamFixed, TokenTaken, OtherTeam, Document, SameAsOpen, RevisionsFull, NoRevision, AuthorVotes, NotOpen, OtherBytes, AuthorIssues, Rejected, ApprovalsShort, SecurityMissing, NotStanding, AuthorAdopts, NotIssued, NothingIssued, NoProfile, AlreadyHeld, NotHeld, Held}
+use Rattle.review_policy.specs.declared.denial.Rule.TheVariants.{CallerUnknown, RoleMissing, OwnRow}
+use Rattle.review_policy.specs.declared.denial.Rule.TheVariants.{TeamFixed, TokenTaken, OtherTeam}
+use Rattle.review_policy.specs.declared.denial.Rule.TheVariants.{Document, SameAsOpen}
+use Rattle.review_policy.specs.declared.denial.Rule.TheVariants.{RevisionsFull, NoRevision}
+use Rattle.review_policy.specs.declared.denial.Rule.TheVariants.{AuthorVotes, NotOpen, OtherBytes}
+use Rattle.review_policy.specs.declared.denial.Rule.TheVariants.{AuthorIssues, Rejected}
+use Rattle.review_policy.specs.declared.denial.Rule.TheVariants.{ApprovalsShort, SecurityMissing}
+use Rattle.review_policy.specs.declared.denial.Rule.TheVariants.{NotStanding, AuthorAdopts}
+use Rattle.review_policy.specs.declared.denial.Rule.TheVariants.{NotIssued, NothingIssued}
+use Rattle.review_policy.specs.declared.denial.Rule.TheVariants.{NoProfile, AlreadyHeld, NotHeld}
+use Rattle.review_policy.specs.declared.denial.Rule.TheVariants.{Held}
 use Rattle.review_policy.specs.declared.revision.State.{State}
 use Rattle.review_policy.specs.declared.revision.State.TheVariants.{Open, Issued}
 use Rattle.review_policy.specs.declared.facts.EnrolFacts.{EnrolFacts}
@@ -36,7 +48,8 @@ is_issued _ = false
 abbrev pub is_standing : Option State → Bool
 is_standing state = is_open state || is_issued state
 
--- two approvals, one of them with security, where the document is wider than the baseline or holds a listed capability
+-- two approvals, one of them with security, where the document is wider than the baseline or holds
+-- a listed capability
 abbrev pub need_of : Bool → Bool → Need
 need_of wide listed = if wide || listed then TwoWithSecurity else One
 
@@ -82,7 +95,8 @@ vote_rules f =
     ∷ (OtherBytes, f.other_bytes)
     ∷ []
 
--- an issuer who is no author of the profile issues an open revision that nobody rejects and enough approve, unless it is held
+-- an issuer who is no author of the profile issues an open revision that nobody rejects and enough
+-- approve, unless it is held
 abbrev pub issue_rules : IssueFacts → List (Rule × Bool)
 issue_rules f =
     (CallerUnknown, f.caller_unknown)

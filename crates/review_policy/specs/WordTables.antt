@@ -4,11 +4,23 @@ use Rattle.std.specs.Str.{bytes_eq}
 use Rattle.review_policy.specs.declared.answer.Fault.{Fault}
 use Rattle.review_policy.specs.declared.answer.Fault.TheVariants.{Memory, Disk, Full, NotAnOffice}
 use Rattle.review_policy.specs.declared.denial.Rule.{Rule}
-use Rattle.review_policy.specs.declared.denial.Rule.TheVariants.{CallerUnknown, RoleMissing, OwnRow, TeamFixed, TokenTaken, OtherTeam, Document, SameAsOpen, RevisionsFull, NoRevision, AuthorVotes, NotOpen, OtherBytes, AuthorIssues, Rejected, ApprovalsShort, SecurityMissing, NotStanding, AuthorAdopts, NotIssued, NothingIssued, NoProfile, AlreadyHeld, NotHeld, Held}
+use Rattle.review_policy.specs.declared.denial.Rule.TheVariants.{CallerUnknown, RoleMissing, OwnRow}
+use Rattle.review_policy.specs.declared.denial.Rule.TheVariants.{TeamFixed, TokenTaken, OtherTeam}
+use Rattle.review_policy.specs.declared.denial.Rule.TheVariants.{Document, SameAsOpen}
+use Rattle.review_policy.specs.declared.denial.Rule.TheVariants.{RevisionsFull, NoRevision}
+use Rattle.review_policy.specs.declared.denial.Rule.TheVariants.{AuthorVotes, NotOpen, OtherBytes}
+use Rattle.review_policy.specs.declared.denial.Rule.TheVariants.{AuthorIssues, Rejected}
+use Rattle.review_policy.specs.declared.denial.Rule.TheVariants.{ApprovalsShort, SecurityMissing}
+use Rattle.review_policy.specs.declared.denial.Rule.TheVariants.{NotStanding, AuthorAdopts}
+use Rattle.review_policy.specs.declared.denial.Rule.TheVariants.{NotIssued, NothingIssued}
+use Rattle.review_policy.specs.declared.denial.Rule.TheVariants.{NoProfile, AlreadyHeld, NotHeld}
+use Rattle.review_policy.specs.declared.denial.Rule.TheVariants.{Held}
 use Rattle.review_policy.specs.declared.revision.State.{State}
-use Rattle.review_policy.specs.declared.revision.State.TheVariants.{Open, Closed, Issued, Replaced, Withdrawn}
+use Rattle.review_policy.specs.declared.revision.State.TheVariants.{Open, Closed, Issued, Replaced}
+use Rattle.review_policy.specs.declared.revision.State.TheVariants.{Withdrawn}
 use Rattle.review_policy.specs.declared.role.Role.{Role}
-use Rattle.review_policy.specs.declared.role.Role.TheVariants.{Registrar, Author, Reviewer, Security, Issuer, Machine}
+use Rattle.review_policy.specs.declared.role.Role.TheVariants.{Registrar, Author, Reviewer}
+use Rattle.review_policy.specs.declared.role.Role.TheVariants.{Security, Issuer, Machine}
 
 -- the word of each rule
 abbrev pub rule_word : Rule → List ℕ

@@ -16,4 +16,5 @@ is_token_byte b = nat_le 33 b && nat_le b 126
 
 -- what a caller shows: 1 to 128 such bytes
 unfoldable pub is_token : List ℕ → Bool
-is_token bytes = nat_le 1 (length bytes) && nat_le (length bytes) 128 && list_all is_token_byte bytes
+is_token bytes =
+    nat_le 1 (length bytes) && nat_le (length bytes) 128 && list_all is_token_byte bytes

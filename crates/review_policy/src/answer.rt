@@ -87,7 +87,8 @@ pub enum Reply {
     Listed {
         profiles: Listing,
     },
-    /// What was issued of a profile: the canonical text, the digest of that, and the revision's number.
+    /// What was issued of a profile: the canonical text, the digest of that, and the revision's
+    /// number.
     Fetched {
         digest: [u8; 32],
         document: Text,

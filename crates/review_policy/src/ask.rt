@@ -13,7 +13,8 @@ pub struct ProfileName {
     pub profile: Word,
 }
 
-/// What a request asks for. Digests are of SHA-256; revisions are numbered from 1 to [`crate::MAX_REVISIONS`].
+/// What a request asks for. Digests are of SHA-256; revisions are numbered from 1 to
+/// [`crate::MAX_REVISIONS`].
 #[derive(Debug, Drop)]
 pub enum Ask {
     /// To enrol a user, or to give an enrolled one these roles and the token of this digest.

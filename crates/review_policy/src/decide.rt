@@ -2,7 +2,9 @@
 
 ghost use Rattle.std.specs.Prelude.{◌≡◌, List, Bool, false, Ok, Err, if◌then◌else◌};
 ghost use Rattle.review_policy.specs.FirstRefusal.{IsDecision, any_refuses};
-ghost use Rattle.review_policy.specs.Rules.{first_denial, need_of, is_open, is_issued, enrol_rules, submit_rules, vote_rules, issue_rules, withdraw_rules, adopt_rules, fetch_rules, hold_rules, release_rules};
+ghost use Rattle.review_policy.specs.Rules.{first_denial, need_of, is_open, is_issued, enrol_rules};
+ghost use Rattle.review_policy.specs.Rules.{submit_rules, vote_rules, issue_rules, withdraw_rules};
+ghost use Rattle.review_policy.specs.Rules.{adopt_rules, fetch_rules, hold_rules, release_rules};
 ghost use Rattle.review_policy.specs.declared.facts.TheConstants.EnrolFacts as enrol_facts;
 ghost use Rattle.review_policy.specs.declared.facts.TheConstants.SubmitFacts as submit_facts;
 ghost use Rattle.review_policy.specs.declared.facts.TheConstants.VoteFacts as vote_facts;
@@ -38,8 +40,8 @@ pub use submit::decide_submit;
 pub use vote::decide_vote;
 pub use withdraw::decide_withdraw;
 
-/// How many approvals a revision needs: two, one of them with the role security, where its document is wider than the
-/// baseline or holds a listed capability.
+/// How many approvals a revision needs: two, one of them with the role security, where its document
+/// is wider than the baseline or holds a listed capability.
 pub fn need(wide: bool, listed: bool) -> Need
     ensures { result ≡ need_of wide listed }
 {
@@ -50,8 +52,8 @@ pub fn need(wide: bool, listed: bool) -> Need
     }
 }
 
-/// The law of the decisions: the rule that a denial names refuses, no rule before it does, and its number is its place;
-/// where nothing is denied, no rule refuses.
+/// The law of the decisions: the rule that a denial names refuses, no rule before it does, and its
+/// number is its place; where nothing is denied, no rule refuses.
 #[tactic(auto, using(crate::proofs::Decisions::first_denial_is_decision))]
 pub fn the_first_refusing_rule_is_named()
     ensures { (rules : List (Rule × Bool)) → IsDecision 1 rules (first_denial rules) }

@@ -1,4 +1,5 @@
-//! What the rules of each request ask. A truth value named by a rule's word is true where the rule refuses.
+//! What the rules of each request ask. A truth value named by a rule's word is true where the rule
+//! refuses.
 
 use crate::denial::Need;
 use crate::revision::State;
@@ -99,7 +100,8 @@ pub struct IssueFacts {
     pub rejections: u64,
     /// How many standing votes count and approve.
     pub approvals: u64,
-    /// How many of the approvals have security: the voter held that role at the vote and holds it now.
+    /// How many of the approvals have security: the voter held that role at the vote and holds it
+    /// now.
     pub secure: u64,
     /// How many approvals are needed.
     pub need: Need,

@@ -1,4 +1,5 @@
-//! The words of the office, the requests that are made of it, and the rules that allow or refuse them.
+//! The words of the office, the requests that are made of it, and the rules that allow or refuse
+//! them.
 #![tactic(auto)]
 
 pub mod answer;

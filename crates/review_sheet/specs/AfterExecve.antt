@@ -1,5 +1,5 @@
--- The states after execve that a sheet shows: of a plain file, and of a plain file by root. Each comes with what it is by
--- capabilities(7), so that there is always one.
+-- The states after execve that a sheet shows: of a plain file, and of a plain file by root. Each
+-- comes with what it is by capabilities(7), so that there is always one.
 use Rattle.std.specs.Prelude.{ℕ}
 use Rattle.std.proofs.Common.{inl, inr, refl}
 use Rattle.std.proofs.lemmas.Bool.{false≢true}
@@ -11,7 +11,8 @@ use Rattle.cap_sets.specs.Execve.{IsAfter, IsAfterRoot, permitted_after}
 use Rattle.cap_sets.proofs.Bits.{either_from_or, or_from_either}
 
 -- of a plain file just what is ambient is permitted
-pub only_ambient : (before : CapState) (n : ℕ) → permitted_after before Plain n → Has before.ambient n
+pub only_ambient : (before : CapState) (n : ℕ) → permitted_after before Plain n
+    → Has before.ambient n
 only_ambient before n (inl (inl inherited)) = absurd inherited.1
 only_ambient before n (inl (inr granted)) = absurd granted.0
 only_ambient before n (inr ambient) = ambient
@@ -22,7 +23,11 @@ after_plain before = (
   record before {
     effective = before.ambient;
     permitted = before.ambient;
-    lawful = record { effective_permitted = λ n h. h; ambient_permitted = λ n h. h; ambient_inheritable = before.lawful.ambient_inheritable };
+    lawful = record {
+      effective_permitted = λ n h. h;
+      ambient_permitted = λ n h. h;
+      ambient_inheritable = before.lawful.ambient_inheritable;
+    };
   },
   record {
     gained = λ set. absurd (false≢true set);
@@ -42,12 +47,16 @@ after_root before = (
     permitted = bit_or before.inheritable before.bounding;
     lawful = record {
       effective_permitted = λ n h. h;
-      ambient_permitted = λ n h. or_from_either before.inheritable before.bounding n (inl (before.lawful.ambient_inheritable n h));
+      ambient_permitted = λ n h. or_from_either before.inheritable before.bounding n
+          (inl (before.lawful.ambient_inheritable n h));
       ambient_inheritable = before.lawful.ambient_inheritable;
     };
   },
   record {
-    permitted = λ n. (either_from_or before.inheritable before.bounding n, or_from_either before.inheritable before.bounding n);
+    permitted = λ n. (
+      either_from_or before.inheritable before.bounding n,
+      or_from_either before.inheritable before.bounding n,
+    );
     effective = refl;
     ambient = refl;
     inheritable = refl;

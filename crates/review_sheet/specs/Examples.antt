@@ -221,3 +221,15 @@ detailed_lines =
     ∷ codes "approvals: 2"
     ∷ codes "rejections: 1"
     ∷ []
+
+-- ---- lines of votes
+
+-- approvals, a rejection, and votes that lapsed
+abbrev pub examples_of_votes : List (List ℕ)
+examples_of_votes =
+    codes "  ann approve"
+    ∷ codes "  ben approve security"
+    ∷ codes "  cat reject"
+    ∷ codes "  dee approve lapsed"
+    ∷ codes "  eve reject lapsed"
+    ∷ []

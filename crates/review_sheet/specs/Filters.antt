@@ -1,5 +1,6 @@
 -- The lines of a filter of system calls.
-use Rattle.std.specs.Prelude.{ℕ, ◌+◌, List, [], ◌∷◌, ◌++◌, Option, Some, None, if◌then◌else◌, codes, decimal, length, map}
+use Rattle.std.specs.Prelude.{ℕ, ◌+◌, List, [], ◌∷◌, ◌++◌, Option, Some, None, if◌then◌else◌, codes}
+use Rattle.std.specs.Prelude.{decimal, length, map}
 use Rattle.seccomp_doc.specs.declared.action.Action.{Action}
 use Rattle.seccomp_doc.specs.declared.compare.Compare.{Compare}
 use Rattle.seccomp_doc.specs.Action.{action_word_text, errno_of, word_of}
@@ -16,7 +17,9 @@ abbrev pub second_value : Compare → Option ℕ
 second_value c = if is_masked c.op then Some c.value_two else None
 
 abbrev pub arg_line : Compare → List ℕ
-arg_line c = codes "  arg " ++ decimal c.index ++ codes ": " ++ op_text c.op ++ codes " " ++ decimal c.value ++ then_number (second_value c)
+arg_line c =
+    codes "  arg " ++ decimal c.index ++ codes ": " ++ op_text c.op
+    ++ codes " " ++ decimal c.value ++ then_number (second_value c)
 
 -- an entry with its number, its names, and its comparisons in the order of their list
 abbrev pub entry_lines : ℕ → EntryValue → List (List ℕ)

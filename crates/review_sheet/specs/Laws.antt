@@ -1,5 +1,6 @@
 -- What the lines of a sheet say of each other.
-use Rattle.std.specs.Prelude.{◌≡◌, ℕ, List, [], ◌∷◌, ◌++◌, Bool, ◌||◌, bytes_eq, codes, count_by, decimal, length, if◌then◌else◌, reverse, take}
+use Rattle.std.specs.Prelude.{◌≡◌, ℕ, List, [], ◌∷◌, ◌++◌, Bool, ◌||◌, bytes_eq, codes, count_by}
+use Rattle.std.specs.Prelude.{decimal, length, if◌then◌else◌, reverse, take}
 
 -- a line begins with two spaces
 abbrev pub is_indented : List ℕ → Bool
@@ -33,9 +34,11 @@ pub record CountsBelow (label : List ℕ) (lines : List (List ℕ)) : Type 0 whe
   pub below : List (List ℕ)
   pub whole : lines ≡ above ++ ((label ++ decimal (length (indented_first below))) ∷ below)
 
--- the lines end with those of the votes, and with how many of these say `approve`, and `reject`, and not `lapsed`
+-- the lines end with those of the votes, and with how many of these say `approve`, and `reject`,
+-- and not `lapsed`
 pub record CountsVotes (lines : List (List ℕ)) : Type 0 where
   pub above : List (List ℕ)
   pub votes : List (List ℕ)
   pub whole : lines ≡ above ++ ((codes "votes: " ++ decimal (length votes)) ∷ votes)
-      ++ ((codes "approvals: " ++ decimal (count_by says_approve votes)) ∷ (codes "rejections: " ++ decimal (count_by says_reject votes)) ∷ [])
+      ++ ((codes "approvals: " ++ decimal (count_by says_approve votes))
+      ∷ (codes "rejections: " ++ decimal (count_by says_reject votes)) ∷ [])

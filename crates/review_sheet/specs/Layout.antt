@@ -1,5 +1,6 @@
 -- How a sheet is laid out: lines, and the items of a list within a line.
-use Rattle.std.specs.Prelude.{◌≡◌, ℕ, List, [], ◌∷◌, ◌++◌, Option, Some, None, String, codes, decimal, flat_map, string_bytes}
+use Rattle.std.specs.Prelude.{◌≡◌, ℕ, List, [], ◌∷◌, ◌++◌, Option, Some, None, String, codes}
+use Rattle.std.specs.Prelude.{decimal, flat_map, string_bytes}
 use Rattle.std.specs.declared.alloc.Global.{Global}
 
 -- a line, ended by a line feed

@@ -1,5 +1,6 @@
 -- The lines of what a reviewer decides by: the findings, the need and the votes.
-use Rattle.std.specs.Prelude.{ℕ, List, [], ◌∷◌, ◌++◌, Bool, true, false, not, ◌&&◌, ◌==◌, if◌then◌else◌, codes, decimal, length, map, count_by}
+use Rattle.std.specs.Prelude.{ℕ, List, [], ◌∷◌, ◌++◌, Bool, true, false, not, ◌&&◌, ◌==◌}
+use Rattle.std.specs.Prelude.{if◌then◌else◌, codes, decimal, length, map, count_by}
 use Rattle.cap_sets.specs.Capability.{names_of, single}
 use Rattle.profile_text.specs.Sets.{set_name}
 use Rattle.review_policy.specs.declared.denial.Need.{Need}
@@ -7,14 +8,16 @@ use Rattle.review_policy.specs.declared.denial.Need.TheVariants.{One, TwoWithSec
 use Rattle.review_policy.specs.Votes.{is_approval, is_rejection}
 use Rattle.review_policy.specs.declared.revision.VoteRow.{VoteRow}
 use Rattle.widening.specs.declared.finding.Finding.{Finding}
-use Rattle.widening.specs.declared.finding.Finding.TheVariants.{Cap, NoSeccomp, AnyArch, Arch, Flag, Call, Default}
+use Rattle.widening.specs.declared.finding.Finding.TheVariants.{Cap, NoSeccomp, AnyArch, Arch, Flag}
+use Rattle.widening.specs.declared.finding.Finding.TheVariants.{Call, Default}
 use Rattle.review_sheet.specs.Layout.{items_text, joined}
 
 -- ---- findings
 
 -- the words of a finding; a capability by the name of the one member of its set
 abbrev pub finding_text : Finding → List ℕ
-finding_text (Cap set number) = codes "capability " ++ set_name set ++ codes " " ++ items_text (names_of (single number))
+finding_text (Cap set number) =
+    codes "capability " ++ set_name set ++ codes " " ++ items_text (names_of (single number))
 finding_text NoSeccomp = codes "no-seccomp"
 finding_text AnyArch = codes "architecture any"
 finding_text (Arch text) = codes "architecture " ++ text

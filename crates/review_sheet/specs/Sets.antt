@@ -41,4 +41,5 @@ root_lines after =
 
 -- the sets of a document, and then those after execve
 unfoldable pub caps_lines : CapState → List (List ℕ)
-caps_lines state = state_lines state ++ plain_lines (after_plain state).0 ++ root_lines (after_root state).0
+caps_lines state =
+    state_lines state ++ plain_lines (after_plain state).0 ++ root_lines (after_root state).0

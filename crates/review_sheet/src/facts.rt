@@ -18,8 +18,8 @@ pub struct SheetFacts<'a> {
     pub state: State,
     /// SHA-256 of its canonical text.
     pub digest: [u8; 32],
-    /// The adopted revision that it is compared with, by the name of its profile and its number; none where it is
-    /// compared with the closed profile.
+    /// The adopted revision that it is compared with, by the name of its profile and its number;
+    /// none where it is compared with the closed profile.
     pub baseline: Option<(Word, u32)>,
     /// The document that it is compared with.
     pub base: &'a Profile,

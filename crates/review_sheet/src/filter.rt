@@ -1,7 +1,8 @@
 //! The lines of a filter.
 
 ghost use Rattle.std.specs.Prelude.{◌++◌, OnOk, codes, decimal, map};
-ghost use Rattle.review_sheet.specs.Filters.{action_text, arg_line, entries_lines, entry_lines, filter_lines, seccomp_lines, second_value};
+ghost use Rattle.review_sheet.specs.Filters.{action_text, arg_line, entries_lines, entry_lines};
+ghost use Rattle.review_sheet.specs.Filters.{filter_lines, seccomp_lines, second_value};
 ghost use Rattle.review_sheet.specs.Layout.{Adds, AddsLines, ended, then_number};
 
 use crate::layout::{push_count, push_list};
@@ -45,7 +46,8 @@ fn push_action(text: &mut String, action: Action) -> Result<(), AllocError>
 
 // Adds the line of the default action.
 fn push_default(text: &mut String, action: Action) -> Result<(), AllocError>
-    ensures { OnOk result (Adds text.old text.new (ended (codes "seccomp: " ++ action_text action))) }
+    ensures { OnOk result
+        (Adds text.old text.new (ended (codes "seccomp: " ++ action_text action))) }
 {
     text.push_str("seccomp: ")?;
     push_action(text, action)?;

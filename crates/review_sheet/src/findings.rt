@@ -1,10 +1,13 @@
-//! The words of the findings, and the lines of the findings, of the listed capabilities and of the need.
+//! The words of the findings, and the lines of the findings, of the listed capabilities and of the
+//! need.
 
-ghost use Rattle.std.specs.Prelude.{◌≡◌, ◌++◌, ◌∷◌, ◌==◌, [], not, IfOk, OnOk, codes, map, string_bytes};
+ghost use Rattle.std.specs.Prelude.{◌≡◌, ◌++◌, ◌∷◌, ◌==◌, [], not, IfOk, OnOk, codes, map};
+ghost use Rattle.std.specs.Prelude.{string_bytes};
 ghost use Rattle.cap_sets.specs.Capability.{names_of, single};
 ghost use Rattle.review_policy.specs.Rules.{need_of};
 ghost use Rattle.review_sheet.specs.Layout.{Adds, AddsLines, ended};
-ghost use Rattle.review_sheet.specs.Review.{finding_line, finding_text, findings_lines, findings_text, need_text};
+ghost use Rattle.review_sheet.specs.Review.{finding_line, finding_text, findings_lines};
+ghost use Rattle.review_sheet.specs.Review.{findings_text, need_text};
 ghost use Rattle.review_sheet.specs.Sets.{set_line};
 ghost use Rattle.widening.specs.declared.finding.Finding.TheVariants as finding;
 
@@ -14,7 +17,8 @@ use review_policy::{Need, need};
 use std::alloc::{AllocError, Global};
 use widening::{CapSet, Finding};
 
-/// The words of findings, each ended by a line feed, in order: their lines on a sheet without the two spaces in front.
+/// The words of findings, each ended by a line feed, in order: their lines on a sheet without the
+/// two spaces in front.
 ///
 /// # Errors
 ///

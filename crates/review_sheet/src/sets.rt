@@ -3,7 +3,8 @@
 ghost use Rattle.std.specs.Prelude.{◌≡◌, IfOk, OnOk, string_bytes};
 ghost use Rattle.cap_sets.specs.Execve.{IsAfter};
 ghost use Rattle.review_sheet.specs.Layout.{AddsLines};
-ghost use Rattle.review_sheet.specs.Sets.{caps_lines, plain_lines, root_lines, state_lines, state_text};
+ghost use Rattle.review_sheet.specs.Sets.{caps_lines, plain_lines, root_lines, state_lines};
+ghost use Rattle.review_sheet.specs.Sets.{state_text};
 
 use crate::layout::push_set;
 use cap_sets::{CapState, File, execve, execve_root};

@@ -17,8 +17,8 @@ use widening::findings;
 
 /// The review sheet of a revision: lines that each end with a line feed.
 ///
-/// The findings and the need are those against the document that the facts name. A sheet is written straight into one
-/// text; besides `findings`, its time is that of its length.
+/// The findings and the need are those against the document that the facts name. A sheet is written
+/// straight into one text; besides `findings`, its time is that of its length.
 ///
 /// # Errors
 ///
@@ -63,7 +63,8 @@ fn digest_text(alloc: Global, digest: &[u8; 32]) -> Result<String, AllocError>
 
 // Adds the adopted revision, or that there is none.
 fn push_baseline(text: &mut String, baseline: &Option<(Word, u32)>) -> Result<(), AllocError>
-    ensures { OnOk result (Adds text.old text.new (ended (codes "baseline: " ++ baseline_text baseline.now))) }
+    ensures { OnOk result
+        (Adds text.old text.new (ended (codes "baseline: " ++ baseline_text baseline.now))) }
 {
     match baseline {
         Some((profile, number)) => {

@@ -1,5 +1,6 @@
 -- Actions: their names, their numbers and their order.
-use Rattle.std.specs.Prelude.{ℕ, List, [], ◌∷◌, Bool, true, false, Option, Some, None, ◌&&◌, ◌==◌, unwrap_or, if◌then◌else◌, find, bytes_eq, codes}
+use Rattle.std.specs.Prelude.{ℕ, List, [], ◌∷◌, Bool, true, false, Option, Some, None, ◌&&◌, ◌==◌}
+use Rattle.std.specs.Prelude.{unwrap_or, if◌then◌else◌, find, bytes_eq, codes}
 use Rattle.seccomp_doc.specs.declared.action.ActionWord.{ActionWord}
 use Rattle.seccomp_doc.specs.declared.action.ActionWord.TheVariants as words
 use Rattle.seccomp_doc.specs.declared.action.Action.{Action}
@@ -16,7 +17,8 @@ action_word_text words.Log = codes "SCMP_ACT_LOG"
 action_word_text words.Allow = codes "SCMP_ACT_ALLOW"
 
 abbrev pub action_words : List ActionWord
-action_words = words.KillProcess ∷ words.KillThread ∷ words.Trap ∷ words.Errno ∷ words.Trace ∷ words.Log ∷ words.Allow ∷ []
+action_words = words.KillProcess ∷ words.KillThread ∷ words.Trap ∷ words.Errno ∷ words.Trace
+    ∷ words.Log ∷ words.Allow ∷ []
 
 -- the action of a name; the older name of KillThread is read too
 unfoldable pub action_word_named : List ℕ → Option ActionWord

@@ -1,11 +1,16 @@
 -- What may be wrong with the parts of a filter, in the order of the refusals.
-use Rattle.std.specs.Prelude.{◌≡◌, ◌≢◌, ℕ, List, [], ◌∷◌, ◌++◌, Bool, not, ◌&&◌, ◌||◌, ◌==◌, nat_lt, Option, Some, None, is_some, unwrap_or, option_map, Result, Ok, Err, map, find, flat_map, length}
+use Rattle.std.specs.Prelude.{◌≡◌, ◌≢◌, ℕ, List, [], ◌∷◌, ◌++◌, Bool, not, ◌&&◌, ◌||◌, ◌==◌, nat_lt}
+use Rattle.std.specs.Prelude.{Option, Some, None, is_some, unwrap_or, option_map, Result, Ok, Err}
+use Rattle.std.specs.Prelude.{map, find, flat_map, length}
 use Rattle.std.specs.List.{list_any}
 use Rattle.seccomp_doc.specs.declared.action.ActionWord.{ActionWord}
 use Rattle.seccomp_doc.specs.declared.action.Action.{Action}
 use Rattle.seccomp_doc.specs.declared.parts.ArgParts.{ArgParts}
 use Rattle.seccomp_doc.specs.declared.fault.FilterFault.{FilterFault}
-use Rattle.seccomp_doc.specs.declared.fault.FilterFault.TheVariants.{NoNames, BadCallName, BadIndex, IndexTwice, ErrnoNotTaken, ErrnoTooLarge, TwoActions, TooMany, NoMemory}
+use Rattle.seccomp_doc.specs.declared.fault.FilterFault.TheVariants.{NoNames, BadCallName, BadIndex}
+use Rattle.seccomp_doc.specs.declared.fault.FilterFault.TheVariants.{IndexTwice, ErrnoNotTaken}
+use Rattle.seccomp_doc.specs.declared.fault.FilterFault.TheVariants.{ErrnoTooLarge, TwoActions}
+use Rattle.seccomp_doc.specs.declared.fault.FilterFault.TheVariants.{TooMany, NoMemory}
 use Rattle.seccomp_doc.specs.Action.{takes_errno, same_action}
 use Rattle.seccomp_doc.specs.Word.{is_call_name}
 use Rattle.seccomp_doc.specs.Filter.{EntryValue}
@@ -24,7 +29,8 @@ is_large e = nat_lt 1024 (length e.names) || nat_lt 6 (length e.args)
 -- a count is above its limit
 abbrev pub has_too_many : FilterPartsValue → Bool
 has_too_many p =
-    nat_lt 2048 (length p.entries) || nat_lt 64 (length p.architectures) || nat_lt 64 (length p.flags)
+    nat_lt 2048 (length p.entries) || nat_lt 64 (length p.architectures)
+    || nat_lt 64 (length p.flags)
     || list_any is_large p.entries
 
 -- the checks of a number beside an action's name
@@ -39,11 +45,13 @@ is_no_call_name name = not (is_call_name name)
 
 -- the checks of an entry's names
 abbrev pub names_checks : List (List ℕ) → List Check
-names_checks names = (NoNames, length names == 0) ∷ (BadCallName, list_any is_no_call_name names) ∷ []
+names_checks names =
+    (NoNames, length names == 0) ∷ (BadCallName, list_any is_no_call_name names) ∷ []
 
 -- the checks of an entry's comparisons
 abbrev pub arg_checks : List ArgParts → List Check
-arg_checks args = (BadIndex, list_any (λ a. nat_lt 5 a.index) args) ∷ (IndexTwice, has_repeat (map (λ a. a.index) args)) ∷ []
+arg_checks args = (BadIndex, list_any (λ a. nat_lt 5 a.index) args)
+    ∷ (IndexTwice, has_repeat (map (λ a. a.index) args)) ∷ []
 
 -- the checks of one entry
 abbrev pub entry_checks : EntryPartsValue → List Check
@@ -82,7 +90,8 @@ first_fault cs = option_map (λ c. c.0) (find (λ c. c.1) cs)
 unfoldable pub fault_of : FilterPartsValue → Option FilterFault
 fault_of p = first_fault (checks p)
 
--- what a step answers: its value where no fault stands, else the first one; memory may be refused in place of either
+-- what a step answers: its value where no fault stands, else the first one; memory may be refused
+-- in place of either
 abbrev pub Answers : {X : Type 0} → Option FilterFault → X → Result X FilterFault → Type 0
 Answers fault value (Ok x) = (fault ≡ None) × (x ≡ value)
 Answers fault value (Err e) = e ≢ NoMemory → fault ≡ Some e

@@ -1,7 +1,10 @@
 -- Comparisons, as in seccomp_rule_add(3), over unsigned numbers.
-use Rattle.std.specs.Prelude.{ℕ, List, [], ◌∷◌, Bool, true, false, not, Option, ◌==◌, nat_lt, nat_le, find, bytes_eq, bit_and, codes}
+use Rattle.std.specs.Prelude.{ℕ, List, [], ◌∷◌, Bool, true, false, not, Option, ◌==◌, nat_lt}
+use Rattle.std.specs.Prelude.{nat_le, find, bytes_eq, bit_and, codes}
 use Rattle.seccomp_doc.specs.declared.compare.Op.{Op}
-use Rattle.seccomp_doc.specs.declared.compare.Op.TheVariants.{NotEqual, LessThan, LessOrEqual, Equal, GreaterOrEqual, GreaterThan, MaskedEqual}
+use Rattle.seccomp_doc.specs.declared.compare.Op.TheVariants.{NotEqual, LessThan, LessOrEqual}
+use Rattle.seccomp_doc.specs.declared.compare.Op.TheVariants.{Equal, GreaterOrEqual, GreaterThan}
+use Rattle.seccomp_doc.specs.declared.compare.Op.TheVariants.{MaskedEqual}
 use Rattle.seccomp_doc.specs.declared.compare.Compare.{Compare}
 
 -- each operator's name, as libseccomp spells it

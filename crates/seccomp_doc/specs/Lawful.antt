@@ -1,5 +1,6 @@
 -- Lawful entries and filters: those that none of the refusals stands against.
-use Rattle.std.specs.Prelude.{◌≡◌, ℕ, ◌<◌, ◌≤◌, ◌^◌, List, [], ◌∷◌, Bool, true, false, ◌||◌, ◌==◌, All, Contains, length, map, Some}
+use Rattle.std.specs.Prelude.{◌≡◌, ℕ, ◌<◌, ◌≤◌, ◌^◌, List, [], ◌∷◌, Bool, true, false, ◌||◌, ◌==◌}
+use Rattle.std.specs.Prelude.{All, Contains, length, map, Some}
 use Rattle.std.specs.List.{list_any}
 use Rattle.seccomp_doc.specs.declared.action.Action.{Action}
 use Rattle.seccomp_doc.specs.declared.compare.Compare.{Compare}

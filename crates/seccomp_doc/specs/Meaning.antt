@@ -21,7 +21,8 @@ is_match name words e = has_name name e && admits_words e.args words
 
 -- the action of an entry that matches, else the default
 abbrev pub meaning : FilterValue → List ℕ → List ℕ → Action
-meaning f name words = option_map_or (λ e. e.action) (find (is_match name words) f.entries) f.default
+meaning f name words =
+    option_map_or (λ e. e.action) (find (is_match name words) f.entries) f.default
 
 -- the filter that has a default and nothing else
 abbrev pub only_default : Action → FilterValue

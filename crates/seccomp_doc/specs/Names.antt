@@ -26,7 +26,8 @@ is_unknown m name = not (is_some (action_under m name))
 -- no entry has the name, or those that have it have this action
 abbrev pub IsActionOf : List EntryValue → List ℕ → Option Action → Type 0
 IsActionOf entries name None = list_any (has_name name) entries ≡ false
-IsActionOf entries name (Some action) = (list_any (has_name name) entries ≡ true) × (list_any (contradicts name action) entries ≡ false)
+IsActionOf entries name (Some action) =
+    (list_any (has_name name) entries ≡ true) × (list_any (contradicts name action) entries ≡ false)
 
 -- the map knows the action of each name
 abbrev pub Knows : List EntryValue → BTreeMap (Bor (List ℕ)) Action → Type 0

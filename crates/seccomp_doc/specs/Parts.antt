@@ -34,10 +34,16 @@ action_of words.Allow errno = actions.Allow
 
 -- the second value counts where the operator is masked
 abbrev pub compare_of : ArgParts → Compare
-compare_of a = record { index = a.index; op = a.op; value = a.value; value_two = if is_masked a.op then a.value_two else 0 }
+compare_of a = record {
+  index = a.index;
+  op = a.op;
+  value = a.value;
+  value_two = if is_masked a.op then a.value_two else 0;
+}
 
 abbrev pub entry_of : EntryPartsValue → EntryValue
-entry_of e = record { names = e.names; action = action_of e.word e.errno; args = map compare_of e.args }
+entry_of e =
+    record { names = e.names; action = action_of e.word e.errno; args = map compare_of e.args }
 
 -- the same lists in the same order
 abbrev pub filter_of : FilterPartsValue → FilterValue

@@ -1,5 +1,6 @@
 -- The forms of names.
-use Rattle.std.specs.Prelude.{◌≡◌, ℕ, List, Bool, true, false, ◌&&◌, ◌||◌, ◌==◌, nat_lt, nat_le, Result, Ok, Err, length, take, drop, bytes_eq, codes}
+use Rattle.std.specs.Prelude.{◌≡◌, ℕ, List, Bool, true, false, ◌&&◌, ◌||◌, ◌==◌, nat_lt, nat_le}
+use Rattle.std.specs.Prelude.{Result, Ok, Err, length, take, drop, bytes_eq, codes}
 use Rattle.std.specs.List.{list_all}
 use Rattle.seccomp_doc.specs.declared.word.WordFault.{WordFault}
 use Rattle.seccomp_doc.specs.declared.word.WordFault.TheVariants.{NotAWord, NoMemory}
@@ -18,11 +19,13 @@ is_underscore b = b == 95
 
 -- 1 to a number of bytes of a kind
 abbrev pub is_name : (ℕ → Bool) → ℕ → List ℕ → Bool
-is_name kind most bytes = nat_lt 0 (length bytes) && nat_le (length bytes) most && list_all kind bytes
+is_name kind most bytes =
+    nat_lt 0 (length bytes) && nat_le (length bytes) most && list_all kind bytes
 
 -- a prefix, and then 1 to 32 bytes of a kind
 abbrev pub is_prefixed_name : List ℕ → (ℕ → Bool) → List ℕ → Bool
-is_prefixed_name prefix kind text = bytes_eq (take (length prefix) text) prefix && is_name kind 32 (drop (length prefix) text)
+is_prefixed_name prefix kind text =
+    bytes_eq (take (length prefix) text) prefix && is_name kind 32 (drop (length prefix) text)
 
 abbrev pub is_arch_byte : ℕ → Bool
 is_arch_byte b = is_upper_case b || is_digit b || is_underscore b
@@ -45,7 +48,8 @@ is_flag text = is_prefixed_name (codes "SECCOMP_FILTER_FLAG_") is_flag_byte text
 unfoldable pub is_call_name : List ℕ → Bool
 is_call_name text = is_name is_call_byte 64 text
 
--- what a reader answers: the text, where it is of the form, or that it isn't, or that memory was refused
+-- what a reader answers: the text, where it is of the form, or that it isn't, or that memory was
+-- refused
 abbrev pub Reads : (List ℕ → Bool) → List ℕ → Result (List ℕ) WordFault → Type 0
 Reads form text (Ok word) = (form text ≡ true) × (word ≡ text)
 Reads form text (Err NotAWord) = form text ≡ false

@@ -4,7 +4,8 @@ ghost use Rattle.std.specs.Prelude.{◌≡◌, Some, IfOk};
 ghost use Rattle.seccomp_doc.specs.Checks.{Answers, errno_checks, first_fault};
 ghost use Rattle.seccomp_doc.specs.Lawful.{IsLawfulAction};
 ghost use Rattle.seccomp_doc.specs.Parts.{action_of};
-ghost use Rattle.seccomp_doc.specs.Action.{action_word_named, action_word_text, errno_of, rank_of, same_action, takes_errno, word_of};
+ghost use Rattle.seccomp_doc.specs.Action.{action_word_named, action_word_text, errno_of, rank_of};
+ghost use Rattle.seccomp_doc.specs.Action.{same_action, takes_errno, word_of};
 
 use crate::fault::FilterFault;
 
@@ -90,8 +91,8 @@ pub enum Action {
 }
 
 impl Action {
-    /// Its place from the strictest, 0, to the most permissive, 6, in the order of seccomp(2). The number that an
-    /// action carries doesn't count.
+    /// Its place from the strictest, 0, to the most permissive, 6, in the order of seccomp(2). The
+    /// number that an action carries doesn't count.
     pub fn rank(self) -> u8
         ensures { result ≡ rank_of self }
     {
@@ -108,7 +109,8 @@ impl Action {
 
     // The action of this name, with this number. An absent number is 1.
     pub(crate) fn new(word: ActionWord, errno: Option<u64>) -> Result<Action, FilterFault>
-        ensures answers { Answers (first_fault (errno_checks word errno)) (action_of word errno) result }
+        ensures answers { Answers (first_fault (errno_checks word errno))
+            (action_of word errno) result }
         ensures lawful { IfOk result IsLawfulAction }
     {
         if errno.is_some() && !word.takes_errno() {

@@ -7,7 +7,8 @@ ghost use Rattle.seccomp_doc.specs.Word.{is_call_byte};
 use crate::text::{Form, Formed};
 use crate::word::is_of_length;
 
-/// The form of the name of a system call: 1 to 64 of a-z, 0-9 and underscore. No table of calls is looked at.
+/// The form of the name of a system call: 1 to 64 of a-z, 0-9 and underscore. No table of calls is
+/// looked at.
 #[derive(Clone, Copy, Debug)]
 pub struct CallForm;
 

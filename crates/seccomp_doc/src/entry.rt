@@ -1,11 +1,13 @@
 // Entries of a filter.
 
-ghost use Rattle.std.specs.Prelude.{◌≡◌, ◌≢◌, ◌<◌, ◌==◌, nat_lt, true, false, Some, None, IfOk, IfErr, All, map, string_bytes};
+ghost use Rattle.std.specs.Prelude.{◌≡◌, ◌≢◌, ◌<◌, ◌==◌, nat_lt, true, false, Some, None, IfOk};
+ghost use Rattle.std.specs.Prelude.{IfErr, All, map, string_bytes};
 ghost use Rattle.std.specs.List.{list_any};
 ghost use Rattle.seccomp_doc.specs.Meaning.{admits_words, has_name, is_match};
 ghost use Rattle.seccomp_doc.specs.Lawful.{IsLawfulCompare, IsLawfulEntry, has_repeat};
 ghost use Rattle.seccomp_doc.specs.Parts.{compare_of, entry_of};
-ghost use Rattle.seccomp_doc.specs.Checks.{Answers, arg_checks, entry_checks, first_fault, is_no_call_name};
+ghost use Rattle.seccomp_doc.specs.Checks.{Answers, arg_checks, entry_checks, first_fault};
+ghost use Rattle.seccomp_doc.specs.Checks.{is_no_call_name};
 
 use crate::action::Action;
 use crate::call_name::CallName;
@@ -15,8 +17,8 @@ use crate::parts::{ArgParts, EntryParts};
 use std::alloc::Global;
 use std::marker::Model;
 
-/// The action of some system calls, where their arguments compare as stated. The comparisons must all hold; two
-/// entries of one call are alternatives.
+/// The action of some system calls, where their arguments compare as stated. The comparisons must
+/// all hold; two entries of one call are alternatives.
 #[derive(Debug, Drop)]
 pub struct Entry {
     names: Vec<CallName>,
@@ -32,7 +34,11 @@ impl Model for Entry {
 
     ghost view = { λ e. record { names = e.names.items; action = e.action; args = e.args.items } };
 
-    ghost invariant = { λ e. IsLawfulEntry (record { names = e.names.items; action = e.action; args = e.args.items }) };
+    ghost invariant = { λ e. IsLawfulEntry (record {
+      names = e.names.items;
+      action = e.action;
+      args = e.args.items;
+    }) };
 }
 
 impl Entry {
@@ -116,7 +122,8 @@ fn call_names(alloc: Global, texts: Vec<String>) -> Result<Vec<CallName>, Filter
     ensures ok { IfOk result (λ names. (names.items ≡ map string_bytes texts.items)
         × (list_any is_no_call_name (map string_bytes texts.items) ≡ false)) }
     ensures err { IfErr result (λ e. e ≢ FilterFault.NoMemory
-        → (e ≡ FilterFault.BadCallName) × (list_any is_no_call_name (map string_bytes texts.items) ≡ true)) }
+        → (e ≡ FilterFault.BadCallName)
+        × (list_any is_no_call_name (map string_bytes texts.items) ≡ true)) }
 {
     let mut names = Vec::with_capacity(alloc, texts.len())?;
     for text in texts {
@@ -132,7 +139,8 @@ fn call_names(alloc: Global, texts: Vec<String>) -> Result<Vec<CallName>, Filter
 fn compares(alloc: Global, parts: &[ArgParts]) -> Result<Vec<Compare>, FilterFault>
     ensures ok { IfOk result (λ args. (args.items ≡ map compare_of parts.now)
         × (first_fault (arg_checks parts.now) ≡ None) × All IsLawfulCompare args.items) }
-    ensures err { IfErr result (λ e. e ≢ FilterFault.NoMemory → first_fault (arg_checks parts.now) ≡ Some e) }
+    ensures err { IfErr result (λ e. e ≢ FilterFault.NoMemory
+        → first_fault (arg_checks parts.now) ≡ Some e) }
 {
     if has_index_above_5(parts) {
         return Err(FilterFault::BadIndex);

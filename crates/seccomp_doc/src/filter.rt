@@ -6,7 +6,8 @@ ghost use Rattle.std.specs.Option.{option_copied};
 ghost use Rattle.seccomp_doc.specs.Meaning.{is_match, meaning, only_default};
 ghost use Rattle.seccomp_doc.specs.Lawful.{IsLawfulFilter, IsLawfulEntry};
 ghost use Rattle.seccomp_doc.specs.Parts.{entry_of, filter_of};
-ghost use Rattle.seccomp_doc.specs.Checks.{Answers, entry_checks, fault_of, first_fault, has_too_many, is_large};
+ghost use Rattle.seccomp_doc.specs.Checks.{Answers, entry_checks, fault_of, first_fault};
+ghost use Rattle.seccomp_doc.specs.Checks.{has_too_many, is_large};
 
 use crate::action::Action;
 use crate::arch::Arch;
@@ -33,7 +34,8 @@ pub const MAX_ARCHITECTURES: usize = 64;
 /// The most flags of a filter.
 pub const MAX_FLAGS: usize = 64;
 
-/// A filter: what becomes of each system call. All entries of a call have one action, so their order means nothing.
+/// A filter: what becomes of each system call. All entries of a call have one action, so their
+/// order means nothing.
 #[derive(Debug, Drop)]
 pub struct Filter {
     default: Action,
@@ -48,17 +50,28 @@ impl Model for Filter {
 
     ghost Value = { FilterValue };
 
-    ghost view = { λ f. record { default = f.default; architectures = f.architectures.items; flags = f.flags.items; entries = f.entries.items } };
+    ghost view = { λ f. record {
+      default = f.default;
+      architectures = f.architectures.items;
+      flags = f.flags.items;
+      entries = f.entries.items;
+    } };
 
-    ghost invariant = { λ f. IsLawfulFilter (record { default = f.default; architectures = f.architectures.items; flags = f.flags.items; entries = f.entries.items }) };
+    ghost invariant = { λ f. IsLawfulFilter (record {
+      default = f.default;
+      architectures = f.architectures.items;
+      flags = f.flags.items;
+      entries = f.entries.items;
+    }) };
 }
 
 impl Filter {
     /// The filter that these parts make, in their order, or the first fault.
     ///
-    /// The faults are looked for in this order: a count above its limit; the number of the default action; entry by
-    /// entry no name, a name that isn't of the form, an index above 5, an index twice, and the number of the action;
-    /// at last a name that an earlier entry has under another action. Memory may be refused at any point.
+    /// The faults are looked for in this order: a count above its limit; the number of the default
+    /// action; entry by entry no name, a name that isn't of the form, an index above 5, an index
+    /// twice, and the number of the action; at last a name that an earlier entry has under another
+    /// action. Memory may be refused at any point.
     pub fn new(alloc: Global, parts: FilterParts) -> Result<Filter, FilterFault>
         ensures answers { Answers (fault_of parts) (filter_of parts) result }
         ensures lawful { IfOk result IsLawfulFilter }
@@ -126,8 +139,8 @@ impl Filter {
     }
 }
 
-/// What becomes of a call with six argument words: the action of the entries that match it, else the default. It takes
-/// no memory.
+/// What becomes of a call with six argument words: the action of the entries that match it, else
+/// the default. It takes no memory.
 pub fn action_for(filter: &Filter, name: &str, words: [u64; 6]) -> Action
     ensures { result ≡ meaning filter.now name.now words }
 {
@@ -172,8 +185,10 @@ fn is_large(entry: &EntryParts) -> bool
 // The entries that the parts make.
 fn entries_of(alloc: Global, parts: Vec<EntryParts>) -> Result<Vec<Entry>, FilterFault>
     ensures ok { IfOk result (λ entries. (entries.items ≡ map entry_of parts.items)
-        × (first_fault (flat_map entry_checks parts.items) ≡ None) × All IsLawfulEntry entries.items) }
-    ensures err { IfErr result (λ e. e ≢ FilterFault.NoMemory → first_fault (flat_map entry_checks parts.items) ≡ Some e) }
+        × (first_fault (flat_map entry_checks parts.items) ≡ None)
+        × All IsLawfulEntry entries.items) }
+    ensures err { IfErr result (λ e. e ≢ FilterFault.NoMemory
+        → first_fault (flat_map entry_checks parts.items) ≡ Some e) }
 {
     let mut entries = Vec::with_capacity(alloc, parts.len())?;
     for part in parts {

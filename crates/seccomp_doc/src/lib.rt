@@ -1,4 +1,5 @@
-//! Seccomp filters as an OCI runtime configuration writes them: actions, comparisons, entries, and what a filter means.
+//! Seccomp filters as an OCI runtime configuration writes them: actions, comparisons, entries, and
+//! what a filter means.
 #![tactic(auto)]
 
 pub mod action;

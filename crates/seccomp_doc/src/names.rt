@@ -1,12 +1,14 @@
 // Names that two entries give different actions.
 
-ghost use Rattle.std.specs.Prelude.{◌≡◌, ◌≢◌, ◌||◌, ℕ, List, [], ◌∷◌, ◌++◌, Some, None, IfErr, IfOk, OnOk, bytes_eq, filter, if◌then◌else◌, not};
+ghost use Rattle.std.specs.Prelude.{◌≡◌, ◌≢◌, ◌||◌, ℕ, List, [], ◌∷◌, ◌++◌, Some, None, IfErr};
+ghost use Rattle.std.specs.Prelude.{IfOk, OnOk, bytes_eq, filter, if◌then◌else◌, not};
 ghost use Rattle.std.specs.Bool.{OnTrue};
 ghost use Rattle.std.specs.List.{list_all};
 ghost use Rattle.seccomp_doc.specs.Checks.{Answers, all_name_checks, first_fault, name_checks};
 ghost use Rattle.seccomp_doc.specs.Filter.{EntryValue};
 ghost use Rattle.seccomp_doc.specs.Lawful.{HasOneAction};
-ghost use Rattle.seccomp_doc.specs.Names.{AgreesWith, DiffersFrom, Knows, action_under, has_action, is_unknown};
+ghost use Rattle.seccomp_doc.specs.Names.{AgreesWith, DiffersFrom, Knows, action_under, has_action};
+ghost use Rattle.seccomp_doc.specs.Names.{is_unknown};
 
 use crate::action::Action;
 use crate::call_name::CallName;
@@ -15,8 +17,8 @@ use crate::fault::FilterFault;
 use std::alloc::Global;
 use std::collections::BTreeMap;
 
-// Refuses the first name that an earlier entry has under another action. Where the names of the rarer actions show that there
-// is none, the others aren't put in order.
+// Refuses the first name that an earlier entry has under another action. Where the names of the
+// rarer actions show that there is none, the others aren't put in order.
 pub(crate) fn refuse_two_actions(alloc: Global, entries: &[Entry]) -> Result<(), FilterFault>
     ensures answers { Answers (first_fault (all_name_checks [] entries.now)) tt result }
     ensures one_action { OnOk result (HasOneAction entries.now) }
@@ -32,7 +34,8 @@ fn largest(entries: &[Entry]) -> Option<&Entry> {
     entries.iter().max_by_key(|entry| entry.names().len())
 }
 
-// Whether the rarer actions have one each for their names, and no entry of the common action has one of these.
+// Whether the rarer actions have one each for their names, and no entry of the common action has
+// one of these.
 fn are_apart(alloc: Global, entries: &[Entry], common: Action) -> bool
     ensures { OnTrue result (HasOneAction entries.now) }
 {
@@ -61,7 +64,9 @@ fn learn_rarer<'a>(
 
 // Whether no entry of the action has a name that is known.
 fn avoid_known(entries: &[Entry], action: Action, known: &BTreeMap<&str, Action>) -> bool
-    ensures { result ≡ list_all (λ e. not (has_action action e) || list_all (is_unknown known.now) e.names) entries.now }
+    ensures { result
+        ≡ list_all (λ e. not (has_action action e)
+        || list_all (is_unknown known.now) e.names) entries.now }
 {
     entries.iter().all(|entry| !entry.action().is_same(action) || are_unknown(entry.names(), known))
 }
@@ -73,7 +78,8 @@ fn are_unknown(names: &[CallName], known: &BTreeMap<&str, Action>) -> bool
     names.iter().all(|name| !known.contains_key(name.as_str()))
 }
 
-// Refuses the first name that an earlier entry has under another action. Each name is put once into an ordered map.
+// Refuses the first name that an earlier entry has under another action. Each name is put once into
+// an ordered map.
 fn compare_names(alloc: Global, entries: &[Entry]) -> Result<(), FilterFault>
     ensures answers { Answers (first_fault (all_name_checks [] entries.now)) tt result }
     ensures one_action { OnOk result (HasOneAction entries.now) }
@@ -114,7 +120,8 @@ fn learn_name<'a>(
     ensures learned { OnOk result ((q : List ℕ) → action_under actions.new q
         ≡ (if bytes_eq name.now q then Some action else action_under actions.old q)) }
     ensures differs { IfErr result (λ e. e ≢ FilterFault.NoMemory
-        → (e ≡ FilterFault.TwoActions name.now) × DiffersFrom (action_under actions.old name.now) action) }
+        → (e ≡ FilterFault.TwoActions name.now)
+        × DiffersFrom (action_under actions.old name.now) action) }
 {
     match actions.insert(name.as_str(), action) {
         Ok(Some(known)) => {

@@ -38,7 +38,12 @@ impl Model for EntryParts {
 
     ghost Value = { EntryPartsValue };
 
-    ghost view = { λ e. record { names = map string_bytes e.names.items; word = e.word; errno = e.errno; args = e.args.items } };
+    ghost view = { λ e. record {
+      names = map string_bytes e.names.items;
+      word = e.word;
+      errno = e.errno;
+      args = e.args.items;
+    } };
 }
 
 /// A filter as a document has it.
@@ -61,5 +66,11 @@ impl Model for FilterParts {
 
     ghost Value = { FilterPartsValue };
 
-    ghost view = { λ f. record { default = f.default; default_errno = f.default_errno; architectures = f.architectures.items; flags = f.flags.items; entries = f.entries.items } };
+    ghost view = { λ f. record {
+      default = f.default;
+      default_errno = f.default_errno;
+      architectures = f.architectures.items;
+      flags = f.flags.items;
+      entries = f.entries.items;
+    } };
 }

@@ -57,7 +57,8 @@ impl<F: Form> Formed<F> {
 
     // The text itself, where it is of the form. It takes no memory.
     pub(crate) fn from_string(text: String) -> Option<Formed<F>>
-        ensures { result ≡ (if F.is_form (string_bytes text) then Some (string_bytes text) else None) }
+        ensures { result
+            ≡ (if F.is_form (string_bytes text) then Some (string_bytes text) else None) }
     {
         if F::is_form(text.as_str()) {
             Some(Formed {

@@ -22,4 +22,5 @@ KeepsHanded old new was now = (before : Option (List ℕ)) (lines : List (List �
 -- the first of the lines that are held was handed out too
 abbrev pub HandsOut : (old new : Held) → Type 0
 HandsOut old new = (before now : Option (List ℕ)) (lines : List (List ℕ)) →
-    (so_far : Handed old before now lines) → Handed new before now (lines ++ first_line so_far.rest ∷ [])
+    (so_far : Handed old before now lines)
+    → Handed new before now (lines ++ first_line so_far.rest ∷ [])

@@ -10,10 +10,11 @@ use crate::passed::{PassRead, PassWrite};
 use std::io;
 use std::io::{ErrorKind, Read, Write};
 
-/// A reader or a writer with the same bytes, which counts its calls of read or write and those that failed.
+/// A reader or a writer with the same bytes, which counts its calls of read or write and those that
+/// failed.
 ///
-/// Both counts begin at 0 and stay at the greatest `u64` once there. An interrupted read hasn't failed; a write
-/// that is interrupted has, and so has one that takes none of some bytes.
+/// Both counts begin at 0 and stay at the greatest `u64` once there. An interrupted read hasn't
+/// failed; a write that is interrupted has, and so has one that takes none of some bytes.
 #[derive(Drop)]
 pub struct Counted<T> {
     inner: T,

@@ -25,8 +25,9 @@ pub enum Found {
 }
 
 impl Lines {
-    /// Reads until a whole line is held, or nothing more is read. Where a line is held already the reader isn't called.
-    /// An interrupted read is made again, until the reader has counted `most_calls`.
+    /// Reads until a whole line is held, or nothing more is read. Where a line is held already the
+    /// reader isn't called. An interrupted read is made again, until the reader has counted
+    /// `most_calls`.
     pub fn find<R: Read>(&mut self, reader: &mut Counted<R>, most_calls: u64) -> Found
         requires countable { most_calls < 2 ^ 64 - 1 }
         requires calls { reader.old.calls ≤ most_calls }

@@ -1,5 +1,5 @@
-//! Streams: readers and writers that count their calls and those that failed, reading and writing by single calls, and the
-//! lines of a stream as they come.
+//! Streams: readers and writers that count their calls and those that failed, reading and writing
+//! by single calls, and the lines of a stream as they come.
 #![tactic(auto)]
 
 pub mod counted;

@@ -1,6 +1,7 @@
 //! A buffer of lines.
 
-ghost use Rattle.std.specs.Prelude.{◌≡◌, ◌-◌, ◌<◌, ◌≤◌, ◌^◌, [], ℕ, List, Option, length, IfOk, MatchResult};
+ghost use Rattle.std.specs.Prelude.{◌≡◌, ◌-◌, ◌<◌, ◌≤◌, ◌^◌, [], ℕ, List, Option, length, IfOk};
+ghost use Rattle.std.specs.Prelude.{MatchResult};
 ghost use Rattle.streams.specs.Some.{SomeCalls, SomeFaults};
 ghost use Rattle.streams.specs.Handed.{Handed, HandsOut};
 ghost use Rattle.streams.specs.Held.{Holds, HasLine, nothing, size, TellsWhole, TellsEmpty};
@@ -26,8 +27,8 @@ const ROOM: usize = 300_001;
 #[error("too-long")]
 pub struct TooLong;
 
-/// What was read of a stream and not handed out, in one buffer that never grows: whole lines, and what there is of the
-/// next. Of a line that is too long the bytes are dropped as they come.
+/// What was read of a stream and not handed out, in one buffer that never grows: whole lines, and
+/// what there is of the next. Of a line that is too long the bytes are dropped as they come.
 #[derive(Drop)]
 pub struct Lines {
     buffer: Vec<u8>,
@@ -46,7 +47,10 @@ impl Model for Lines {
 
     ghost Value = { Held };
 
-    ghost view = { λ l. record { bytes = slice_range l.buffer.items l.start l.end; too_long = l.too_long } };
+    ghost view = { λ l. record {
+      bytes = slice_range l.buffer.items l.start l.end;
+      too_long = l.too_long;
+    } };
 
     ghost invariant = { λ l. IsSound l.buffer.items l.start l.feed l.end };
 }
@@ -110,7 +114,8 @@ impl Lines {
         self.too_long = false;
     }
 
-    // Reads some bytes behind those that are held, of which those of a line that is too long are dropped.
+    // Reads some bytes behind those that are held, of which those of a line that is too long are
+    // dropped.
     pub(crate) fn fill<R: Read>(&mut self, reader: &mut Counted<R>, most_calls: u64) -> SomeRead
         requires unfinished { NoFeed self.old.bytes }
         requires countable { most_calls < 2 ^ 64 - 1 }

@@ -8,8 +8,8 @@ ghost use Rattle.std.specs.declared.io.Error.{Error};
 use std::io;
 use std::io::{Read, Write};
 
-/// A reader, as seen by who passes its calls on. Of `gives` nothing is known but that a call meets it, so that who
-/// promises it has called, and returns what the call returned.
+/// A reader, as seen by who passes its calls on. Of `gives` nothing is known but that a call meets
+/// it, so that who promises it has called, and returns what the call returned.
 pub trait PassRead: Read {
     ghost gives: { (old new : Self) → Result ℕ Error → List ℕ → Type 0 };
 
@@ -22,15 +22,16 @@ pub trait PassRead: Read {
 }
 
 impl<R: Read> PassRead for R {
-    ghost gives = { λ old new result buf. ReadConsumes (R.remaining old) (R.remaining new) result buf };
+    ghost gives = { λ old new result buf.
+        ReadConsumes (R.remaining old) (R.remaining new) result buf };
 
     fn pass_read(&mut self, buf: &mut [u8]) -> io::Result<usize> {
         self.read(buf)
     }
 }
 
-/// A writer, as seen by who passes its calls on. Of `takes` and `flushes` nothing is known but that a call meets them,
-/// so that who promises them has called, and returns what the call returned.
+/// A writer, as seen by who passes its calls on. Of `takes` and `flushes` nothing is known but that
+/// a call meets them, so that who promises them has called, and returns what the call returned.
 pub trait PassWrite: Write {
     ghost takes: { (old new : Self) → Result ℕ Error → List ℕ → Type 0 };
 
@@ -50,7 +51,8 @@ pub trait PassWrite: Write {
 }
 
 impl<W: Write> PassWrite for W {
-    ghost takes = { λ old new result buf. WriteAppends (W.contents old) (W.contents new) result buf };
+    ghost takes = { λ old new result buf.
+        WriteAppends (W.contents old) (W.contents new) result buf };
 
     ghost flushes = { λ old new result. Keeps (W.contents old) (W.contents new) };
 

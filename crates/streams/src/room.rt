@@ -1,6 +1,7 @@
 //! The room of a buffer: making it, and reading into it.
 
-ghost use Rattle.std.specs.Prelude.{◌≡◌, ◌+◌, ◌-◌, ◌^◌, ◌<◌, ◌≤◌, [], length, take, drop, slice_range, vec_len, if◌then◌else◌};
+ghost use Rattle.std.specs.Prelude.{◌≡◌, ◌+◌, ◌-◌, ◌^◌, ◌<◌, ◌≤◌, [], length, take, drop};
+ghost use Rattle.std.specs.Prelude.{slice_range, vec_len, if◌then◌else◌};
 ghost use Rattle.std.specs.Io.KnownBytes.{Consumes};
 ghost use Rattle.streams.specs.Some.{some_count, SomeCalls, SomeFaults};
 ghost use Rattle.streams.specs.Filled.{EndsAfter};
@@ -8,7 +9,8 @@ ghost use Rattle.streams.specs.Filled.{EndsAfter};
 use crate::{Counted, SomeRead, read_some};
 use std::io::Read;
 
-/// Moves a part of the buffer to its front, and says how much that is. Nothing is kept where that is asked.
+/// Moves a part of the buffer to its front, and says how much that is. Nothing is kept where that
+/// is asked.
 pub fn keep(buffer: &mut Vec<u8>, start: usize, end: usize, drops: bool) -> usize
     requires ordered { start ≤ end }
     requires in_bounds { end ≤ vec_len buffer.old }

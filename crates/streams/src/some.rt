@@ -34,7 +34,8 @@ impl SomeRead {
     }
 }
 
-/// Reads into the front of the buffer. An interrupted read is made again, until the reader has counted `most_calls`.
+/// Reads into the front of the buffer. An interrupted read is made again, until the reader has
+/// counted `most_calls`.
 pub fn read_some<R: Read>(reader: &mut Counted<R>, buffer: &mut [u8], most_calls: u64) -> SomeRead
     requires room { 0 < length buffer.old }
     requires countable { most_calls < 2 ^ 64 - 1 }

@@ -59,8 +59,8 @@ fn read_at_most<R: Read>(
     read_some(reader, &mut chunk[..most], most_calls)
 }
 
-/// Reads to the end, or the first `most` bytes where there are more. An interrupted read is made again, until the
-/// reader has counted `most_calls`.
+/// Reads to the end, or the first `most` bytes where there are more. An interrupted read is made
+/// again, until the reader has counted `most_calls`.
 ///
 /// # Errors
 ///

@@ -14,8 +14,8 @@ use thiserror::Error;
 #[error("write")]
 pub struct WriteFailed;
 
-/// Writes all of the bytes. A write that fails, is interrupted or takes no byte ends it, with only a front part of
-/// the bytes written.
+/// Writes all of the bytes. A write that fails, is interrupted or takes no byte ends it, with only
+/// a front part of the bytes written.
 pub fn write_whole<W: Write>(writer: &mut Counted<W>, bytes: &[u8]) -> Result<(), WriteFailed>
     ensures whole { OnOk result (Appends
         (W.contents writer.old.inner) (W.contents writer.new.inner) bytes.now) }

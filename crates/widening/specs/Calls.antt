@@ -1,6 +1,8 @@
--- What a filter says of the calls of one name, and when a new filter says no more than its baseline. Actions are ordered
--- by rank, as in seccomp(2), and the entries of a name are alternatives, as in seccomp_rule_add(3).
-use Rattle.std.specs.Prelude.{ℕ, List, Bool, not, ◌&&◌, ◌||◌, ◌==◌, nat_le, filter, flat_map, length}
+-- What a filter says of the calls of one name, and when a new filter says no more than its
+-- baseline. Actions are ordered by rank, as in seccomp(2), and the entries of a name are
+-- alternatives, as in seccomp_rule_add(3).
+use Rattle.std.specs.Prelude.{ℕ, List, Bool, not, ◌&&◌, ◌||◌, ◌==◌, nat_le, filter, flat_map}
+use Rattle.std.specs.Prelude.{length}
 use Rattle.std.specs.List.{list_all, list_any}
 use Rattle.seccomp_doc.specs.declared.action.Action.{Action}
 use Rattle.seccomp_doc.specs.Action.{rank_of}
@@ -28,14 +30,15 @@ is_plain e = length e.args == 0
 abbrev pub is_at_most_entries : ℕ → List EntryValue → Bool
 is_at_most_entries rank entries = list_all (λ e. nat_le rank (entry_rank e)) entries
 
--- a rank is at most all that a call of the name may have: those of the entries, and that of the default, unless an entry
--- matches every call
+-- a rank is at most all that a call of the name may have: those of the entries, and that of the
+-- default, unless an entry matches every call
 abbrev pub is_at_most_possible : ℕ → Rules → Bool
 is_at_most_possible rank rules =
-    is_at_most_entries rank rules.entries && (list_any is_plain rules.entries || nat_le rank (rank_of rules.default))
+    is_at_most_entries rank rules.entries
+    && (list_any is_plain rules.entries || nat_le rank (rank_of rules.default))
 
--- an entry permits no more than the baseline's rules: its rank is at most all that a call may have there, or at most
--- those of the baseline's entries while it implies one of them
+-- an entry permits no more than the baseline's rules: its rank is at most all that a call may have
+-- there, or at most those of the baseline's entries while it implies one of them
 abbrev pub is_covered : Rules → EntryValue → Bool
 is_covered base e =
     is_at_most_possible (entry_rank e) base
@@ -43,10 +46,12 @@ is_covered base e =
 
 -- an entry of the baseline with a rank below that of the new default implies a new entry
 abbrev pub is_kept : Rules → EntryValue → Bool
-is_kept new b = nat_le (rank_of new.default) (entry_rank b) || list_any (entry_implies b) new.entries
+is_kept new b =
+    nat_le (rank_of new.default) (entry_rank b) || list_any (entry_implies b) new.entries
 
--- where no new entry matches, the new default permits no more: an entry always matches; or its rank is at most all that
--- a call may have under the baseline; or it is at most that of the baseline's default, and each stricter entry is kept
+-- where no new entry matches, the new default permits no more: an entry always matches; or its rank
+-- is at most all that a call may have under the baseline; or it is at most that of the baseline's
+-- default, and each stricter entry is kept
 abbrev pub is_default_covered : Rules → Rules → Bool
 is_default_covered base new =
     list_any is_plain new.entries

@@ -1,5 +1,7 @@
--- What a new profile permits, or may permit, and its baseline doesn't: the list of findings, in its order.
-use Rattle.std.specs.Prelude.{ℕ, ◌==◌, List, [], ◌∷◌, ◌++◌, Bool, true, false, not, ◌&&◌, nat_lt, if◌then◌else◌, Option, Some, None, filter, map, flat_map, length}
+-- What a new profile permits, or may permit, and its baseline doesn't: the list of findings, in its
+-- order.
+use Rattle.std.specs.Prelude.{ℕ, ◌==◌, List, [], ◌∷◌, ◌++◌, Bool, true, false, not, ◌&&◌, nat_lt}
+use Rattle.std.specs.Prelude.{if◌then◌else◌, Option, Some, None, filter, map, flat_map, length}
 use Rattle.std.specs.Int.{bit_at}
 use Rattle.std.specs.List.{list_any, range_with_len}
 use Rattle.cap_sets.specs.declared.state.CapState.{CapState}
@@ -7,10 +9,12 @@ use Rattle.seccomp_doc.specs.Action.{rank_of}
 use Rattle.seccomp_doc.specs.Filter.{FilterValue}
 use Rattle.profile_text.specs.declared.profile.Profile.{Profile}
 use Rattle.profile_text.specs.declared.sets.CapSet.{CapSet}
-use Rattle.profile_text.specs.declared.sets.CapSet.TheVariants.{Effective, Permitted, Inheritable, Bounding, Ambient}
+use Rattle.profile_text.specs.declared.sets.CapSet.TheVariants.{Effective, Permitted, Inheritable}
+use Rattle.profile_text.specs.declared.sets.CapSet.TheVariants.{Bounding, Ambient}
 use Rattle.profile_text.specs.Reads.{state_set}
 use Rattle.widening.specs.declared.finding.Finding.{Finding}
-use Rattle.widening.specs.declared.finding.Finding.TheVariants.{Cap, NoSeccomp, AnyArch, Arch, Flag, Call, Default}
+use Rattle.widening.specs.declared.finding.Finding.TheVariants.{Cap, NoSeccomp, AnyArch, Arch, Flag}
+use Rattle.widening.specs.declared.finding.Finding.TheVariants.{Call, Default}
 use Rattle.widening.specs.Calls.{entry_names, is_permitted_more}
 use Rattle.widening.specs.Texts.{added_texts, in_byte_order}
 
@@ -43,7 +47,8 @@ is_emptied base new = length new == 0 && not (length base == 0)
 
 -- each architecture that the baseline doesn't list; an empty list stands for any
 abbrev pub arch_findings : List (List ℕ) → List (List ℕ) → List Finding
-arch_findings base new = if is_emptied base new then AnyArch ∷ [] else map Arch (added_texts base new)
+arch_findings base new =
+    if is_emptied base new then AnyArch ∷ [] else map Arch (added_texts base new)
 
 -- each flag that the baseline doesn't list; a flag that is missing is no finding
 abbrev pub flag_findings : List (List ℕ) → List (List ℕ) → List Finding
@@ -63,7 +68,8 @@ call_findings base new = map Call (filter (is_permitted_more base new) (call_nam
 
 -- a call that neither filter names is permitted more
 abbrev pub default_findings : FilterValue → FilterValue → List Finding
-default_findings base new = if nat_lt (rank_of base.default) (rank_of new.default) then Default ∷ [] else []
+default_findings base new =
+    if nat_lt (rank_of base.default) (rank_of new.default) then Default ∷ [] else []
 
 abbrev pub between_filters : FilterValue → FilterValue → List Finding
 between_filters base new =
@@ -72,7 +78,8 @@ between_filters base new =
     ++ call_findings base new
     ++ default_findings base new
 
--- a baseline without a filter permits every call; a new profile without one does, where the baseline has one
+-- a baseline without a filter permits every call; a new profile without one does, where the
+-- baseline has one
 abbrev pub filter_findings : Option FilterValue → Option FilterValue → List Finding
 filter_findings None new = []
 filter_findings (Some base) None = NoSeccomp ∷ []

@@ -1,5 +1,6 @@
 -- Entries grouped by the names of their calls, each told by its place in the filter.
-use Rattle.std.specs.Prelude.{◌≡◌, ℕ, ◌+◌, ◌<◌, List, [], ◌∷◌, Bool, ◌&&◌, ◌||◌, if◌then◌else◌, bytes_eq, take, drop, flat_map, All, get_or, length}
+use Rattle.std.specs.Prelude.{◌≡◌, ℕ, ◌+◌, ◌<◌, List, [], ◌∷◌, Bool, ◌&&◌, ◌||◌, if◌then◌else◌}
+use Rattle.std.specs.Prelude.{bytes_eq, take, drop, flat_map, All, get_or, length}
 use Rattle.std.specs.Borrow.{Bor}
 use Rattle.std.specs.List.{list_any}
 use Rattle.smallvec.specs.SmallVec.{SmallVec}
@@ -10,7 +11,8 @@ use Rattle.widening.specs.Texts.{texts_in}
 -- the places of the entries that pass, where the first stands at this one
 abbrev pub places_from : ℕ → (EntryValue → Bool) → List EntryValue → List ℕ
 places_from first test [] = []
-places_from first test (e ∷ es) = if test e then first ∷ places_from (first + 1) test es else places_from (first + 1) test es
+places_from first test (e ∷ es) =
+    if test e then first ∷ places_from (first + 1) test es else places_from (first + 1) test es
 
 -- the places of the entries that have a name
 abbrev pub places_of : List ℕ → List EntryValue → List ℕ

@@ -4,5 +4,6 @@ pub mod Ranks
 pub mod Findings
 pub mod Permits
 pub mod Groups
+pub mod Grouped
 pub mod Memo
 pub mod Examples

@@ -22,7 +22,8 @@ pub record HoldsNoMore (base new : CapState) : Type 0 where
   pub bounding : IsWithin new.bounding base.bounding
   pub ambient : IsWithin new.ambient base.ambient
 
--- for every call name and all words, six of them or any number, the new action is no more permissive than the baseline's
+-- for every call name and all words, six of them or any number, the new action is no more
+-- permissive than the baseline's
 abbrev pub AllowsNoMore : Option FilterValue → Option FilterValue → Type 0
 AllowsNoMore base new =
     (name words : List ℕ) → All (λ word. word < 2 ^ 64) words →

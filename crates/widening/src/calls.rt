@@ -36,7 +36,8 @@ fn ranks_of(filter: &Filter, name: &str) -> Ranks
 fn with_named(ranks: Ranks, entry: &Entry, name: &str) -> Ranks
     ensures { (default : ActionValue) (entries : List EntryValue) →
         AreRanksOf ranks (rules_with default (filter (has_name name.now) entries)) →
-        AreRanksOf result (rules_with default (filter (has_name name.now) (entries ++ entry.now ∷ []))) }
+        AreRanksOf result
+        (rules_with default (filter (has_name name.now) (entries ++ entry.now ∷ []))) }
 {
     if entry.has_name(name) {
         ranks.with(entry)
@@ -47,7 +48,8 @@ fn with_named(ranks: Ranks, entry: &Entry, name: &str) -> Ranks
 
 // Whether each of a filter's entries of this name that are asked implies one of the other's.
 fn do_imply(asked: Option<Span>, filter: &Filter, other: &Filter, name: &str) -> bool
-    ensures { result ≡ do_imply asked (rules_of name.now filter.now).entries (rules_of name.now other.now).entries }
+    ensures { result ≡ do_imply asked
+        (rules_of name.now filter.now).entries (rules_of name.now other.now).entries }
 {
     match asked {
         None => false,
@@ -57,7 +59,8 @@ fn do_imply(asked: Option<Span>, filter: &Filter, other: &Filter, name: &str) ->
 
 // Whether each of the entries of this name whose rank is in the span implies one of the others.
 fn all_imply(span: Span, entries: &[Entry], others: &[Entry], name: &str) -> bool
-    ensures { result ≡ do_imply (Some span) (filter (has_name name.now) entries.now) (filter (has_name name.now) others.now) }
+    ensures { result ≡ do_imply (Some span)
+        (filter (has_name name.now) entries.now) (filter (has_name name.now) others.now) }
 {
     entries
         .iter()
@@ -67,7 +70,9 @@ fn all_imply(span: Span, entries: &[Entry], others: &[Entry], name: &str) -> boo
 
 // Whether an entry's rank isn't in the span, or it implies one of the others.
 fn does_imply(span: Span, entry: &Entry, others: &[Entry], name: &str) -> bool
-    ensures { result ≡ (not (is_in span entry.now) || list_any (entry_implies entry.now) (filter (has_name name.now) others.now)) }
+    ensures { result
+        ≡ (not (is_in span entry.now)
+        || list_any (entry_implies entry.now) (filter (has_name name.now) others.now)) }
 {
     !span.has(entry) || implies_some(entry, others, name)
 }

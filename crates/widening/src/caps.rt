@@ -41,7 +41,8 @@ fn find_gained(
     base: Caps,
     new: Caps,
 ) -> Result<(), AllocError>
-    ensures { OnOk result (found.new.items ≡ found.old.items ++ map (Finding.Cap set) (gained base new)) }
+    ensures { OnOk result (found.new.items
+        ≡ found.old.items ++ map (Finding.Cap set) (gained base new)) }
 {
     for number in 0..41u8 {
         find_cap(found, set, base, new, number)?;

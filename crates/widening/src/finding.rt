@@ -12,7 +12,8 @@ use std::alloc::{AllocError, Global};
 /// Something that a new profile permits, or may permit, and its baseline doesn't.
 #[derive(Debug, Drop)]
 pub enum Finding {
-    /// The set has the capability of this number, 0 to 40 as in `linux/capability.h`, and the baseline's hasn't.
+    /// The set has the capability of this number, 0 to 40 as in `linux/capability.h`, and the
+    /// baseline's hasn't.
     Cap(CapSet, u8),
     /// The baseline has a filter, and the new profile has none: every call is allowed.
     NoSeccomp,

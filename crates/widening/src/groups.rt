@@ -3,7 +3,8 @@
 ghost use Rattle.std.specs.Prelude.{◌≡◌, ◌<◌, [], ◌∷◌, filter, length, IfOk, OnOk};
 ghost use Rattle.seccomp_doc.specs.Meaning.{has_name};
 ghost use Rattle.widening.specs.Calls.{keeps_to};
-ghost use Rattle.widening.specs.Groups.{AddsPlace, AddsUnder, AreWithin, HasSameElements, IsGrouping, entries_at, name_at};
+ghost use Rattle.widening.specs.Groups.{AddsPlace, AddsUnder, AreWithin, HasSameElements};
+ghost use Rattle.widening.specs.Groups.{IsGrouping, entries_at, name_at};
 ghost use Rattle.widening.specs.Memo.{IsMemo};
 ghost use Rattle.widening.specs.Ranks.{AreRanksOf, rules_with};
 ghost use Rattle.widening.specs.Texts.{AreInOrder};
@@ -25,7 +26,8 @@ pub(crate) struct Group<'b> {
 impl<'b> Group<'b> {
     // The ranks of what may be done with a call of the name.
     fn ranks(&self, default: Action) -> Ranks
-        ensures { AreRanksOf result (rules_with default (entries_at self.now.entries.now self.now.places.now)) }
+        ensures { AreRanksOf result
+            (rules_with default (entries_at self.now.entries.now self.now.places.now)) }
     {
         ranks_at(default, self.entries, self.places)
     }
@@ -101,7 +103,8 @@ impl<'a> Groups<'a> {
     }
 }
 
-// The ranks of what may be done with a call, where the entries at these places are those of its name.
+// The ranks of what may be done with a call, where the entries at these places are those of its
+// name.
 fn ranks_at(default: Action, entries: &[Entry], places: &[usize]) -> Ranks
     requires { AreWithin entries.now places.now }
     ensures { AreRanksOf result (rules_with default (entries_at entries.now places.now)) }

@@ -13,11 +13,14 @@ ghost use Rattle.widening.specs.Examples.{listing, spec_allow, x86, x86_64};
 ghost use Rattle.widening.specs.Findings.{between_filters, called, findings_of, is_wider};
 ghost use Rattle.widening.specs.Permits.{IsNoWider};
 
-/// Where nothing is found, the new profile permits no more than its baseline: each of its five capability sets is within
-/// the baseline's, and for every call and all arguments its action is no more permissive.
+/// Where nothing is found, the new profile permits no more than its baseline: each of its five
+/// capability sets is within the baseline's, and for every call and all arguments its action is no
+/// more permissive.
 pub fn no_finding_permits_no_more()
-    ensures list { (base new : Profile) → HasKnownCaps new.caps → findings_of base new ≡ [] → IsNoWider base new }
-    ensures test { (base new : Profile) → HasKnownCaps new.caps → is_wider base new ≡ false → IsNoWider base new }
+    ensures list { (base new : Profile) → HasKnownCaps new.caps → findings_of base new ≡ []
+        → IsNoWider base new }
+    ensures test { (base new : Profile) → HasKnownCaps new.caps → is_wider base new ≡ false
+        → IsNoWider base new }
 {}
 
 /// Nothing is found between a profile and itself.
@@ -27,7 +30,8 @@ pub fn nothing_is_found_against_itself()
 
 /// The names of the calls that are found stand once each, in byte order.
 pub fn calls_are_found_in_byte_order()
-    ensures { (base new : Profile) → IsStrictlySortedBy (slice_cmp nat_cmp) (called (findings_of base new)) }
+    ensures { (base new : Profile)
+        → IsStrictlySortedBy (slice_cmp nat_cmp) (called (findings_of base new)) }
 {}
 
 /// The closed profile permits no more than any other: it has no capability, and nothing is stricter

@@ -1,9 +1,9 @@
-//! Whether a new profile permits more than its baseline: the list of findings, and the test by which a review needs a
-//! second approval.
+//! Whether a new profile permits more than its baseline: the list of findings, and the test by
+//! which a review needs a second approval.
 //!
-//! Where nothing is found, the new profile permits no more: each of its capability sets is within the baseline's, and no
-//! call with whatever arguments has a more permissive action. The test may find something where nothing is permitted
-//! more.
+//! Where nothing is found, the new profile permits no more: each of its capability sets is within
+//! the baseline's, and no call with whatever arguments has a more permissive action. The test may
+//! find something where nothing is permitted more.
 #![tactic(auto)]
 
 mod calls;

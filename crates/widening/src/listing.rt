@@ -2,7 +2,8 @@
 
 ghost use Rattle.std.specs.Prelude.{◌≡◌, ◌<◌, ◌++◌, filter, length, map, IfOk, OnOk};
 ghost use Rattle.widening.specs.Calls.{entry_names, is_permitted_more};
-ghost use Rattle.widening.specs.Findings.{between_filters, call_finding, call_findings, default_findings, filter_findings, findings_of};
+ghost use Rattle.widening.specs.Findings.{between_filters, call_finding, call_findings};
+ghost use Rattle.widening.specs.Findings.{default_findings, filter_findings, findings_of};
 ghost use Rattle.widening.specs.Groups.{name_at};
 ghost use Rattle.widening.specs.Memo.{IsMemo};
 ghost use Rattle.widening.specs.Texts.{AreInOrder, in_byte_order, texts_in};
@@ -18,10 +19,11 @@ use std::alloc::{AllocError, Global};
 
 /// What the new profile permits, or may permit, and the baseline doesn't.
 ///
-/// First each capability that one of the new sets has and the baseline's hasn't: the sets in the order effective,
-/// permitted, inheritable, bounding, ambient, the capabilities by rising number. Without a filter in the baseline nothing
-/// follows, and where only the baseline has one, `NoSeccomp` alone. Else the architectures and then the flags that the
-/// baseline doesn't list, in the new filter's order; the names of calls in byte order; the default. Each finding is there
+/// First each capability that one of the new sets has and the baseline's hasn't: the sets in the
+/// order effective, permitted, inheritable, bounding, ambient, the capabilities by rising number.
+/// Without a filter in the baseline nothing follows, and where only the baseline has one,
+/// `NoSeccomp` alone. Else the architectures and then the flags that the baseline doesn't list, in
+/// the new filter's order; the names of calls in byte order; the default. Each finding is there
 /// once.
 ///
 /// # Errors

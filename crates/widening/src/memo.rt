@@ -4,6 +4,7 @@ ghost use Rattle.std.specs.Prelude.{◌≡◌, ◌<◌, ◌||◌, get_or, length
 ghost use Rattle.std.specs.List.{list_any};
 ghost use Rattle.seccomp_doc.specs.Filter.{EntryValue};
 ghost use Rattle.implication.specs.Implication.{entry_implies};
+ghost use Rattle.widening.specs.Grouped.{entries_in};
 ghost use Rattle.widening.specs.Groups.{AreWithin, entries_at};
 ghost use Rattle.widening.specs.Memo.{AreRows, IsMemo, IsRow, IsRowOrEmpty};
 ghost use Rattle.widening.specs.Ranks.{do_imply, is_in};
@@ -14,7 +15,8 @@ use implication::entry_implies;
 use seccomp_doc::{Entry, Filter};
 use std::alloc::{AllocError, Global};
 
-// Whether an entry implies each of the others, where that was asked. There is no place before the first is.
+// Whether an entry implies each of the others, where that was asked. There is no place before the
+// first is.
 type Row = Vec<Option<bool>>;
 
 // Which entries of two filters imply which of the other.
@@ -27,7 +29,8 @@ pub(crate) struct Memo {
 impl Memo {
     // Before anything was asked.
     pub(crate) fn new(alloc: Global, base: &Filter, new: &Filter) -> Result<Memo, AllocError>
-        ensures { IfOk result (λ memo. IsMemo base.now.entries new.now.entries memo.of_new.items memo.of_base.items) }
+        ensures { IfOk result (λ memo. IsMemo base.now.entries new.now.entries
+            memo.of_new.items memo.of_base.items) }
     {
         Ok(Memo {
             of_new: empty_rows(alloc, new.entries(), base.entries())?,
@@ -57,8 +60,8 @@ pub(crate) fn do_imply(
 ) -> Result<bool, AllocError>
     requires { AreRows group.now.entries.now others.now.entries.now rows.old }
     ensures rows { OnOk result (AreRows group.now.entries.now others.now.entries.now rows.new) }
-    ensures told { IfOk result (λ told. told ≡ do_imply asked
-        (entries_at group.now.entries.now group.now.places.now) (entries_at others.now.entries.now others.now.places.now)) }
+    ensures told { IfOk result (λ told. told
+        ≡ do_imply asked (entries_in group.now) (entries_in others.now)) }
 {
     match asked {
         None => Ok(false),
@@ -78,8 +81,8 @@ fn all_imply(
     requires rows { AreRows entries.now others.now.entries.now rows.old }
     requires within { AreWithin entries.now places.now }
     ensures rows { OnOk result (AreRows entries.now others.now.entries.now rows.new) }
-    ensures told { IfOk result (λ told. told ≡ do_imply (Some span)
-        (entries_at entries.now places.now) (entries_at others.now.entries.now others.now.places.now)) }
+    ensures told { IfOk result (λ told. told
+        ≡ do_imply (Some span) (entries_at entries.now places.now) (entries_in others.now)) }
 {
     for place in places {
         let told = does_imply(alloc, rows, span, *place, entries, others)?;
@@ -102,8 +105,9 @@ fn does_imply(
     requires rows { AreRows entries.now others.now.entries.now rows.old }
     requires within { place < length entries.now }
     ensures rows { OnOk result (AreRows entries.now others.now.entries.now rows.new) }
-    ensures told { IfOk result (λ told. (entry : EntryValue) → told ≡ (not (is_in span (get_or entries.now place entry))
-        || list_any (entry_implies (get_or entries.now place entry)) (entries_at others.now.entries.now others.now.places.now))) }
+    ensures told { IfOk result (λ told. (entry : EntryValue)
+        → told ≡ (not (is_in span (get_or entries.now place entry))
+        || list_any (entry_implies (get_or entries.now place entry)) (entries_in others.now))) }
 {
     let entry = &entries[place];
     if !span.has(entry) {
@@ -122,7 +126,8 @@ fn implies_one(
 ) -> Result<bool, AllocError>
     requires { IsRowOrEmpty entry.now others.now.entries.now row.old.items }
     ensures row { OnOk result (IsRowOrEmpty entry.now others.now.entries.now row.new.items) }
-    ensures told { IfOk result (λ told. told ≡ list_any (entry_implies entry.now) (entries_at others.now.entries.now others.now.places.now)) }
+    ensures told { IfOk result (λ told. told
+        ≡ list_any (entry_implies entry.now) (entries_in others.now)) }
 {
     if entry.names().len() == 1 {
         return Ok(implies_some(entry, others.entries, others.places));
@@ -171,7 +176,8 @@ fn implies_at(entry: &Entry, row: &mut [Option<bool>], others: &[Entry], place: 
     requires within { place < length others.now }
     ensures row { IsRow entry.now others.now row.new }
     ensures full { length row.new ≡ length others.now }
-    ensures told { (other : EntryValue) → result ≡ entry_implies entry.now (get_or others.now place other) }
+    ensures told { (other : EntryValue)
+        → result ≡ entry_implies entry.now (get_or others.now place other) }
 {
     if let Some(told) = row[place] {
         return told;

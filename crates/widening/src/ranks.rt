@@ -1,10 +1,12 @@
-// What the ranks of a name's entries show without a look at their comparisons, and which entries must imply another.
+// What the ranks of a name's entries show without a look at their comparisons, and which entries
+// must imply another.
 
 ghost use Rattle.std.specs.Prelude.{◌≡◌, ◌&&◌, ◌∷◌, ◌++◌, [], ℕ, List, ◌≤◌, nat_le};
 ghost use Rattle.std.specs.List.{list_all};
 ghost use Rattle.seccomp_doc.specs.declared.action.Action.{Action as ActionValue};
 ghost use Rattle.seccomp_doc.specs.Filter.{EntryValue};
-ghost use Rattle.widening.specs.Calls.{Rules, is_at_most_possible, is_covered, is_default_covered, permits_no_more};
+ghost use Rattle.widening.specs.Calls.{Rules, is_at_most_possible, is_covered, is_default_covered};
+ghost use Rattle.widening.specs.Calls.{permits_no_more};
 ghost use Rattle.widening.specs.Ranks.{AreRanksOf, do_imply, is_in, rules_with};
 
 use seccomp_doc::{Action, Entry};
@@ -32,8 +34,8 @@ impl Span {
     }
 }
 
-// The ranks of what a filter may do with the calls of a name: of its default, the least and the greatest of the entries, and
-// whether one of them compares no argument.
+// The ranks of what a filter may do with the calls of a name: of its default, the least and the
+// greatest of the entries, and whether one of them compares no argument.
 #[derive(Clone, Copy)]
 pub(crate) struct Ranks {
     default: u8,
@@ -58,7 +60,8 @@ impl Ranks {
     // Those with one entry more.
     pub(crate) fn with(self, entry: &Entry) -> Ranks
         ensures { (default : ActionValue) (entries : List EntryValue) →
-            AreRanksOf self (rules_with default entries) → AreRanksOf result (rules_with default (entries ++ entry.now ∷ [])) }
+            AreRanksOf self (rules_with default entries)
+            → AreRanksOf result (rules_with default (entries ++ entry.now ∷ [])) }
     {
         let rank = entry.action().rank();
         Ranks {
@@ -87,8 +90,9 @@ impl Ranks {
     }
 }
 
-// The ranks of the entries that must imply one of the other rules', so that new rules permit no more than a baseline's: of
-// the new entries, and of the baseline's. Without a span the new rules permit more, whatever the entries compare.
+// The ranks of the entries that must imply one of the other rules', so that new rules permit no
+// more than a baseline's: of the new entries, and of the baseline's. Without a span the new rules
+// permit more, whatever the entries compare.
 #[derive(Clone, Copy)]
 pub(crate) struct Asked {
     pub(crate) of_new: Option<Span>,
@@ -99,7 +103,9 @@ impl Asked {
     // What is asked of rules with these ranks.
     pub(crate) fn between(base: Ranks, new: Ranks) -> Asked
         ensures { (b n : Rules) → AreRanksOf base b → AreRanksOf new n →
-            permits_no_more b n ≡ (do_imply result.of_new n.entries b.entries && do_imply result.of_base b.entries n.entries) }
+            permits_no_more b n
+            ≡ (do_imply result.of_new n.entries b.entries
+            && do_imply result.of_base b.entries n.entries) }
     {
         Asked {
             of_new: asked_of_new(base, new),
@@ -108,8 +114,8 @@ impl Asked {
     }
 }
 
-// The ranks of the new entries that must imply one of the baseline's, so that each permits no more. Without a span one
-// permits more, whatever it compares.
+// The ranks of the new entries that must imply one of the baseline's, so that each permits no more.
+// Without a span one permits more, whatever it compares.
 fn asked_of_new(base: Ranks, new: Ranks) -> Option<Span>
     ensures { (b n : Rules) → AreRanksOf base b → AreRanksOf new n →
         list_all (is_covered b) n.entries ≡ do_imply result n.entries b.entries }
@@ -127,8 +133,8 @@ fn asked_of_new(base: Ranks, new: Ranks) -> Option<Span>
     })
 }
 
-// The ranks of the baseline's entries that must imply a new one, so that the new default permits no more. Without a span
-// it permits more, whatever they compare.
+// The ranks of the baseline's entries that must imply a new one, so that the new default permits no
+// more. Without a span it permits more, whatever they compare.
 fn asked_of_base(base: Ranks, new: Ranks) -> Option<Span>
     ensures { (b n : Rules) → AreRanksOf base b → AreRanksOf new n →
         is_default_covered b n ≡ do_imply result b.entries n.entries }

@@ -31,7 +31,8 @@ pub(crate) fn find_added<F: Found>(
     base: &[Formed<F>],
     new: &[Formed<F>],
 ) -> Result<(), AllocError>
-    ensures { OnOk result (found.new.items ≡ found.old.items ++ map F.finding_of (added_texts base.now new.now)) }
+    ensures { OnOk result (found.new.items
+        ≡ found.old.items ++ map F.finding_of (added_texts base.now new.now)) }
 {
     for i in 0..new.len() {
         find_text(alloc, found, base, &new[..i], &new[i])?;
@@ -48,7 +49,8 @@ fn find_text<F: Found>(
     text: &Formed<F>,
 ) -> Result<(), AllocError>
     ensures { OnOk result (found.new.items ≡ found.old.items
-        ++ (if not (lists earlier.now text.now) && not (lists base.now text.now) then F.finding_of text.now ∷ [] else [])) }
+        ++ (if not (lists earlier.now text.now)
+        && not (lists base.now text.now) then F.finding_of text.now ∷ [] else [])) }
 {
     let text = text.as_str();
     if !lists(earlier, text) && !lists(base, text) {

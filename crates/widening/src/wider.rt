@@ -6,7 +6,8 @@ ghost use Rattle.std.specs.List.{list_any};
 ghost use Rattle.seccomp_doc.specs.Action.{rank_of};
 ghost use Rattle.seccomp_doc.specs.Meaning.{has_name};
 ghost use Rattle.widening.specs.Calls.{entry_names, is_permitted_more};
-ghost use Rattle.widening.specs.Findings.{between_filters, call_findings, filter_findings, is_emptied, is_found, is_wider};
+ghost use Rattle.widening.specs.Findings.{between_filters, call_findings, filter_findings};
+ghost use Rattle.widening.specs.Findings.{is_emptied, is_found, is_wider};
 ghost use Rattle.widening.specs.Permits.{IsNoWider};
 ghost use Rattle.widening.specs.Texts.{adds_a_text, lists};
 
@@ -16,10 +17,12 @@ use crate::text_lists::{adds_a_text, is_emptied, lists};
 use profile_text::Profile;
 use seccomp_doc::{CallName, Entry, Filter};
 
-/// Whether there is a finding: whether the new profile permits, or may permit, more than the baseline.
+/// Whether there is a finding: whether the new profile permits, or may permit, more than the
+/// baseline.
 ///
-/// It takes no memory, and looks at all entries for each name: with as many names as a filter can have that takes seconds.
-/// `findings` groups the entries by name first, and is the call for documents of others.
+/// It takes no memory, and looks at all entries for each name: with as many names as a filter can
+/// have that takes seconds. `findings` groups the entries by name first, and is the call for
+/// documents of others.
 #[tactic(auto, using(crate::proofs::FoundFacts::found_in_all, crate::proofs::Permitted::no_wider_by_parts))]
 pub fn is_wider(base: &Profile, new: &Profile) -> bool
     ensures told { result ≡ is_wider base.now new.now }
@@ -95,7 +98,8 @@ fn gains_a_new_call(base: &Filter, new: &Filter, earlier: &[Entry], names: &[Cal
     false
 }
 
-// Whether a call of this name may be permitted more, where it is none of these names and no earlier entry has it.
+// Whether a call of this name may be permitted more, where it is none of these names and no earlier
+// entry has it.
 fn is_new_and_more(
     base: &Filter,
     new: &Filter,
@@ -103,7 +107,8 @@ fn is_new_and_more(
     names: &[CallName],
     name: &str,
 ) -> bool
-    ensures { result ≡ (not (lists names.now name.now) && (not (list_any (has_name name.now) earlier.now)
+    ensures { result
+        ≡ (not (lists names.now name.now) && (not (list_any (has_name name.now) earlier.now)
         && is_permitted_more base.now new.now name.now)) }
 {
     !lists(names, name) && (!is_named(earlier, name) && !keeps_to(base, new, name))

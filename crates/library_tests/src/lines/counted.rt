@@ -76,7 +76,8 @@ impl Write for Narrow {
     }
 }
 
-// What came of a call of read, the first byte of its buffer, and the calls and faults that there were by then.
+// What came of a call of read, the first byte of its buffer, and the calls and faults that there
+// were by then.
 fn seen_step(reader: &mut Counted<Halting>) -> (ReadStep, u8, u64, u64) {
     let mut buffer = [0u8; 8];
     let step = read_step(reader, &mut buffer);

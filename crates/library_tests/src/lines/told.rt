@@ -22,7 +22,8 @@ pub struct Told {
 
 // Tells the first line that is held.
 fn tell_line(lines: &Lines, text: &mut Vec<u8>) -> Result<(), AllocError>
-    ensures { OnOk result ((bytes : List ℕ) → Holds lines.now bytes → text.new.items ≡ text.old.items ++ told_line (first_line bytes)) }
+    ensures { OnOk result ((bytes : List ℕ) → Holds lines.now bytes
+        → text.new.items ≡ text.old.items ++ told_line (first_line bytes)) }
 {
     match lines.line() {
         Ok(line) => {
@@ -41,8 +42,10 @@ pub fn tell_lines<R: Read>(
 ) -> Result<Told, AllocError>
     requires few { most_calls ≤ 2 ^ 32 }
     requires calls { reader.old.calls ≤ most_calls }
-    ensures all { IfOk result (λ told. told.stop ≡ Found.End → IfSome (R.remaining reader.old.inner) (λ input.
-        (told.text.items ≡ told_lines (lines_of input)) × (told.number ≡ length (lines_of input)))) }
+    ensures all { IfOk result (λ told. told.stop ≡ Found.End
+        → IfSome (R.remaining reader.old.inner) (λ input.
+        (told.text.items ≡ told_lines (lines_of input))
+        × (told.number ≡ length (lines_of input)))) }
 {
     let mut lines = Lines::new(alloc)?;
     let mut text = Vec::new(alloc);

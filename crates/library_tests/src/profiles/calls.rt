@@ -26,7 +26,8 @@ fn filter_of(alloc: Global, document: &str) -> Result<Filter, Fail> {
     Ok(filter.ok_or("no filter")?)
 }
 
-// Whether a call of each of these names is allowed with each of these words as its first argument, and zeros.
+// Whether a call of each of these names is allowed with each of these words as its first argument,
+// and zeros.
 fn assert_allowed(
     rt: &impl Abort,
     alloc: Global,
@@ -85,7 +86,8 @@ fn two_entries_of_one_call_are_alternatives(rt: HostRuntime) -> Result<(), Fail>
     Ok(())
 }
 
-// The flags of clone(2) that make a namespace are masked; and a name that an entry has twice is the whole name.
+// The flags of clone(2) that make a namespace are masked; and a name that an entry has twice is the
+// whole name.
 #[test]
 fn a_mask_covers_argument_and_datum(rt: HostRuntime) -> Result<(), Fail> {
     let filter = filter_of(rt.alloc(), FILTER)?;

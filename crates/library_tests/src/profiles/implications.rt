@@ -44,8 +44,8 @@ fn comparisons(alloc: Global) -> Result<Vec<Compare>, AllocError> {
     Ok(all)
 }
 
-// Whether each word that `c` admits is admitted by `d`, both being of the sixteen words. They admit any other word
-// where they admit the one from 8 to 15 that has its three lowest bits.
+// Whether each word that `c` admits is admitted by `d`, both being of the sixteen words. They admit
+// any other word where they admit the one from 8 to 15 that has its three lowest bits.
 fn implies_by_words(c: Compare, d: Compare) -> bool {
     (0..16).all(|i| !c.admits(outer_word(i)) || d.admits(outer_word(i)))
         && (8..16).all(|word| !c.admits(word) || d.admits(word))

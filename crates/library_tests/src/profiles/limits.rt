@@ -1,5 +1,6 @@
-// Filters at their limits and one above: 2,048 entries, 1,024 names in an entry, a canonical text of 262,144 bytes; and the
-// findings between filters at these limits. No more can be reached, since a filter above a limit is refused.
+// Filters at their limits and one above: 2,048 entries, 1,024 names in an entry, a canonical text
+// of 262,144 bytes; and the findings between filters at these limits. No more can be reached, since
+// a filter above a limit is refused.
 
 use crate::profiles::told::{assert_found, told};
 use profile_text::digest;
@@ -8,7 +9,8 @@ use std::alloc::{AllocError, Global};
 use std::process::Abort;
 use std::test::Fail;
 
-// A canonical text down to the first name, where each call that is named is allowed and any other is logged.
+// A canonical text down to the first name, where each call that is named is allowed and any other
+// is logged.
 const START: &str =
     r#"{"capabilities":{"ambient":[],"bounding":[],"effective":[],"inheritable":[],"permitted":[]},"seccomp":{"defaultAction":"SCMP_ACT_LOG","syscalls":[{"action":"SCMP_ACT_ALLOW","names":["call_"#;
 
@@ -24,7 +26,8 @@ const END: &str = r#""]}]}}"#;
 const NOTHING: &str =
     r#"{"capabilities":{},"seccomp":{"defaultAction":"SCMP_ACT_LOG","syscalls":[]}}"#;
 
-// So many numbers from a first one on between these texts, each this much more than the one before it.
+// So many numbers from a first one on between these texts, each this much more than the one before
+// it.
 fn numbered(
     alloc: Global,
     (before, between, after): (&str, &str, &str),
@@ -126,7 +129,8 @@ const COMPARED: (&str, &str, &str) = (
     r#"}]}]}}"#,
 );
 
-// The last of so many entries of a name counts: each other one compares as an entry of the baseline does.
+// The last of so many entries of a name counts: each other one compares as an entry of the baseline
+// does.
 fn assert_last_counts(rt: &impl Abort, alloc: Global, count: usize) -> Result<(), Fail> {
     let base = numbered(alloc, COMPARED, 0, count, 1)?;
     let new = numbered(alloc, COMPARED, 1, count, 1)?;

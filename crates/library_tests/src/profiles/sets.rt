@@ -65,8 +65,8 @@ fn is_read_or_memory(told: &Result<Profile, DocFault>) -> bool {
     }
 }
 
-// Run with each allocation refused in turn, as `rt try --test --fail-alloc N` does, it shows that a refused allocation is
-// reported as out of memory and as nothing else.
+// Run with each allocation refused in turn, as `rt try --test --fail-alloc N` does, it shows that a
+// refused allocation is reported as out of memory and as nothing else.
 #[test]
 fn no_fault_but_memory_is_told_of_a_document(rt: HostRuntime) -> Result<(), Fail> {
     let document =

@@ -23,7 +23,8 @@ fn a_profile_has_at_most_9999_revisions(rt: HostRuntime) {
     assert_eq!(rt; submit_after(9_999), Err(full));
 }
 
-// Writes the number and the word of a denial, how many approvals are short of how many, and `-` where nothing is denied.
+// Writes the number and the word of a denial, how many approvals are short of how many, and `-`
+// where nothing is denied.
 fn push_told(told: &mut String, decision: Result<(), Denial>) -> Result<(), AllocError> {
     let Err(Denial { number, rule }) = decision else {
         return told.push_str(" -");
@@ -49,7 +50,8 @@ fn issue_by(need: Need, rejections: u64, approvals: u64, secure: u64) -> Result<
     })
 }
 
-// Of each need, by no approval, one, one with security, two, two with one of security, and by a hundred and a rejection.
+// Of each need, by no approval, one, one with security, two, two with one of security, and by a
+// hundred and a rejection.
 const BY_VOTES: &str = "\
      need 1 7 approvals-short 0 of 1 - - - - 6 rejected\n\
      need 2 7 approvals-short 0 of 2 7 approvals-short 1 of 2 7 approvals-short 1 of 2 8 security-missing - 6 rejected\n\

@@ -62,8 +62,8 @@ fn a_copy_of_a_word_or_a_text_is_the_same(rt: HostRuntime) -> Result<(), Fail> {
     Ok(())
 }
 
-// Of each role its word, the bit of it alone, and whether it is in the set of author and security, in the empty set, and in the
-// first of these once it is put into it.
+// Of each role its word, the bit of it alone, and whether it is in the set of author and security,
+// in the empty set, and in the first of these once it is put into it.
 const ROLES: &str = "\
      registrar 1 false false true\n\
      author 2 true false true\n\

@@ -80,6 +80,21 @@ fn an_empty_file_is_no_office_and_is_taken(rt: HostRuntime) -> Result<(), Fail> 
     assert_at(&rt, &rt, "empty.db", "", "0 > founded\n")
 }
 
+#[test]
+fn no_file_is_made_where_none_is_but_by_init(rt: HostRuntime) -> Result<(), Fail> {
+    let _ = fs::remove_file(&rt, "none.db");
+    for line in [
+        "office desk none.db",
+        "office serve none.db --requests 1",
+        "office migrate none.db",
+    ] {
+        assert_said(&rt, &rt, line, "", Giving::Whole, NO_OFFICE)?;
+        let is_there = fs::exists(&rt, "none.db")?;
+        assert!(rt; !is_there, "{line}");
+    }
+    Ok(())
+}
+
 // Makes a database that is no office.
 fn make_foreign(rt: &HostRuntime, path: &str) -> Result<(), Fail> {
     let mut conn = Connection::open(rt, path)?;

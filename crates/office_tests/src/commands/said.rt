@@ -37,7 +37,7 @@ fn run_line<S: Alter + Drop, D: Databases<Database = Connection<S>>, N: Network,
     for word in line.split_whitespace() {
         words.push(String::from_str(alloc, word)?)?;
     }
-    let mut errors = Vec::new(alloc);
+    let mut errors = Counted::new(Vec::new(alloc));
     let status = run_words(
         rt,
         databases,
@@ -48,7 +48,7 @@ fn run_line<S: Alter + Drop, D: Databases<Database = Connection<S>>, N: Network,
         &mut Counted::new(output),
         &mut errors,
     );
-    Ok((status, errors))
+    Ok((status, errors.into_inner()))
 }
 
 // The same with real databases and sockets.

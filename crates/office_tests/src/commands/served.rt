@@ -1,6 +1,7 @@
 // An office in a file, over HTTP.
 
 use crate::commands::said::{assert_said, founding, said_on};
+use crate::exchanges::clock::Ticking;
 use crate::fake_streams::{Giving, Source};
 use office_commands::Network;
 use std::io::Write;
@@ -10,14 +11,15 @@ use std::test::Fail;
 use std::time::{Clock, Duration};
 use std::{fs, io};
 
-// A network of one listener, which is bound already.
+// A network of one listener, which is bound already, and of a clock.
 #[derive(Drop)]
-struct Bound<'a> {
+struct Bound<'a, C: Clock> {
     rt: &'a HostRuntime,
+    clock: &'a C,
     listener: TcpListener,
 }
 
-impl Net for Bound<'_> {
+impl<C: Clock> Net for Bound<'_, C> {
     type Stream = TcpStream;
 
     type Listener = TcpListener;
@@ -31,17 +33,17 @@ impl Net for Bound<'_> {
     }
 }
 
-impl Clock for Bound<'_> {
+impl<C: Clock> Clock for Bound<'_, C> {
     fn monotonic(&self) -> io::Result<Duration> {
-        self.rt.monotonic()
+        self.clock.monotonic()
     }
 
     fn since_1970(&self) -> io::Result<Duration> {
-        self.rt.since_1970()
+        self.clock.since_1970()
     }
 }
 
-impl Network for Bound<'_> {}
+impl<C: Clock> Network for Bound<'_, C> {}
 
 // Founds an office at a path.
 fn found(rt: &impl Abort, host: &HostRuntime, path: &str) -> Result<(), Fail> {
@@ -53,33 +55,83 @@ fn found(rt: &impl Abort, host: &HostRuntime, path: &str) -> Result<(), Fail> {
 const STRANGER: &[u8] =
     b"GET /p/blue/web/1 HTTP/1.1\r\nHost: office\r\nAuthorization: Bearer nobody\r\n\r\n";
 
-// A client of a port that has sent all of a stranger's request.
-fn client_of(rt: &HostRuntime, port: u16) -> io::Result<TcpStream> {
+const DENIED: &str = "{\"answer\":\"denied\",\"rule\":1,\"word\":\"caller-unknown\"}";
+
+const NO_HEAD: &str = "{\"answer\":\"bad\",\"word\":\"bad-head\"}";
+
+// A client of a port that has sent all of a message.
+fn client_of(rt: &HostRuntime, port: u16, message: &[u8]) -> io::Result<TcpStream> {
     let mut client = TcpStream::connect(rt, SocketAddr::from((Ipv4Addr::LOCALHOST, port)))?;
-    client.write_all(STRANGER)?;
+    client.write_all(message)?;
     client.shutdown(Shutdown::Write)?;
     Ok(client)
 }
 
-// A stranger who has asked before is denied over this listener.
-fn assert_denies(rt: &impl Abort, host: &HostRuntime, listener: TcpListener) -> Result<(), Fail> {
+// Over a new office at a path, and by this clock, clients are served with these lines that have sent these messages before. Each is
+// answered by a response that ends so, or by none.
+fn assert_served<C: Clock>(
+    rt: &impl Abort,
+    host: &HostRuntime,
+    clock: &C,
+    path: &str,
+    messages: &[(&[u8], &str)],
+    lines: &str,
+) -> Result<(), Fail> {
+    let alloc = host.alloc();
+    found(rt, host, path)?;
+    let listener = TcpListener::bind(host, "127.0.0.1:0")?;
     let port = listener.local_addr()?.port();
-    let client = client_of(host, port)?;
-    let network = Bound { rt: host, listener };
-    let line = "office serve served.db --requests 1";
-    let said = said_on(host, host, &network, line, Source::new(b"", Giving::Whole))?;
-    let wanted = format!(in host.alloc(); "0 > listening 127.0.0.1:{port}\n403\n")?;
+    let mut clients = Vec::new(alloc);
+    for (message, _) in messages {
+        clients.push(client_of(host, port, *message)?)?;
+    }
+    let network = Bound {
+        rt: host,
+        clock,
+        listener,
+    };
+    let count = messages.len();
+    let line = format!(in alloc; "office serve {path} --requests {count}")?;
+    let said = said_on(
+        host,
+        host,
+        &network,
+        line.as_str(),
+        Source::new(b"", Giving::Whole),
+    )?;
+    let wanted = format!(in alloc; "0 > listening 127.0.0.1:{port}\n{lines}")?;
     assert_eq!(rt; said, wanted);
-    let answer = io::read_to_string(host.alloc(), client)?;
-    let denied = "\r\n\r\n{\"answer\":\"denied\",\"rule\":1,\"word\":\"caller-unknown\"}";
-    assert!(rt; answer.as_str().ends_with(denied), "{answer}");
+    for (client, (_, ending)) in clients.into_iter().zip(messages) {
+        let answer = io::read_to_string(alloc, client)?;
+        let is_whole = answer.as_str().ends_with(*ending) && answer.is_empty() == ending.is_empty();
+        assert!(rt; is_whole, "{answer}");
+    }
     Ok(())
 }
 
 #[test]
 fn an_office_in_a_file_is_served(rt: HostRuntime) -> Result<(), Fail> {
-    found(&rt, &rt, "served.db")?;
-    assert_denies(&rt, &rt, TcpListener::bind(&rt, "127.0.0.1:0")?)
+    assert_served(&rt, &rt, &rt, "served.db", &[(STRANGER, DENIED)], "403\n")
+}
+
+#[test]
+fn clients_that_wait_are_served_in_order(rt: HostRuntime) -> Result<(), Fail> {
+    let messages: [(&[u8], &str); 4] = [
+        (STRANGER, DENIED),
+        (b"GET\r\n\r\n", NO_HEAD),
+        (b"GET /p/blue", ""),
+        (STRANGER, DENIED),
+    ];
+    let lines = "403\n400\nfault ended\n403\n";
+    assert_served(&rt, &rt, &rt, "waiting.db", &messages, lines)
+}
+
+// The clock counts five seconds at each look: the exchange begins at 0, its one read may wait until 10, and then no write may.
+#[test]
+fn a_response_that_cannot_be_written_in_ten_seconds_is_told(rt: HostRuntime) -> Result<(), Fail> {
+    let clock = Ticking::new(Some(5));
+    let line = "fault write\n";
+    assert_served(&rt, &rt, &clock, "late.db", &[(STRANGER, "")], line)
 }
 
 #[test]

@@ -10,6 +10,7 @@ use std::net::{Ipv4Addr, Shutdown, SocketAddr, TcpListener, TcpStream};
 use std::process::Abort;
 use std::test::Fail;
 use std::time::{Clock, Duration, Instant};
+use streams::Counted;
 
 // For how many milliseconds an exchange may last, where that doesn't matter.
 const LONG: u64 = 10_000;
@@ -63,7 +64,7 @@ impl<'a> Server<'a> {
     ) -> Result<(), Fail> {
         let alloc = self.trial.alloc;
         let longest = Duration::from_millis(longest);
-        let mut output = Sink::new(Vec::new(alloc), taking);
+        let mut output = Counted::new(Sink::new(Vec::new(alloc), taking));
         let server = desk_http::Server::new(clock, alloc, longest)?;
         let served = server.serve_all(
             &mut self.trial.office,
@@ -72,7 +73,8 @@ impl<'a> Server<'a> {
             &mut output,
         );
         assert_eq!(rt; served.is_ok(), is_whole);
-        assert_eq!(rt; output.held.as_slice(), lines.as_bytes());
+        assert_eq!(rt; output.faults() == 0, is_whole);
+        assert_eq!(rt; output.into_inner().held.as_slice(), lines.as_bytes());
         Ok(())
     }
 

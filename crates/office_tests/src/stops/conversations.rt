@@ -41,12 +41,12 @@ fn a_database_stops_while_a_vote_is_left_behind(rt: HostRuntime) -> Result<(), F
 
 #[test]
 fn a_log_stops_while_a_reviewer_thinks_twice(rt: HostRuntime) -> Result<(), Fail> {
-    assert_kept(&rt, rt.alloc(), SECOND_THOUGHTS, File::Log, 117)
+    assert_kept(&rt, rt.alloc(), SECOND_THOUGHTS, File::Log, 112)
 }
 
 #[test]
 fn a_database_stops_while_a_reviewer_thinks_twice(rt: HostRuntime) -> Result<(), Fail> {
-    assert_kept(&rt, rt.alloc(), SECOND_THOUGHTS, File::Database, 48)
+    assert_kept(&rt, rt.alloc(), SECOND_THOUGHTS, File::Database, 44)
 }
 
 #[test]
@@ -62,7 +62,7 @@ fn a_database_stops_while_a_profile_is_held(rt: HostRuntime) -> Result<(), Fail>
 #[test]
 fn a_write_to_the_log_is_torn_while_a_reviewer_thinks_twice(rt: HostRuntime) -> Result<(), Fail> {
     let requests = requests_of(rt.alloc(), SECOND_THOUGHTS)?;
-    assert_torn(&rt, rt.alloc(), script(&requests), File::Log, 47)
+    assert_torn(&rt, rt.alloc(), script(&requests), File::Log, 44)
 }
 
 #[test]
@@ -70,5 +70,5 @@ fn a_write_to_the_database_is_torn_while_a_reviewer_thinks_twice(
     rt: HostRuntime,
 ) -> Result<(), Fail> {
     let requests = requests_of(rt.alloc(), SECOND_THOUGHTS)?;
-    assert_torn(&rt, rt.alloc(), script(&requests), File::Database, 29)
+    assert_torn(&rt, rt.alloc(), script(&requests), File::Database, 27)
 }

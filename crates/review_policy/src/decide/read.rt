@@ -7,7 +7,8 @@ use super::refuse_if;
 use crate::denial::{Denial, Rule};
 use crate::facts::ReadFacts;
 
-/// Whether a revision, its review sheet or the profiles of a team may be seen, or the first rule that refuses it.
+/// Whether a revision, its review sheet or the profiles of a team may be seen, or the first rule
+/// that refuses it.
 pub fn decide_read(facts: &ReadFacts) -> Result<(), Denial>
     ensures { result ≡ first_denial (read_rules facts.now) }
 {

@@ -1,27 +1,19 @@
 use Rattle.std.proofs.Common.{arith, rules}
-use Rattle.desk_http.proofs.ListeningFacts.{lined_none, lined_more, next_served, next_length}
+use Rattle.desk_http.proofs.ListeningFacts.{lined_all, lined_cut, lined_more, lined_none}
 use Rattle.desk_http.proofs.serving.serve_exchanges.Goals as goal
 
 pub loop-init : goal.loop-init
-loop-init g c = lined_none _ _ _ g.H.Handler.meaning _ _ _
+loop-init g c = lined_none _ _ _ g.H.Handler.meaning _ _ _ _
 
 pub loop-preserved : goal.loop-preserved
 loop-preserved g c =
-    lined_more g.L.Listener.meaning _ _ g.H.Handler.meaning _ _ _ _ _ _ _ _ _ _ c.loop.invariant c.serve_next-served.ensures
-    _ c.tell.result c.if-is_err.ensures.value c.tell.ensures
+    lined_more g.L.Listener.meaning _ _ g.H.Handler.meaning _ _ _ _ _ _ _ _ _ _ _ c.loop.invariant c.serve_next-served.ensures
+    c.tell.new.output c.in-Ok.ensures
 
-pub returns-then-is_err : goal.returns-then-is_err
-returns-then-is_err g c =
-    let p = c.loop.invariant in
-    let step = c.serve_next-served.ensures in
-    let count = next_length g.L.Listener.meaning _ _ g.H.Handler.meaning _ _ _ _ _ _ _ _ _ _ p step in (
-      _,
-      next_served g.L.Listener.meaning _ _ g.H.Handler.meaning _ _ _ _ _ _ _ _ _ _ p step,
-      omega (arith, count),
-      omega (arith, count, c.loop-test.true),
-    )
+pub returns-in-Err : goal.returns-in-Err
+returns-in-Err g c =
+    lined_cut g.L.Listener.meaning _ _ g.H.Handler.meaning _ _ _ _ _ _ _ _ _ _ _ c.loop.invariant c.serve_next-served.ensures
+    c.tell.new.output _ _ (omega (arith, c.loop-test.true)) c.in-Err.ensures
 
 pub returns : goal.returns
-returns g c =
-    let p = c.loop.invariant in
-    (p.results, p.served, search rules, p.lined)
+returns g c = lined_all g.L.Listener.meaning _ _ g.H.Handler.meaning _ _ _ _ _ _ _ _ _ c.loop.invariant (search rules)

@@ -1,5 +1,7 @@
+use Rattle.json_requests.specs.Answers.{answer_data, answer_text}
 use Rattle.json_requests.proofs.AnswerFacts.{text_is}
 use Rattle.json_requests.proofs.answer.answer_text.Goals as goal
 
 pub returns : goal.returns
-returns c = text_is _ c.args.answer.now _ c.in_ok-value.ensures c.to_string.ensures.text
+unfolding answer_text
+returns c = text_is (answer_data c.args.answer.now) c.new-out.ensures.tokens c.in_ok-write_answer.ensures c.written_text.ensures

@@ -13,3 +13,6 @@ returns-in-Ok-found_in-clause-founded g c =
       empty = sym (ap (λ (x : Held _). x.schema) unlimited.2) ∙ c.in-Ok-found_in.ensures.empty;
       founded = founded;
     }
+
+pub returns-clause-refused : goal.returns-clause-refused
+returns-clause-refused g c = (search rules, (c.in-Err-found_in.conn, (c.close.result, c.close.ensures.ended)))

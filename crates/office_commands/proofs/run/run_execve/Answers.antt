@@ -1,9 +1,11 @@
-use Rattle.std.proofs.Common.{rules}
+use Rattle.std.proofs.Common.{rules, refl, sym}
+use Rattle.office_commands.proofs.FailingFacts.{execve_cut, failed_by}
 use Rattle.office_commands.proofs.run.run_execve.Goals as goal
 
-pub returns-in-Done : goal.returns-in-Done
-returns-in-Done g c = record {
+pub returns-in-Done-clause-done : goal.returns-in-Done-clause-done
+returns-in-Done-clause-done g c = record {
   file = c.in_ok-reader.reader.inner;
+  opened = c.in_ok-reader.ensures.opened;
   execution = c.in_ok-execution.execution;
   outcome = c.in_ok-text.field-0;
   described = search rules;
@@ -12,9 +14,10 @@ returns-in-Done g c = record {
   ended = search rules;
 }
 
-pub returns : goal.returns
-returns g c = record {
+pub returns-clause-done : goal.returns-clause-done
+returns-clause-done g c = record {
   file = c.in_ok-reader.reader.inner;
+  opened = c.in_ok-reader.ensures.opened;
   execution = c.in_ok-execution.execution;
   outcome = c.in_ok-text.field-0;
   described = search rules;
@@ -22,3 +25,19 @@ returns g c = record {
   printed = search rules;
   ended = search rules;
 }
+
+pub returns-in_err-print-in-Done-clause-failed : goal.returns-in_err-print-in-Done-clause-failed
+returns-in_err-print-in-Done-clause-failed g c =
+    failed_by _ _ c.in_err-print-in-Done.field-0.0 c.from_residual-in_err-print-in-Done.ensures.1
+    (execve_cut (g.F.PassFiles.opens c.args.files.now) g.F.File.Read.remaining g.O.Write.contents c.args.output.now c.print.new.output
+    c.in_err-print-in-Done.field-0.0 c.args.words.now c.in_ok-execution.execution (sym c.in_ok-execution.ensures)
+    c.in_ok-reader.reader.inner c.in_ok-text.field-0 _ c.in_ok-reader.ensures.opened c.in_ok-text.ensures.executed
+    (search rules) c.in_err-print-in-Done.ensures.fault)
+
+pub returns-in_err-print-in-Denied-clause-failed : goal.returns-in_err-print-in-Denied-clause-failed
+returns-in_err-print-in-Denied-clause-failed g c =
+    failed_by _ _ c.in_err-print-in-Denied.field-0.0 c.from_residual-in_err-print-in-Denied.ensures.1
+    (execve_cut (g.F.PassFiles.opens c.args.files.now) g.F.File.Read.remaining g.O.Write.contents c.args.output.now c.print-in-Denied.new.output
+    c.in_err-print-in-Denied.field-0.0 c.args.words.now c.in_ok-execution.execution (sym c.in_ok-execution.ensures)
+    c.in_ok-reader.reader.inner c.in_ok-text.field-0 _ c.in_ok-reader.ensures.opened c.in_ok-text.ensures.executed
+    (search rules) c.in_err-print-in-Denied.ensures.fault)

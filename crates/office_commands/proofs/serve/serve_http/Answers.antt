@@ -1,6 +1,6 @@
 use Rattle.std.proofs.Common.{inl}
 use Rattle.office_commands.proofs.OpeningFacts.{was_served}
-use Rattle.office_commands.proofs.ServingFacts.{served_all, served_up_to}
+use Rattle.office_commands.proofs.ServingFacts.{begun_with, served_all}
 use Rattle.office_commands.proofs.serve.serve_http.Goals as goal
 
 pub returns-in-Err : goal.returns-in-Err
@@ -8,7 +8,8 @@ returns-in-Err g c = inl c.in-Err.ensures.fault
 
 pub returns : goal.returns
 returns g c =
-    was_served g.S.Store _ _ _ _ c.in-Ok.office c.serve_bound-served.new.office c.in-Ok.ensures.opened
+    was_served g.S.Store _ _ _ _ _ c.in-Ok.office c.serve_bound-served.new.office c.in-Ok.ensures.opened
     c.serve_bound-served.result c.close-closed.result c.first_fault.result
-    (served_all _ _ _ _ c.serve_bound-served.result c.serve_bound-served.ensures) (served_up_to _ _ _ _ c.serve_bound-served.result c.serve_bound-served.ensures)
-    c.close-closed.ensures.closed c.first_fault.ensures
+    (served_all _ _ _ _ _ _ _ _ _ _ c.serve_bound-served.result c.serve_bound-served.ensures)
+    (begun_with _ _ _ _ _ _ _ _ _ _ c.serve_bound-served.result c.serve_bound-served.ensures)
+    c.close-closed.ensures.closed c.close-closed.ensures.ended c.close-closed.ensures.fault c.first_fault.ensures

@@ -1,45 +1,35 @@
-use Rattle.std.proofs.Common.{◌∙◌, Some, None, sym, ap}
-use Rattle.sqlite.specs.Held.{state}
-use Rattle.review_policy.specs.declared.denial.Rule.TheVariants.{CallerUnknown}
-use Rattle.profile_text.specs.Digest.{digest_of}
-use Rattle.office_policy.specs.Verdict.{verdict_of, verdict}
-use Rattle.office_policy.specs.Lawful.{IsLawfulHistory}
-use Rattle.office_desk.specs.declared.refusal.Refusal.TheVariants as refusals
-use Rattle.office_desk.specs.Carries.{Knows}
-use Rattle.office_desk.proofs.Carrying.{left, kept_then, read_fails, refused_after, then_carries_for}
-use Rattle.office_desk.proofs.Handling.{known, called, stranger}
+use Rattle.std.proofs.Common.{refl, ap}
+use Rattle.std.specs.Prelude.{option_map}
+use Rattle.review_policy.specs.declared.ask.Ask.TheVariants as ask
+use Rattle.office_store.specs.Refusing.{adds_revision}
+use Rattle.office_desk.proofs.Carrying.{asks_for}
 use Rattle.office_desk.proofs.carry_out.carry_out.Goals as goal
 
-pub returns-in_err-caller-clause-carried : goal.returns-in_err-caller-clause-carried
-returns-in_err-caller-clause-carried g c =
-    left _ _ _ _ (refusals.Fault c.in_err-caller.field-0.0) c.from_residual.ensures.1
-    (read_fails _ (state g.S.Store c.args.conn.now) (state g.S.Store c.user_by_token.new.conn) _ c.in_err-caller.field-0.0 c.in_err-caller.ensures.read)
+pub returns-in-Some : goal.returns-in-Some
+returns-in-Some g c =
+    asks_for g.S.Store (ask.Submit c.in-Submit.name c.in-Submit.document) c.args.ask.now c.args.allowed.now c.args.conn.now c.write_submission.new.conn c.write_submission.result
+    (adds_revision c.in-Submit.name c.in-Some.revision) c.in-Submit.is (ap (option_map (adds_revision c.in-Submit.name)) c.in-Some.is) c.write_submission.ensures
 
-pub returns-in_default-clause-carried : goal.returns-in_default-clause-carried
-returns-in_default-clause-carried g c =
-    refused_after _ (state g.S.Store c.args.conn.now) (state g.S.Store c.user_by_token.new.conn) _ c.in_ok-caller.field-0 c.in_ok-caller.ensures.read (record { number = 1; rule = CallerUnknown }) None
-    (λ h lawful is. sym (called h lawful c.args.request.now c.digest-token.result c.in_ok-caller.field-0 (c.digest-token.ensures ∙ ap digest_of (c.as_bytes.ensures.value ∙ c.as_str.ensures.text)) is)
-    ∙ ap (λ u. verdict_of h u c.args.request.now.ask) c.in_default.is ∙ stranger h c.args.request.now.ask)
+pub returns-in-Vote : goal.returns-in-Vote
+returns-in-Vote g c =
+    asks_for g.S.Store (ask.Vote c.in-Vote.name c.in-Vote.revision c.in-Vote.digest c.in-Vote.approve) c.args.ask.now c.args.allowed.now c.args.conn.now c.write_vote.new.conn c.write_vote.result _ c.in-Vote.is refl c.write_vote.ensures
 
-pub returns-clause-carried : goal.returns-clause-carried
-returns-clause-carried g c =
-    then_carries_for IsLawfulHistory (Knows c.in-Some.caller) (λ h. verdict h c.args.request.now) (λ h. verdict_of h (Some c.in-Some.caller) c.args.request.now.ask) (state g.S.Store c.args.conn.now) (state g.S.Store c.user_by_token.new.conn)
-    (state g.S.Store c.carry_out_for.new.conn) _ c.in_ok-caller.field-0 c.in_ok-caller.ensures.read c.carry_out_for.result
-    (λ h lawful is. known h lawful c.digest-token.result c.in_ok-caller.field-0 c.in-Some.caller c.in-Some.is is)
-    (λ h lawful is. ap (λ u. verdict_of h u c.args.request.now.ask) (sym c.in-Some.is)
-    ∙ called h lawful c.args.request.now c.digest-token.result c.in_ok-caller.field-0 (c.digest-token.ensures ∙ ap digest_of (c.as_bytes.ensures.value ∙ c.as_str.ensures.text)) is)
-    c.carry_out_for.ensures.carried
+pub returns-in-Issue : goal.returns-in-Issue
+returns-in-Issue g c =
+    asks_for g.S.Store (ask.Issue c.in-Issue.name c.in-Issue.revision) c.args.ask.now c.args.allowed.now c.args.conn.now c.write_issue.new.conn c.write_issue.result _ c.in-Issue.is refl c.write_issue.ensures
 
-pub returns-clause-settled : goal.returns-clause-settled
-returns-clause-settled g c = c.carry_out_for.ensures.carried.settled c.in_ok-caller.ensures.read.leaves.settled
+pub returns-in-Withdraw : goal.returns-in-Withdraw
+returns-in-Withdraw g c =
+    asks_for g.S.Store (ask.Withdraw c.in-Withdraw.name c.in-Withdraw.revision) c.args.ask.now c.args.allowed.now c.args.conn.now c.write_withdrawal.new.conn c.write_withdrawal.result _ c.in-Withdraw.is refl c.write_withdrawal.ensures
 
-pub returns-in_err-caller-clause-same : goal.returns-in_err-caller-clause-same
-returns-in_err-caller-clause-same g c = λ reads. c.in_err-caller.ensures.read.same
+pub returns-in-Adopt : goal.returns-in-Adopt
+returns-in-Adopt g c =
+    asks_for g.S.Store (ask.Adopt c.in-Adopt.name c.in-Adopt.revision) c.args.ask.now c.args.allowed.now c.args.conn.now c.write_adoption.new.conn c.write_adoption.result _ c.in-Adopt.is refl c.write_adoption.ensures
 
-pub returns-in_default-clause-same : goal.returns-in_default-clause-same
-returns-in_default-clause-same g c = λ reads. c.in_ok-caller.ensures.read.same
+pub returns-in-Hold : goal.returns-in-Hold
+returns-in-Hold g c =
+    asks_for g.S.Store (ask.Hold c.in-Hold.name) c.args.ask.now c.args.allowed.now c.args.conn.now c.write_hold.new.conn c.write_hold.result _ c.in-Hold.is refl c.write_hold.ensures
 
-pub returns-clause-same : goal.returns-clause-same
-returns-clause-same g c = λ reads.
-    kept_then (state g.S.Store c.args.conn.now) (state g.S.Store c.user_by_token.new.conn) (state g.S.Store c.carry_out_for.new.conn) _ c.in_ok-caller.field-0
-    c.in_ok-caller.ensures.read c.carry_out_for.ensures.carried.clean (c.carry_out_for.ensures.same reads)
+pub returns-in-Release : goal.returns-in-Release
+returns-in-Release g c =
+    asks_for g.S.Store (ask.Release c.in-Release.name) c.args.ask.now c.args.allowed.now c.args.conn.now c.write_release.new.conn c.write_release.result _ c.in-Release.is refl c.write_release.ensures

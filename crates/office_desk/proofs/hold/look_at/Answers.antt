@@ -1,5 +1,5 @@
 use Rattle.sqlite.specs.Held.{state}
-use Rattle.office_desk.proofs.Carrying.{read_left, read_both, second_fails}
+use Rattle.office_desk.proofs.Judging.{read_left, read_both, second_fails}
 use Rattle.office_desk.proofs.LookedBack.{standing}
 use Rattle.office_desk.proofs.hold.look_at.Goals as goal
 

@@ -1,6 +1,6 @@
 use Rattle.std.proofs.Common.{rules, ◌≡◌, Err}
 use Rattle.sqlite.specs.Held.{state}
-use Rattle.office_desk.proofs.Carrying.{read_both, second_fails}
+use Rattle.office_desk.proofs.Judging.{read_both, second_fails}
 use Rattle.office_desk.proofs.Compared.{read_pair}
 use Rattle.office_desk.proofs.Issuing.{looked_found}
 use Rattle.office_desk.proofs.issue.look_up.Goals as goal

@@ -1,8 +1,6 @@
-use Rattle.std.proofs.Common.{None, Some, subst}
+use Rattle.std.proofs.Common.{None, Some}
 use Rattle.sqlite.specs.Held.{state}
-use Rattle.office_store.specs.Lists.{IsNumberOf}
-use Rattle.office_tables.specs.Reads.{IsLast, IsIssued}
-use Rattle.office_desk.proofs.Carrying.{read_as}
+use Rattle.office_desk.proofs.Judging.{read_as}
 use Rattle.office_desk.proofs.Standing.{counted, none_counted}
 use Rattle.office_desk.proofs.profiles.count.Goals as goal
 

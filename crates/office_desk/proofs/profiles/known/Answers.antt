@@ -1,6 +1,4 @@
-use Rattle.std.proofs.Common.{rules, ◌≡◌, ◌∙◌, sym, ap, refl}
-use Rattle.office_desk.specs.Listed.{issued_if, standing_of}
-use Rattle.office_desk.specs.declared.profiles.Standing.{Standing}
+use Rattle.std.proofs.Common.{rules, ◌≡◌, ◌∙◌, sym}
 use Rattle.office_desk.proofs.Standing.{known_issued, known_only}
 use Rattle.office_desk.proofs.profiles.known.Goals as goal
 

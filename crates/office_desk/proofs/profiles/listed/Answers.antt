@@ -1,7 +1,7 @@
-use Rattle.std.proofs.Common.{rules, ◌≡◌, Err, sym, subst}
+use Rattle.std.proofs.Common.{rules, ◌≡◌, Err, subst}
 use Rattle.sqlite.specs.Held.{state}
 use Rattle.office_tables.specs.Lists.{IsListed}
-use Rattle.office_desk.proofs.Carrying.{read_as, read_both, second_fails}
+use Rattle.office_desk.proofs.Judging.{read_as, read_both, second_fails}
 use Rattle.office_desk.proofs.Standing.{one_listed}
 use Rattle.office_desk.proofs.profiles.listed.Goals as goal
 

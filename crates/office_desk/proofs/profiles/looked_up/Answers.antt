@@ -1,6 +1,6 @@
-use Rattle.std.proofs.Common.{rules, ◌≡◌, ◌∙◌, Err, ap}
+use Rattle.std.proofs.Common.{rules, ◌≡◌, ◌∙◌, Err}
 use Rattle.sqlite.specs.Held.{state}
-use Rattle.office_desk.proofs.Carrying.{read_as, read_both, second_fails}
+use Rattle.office_desk.proofs.Judging.{read_as, read_both, second_fails}
 use Rattle.office_desk.proofs.Standing.{by_known, by_issue, by_row}
 use Rattle.office_desk.proofs.profiles.looked_up.Goals as goal
 

@@ -1,9 +1,9 @@
-use Rattle.std.proofs.Common.{rules, ◌≡◌, Ok, Err, Some, None, [], ◌∷◌, ◌++◌, List, refl, sym, ap, subst}
+use Rattle.std.proofs.Common.{rules, ◌≡◌, Ok, Err, Some, None, [], ◌∷◌, ◌++◌, List, refl, sym, subst}
 use Rattle.sqlite.specs.Held.{state}
 use Rattle.review_policy.specs.declared.answer.ListedProfile.{ListedProfile}
 use Rattle.office_tables.specs.declared.fault.StoreFault.TheVariants.{NoMemory}
 use Rattle.office_store.specs.Calls.{IsRead}
-use Rattle.office_desk.proofs.Carrying.{read_as, read_both, read_in_vain, second_fails}
+use Rattle.office_desk.proofs.Judging.{read_as, read_both, read_in_vain, second_fails}
 use Rattle.office_desk.proofs.Walking.{Walked, walk_begins, walk_goes_on, walk_ends}
 use Rattle.office_desk.proofs.profiles.profiles_of.Goals as goal
 

@@ -1,4 +1,4 @@
-use Rattle.std.proofs.Common.{◌≡◌, Ok}
+use Rattle.std.proofs.Common.{Ok}
 use Rattle.sqlite.specs.Held.{state}
 use Rattle.office_store.specs.Calls.{IsRead}
 use Rattle.office_desk.proofs.Walking.{Walked}

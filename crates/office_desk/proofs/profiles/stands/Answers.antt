@@ -1,6 +1,5 @@
-use Rattle.std.proofs.Common.{sym, subst}
+use Rattle.std.proofs.Common.{subst}
 use Rattle.sqlite.specs.Held.{state}
-use Rattle.review_policy.specs.declared.revision.State.TheVariants.{Open}
 use Rattle.office_desk.specs.Listed.{IsOneOf}
 use Rattle.office_desk.proofs.Standing.{read_weaker}
 use Rattle.office_desk.proofs.profiles.stands.Goals as goal

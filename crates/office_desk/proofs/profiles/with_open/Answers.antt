@@ -1,5 +1,5 @@
 use Rattle.sqlite.specs.Held.{state}
-use Rattle.office_desk.proofs.Carrying.{read_as}
+use Rattle.office_desk.proofs.Judging.{read_as}
 use Rattle.office_desk.proofs.Standing.{by_open}
 use Rattle.office_desk.proofs.profiles.with_open.Goals as goal
 

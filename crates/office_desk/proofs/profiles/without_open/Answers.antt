@@ -1,6 +1,5 @@
-use Rattle.std.proofs.Common.{rules, ◌≡◌}
 use Rattle.sqlite.specs.Held.{state}
-use Rattle.office_desk.proofs.Carrying.{read_as}
+use Rattle.office_desk.proofs.Judging.{read_as}
 use Rattle.office_desk.proofs.Standing.{read_then}
 use Rattle.office_desk.proofs.profiles.without_open.Goals as goal
 

@@ -7,7 +7,7 @@ use Rattle.office_tables.specs.declared.fault.StoreFault.TheVariants.{NoMemory}
 use Rattle.office_policy.specs.Facts.{read_facts}
 use Rattle.office_desk.specs.declared.refusal.Refusal.TheVariants as refusals
 use Rattle.office_policy.proofs.StandingFacts.{standing_is}
-use Rattle.office_desk.proofs.Carrying.{left_reading, read_fails, second_fails, fails_after, told_after}
+use Rattle.office_desk.proofs.Judging.{left, read_fails, second_fails, fails_after, found_after}
 use Rattle.office_desk.proofs.Compared.{read_pair}
 use Rattle.office_desk.proofs.Deciding.{refuses_at_once, refuses, allowed_at}
 use Rattle.office_desk.proofs.LookedBack.{one_revision}
@@ -18,13 +18,13 @@ use Rattle.office_desk.proofs.sheet.sheet.Goals as goal
 pub returns-in_err-decide_read : goal.returns-in_err-decide_read
 returns-in_err-decide_read g c =
     let d = c.in_err-decide_read.field-0.0 in
-    left_reading _ _ _ _ (refusals.Denied d None) c.from_residual.ensures.1
-    (refuses_at_once (λ h lawful. lawful) (showing_sheet c.args.caller.now c.args.name.now c.args.number) (state g.S.Store c.args.conn.now) d c.requires
+    left _ _ _ _ (refusals.Denied d None) c.from_residual.ensures.1
+    (refuses_at_once (showing_sheet c.args.caller.now c.args.name.now c.args.number) (state g.S.Store c.args.conn.now) d c.requires
     (read_early c.args.caller.now c.args.name.now d (ap (λ f. first_denial (read_rules f)) (sym c.read_facts.ensures) ∙ sym c.in_err-decide_read.ensures)))
 
 pub returns-in_err-found : goal.returns-in_err-found
 returns-in_err-found g c =
-    left_reading _ _ _ _ (refusals.Fault c.in_err-found.field-0.0) c.from_residual-in_err-found.ensures.1
+    left _ _ _ _ (refusals.Fault c.in_err-found.field-0.0) c.from_residual-in_err-found.ensures.1
     (read_fails _ (state g.S.Store c.args.conn.now) (state g.S.Store c.revision.new.conn) _ c.in_err-found.field-0.0 c.in_err-found.ensures.read)
 
 pub returns-in_err-decide_read-2 : goal.returns-in_err-decide_read-2
@@ -33,8 +33,8 @@ returns-in_err-decide_read-2 g c =
     let new = state g.S.Store c.revision.new.conn in
     let found = c.in_ok-found.found in
     let d = c.in_err-decide_read-2.field-0.0 in
-    left_reading _ _ _ _ (refusals.Denied d None) c.from_residual-in_err-decide_read-2.ensures.1
-    (refuses (λ h lawful. lawful) (showing_sheet c.args.caller.now c.args.name.now c.args.number) old new found
+    left _ _ _ _ (refusals.Denied d None) c.from_residual-in_err-decide_read-2.ensures.1
+    (refuses (showing_sheet c.args.caller.now c.args.name.now c.args.number) old new found
     (one_revision old new c.args.name.now c.args.number found c.in_ok-found.ensures.read) d
     (ap (λ f. first_denial (read_rules f))
     (sym (c.read_facts-2.ensures ∙ ap (read_facts (Some c.args.caller.now) c.args.name.now.team) (none_told c.is_none.result found c.is_none.ensures)))
@@ -46,7 +46,7 @@ returns-in_err-votes g c =
     let mid = state g.S.Store c.revision.new.conn in
     let new = state g.S.Store c.standing.new.conn in
     let fault = c.in_err-votes.field-0.0 in
-    left_reading _ _ _ _ (refusals.Fault fault) c.from_residual-in_err-votes.ensures.1
+    left _ _ _ _ (refusals.Fault fault) c.from_residual-in_err-votes.ensures.1
     (read_fails _ old new (λ t (x : Unit {0}). Unit {0}) fault
     (second_fails old mid new _ _ c.in_ok-found.found c.in_ok-found.ensures.read _ fault c.in_err-votes.ensures.read))
 
@@ -58,7 +58,7 @@ returns-in_err-compared g c =
     let new = state g.S.Store c.compared_with.new.conn in
     let both = read_pair old one two _ _ c.in_ok-found.found c.in_ok-votes.votes c.in_ok-found.ensures.read c.in_ok-votes.ensures.read in
     let fault = c.in_err-compared.field-0.0 in
-    left_reading _ _ _ _ (refusals.Fault fault) c.from_residual-in_err-compared.ensures.1
+    left _ _ _ _ (refusals.Fault fault) c.from_residual-in_err-compared.ensures.1
     (read_fails _ old new (λ t (x : Unit {0}). Unit {0}) fault (second_fails old two new _ _ _ both _ fault c.in_err-compared.ensures))
 
 pub returns-in_err-sheet : goal.returns-in_err-sheet
@@ -69,7 +69,7 @@ returns-in_err-sheet g c =
     let new = state g.S.Store c.compared_with.new.conn in
     let both = read_pair old one two _ _ c.in_ok-found.found c.in_ok-votes.votes c.in_ok-found.ensures.read c.in_ok-votes.ensures.read in
     let all = read_pair old two new _ _ _ c.in_ok-compared.compared both c.in_ok-compared.ensures in
-    left_reading _ _ _ _ (refusals.Fault NoMemory) c.from_residual-in_err-sheet.ensures.1 (fails_after _ old new _ _ all NoMemory refl)
+    left _ _ _ _ (refusals.Fault NoMemory) c.from_residual-in_err-sheet.ensures.1 (fails_after _ old new _ _ all NoMemory refl)
 
 pub returns : goal.returns
 returns g c =
@@ -80,16 +80,12 @@ returns g c =
     let both = read_pair old one two _ _ c.in_ok-found.found c.in_ok-votes.votes c.in_ok-found.ensures.read c.in_ok-votes.ensures.read in
     let all = read_pair old two new _ _ _ c.in_ok-compared.compared both c.in_ok-compared.ensures in
     let found = c.in_ok-found.found in
-    record {
-      carried =
-          told_after _ old new _ _ all (Sheet c.in_ok-sheet.sheet)
-          (λ h lawful looks.
-          allowed_at (λ h lawful. lawful) (showing_sheet c.args.caller.now c.args.name.now c.args.number) h
-          (ap (λ f. first_denial (read_rules f))
-          (sym (c.read_facts-2.ensures ∙ ap (read_facts (Some c.args.caller.now) c.args.name.now.team)
-          (none_told c.is_none.result found c.is_none.ensures ∙ ap is_none looks.0.0)))
-          ∙ sym c.in_ok-decide_read-2.ensures)
-          ∙ sheet_told h (Some c.args.caller.now) c.args.name.now c.args.number c.in-Some.row c.in_ok-votes.votes.items c.in_ok-compared.compared c.in_ok-sheet.sheet
-          (sym looks.0.0 ∙ c.in-Some.is) (standing_is h c.args.name.now _ c.in_ok-votes.votes.items looks.0.1) (looks.1 h lawful refl) c.in_ok-sheet.ensures);
-      same = all.same;
-    }
+    found_after _ old new _ _ all (Sheet c.in_ok-sheet.sheet)
+    (λ h lawful looks.
+    allowed_at (showing_sheet c.args.caller.now c.args.name.now c.args.number) h
+    (ap (λ f. first_denial (read_rules f))
+    (sym (c.read_facts-2.ensures ∙ ap (read_facts (Some c.args.caller.now) c.args.name.now.team)
+    (none_told c.is_none.result found c.is_none.ensures ∙ ap is_none looks.0.0)))
+    ∙ sym c.in_ok-decide_read-2.ensures)
+    ∙ sheet_told h (Some c.args.caller.now) c.args.name.now c.args.number c.in-Some.row c.in_ok-votes.votes.items c.in_ok-compared.compared c.in_ok-sheet.sheet
+    (sym looks.0.0 ∙ c.in-Some.is) (standing_is h c.args.name.now _ c.in_ok-votes.votes.items looks.0.1) (looks.1 h lawful refl) c.in_ok-sheet.ensures)

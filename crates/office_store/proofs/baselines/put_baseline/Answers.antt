@@ -8,8 +8,8 @@ use Rattle.office_store.proofs.baselines.put_baseline.Goals as goal
 
 pub returns-clause-write : goal.returns-clause-write
 returns-clause-write g c =
-    write_into g.S.Store (putting_baseline c.args.profile.now c.args.number) (state g.S.Store c.args.conn.now) (state g.S.Store c.write_two.new.conn) _ (with_baseline c.args.profile.now c.args.number)
-    (λ t. baseline_given g.S.Store c.args.profile.now c.args.number t (record { team = c.of_baseline.ensures.formed.team; profile = c.of_baseline.ensures.formed.profile }) c.of_baseline.ensures.formed.number _ _ refl refl) (rw (c.of_word.ensures.row, c.of_baseline.ensures.row) at c.write_two.ensures.write)
+    write_into g.S.Store (putting_baseline c.args.profile.now c.args.number) (state g.S.Store c.args.conn.now) (state g.S.Store c.write_one.new.conn) _ (with_baseline c.args.profile.now c.args.number)
+    (λ t. baseline_given g.S.Store c.args.profile.now c.args.number t c.of_baseline.ensures.formed _ refl) (rw c.of_baseline.ensures.row at c.write_one.ensures.write)
 
 pub returns-clause-cause : goal.returns-clause-cause
-returns-clause-cause g c clean = rw (c.of_word.ensures.row, c.of_baseline.ensures.row) at (c.write_two.ensures.cause clean)
+returns-clause-cause g c clean = rw c.of_baseline.ensures.row at (c.write_one.ensures.cause clean)

@@ -11,4 +11,4 @@ pub returns-clause-read : goal.returns-clause-read
 returns-clause-read g c =
     first_read OFFICE_ROW.now office_row _ _ (state g.S.Store c.args.conn.now) (state g.S.Store c.first_row.new.conn) c.first_row.result _ c.requires c.first_row.ensures.mode
     (g.met.S.Store.settled c.first_row.new.conn.store) c.first_row.ensures.survives c.first_row.ensures.row refl sure.office_row
-    (λ t shows h. let it = reads_form (state g.S.Store c.args.conn.now) (state g.S.Store c.first_row.new.conn) t shows c.requires.autocommit c.first_row.result h in it.0)
+    (λ t shows h. reads_form (state g.S.Store c.args.conn.now) (state g.S.Store c.first_row.new.conn) t shows c.requires.autocommit c.first_row.result h)

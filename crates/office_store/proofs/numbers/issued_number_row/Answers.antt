@@ -10,7 +10,7 @@ pub returns-clause-read : goal.returns-clause-read
 returns-clause-read g c =
     first_read ISSUED_NUMBER.now issued_number _ _ (state g.S.Store c.args.conn.now) (state g.S.Store c.first_row.new.conn) c.first_row.result _ c.requires c.first_row.ensures.mode
     (g.met.S.Store.settled c.first_row.new.conn.store) c.first_row.ensures.survives c.first_row.ensures.row c.of_profile.ensures.row (sure.issued_number c.args.profile.now)
-    (λ t shows h. let it = reads_issued_number (state g.S.Store c.args.conn.now) (state g.S.Store c.first_row.new.conn) t shows c.requires.autocommit c.args.profile.now c.first_row.result h in it.0)
+    (λ t shows h. reads_issued_number (state g.S.Store c.args.conn.now) (state g.S.Store c.first_row.new.conn) t shows c.requires.autocommit c.args.profile.now c.first_row.result h)
 
 pub returns-clause-row : goal.returns-clause-row
 returns-clause-row g c clean = rw c.of_profile.ensures.row at (c.first_row.ensures.row clean)

@@ -11,4 +11,4 @@ pub returns-clause-read : goal.returns-clause-read
 returns-clause-read g c =
     first_read LISTED.now listed _ _ (state g.S.Store c.args.conn.now) (state g.S.Store c.first_row.new.conn) c.first_row.result _ c.requires c.first_row.ensures.mode
     (g.met.S.Store.settled c.first_row.new.conn.store) c.first_row.ensures.survives c.first_row.ensures.row refl sure.listed
-    (λ t shows h. let it = reads_listed (state g.S.Store c.args.conn.now) (state g.S.Store c.first_row.new.conn) t shows c.requires.autocommit c.first_row.result h in it.0)
+    (λ t shows h. reads_listed (state g.S.Store c.args.conn.now) (state g.S.Store c.first_row.new.conn) t shows c.requires.autocommit c.first_row.result h)

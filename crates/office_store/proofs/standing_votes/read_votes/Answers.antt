@@ -1,4 +1,4 @@
-use Rattle.std.proofs.Common.{rules, ◌≡◌, ◌+◌, List, subst, Err, [], ◌∷◌, ◌++◌, map, take, sym, refl}
+use Rattle.std.proofs.Common.{rules, ◌≡◌, ◌+◌, List, subst, Err, [], ◌∷◌, ◌++◌, take, sym, refl}
 use Rattle.sqlite_rules.proofs.ListLemmas.{all_has}
 use Rattle.office_tables.specs.declared.fault.StoreFault.TheVariants.{NotAnOffice}
 use Rattle.office_store.specs.Lists.{cast_row, IsCastForm, AreCastAs}

@@ -10,7 +10,7 @@ pub returns-clause-read : goal.returns-clause-read
 returns-clause-read g c =
     first_read USER_BY_NAME.now user_by_name _ _ (state g.S.Store c.args.conn.now) (state g.S.Store c.first_row.new.conn) c.first_row.result _ c.requires c.first_row.ensures.mode
     (g.met.S.Store.settled c.first_row.new.conn.store) c.first_row.ensures.survives c.first_row.ensures.row c.of_word.ensures.row (sure.user_by_name c.args.name.now)
-    (λ t shows h. let it = reads_named (state g.S.Store c.args.conn.now) (state g.S.Store c.first_row.new.conn) t shows c.requires.autocommit c.args.name.now c.first_row.result h in it.0)
+    (λ t shows h. reads_named (state g.S.Store c.args.conn.now) (state g.S.Store c.first_row.new.conn) t shows c.requires.autocommit c.args.name.now c.first_row.result h)
 
 pub returns-clause-row : goal.returns-clause-row
 returns-clause-row g c clean = rw c.of_word.ensures.row at (c.first_row.ensures.row clean)

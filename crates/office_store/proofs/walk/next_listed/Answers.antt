@@ -1,4 +1,4 @@
-use Rattle.std.proofs.Common.{rules, ◌≡◌, Some, None, Err, sym, ap, ◌∙◌, ◌++◌, [], ◌∷◌, subst}
+use Rattle.std.proofs.Common.{rules, ◌≡◌, Some, None, Err, sym, ◌∙◌, ◌++◌, [], ◌∷◌, subst}
 use Rattle.sqlite.specs.Held.{state}
 use Rattle.office_tables.specs.declared.listed.ListedRevision.{ListedRevision}
 use Rattle.office_store.specs.Lists.{listed_row, IsListedForm, IsNextListed}

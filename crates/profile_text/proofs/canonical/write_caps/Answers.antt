@@ -1,4 +1,4 @@
-use Rattle.profile_text.proofs.Writing.{last, after_last, wrote}
+use Rattle.json_tree.proofs.Writing.{last, after_last, wrote}
 use Rattle.profile_text.proofs.canonical.write_caps.Goals as goal
 
 pub returns : goal.returns

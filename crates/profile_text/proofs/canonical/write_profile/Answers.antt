@@ -1,7 +1,8 @@
 use Rattle.std.specs.Prelude.{codes}
 use Rattle.serde_json.specs.Data.{no_members}
 use Rattle.profile_text.specs.Text.{seccomp_data}
-use Rattle.profile_text.proofs.Writing.{last, member_first, after_last, wrote}
+use Rattle.json_tree.proofs.Writing.{last, after_last, wrote}
+use Rattle.profile_text.proofs.Writing.{member_first}
 use Rattle.profile_text.proofs.canonical.write_profile.Goals as goal
 
 pub returns : goal.returns

@@ -1,7 +1,7 @@
 use Rattle.std.proofs.Common.{◌≡◌, [], ◌∷◌, rules}
 use Rattle.serde_json.specs.Data.{string}
 use Rattle.cap_sets.specs.Capability.{names_of}
-use Rattle.profile_text.proofs.Writing.{last, leaves_all, leaves_none, leaves_rest, list_tokens, after_last, wrote}
+use Rattle.json_tree.proofs.Writing.{last, leaves_all, leaves_none, leaves_rest, list_tokens, after_last, wrote}
 use Rattle.profile_text.proofs.canonical.write_set.Goals as goal
 
 pub loop-name-init : goal.loop-name-init

@@ -1,6 +1,6 @@
 use Rattle.serde_json.specs.Data.{string}
 use Rattle.cap_sets.specs.Capability.{names_of}
-use Rattle.profile_text.proofs.Writing.{Leaves}
+use Rattle.json_tree.proofs.Writing.{Leaves}
 use Rattle.profile_text.proofs.canonical.write_set.Given as goal
 
 abbrev pub invariant-loop-name : goal.invariant-loop-name

@@ -1,7 +1,7 @@
 use Rattle.std.specs.Prelude.{codes}
 use Rattle.std.proofs.Common.{◌≡◌, drop}
 use Rattle.std.specs.Int.RustNames.{bit_or}
-use Rattle.serde_json.specs.View.{items_view}
+use Rattle.json_tree.specs.View.{items_view}
 use Rattle.profile_text.specs.Document.{is_cap_name}
 use Rattle.profile_text.specs.Sets.{caps_of}
 use Rattle.profile_text.specs.Shape.{below, word_faults, items_faults}

@@ -1,5 +1,5 @@
 use Rattle.std.specs.Prelude.{codes}
-use Rattle.serde_json.specs.View.{view}
+use Rattle.json_tree.specs.View.{view}
 use Rattle.profile_text.specs.Shape.{below}
 use Rattle.profile_text.proofs.WalkFacts.{sets_with_ok}
 use Rattle.profile_text.proofs.capabilities.sets_with.Goals as goal

@@ -1,4 +1,4 @@
-use Rattle.std.proofs.Common.{inr}
+use Rattle.std.proofs.Common.{◌∙◌, Err, ap, inr}
 use Rattle.profile_text.specs.Reading.{GivesAs, reading_of}
 use Rattle.profile_text.proofs.ReadFacts.{too_long, value_is, value_none}
 use Rattle.profile_text.proofs.ReadsFacts.{stands_given}
@@ -10,8 +10,8 @@ returns-then-bytes-gt-MOST_BYTES-clause-reading c = inr (too_long c.args.bytes.n
 pub returns-in-Ok-clause-reading : goal.returns-in-Ok-clause-reading
 returns-in-Ok-clause-reading c = rw (value_is c.args.bytes.now _ c.if-bytes-gt-MOST_BYTES.false c.in-Ok.ensures.ok.0 c.in-Ok.ensures.ok.1) c.document_of.ensures.reading
 
-pub returns-else-is_memory-clause-reading : goal.returns-else-is_memory-clause-reading
-returns-else-is_memory-clause-reading c = inr (value_none c.args.bytes.now c.if-bytes-gt-MOST_BYTES.false (λ text. c.in-Err.ensures.err (λ memory. let yes = c.is_memory.ensures.1 memory in let no = c.if-is_memory.false in cc) text))
+pub returns-in-Err-NotJson-clause-reading : goal.returns-in-Err-NotJson-clause-reading
+returns-in-Err-NotJson-clause-reading c = inr (value_none c.args.bytes.now c.if-bytes-gt-MOST_BYTES.false (λ text. c.from_slice.ensures.not_json (c.in-Err-NotJson.is ∙ ap Err c.in-Err-NotJson.field-0-is) text))
 
 pub returns-in-Ok-clause-stands : goal.returns-in-Ok-clause-stands
 returns-in-Ok-clause-stands c =

@@ -1,5 +1,5 @@
-use Rattle.std.proofs.Common.{◌≡◌, length, map, string_bytes}
-use Rattle.serde_json.specs.View.{items_view}
+use Rattle.std.proofs.Common.{◌≡◌, drop, map, string_bytes}
+use Rattle.json_tree.specs.View.{items_view}
 use Rattle.profile_text.specs.FilterParts.{items_as, string_in}
 use Rattle.profile_text.specs.FilterShape.{text_faults}
 use Rattle.profile_text.specs.Reading.{unless_faulty}
@@ -10,8 +10,5 @@ use Rattle.profile_text.proofs.entry.names_in.Given as goal
 
 abbrev pub invariant-loop-value : goal.invariant-loop-value
 invariant-loop-value l =
-    (goal.iterator-loop-value).can_next l.value-iterator ×
-    (goal.iterator-loop-value).is_finite l.value-iterator ×
-    (l.value-iterator.rest.len ≡ length l.value-iterator.rest.items) ×
-    (unless_faulty (items_faults text_faults (below (path_of l.place) l.name) 0 (items_view l.fn.values.items)) (items_as string_in (items_view l.fn.values.items))
-    ≡ left text_faults string_in (below (path_of l.place) l.name) l.value-iterator.rest.items (map string_bytes l.names.items))
+    unless_faulty (items_faults text_faults (below (path_of l.place) l.name) 0 (items_view l.fn.values)) (items_as string_in (items_view l.fn.values))
+    ≡ left text_faults string_in (below (path_of l.place) l.name) (drop l.value-index l.values) (map string_bytes l.names.items)

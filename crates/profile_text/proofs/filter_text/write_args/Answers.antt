@@ -3,7 +3,8 @@ use Rattle.std.specs.Prelude.{codes}
 use Rattle.seccomp_doc.specs.declared.compare.Compare.{Compare}
 use Rattle.seccomp_doc.specs.declared.compare.Op.TheVariants.{NotEqual}
 use Rattle.profile_text.specs.Text.{arg_data}
-use Rattle.profile_text.proofs.Writing.{item_written, items_written, last, leaves_all, none_tokens, not_empty, nothing, some_tokens, after_last, wrote}
+use Rattle.json_tree.proofs.Writing.{item_written, items_written, last, leaves_all, nothing, after_last, wrote}
+use Rattle.profile_text.proofs.Writing.{none_tokens, not_empty, some_tokens}
 use Rattle.profile_text.proofs.filter_text.write_args.Goals as goal
 
 -- what a slice of comparisons has past its end

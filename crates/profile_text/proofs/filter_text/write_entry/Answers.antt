@@ -3,7 +3,8 @@ use Rattle.std.specs.Prelude.{codes}
 use Rattle.serde_json.specs.Data.{member, no_members}
 use Rattle.seccomp_doc.specs.Action.{errno_of}
 use Rattle.profile_text.specs.Text.{arg_data, errno_data, member_if, some_list, texts_data}
-use Rattle.profile_text.proofs.Writing.{last, member_first, after_last, wrote}
+use Rattle.json_tree.proofs.Writing.{last, after_last, wrote}
+use Rattle.profile_text.proofs.Writing.{member_first}
 use Rattle.profile_text.proofs.filter_text.write_entry.Goals as goal
 
 pub returns : goal.returns

@@ -3,7 +3,8 @@ use Rattle.std.specs.Prelude.{codes}
 use Rattle.serde_json.specs.Data.{string, member, no_members}
 use Rattle.seccomp_doc.specs.Action.{action_word_text, errno_of, word_of}
 use Rattle.profile_text.specs.Text.{entry_data, errno_data, member_if, some_list}
-use Rattle.profile_text.proofs.Writing.{last, member_first, after_last, wrote}
+use Rattle.json_tree.proofs.Writing.{last, after_last, wrote}
+use Rattle.profile_text.proofs.Writing.{member_first}
 use Rattle.profile_text.proofs.filter_text.write_filter.Goals as goal
 
 pub returns : goal.returns

@@ -1,7 +1,8 @@
 use Rattle.std.proofs.Common.{refl}
 use Rattle.std.specs.Prelude.{codes}
 use Rattle.serde_json.specs.Data.{string}
-use Rattle.profile_text.proofs.Writing.{item_written, items_written, last, leaves_all, none_tokens, not_empty, nothing, some_tokens, after_last, wrote}
+use Rattle.json_tree.proofs.Writing.{item_written, items_written, last, leaves_all, nothing, after_last, wrote}
+use Rattle.profile_text.proofs.Writing.{none_tokens, not_empty, some_tokens}
 use Rattle.profile_text.proofs.filter_text.write_flags.Goals as goal
 
 pub loop-flag-init : goal.loop-flag-init

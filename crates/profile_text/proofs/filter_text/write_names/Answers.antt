@@ -1,6 +1,6 @@
 use Rattle.std.proofs.Common.{refl}
 use Rattle.serde_json.specs.Data.{string}
-use Rattle.profile_text.proofs.Writing.{item_written, items_written, last, leaves_all, list_tokens, after_last, wrote}
+use Rattle.json_tree.proofs.Writing.{item_written, items_written, last, leaves_all, list_tokens, after_last, wrote}
 use Rattle.profile_text.proofs.filter_text.write_names.Goals as goal
 
 pub loop-name-init : goal.loop-name-init

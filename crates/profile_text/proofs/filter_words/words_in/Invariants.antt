@@ -1,5 +1,5 @@
-use Rattle.std.proofs.Common.{◌≡◌, length}
-use Rattle.serde_json.specs.View.{items_view}
+use Rattle.std.proofs.Common.{◌≡◌, drop}
+use Rattle.json_tree.specs.View.{items_view}
 use Rattle.profile_text.specs.FilterParts.{items_as, string_in}
 use Rattle.profile_text.specs.Reading.{unless_faulty}
 use Rattle.profile_text.specs.Shape.{below, items_faults, word_faults}
@@ -9,8 +9,5 @@ use Rattle.profile_text.proofs.filter_words.words_in.Given as goal
 
 abbrev pub invariant-loop-value : goal.invariant-loop-value
 invariant-loop-value g l =
-    (goal.iterator-loop-value g).can_next l.value-iterator ×
-    (goal.iterator-loop-value g).is_finite l.value-iterator ×
-    (l.value-iterator.rest.len ≡ length l.value-iterator.rest.items) ×
-    (unless_faulty (items_faults (word_faults g.F.Form.is_form) (below (path_of l.place) l.name) 0 (items_view l.fn.values.items)) (items_as string_in (items_view l.fn.values.items))
-    ≡ left (word_faults g.F.Form.is_form) string_in (below (path_of l.place) l.name) l.value-iterator.rest.items l.words.items)
+    unless_faulty (items_faults (word_faults g.F.Form.is_form) (below (path_of l.place) l.name) 0 (items_view l.fn.values)) (items_as string_in (items_view l.fn.values))
+    ≡ left (word_faults g.F.Form.is_form) string_in (below (path_of l.place) l.name) (drop l.value-index l.values) l.words.items

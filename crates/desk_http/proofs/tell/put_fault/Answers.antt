@@ -1,0 +1,8 @@
+use Rattle.desk_http.proofs.LineFacts.{cut_of_more, put_then}
+use Rattle.desk_http.proofs.tell.put_fault.Goals as goal
+
+pub returns-in-Ok : goal.returns-in-Ok
+returns-in-Ok g c = put_then g.O.Write.contents c.args.output.now c.put.new.output c.put_line.new.output _ _ _ c.in-Ok.ensures c.put_line.ensures
+
+pub returns-in-Err : goal.returns-in-Err
+returns-in-Err g c = cut_of_more g.O.Write.contents c.args.output.now c.put.new.output _ _ c.in-Err.ensures

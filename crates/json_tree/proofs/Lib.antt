@@ -1,0 +1,4 @@
+pub mod Views
+mod Put
+mod Reading
+pub mod Writing

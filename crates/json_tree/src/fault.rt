@@ -1,0 +1,46 @@
+//! Why bytes are no JSON value.
+
+use json::Invalid;
+use std::alloc::{AllocError, AllocFailed};
+
+/// Why bytes were not read.
+#[derive(Clone, Copy, Debug, Drop, PartialEq, Eq)]
+pub enum ReadFault {
+    /// They are no JSON value.
+    NotJson,
+    /// Memory was refused.
+    NoMemory,
+}
+
+impl From<Invalid> for ReadFault {
+    ghost use Rattle.std.specs.Prelude.{◌≡◌};
+    ghost use Rattle.json_tree.specs.declared.fault.ReadFault.TheVariants.{NotJson};
+
+    ghost from_gives = { λ _ fault. fault ≡ NotJson };
+
+    fn from(_invalid: Invalid) -> ReadFault {
+        ReadFault::NotJson
+    }
+}
+
+impl From<AllocError> for ReadFault {
+    ghost use Rattle.std.specs.Prelude.{◌≡◌};
+    ghost use Rattle.json_tree.specs.declared.fault.ReadFault.TheVariants.{NoMemory};
+
+    ghost from_gives = { λ _ fault. fault ≡ NoMemory };
+
+    fn from(_refused: AllocError) -> ReadFault {
+        ReadFault::NoMemory
+    }
+}
+
+impl<T: Drop> From<AllocFailed<T>> for ReadFault {
+    ghost use Rattle.std.specs.Prelude.{◌≡◌};
+    ghost use Rattle.json_tree.specs.declared.fault.ReadFault.TheVariants.{NoMemory};
+
+    ghost from_gives = { λ _ fault. fault ≡ NoMemory };
+
+    fn from(_refused: AllocFailed<T>) -> ReadFault {
+        ReadFault::NoMemory
+    }
+}

@@ -1,0 +1,15 @@
+use Rattle.std.proofs.Common.{inl, inr}
+use Rattle.office_commands.proofs.RunFacts.{has_ended}
+use Rattle.office_commands.proofs.run.run_words.Goals as goal
+
+pub returns-in-Ok : goal.returns-in-Ok
+returns-in-Ok g c =
+    inl (
+      c.in-Ok.command,
+      c.in-Ok.ensures.command,
+      has_ended g.E.Write.contents _ _ c.in-Ok.command _ _ c.run-ended.result _ _
+          c.run-ended.ensures.done c.run-ended.ensures.failed c.failed_status-failed.ensures c.status_of.ensures,
+    )
+
+pub returns-in-Err : goal.returns-in-Err
+returns-in-Err g c = inr (c.in-Err.fault, c.in-Err.ensures.refused, c.tell.ensures)

@@ -1,0 +1,63 @@
+-- The words of why a command is refused or failed.
+use Rattle.std.specs.Prelude.{ℕ, List, ◌++◌, codes}
+use Rattle.desk.specs.Faults.{desk_fault_word}
+use Rattle.office_store.specs.Faults.{founding_fault_word, migration_fault_word, opening_fault_word}
+use Rattle.office_tables.specs.Faults.{store_fault_word}
+use Rattle.profile_commands.specs.declared.compare.ComparedFault.{ComparedFault}
+use Rattle.profile_commands.specs.declared.compare.ComparedFault.TheVariants as compared
+use Rattle.profile_commands.specs.declared.execution.ExecutionFault.{ExecutionFault}
+use Rattle.profile_commands.specs.declared.execution.ExecutionFault.TheVariants as execution
+use Rattle.profile_commands.specs.declared.fault.FileFault.{FileFault}
+use Rattle.profile_commands.specs.declared.fault.FileFault.TheVariants as file
+use Rattle.profile_text.specs.FaultText.{fault_text_of}
+use Rattle.streams.specs.declared.up_to.Unread.{Unread}
+use Rattle.streams.specs.declared.up_to.Unread.TheVariants as unread
+use Rattle.office_commands.specs.declared.fault.CommandFault.{CommandFault}
+use Rattle.office_commands.specs.declared.fault.CommandFault.TheVariants as fault
+use Rattle.office_commands.specs.declared.founding_fault.FoundingWordsFault.{FoundingWordsFault}
+use Rattle.office_commands.specs.declared.founding_fault.FoundingWordsFault.TheVariants as words
+
+-- why the words of `init` describe no founding
+abbrev pub founding_words_fault_word : FoundingWordsFault → List ℕ
+founding_words_fault_word words.BadWord = codes "bad-word"
+founding_words_fault_word words.UnknownCapability = codes "unknown-capability"
+founding_words_fault_word words.NoMemory = codes "memory"
+
+-- why those of `execve` describe no execution
+abbrev pub execution_fault_word : ExecutionFault → List ℕ
+execution_fault_word execution.RootTakesNoFile = codes "root-takes-no-file"
+execution_fault_word execution.UnknownCapability = codes "unknown-capability"
+
+-- why a file wasn't read
+abbrev pub unread_word : Unread → List ℕ
+unread_word unread.Failed = codes "read"
+unread_word unread.TooManyReads = codes "too-many-reads"
+unread_word unread.NoMemory = codes "memory"
+
+-- why a file gave nothing
+abbrev pub file_fault_text : FileFault → List ℕ
+file_fault_text (file.Unread why) = unread_word why
+file_fault_text (file.Document why) = fault_text_of why
+
+-- why two documents weren't compared
+abbrev pub compared_fault_text : ComparedFault → List ℕ
+compared_fault_text (compared.Base why) = codes "base: " ++ file_fault_text why
+compared_fault_text (compared.New why) = codes "new: " ++ file_fault_text why
+compared_fault_text compared.NoMemory = codes "memory"
+
+-- why a command was refused or failed
+abbrev pub command_fault_text : CommandFault → List ℕ
+command_fault_text (fault.Execution why) = execution_fault_word why
+command_fault_text fault.Open = codes "read"
+command_fault_text (fault.File why) = file_fault_text why
+command_fault_text (fault.Compared why) = compared_fault_text why
+command_fault_text (fault.FoundingWords why) = founding_words_fault_word why
+command_fault_text (fault.Founding why) = founding_fault_word why
+command_fault_text (fault.Migration why) = migration_fault_word why
+command_fault_text (fault.Store why) = store_fault_word why
+command_fault_text (fault.Opening why) = opening_fault_word why
+command_fault_text fault.Close = codes "disk"
+command_fault_text (fault.Desk why) = desk_fault_word why
+command_fault_text fault.Bind = codes "bind"
+command_fault_text fault.Write = codes "write"
+command_fault_text fault.NoMemory = codes "memory"

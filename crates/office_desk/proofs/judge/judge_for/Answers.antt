@@ -1,0 +1,66 @@
+use Rattle.std.proofs.Common.{refl}
+use Rattle.sqlite.specs.Held.{state}
+use Rattle.review_policy.specs.declared.ask.Ask.TheVariants as ask
+use Rattle.office_policy.specs.History.{enrolled, submitted, voted, issued, withdrawn, adopted, held, released}
+use Rattle.office_desk.proofs.Handling.{adds, changes, reads}
+use Rattle.office_desk.proofs.judge.judge_for.Goals as goal
+
+pub returns-in-Submit : goal.returns-in-Submit
+returns-in-Submit g c =
+    adds (state g.S.Store c.args.conn.now) (state g.S.Store c.judge_submission.new.conn) c.args.caller (ask.Submit c.in-Submit.name c.in-Submit.document) c.args.ask.now c.in-Submit.is
+    (λ row. (submitted c.args.caller.name c.in-Submit.name row.body, refl)) c.judge_submission.result c.judge_submission.ensures c.submitted.result c.submitted.ensures
+
+pub returns-in-Enrol : goal.returns-in-Enrol
+returns-in-Enrol g c =
+    changes (state g.S.Store c.args.conn.now) (state g.S.Store c.judge_enrolment.new.conn) c.args.caller (ask.Enrol c.in-Enrol.user c.in-Enrol.team c.in-Enrol.roles c.in-Enrol.digest) c.args.ask.now c.in-Enrol.is
+    (enrolled c.args.caller.name c.in-Enrol.user c.in-Enrol.team c.in-Enrol.roles c.in-Enrol.digest) (λ reply. refl) (λ h allowed. tt) c.judge_enrolment.result (c.judge_enrolment.ensures c.in-Enrol.roles) c.allowed.result c.allowed.ensures
+
+pub returns-in-Vote : goal.returns-in-Vote
+returns-in-Vote g c =
+    changes (state g.S.Store c.args.conn.now) (state g.S.Store c.judge_vote.new.conn) c.args.caller (ask.Vote c.in-Vote.name c.in-Vote.revision c.in-Vote.digest c.in-Vote.approve) c.args.ask.now c.in-Vote.is
+    (voted c.args.caller.name c.in-Vote.name c.in-Vote.revision c.in-Vote.digest c.in-Vote.approve) (λ reply. refl) (λ h allowed. tt) c.judge_vote.result (c.judge_vote.ensures c.in-Vote.approve) c.allowed-in-Vote.result c.allowed-in-Vote.ensures
+
+pub returns-in-Issue : goal.returns-in-Issue
+returns-in-Issue g c =
+    changes (state g.S.Store c.args.conn.now) (state g.S.Store c.judge_issue.new.conn) c.args.caller (ask.Issue c.in-Issue.name c.in-Issue.revision) c.args.ask.now c.in-Issue.is
+    (issued c.args.caller.name c.in-Issue.name c.in-Issue.revision) (λ reply. refl) (λ h allowed. tt) c.judge_issue.result c.judge_issue.ensures c.allowed-in-Issue.result c.allowed-in-Issue.ensures
+
+pub returns-in-Withdraw : goal.returns-in-Withdraw
+returns-in-Withdraw g c =
+    changes (state g.S.Store c.args.conn.now) (state g.S.Store c.judge_withdrawal.new.conn) c.args.caller (ask.Withdraw c.in-Withdraw.name c.in-Withdraw.revision) c.args.ask.now c.in-Withdraw.is
+    (withdrawn c.args.caller.name c.in-Withdraw.name c.in-Withdraw.revision) (λ reply. refl) (λ h allowed. tt) c.judge_withdrawal.result c.judge_withdrawal.ensures c.allowed-in-Withdraw.result c.allowed-in-Withdraw.ensures
+
+pub returns-in-Adopt : goal.returns-in-Adopt
+returns-in-Adopt g c =
+    changes (state g.S.Store c.args.conn.now) (state g.S.Store c.judge_adoption.new.conn) c.args.caller (ask.Adopt c.in-Adopt.name c.in-Adopt.revision) c.args.ask.now c.in-Adopt.is
+    (adopted c.args.caller.name c.in-Adopt.name c.in-Adopt.revision) (λ reply. refl) (λ h allowed. tt) c.judge_adoption.result c.judge_adoption.ensures c.allowed-in-Adopt.result c.allowed-in-Adopt.ensures
+
+pub returns-in-Hold : goal.returns-in-Hold
+returns-in-Hold g c =
+    changes (state g.S.Store c.args.conn.now) (state g.S.Store c.judge_hold.new.conn) c.args.caller (ask.Hold c.in-Hold.name) c.args.ask.now c.in-Hold.is
+    (held c.args.caller.name c.in-Hold.name) (λ reply. refl) (λ h allowed. tt) c.judge_hold.result c.judge_hold.ensures c.allowed-in-Hold.result c.allowed-in-Hold.ensures
+
+pub returns-in-Release : goal.returns-in-Release
+returns-in-Release g c =
+    changes (state g.S.Store c.args.conn.now) (state g.S.Store c.judge_release.new.conn) c.args.caller (ask.Release c.in-Release.name) c.args.ask.now c.in-Release.is
+    (released c.args.caller.name c.in-Release.name) (λ reply. refl) (λ h allowed. tt) c.judge_release.result c.judge_release.ensures c.allowed-in-Release.result c.allowed-in-Release.ensures
+
+pub returns-in-Show : goal.returns-in-Show
+returns-in-Show g c =
+    reads (state g.S.Store c.args.conn.now) (state g.S.Store c.show.new.conn) c.args.caller (ask.Show c.in-Show.name c.in-Show.revision) c.args.ask.now c.in-Show.is
+    (λ reply. refl) c.show.result c.show.ensures c.answered.result c.answered.ensures
+
+pub returns-in-Sheet : goal.returns-in-Sheet
+returns-in-Sheet g c =
+    reads (state g.S.Store c.args.conn.now) (state g.S.Store c.sheet.new.conn) c.args.caller (ask.Sheet c.in-Sheet.name c.in-Sheet.revision) c.args.ask.now c.in-Sheet.is
+    (λ reply. refl) c.sheet.result c.sheet.ensures c.answered-in-Sheet.result c.answered-in-Sheet.ensures
+
+pub returns-in-List : goal.returns-in-List
+returns-in-List g c =
+    reads (state g.S.Store c.args.conn.now) (state g.S.Store c.list.new.conn) c.args.caller (ask.List c.in-List.team) c.args.ask.now c.in-List.is
+    (λ reply. refl) c.list.result c.list.ensures c.answered-in-List.result c.answered-in-List.ensures
+
+pub returns-in-Fetch : goal.returns-in-Fetch
+returns-in-Fetch g c =
+    reads (state g.S.Store c.args.conn.now) (state g.S.Store c.fetch.new.conn) c.args.caller (ask.Fetch c.in-Fetch.name) c.args.ask.now c.in-Fetch.is
+    (λ reply. refl) c.fetch.result c.fetch.ensures c.answered-in-Fetch.result c.answered-in-Fetch.ensures

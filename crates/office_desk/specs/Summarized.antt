@@ -1,0 +1,12 @@
+-- Revisions without their texts, as the rules of votes, withdrawals and adoptions ask of them.
+use Rattle.std.specs.Prelude.{[], Option, option_map}
+use Rattle.office_tables.specs.declared.row.RevisionRow.{RevisionRow}
+use Rattle.office_store.specs.declared.summaries.Summary.{Summary}
+
+-- a revision of this state and digest: those rules ask no more of one
+abbrev pub row_of : Summary → RevisionRow
+row_of s = record { number = 0; author = []; state = s.state; body = []; digest = s.digest }
+
+-- the same, where there may be none
+abbrev pub as_asked : Option Summary → Option RevisionRow
+as_asked found = option_map row_of found

@@ -1,0 +1,4 @@
+pub mod Texts
+pub mod Offices
+pub mod Carried
+pub mod Cuts

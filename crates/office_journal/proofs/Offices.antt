@@ -1,0 +1,164 @@
+-- An office with a journal, where the office alone was asked.
+use Rattle.std.proofs.Common.{inl, inr, ◌≡◌, ◌∙◌, ◌≤◌, ◌+◌, ℕ, List, true, false, Some, None, IsTrue, sym, subst, arith}
+use Rattle.std.proofs.lemmas.Bool.{and_parts}
+use Rattle.review_policy.specs.declared.ask.Ask.{Ask}
+use Rattle.review_policy.specs.declared.ask.Request.{Request}
+use Rattle.review_policy.specs.declared.answer.Answer.{Answer}
+use Rattle.review_policy.specs.declared.answer.Answer.TheVariants.{Done, Denied, Fault}
+use Rattle.review_policy.specs.declared.answer.Fault.{Fault as TheFault}
+use Rattle.review_policy.specs.declared.answer.Fault.TheVariants as faults
+use Rattle.office_policy.specs.History.{History}
+use Rattle.office_policy.specs.Verdict.{Verdict, accepted, denied, verdict}
+use Rattle.office_policy.specs.Runs.{history_after}
+use Rattle.office_policy.specs.Meaning.{Meaning}
+use Rattle.office_policy.specs.Handled.{HasCause, HasRisen, IsHandled, IsMet, RefusesEvent, Stands, Survives, UnlessChanged, UnlessFaulty}
+use Rattle.office_policy.specs.Judging.{IsAnswered, LeavesAll}
+use Rattle.office_policy.proofs.SurvivalFacts.{survives_none}
+use Rattle.journal_lines.specs.Journal.{IsJournalOf}
+use Rattle.office_journal.specs.declared.journaled.Journaled.{Journaled}
+use Rattle.office_journal.specs.Begun.{IsLeftOf}
+use Rattle.office_journal.specs.Journals.{IsOf, LeavesOffice, LeavesText, goes_on, journaled, stray_faults, with_office}
+use Rattle.office_journal.specs.Writing.{Writing}
+
+-- ---- counts of faults
+
+pub risen_first : (a b c x y z : ℕ) → HasRisen a x → b ≤ y → c ≤ z → HasRisen (a + b + c) (x + y + z)
+risen_first a b c x y z risen more rest = omega (arith, risen, more, rest)
+
+pub risen_second : (a b c x y z : ℕ) → a ≤ x → HasRisen b y → c ≤ z → HasRisen (a + b + c) (x + y + z)
+risen_second a b c x y z more risen rest = omega (arith, more, risen, rest)
+
+pub none_fewer : (n : ℕ) → n ≤ n
+none_fewer n = omega arith
+
+-- ---- what holds whatever was answered
+
+pub kept_anyhow : (a : Ask) (told : Answer) (P : Type 0) → P → UnlessChanged a told P
+kept_anyhow a (Done reply) P p = λ reads. p
+kept_anyhow a (Denied denial fault) P p = p
+kept_anyhow a (Fault fault) P p = p
+
+pub unless_faulty : (told : Answer) (P Q : Type 0) → (P → Q) → UnlessFaulty told P → UnlessFaulty told Q
+unless_faulty (Done reply) P Q to p = to p
+unless_faulty (Denied denial fault) P Q to p = to p
+unless_faulty (Fault fault) P Q to p = tt
+
+module _ {O J : Type 0} (m : Meaning O) (w : Writing J) where
+  -- it is open, where it goes on
+  pub open_of : (x : Journaled O J) → IsTrue (goes_on m w x) → IsTrue (w.is_open x.journal)
+  open_of x goes = (and_parts (w.is_open x.journal) _ goes).0
+
+  -- ---- causes
+
+  refused : (h : History) (v : Verdict) (fault : TheFault) → RefusesEvent m h v fault → RefusesEvent (journaled m w) h v fault
+  refused h (accepted reply (Some e)) fault is = is
+  refused h (accepted reply None) fault is = absurd is
+  refused h (denied denial told) fault is = absurd is
+
+  pub met : (x y : Journaled O J) (h : History) (r : Request) (fault : TheFault) → w.faults x.journal ≤ w.faults y.journal → stray_faults x.has_stray ≤ stray_faults y.has_stray
+      → IsMet m x.office y.office h r fault → IsMet (journaled m w) x y h r fault
+  met x y h r fault more rest (inl risen) =
+      inl (risen_first (m.faults x.office) (w.faults x.journal) (stray_faults x.has_stray) (m.faults y.office) (w.faults y.journal) (stray_faults y.has_stray) risen more rest)
+  met x y h r fault more rest (inr refuses) = inr (refused h (verdict h r) fault refuses)
+
+  pub caused : (x y : Journaled O J) (h : History) (r : Request) (told : Answer) → w.faults x.journal ≤ w.faults y.journal → stray_faults x.has_stray ≤ stray_faults y.has_stray
+      → HasCause m x.office y.office h r told → HasCause (journaled m w) x y h r told
+  caused x y h r (Done reply) more rest cause = tt
+  caused x y h r (Denied denial fault) more rest cause = tt
+  caused x y h r (Fault faults.Memory) more rest cause = tt
+  caused x y h r (Fault faults.Disk) more rest cause = λ is_open. met x y h r faults.Disk more rest (cause is_open.0)
+  caused x y h r (Fault faults.Full) more rest cause = met x y h r faults.Full more rest cause
+  caused x y h r (Fault faults.NotAnOffice) more rest cause = cause
+
+  -- ---- what stands
+
+  -- an office that stands, with the journal that says its history, stands with it
+  pub stands_with : (x : Journaled O J) (h : History) → m.is_clean x.office → IsTrue (goes_on m w x) → IsOf m w h x → Stands m h x.office → Stands (journaled m w) h x
+  stands_with x h clean goes of stands = record {
+    is_of = of;
+    is_open = (stands.is_open, goes);
+    leaves = λ left may. (office left.0 may.0, λ known. text known left.1 (may.1 known));
+  }
+    where
+      office : (left : m.Left) → LeavesOffice m w x left → m.are_of h left
+      office left (inl may) = stands.leaves left may
+      office left (inr each) = each h of
+
+      text : w.known → (left : List ℕ) → LeavesText m w x left → IsLeftOf h left
+      text known left (inl may) = inl (subst (λ t. IsJournalOf t h) (sym (w.settled known x.journal (open_of x goes) left may)) (of.says known clean goes))
+      text known left (inr each) = each.1 h of
+
+  module _ (x : Journaled O J) (office : O) (leaves : LeavesAll m x.office office) where
+    still_of : (h : History) → IsOf m w h x → IsOf m w h (with_office x office)
+    still_of h of = record {
+      office = leaves.office h of.office;
+      says = λ known clean goes. of.says known (leaves.survives.clean clean) goes;
+    }
+
+    survives : Survives (journaled m w) x (with_office x office)
+    survives = record {
+      clean = leaves.survives.clean;
+      counts = omega (arith, leaves.survives.counts);
+      closes = λ clean is_open. elim (leaves.survives.closes clean is_open.0) [
+        | inl still ↦ inl (still, is_open.1)
+        | inr risen ↦ inr
+            (risen_first (m.faults x.office) (w.faults x.journal) (stray_faults x.has_stray) (m.faults office) (w.faults x.journal) (stray_faults x.has_stray) risen
+            (none_fewer (w.faults x.journal)) (none_fewer (stray_faults x.has_stray)))
+      ];
+      shut = λ clean is_open. (leaves.survives.shut clean is_open.0, is_open.1);
+    }
+
+    office_before : m.is_clean office → (left : m.Left) → LeavesOffice m w (with_office x office) left → LeavesOffice m w x left
+    office_before clean left (inl may) = inl (leaves.crash clean left may)
+    office_before clean left (inr each) = inr (λ h of. each h (still_of h of))
+
+    text_before : (left : List ℕ) → LeavesText m w (with_office x office) left → LeavesText m w x left
+    text_before left (inl may) = inl may
+    text_before left (inr each) = inr (each.0, λ h of. each.1 h (still_of h of))
+
+    -- nothing was changed
+    pub all_left : LeavesAll (journaled m w) x (with_office x office)
+    all_left = record {
+      survives = survives;
+      office = still_of;
+      kept = leaves.kept;
+      crash = λ clean left may. (office_before clean left.0 may.0, λ known. text_before left.1 (may.1 known));
+    }
+
+  -- the office answered the request
+  pub answered : (x : Journaled O J) (office : O) (r : Request) (told : Answer) → IsTrue (goes_on m w x) → IsAnswered m x.office office r told
+      → IsHandled (journaled m w) x (with_office x office) r told
+  answered x office r told goes is =
+      let all : LeavesAll (journaled m w) x (with_office x office) = all_left x office is.leaves in
+      let of_after : (h : History) → IsOf m w h x → IsOf m w (history_after h r told) (with_office x office) = λ h of. record {
+        office = is.handled.office h of.office;
+        says = λ known clean goes. subst (IsJournalOf (w.text x.journal)) (sym (is.same h of.office clean)) (of.says known (is.leaves.survives.clean clean) goes);
+      } in
+      record {
+        survives = all.survives;
+        answer = λ h of clean. is.handled.answer h of.office clean;
+        cause = λ h of clean. caused x (with_office x office) h r told (none_fewer (w.faults x.journal)) (none_fewer (stray_faults x.has_stray)) (is.handled.cause h of.office clean);
+        approved = λ h of clean. is.handled.approved h of.office clean;
+        office = of_after;
+        stands = λ h of clean.
+            unless_faulty told (Stands m (history_after h r told) office) (Stands (journaled m w) (history_after h r told) (with_office x office))
+            (stands_with (with_office x office) (history_after h r told) clean goes (of_after h of)) (is.handled.stands h of.office clean);
+        kept = λ clean. kept_anyhow r.ask told (m.keeps x.office office) (is.leaves.kept clean);
+        crash = λ h of clean left may. inl (all.crash clean left may);
+      }
+
+  -- an office whose journal doesn't go on is shut
+  shut : (x : Journaled O J) → goes_on m w x ≡ false → IsTrue (goes_on m w x) → ⊥
+  shut x ends goes = let k : goes_on m w x ≡ true = goes in let c : true ≡ false = sym k ∙ ends in absurd cc
+
+  pub refused_shut : (x : Journaled O J) (r : Request) → goes_on m w x ≡ false → IsHandled (journaled m w) x x r (Fault faults.Disk)
+  refused_shut x r ends = record {
+    survives = survives_none (journaled m w) x;
+    answer = λ h of clean. tt;
+    cause = λ h of clean stood. absurd (shut x ends stood.1);
+    approved = λ h of clean. tt;
+    office = λ h of. of;
+    stands = λ h of clean. tt;
+    kept = λ clean. m.keeps_itself x.office;
+    crash = λ h of clean left may. inl may;
+  }

@@ -1,0 +1,28 @@
+use Rattle.std.proofs.Common.{◌∙◌, sym, subst}
+use Rattle.office_journal.specs.Events.{IsLineOf}
+use Rattle.office_journal.specs.Journals.{with_office}
+use Rattle.office_journal.proofs.Carried.{done, no_line, not_appended, taken_back}
+use Rattle.office_journal.proofs.journaled.Journaled.do_allowed.Goals as goal
+
+pub returns-in_default : goal.returns-in_default
+returns-in_default g c = λ before goes permitted.
+    no_line g.O.Handler.meaning g.J.Journal.writing (with_office c.args.self.now before) goes c.args.request.now c.args.allowed.now c.args.self.now.office permitted
+
+pub returns-in-Ok-carry_out : goal.returns-in-Ok-carry_out
+returns-in-Ok-carry_out g c = λ before goes permitted.
+    done g.O.Handler.meaning g.J.Journal.writing (with_office c.args.self.now before) goes c.args.request.now c.args.allowed.now c.args.self.now.office permitted c.as_bytes.result.now
+    (subst (IsLineOf c.args.request.now.ask c.args.allowed.now) (sym (c.as_bytes.ensures.value ∙ c.as_str.ensures.value)) c.in-Ok.ensures)
+    c.append.new.self c.in-Ok-append.ensures c.carry_out.new.self c.in-Ok-carry_out.ensures.survives.clean (c.in-Ok-carry_out.ensures.handled before permitted)
+
+pub returns-in-Ok-append : goal.returns-in-Ok-append
+returns-in-Ok-append g c = λ before goes permitted.
+    taken_back g.O.Handler.meaning g.J.Journal.writing (with_office c.args.self.now before) goes c.args.request.now c.args.allowed.now c.args.self.now.office permitted c.as_bytes.result.now
+    (subst (IsLineOf c.args.request.now.ask c.args.allowed.now) (sym (c.as_bytes.ensures.value ∙ c.as_str.ensures.value)) c.in-Ok.ensures)
+    c.append.new.self c.in-Ok-append.ensures c.carry_out.new.self c.in-Err-carry_out.ensures.survives.clean c.in-Err-carry_out.fault (c.in-Err-carry_out.ensures.handled before permitted)
+    c.strike_out.new.self c.strike_out.ensures
+
+pub returns : goal.returns
+returns g c = λ before goes permitted.
+    not_appended g.O.Handler.meaning g.J.Journal.writing (with_office c.args.self.now before) goes c.args.request.now c.args.allowed.now c.args.self.now.office permitted c.as_bytes.result.now
+    (subst (IsLineOf c.args.request.now.ask c.args.allowed.now) (sym (c.as_bytes.ensures.value ∙ c.as_str.ensures.value)) c.in-Ok.ensures)
+    c.append.new.self c.in-Err.fault c.in-Err.ensures

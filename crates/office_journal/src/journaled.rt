@@ -1,0 +1,137 @@
+//! An office with its journal.
+
+ghost use Rattle.std.specs.Prelude.{◌≡◌, IfOk, string_bytes};
+ghost use Rattle.office_policy.specs.Judging.{HasEvent};
+ghost use Rattle.office_journal.specs.Events.{IsLineOf};
+
+use crate::event::{event, own_forms};
+use crate::journal::Journal;
+use journal_lines::Line;
+use journal_lines::print::line;
+use office_policy::{Allowed, Handler, Judge, Judgement};
+use review_policy::{Answer, Ask, Fault, Request};
+use std::alloc::{AllocError, Global};
+
+/// An office whose events are written to a journal, each before it happens. The journal says just
+/// the history of the office: an event that a fault kept from happening is struck out, and where it
+/// can't be, the office is shut.
+#[derive(Drop)]
+pub struct Journaled<O: Judge, J: Journal> {
+    office: O,
+    journal: J,
+    has_stray: bool,
+}
+
+// The line that strikes out the one before it.
+const STRIKE: &str = "{\"event\":\"strike\"}\n";
+
+// The line of the event of what was allowed.
+fn line_of_allowed(alloc: Global, ask: &Ask, allowed: &Allowed) -> Result<String, AllocError>
+    requires { HasEvent ask.now allowed.now }
+    ensures { IfOk result (λ text. IsLineOf ask.now allowed.now (string_bytes text)) }
+{
+    own_forms(allowed);
+    match event(ask, allowed)? {
+        Some(event) => line(alloc, &Line::Event(event)),
+        None => unreachable!(),
+    }
+}
+
+impl<O: Judge, J: Journal> Journaled<O, J> {
+    ghost use Rattle.std.specs.Prelude.{◌≡◌, false, IsTrue};
+    ghost use Rattle.office_policy.specs.Handled.{IsHandled};
+    ghost use Rattle.office_policy.specs.Judging.{IsPermitted, answer_in};
+    ghost use Rattle.office_journal.specs.Journals.{IsTakenBack, goes_on, journaled, with_office};
+
+    /// The office with the journal that says its history.
+    pub fn new(office: O, journal: J) -> Journaled<O, J>
+        ensures { result ≡ record { office = office; journal = journal; has_stray = false } }
+    {
+        Journaled {
+            office,
+            journal,
+            has_stray: false,
+        }
+    }
+
+    /// The office and the journal, as the last request left them.
+    pub fn into_parts(self) -> (O, J)
+        ensures { result ≡ (self.office, self.journal) }
+    {
+        let Journaled {
+            office,
+            journal,
+            ..
+        } = self;
+        (office, journal)
+    }
+
+    // Whether its journal is open, and has no event that didn't happen.
+    fn goes_on(&self) -> bool
+        ensures { result ≡ goes_on O.Handler.meaning J.Journal.writing self.now }
+    {
+        self.journal.is_open() && !self.has_stray
+    }
+
+    // Strikes out the event of the last line, where the office stands as it did before. Else that
+    // event is a stray.
+    fn strike_out(&mut self, alloc: Global, request: &Request)
+        ensures { IsTakenBack O.Handler.meaning J.Journal.writing self.old self.new }
+    {
+        self.has_stray = true;
+        match self.office.judge(alloc, request) {
+            Judgement::Answered(_) => {}
+            Judgement::Allowed(_) => match self.journal.append(STRIKE.as_bytes()) {
+                Ok(()) => self.has_stray = false,
+                Err(_) => {}
+            },
+        }
+    }
+
+    // Writes down what was allowed, and carries it out.
+    fn do_allowed(
+        &mut self,
+        alloc: Global,
+        request: &Request,
+        allowed: &Allowed,
+    ) -> Result<(), Fault>
+        requires { HasEvent request.now.ask allowed.now }
+        ensures { (before : O) → IsTrue (goes_on O.Handler.meaning J.Journal.writing self.old)
+            → IsPermitted O.Handler.meaning before self.old.office request.now allowed.now
+            → IsHandled (journaled O.Handler.meaning J.Journal.writing)
+            (with_office self.old before) self.new request.now (answer_in allowed.now result) }
+    {
+        let Ok(line) = line_of_allowed(alloc, &request.ask, allowed) else {
+            return Err(Fault::Memory);
+        };
+        match self.journal.append(line.as_str().as_bytes()) {
+            Ok(()) => match self.office.carry_out(alloc, request, allowed) {
+                Ok(()) => Ok(()),
+                Err(fault) => {
+                    self.strike_out(alloc, request);
+                    Err(fault)
+                }
+            },
+            Err(fault) => Err(fault),
+        }
+    }
+}
+
+impl<O: Judge, J: Journal> Handler for Journaled<O, J> {
+    ghost use Rattle.office_journal.specs.Journals.{journaled};
+
+    ghost meaning = { journaled O.Handler.meaning J.Journal.writing };
+
+    fn handle(&mut self, alloc: Global, request: &Request) -> Answer {
+        if !self.goes_on() {
+            return Answer::Fault(Fault::Disk);
+        }
+        match self.office.judge(alloc, request) {
+            Judgement::Answered(answer) => answer,
+            Judgement::Allowed(allowed) => match self.do_allowed(alloc, request, &allowed) {
+                Ok(()) => Answer::Done(allowed.reply),
+                Err(fault) => Answer::Fault(fault),
+            },
+        }
+    }
+}

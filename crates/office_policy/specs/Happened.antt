@@ -1,0 +1,17 @@
+-- The events that the program's values are.
+use Rattle.office_policy.specs.History.{Event, founded, enrolled, submitted, voted, issued}
+use Rattle.office_policy.specs.History.{withdrawn, adopted, held, released}
+use Rattle.office_policy.specs.declared.event.Event as values
+use Rattle.office_policy.specs.declared.event.Event.TheVariants as events
+
+abbrev pub event_meant : values.Event → Event
+event_meant (events.Founded user team digest listed) = founded user team digest listed
+event_meant (events.Enrolled caller user team roles digest) = enrolled caller user team roles digest
+event_meant (events.Submitted caller name text) = submitted caller name text
+event_meant (events.Voted caller name revision digest approves) =
+    voted caller name revision digest approves
+event_meant (events.Issued caller name revision) = issued caller name revision
+event_meant (events.Withdrawn caller name revision) = withdrawn caller name revision
+event_meant (events.Adopted caller name revision) = adopted caller name revision
+event_meant (events.Held caller name) = held caller name
+event_meant (events.Released caller name) = released caller name

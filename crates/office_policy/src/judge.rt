@@ -1,0 +1,55 @@
+//! Whoever judges requests before it carries them out.
+
+ghost use Rattle.office_policy.specs.Handled.{IsHandled, Survives};
+ghost use Rattle.office_policy.specs.Judging.{HasEvent, IsJudged, IsPermitted, answer_in};
+
+use crate::handler::Handler;
+use office_tables::{RevisionRow, UserRow};
+use review_policy::{Answer, Fault, Reply, Request};
+use std::alloc::Global;
+
+/// What every rule of the policy allows, and is to be carried out.
+#[derive(Debug, Drop)]
+pub struct Allowed {
+    /// Who asks for it.
+    pub caller: UserRow,
+    /// What is answered once it is done.
+    pub reply: Reply,
+    /// The revision that a submission adds.
+    pub revision: Option<RevisionRow>,
+}
+
+/// What a request comes to, before anything is changed.
+#[derive(Debug, Drop)]
+pub enum Judgement {
+    /// It changes nothing, and this is its answer.
+    Answered(Answer),
+    /// Every rule allows it, and it changes something.
+    Allowed(Allowed),
+}
+
+/// A handler of requests in two steps, between which others may write down what is to happen.
+pub trait Judge: Handler {
+    /// Judges a request, and changes nothing.
+    fn judge(&mut self, alloc: Global, request: &Request) -> Judgement
+        ensures { IsJudged Self.Handler.meaning self.old self.new request.now result };
+
+    /// Carries out what was allowed of this request when it was judged, before anything else was
+    /// asked.
+    ///
+    /// # Errors
+    ///
+    /// A fault says that nothing changed.
+    fn carry_out(
+        &mut self,
+        alloc: Global,
+        request: &Request,
+        allowed: &Allowed,
+    ) -> Result<(), Fault>
+        requires { HasEvent request.now.ask allowed.now }
+        ensures handled { (before : Self)
+            → IsPermitted Self.Handler.meaning before self.old request.now allowed.now
+            → IsHandled Self.Handler.meaning before self.new request.now
+            (answer_in allowed.now result) }
+        ensures survives { Survives Self.Handler.meaning self.old self.new };
+}
