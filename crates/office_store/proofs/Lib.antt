@@ -16,6 +16,7 @@ pub mod ListingReads
 pub mod Following
 pub mod WalkReads
 pub mod VoteReads
+pub mod BallotReads
 pub mod Indexing
 pub mod FoundingSteps
 pub mod FormReads

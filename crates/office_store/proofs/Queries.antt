@@ -15,6 +15,7 @@ use Rattle.office_store.specs.declared.revisions.TheConstants.{REVISION_AT, REVI
 use Rattle.office_store.specs.declared.standing_votes.TheConstants.{VOTES_ON}
 use Rattle.office_store.specs.declared.summaries.TheConstants.{STATE_AND_DIGEST}
 use Rattle.office_store.specs.declared.users.TheConstants.{USER_BY_NAME, USER_BY_TOKEN}
+use Rattle.office_store.specs.declared.votes.TheConstants.{VOTE_AT}
 use Rattle.office_store.specs.declared.walk.TheConstants.{LISTED_ABOVE}
 
 pub user_by_name : IsQuery USER_BY_NAME.now
@@ -88,3 +89,7 @@ issued_number = is_query ISSUED_NUMBER.now _ (record { is = refl; bare = λ sche
 pub votes_on : IsQuery VOTES_ON.now
 unfolding everything first returning
 votes_on = is_query VOTES_ON.now _ (record { is = refl; bare = λ schema base. refl })
+
+pub vote_at : IsQuery VOTE_AT.now
+unfolding everything first returning
+vote_at = is_query VOTE_AT.now _ (record { is = refl; bare = λ schema base. refl })

@@ -6,7 +6,7 @@ use Rattle.sqlite_tied.specs.Compute.{everything}
 use Rattle.review_policy.specs.declared.ask.ProfileName.{ProfileName}
 use Rattle.office_rows.proofs.Sure.{IsSure}
 use Rattle.office_store.specs.Schema.{office_schema}
-use Rattle.office_store.specs.Keys.{profile_params, revision_params, author_params}
+use Rattle.office_store.specs.Keys.{profile_params, revision_params, author_params, vote_params}
 use Rattle.office_store.specs.declared.author.TheConstants.{REVISION_BY, AUTHORS_OF}
 use Rattle.office_store.specs.declared.baselines.TheConstants.{BASELINE_OF}
 use Rattle.office_store.specs.declared.form.TheConstants.{OFFICE_ROW}
@@ -18,6 +18,7 @@ use Rattle.office_store.specs.declared.revisions.TheConstants.{REVISION_AT, REVI
 use Rattle.office_store.specs.declared.standing_votes.TheConstants.{VOTES_ON}
 use Rattle.office_store.specs.declared.summaries.TheConstants.{STATE_AND_DIGEST}
 use Rattle.office_store.specs.declared.users.TheConstants.{USER_BY_NAME, USER_BY_TOKEN}
+use Rattle.office_store.specs.declared.votes.TheConstants.{VOTE_AT}
 use Rattle.office_store.specs.declared.walk.TheConstants.{LISTED_ABOVE}
 
 pub user_by_name : (name : List ℕ) → IsSure office_schema USER_BY_NAME.now (Text name ∷ [])
@@ -91,3 +92,7 @@ listed_above team text = record { text = record { whole = refl; given = refl; ba
 pub votes_on : (p : ProfileName) (n : ℕ) → IsSure office_schema VOTES_ON.now (revision_params p n)
 unfolding understood everything
 votes_on p n = record { text = record { whole = refl; given = refl; bare = refl; timeless = refl; query = (refl, refl, refl, refl) }; unlisted = refl }
+
+pub vote_at : (p : ProfileName) (n : ℕ) (voter : List ℕ) → IsSure office_schema VOTE_AT.now (vote_params p n voter)
+unfolding understood everything
+vote_at p n voter = record { text = record { whole = refl; given = refl; bare = refl; timeless = refl; query = (refl, refl, refl, refl) }; unlisted = refl }

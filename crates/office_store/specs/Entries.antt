@@ -102,6 +102,10 @@ vote_row e =
     Text e.0.profile.team ∷ Text e.0.profile.profile ∷ Int (pos e.0.number) ∷ Text e.0.voter
     ∷ Int (bit e.1.approves) ∷ Int (bit e.1.security) ∷ []
 
+-- what a read of a vote shows
+abbrev pub voted_row : Vote → Row
+voted_row v = Int (bit v.approves) ∷ Int (bit v.security) ∷ []
+
 pub record IsVote (e : VoteEntry) : Type 0 where
   pub profile : IsProfileName e.0.profile
   pub number : e.0.number < 2 ^ 32

@@ -12,3 +12,6 @@ revision_params p n = Text p.team ∷ Text p.profile ∷ Int (pos n) ∷ []
 
 abbrev pub author_params : ProfileName → List ℕ → Row
 author_params p name = Text p.team ∷ Text p.profile ∷ Text name ∷ []
+
+abbrev pub vote_params : ProfileName → ℕ → List ℕ → Row
+vote_params p n voter = Text p.team ∷ Text p.profile ∷ Int (pos n) ∷ Text voter ∷ []

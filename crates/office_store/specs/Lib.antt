@@ -9,6 +9,7 @@ pub mod Reads
 pub mod Steps
 pub mod Writes
 pub mod Adopted
+pub mod Ballots
 pub mod Lists
 pub mod Founding
 pub mod Migration

@@ -8,6 +8,7 @@ ghost use Rattle.office_store.specs.Entries.{user_row, IsUser, IsProfileName, st
 ghost use Rattle.office_store.specs.Entries.{revision_row, IsRevision, vote_entry, vote_row};
 ghost use Rattle.office_store.specs.Entries.{IsVote, baseline_entry, baseline_row, IsBaseline};
 ghost use Rattle.office_store.specs.Keys.{profile_params, revision_params, author_params};
+ghost use Rattle.office_store.specs.Keys.{vote_params};
 
 use crate::column::bytes_of;
 use crate::votes::Ballot;
@@ -143,6 +144,24 @@ pub(crate) fn of_vote<'a>(
         voter.to_sql(),
         ballot.approves.to_sql(),
         ballot.security.to_sql(),
+    ]
+}
+
+/// The key of a vote.
+pub(crate) fn of_voter<'a>(
+    profile: &'a ProfileName,
+    number: u32,
+    voter: &'a Word,
+) -> [ValueRef<'a>; 4]
+    ensures row { bound result ≡ vote_params profile.now number voter.now }
+{
+    let team = profile.team.as_str();
+    let name = profile.profile.as_str();
+    [
+        team.to_sql(),
+        name.to_sql(),
+        number.to_sql(),
+        voter.as_str().to_sql(),
     ]
 }
 

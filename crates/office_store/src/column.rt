@@ -1,14 +1,15 @@
 //! The columns of a row, read as what they stand for. A column that stands for nothing is
 //! `NotAnOffice`.
 
-ghost use Rattle.std.specs.Prelude.{◌≡◌, ◌≢◌, ◌<◌, ◌^◌, ℕ, List, true, pos, length, string_bytes};
+ghost use Rattle.std.specs.Prelude.{◌≡◌, ◌≢◌, ◌<◌, ◌^◌, ℕ, Bool, List, true, pos, length};
+ghost use Rattle.std.specs.Prelude.{string_bytes};
 ghost use Rattle.std.specs.Prelude.{Err, IfOk, IfErr, IsUtf8};
 ghost use Rattle.sqlite.specs.declared.types.Value.TheVariants.{Int, Text as SqlText, Blob};
 ghost use Rattle.sqlite_value.specs.Order.{column};
 ghost use Rattle.review_policy.specs.Words.{is_word};
 ghost use Rattle.review_policy.specs.declared.revision.State.{State as StateValue};
 ghost use Rattle.office_rows.specs.Told.{IsOfRow};
-ghost use Rattle.office_store.specs.Entries.{state_number};
+ghost use Rattle.office_store.specs.Entries.{bit, state_number};
 
 use cap_sets::Caps;
 use office_rows::fault_of_error;
@@ -57,6 +58,21 @@ pub(crate) fn number_at(row: &Row, at: usize) -> Result<u32, StoreFault>
     ensures cause { IfErr result IsOfRow }
 {
     row.get(at).map_err(fault_of_error)
+}
+
+/// The truth value of a column, which is 0 or 1.
+pub(crate) fn flag_at(row: &Row, at: usize) -> Result<bool, StoreFault>
+    ensures flag { IfOk result (λ flag.
+        (at < length row.now) × (column row.now at ≡ Int (bit flag))) }
+    ensures formed { (flag : Bool) → at < length row.now → column row.now at ≡ Int (bit flag)
+        → result ≢ Err StoreFault.NotAnOffice }
+    ensures cause { IfErr result IsOfRow }
+{
+    match number_at(row, at)? {
+        0 => Ok(false),
+        1 => Ok(true),
+        _ => Err(StoreFault::NotAnOffice),
+    }
 }
 
 // The bits of a column.

@@ -42,5 +42,5 @@ pub use revisions::{
 pub use standing_votes::{standing, tally};
 pub use summaries::{Summary, summary_at};
 pub use users::{put_user, user_by_name, user_by_token};
-pub use votes::{Ballot, put_vote};
+pub use votes::{Ballot, ballot_of, put_vote};
 pub use walk::{first_listed, next_listed};

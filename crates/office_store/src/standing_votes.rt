@@ -1,21 +1,18 @@
 //! The standing votes on a revision, and how many of them approve and reject.
 
-ghost use Rattle.std.specs.Prelude.{◌≡◌, ◌≢◌, ◌<◌, ◌&&◌, Bool, List, Err, IfOk, IfErr, length, map};
+ghost use Rattle.std.specs.Prelude.{◌≡◌, ◌≢◌, ◌&&◌, List, Err, IfOk, IfErr, map};
 ghost use Rattle.std.specs.List.{AllByRecursion};
 ghost use Rattle.sqlite.specs.Held.{state};
-ghost use Rattle.sqlite.specs.declared.types.Value.TheVariants.{Int};
-ghost use Rattle.sqlite_value.specs.Order.{column};
 ghost use Rattle.office_tables.specs.Lists.{AreStanding, IsTally, tally_of};
 ghost use Rattle.office_rows.specs.Told.{IsOfRow, map_ok};
 ghost use Rattle.office_store.specs.Connections.{FindsAll, Reads, ReadsAll};
-ghost use Rattle.office_store.specs.Entries.{bit};
 ghost use Rattle.office_store.specs.Lists.{Cast, cast_row, IsCastForm, IsCastAs};
 ghost use Rattle.office_store.specs.Lists.{AreCastAs, AreVoteRows, TellsVotes, TellsTally};
 ghost use Rattle.office_store.specs.Keys.{revision_params};
 ghost use Rattle.office_store.specs.Shown.{IsIdle};
 
 use crate::bind::of_number;
-use crate::column::{number_at, roles_at, word_at};
+use crate::column::{flag_at, roles_at, word_at};
 use office_rows::all_rows;
 use office_tables::{StoreFault, Tally};
 use review_policy::{ProfileName, Role, VoteRow};
@@ -39,21 +36,6 @@ fn vote_rows<S: Alter>(
         VOTES_ON.now (revision_params profile.now number) (map_ok result (λ rows. rows.items)) }
 {
     all_rows(conn, VOTES_ON, &of_number(profile, number))
-}
-
-// The truth value of a column, which is 0 or 1.
-fn flag_at(row: &Row, at: usize) -> Result<bool, StoreFault>
-    ensures flag { IfOk result (λ flag. (at < length row.now)
-        × (column row.now at ≡ Int (bit flag))) }
-    ensures formed { (flag : Bool) → at < length row.now → column row.now at ≡ Int (bit flag)
-        → result ≢ Err StoreFault.NotAnOffice }
-    ensures cause { IfErr result IsOfRow }
-{
-    match number_at(row, at)? {
-        0 => Ok(false),
-        1 => Ok(true),
-        _ => Err(StoreFault::NotAnOffice),
-    }
 }
 
 // Whether a vote has security: it counts, and its voter had security at it and has it now.

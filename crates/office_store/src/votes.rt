@@ -1,18 +1,28 @@
 //! The table of votes.
 
+ghost use Rattle.std.specs.Prelude.{◌≡◌, IfOk, IfErr, option_map};
 ghost use Rattle.sqlite.specs.Held.{state};
+ghost use Rattle.office_rows.specs.Told.{IsOfRow, IsTold, TellsOne};
 ghost use Rattle.office_tables.specs.Changes.{with_vote};
+ghost use Rattle.office_store.specs.Ballots.{vote_of, row_of_ballot, IsBallot};
 ghost use Rattle.office_store.specs.Calls.{Into};
-ghost use Rattle.office_store.specs.Connections.{MeetsOnErr, Writes};
-ghost use Rattle.office_store.specs.Entries.{vote_entry};
+ghost use Rattle.office_store.specs.Connections.{AcceptsFormed, FindsFirst, MeetsOnErr, Reads};
+ghost use Rattle.office_store.specs.Connections.{ReadsFirst, Writes};
+ghost use Rattle.office_store.specs.Entries.{vote_entry, voted_row};
+ghost use Rattle.office_store.specs.Keys.{vote_params};
 ghost use Rattle.office_store.specs.Shown.{IsIdle};
 ghost use Rattle.office_store.specs.Writes.{putting_vote};
 
-use crate::bind::of_vote;
+use crate::bind::{of_vote, of_voter};
+use crate::column::flag_at;
 use crate::write::write_one;
+use office_rows::first_row;
 use office_tables::StoreFault;
 use review_policy::{ProfileName, Word};
-use sqlite::{Alter, Connection};
+use sqlite::{Alter, Connection, Row};
+
+pub(crate) const VOTE_AT: &str =
+    "SELECT approve, security FROM votes WHERE team = ?1 AND profile = ?2 AND number = ?3 AND voter = ?4";
 
 pub(crate) const PUT_VOTE: &str =
     "INSERT INTO votes (team, profile, number, voter, approve, security) VALUES (?1, ?2, ?3, ?4, ?5, ?6) ON CONFLICT (team, profile, number, voter) DO UPDATE SET approve = ?5, security = ?6";
@@ -22,6 +32,64 @@ pub(crate) const PUT_VOTE: &str =
 pub struct Ballot {
     pub approves: bool,
     pub security: bool,
+}
+
+// The vote that a row stands for.
+fn read_ballot(row: &Row) -> Result<Ballot, StoreFault>
+    ensures ballot { IfOk result (λ ballot. row.now ≡ row_of_ballot ballot) }
+    ensures formed { AcceptsFormed row_of_ballot IsBallot row.now result }
+    ensures cause { IfErr result IsOfRow }
+{
+    if row.column_count() != 2 {
+        return Err(StoreFault::NotAnOffice);
+    }
+    Ok(Ballot {
+        approves: flag_at(row, 0)?,
+        security: flag_at(row, 1)?,
+    })
+}
+
+// The vote of the row that a query found, if it found one.
+fn found_ballot(found: Result<Option<Row>, StoreFault>) -> Result<Option<Ballot>, StoreFault>
+    ensures { IsTold (TellsOne row_of_ballot IsBallot) found result }
+{
+    match found? {
+        Some(row) => Ok(Some(read_ballot(&row)?)),
+        None => Ok(None),
+    }
+}
+
+// The row of the vote of a user on a revision.
+fn row_by<S: Alter>(
+    conn: &mut Connection<S>,
+    profile: &ProfileName,
+    number: u32,
+    voter: &Word,
+) -> Result<Option<Row>, StoreFault>
+    requires { IsIdle (state S.Store conn.old) }
+    ensures read { Reads S.Store conn.old conn.new result
+        (λ t row. row ≡ option_map voted_row (t.votes profile.now number voter.now)) }
+    ensures row { FindsFirst S.Store conn.old conn.new
+        VOTE_AT.now (vote_params profile.now number voter.now) result }
+{
+    first_row(conn, VOTE_AT, &of_voter(profile, number, voter))
+}
+
+/// The last vote of a user on a revision.
+pub fn ballot_of<S: Alter>(
+    conn: &mut Connection<S>,
+    profile: &ProfileName,
+    number: u32,
+    voter: &Word,
+) -> Result<Option<Ballot>, StoreFault>
+    requires { IsIdle (state S.Store conn.old) }
+    ensures read { Reads S.Store conn.old conn.new result
+        (λ t ballot. option_map vote_of ballot ≡ t.votes profile.now number voter.now) }
+    ensures told { ReadsFirst S.Store conn.old conn.new
+        VOTE_AT.now (vote_params profile.now number voter.now)
+        (TellsOne row_of_ballot IsBallot) result }
+{
+    found_ballot(row_by(conn, profile, number, voter))
 }
 
 /// Puts a user's vote on a revision in the place of any earlier one of that user there.
