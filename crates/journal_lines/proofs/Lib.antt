@@ -3,6 +3,7 @@ pub mod RoleFacts
 pub mod TextFacts
 pub mod PrintedLines
 pub mod FoundLines
+pub mod NumberFacts
 pub mod LineFacts
 pub mod LineExamples
 pub mod NoFeeds

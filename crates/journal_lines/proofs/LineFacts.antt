@@ -10,11 +10,12 @@ use Rattle.journal_lines.specs.declared.line.Line as of_lines
 use Rattle.journal_lines.specs.declared.fault.Unread.{Unread}
 use Rattle.journal_lines.specs.declared.fault.Unread.TheVariants.{NotALine, NoMemory}
 use Rattle.journal_lines.specs.Faults.{IsCandidate, IsRead}
-use Rattle.journal_lines.specs.Forms.{IsFormed}
+use Rattle.journal_lines.specs.Forms.{IsFormed, IsNumbered}
 use Rattle.journal_lines.specs.Lines.{Line, line_data, text_of}
 use Rattle.journal_lines.specs.Read.{candidate_at, candidate_in}
 use Rattle.journal_lines.specs.Shown.{shown}
 use Rattle.journal_lines.proofs.FoundLines.{found}
+use Rattle.journal_lines.proofs.NumberFacts.{numbered}
 use Rattle.journal_lines.proofs.PrintedLines.{line_prints}
 
 -- ---- what is written is read
@@ -56,5 +57,7 @@ read_other bytes l found other line formed same =
     let equal : bytes_eq (text_of (shown l)) bytes ≡ true = (bytes_eq-Decides (text_of (shown l)) bytes).1 (ap text_of one ∙ sym same) in
     cc
 
-pub read_same : (bytes : List ℕ) (l : of_lines.Line) → bytes_eq (text_of (shown l)) bytes ≡ true → IsRead bytes (Ok l)
-read_same bytes l same = sym ((bytes_eq-Decides (text_of (shown l)) bytes).0 same)
+pub read_same : (bytes : List ℕ) (l : of_lines.Line) → candidate_in bytes ≡ Some (shown l) → (IsNumbered (shown l) → IsFormed (shown l)) → bytes_eq (text_of (shown l)) bytes ≡ true
+    → IsRead bytes (Ok l)
+read_same bytes l found forms same =
+    (sym ((bytes_eq-Decides (text_of (shown l)) bytes).0 same), forms (numbered bytes (shown l) found))

@@ -7,9 +7,10 @@ use Rattle.journal_lines.specs.Forms.{IsFormed}
 use Rattle.journal_lines.specs.Lines.{Line, text_of}
 use Rattle.journal_lines.specs.Shown.{shown}
 
--- the text is that of the line that is read; where none is, it is that of no line with its forms
+-- the text is that of the line that is read, which has its forms; where none is, it is that of no
+-- line with its forms
 abbrev pub IsRead : List ℕ → Result of_lines.Line Unread → Type 0
-IsRead text (Ok line) = text ≡ text_of (shown line)
+IsRead text (Ok line) = (text ≡ text_of (shown line)) × IsFormed (shown line)
 IsRead text (Err NotALine) = (line : Line) → IsFormed line → text ≢ text_of line
 IsRead text (Err NoMemory) = Unit {0}
 

@@ -19,7 +19,20 @@ HasForms (adopted caller p n) = IsWord caller × IsName p × IsNumber n
 HasForms (held caller p) = IsWord caller × IsName p
 HasForms (released caller p) = IsWord caller × IsName p
 
+-- the revision that is named, where one is, has a number from 1 to 9,999
+abbrev pub HasNumber : Event → Type 0
+HasNumber (voted caller p n digest approves) = IsNumber n
+HasNumber (issued caller p n) = IsNumber n
+HasNumber (withdrawn caller p n) = IsNumber n
+HasNumber (adopted caller p n) = IsNumber n
+HasNumber _ = Unit {0}
+
 -- a line that can be written
 abbrev pub IsFormed : Line → Type 0
 IsFormed (happened e) = HasForms e
 IsFormed strike = Unit {0}
+
+-- so has the one that a line names
+abbrev pub IsNumbered : Line → Type 0
+IsNumbered (happened e) = HasNumber e
+IsNumbered strike = Unit {0}

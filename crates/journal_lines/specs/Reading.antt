@@ -15,10 +15,11 @@ use Rattle.journal_lines.specs.Lines.{Line, strike, text_of}
 abbrev pub held : Reader → Option Event
 held r = option_map event_meant r.held
 
--- the text is that of a line, by which this event stands and that one is held back
+-- the text is that of a line with its forms, by which this event stands and that one is held back
 pub record IsTaken (old new : Option Event) (text : List ℕ) (stands : Option Event) : Type 0 where
   pub line : Line
   pub says : text ≡ text_of line
+  pub formed : IsFormed line
   pub taken : taken old line ≡ Some (stands, new)
 
 -- a line is taken, or it can't stand here and nothing is taken

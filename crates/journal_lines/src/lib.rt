@@ -2,6 +2,7 @@
 #![tactic(auto)]
 
 pub mod fault;
+mod forms;
 mod kind;
 pub mod laws;
 pub mod line;

@@ -7,6 +7,7 @@ ghost use Rattle.journal_lines.specs.Read.{candidate_in};
 ghost use Rattle.journal_lines.specs.Shown.{shown};
 
 use crate::fault::Unread;
+use crate::forms::line_forms;
 use crate::line::Line;
 use crate::part::candidate_of;
 use crate::print::text;
@@ -51,6 +52,7 @@ pub fn read_line(alloc: Global, bytes: &[u8]) -> Result<Line, Unread>
 {
     match candidate(alloc, bytes) {
         Ok(line) => {
+            line_forms(&line);
             if is_its_text(alloc, &line, bytes)? {
                 Ok(line)
             } else {
