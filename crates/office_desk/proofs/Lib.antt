@@ -18,3 +18,4 @@ pub mod Fetches
 pub mod Holds
 pub mod Sheets
 pub mod Submissions
+pub mod Looking

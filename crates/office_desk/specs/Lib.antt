@@ -10,4 +10,5 @@ pub mod Compared
 pub mod Issuing
 pub mod Listed
 pub mod Looked
+pub mod Looking
 pub mod Summarized

@@ -1,5 +1,5 @@
 -- What is answered of what a request came to.
-use Rattle.std.specs.Prelude.{Result, Ok, Err, ⊤}
+use Rattle.std.specs.Prelude.{Bool, Result, Ok, Err, ⊤}
 use Rattle.review_policy.specs.declared.answer.Answer.{Answer}
 use Rattle.review_policy.specs.declared.answer.Answer.TheVariants.{Denied, Fault}
 use Rattle.review_policy.specs.declared.answer.Fault.{Fault as TheFault}
@@ -32,3 +32,8 @@ judgement_of (Err refusal) = Answered (answer_to refusal)
 abbrev pub outcome_of : Result ⊤ StoreFault → Result ⊤ TheFault
 outcome_of (Ok done) = Ok done
 outcome_of (Err fault) = Err (told_of fault)
+
+-- what looking comes to
+abbrev pub sight_of : Result Bool StoreFault → Result Bool TheFault
+sight_of (Ok shown) = Ok shown
+sight_of (Err fault) = Err (told_of fault)

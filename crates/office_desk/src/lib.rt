@@ -24,6 +24,7 @@ pub mod reopening;
 mod revisions;
 mod sheet;
 mod show;
+mod shown;
 mod submit;
 mod vote;
 mod withdraw;

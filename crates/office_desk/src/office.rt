@@ -2,12 +2,13 @@
 
 ghost use Rattle.std.specs.Prelude.{◌≡◌};
 
-use crate::answer::{judgement, outcome};
+use crate::answer::{judgement, outcome, sight};
 use crate::carry_out::carry_out;
 use crate::forms::{founding_forms, request_forms};
 use crate::judge::judge;
+use crate::shown::shows;
 use cap_sets::Caps;
-use office_policy::{Allowed, Handler, Judge, Judgement};
+use office_policy::{Allowed, Event, Handler, Judge, Judgement};
 use office_store::{FoundingFault, OpeningFault, check_office, found};
 use office_tables::StoreFault;
 use review_policy::{Answer, Fault, Request, Word};
@@ -46,11 +47,13 @@ impl<S: Alter> Office<S> {
     ghost use Rattle.office_store.specs.Migration.{ShowsOld};
     ghost use Rattle.office_store.specs.Schema.{no_schema};
     ghost use Rattle.office_store.specs.Shown.{IsIdle, Shows, AreOffice, LeavesNoMore, MayLeave};
+    ghost use Rattle.office_policy.specs.Happened.{event_meant};
     ghost use Rattle.office_policy.specs.History.{History, founded};
     ghost use Rattle.office_policy.specs.Lawful.{IsLawfulHistory};
     ghost use Rattle.office_policy.specs.TablesOf.{tables_of};
     ghost use Rattle.office_policy.specs.Handled.{Stands};
     ghost use Rattle.office_tables.specs.Tables.{Tables};
+    ghost use Rattle.office_desk.specs.Looking.{HasLooked};
     ghost use Rattle.office_desk.specs.Offices.{IsOffice};
     ghost use Rattle.office_desk.specs.Meant.{meaning_over};
     ghost use Rattle.office_desk.specs.Opened.{IsOver, IsRefusedFor, IsHandedBack};
@@ -142,6 +145,19 @@ impl<S: Alter> Office<S> {
             Ok(_) => Ok(Office { conn }),
             Err(fault) => Err((fault, conn)),
         }
+    }
+
+    /// Whether the tables have what an event puts into them. Nothing is changed.
+    ///
+    /// # Errors
+    ///
+    /// `Memory`, or a fault of the disk: `Disk` or `Full`. Each call is `Disk` where one has shut the
+    /// office.
+    pub fn shows(&mut self, alloc: Global, event: &Event) -> Result<bool, Fault>
+        ensures { HasLooked (meaning_over S.Store)
+            self.old self.new (event_meant event.now) result }
+    {
+        sight(shows(alloc, &mut self.conn, event))
     }
 
     /// The connection, as the last call left it.

@@ -1,0 +1,42 @@
+-- What looking whether the tables show an event comes to.
+use Rattle.std.specs.Prelude.{◌≡◌, ◌↔◌, Bool, true, List, ℕ, Option, Some, Result, IfOk, IfErr}
+use Rattle.std.specs.Prelude.{OnOk}
+use Rattle.review_policy.specs.declared.answer.Fault.{Fault}
+use Rattle.review_policy.specs.declared.answer.Fault.TheVariants as faults
+use Rattle.review_policy.specs.declared.revision.State.TheVariants.{Open}
+use Rattle.office_tables.specs.declared.row.RevisionRow.{RevisionRow}
+use Rattle.office_policy.specs.History.{Event, History}
+use Rattle.office_policy.specs.TablesOf.{tables_of}
+use Rattle.office_policy.specs.ShowsEvent.{Shows}
+use Rattle.office_policy.specs.Meaning.{Meaning}
+use Rattle.office_policy.specs.Handled.{HasRisen, Stands}
+use Rattle.office_policy.specs.Judging.{LeavesAll}
+
+-- a revision is there that is open, by this caller and with this text
+pub record IsOpenBy (found : Option RevisionRow) (caller text : List ℕ) : Type 0 where
+  pub row : RevisionRow
+  pub there : found ≡ Some row
+  pub still_open : row.state ≡ Open
+  pub author : row.author ≡ caller
+  pub body : row.body ≡ text
+
+module _ {X : Type 0} (m : Meaning X) where
+  -- a fault other than `memory` was met by a call between the two, or it is `disk` and a fault had
+  -- shut the office before; none is for the form of its tables
+  abbrev pub IsMetBetween : (old new : X) → Fault → Type 0
+  IsMetBetween old new faults.Memory = Unit {0}
+  IsMetBetween old new faults.Disk = m.is_open old → HasRisen (m.faults old) (m.faults new)
+  IsMetBetween old new faults.Full = HasRisen (m.faults old) (m.faults new)
+  IsMetBetween old new faults.NotAnOffice = ⊥
+
+  -- it was looked whether the tables show the event, and nothing was changed
+  pub record HasLooked (old new : X) (e : Event) (result : Result Bool Fault) : Type 0 where
+    pub leaves : LeavesAll m old new
+    -- the tables of the history show the event just where that is the answer
+    pub shown : (h : History) → m.is_of h old → m.is_clean new
+        → IfOk result (λ shown. shown ≡ true ↔ Shows (tables_of h) e)
+    -- a fault has a cause
+    pub cause : (h : History) → m.is_of h old → m.is_clean new
+        → IfErr result (IsMetBetween old new)
+    -- and without one the office stands
+    pub stands : (h : History) → m.is_of h old → m.is_clean new → OnOk result (Stands m h new)
