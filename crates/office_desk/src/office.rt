@@ -151,8 +151,8 @@ impl<S: Alter> Office<S> {
     ///
     /// # Errors
     ///
-    /// `Memory`, or a fault of the disk: `Disk` or `Full`. Each call is `Disk` where one has shut the
-    /// office.
+    /// `Memory`; `Disk` or `Full` where the disk failed or refused a call, and `Disk` once that has
+    /// shut the office; `NotAnOffice` only where the tables are those of no lawful history.
     pub fn shows(&mut self, alloc: Global, event: &Event) -> Result<bool, Fault>
         ensures { HasLooked (meaning_over S.Store)
             self.old self.new (event_meant event.now) result }
