@@ -11,15 +11,15 @@ use Rattle.journal_lines.specs.Lines.{Line, line_of, text_of}
 use Rattle.journal_lines.proofs.LineFacts.{same_line}
 use Rattle.journal_lines.proofs.NoFeeds.{no_controls}
 
-no_feed : (l : Line) → IsFormed l → NoFeed (text_of l)
+pub no_feed : (l : Line) → IsFormed l → NoFeed (text_of l)
 no_feed l h = All-weaker (λ byte. 32 ≤ byte) (λ byte. byte ≢ 10) (λ byte above same. omega arith) (text_of l) (no_controls l h)
 
 -- the line before the rest
-split : (l : Line) (rest : List ℕ) → line_of l ++ rest ≡ text_of l ++ 10 ∷ rest
+pub split : (l : Line) (rest : List ℕ) → line_of l ++ rest ≡ text_of l ++ 10 ∷ rest
 unfolding line_of
 split l rest = append_assoc (text_of l) (10 ∷ []) rest
 
-no_line : (l : Line) (rest : List ℕ) → [] ≡ line_of l ++ rest → ⊥
+pub no_line : (l : Line) (rest : List ℕ) → [] ≡ line_of l ++ rest → ⊥
 unfolding line_of
 no_line l rest same = let long = ap length same in omega (arith, long, length-append (text_of l ++ 10 ∷ []) rest, length-append (text_of l) (10 ∷ []))
 

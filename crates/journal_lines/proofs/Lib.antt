@@ -8,3 +8,8 @@ pub mod LineFacts
 pub mod LineExamples
 pub mod NoFeeds
 pub mod JournalFacts
+pub mod ThroughFacts
+pub mod ToldFacts
+pub mod StepFacts
+pub mod HistoryFacts
+pub mod FaultFacts

@@ -7,3 +7,5 @@ pub mod Faults
 pub mod Examples
 pub mod Journal
 pub mod Reading
+pub mod Told
+pub mod Steps

@@ -1,6 +1,7 @@
 //! The lines of a journal: what happened in an office, an event to a line, as JSON.
 #![tactic(auto)]
 
+pub mod events;
 pub mod fault;
 mod forms;
 mod kind;
@@ -11,6 +12,7 @@ pub mod print;
 pub mod read;
 pub mod reader;
 
+pub use events::{Events, Placed, Unreadable};
 pub use fault::Unread;
 pub use line::Line;
 pub use print::text;
