@@ -1,8 +1,9 @@
 //! What holds of lines, apart from any call. Each is a function without a parameter whose contract
 //! is the law; it does nothing.
 
-ghost use Rattle.std.specs.Prelude.{◌≡◌, ◌≤◌, [], ◌∷◌, ℕ, List, All, Some, None};
+ghost use Rattle.std.specs.Prelude.{◌≡◌, ◌≤◌, [], ◌∷◌, ◌++◌, ℕ, List, All, IfSome, Some, None};
 ghost use Rattle.office_policy.specs.History.{Event, History};
+ghost use Rattle.journal_lines.specs.declared.events.Unreadable.{Unreadable};
 ghost use Rattle.journal_lines.specs.Examples.{founding, enrolment, submission, vote, issue};
 ghost use Rattle.journal_lines.specs.Examples.{withdrawal, adoption, hold, release, founding_text};
 ghost use Rattle.journal_lines.specs.Examples.{enrolment_text, submission_text, vote_text};
@@ -11,6 +12,8 @@ ghost use Rattle.journal_lines.specs.Examples.{hold_text, release_text, strike_t
 ghost use Rattle.journal_lines.specs.Forms.{IsFormed};
 ghost use Rattle.journal_lines.specs.Journal.{IsJournalOf, history_in};
 ghost use Rattle.journal_lines.specs.Lines.{Line, happened, strike, text_of};
+ghost use Rattle.journal_lines.specs.Told.{Begins, GoesOn, IsJournalTo, IsOutside, Place, Stops};
+ghost use Rattle.journal_lines.specs.Told.{Tells, history_told, standing, start, told};
 
 /// A text is that of one line: it says what happened, by whom, and of what.
 pub fn a_text_is_of_one_line()
@@ -41,6 +44,45 @@ pub fn examples_of_histories()
     ensures nothing_to_strike { history_in (strike ∷ []) ≡ None }
     ensures struck_out_twice { (a b : Event)
         → history_in (happened a ∷ happened b ∷ strike ∷ strike ∷ []) ≡ None }
+{}
+
+/// What a journal tells from its first line on is its history, and each journal tells it.
+pub fn a_journal_tells_its_history()
+    ensures of_lines { (lines : List Line) (es : List (ℕ × Event)) → told 0 None lines ≡ Some es
+        → history_in lines ≡ Some (history_told es) }
+    ensures told { (text : List ℕ) (es : List (ℕ × Event)) → Tells (start (Some text)) es
+        → IsJournalOf text (history_told es) }
+    ensures tells { (text : List ℕ) (h : History) → IsJournalOf text h
+        → ((es : List (ℕ × Event)) × Tells (start (Some text)) es × (h ≡ history_told es)) }
+{}
+
+/// What is told up to a place, with the event that is held back there, is the history of the lines
+/// before it, whatever comes behind them.
+pub fn the_lines_before_a_place_are_a_journal()
+    ensures told { (old new : Place) (first : List (ℕ × Event))
+        → GoesOn old new first → Begins old new first }
+    ensures history { (text : List ℕ) (p : Place) (es : List (ℕ × Event))
+        → Begins (start (Some text)) p es
+        → IsJournalTo p text (history_told (es ++ standing p.taken p.held)) }
+{}
+
+/// Where what is left can be told, no line keeps from it: the input or memory fails, or nothing.
+pub fn no_fault_is_in_what_is_told()
+    ensures { (p : Place) (after : ℕ) (fault : Unreadable) (es : List (ℕ × Event))
+        → Stops p after fault → Tells p es → IfSome p.left (λ _. IsOutside fault) }
+{}
+
+/// What lines tell, by computing: each event that stands with the number of its line, from 1.
+pub fn examples_of_what_is_told()
+    ensures none { told 0 None [] ≡ Some [] }
+    ensures oldest_first { (a b : Event) → told 0 None (happened a ∷ happened b ∷ [])
+        ≡ Some ((1, a) ∷ (2, b) ∷ []) }
+    ensures struck_out { (a b c : Event)
+        → told 0 None (happened a ∷ happened b ∷ strike ∷ happened c ∷ [])
+        ≡ Some ((1, a) ∷ (4, c) ∷ []) }
+    ensures further_on { (a b : Event) → told 7 (Some a) (happened b ∷ [])
+        ≡ Some ((7, a) ∷ (8, b) ∷ []) }
+    ensures nothing_to_strike { told 0 None (strike ∷ []) ≡ None }
 {}
 
 /// A line of each kind.
