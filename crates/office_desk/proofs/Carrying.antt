@@ -1,5 +1,5 @@
 -- How what was allowed is carried out, and what that leaves of an office.
-use Rattle.std.proofs.Common.{inl, inr, arith, ◌⊎◌, ◌≡◌, ◌∙◌, ◌∷◌, ℕ, List, suc, Bool, true, false, Option, Some, None, Result, Ok, Err, refl, sym, ap, subst}
+use Rattle.std.proofs.Common.{inl, inr, arith, ◌⊎◌, ◌≡◌, ◌≢◌, ◌∙◌, ◌∷◌, ℕ, List, suc, Bool, true, false, Option, Some, None, Result, Ok, Err, IsTrue, refl, sym, ap, subst}
 use Rattle.std.specs.Prelude.{⊤, option_map}
 use Rattle.sqlite.specs.Held.{Held, state}
 use Rattle.sqlite.specs.State.{HasCleanDisk}
@@ -16,25 +16,27 @@ use Rattle.review_policy.specs.declared.role.Role.TheVariants.{Security}
 use Rattle.review_policy.specs.Role.{has_role}
 use Rattle.profile_text.specs.Digest.{digest_of}
 use Rattle.office_tables.specs.declared.fault.StoreFault.{StoreFault}
+use Rattle.office_tables.specs.declared.fault.StoreFault.TheVariants.{NotAnOffice}
 use Rattle.office_tables.specs.declared.row.RevisionRow.{RevisionRow}
 use Rattle.office_tables.specs.Changes.{with_vote}
 use Rattle.office_tables.specs.Lists.{holds_role}
 use Rattle.office_tables.specs.Reads.{Adds, submitted as new_row}
+use Rattle.office_rows.specs.Causes.{HasFailed}
 use Rattle.office_rows.proofs.Sure.{met_between}
 use Rattle.office_store.specs.Entries.{vote_entry}
 use Rattle.office_store.specs.Refusing.{Write, puts_user, adds_revision, issues, withdraws, puts_vote, puts_baseline, puts_hold, deletes_hold, Makes}
-use Rattle.office_store.specs.Shown.{ShowsIfOpen}
+use Rattle.office_store.specs.Shown.{Shows, ShowsIfOpen}
 use Rattle.office_policy.specs.declared.judge.Allowed.{Allowed}
 use Rattle.office_policy.specs.History.{Event, enrolled, submitted, voted, issued, withdrawn, adopted, held, released, History}
 use Rattle.office_policy.specs.Users.{user_of}
 use Rattle.office_policy.specs.Revisions.{revision_count}
-use Rattle.office_policy.specs.Verdict.{verdict}
+use Rattle.office_policy.specs.Verdict.{Verdict, accepted, verdict}
 use Rattle.office_policy.specs.Formed.{HasForms}
 use Rattle.office_policy.specs.Lawful.{IsAllowed, IsLawfulHistory}
 use Rattle.office_policy.specs.TablesOf.{tables_of}
 use Rattle.office_policy.specs.Runs.{IsAnswer, answer_of, event_of, with_event}
-use Rattle.office_policy.specs.Handled.{AreWithEvent, IsHandled, RefusesEvent, Survives, only_reads}
-use Rattle.office_policy.specs.Judging.{IsAllowedTo, IsNextRevision, IsPermitted, answer_in, event_in}
+use Rattle.office_policy.specs.Handled.{AreWithEvent, IsHandled, RefusesEvent, Stands, Survives, only_reads}
+use Rattle.office_policy.specs.Judging.{IsNextRevision, IsPermitted, LeavesAll, answer_in, event_in}
 use Rattle.office_policy.proofs.EventFacts.{enrolled_tables, submitted_tables, voted_tables, issued_tables, withdrawn_tables, adopted_tables, held_tables, released_tables}
 use Rattle.office_policy.proofs.HeadlineFacts.{given_out_approved}
 use Rattle.office_policy.proofs.LawFacts.{allowed_follows}
@@ -43,7 +45,7 @@ use Rattle.office_policy.proofs.SurvivalFacts.{survives_none, survives_on}
 use Rattle.office_policy.proofs.UserFacts.{showing_is}
 use Rattle.office_desk.specs.Carries.{Asks, CarriesOut, Tries, write_of}
 use Rattle.office_desk.specs.Offices.{IsOffice}
-use Rattle.office_desk.specs.Meant.{meaning_over}
+use Rattle.office_desk.specs.Meant.{Keeps, meaning_over}
 use Rattle.office_desk.specs.Told.{outcome_of, told_of}
 use Rattle.office_desk.proofs.Handling.{caused, lawful_after, passing, was_open_by}
 use Rattle.office_desk.proofs.Judging.{never_both}
@@ -144,6 +146,100 @@ module _ {S : Type 0} (g : Ghosts S) (old new : Held S) where
     | inr unasked ↦ subst (Survives (meaning_over g) old) (sym unasked.same) (survives_none (meaning_over g) old)
   ]
 
+-- this was allowed on a history, with this event, to a user of then
+pub record IsGranted (h : History) (a : Ask) (allowed : Allowed) (v : Verdict) : Type 0 where
+  pub known : user_of h allowed.caller.name ≡ Some allowed.caller
+  pub event : Event
+  pub asked : event_in a allowed ≡ Some event
+  pub verdict : v ≡ accepted allowed.reply (Some event)
+  pub revision : IsNextRevision h a allowed
+  pub lawful : IsAllowed h event
+
+-- a write of what was allowed, where nothing was changed before
+module _ {S : Type 0} (g : Ghosts S) (before old new : Held S) (a : Ask) (allowed : Allowed) (judge : History → Verdict) (leaves : LeavesAll (meaning_over g) before old)
+    (granted : (h : History) → IsOffice h (state g before) → HasCleanDisk (state g old) → IsGranted h a allowed (judge h)) (w : Write) (is : write_of a allowed ≡ Some w) where
+  makes : (h : History) → IsLawfulHistory h → (to : IsGranted h a allowed (judge h)) → MakesWith h to.event w
+  makes h lawful to = makes_of h lawful allowed to.known a to.event to.asked to.lawful to.revision w is
+
+  module _ (result : Result ⊤ StoreFault) (asks : Asks g w old new result) where
+    pub written_survives : Survives (meaning_over g) before new
+    written_survives = survives_on (meaning_over g) before old new leaves.survives (call_survives g old new w result asks)
+
+    -- what is allowed where the disk is clean
+    pub granted_at : (h : History) → IsOffice h (state g before) → HasCleanDisk (state g new) → IsGranted h a allowed (judge h)
+    granted_at h office clean = granted h office (asks.written.leaves.clean clean)
+
+    shows_at : (h : History) → IsOffice h (state g before) → HasCleanDisk (state g new) → ShowsIfOpen (state g old) (tables_of h)
+    shows_at h office clean = (leaves.office h office).tables (asks.written.leaves.clean clean)
+
+    pub written_crash : (h : History) → IsOffice h (state g before) → HasCleanDisk (state g new) → (trees : Trees) → (state g new).may_leave trees
+        → (state g before).may_leave trees ⊎ AreWithEvent (meaning_over g) h (judge h) trees
+    written_crash h office clean trees may =
+        let to = granted_at h office clean in
+        elim (asks.written.crash (tables_of h) (tables_of (to.event ∷ h)) (shows_at h office clean) (makes h office.lawful to) clean trees may) [
+          | inl earlier ↦ inl (leaves.crash (asks.written.leaves.clean clean) trees earlier)
+          | inr left ↦ inr (subst (λ v. AreWithEvent (meaning_over g) h v trees) (sym to.verdict) left)
+        ]
+
+    -- it never faults the form of the tables
+    pub written_formed : (h : History) → IsOffice h (state g before) → HasCleanDisk (state g new) → result ≢ Err NotAnOffice
+    written_formed h office clean =
+        let to = granted_at h office clean in
+        asks.written.formed (tables_of h) (tables_of (to.event ∷ h)) (shows_at h office clean) (makes h office.lawful to) clean
+
+  -- it is written, and the tables are those with the event
+  pub written_shows : (asks : Asks g w old new (Ok tt)) → (h : History) → IsOffice h (state g before) → HasCleanDisk (state g new)
+      → Shows (state g new) (tables_of (with_event (event_of (judge h)) h))
+  written_shows asks h office clean =
+      let to = granted_at (Ok tt) asks h office clean in
+      subst (λ v. Shows (state g new) (tables_of (with_event (event_of v) h))) (sym to.verdict)
+      (asks.written.done (tables_of h) (tables_of (to.event ∷ h)) (shows_at (Ok tt) asks h office clean) (makes h office.lawful to) clean)
+
+  -- and stands so
+  pub written_stands : (asks : Asks g w old new (Ok tt)) → (h : History) → IsOffice h (state g before) → HasCleanDisk (state g new)
+      → IsLawfulHistory (with_event (event_of (judge h)) h) → Stands (meaning_over g) (with_event (event_of (judge h)) h) new
+  written_stands asks h office clean lawful =
+      let shown = written_shows asks h office clean in
+      record {
+        is_of = record { idle = asks.written.leaves.idle; lawful = lawful; tables = λ clean is_open. shown };
+        is_open = shown.is_open;
+        leaves = asks.written.leaves.settled (tables_of (with_event (event_of (judge h)) h)) shown;
+      }
+
+  -- there was a fault
+  module _ (fault : StoreFault) (asks : Asks g w old new (Err fault)) where
+    pub unwritten_cause : (h : History) → IsOffice h (state g before) → HasCleanDisk (state g new) → IsTrue (state g old).is_open
+        → HasFailed (state g before) (state g new) fault ⊎ RefusesEvent (meaning_over g) h (judge h) (told_of fault)
+    unwritten_cause h office clean is_open =
+        let to = granted_at (Err fault) asks h office clean in
+        elim (asks.cause clean).met [
+          | inl met ↦ inl (met_between (state g before) (state g old) (state g new) (state g new) fault leaves.survives.counts (omega arith) (never_both (state g old).is_open is_open) met)
+          | inr refused ↦ inr (subst (λ v. RefusesEvent (meaning_over g) h v (told_of fault)) (sym to.verdict) (
+            fault,
+            refl,
+            record {
+              write = w;
+              makes = makes h office.lawful to;
+              over = old;
+              idle = (leaves.office h office).idle;
+              shows = shows_at (Err fault) asks h office clean is_open;
+              refused = refused;
+            },
+          ))
+        ]
+
+    pub unwritten_office : (h : History) → IsOffice h (state g before) → IsOffice h (state g new)
+    unwritten_office h office = record {
+      idle = asks.written.leaves.idle;
+      lawful = office.lawful;
+      tables = λ clean. asks.written.undone (tables_of h) (shows_at (Err fault) asks h office clean) clean;
+    }
+
+    pub unwritten_kept : HasCleanDisk (state g new) → Keeps (state g before) (state g new)
+    unwritten_kept clean =
+        (meaning_over g).keeps_on before old new (leaves.kept (asks.written.leaves.clean clean))
+        (record { shut = (call_survives g old new w (Err fault) asks).shut clean; same = λ settled. asks.written.same settled clean })
+
 module _ {S : Type 0} (g : Ghosts S) (before old new : Held S) (r : Request) (token : is_token r.token ≡ true) (forms : HasForms r.ask) (allowed : Allowed)
     (permitted : IsPermitted (meaning_over g) before old r allowed) where
   -- there was no memory for the write
@@ -159,105 +255,59 @@ module _ {S : Type 0} (g : Ghosts S) (before old new : Held S) (r : Request) (to
     crash = λ h office clean left may. inl (permitted.leaves.crash clean left may);
   }
 
+  -- the caller is the user who shows the token
+  granted : (h : History) → IsOffice h (state g before) → HasCleanDisk (state g old) → IsGranted h r.ask allowed (verdict h r)
+  granted h office clean =
+      let to = permitted.allowed h office clean in
+      record {
+        known = (showing_is h (digest_of r.token) allowed.caller to.caller).0;
+        event = to.event;
+        asked = to.asked;
+        verdict = to.verdict;
+        revision = to.revision;
+        lawful = to.lawful;
+      }
+
   module _ (w : Write) (is : write_of r.ask allowed ≡ Some w) where
-    -- a write of what is allowed on this history
-    makes : (h : History) → IsLawfulHistory h → (to : IsAllowedTo h r allowed) → MakesWith h to.event w
-    makes h lawful to = makes_of h lawful allowed (showing_is h (digest_of r.token) allowed.caller to.caller).0 r.ask to.event to.asked to.lawful to.revision w is
-
-    module _ (result : Result ⊤ StoreFault) (asks : Asks g w old new result) where
-      survives : Survives (meaning_over g) before new
-      survives = survives_on (meaning_over g) before old new permitted.leaves.survives (call_survives g old new w result asks)
-
-      -- what is allowed where the disk is clean
-      may_at : (h : History) → IsOffice h (state g before) → HasCleanDisk (state g new) → IsAllowedTo h r allowed
-      may_at h office clean = permitted.allowed h office (asks.written.leaves.clean clean)
-
-      shows_at : (h : History) → IsOffice h (state g before) → HasCleanDisk (state g new) → ShowsIfOpen (state g old) (tables_of h)
-      shows_at h office clean = (permitted.leaves.office h office).tables (asks.written.leaves.clean clean)
-
-      crash : (h : History) → IsOffice h (state g before) → HasCleanDisk (state g new) → (trees : Trees) → (state g new).may_leave trees
-          → (state g before).may_leave trees ⊎ AreWithEvent (meaning_over g) h (verdict h r) trees
-      crash h office clean trees may =
-          let to = may_at h office clean in
-          elim (asks.written.crash (tables_of h) (tables_of (to.event ∷ h)) (shows_at h office clean) (makes h office.lawful to) clean trees may) [
-            | inl earlier ↦ inl (permitted.leaves.crash (asks.written.leaves.clean clean) trees earlier)
-            | inr left ↦ inr (subst (λ v. AreWithEvent (meaning_over g) h v trees) (sym to.verdict) left)
-          ]
-
     -- it is written
     done : Asks g w old new (Ok tt) → IsHandled (meaning_over g) before new r (Done allowed.reply)
     done asks =
         let answer : (h : History) → IsOffice h (state g before) → HasCleanDisk (state g new) → IsAnswer h r (Done allowed.reply) = λ h office clean.
-        sym (ap answer_of (may_at (Ok tt) asks h office clean).verdict) in
-        let shown : (h : History) → IsOffice h (state g before) → HasCleanDisk (state g new) → ShowsIfOpen (state g new) (tables_of (with_event (event_of (verdict h r)) h)) = λ h office clean.
-        let to = may_at (Ok tt) asks h office clean in
-        let shows = asks.written.done (tables_of h) (tables_of (to.event ∷ h)) (shows_at (Ok tt) asks h office clean) (makes h office.lawful to) clean in
-        subst (λ v. ShowsIfOpen (state g new) (tables_of (with_event (event_of v) h))) (sym to.verdict) (λ is_open. shows) in
-        let office : (h : History) → IsOffice h (state g before) → IsOffice (with_event (event_of (verdict h r)) h) (state g new) = λ h office. record {
-          idle = asks.written.leaves.idle;
-          lawful = lawful_after h r (verdict h r) token forms refl office.lawful;
-          tables = shown h office;
-        } in
+        sym (ap answer_of (granted_at g before old new r.ask allowed (λ h. verdict h r) permitted.leaves granted w is (Ok tt) asks h office clean).verdict) in
+        let lawful : (h : History) → IsOffice h (state g before) → IsLawfulHistory (with_event (event_of (verdict h r)) h) = λ h office.
+        lawful_after h r (verdict h r) token forms refl office.lawful in
         record {
-          survives = survives (Ok tt) asks;
+          survives = written_survives g before old new r.ask allowed (λ h. verdict h r) permitted.leaves granted w is (Ok tt) asks;
           answer = answer;
           cause = λ h office clean. tt;
           approved = λ h office clean. given_out_approved h r (Done allowed.reply) office.lawful (answer h office clean);
-          office = office;
-          stands = λ h of clean.
-              let is_open = (asks.written.leaves.answered clean).1 in
-              record {
-                is_of = office h of;
-                is_open = is_open;
-                leaves = asks.written.leaves.settled (tables_of (with_event (event_of (verdict h r)) h)) (shown h of clean is_open);
-              };
+          office = λ h office. record {
+            idle = asks.written.leaves.idle;
+            lawful = lawful h office;
+            tables = λ clean is_open. written_shows g before old new r.ask allowed (λ h. verdict h r) permitted.leaves granted w is asks h office clean;
+          };
+          stands = λ h office clean. written_stands g before old new r.ask allowed (λ h. verdict h r) permitted.leaves granted w is asks h office clean (lawful h office);
           kept = λ clean reads. absurd (let k : only_reads r.ask ≡ true = reads in let c : true ≡ false = sym k ∙ changing r.ask allowed permitted.event.event permitted.event.asked in cc);
-          crash = crash (Ok tt) asks;
+          crash = written_crash g before old new r.ask allowed (λ h. verdict h r) permitted.leaves granted w is (Ok tt) asks;
         }
 
     -- there was a fault
     failed : (fault : StoreFault) → Asks g w old new (Err fault) → IsHandled (meaning_over g) before new r (Fault (told_of fault))
     failed fault asks =
-        let result : Result ⊤ StoreFault = Err fault in
+        let formed : (h : History) → IsOffice h (state g before) → HasCleanDisk (state g new) → fault ≢ NotAnOffice = λ h office clean same.
+        written_formed g before old new r.ask allowed (λ h. verdict h r) permitted.leaves granted w is (Err fault) asks h office clean (ap Err same) in
         record {
-          survives = survives result asks;
-          answer = λ h office clean.
-              let to = may_at result asks h office clean in
-              passing h r fault
-              (λ same. asks.written.formed (tables_of h) (tables_of (to.event ∷ h)) (shows_at result asks h office clean) (makes h office.lawful to) clean (ap Err same));
+          survives = written_survives g before old new r.ask allowed (λ h. verdict h r) permitted.leaves granted w is (Err fault) asks;
+          answer = λ h office clean. passing h r fault (formed h office clean);
           cause = λ h office clean.
-              let to = may_at result asks h office clean in
-              let earlier = asks.written.leaves.clean clean in
-              let is_open = (permitted.stands h office earlier).is_open in
-              let shows = shows_at result asks h office clean in
-              let formed = asks.written.formed (tables_of h) (tables_of (to.event ∷ h)) shows (makes h office.lawful to) clean in
-              caused g before new h r fault (λ same. formed (ap Err same))
-              (elim (asks.cause clean).met [
-                | inl met ↦ inl (met_between (state g before) (state g old) (state g new) (state g new) fault permitted.leaves.survives.counts (omega arith) (never_both (state g old).is_open is_open) met)
-                | inr refused ↦ inr (subst (λ v. RefusesEvent (meaning_over g) h v (told_of fault)) (sym to.verdict) (
-                  fault,
-                  refl,
-                  record {
-                    write = w;
-                    makes = makes h office.lawful to;
-                    over = old;
-                    idle = (permitted.leaves.office h office).idle;
-                    shows = shows is_open;
-                    refused = refused;
-                  },
-                ))
-              ]);
+              caused g before new h r fault (formed h office clean)
+              (unwritten_cause g before old new r.ask allowed (λ h. verdict h r) permitted.leaves granted w is fault asks h office clean
+              (permitted.stands h office (asks.written.leaves.clean clean)).is_open);
           approved = λ h office clean. tt;
-          office = λ h office. record {
-            idle = asks.written.leaves.idle;
-            lawful = office.lawful;
-            tables = λ clean. asks.written.undone (tables_of h) (shows_at result asks h office clean) clean;
-          };
+          office = unwritten_office g before old new r.ask allowed (λ h. verdict h r) permitted.leaves granted w is fault asks;
           stands = λ h office clean. tt;
-          kept = λ clean.
-              (meaning_over g).keeps_on before old new (permitted.leaves.kept (asks.written.leaves.clean clean))
-              (record { shut = (call_survives g old new w result asks).shut clean; same = λ settled. asks.written.same settled clean });
-          crash = crash result asks;
+          kept = unwritten_kept g before old new r.ask allowed (λ h. verdict h r) permitted.leaves granted w is fault asks;
+          crash = written_crash g before old new r.ask allowed (λ h. verdict h r) permitted.leaves granted w is (Err fault) asks;
         }
 
     tried : (result : Result ⊤ StoreFault) → Tries g w old new result → IsHandled (meaning_over g) before new r (answer_in allowed (outcome_of result))

@@ -32,7 +32,7 @@ use Rattle.office_policy.specs.Formed.{HasForms, IsFormed}
 use Rattle.office_policy.specs.Lawful.{IsLawfulHistory}
 use Rattle.office_policy.specs.TablesOf.{tables_of}
 use Rattle.office_policy.specs.Runs.{answer_of, event_of, with_event, IsAnswer}
-use Rattle.office_policy.specs.Handled.{HasCause, RefusesEvent, Stands, Survives}
+use Rattle.office_policy.specs.Handled.{HasCause, RefusesEvent, Stands, Survives, only_reads}
 use Rattle.office_policy.specs.Judging.{HasEvent, IsAnswered, IsJudged, IsNextRevision, IsPermitted, LeavesAll, event_in}
 use Rattle.office_policy.proofs.HeadlineFacts.{given_out_approved}
 use Rattle.office_policy.proofs.LawFacts.{lawful_more, requested_allowed}
@@ -44,6 +44,7 @@ use Rattle.office_desk.specs.Told.{told_of, judgement_of}
 use Rattle.office_desk.specs.Judged.{ComesTo, HasEventIn, IsSettled, Judges, JudgesAsk, JudgesFor, JudgesRequest, JudgesSubmission, UnlessFault, plainly, submission_of}
 use Rattle.office_desk.specs.Steps.{allowed_of, answered_of, submitted_of}
 use Rattle.office_desk.specs.Meant.{meaning_over}
+use Rattle.office_desk.specs.Replayed.{IsCaused, ReadsIfAnswered}
 use Rattle.office_desk.proofs.Judging.{judged_as, never_both, refused_as}
 
 -- ---- verdicts
@@ -120,6 +121,22 @@ module _ (old new : State) (caller : UserRow) (a b : Ask) (is : b ≡ a) where
   adds has (Err refusal) judged told same =
       for_same told (subst (λ t. JudgesFor old new t caller a) (sym same) (record { judged = refused_as (λ h. verdict_of h (Some caller) a) old new refusal judged; event = tt }))
 
+module _ (a : Ask) where
+  -- what only reads is answered
+  pub answers_reads : only_reads a ≡ true → (read : Result Reply Refusal) (told : Result Judgement Refusal) → told ≡ answered_of read → ReadsIfAnswered a told
+  answers_reads only (Ok reply) told is = subst (ReadsIfAnswered a) (sym is) only
+  answers_reads only (Err refusal) told is = subst (ReadsIfAnswered a) (sym is) tt
+
+  -- and what is allowed isn't
+  pub answers_none : (decided : Result Reply Refusal) (caller : UserRow) (told : Result Judgement Refusal) → told ≡ allowed_of decided caller → ReadsIfAnswered a told
+  answers_none (Ok reply) caller told is = subst (ReadsIfAnswered a) (sym is) tt
+  answers_none (Err refusal) caller told is = subst (ReadsIfAnswered a) (sym is) tt
+
+  -- nor a submission
+  pub answers_no_submission : (decided : Result RevisionRow Refusal) (caller : UserRow) (told : Result Judgement Refusal) → told ≡ submitted_of decided caller → ReadsIfAnswered a told
+  answers_no_submission (Ok row) caller told is = subst (ReadsIfAnswered a) (sym is) tt
+  answers_no_submission (Err refusal) caller told is = subst (ReadsIfAnswered a) (sym is) tt
+
 -- the caller who was found is the one who shows the token
 pub comes_as : (a : Ask) (first judge : History → Verdict) (h : History) (IsFirst IsCaller : History → UserRow → Type 0) → first h ≡ judge h → ((user : UserRow) → IsFirst h user → IsCaller h user)
     → (told : Judgement) → ComesTo a first IsFirst h told → ComesTo a judge IsCaller h told
@@ -146,20 +163,27 @@ passing h r Disk passes = tt
 passing h r Full passes = tt
 passing h r NotAnOffice passes = absurd (passes refl)
 
--- a fault over the connection is one of the office
+-- a fault over the connection is one of the office, which may refuse what was to be written
+pub caused_by : {S : Type 0} (g : Ghosts S) (old new : Held S) (Refuses : TheFault → Type 0) (fault : StoreFault) → fault ≢ NotAnOffice
+    → HasFailed (state g old) (state g new) fault ⊎ Refuses (told_of fault) → IsCaused (meaning_over g) old new Refuses (told_of fault)
+caused_by g old new Refuses NoMemory passes cause = tt
+caused_by g old new Refuses Disk passes (inl (inl risen)) = λ is_open. inl risen
+caused_by g old new Refuses Disk passes (inl (inr shut)) = λ is_open. never_both (state g old).is_open is_open shut
+caused_by g old new Refuses Disk passes (inr refused) = λ is_open. inr refused
+caused_by g old new Refuses Full passes cause = cause
+caused_by g old new Refuses NotAnOffice passes cause = absurd (passes refl)
+
+-- and so is that of a request
 pub caused : {S : Type 0} (g : Ghosts S) (old new : Held S) (h : History) (r : Request) (fault : StoreFault) → fault ≢ NotAnOffice
     → HasFailed (state g old) (state g new) fault ⊎ RefusesEvent (meaning_over g) h (verdict h r) (told_of fault) → HasCause (meaning_over g) old new h r (Fault (told_of fault))
 caused g old new h r NoMemory passes cause = tt
-caused g old new h r Disk passes (inl (inl risen)) = λ is_open. inl risen
-caused g old new h r Disk passes (inl (inr shut)) = λ is_open. never_both (state g old).is_open is_open shut
-caused g old new h r Disk passes (inr refused) = λ is_open. inr refused
-caused g old new h r Full passes (inl risen) = inl risen
-caused g old new h r Full passes (inr refused) = inr refused
+caused g old new h r Disk passes cause = caused_by g old new (RefusesEvent (meaning_over g) h (verdict h r)) Disk passes cause
+caused g old new h r Full passes cause = cause
 caused g old new h r NotAnOffice passes cause = absurd (passes refl)
 
 module _ {S : Type 0} (g : Ghosts S) (old new : Held S) where
   -- judging changes nothing
-  left_all : {A : Type 0} {Found : History → A → Type 0} (result : Result A Refusal) (judge : History → Verdict) → Judges (state g old) (state g new) result judge Found → LeavesAll (meaning_over g) old new
+  pub left_all : {A : Type 0} {Found : History → A → Type 0} (result : Result A Refusal) (judge : History → Verdict) → Judges (state g old) (state g new) result judge Found → LeavesAll (meaning_over g) old new
   left_all result judge judged =
       let survives : Survives (meaning_over g) old new = record {
         clean = judged.clean;

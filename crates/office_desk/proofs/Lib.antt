@@ -1,6 +1,7 @@
 pub mod Judging
 pub mod Handling
 pub mod Carrying
+pub mod Replaying
 pub mod Openings
 pub mod Deciding
 pub mod LookedBack

@@ -3,6 +3,7 @@ pub mod Told
 pub mod Judged
 pub mod Steps
 pub mod Carries
+pub mod Replayed
 pub mod AtOnce
 pub mod Meant
 pub mod Opened

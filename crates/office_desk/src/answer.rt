@@ -14,7 +14,7 @@ use office_tables::StoreFault;
 use review_policy::{Answer, Fault};
 
 // What is answered where the store has a fault.
-fn told(fault: StoreFault) -> Fault
+pub(crate) fn told(fault: StoreFault) -> Fault
     ensures { result ≡ told_of fault }
 {
     match fault {

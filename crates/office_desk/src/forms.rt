@@ -38,7 +38,7 @@ fn digest_form(digest: &[u8; 32])
 }
 
 // What is asked for has the forms.
-fn ask_forms(ask: &Ask)
+pub(crate) fn ask_forms(ask: &Ask)
     ensures { HasForms ask.now }
 {
     match ask {

@@ -6,6 +6,7 @@ ghost use Rattle.sqlite.specs.State.{HasCleanDisk};
 ghost use Rattle.office_store.specs.Shown.{IsIdle};
 ghost use Rattle.office_desk.specs.Judged.{HasEventIn, IsSettled, JudgesFor, JudgesRequest};
 ghost use Rattle.office_desk.specs.Judged.{UnlessFault};
+ghost use Rattle.office_desk.specs.Replayed.{JudgesNamed, ReadsIfAnswered};
 ghost use Rattle.office_desk.specs.Steps.{allowed_of, answered_of, submitted_of};
 
 use crate::adopt::judge_adoption;
@@ -21,10 +22,10 @@ use crate::submit::judge_submission;
 use crate::vote::judge_vote;
 use crate::withdraw::judge_withdrawal;
 use office_policy::{Allowed, Judgement};
-use office_store::user_by_token;
+use office_store::{user_by_name, user_by_token};
 use office_tables::{RevisionRow, UserRow};
 use profile_text::digest;
-use review_policy::{Answer, Ask, Denial, Reply, Request, Rule};
+use review_policy::{Answer, Ask, Denial, Reply, Request, Rule, Word};
 use sqlite::{Alter, Connection};
 use std::alloc::Global;
 
@@ -80,7 +81,9 @@ fn judge_for<S: Alter>(
     ask: &Ask,
 ) -> Result<Judgement, Refusal>
     requires { IsIdle (state S.Store conn.old) }
-    ensures { JudgesFor (state S.Store conn.old) (state S.Store conn.new) result caller ask.now }
+    ensures judged { JudgesFor
+        (state S.Store conn.old) (state S.Store conn.new) result caller ask.now }
+    ensures reads { ReadsIfAnswered ask.now result }
 {
     match ask {
         Ask::Enrol {
@@ -146,4 +149,33 @@ pub(crate) fn judge<S: Alter>(
         });
     };
     judge_for(alloc, conn, caller, &request.ask)
+}
+
+// Judges what the user of this name asks.
+pub(crate) fn judge_named<S: Alter>(
+    alloc: Global,
+    conn: &mut Connection<S>,
+    name: &Word,
+    ask: &Ask,
+) -> Result<Judgement, Refusal>
+    requires { IsIdle (state S.Store conn.old) }
+    ensures judged { JudgesNamed
+        (state S.Store conn.old) (state S.Store conn.new) result name.now ask.now }
+    ensures event { HasEventIn ask.now result }
+    ensures reads { ReadsIfAnswered ask.now result }
+    ensures open { HasCleanDisk (state S.Store conn.new)
+        → UnlessFault result (IsTrue (state S.Store conn.old).is_open) }
+    ensures settled { IsSettled (state S.Store conn.new) }
+{
+    let Some(caller) = user_by_name(alloc, conn, name)? else {
+        let denial = Denial {
+            number: 1,
+            rule: Rule::CallerUnknown,
+        };
+        return Err(Refusal::Denied {
+            denial,
+            fault: None,
+        });
+    };
+    judge_for(alloc, conn, caller, ask)
 }

@@ -21,6 +21,7 @@ mod profiles;
 mod reading;
 mod refusal;
 pub mod reopening;
+mod replay;
 mod revisions;
 mod sheet;
 mod show;
@@ -31,3 +32,4 @@ mod withdraw;
 
 pub use answer::each_fault_is_told_by_its_word;
 pub use office::Office;
+pub use replay::Unreplayed;

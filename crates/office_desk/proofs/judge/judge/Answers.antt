@@ -31,7 +31,7 @@ returns-clause-judged g c =
     (λ h lawful is. comes_as r.ask (λ h. verdict_of h (Some caller) r.ask) (λ h. verdict h r) h (λ h user. user ≡ caller) (λ h user. user_showing h (digest_of r.token) ≡ Some user)
     (ap (λ u. verdict_of h u r.ask) (sym c.in-Some.is) ∙ called h lawful r c.digest-token.result c.in_ok-caller.field-0 shown is)
     (λ user same. shows h lawful r c.digest-token.result c.in_ok-caller.field-0 shown is ∙ c.in-Some.is ∙ ap Some (sym same)))
-    c.judge_for.ensures.judged
+    c.judge_for.ensures.judged.judged
 
 pub returns-clause-settled : goal.returns-clause-settled
-returns-clause-settled g c = c.judge_for.ensures.judged.settled c.in_ok-caller.ensures.read.leaves.settled
+returns-clause-settled g c = c.judge_for.ensures.judged.judged.settled c.in_ok-caller.ensures.read.leaves.settled

@@ -1,0 +1,227 @@
+// Events that happen again.
+
+ghost use Rattle.std.specs.Prelude.{◌≡◌, Some, IfErr, IfOk, option_map};
+ghost use Rattle.sqlite.specs.Held.{state};
+ghost use Rattle.office_store.specs.Shown.{IsIdle};
+ghost use Rattle.office_policy.specs.Callers.{caller_of};
+ghost use Rattle.office_policy.specs.Facts.{is_text_of};
+ghost use Rattle.office_policy.specs.Formed.{HasForms};
+ghost use Rattle.office_policy.specs.Happened.{event_meant};
+ghost use Rattle.office_desk.specs.Meant.{meaning_over};
+ghost use Rattle.office_desk.specs.Replayed.{HasNoAsk, IsAskOf, IsReplayed, has_text};
+
+use crate::answer::told;
+use crate::carry_out::carry_out;
+use crate::forms::ask_forms;
+use crate::judge::judge_named;
+use crate::refusal::Refusal;
+use office_policy::{Allowed, Event, Judgement};
+use office_tables::{RevisionRow, StoreFault};
+use review_policy::{Ask, Denial, Fault, ProfileName, Text, Word};
+use sqlite::{Alter, Connection};
+use std::alloc::{AllocError, Global};
+use thiserror::Error;
+
+/// Why an event doesn't happen again. Its text is one word.
+#[derive(Clone, Copy, Debug, Drop, PartialEq, Eq, Error)]
+pub enum Unreplayed {
+    /// A rule of the policy refuses it to its caller: the first one that does.
+    #[error("denied")]
+    Denied(Denial),
+    /// It is a founding, and an office is founded once.
+    #[error("founding")]
+    Founding,
+    /// It is the submission of a text that is a document, and isn't its canonical text.
+    #[error("other-text")]
+    OtherText,
+    /// Something failed, and nothing changed.
+    #[error("fault")]
+    Fault(Fault),
+}
+
+impl From<Refusal> for Unreplayed {
+    ghost use Rattle.std.specs.Prelude.{◌≡◌};
+    ghost use Rattle.office_desk.specs.Replayed.{unreplayed_of};
+
+    ghost from_gives = { λ refusal unreplayed. unreplayed ≡ unreplayed_of refusal };
+
+    fn from(refusal: Refusal) -> Unreplayed {
+        match refusal {
+            Refusal::Denied { denial, .. } => Unreplayed::Denied(denial),
+            Refusal::Fault(fault) => Unreplayed::Fault(told(fault)),
+        }
+    }
+}
+
+impl From<StoreFault> for Unreplayed {
+    ghost use Rattle.std.specs.Prelude.{◌≡◌};
+    ghost use Rattle.office_desk.specs.Told.{told_of};
+    ghost use Rattle.office_desk.specs.declared.replay.Unreplayed.TheVariants.{Fault};
+
+    ghost from_gives = { λ fault unreplayed. unreplayed ≡ Fault (told_of fault) };
+
+    fn from(fault: StoreFault) -> Unreplayed {
+        Unreplayed::Fault(told(fault))
+    }
+}
+
+impl From<AllocError> for Unreplayed {
+    ghost use Rattle.std.specs.Prelude.{◌≡◌};
+    ghost use Rattle.review_policy.specs.declared.answer.Fault.TheVariants.{Memory};
+    ghost use Rattle.office_desk.specs.declared.replay.Unreplayed.TheVariants.{Fault};
+
+    ghost from_gives = { λ _ unreplayed. unreplayed ≡ Fault Memory };
+
+    fn from(_error: AllocError) -> Unreplayed {
+        Unreplayed::Fault(Fault::Memory)
+    }
+}
+
+// The name of who asked for the event; nobody asks for a founding.
+fn caller_of(event: &Event) -> Option<&Word>
+    ensures { option_map (λ name. name.now) result ≡ caller_of (event_meant event.now) }
+{
+    match event {
+        Event::Founded { .. } => None,
+        Event::Enrolled { caller, .. }
+        | Event::Submitted { caller, .. }
+        | Event::Voted { caller, .. }
+        | Event::Issued { caller, .. }
+        | Event::Withdrawn { caller, .. }
+        | Event::Adopted { caller, .. }
+        | Event::Held { caller, .. }
+        | Event::Released { caller, .. } => Some(caller),
+    }
+}
+
+// The same name.
+fn same_name(name: &ProfileName) -> Result<ProfileName, AllocError>
+    ensures { IfOk result (λ same. same ≡ name.now) }
+{
+    Ok(ProfileName {
+        team: name.team.clone()?,
+        profile: name.profile.clone()?,
+    })
+}
+
+// What the event asks, which is the text itself where it is a submission.
+fn ask_of(alloc: Global, event: &Event) -> Result<Ask, Unreplayed>
+    ensures ask { IfOk result (IsAskOf (event_meant event.now)) }
+    ensures none { IfErr result (HasNoAsk (event_meant event.now)) }
+{
+    match event {
+        Event::Founded { .. } => Err(Unreplayed::Founding),
+        Event::Enrolled {
+            user,
+            team,
+            roles,
+            digest,
+            ..
+        } => Ok(Ask::Enrol {
+            user: user.clone()?,
+            team: team.clone()?,
+            roles: *roles,
+            digest: *digest,
+        }),
+        Event::Submitted { name, text, .. } => Ok(Ask::Submit {
+            name: same_name(name)?,
+            document: Vec::from_slice(alloc, text.as_str().as_bytes())?,
+        }),
+        Event::Voted {
+            name,
+            revision,
+            digest,
+            approves,
+            ..
+        } => Ok(Ask::Vote {
+            name: same_name(name)?,
+            revision: *revision,
+            digest: *digest,
+            approve: *approves,
+        }),
+        Event::Issued { name, revision, .. } => Ok(Ask::Issue {
+            name: same_name(name)?,
+            revision: *revision,
+        }),
+        Event::Withdrawn { name, revision, .. } => Ok(Ask::Withdraw {
+            name: same_name(name)?,
+            revision: *revision,
+        }),
+        Event::Adopted { name, revision, .. } => Ok(Ask::Adopt {
+            name: same_name(name)?,
+            revision: *revision,
+        }),
+        Event::Held { name, .. } => Ok(Ask::Hold {
+            name: same_name(name)?,
+        }),
+        Event::Released { name, .. } => Ok(Ask::Release {
+            name: same_name(name)?,
+        }),
+    }
+}
+
+// Whether the text is that of a revision.
+fn is_text_of(text: &Text, revision: &Option<RevisionRow>) -> bool
+    ensures { result ≡ is_text_of (Some text.now) revision.now }
+{
+    match revision {
+        Some(row) => text.is(&row.body),
+        None => false,
+    }
+}
+
+// Whether what was allowed has the text of the event, where that is a submission.
+fn has_text(event: &Event, allowed: &Allowed) -> bool
+    ensures { result ≡ has_text (event_meant event.now) allowed.now }
+{
+    match event {
+        Event::Submitted { text, .. } => is_text_of(text, &allowed.revision),
+        _ => true,
+    }
+}
+
+// Has what the event asks happen again, where the policy allows it to the user of this name.
+fn replay_ask<S: Alter>(
+    alloc: Global,
+    conn: &mut Connection<S>,
+    event: &Event,
+    name: &Word,
+    ask: &Ask,
+) -> Result<(), Unreplayed>
+    requires idle { IsIdle (state S.Store conn.old) }
+    requires asks { IsAskOf (event_meant event.now) ask.now }
+    requires called { caller_of (event_meant event.now) ≡ Some name.now }
+    requires forms { HasForms ask.now }
+    ensures idle { IsIdle (state S.Store conn.new) }
+    ensures replayed { IsReplayed (meaning_over S.Store)
+        conn.old conn.new (event_meant event.now) result }
+{
+    let allowed = match judge_named(alloc, conn, name, ask)? {
+        Judgement::Allowed(allowed) => allowed,
+        Judgement::Answered(_) => unreachable!(),
+    };
+    if !has_text(event, &allowed) {
+        return Err(Unreplayed::OtherText);
+    }
+    carry_out(conn, ask, &allowed)?;
+    Ok(())
+}
+
+// Has an event happen again, where the policy allows it to the caller that it names.
+pub(crate) fn replay<S: Alter>(
+    alloc: Global,
+    conn: &mut Connection<S>,
+    event: &Event,
+) -> Result<(), Unreplayed>
+    requires { IsIdle (state S.Store conn.old) }
+    ensures idle { IsIdle (state S.Store conn.new) }
+    ensures replayed { IsReplayed (meaning_over S.Store)
+        conn.old conn.new (event_meant event.now) result }
+{
+    let Some(name) = caller_of(event) else {
+        return Err(Unreplayed::Founding);
+    };
+    let ask = ask_of(alloc, event)?;
+    ask_forms(&ask);
+    replay_ask(alloc, conn, event, name, &ask)
+}
