@@ -6,6 +6,7 @@ use crate::answer::{judgement, outcome, sight};
 use crate::carry_out::carry_out;
 use crate::forms::{founding_forms, request_forms};
 use crate::judge::judge;
+use crate::replay::{Unreplayed, replay};
 use crate::shown::shows;
 use cap_sets::Caps;
 use office_policy::{Allowed, Event, Handler, Judge, Judgement};
@@ -51,12 +52,13 @@ impl<S: Alter> Office<S> {
     ghost use Rattle.office_policy.specs.History.{History, founded};
     ghost use Rattle.office_policy.specs.Lawful.{IsLawfulHistory};
     ghost use Rattle.office_policy.specs.TablesOf.{tables_of};
-    ghost use Rattle.office_policy.specs.Handled.{Stands};
+    ghost use Rattle.office_policy.specs.Handled.{Stands, Survives};
     ghost use Rattle.office_tables.specs.Tables.{Tables};
     ghost use Rattle.office_desk.specs.Looking.{HasLooked};
     ghost use Rattle.office_desk.specs.Offices.{IsOffice};
     ghost use Rattle.office_desk.specs.Meant.{meaning_over};
     ghost use Rattle.office_desk.specs.Opened.{IsOver, IsRefusedFor, IsHandedBack};
+    ghost use Rattle.office_desk.specs.Replayed.{IsReplayed};
 
     /// Founds an office in an empty store, with its first user, who is a registrar and shows the
     /// token of this digest, and with the listed capabilities: a document that holds one of them
@@ -158,6 +160,22 @@ impl<S: Alter> Office<S> {
             self.old self.new (event_meant event.now) result }
     {
         sight(shows(alloc, &mut self.conn, event))
+    }
+
+    /// Has an event happen again, where the policy allows it to the caller that it names: the
+    /// office is then of the history with the event, as it is after the request of that caller.
+    ///
+    /// # Errors
+    ///
+    /// `Denied` with the first rule that refuses what the event asks; `Founding` of a founding;
+    /// `OtherText` of a submission whose text is a document, and not its canonical text; else the
+    /// fault. Nothing is changed then.
+    pub fn replay(&mut self, alloc: Global, event: &Event) -> Result<(), Unreplayed>
+        ensures survives { Survives (meaning_over S.Store) self.old self.new }
+        ensures replayed { IsReplayed (meaning_over S.Store)
+            self.old self.new (event_meant event.now) result }
+    {
+        replay(alloc, &mut self.conn, event)
     }
 
     /// The connection, as the last call left it.
