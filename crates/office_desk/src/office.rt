@@ -169,7 +169,7 @@ impl<S: Alter> Office<S> {
     ///
     /// `Denied` with the first rule that refuses what the event asks; `Founding` of a founding;
     /// `OtherText` of a submission whose text is a document, and not its canonical text; else the
-    /// fault. Nothing is changed then.
+    /// fault. Nothing is changed then; after a fault a crash may leave the office with the event.
     pub fn replay(&mut self, alloc: Global, event: &Event) -> Result<(), Unreplayed>
         ensures survives { Survives (meaning_over S.Store) self.old self.new }
         ensures replayed { IsReplayed (meaning_over S.Store)
