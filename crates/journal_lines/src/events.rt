@@ -73,8 +73,12 @@ fn fault_of(error: &io::Error) -> Unreadable
     }
 }
 
-// Reads the text of the next line, without its line feed; false where no byte is left.
-fn read_text<R: BufRead>(input: &mut R, text: &mut Vec<u8>) -> Result<bool, Unreadable>
+/// Reads the text of the next line, without its line feed; false where no byte is left.
+///
+/// # Errors
+///
+/// `TornLine` where bytes are left, but no line feed; or the input or memory fails.
+pub fn read_text<R: BufRead>(input: &mut R, text: &mut Vec<u8>) -> Result<bool, Unreadable>
     ensures { ReadsText (R.remaining input.old) (R.remaining input.new) text.new.items result }
 {
     text.clear();

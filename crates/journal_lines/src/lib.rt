@@ -12,7 +12,7 @@ pub mod print;
 pub mod read;
 pub mod reader;
 
-pub use events::{Events, Placed, Unreadable};
+pub use events::{Events, Placed, Unreadable, read_text};
 pub use fault::Unread;
 pub use line::Line;
 pub use print::text;
