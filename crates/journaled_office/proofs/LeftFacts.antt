@@ -1,16 +1,14 @@
 -- What is whole of what a crash may leave of a journal, and its last line.
-use Rattle.std.proofs.Common.{◌≡◌, ◌≢◌, ◌∙◌, ◌⊎◌, ℕ, ◌≤◌, List, [], ◌∷◌, ◌++◌, Option, Some, None, All, length, take, refl, sym, ap, subst, arith, inl, inr, append_assoc, append-nil, le_trans}
+use Rattle.std.proofs.Common.{◌≡◌, ◌≢◌, ◌∙◌, ◌⊎◌, ℕ, List, [], ◌∷◌, ◌++◌, length, refl, sym, ap, subst, arith, inl, inr, append_assoc, append-nil}
 use Rattle.std.specs.Prelude.{flat_map}
-use Rattle.std.proofs.lemmas.Grind.{flat_map-append}
-use Rattle.std.proofs.lemmas.List.{append_cancel_right, take_all}
-use Rattle.std.proofs.lemmas.List.Elements.{All-head, All-nil, All-tail}
+use Rattle.std.proofs.lemmas.List.{take_all}
+use Rattle.std.proofs.lemmas.List.Elements.{All-nil}
 use Rattle.streams.proofs.LineFacts.{ends_line, ends_line-append}
 use Rattle.streams.specs.Lines.{EndsLine, NoFeed}
 use Rattle.office_policy.specs.History.{Event, History}
-use Rattle.office_policy.specs.Lawful.{IsAllowed, IsLawfulHistory}
-use Rattle.office_policy.specs.Runs.{with_event}
-use Rattle.journal_lines.specs.Forms.{HasForms, IsFormed}
-use Rattle.journal_lines.specs.Journal.{IsJournalOf, history_from}
+use Rattle.office_policy.specs.Lawful.{IsAllowed}
+use Rattle.journal_lines.specs.Forms.{HasForms}
+use Rattle.journal_lines.specs.Journal.{IsJournalOf}
 use Rattle.journal_lines.specs.Lines.{Line, happened, strike, line_of, text_of}
 use Rattle.journal_lines.proofs.JournalFacts.{no_feed}
 use Rattle.office_journal.specs.Begun.{IsBegun, IsLeftOf, struck_line}
@@ -18,8 +16,7 @@ use Rattle.office_journal.specs.Logging.{IsLonger, IsShorter}
 use Rattle.office_journal.specs.Writing.{IsBeginning}
 use Rattle.office_journal.proofs.Cuts.{cut_longer}
 use Rattle.office_journal.proofs.Texts.{begins_second, one_more, one_struck}
-use Rattle.journaled_office.specs.LastLines.{HasLast, IsLastOf}
-use Rattle.journaled_office.proofs.Ends.{IsBehind, ends_within, first_bytes, none_before, same_ends}
+use Rattle.journaled_office.proofs.Ends.{ends_within, first_bytes, none_before, same_ends}
 
 -- ---- lines end
 
@@ -27,11 +24,11 @@ line_ends : (l : Line) → EndsLine (line_of l)
 unfolding line_of
 line_ends l = ends_line (text_of l)
 
-lines_end : (ls : List Line) → EndsLine (flat_map line_of ls)
+pub lines_end : (ls : List Line) → EndsLine (flat_map line_of ls)
 lines_end [] = tt
 lines_end (l ∷ ls) = ends_line-append (line_of l) (flat_map line_of ls) (line_ends l) (lines_end ls)
 
-journal_ends : (text : List ℕ) (h : History) → IsJournalOf text h → EndsLine text
+pub journal_ends : (text : List ℕ) (h : History) → IsJournalOf text h → EndsLine text
 journal_ends text h is = subst EndsLine (sym is.says) (lines_end is.lines)
 
 -- ---- the journal of a history with an event more

@@ -1,3 +1,5 @@
 pub mod Ends
 pub mod ReadFacts
 pub mod LeftFacts
+pub mod MendFacts
+pub mod OpenFacts

@@ -1,8 +1,8 @@
 -- What was read of a text, with one line more or with all of them.
-use Rattle.std.proofs.Common.{◌≡◌, ◌∙◌, ℕ, ◌+◌, List, [], ◌∷◌, ◌++◌, length, Option, Some, None, IfSome, Ok, Err, Bool, true, false, refl, sym, ap, subst, arith, inl, inr, append_assoc, append-nil, length-append}
+use Rattle.std.proofs.Common.{◌≡◌, ◌∙◌, ℕ, ◌+◌, List, [], ◌∷◌, ◌++◌, length, Option, Some, None, IfSome, Ok, Err, Bool, true, false, refl, sym, ap, subst, inl, inr, append_assoc, length-append}
 use Rattle.std.proofs.lemmas.List.Elements.{All-nil}
 use Rattle.streams.proofs.LineFacts.{ends_line, ends_line-append, first_line-no_feed}
-use Rattle.streams.specs.Lines.{EndsLine, NoFeed, after_line, first_line}
+use Rattle.streams.specs.Lines.{EndsLine, NoFeed, after_line}
 use Rattle.journal_lines.specs.declared.events.Unreadable.{Unreadable}
 use Rattle.journal_lines.specs.declared.events.Unreadable.TheVariants.{TornLine}
 use Rattle.journal_lines.specs.Steps.{ReadsText}

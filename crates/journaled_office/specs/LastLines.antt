@@ -3,9 +3,8 @@ use Rattle.std.specs.Prelude.{◌≡◌, ◌⊎◌, ◌<◌, ℕ, List, [], ◌�
 use Rattle.std.specs.Prelude.{Option, Some, Result, Ok, Err}
 use Rattle.streams.specs.Lines.{EndsLine, NoFeed}
 use Rattle.journaled_office.specs.declared.fault.NotReopened.{NotReopened}
-use Rattle.journaled_office.specs.declared.fault.NotReopened.TheVariants.{Read, NotALine, Office}
-use Rattle.journaled_office.specs.declared.fault.NotReopened.TheVariants.{Log, NoMemory}
 use Rattle.journaled_office.specs.declared.last_line.LastLine.{LastLine}
+use Rattle.journaled_office.specs.Faults.{IsOutside}
 
 -- whole lines, of which the last has this text
 pub record IsLastOf (whole text : List ℕ) : Type 0 where
@@ -36,14 +35,6 @@ pub record IsLast (bytes : List ℕ) (last : LastLine) : Type 0 where
   pub end : last.end ≡ length whole
   pub has : HasLast whole last.text.items
 
--- the input or memory failed
-abbrev pub IsOfInput : NotReopened → Type 0
-IsOfInput Read = Unit {0}
-IsOfInput NotALine = ⊥
-IsOfInput (Office fault) = ⊥
-IsOfInput Log = ⊥
-IsOfInput NoMemory = Unit {0}
-
 -- one line more was read, or none is left
 abbrev pub ReadsOn : (old new : Option (List ℕ)) → (before after : LastLine)
     → Result Bool NotReopened → Type 0
@@ -52,4 +43,4 @@ ReadsOn old new before after (Ok true) =
     × ((bytes : List ℕ) → IsRead bytes old before → IsRead bytes new after)
 ReadsOn old new before after (Ok false) =
     (bytes : List ℕ) → IsRead bytes old before → IsLast bytes after
-ReadsOn old new before after (Err why) = IsOfInput why
+ReadsOn old new before after (Err why) = IsOutside why

@@ -1,2 +1,4 @@
 pub mod Faults
 pub mod LastLines
+pub mod Mending
+pub mod Opening

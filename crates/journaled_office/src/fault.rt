@@ -2,6 +2,7 @@
 
 use journal_lines::Unread;
 use review_policy::Fault;
+use std::alloc::AllocError;
 use std::io;
 use thiserror::Error;
 
@@ -33,6 +34,17 @@ impl From<io::Error> for NotReopened {
 
     fn from(_error: io::Error) -> NotReopened {
         NotReopened::Log
+    }
+}
+
+impl From<AllocError> for NotReopened {
+    ghost use Rattle.std.specs.Prelude.{◌≡◌};
+    ghost use Rattle.journaled_office.specs.declared.fault.NotReopened.TheVariants.{NoMemory};
+
+    ghost from_gives = { λ _ e. e ≡ NoMemory };
+
+    fn from(_error: AllocError) -> NotReopened {
+        NotReopened::NoMemory
     }
 }
 

@@ -1,7 +1,8 @@
 //! The last whole line of a text.
 
 ghost use Rattle.std.specs.Prelude.{IfOk, IfErr, IfSome};
-ghost use Rattle.journaled_office.specs.LastLines.{IsLast, IsOfInput, ReadsOn};
+ghost use Rattle.journaled_office.specs.Faults.{IsOutside};
+ghost use Rattle.journaled_office.specs.LastLines.{IsLast, ReadsOn};
 
 use crate::fault::NotReopened;
 use journal_lines::{Unreadable, read_text};
@@ -46,7 +47,7 @@ fn read_on<R: BufRead>(
 pub(crate) fn last_line<R: BufRead>(alloc: Global, input: &mut R) -> Result<LastLine, NotReopened>
     ensures last { IfOk result (λ last.
         IfSome (R.remaining input.old) (λ bytes. IsLast bytes last)) }
-    ensures fault { IfErr result IsOfInput }
+    ensures fault { IfErr result IsOutside }
 {
     let mut line = Vec::new(alloc);
     let mut last = LastLine {

@@ -3,5 +3,9 @@
 
 mod fault;
 mod last_line;
+mod mending;
+mod opening;
 
 pub use fault::NotReopened;
+pub use mending::mend;
+pub use opening::reopen;

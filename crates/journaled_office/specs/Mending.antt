@@ -1,0 +1,106 @@
+-- What a crash left of a journal, and was made the journal of its office.
+use Rattle.std.specs.Prelude.{◌≡◌, ◌≢◌, ◌⊎◌, ◌↔◌, ◌∷◌, ◌++◌, ℕ, List, length, Bool, true}
+use Rattle.std.specs.Prelude.{Result, Ok, Err, OnOk, IfOk, IfErr}
+use Rattle.streams.specs.Lines.{EndsLine, NoFeed}
+use Rattle.office_policy.specs.History.{Event, History}
+use Rattle.office_policy.specs.Handled.{Stands}
+use Rattle.office_policy.specs.Judging.{LeavesAll}
+use Rattle.office_policy.specs.Lawful.{IsAllowed, IsLawfulHistory}
+use Rattle.office_policy.specs.Meaning.{Meaning}
+use Rattle.office_policy.specs.ShowsEvent.{Shows}
+use Rattle.office_policy.specs.TablesOf.{tables_of}
+use Rattle.office_desk.specs.Looking.{IsMetBetween}
+use Rattle.journal_lines.specs.Forms.{IsFormed}
+use Rattle.journal_lines.specs.Journal.{IsJournalOf}
+use Rattle.journal_lines.specs.Lines.{Line, happened, strike, line_of, text_of}
+use Rattle.office_journal.specs.Begun.{IsLeftOf}
+use Rattle.office_journal.specs.Logging.{IsLonger, IsSettled, Logging}
+use Rattle.journaled_office.specs.declared.fault.NotReopened.{NotReopened}
+use Rattle.journaled_office.specs.declared.fault.NotReopened.TheVariants.{Read, NotALine, Office}
+use Rattle.journaled_office.specs.declared.fault.NotReopened.TheVariants.{Log, NoMemory}
+use Rattle.journaled_office.specs.Faults.{IsOutside}
+
+-- the history, or it with an event that the policy allows then; its tables are the same
+pub record HasTablesOf (h now : History) : Type 0 where
+  pub grown : (now ≡ h) ⊎ ((event : Event) × (now ≡ event ∷ h) × IsAllowed h event)
+  pub tables : tables_of now ≡ tables_of h
+
+-- the text is the journal of such a history
+pub record Says (h : History) (text : List ℕ) : Type 0 where
+  pub now : History
+  pub tables : HasTablesOf h now
+  pub says : IsJournalOf text now
+
+-- the text has the whole lines of another, and behind them nothing, or the line that strikes out
+-- the last of them
+pub record IsMended (old new : List ℕ) : Type 0 where
+  pub whole : List ℕ
+  pub torn : List ℕ
+  pub parts : old ≡ whole ++ torn
+  pub ends : EndsLine whole
+  pub none : NoFeed torn
+  pub is : (new ≡ whole) ⊎ (new ≡ whole ++ line_of strike)
+
+module _ {X : Type 0} (m : Meaning X) where
+  -- what the line says is in the tables of the office, or it strikes out the one before it
+  abbrev pub HasReached : Line → (old new : X) → Bool → Type 0
+  HasReached (happened e) old new reached =
+      (h : History) → m.is_of h old → m.is_clean new → reached ≡ true ↔ Shows (tables_of h) e
+  HasReached strike old new reached = reached ≡ true
+
+  -- the text is that of a line with its forms, and the office was asked about it
+  pub record IsAsked (old new : X) (text : List ℕ) (answer : Bool) : Type 0 where
+    pub line : Line
+    pub says : text ≡ text_of line
+    pub formed : IsFormed line
+    pub reached : HasReached line old new answer
+    pub stands : (h : History) → Stands m h old → m.is_clean new → Stands m h new
+
+  -- or it is that of no such line, or memory or the office failed
+  abbrev pub Asks : (old new : X) → List ℕ → Result Bool NotReopened → Type 0
+  Asks old new text (Ok answer) = IsAsked old new text answer
+  Asks old new text (Err Read) = ⊥
+  Asks old new text (Err NotALine) = (line : Line) → IsFormed line → text ≢ text_of line
+  Asks old new text (Err (Office fault)) =
+      (h : History) → m.is_of h old → m.is_clean new → IsMetBetween m old new fault
+  Asks old new text (Err Log) = ⊥
+  Asks old new text (Err NoMemory) = Unit {0}
+
+  -- a fault of the office has a cause
+  abbrev pub HasOfficeCause : (old new : X) → NotReopened → Type 0
+  HasOfficeCause old new (Office fault) = IsMetBetween m old new fault
+  HasOfficeCause old new why = Unit {0}
+
+-- the line that strikes out stands behind all that was there, and a crash leaves it; where that
+-- failed a beginning of it may stand there
+pub record IsStruckOut {Y : Type 0} (l : Logging Y) (old new : Y) (end : ℕ)
+    (result : Result ℕ NotReopened) : Type 0 where
+  pub text : l.known → end ≡ length (l.text old) → IfOk result (λ now.
+      (l.text new ≡ l.text old ++ line_of strike) × (now ≡ length (l.text new))
+      × IsSettled l new)
+  pub why : IfErr result IsOutside
+  pub crash : l.known → (left : List ℕ) → l.may_leave new left
+      → l.may_leave old left ⊎ IsLonger (l.text old) (line_of strike) left
+
+-- what a crash left of a journal was made the journal of its office, or it wasn't
+pub record Mends {X Y : Type 0} (m : Meaning X) (l : Logging Y) (old new : X) (before after : Y)
+    (result : Result ℕ NotReopened) : Type 0 where
+  -- nothing of the office was changed, and it stands as it did
+  pub leaves : LeavesAll m old new
+  pub stands : (h : History) → Stands m h old → m.is_clean new → OnOk result (Stands m h new)
+  -- the file is mended, has so many bytes, and a crash leaves it
+  pub text : l.known → IfOk result (λ end. IsMended (l.text before) (l.text after)
+      × (end ≡ length (l.text after)) × IsSettled l after)
+  -- and it says a history of the tables, where it was what a crash may leave
+  pub journal : l.known → (h : History) → m.is_of h old → IsLeftOf h (l.text before)
+      → m.is_clean new → OnOk result (Says h (l.text after))
+  -- its last line was a line then
+  pub line : l.known → (h : History) → IsLawfulHistory h → IsLeftOf h (l.text before)
+      → IfErr result (λ why. why ≢ NotALine)
+  -- a fault of the office has a cause
+  pub cause : (h : History) → m.is_of h old → m.is_clean new
+      → IfErr result (HasOfficeCause m old new)
+  -- and a crash on the way leaves again what a crash may leave
+  pub crash : l.known → (h : History) → m.is_of h old → IsLeftOf h (l.text before)
+      → m.is_clean new → (left : List ℕ) → l.may_leave after left
+      → l.may_leave before left ⊎ IsLeftOf h left

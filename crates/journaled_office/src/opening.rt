@@ -1,0 +1,52 @@
+//! An office is opened again with its journal.
+
+ghost use Rattle.std.specs.Prelude.{◌≡◌, ◌≢◌, Some, IfOk, IfErr, IsTrue};
+ghost use Rattle.office_policy.specs.History.{History};
+ghost use Rattle.office_policy.specs.Judging.{LeavesAll};
+ghost use Rattle.office_policy.specs.Lawful.{IsLawfulHistory};
+ghost use Rattle.office_desk.specs.Meant.{meaning_over};
+ghost use Rattle.office_journal.specs.Begun.{IsLeftOf};
+ghost use Rattle.office_journal.specs.Files.{in_file};
+ghost use Rattle.office_journal.specs.Journals.{goes_on};
+ghost use Rattle.journaled_office.specs.declared.fault.NotReopened.{NotReopened};
+ghost use Rattle.journaled_office.specs.Mending.{IsMended};
+ghost use Rattle.journaled_office.specs.Opening.{IsReopened};
+
+use crate::fault::NotReopened;
+use crate::mending::mend;
+use office_desk::Office;
+use office_journal::{FileJournal, Journaled, Log};
+use sqlite::Alter;
+use std::alloc::Global;
+use std::io::BufRead;
+
+/// Opens an office again with the journal that a crash left of it. The text, from its beginning, is
+/// that of the very file that the log writes at its end; the file is mended first, as `mend` has it.
+///
+/// # Errors
+///
+/// Those of `mend`. The office and the log are let go.
+pub fn reopen<S: Alter + Drop, R: BufRead + Drop, L: Log + Drop>(
+    alloc: Global,
+    office: Office<S>,
+    text: R,
+    log: L,
+) -> Result<Journaled<Office<S>, FileJournal<L>>, NotReopened>
+    requires { L.logging.known → R.remaining text ≡ Some (L.logging.text log) }
+    ensures office { IfOk result (λ x. LeavesAll (meaning_over S.Store) office x.office) }
+    ensures goes_on { IfOk result (λ x. IsTrue (goes_on (meaning_over S.Store) (in_file L.Log) x)) }
+    ensures text { L.logging.known → IfOk result (λ x.
+        IsMended (L.logging.text log) (L.logging.text x.journal.log)) }
+    ensures journal { L.logging.known → (h : History) → (meaning_over S.Store).is_of h office
+        → IsLeftOf h (L.logging.text log)
+        → IfOk result (λ x. (meaning_over S.Store).is_clean x.office
+        → IsReopened S.Store L.Log h office x) }
+    ensures line { L.logging.known → (h : History) → IsLawfulHistory h
+        → IsLeftOf h (L.logging.text log) → IfErr result (λ why. why ≢ NotReopened.NotALine) }
+{
+    let mut office = office;
+    let mut text = text;
+    let mut log = log;
+    let end = mend(alloc, &mut office, &mut text, &mut log)?;
+    Ok(Journaled::new(office, FileJournal::new(log, end)))
+}
