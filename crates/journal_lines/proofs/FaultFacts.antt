@@ -1,8 +1,8 @@
 -- Where what is left can be told, no line keeps from it.
 use Rattle.std.proofs.Common.{◌≡◌, ◌∙◌, ℕ, ◌+◌, List, [], ◌∷◌, ◌++◌, Option, Some, None, IfSome, refl, sym, ap, ap₂, subst, append_assoc, All}
-use Rattle.std.specs.Prelude.{flat_map, option_and_then, option_map}
+use Rattle.std.specs.Prelude.{flat_map, option_and_then}
 use Rattle.std.proofs.lemmas.List.Elements.{All-head, All-tail}
-use Rattle.streams.proofs.LineFacts.{after_line-feed, first_line-feed, has_line, has_line-not}
+use Rattle.streams.proofs.LineFacts.{has_line, has_line-not}
 use Rattle.streams.specs.Held.{HasLine}
 use Rattle.streams.specs.Lines.{after_line, first_line}
 use Rattle.office_policy.specs.History.{Event}
@@ -11,7 +11,8 @@ use Rattle.journal_lines.specs.declared.events.Unreadable.TheVariants.{NotALine,
 use Rattle.journal_lines.specs.Forms.{IsFormed}
 use Rattle.journal_lines.specs.Journal.{taken}
 use Rattle.journal_lines.specs.Lines.{Line, line_of, strike, text_of}
-use Rattle.journal_lines.specs.Told.{CannotTake, IsOutside, IsStopped, IsTold, Place, Stops, Tells, held_after, standing, told}
+use Rattle.journal_lines.specs.Told.{CannotTake, IsOutside, IsStopped, IsTold, Place, Stops, Tells, held_after, told}
+use Rattle.journal_lines.proofs.FirstFacts.{after_is, first_is, first_told}
 use Rattle.journal_lines.proofs.JournalFacts.{no_feed, no_line, split}
 use Rattle.journal_lines.proofs.LineFacts.{same_line}
 use Rattle.journal_lines.proofs.ToldFacts.{no_feed_there}
@@ -25,12 +26,6 @@ cannot_nothing TornLine last h = absurd (h.1 refl)
 cannot_nothing Read last h = tt
 cannot_nothing NoMemory last h = tt
 
-first_is : (l : Line) (rest : List ℕ) → IsFormed l → first_line (line_of l ++ rest) ≡ text_of l
-first_is l rest formed = ap first_line (split l rest) ∙ first_line-feed (text_of l) rest (no_feed l formed)
-
-after_is : (l : Line) (rest : List ℕ) → IsFormed l → after_line (line_of l ++ rest) ≡ rest
-after_is l rest formed = ap after_line (split l rest) ∙ after_line-feed (text_of l) rest (no_feed l formed)
-
 cannot_line : (fault : Unreadable) (last : Option Event) (l : Line) (rest : List ℕ) (t : Option Event × Option Event) → IsFormed l → taken last l ≡ Some t
     → CannotTake fault last (line_of l ++ rest) → IsOutside fault
 cannot_line NotALine last l rest t formed is h = absurd (h.1 l formed (first_is l rest formed))
@@ -42,27 +37,6 @@ cannot_line TornLine last l rest t formed is h =
     absurd (has_line-not (line_of l ++ rest) h.0 (subst HasLine (sym (split l rest)) (has_line (text_of l) rest (no_feed l formed))))
 cannot_line Read last l rest t formed is h = tt
 cannot_line NoMemory last l rest t formed is h = tt
-
--- ---- the first of the lines that are told
-
-record IsFirst (before : ℕ) (held : Option Event) (line : Line) (lines : List Line) : Type 0 where
-  by : Option Event × Option Event
-  taken : taken held line ≡ Some by
-  rest : List (ℕ × Event)
-  tells : told (before + 1) by.1 lines ≡ Some rest
-
-first_told : (before : ℕ) (held : Option Event) (line : Line) (lines : List Line) (es : List (ℕ × Event)) → told before held (line ∷ lines) ≡ Some es → IsFirst before held line lines
-first_told before held line lines es tells = at (taken held line) refl tells
-  where
-    of_rest : (t : Option Event × Option Event) → taken held line ≡ Some t → (rest : Option (List (ℕ × Event))) → told (before + 1) t.1 lines ≡ rest
-        → option_map (λ es. standing before t.0 ++ es) rest ≡ Some es → IsFirst before held line lines
-    of_rest t is None tells_none given = cc
-    of_rest t is (Some rest) tells given = record { by = t; taken = is; rest = rest; tells = tells }
-
-    at : (o : Option (Option Event × Option Event)) → taken held line ≡ o
-        → option_and_then (λ t. option_map (λ es. standing before t.0 ++ es) (told (before + 1) t.1 lines)) o ≡ Some es → IsFirst before held line lines
-    at None is given = cc
-    at (Some t) is given = of_rest t is (told (before + 1) t.1 lines) refl given
 
 -- ---- all of them
 

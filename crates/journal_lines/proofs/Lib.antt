@@ -9,6 +9,7 @@ pub mod LineExamples
 pub mod NoFeeds
 pub mod JournalFacts
 pub mod ThroughFacts
+pub mod FirstFacts
 pub mod ToldFacts
 pub mod StepFacts
 pub mod HistoryFacts

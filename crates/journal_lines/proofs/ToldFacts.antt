@@ -1,7 +1,7 @@
 -- What is told from one place of a journal on, and what from the next.
-use Rattle.std.proofs.Common.{◌≡◌, ◌∙◌, ℕ, ◌+◌, List, [], ◌∷◌, ◌++◌, length, Option, Some, None, IfSome, refl, sym, ap, subst, arith, append_assoc, append-nil}
+use Rattle.std.proofs.Common.{◌≡◌, ◌∙◌, ℕ, ◌+◌, List, [], ◌∷◌, ◌++◌, length, Option, Some, None, IfSome, refl, sym, ap, subst, arith, append_assoc, append-nil, All}
 use Rattle.std.specs.Prelude.{flat_map}
-use Rattle.std.proofs.lemmas.List.Elements.{All-nil, All-cons}
+use Rattle.std.proofs.lemmas.List.Elements.{All-nil, All-cons, All-head, All-tail}
 use Rattle.streams.specs.Held.{HasLine}
 use Rattle.streams.specs.Lines.{after_line, first_line}
 use Rattle.office_policy.specs.History.{Event}
@@ -11,17 +11,27 @@ use Rattle.journal_lines.specs.Forms.{IsFormed}
 use Rattle.journal_lines.specs.Journal.{taken}
 use Rattle.journal_lines.specs.Lines.{Line, line_of, text_of}
 use Rattle.journal_lines.specs.Reading.{IsTaken}
-use Rattle.journal_lines.specs.Told.{Begins, CannotTake, GoesOn, IsBegun, IsStopped, IsTold, Place, Stops, Tells, standing, told}
+use Rattle.journal_lines.specs.Told.{Begins, CannotTake, GoesOn, IsBegun, IsStopped, IsThen, IsTold, Place, Stops, Tells, standing, told}
+use Rattle.journal_lines.proofs.FirstFacts.{after_is, first_is, first_told}
 use Rattle.journal_lines.proofs.JournalFacts.{no_line, split}
+use Rattle.journal_lines.proofs.LineFacts.{same_line}
+
+-- from itself on a place tells all
+stays_only : (p : Place) (bytes : List ℕ) (all : List (ℕ × Event)) → p.left ≡ Some bytes → IsTold p.taken p.held bytes all → IsThen p [] all
+stays_only p bytes all is t = record { bytes = bytes; left = is; rest = all; tells = t; parts = refl }
 
 pub stays : (p : Place) → GoesOn p p []
-stays p = record { tells = λ es t. t; begins = λ later es b. b; stops = λ after fault s. s }
+stays p = record { tells = λ es t. t; begins = λ later es b. b; stops = λ after fault s. s; only = stays_only p }
 
 pub goes_further : (a b c : Place) (first : List (ℕ × Event)) → GoesOn a b [] → GoesOn b c first → GoesOn a c first
 goes_further a b c first ab bc = record {
   tells = λ es t. ab.tells (first ++ es) (bc.tells es t);
   begins = λ later es b. ab.begins later (first ++ es) (bc.begins later es b);
   stops = λ after fault s. ab.stops after fault (bc.stops after fault s);
+  only = λ bytes all is t.
+      let x = ab.only bytes all is t in
+      let y = bc.only x.bytes x.rest x.left x.tells in
+      record { bytes = y.bytes; left = y.left; rest = y.rest; tells = y.tells; parts = x.parts ∙ y.parts };
 }
 
 -- up to itself a place tells nothing
@@ -72,6 +82,35 @@ module _ (before : ℕ) (held kept stands : Option Event) (bytes rest : List ℕ
     cannot = s.cannot;
   }
 
+  -- and nothing else is told
+  more_only : (new : Option (List ℕ)) (all : List (ℕ × Event)) → new ≡ Some rest → IsTold before held bytes all
+      → IsThen (record { taken = before + 1; held = kept; left = new }) (standing before stands) all
+  more_only new all left t = from t.lines t.formed t.says t.tells
+    where
+      from : (lines : List Line) → All IsFormed lines → bytes ≡ flat_map line_of lines → told before held lines ≡ Some all
+          → IsThen (record { taken = before + 1; held = kept; left = new }) (standing before stands) all
+      from [] is_m says tells = absurd (no_line line rest (sym says ∙ front))
+      from (m ∷ ms) is_m says tells =
+          let m_is = All-head IsFormed m ms is_m in
+          let both : line_of line ++ rest ≡ line_of m ++ flat_map line_of ms = sym front ∙ says in
+          let one : line ≡ m = same_line line m formed m_is (sym (first_is line _ formed) ∙ ap first_line both ∙ first_is m _ m_is) in
+          let others : rest ≡ flat_map line_of ms = sym (after_is line _ formed) ∙ ap after_line both ∙ after_is m _ m_is in
+          let first = first_told before held m ms all tells in
+          let taken_is : Some first.by ≡ Some (stands, kept) = sym first.taken ∙ ap (taken held) (sym one) ∙ is in
+          let by : first.by ≡ (stands, kept) = cc in
+          record {
+            bytes = rest;
+            left = left;
+            rest = first.rest;
+            tells = record {
+              lines = ms;
+              formed = All-tail IsFormed m ms is_m;
+              says = others;
+              tells = subst (λ (t : Option Event × Option Event). told (before + 1) t.1 ms ≡ Some first.rest) by first.tells;
+            };
+            parts = first.parts ∙ ap (λ (t : Option Event × Option Event). standing before t.0 ++ first.rest) by;
+          }
+
 -- the text before the first line feed is that of a line
 line_front : (bytes text : List ℕ) (line : Line) → HasLine bytes → text ≡ first_line bytes → text ≡ text_of line → bytes ≡ line_of line ++ after_line bytes
 line_front bytes text line has first says =
@@ -83,7 +122,7 @@ IsTextOf old new text = IfSome old (λ bytes. HasLine bytes × (text ≡ first_l
 
 pub line_taken : (before : ℕ) (held kept stands : Option Event) (old new : Option (List ℕ)) (text : List ℕ) → IsTextOf old new text → IsTaken held kept text stands
     → GoesOn (record { taken = before; held = held; left = old }) (record { taken = before + 1; held = kept; left = new }) (standing before stands)
-line_taken before held kept stands None new text read is = record { tells = λ es t. tt; begins = λ later es b. tt; stops = λ after fault s. tt }
+line_taken before held kept stands None new text read is = record { tells = λ es t. tt; begins = λ later es b. tt; stops = λ after fault s. tt; only = λ xs all known t. cc }
 line_taken before held kept stands (Some bytes) new text read is =
     let rest : List ℕ = after_line bytes in
     let front = line_front bytes text is.line read.0 read.1 is.says in
@@ -94,6 +133,9 @@ line_taken before held kept stands (Some bytes) new text read is =
           (subst (λ (l : Option (List ℕ)). IfSome l (λ xs. IsBegun (before + 1) kept xs later es)) read.2 b);
       stops = λ after fault s. more_stopped before held kept stands bytes rest is.line is.formed front is.taken after fault
           (subst (λ (l : Option (List ℕ)). IfSome l (λ xs. IsStopped (before + 1) kept xs after fault)) read.2 s);
+      only = λ xs all known t.
+          let same : xs ≡ bytes = cc in
+          more_only before held kept stands bytes rest is.line is.formed front is.taken new all read.2 (subst (λ (l : List ℕ). IsTold before held l all) same t);
     }
 
 -- ---- the end
@@ -166,7 +208,7 @@ stopped_none before bytes e after fault none s =
 
 pub ends_told : (before : ℕ) (e : Event) (old new : Option (List ℕ)) → IsEnd old new
     → GoesOn (record { taken = before; held = Some e; left = old }) (record { taken = before; held = None; left = new }) ((before, e) ∷ [])
-ends_told before e None new end = record { tells = λ es t. tt; begins = λ later es b. tt; stops = λ after fault s. tt }
+ends_told before e None new end = record { tells = λ es t. tt; begins = λ later es b. tt; stops = λ after fault s. tt; only = λ xs all known t. cc }
 ends_told before e (Some bytes) new end =
     record {
       tells = λ es t.
@@ -176,6 +218,15 @@ ends_told before e (Some bytes) new end =
           begun_none before bytes e later es end.0 (subst (λ (l : Option (List ℕ)). IfSome l (λ xs. IsBegun before None xs later es)) end.1 b);
       stops = λ after fault s.
           stopped_none before bytes e after fault end.0 (subst (λ (l : Option (List ℕ)). IfSome l (λ xs. IsStopped before None xs after fault)) end.1 s);
+      only = λ xs all known t.
+          let none : xs ≡ [] = cc in
+          record {
+            bytes = [];
+            left = end.1;
+            rest = [];
+            tells = told_at_end before None [] refl;
+            parts = told_none before (Some e) all (subst (λ (l : List ℕ). IsTold before (Some e) l all) none t);
+          };
     }
 
 -- ---- where no line is taken

@@ -125,13 +125,23 @@ pub record IsStopped (before : ℕ) (held : Option Event) (bytes : List ℕ)
 abbrev pub Stops : Place → ℕ → Unreadable → Type 0
 Stops p after fault = IfSome p.left (λ bytes. IsStopped p.taken p.held bytes after fault)
 
+-- these events are the first ones, and then what is left at the place tells
+pub record IsThen (p : Place) (first all : List (ℕ × Event)) : Type 0 where
+  pub bytes : List ℕ
+  pub left : p.left ≡ Some bytes
+  pub rest : List (ℕ × Event)
+  pub tells : IsTold p.taken p.held bytes rest
+  pub parts : all ≡ first ++ rest
+
 -- from the old place on all is told, after these events, that is told from the new one on, of all
--- that is left or up to a place; and where it stops from there it stops from here
+-- that is left or up to a place, and nothing else; and where it stops from there it stops from here
 pub record GoesOn (old new : Place) (first : List (ℕ × Event)) : Type 0 where
   pub tells : (es : List (ℕ × Event)) → Tells new es → Tells old (first ++ es)
   pub begins : (later : Place) (es : List (ℕ × Event)) → Begins new later es
       → Begins old later (first ++ es)
   pub stops : (after : ℕ) (fault : Unreadable) → Stops new after fault → Stops old after fault
+  pub only : (bytes : List ℕ) (all : List (ℕ × Event)) → old.left ≡ Some bytes
+      → IsTold old.taken old.held bytes all → IsThen new first all
 
 -- the event that a value of the program is, with its line
 abbrev pub placed_meant : Placed → ℕ × Event

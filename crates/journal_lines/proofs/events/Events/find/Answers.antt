@@ -1,5 +1,14 @@
-use Rattle.journal_lines.proofs.ToldFacts.{input_stops}
+use Rattle.std.proofs.Common.{◌∙◌}
+use Rattle.journal_lines.proofs.ToldFacts.{goes_further, input_stops}
 use Rattle.journal_lines.proofs.events.Events.find.Goals as goal
+
+pub returns-in-Stands-clause-told : goal.returns-in-Stands-clause-told
+returns-in-Stands-clause-told g c = goes_further _ _ _ _ c.loop-self.invariant.told (rw c.in-Stands.is at c.in_ok-placed.ensures.told)
+
+pub loop-self-preserved : goal.loop-self-preserved
+loop-self-preserved g c =
+    let passed = rw c.in-Passed.is at c.in_ok-placed.ensures.told in
+    record { told = goes_further _ _ _ _ c.loop-self.invariant.told passed.0; fault = c.in_ok-placed.ensures.fault ∙ c.loop-self.invariant.fault }
 
 pub returns-clause-told : goal.returns-clause-told
 returns-clause-told g c = c.loop-self.invariant.told.stops _ _ (input_stops _ _ _)
