@@ -8,6 +8,8 @@ mod faults;
 #[cfg(test)]
 mod journal;
 #[cfg(test)]
+mod journal_events;
+#[cfg(test)]
 mod journal_file;
 pub mod lines;
 #[cfg(test)]

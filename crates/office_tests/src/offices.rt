@@ -4,7 +4,7 @@ ghost use Rattle.std.specs.Prelude.{IfOk, IfErr};
 ghost use Rattle.sqlite.specs.Held.{state};
 ghost use Rattle.office_store.specs.Shown.{IsIdle};
 
-use office_commands::founding_of;
+use office_commands::{Founding, FoundingWordsFault, founding_of};
 use office_desk::Office;
 use office_store::FoundingFault;
 use sqlite::{Alter, Connection, MemStore};
@@ -17,7 +17,12 @@ const DIGEST: &str = "ba7816bf8f01cfea414140de5dae2223b00361a396177a9cb410ff61f2
 // What a founding answers.
 pub type Founded<S> = Result<Office<S>, (FoundingFault, Connection<S>)>;
 
-// Founds an office whose first user is root of the team office, with the one listed capability CAP_SYS_ADMIN.
+// The founding of an office whose first user is root of the team office, with the one listed capability CAP_SYS_ADMIN.
+pub(crate) fn founding(alloc: Global) -> Result<Founding, FoundingWordsFault> {
+    founding_of(alloc, "root", "office", DIGEST, &["CAP_SYS_ADMIN"])
+}
+
+// Founds that office.
 pub(crate) fn found_office<S: Alter + Drop>(
     alloc: Global,
     conn: Connection<S>,
@@ -25,7 +30,7 @@ pub(crate) fn found_office<S: Alter + Drop>(
     requires { IsIdle (state S.Store conn) }
     ensures { IfOk result (λ founded. IfErr founded (λ refusal. IsIdle (state S.Store refusal.1))) }
 {
-    let founding = founding_of(alloc, "root", "office", DIGEST, &["CAP_SYS_ADMIN"])?;
+    let founding = founding(alloc)?;
     Ok(Office::found(
         conn,
         &founding.name,
