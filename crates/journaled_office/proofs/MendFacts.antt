@@ -6,9 +6,11 @@ use Rattle.std.proofs.lemmas.Grind.{flat_map-append}
 use Rattle.std.proofs.lemmas.List.{append_cancel_right, take_at}
 use Rattle.std.proofs.lemmas.List.Elements.{All-head, All-tail}
 use Rattle.streams.specs.Lines.{EndsLine}
+use Rattle.serde_json.specs.Data.{Members, object}
+use Rattle.serde_json.specs.Written.{compact_text}
 use Rattle.office_policy.proofs.ShownFacts.{last_shown, shown_unchanged}
 use Rattle.office_policy.proofs.SurvivalFacts.{survives_none}
-use Rattle.office_policy.specs.History.{Event, History}
+use Rattle.office_policy.specs.History.{Event, History, founded, enrolled, submitted, voted, issued, withdrawn, adopted, held, released}
 use Rattle.office_policy.specs.Handled.{Stands}
 use Rattle.office_policy.specs.Judging.{LeavesAll}
 use Rattle.office_policy.specs.Lawful.{IsAllowed, IsLawfulHistory}
@@ -18,7 +20,7 @@ use Rattle.office_policy.specs.ShowsEvent.{Shows}
 use Rattle.office_policy.specs.TablesOf.{tables_of}
 use Rattle.journal_lines.specs.Forms.{IsFormed}
 use Rattle.journal_lines.specs.Journal.{IsJournalOf, history_from}
-use Rattle.journal_lines.specs.Lines.{Line, happened, strike, line_of, text_of}
+use Rattle.journal_lines.specs.Lines.{Line, happened, strike, line_data, line_of, text_of}
 use Rattle.journal_lines.proofs.JournalFacts.{no_feed}
 use Rattle.journal_lines.proofs.LineFacts.{same_line}
 use Rattle.office_journal.specs.Begun.{IsLeftOf}
@@ -28,7 +30,7 @@ use Rattle.journaled_office.specs.declared.fault.NotReopened.TheVariants.{Read, 
 use Rattle.journaled_office.specs.declared.last_line.LastLine.{LastLine}
 use Rattle.journaled_office.specs.Faults.{IsOutside}
 use Rattle.journaled_office.specs.LastLines.{HasLast, IsLast}
-use Rattle.journaled_office.specs.Mending.{Asks, HasOfficeCause, HasReached, HasTablesOf, IsAsked, IsStruckOut, Mends, Says}
+use Rattle.journaled_office.specs.Mending.{Asks, EndsWithLine, HasNoLine, HasWhole, HasOfficeCause, HasReached, HasTablesOf, IsAsked, IsStruckOut, Mends, Says}
 use Rattle.journaled_office.proofs.Ends.{same_ends}
 use Rattle.journaled_office.proofs.LeftFacts.{IsOneMore, IsWhole, cut_left, journal_ends, lines_end, more_says, struck_left, struck_says, whole_left}
 use Rattle.journaled_office.proofs.ReadFacts.{whole_ends}
@@ -56,9 +58,9 @@ last_formed (b ∷ before) l formed = last_formed before l (All-tail IsFormed b 
 abbrev pub IsNewest : History → Event → Type 0
 IsNewest h e = (before : History) × (h ≡ e ∷ before)
 
-newest : (g : History) (held : Option Event) (before : List Line) (e : Event) (h : History) → history_from g held (before ++ happened e ∷ []) ≡ Some h → IsNewest h e
-newest g held [] e h is = let same : e ∷ with_event held g ≡ h = cc in (with_event held g, sym same)
-newest g held (happened f ∷ before) e h is = newest (with_event held g) (Some f) before e h is
+newest : (g : History) (was : Option Event) (before : List Line) (e : Event) (h : History) → history_from g was (before ++ happened e ∷ []) ≡ Some h → IsNewest h e
+newest g was [] e h is = let same : e ∷ with_event was g ≡ h = cc in (with_event was g, sym same)
+newest g was (happened f ∷ before) e h is = newest (with_event was g) (Some f) before e h is
 newest g None (strike ∷ before) e h is = absurd cc
 newest g (Some f) (strike ∷ before) e h is = newest g None before e h is
 
@@ -74,6 +76,32 @@ last_text whole text before l (inl last) ends formed is =
     append_assoc last.before text (10 ∷ []) ∙ sym last.is ∙ is ∙ sym (append_assoc before (text_of l) (10 ∷ [])) in
     (same_ends last.before text before (text_of l) (append_cancel_right (last.before ++ text) (before ++ text_of l) (10 ∷ []) joined) last.ends ends last.one (no_feed l formed)).1
 last_text whole text before l (inr none) ends formed is = absurd (not_none before l (sym is ∙ none.0))
+
+-- a line has a text
+object_some : (ms : Members) → compact_text (object ms) ≡ [] → ⊥
+object_some ms none = cc
+
+is_object : (l : Line) → (ms : Members) × (line_data l ≡ object ms)
+is_object (happened (founded name team digest listed)) = (_, refl)
+is_object (happened (enrolled caller name team roles digest)) = (_, refl)
+is_object (happened (submitted caller p text)) = (_, refl)
+is_object (happened (voted caller p n digest approves)) = (_, refl)
+is_object (happened (issued caller p n)) = (_, refl)
+is_object (happened (withdrawn caller p n)) = (_, refl)
+is_object (happened (adopted caller p n)) = (_, refl)
+is_object (happened (held caller p)) = (_, refl)
+is_object (happened (released caller p)) = (_, refl)
+is_object strike = (_, refl)
+
+some_text : (l : Line) → text_of l ≡ [] → ⊥
+unfolding text_of
+some_text l none = let o = is_object l in object_some o.0 (sym (ap compact_text o.1) ∙ none)
+
+with_line : (whole text : List ℕ) (l : Line) → HasLast whole text → IsFormed l → text ≡ text_of l → EndsWithLine whole
+unfolding line_of
+with_line whole text l (inl last) formed says =
+    record { before = last.before; ends = last.ends; line = l; formed = formed; is = last.is ∙ ap (λ t. last.before ++ (t ++ 10 ∷ [])) says }
+with_line whole text l (inr none) formed says = absurd (some_text l (sym says ∙ none.1))
 
 -- ---- the last line of what is whole
 
@@ -200,6 +228,7 @@ not_read m l x log why outside = record {
   stands = λ h stands clean. tt;
   text = λ known. tt;
   journal = λ known h of left clean. tt;
+  no_line = λ known same. absurd (outside_line why outside same);
   line = λ known h lawful left. outside_line why outside;
   cause = λ h of clean. outside_cause m x x why outside;
   crash = λ known h of left clean bytes may. inl may;
@@ -208,6 +237,9 @@ not_read m l x log why outside = record {
 module _ {X Y : Type 0} (m : Meaning X) (l : Logging Y) (old new : X) (before : Y) (last : LastLine) (leaves : LeavesAll m old new) (is_last : l.known → IsLast (l.text before) last) where
   ends : (known : l.known) → EndsLine (is_last known).whole
   ends known = whole_ends (is_last known).whole last.text.items (is_last known).has
+
+  whole_lines : (known : l.known) → HasWhole (l.text before) (is_last known).whole
+  whole_lines known = let x = is_last known in record { torn = x.torn; parts = x.parts; ends = ends known; none = x.none }
 
   end_of : (known : l.known) (h : History) → IsLawfulHistory h → IsLeftOf h (l.text before) → HasEnd h (is_last known).whole last.text.items
   end_of known h lawful left =
@@ -223,6 +255,19 @@ module _ {X Y : Type 0} (m : Meaning X) (l : Logging Y) (old new : X) (before : 
   asked_line Log asks known h lawful left same = asks
   asked_line NoMemory asks known h lawful left same = cc
 
+  asked_no_line : (why : NotReopened) → Asks m old new last.text.items (Err why) → l.known → why ≡ NotALine → HasNoLine (l.text before)
+  asked_no_line Read asks known same = absurd asks
+  asked_no_line NotALine asks known same =
+      let x = is_last known in
+      record {
+        whole = x.whole;
+        lines = whole_lines known;
+        none = λ e. asks e.line e.formed (last_text x.whole last.text.items e.before e.line x.has e.ends e.formed e.is);
+      }
+  asked_no_line (Office fault) asks known same = absurd cc
+  asked_no_line Log asks known same = absurd asks
+  asked_no_line NoMemory asks known same = absurd cc
+
   asked_cause : (why : NotReopened) → Asks m old new last.text.items (Err why) → (h : History) → m.is_of h old → m.is_clean new → HasOfficeCause m old new why
   asked_cause Read asks h of clean = tt
   asked_cause NotALine asks h of clean = tt
@@ -236,6 +281,7 @@ module _ {X Y : Type 0} (m : Meaning X) (l : Logging Y) (old new : X) (before : 
     stands = λ h stands clean. tt;
     text = λ known. tt;
     journal = λ known h of left clean. tt;
+    no_line = λ known same. asked_no_line why asks known same;
     line = λ known h lawful left. asked_line why asks known h lawful left;
     cause = λ h of clean. asked_cause why asks h of clean;
     crash = λ known h of left clean bytes may. inl may;
@@ -257,6 +303,7 @@ module _ {X Y : Type 0} (m : Meaning X) (l : Logging Y) (old new : X) (before : 
     stands = λ h stands clean. tt;
     text = λ known. tt;
     journal = λ known h of left clean. tt;
+    no_line = λ known same. absurd (outside_line Log tt same);
     line = λ known h lawful left. outside_line Log tt;
     cause = λ h of clean. tt;
     crash = λ known h of left clean bytes may. crash_cut mid (Err e) cut known h left bytes may;
@@ -280,10 +327,11 @@ module _ {X Y : Type 0} (m : Meaning X) (l : Logging Y) (old new : X) (before : 
       leaves = leaves;
       stands = asked.stands;
       text = λ known. let x = is_last known in
-          (record { whole = x.whole; torn = x.torn; parts = x.parts; ends = ends known; none = x.none; is = inl (cut_text known) }, cut_end known, (cut.text known).1);
+          (record { whole = x.whole; lines = whole_lines known; last = with_line x.whole last.text.items asked.line x.has asked.formed asked.says; is = inl (cut_text known) }, cut_end known, (cut.text known).1);
       journal = λ known h of left clean.
           subst (Says h) (sym (cut_text known))
           (says_reached m old new h of clean (is_last known).whole asked.line reached asked.reached (ends_by known h (m.lawful h old of) left) is);
+      no_line = λ known. tt;
       line = λ known h lawful left. tt;
       cause = λ h of clean. tt;
       crash = λ known h of left clean bytes may. crash_cut mid (Ok tt) cut known h left bytes may;
@@ -304,12 +352,13 @@ module _ {X Y : Type 0} (m : Meaning X) (l : Logging Y) (old new : X) (before : 
         stands = λ h stands clean. on_ok result (Stands m h new) (asked.stands h stands clean);
         text = λ known. let x = is_last known in
             if_ok result _ _ (λ end text.
-            (record { whole = x.whole; torn = x.torn; parts = x.parts; ends = ends known; none = x.none; is = inr (struck_text known text.0) }, text.1, text.2))
+            (record { whole = x.whole; lines = whole_lines known; last = with_line x.whole last.text.items asked.line x.has asked.formed asked.says; is = inr (struck_text known text.0) }, text.1, text.2))
             (struck.text known (cut_end known));
         journal = λ known h of left clean. let e = more known h of left clean in
             ok_on result _ _ (λ end text.
             record { now = h; tables = itself h; says = subst (λ t. IsJournalOf t h) (sym (struck_text known text.0)) (struck_says h (is_last known).whole e.0 e.1) })
             (struck.text known (cut_end known));
+        no_line = λ known. if_err result IsOutside (λ why. why ≡ NotALine → HasNoLine (l.text before)) (λ why outside same. absurd (outside_line why outside same)) struck.why;
         line = λ known h lawful left. if_err result IsOutside (λ why. why ≢ NotALine) outside_line struck.why;
         cause = λ h of clean. if_err result IsOutside (HasOfficeCause m old new) (outside_cause m old new) struck.why;
         crash = λ known h of left clean bytes may. elim (struck.crash known bytes may) [

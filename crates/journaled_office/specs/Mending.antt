@@ -31,15 +31,34 @@ pub record Says (h : History) (text : List ℕ) : Type 0 where
   pub tables : HasTablesOf h now
   pub says : IsJournalOf text now
 
+-- these are the whole lines of the text: behind them no line feed stands
+pub record HasWhole (text whole : List ℕ) : Type 0 where
+  pub torn : List ℕ
+  pub parts : text ≡ whole ++ torn
+  pub ends : EndsLine whole
+  pub none : NoFeed torn
+
+-- the last of whole lines is a line of a journal
+pub record EndsWithLine (whole : List ℕ) : Type 0 where
+  pub before : List ℕ
+  pub ends : EndsLine before
+  pub line : Line
+  pub formed : IsFormed line
+  pub is : whole ≡ before ++ line_of line
+
 -- the text has the whole lines of another, and behind them nothing, or the line that strikes out
 -- the last of them
 pub record IsMended (old new : List ℕ) : Type 0 where
   pub whole : List ℕ
-  pub torn : List ℕ
-  pub parts : old ≡ whole ++ torn
-  pub ends : EndsLine whole
-  pub none : NoFeed torn
+  pub lines : HasWhole old whole
+  pub last : EndsWithLine whole
   pub is : (new ≡ whole) ⊎ (new ≡ whole ++ line_of strike)
+
+-- the text has no whole line, or its last one is no line of a journal
+pub record HasNoLine (text : List ℕ) : Type 0 where
+  pub whole : List ℕ
+  pub lines : HasWhole text whole
+  pub none : EndsWithLine whole → ⊥
 
 module _ {X : Type 0} (m : Meaning X) where
   -- what the line says is in the tables of the office, or it strikes out the one before it
@@ -94,7 +113,9 @@ pub record Mends {X Y : Type 0} (m : Meaning X) (l : Logging Y) (old new : X) (b
   -- and it says a history of the tables, where it was what a crash may leave
   pub journal : l.known → (h : History) → m.is_of h old → IsLeftOf h (l.text before)
       → m.is_clean new → OnOk result (Says h (l.text after))
-  -- its last line was a line then
+  -- that it has no line is answered only where it has none
+  pub no_line : l.known → IfErr result (λ why. why ≡ NotALine → HasNoLine (l.text before))
+  -- and never of what a crash may leave
   pub line : l.known → (h : History) → IsLawfulHistory h → IsLeftOf h (l.text before)
       → IfErr result (λ why. why ≢ NotALine)
   -- a fault of the office has a cause

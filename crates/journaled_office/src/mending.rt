@@ -42,7 +42,8 @@ fn cut_off<L: Log>(log: &mut L, end: u64) -> io::Result<()>
     log.sync()
 }
 
-// Writes the line that strikes out the one before it, behind so many bytes: how many there are then.
+// Writes the line that strikes out the one before it, behind so many bytes: how many there are
+// then.
 fn strike_out<L: Log>(alloc: Global, log: &mut L, end: u64) -> Result<u64, NotReopened>
     ensures { IsStruckOut L.logging log.old log.new end result }
 {
@@ -55,7 +56,8 @@ fn strike_out<L: Log>(alloc: Global, log: &mut L, end: u64) -> Result<u64, NotRe
     Ok(end)
 }
 
-// Cuts off what is torn behind the last line, and strikes that out where it says what didn't happen.
+// Cuts off what is torn behind the last line, and strikes that out where it says what the tables
+// haven't got.
 fn set_right<S: Alter, L: Log>(
     alloc: Global,
     office: &mut Office<S>,

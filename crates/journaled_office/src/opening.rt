@@ -9,7 +9,7 @@ ghost use Rattle.office_journal.specs.Begun.{IsLeftOf};
 ghost use Rattle.office_journal.specs.Files.{in_file};
 ghost use Rattle.office_journal.specs.Journals.{goes_on};
 ghost use Rattle.journaled_office.specs.declared.fault.NotReopened.{NotReopened};
-ghost use Rattle.journaled_office.specs.Mending.{IsMended};
+ghost use Rattle.journaled_office.specs.Mending.{HasNoLine, IsMended};
 ghost use Rattle.journaled_office.specs.Opening.{IsReopened};
 
 use crate::fault::NotReopened;
@@ -21,7 +21,7 @@ use std::alloc::Global;
 use std::io::BufRead;
 
 /// Opens an office again with the journal that a crash left of it. The text, from its beginning, is
-/// that of the very file that the log writes at its end; the file is mended first, as `mend` has it.
+/// that of the very file that the log writes at its end; it is mended first, as `mend` has it.
 ///
 /// # Errors
 ///
@@ -41,6 +41,8 @@ pub fn reopen<S: Alter + Drop, R: BufRead + Drop, L: Log + Drop>(
         → IsLeftOf h (L.logging.text log)
         → IfOk result (λ x. (meaning_over S.Store).is_clean x.office
         → IsReopened S.Store L.Log h office x) }
+    ensures no_line { L.logging.known → IfErr result (λ why.
+        why ≡ NotReopened.NotALine → HasNoLine (L.logging.text log)) }
     ensures line { L.logging.known → (h : History) → IsLawfulHistory h
         → IsLeftOf h (L.logging.text log) → IfErr result (λ why. why ≢ NotReopened.NotALine) }
 {
