@@ -1,0 +1,3 @@
+mod Replays
+mod Refusals
+mod Unlawful

@@ -1,0 +1,120 @@
+-- Where and why no office is built anew.
+use Rattle.std.proofs.Common.{◌≡◌, ℕ, List, [], ◌∷◌, ◌++◌, Bool, true, Option, Result, Ok, Err, inl, inr, sym, refl, subst, length-append}
+use Rattle.std.specs.Prelude.{IsErrAnd}
+use Rattle.sqlite.specs.Held.{Held, state}
+use Rattle.sqlite.specs.State.{HasCleanDisk}
+use Rattle.sqlite.specs.Store.{Ghosts}
+use Rattle.office_policy.specs.declared.event.Event as values
+use Rattle.office_policy.specs.declared.event.Event.TheVariants as events
+use Rattle.office_policy.specs.Happened.{event_meant}
+use Rattle.office_policy.specs.Handled.{Stands}
+use Rattle.office_policy.specs.History.{Event}
+use Rattle.office_policy.specs.Lawful.{IsFounding}
+use Rattle.office_policy.specs.Meaning.{Meaning}
+use Rattle.office_desk.specs.Meant.{meaning_over}
+use Rattle.office_desk.specs.Replayed.{HasHappened}
+use Rattle.journal_lines.specs.declared.events.Unreadable.{Unreadable}
+use Rattle.journal_lines.specs.Told.{GoesOn, Place, Stops, start}
+use Rattle.journal_replay.specs.declared.fault.Refused.{Refused}
+use Rattle.journal_replay.specs.declared.fault.Why.{Why}
+use Rattle.journal_replay.specs.declared.fault.Why.TheVariants as why
+use Rattle.journal_replay.specs.Rebuilt.{HasReplayed, IsRefused, line_behind}
+use Rattle.journal_replay.specs.Steps.{Continues, HasBegun, HasGoneOn, IsLeft, IsLeftBehind, IsNoFirst, IsNoFounding}
+use Rattle.journal_replay.proofs.Replays.{more}
+
+-- a journal that stops at this place
+pub left_here : (here : Place) (taken : ℕ) (fault : Unreadable) (refused : Refused) → refused ≡ record { line = line_behind taken; why = why.Unread fault } → Stops here taken fault
+    → IsLeft here refused.line refused.why
+left_here here taken fault refused is stops =
+    subst (λ (r : Refused). IsLeft here r.line r.why) (sym is) (record { taken = taken; stops = stops; counted = refl })
+
+pub left_first : (here : Place) (line : ℕ) (w : Why) → IsLeft here line w → IsNoFirst here line w
+left_first here line (why.Unread fault) left = left
+left_first here line why.NotFounded left = absurd left
+left_first here line (why.Unfounded fault) left = absurd left
+left_first here line (why.Unreplayed cause) left = absurd left
+
+pub no_founding : (e : values.Event) → ((user team digest : List ℕ) (listed : ℕ) → e ≡ events.Founded user team digest listed → ⊥) → IsFounding (event_meant e) → ⊥
+no_founding (events.Founded user team digest listed) not_founded is = not_founded user team digest listed refl
+no_founding (events.Enrolled caller user team roles digest) not_founded is = is
+no_founding (events.Submitted caller name text) not_founded is = is
+no_founding (events.Voted caller name revision digest approves) not_founded is = is
+no_founding (events.Issued caller name revision) not_founded is = is
+no_founding (events.Withdrawn caller name revision) not_founded is = is
+no_founding (events.Adopted caller name revision) not_founded is = is
+no_founding (events.Held caller name) not_founded is = is
+no_founding (events.Released caller name) not_founded is = is
+
+module _ {X : Type 0} (m : Meaning X) (bytes : Option (List ℕ)) where
+  -- what is told before it is told of the whole
+  pub left_behind : (here : Place) (es : List (ℕ × Event)) (office left : X) (line : ℕ) (w : Why) → HasReplayed bytes m here es office → IsLeft here line w
+      → IsLeftBehind m bytes left line w
+  left_behind here es office left line (why.Unread fault) all at = record { taken = at.taken; stops = all.told.stops at.taken fault at.stops; counted = at.counted }
+  left_behind here es office left line why.NotFounded all at = absurd at
+  left_behind here es office left line (why.Unfounded fault) all at = absurd at
+  left_behind here es office left line (why.Unreplayed cause) all at = absurd at
+
+  -- a `?` that leaves with it
+  pub left_by : (left : X) (result : Result ℕ Refused) (refused : Refused) → IsErrAnd result (λ e. e ≡ refused) → IsLeftBehind m bytes left refused.line refused.why
+      → Continues m bytes left result
+  left_by left (Ok count) refused is at = absurd is
+  left_by left (Err r) refused is at = subst (λ (r : Refused). IsLeftBehind m bytes left r.line r.why) (sym is) at
+
+  pub gone_by : (here : Place) (es : List (ℕ × Event)) (left : X) (result : Result Bool Refused) (refused : Refused) → IsErrAnd result (λ e. e ≡ refused)
+      → IsLeftBehind m bytes left refused.line refused.why → HasGoneOn m bytes left here es result
+  gone_by here es left (Ok more) refused is at = absurd is
+  gone_by here es left (Err r) refused is at = subst (λ (r : Refused). IsLeftBehind m bytes left r.line r.why) (sym is) at
+
+  -- the next event
+  pub gone_on : (here after : Place) (es : List (ℕ × Event)) (line : ℕ) (e : Event) (old new : X) → HasReplayed bytes m here es old → GoesOn here after ((line, e) ∷ [])
+      → HasHappened m old new e → HasGoneOn m bytes new after es (Ok true)
+  gone_on here after es line e old new before told happened =
+      (es ++ (line, e) ∷ [], more m bytes here after es line e old new before told happened, length-append es ((line, e) ∷ []))
+
+  -- the founding is the first event
+  pub first_replayed : (after : Place) (line : ℕ) (e : Event) (office : X) → GoesOn (start bytes) after ((line, e) ∷ []) → IsFounding e
+      → (m.is_clean office → Stands m (e ∷ []) office) → HasReplayed bytes m after ((line, e) ∷ []) office
+  first_replayed after line e office told founding stands = record { told = told; lawful = λ clean. founding; stands = stands }
+
+module _ {S : Type 0} (g : Ghosts S) (bytes : Option (List ℕ)) (conn left : Held S) (line : ℕ) where
+  pub none_first : (w : Why) → IsNoFirst (start bytes) line w → IsRefused bytes g conn left line w
+  none_first (why.Unread fault) at = at
+  none_first why.NotFounded at = inl at
+  none_first (why.Unfounded fault) at = absurd at
+  none_first (why.Unreplayed cause) at = absurd at
+
+  pub none_founded : (after : Place) (e : Event) (w : Why) → GoesOn (start bytes) after ((line, e) ∷ []) → IsNoFounding g e conn left w → IsRefused bytes g conn left line w
+  none_founded after e (why.Unread fault) told is = absurd is
+  none_founded after e why.NotFounded told is = inr (record { event = e; after = after; told = told; other = is })
+  none_founded after e (why.Unfounded fault) told is = record {
+    name = is.name;
+    team = is.team;
+    digest = is.digest;
+    listed = is.listed;
+    after = after;
+    told = subst (λ (f : Event). GoesOn (start bytes) after ((line, f) ∷ [])) is.is told;
+    already = is.already;
+    cause = is.cause;
+  }
+  none_founded after e (why.Unreplayed cause) told is = absurd is
+
+  pub none_behind : (w : Why) → IsLeftBehind (meaning_over g) bytes left line w → IsRefused bytes g conn left line w
+  none_behind (why.Unread fault) at = at
+  none_behind why.NotFounded at = absurd at
+  none_behind (why.Unfounded fault) at = absurd at
+  none_behind (why.Unreplayed cause) at = at
+
+module _ {S : Type 0} (g : Ghosts S) (bytes : Option (List ℕ)) (conn : Held S) where
+  pub begun_not : (from here : Place) (refused : Refused) → from ≡ start bytes → IsNoFirst from refused.line refused.why → HasBegun g bytes conn here (Err (refused, conn))
+  begun_not from here refused at none =
+      none_first g bytes conn conn refused.line refused.why (subst (λ (p : Place). IsNoFirst p refused.line refused.why) at none)
+
+  pub begun_unfounded : (from here : Place) (line : ℕ) (e : Event) (w : Why) (left : Held S) → from ≡ start bytes → GoesOn from here ((line, e) ∷ []) → IsNoFounding g e conn left w
+      → IsRefused bytes g conn left line w
+  begun_unfounded from here line e w left at told none =
+      none_founded g bytes conn left line here e w (subst (λ (p : Place). GoesOn p here ((line, e) ∷ [])) at told) none
+
+  pub begun_founded : (from here : Place) (line : ℕ) (e : Event) (office : Held S) → from ≡ start bytes → GoesOn from here ((line, e) ∷ []) → IsFounding e
+      → (HasCleanDisk (state g office) → Stands (meaning_over g) (e ∷ []) office) → HasBegun g bytes conn here (Ok office)
+  begun_founded from here line e office at told founding stands =
+      ((line, e) ∷ [], first_replayed (meaning_over g) bytes here line e office (subst (λ (p : Place). GoesOn p here ((line, e) ∷ [])) at told) founding stands, refl)
