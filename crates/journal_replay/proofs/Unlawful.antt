@@ -1,10 +1,10 @@
 -- A journal that no office is built of is of no lawful history.
-use Rattle.std.proofs.Common.{◌≡◌, ◌∙◌, ℕ, List, [], ◌∷◌, ◌++◌, Option, Some, None, IfSome, inl, inr, refl, sym, ap, subst}
+use Rattle.std.proofs.Common.{◌≡◌, ◌∙◌, ℕ, List, [], ◌∷◌, ◌++◌, Option, Some, None, inl, inr, refl, ap, subst}
 use Rattle.sqlite.specs.Held.{Held, state}
 use Rattle.sqlite.specs.State.{HasCleanDisk}
 use Rattle.sqlite.specs.Store.{Ghosts}
 use Rattle.office_policy.specs.History.{Event, History}
-use Rattle.office_policy.specs.Lawful.{IsAllowed, IsFounding, IsLawfulHistory}
+use Rattle.office_policy.specs.Lawful.{IsAllowed, IsLawfulHistory}
 use Rattle.office_policy.specs.Meaning.{Meaning}
 use Rattle.office_desk.specs.declared.replay.Unreplayed.TheVariants as causes
 use Rattle.office_desk.specs.Meant.{meaning_over}
@@ -12,7 +12,7 @@ use Rattle.office_desk.specs.Replayed.{IsRefused as IsDenied}
 use Rattle.journal_lines.specs.declared.events.Unreadable.{Unreadable}
 use Rattle.journal_lines.specs.declared.events.Unreadable.TheVariants as unreadable
 use Rattle.journal_lines.specs.Journal.{IsJournalOf}
-use Rattle.journal_lines.specs.Told.{GoesOn, IsOutside, IsTold, Place, Tells, history_told, start}
+use Rattle.journal_lines.specs.Told.{GoesOn, IsOutside, Place, history_told, start}
 use Rattle.journal_lines.proofs.FaultFacts.{no_fault}
 use Rattle.journal_lines.proofs.HistoryFacts.{journal_tells, journal_told}
 use Rattle.journal_lines.proofs.JournalFacts.{one_history}

@@ -13,7 +13,6 @@ use Rattle.office_policy.specs.Lawful.{IsFounding}
 use Rattle.office_policy.specs.Meaning.{Meaning}
 use Rattle.office_desk.specs.Meant.{meaning_over}
 use Rattle.journal_lines.specs.declared.events.Placed.{Placed}
-use Rattle.journal_lines.specs.declared.events.Unreadable.{Unreadable}
 use Rattle.journal_lines.specs.Told.{Gives, GoesOn, Place, Tells, placed_meant}
 use Rattle.journal_replay.specs.declared.fault.Refused.{Refused}
 use Rattle.journal_replay.specs.declared.fault.Why.{Why}

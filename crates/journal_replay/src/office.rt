@@ -174,9 +174,9 @@ fn replay_rest<S: Alter, R: BufRead>(
 ///
 /// # Errors
 ///
-/// The first line by which that can't go on, and why; no lawful history has the journal then, unless
-/// the input, memory or the store has a fault, or no office is founded over the connection. That is
-/// handed back, as the last event left it.
+/// The first line by which that can't go on, and why; no lawful history has the journal then,
+/// unless the input, memory or the store has a fault, or no office is founded over the connection.
+/// That is handed back, as the last event left it.
 pub fn rebuild<S: Alter, R: BufRead + Drop>(
     alloc: Global,
     conn: Connection<S>,
