@@ -16,14 +16,15 @@ use Rattle.office_store.specs.declared.votes.Ballot.{Ballot}
 use Rattle.office_store.specs.Ballots.{vote_of}
 use Rattle.office_store.specs.Calls.{IsRead}
 use Rattle.office_policy.specs.Handled.{Survives}
-use Rattle.office_policy.specs.History.{Event}
+use Rattle.office_policy.specs.History.{History}
 use Rattle.office_policy.specs.Judging.{LeavesAll}
-use Rattle.office_policy.specs.ShowsEvent.{HasUser, Shows}
+use Rattle.office_policy.specs.Lawful.{IsLawfulHistory}
+use Rattle.office_policy.specs.ShowsEvent.{HasUser}
 use Rattle.office_policy.specs.TablesOf.{tables_of}
 use Rattle.office_policy.specs.Users.{registrar_alone}
 use Rattle.office_desk.specs.Looking.{HasLooked, IsMetBetween}
 use Rattle.office_desk.specs.Meant.{meaning_over}
-use Rattle.office_desk.specs.Told.{told_of, sight_of}
+use Rattle.office_desk.specs.Told.{told_of, outcome_of}
 use Rattle.office_desk.proofs.Handling.{was_open_by}
 use Rattle.office_desk.proofs.Judging.{never_both}
 
@@ -78,16 +79,14 @@ module _ {S : Type 0} (g : Ghosts S) (old new : Held S) where
   met Full risen = risen
   met NotAnOffice none = none
 
-  module _ (e : Event) where
-    abbrev Tells : Tables → Bool → Type 0
-    Tells t shown = shown ≡ true ↔ Shows t e
-
-    by_result : (r : Result Bool StoreFault) → IsRead (state g old) (state g new) r Tells → HasLooked (meaning_over g) old new e (sight_of r)
-    by_result (Ok shown) read =
-        let leaves = read_leaves (Ok shown) Tells read in
+  -- what the read found is so found of each history
+  module _ {A : Type 0} (F : Tables → A → Type 0) (Found : History → A → Type 0) (finds : (h : History) (a : A) → IsLawfulHistory h → F (tables_of h) a → Found h a) where
+    by_result : (r : Result A StoreFault) → IsRead (state g old) (state g new) r F → HasLooked (meaning_over g) old new Found (outcome_of r)
+    by_result (Ok a) read =
+        let leaves = read_leaves (Ok a) F read in
         record {
           leaves = leaves;
-          shown = λ h office clean. read.found (tables_of h) (office.tables (read.leaves.clean clean)) clean;
+          found = λ h office clean. finds h a office.lawful (read.found (tables_of h) (office.tables (read.leaves.clean clean)) clean);
           cause = λ h office clean. tt;
           stands = λ h office clean.
               let is_open = (read.leaves.answered clean).1 in
@@ -95,11 +94,11 @@ module _ {S : Type 0} (g : Ghosts S) (old new : Held S) where
               record { is_of = still; is_open = is_open; leaves = read.leaves.settled (tables_of h) (still.tables clean is_open) };
         }
     by_result (Err fault) read = record {
-      leaves = read_leaves {A = Bool} (Err fault) Tells read;
-      shown = λ h office clean. tt;
+      leaves = read_leaves {A = A} (Err fault) F read;
+      found = λ h office clean. tt;
       cause = λ h office clean. met fault (read.cause (tables_of h) (office.tables (read.leaves.clean clean)) clean);
       stands = λ h office clean. tt;
     }
 
-    pub looked : (r : Result Bool StoreFault) → IsRead (state g old) (state g new) r Tells → (told : Result Bool Fault) → told ≡ sight_of r → HasLooked (meaning_over g) old new e told
-    looked r read told is = subst (HasLooked (meaning_over g) old new e) (sym is) (by_result r read)
+    pub looked : (r : Result A StoreFault) → IsRead (state g old) (state g new) r F → (told : Result A Fault) → told ≡ outcome_of r → HasLooked (meaning_over g) old new Found told
+    looked r read told is = subst (HasLooked (meaning_over g) old new Found) (sym is) (by_result r read)

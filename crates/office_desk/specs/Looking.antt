@@ -1,16 +1,22 @@
--- What looking whether the tables show an event comes to.
+-- What looking at an office comes to.
 use Rattle.std.specs.Prelude.{◌≡◌, ◌↔◌, Bool, true, List, ℕ, Option, Some, Result, IfOk, IfErr}
-use Rattle.std.specs.Prelude.{OnOk}
+use Rattle.std.specs.Prelude.{OnOk, option_map}
 use Rattle.review_policy.specs.declared.answer.Fault.{Fault}
 use Rattle.review_policy.specs.declared.answer.Fault.TheVariants as faults
+use Rattle.review_policy.specs.declared.ask.ProfileName.{ProfileName}
 use Rattle.review_policy.specs.declared.revision.State.TheVariants.{Open}
+use Rattle.review_sheet.specs.Sheet.{sheet_text}
 use Rattle.office_tables.specs.declared.row.RevisionRow.{RevisionRow}
 use Rattle.office_policy.specs.History.{Event, History}
+use Rattle.office_policy.specs.Revisions.{revision_of}
+use Rattle.office_policy.specs.Sheets.{sheet_of}
 use Rattle.office_policy.specs.TablesOf.{tables_of}
 use Rattle.office_policy.specs.ShowsEvent.{Shows}
 use Rattle.office_policy.specs.Meaning.{Meaning}
 use Rattle.office_policy.specs.Handled.{HasRisen, Stands}
 use Rattle.office_policy.specs.Judging.{LeavesAll}
+
+-- ---- what is looked for
 
 -- a revision is there that is open, by this caller and with this text
 pub record IsOpenBy (found : Option RevisionRow) (caller text : List ℕ) : Type 0 where
@@ -19,6 +25,20 @@ pub record IsOpenBy (found : Option RevisionRow) (caller text : List ℕ) : Type
   pub still_open : row.state ≡ Open
   pub author : row.author ≡ caller
   pub body : row.body ≡ text
+
+-- the tables of the history show the event just where that is the answer
+abbrev pub TellsWhether : Event → History → Bool → Type 0
+TellsWhether e h shown = shown ≡ true ↔ Shows (tables_of h) e
+
+-- the text of the sheet of a revision, at this moment
+abbrev pub sheet_text_of : ProfileName → RevisionRow → History → List ℕ
+sheet_text_of p r h = sheet_text (sheet_of h p r)
+
+-- and of the revision of this number, where that is there
+abbrev pub sheet_at : ProfileName → ℕ → History → Option (List ℕ)
+sheet_at p n h = option_map (λ r. sheet_text_of p r h) (revision_of h p n)
+
+-- ---- what looking leaves
 
 module _ {X : Type 0} (m : Meaning X) where
   -- a fault other than `memory` was met by a call between the two, or it is `disk` and a fault had
@@ -29,14 +49,19 @@ module _ {X : Type 0} (m : Meaning X) where
   IsMetBetween old new faults.Full = HasRisen (m.faults old) (m.faults new)
   IsMetBetween old new faults.NotAnOffice = ⊥
 
-  -- it was looked whether the tables show the event, and nothing was changed
-  pub record HasLooked (old new : X) (e : Event) (result : Result Bool Fault) : Type 0 where
+  -- something was looked for, and nothing was changed
+  pub record HasLooked {A : Type 0} (old new : X) (Found : History → A → Type 0)
+      (result : Result A Fault) : Type 0 where
     pub leaves : LeavesAll m old new
-    -- the tables of the history show the event just where that is the answer
-    pub shown : (h : History) → m.is_of h old → m.is_clean new
-        → IfOk result (λ shown. shown ≡ true ↔ Shows (tables_of h) e)
+    -- the answer is so found of each history that the office is of
+    pub found : (h : History) → m.is_of h old → m.is_clean new → IfOk result (Found h)
     -- a fault has a cause
     pub cause : (h : History) → m.is_of h old → m.is_clean new
         → IfErr result (IsMetBetween old new)
     -- and without one the office stands
     pub stands : (h : History) → m.is_of h old → m.is_clean new → OnOk result (Stands m h new)
+
+  -- what looking back gives of the history was looked for
+  abbrev pub HasLookedBack : {A : Type 0} → (old new : X) → (History → A) → Result A Fault
+      → Type 0
+  HasLookedBack old new look result = HasLooked old new (λ h found. found ≡ look h) result

@@ -1,5 +1,5 @@
 -- What is answered of what a request came to.
-use Rattle.std.specs.Prelude.{Bool, Result, Ok, Err, ⊤}
+use Rattle.std.specs.Prelude.{Result, Ok, Err}
 use Rattle.review_policy.specs.declared.answer.Answer.{Answer}
 use Rattle.review_policy.specs.declared.answer.Answer.TheVariants.{Denied, Fault}
 use Rattle.review_policy.specs.declared.answer.Fault.{Fault as TheFault}
@@ -28,12 +28,7 @@ abbrev pub judgement_of : Result Judgement Refusal → Judgement
 judgement_of (Ok judgement) = judgement
 judgement_of (Err refusal) = Answered (answer_to refusal)
 
--- what carrying it out comes to
-abbrev pub outcome_of : Result ⊤ StoreFault → Result ⊤ TheFault
-outcome_of (Ok done) = Ok done
+-- what a call of the store comes to
+abbrev pub outcome_of : {A : Type 0} → Result A StoreFault → Result A TheFault
+outcome_of (Ok found) = Ok found
 outcome_of (Err fault) = Err (told_of fault)
-
--- what looking comes to
-abbrev pub sight_of : Result Bool StoreFault → Result Bool TheFault
-sight_of (Ok shown) = Ok shown
-sight_of (Err fault) = Err (told_of fault)

@@ -6,7 +6,7 @@ ghost use Rattle.review_policy.specs.declared.answer.Fault.TheVariants as faults
 ghost use Rattle.office_tables.specs.Faults.{store_fault_word};
 ghost use Rattle.office_tables.specs.declared.fault.StoreFault.{StoreFault as FaultValue};
 ghost use Rattle.office_tables.specs.declared.fault.StoreFault.TheVariants as stores;
-ghost use Rattle.office_desk.specs.Told.{told_of, answer_to, judgement_of, outcome_of, sight_of};
+ghost use Rattle.office_desk.specs.Told.{told_of, answer_to, judgement_of, outcome_of};
 
 use crate::refusal::Refusal;
 use office_policy::Judgement;
@@ -45,22 +45,12 @@ pub(crate) fn judgement(judged: Result<Judgement, Refusal>) -> Judgement
     }
 }
 
-// What carrying it out comes to.
-pub(crate) fn outcome(carried: Result<(), StoreFault>) -> Result<(), Fault>
-    ensures { result ≡ outcome_of carried }
+// What a call of the store comes to.
+pub(crate) fn outcome<A>(found: Result<A, StoreFault>) -> Result<A, Fault>
+    ensures { result ≡ outcome_of found }
 {
-    match carried {
-        Ok(()) => Ok(()),
-        Err(fault) => Err(told(fault)),
-    }
-}
-
-// What looking comes to.
-pub(crate) fn sight(seen: Result<bool, StoreFault>) -> Result<bool, Fault>
-    ensures { result ≡ sight_of seen }
-{
-    match seen {
-        Ok(shown) => Ok(shown),
+    match found {
+        Ok(found) => Ok(found),
         Err(fault) => Err(told(fault)),
     }
 }

@@ -2,17 +2,18 @@
 
 ghost use Rattle.std.specs.Prelude.{◌≡◌};
 
-use crate::answer::{judgement, outcome, sight};
+use crate::answer::{judgement, outcome};
 use crate::carry_out::carry_out;
 use crate::forms::{founding_forms, request_forms};
 use crate::judge::judge;
 use crate::replay::{Unreplayed, replay};
+use crate::sheet::sheet_at;
 use crate::shown::shows;
 use cap_sets::Caps;
 use office_policy::{Allowed, Event, Handler, Judge, Judgement};
-use office_store::{FoundingFault, OpeningFault, check_office, found};
-use office_tables::StoreFault;
-use review_policy::{Answer, Fault, Request, Word};
+use office_store::{FoundingFault, OpeningFault, check_office, found, last, revision};
+use office_tables::{RevisionRow, StoreFault};
+use review_policy::{Answer, Fault, ProfileName, Request, Text, Word};
 use sqlite::{Alter, Connection};
 use std::alloc::Global;
 use std::marker::Model;
@@ -54,7 +55,8 @@ impl<S: Alter> Office<S> {
     ghost use Rattle.office_policy.specs.TablesOf.{tables_of};
     ghost use Rattle.office_policy.specs.Handled.{Stands, Survives};
     ghost use Rattle.office_tables.specs.Tables.{Tables};
-    ghost use Rattle.office_desk.specs.Looking.{HasLooked};
+    ghost use Rattle.office_policy.specs.Revisions.{last_revision, revision_of};
+    ghost use Rattle.office_desk.specs.Looking.{HasLooked, HasLookedBack, TellsWhether, sheet_at};
     ghost use Rattle.office_desk.specs.Offices.{IsOffice};
     ghost use Rattle.office_desk.specs.Meant.{meaning_over};
     ghost use Rattle.office_desk.specs.Opened.{IsOver, IsRefusedFor, IsHandedBack};
@@ -157,9 +159,60 @@ impl<S: Alter> Office<S> {
     /// shut the office; `NotAnOffice` only where the tables are those of no lawful history.
     pub fn shows(&mut self, alloc: Global, event: &Event) -> Result<bool, Fault>
         ensures { HasLooked (meaning_over S.Store)
-            self.old self.new (event_meant event.now) result }
+            self.old self.new (TellsWhether (event_meant event.now)) result }
     {
-        sight(shows(alloc, &mut self.conn, event))
+        outcome(shows(alloc, &mut self.conn, event))
+    }
+
+    /// A revision of a profile by its number, where it is there. Nothing is changed.
+    ///
+    /// # Errors
+    ///
+    /// Those of [`Office::shows`].
+    pub fn revision(
+        &mut self,
+        alloc: Global,
+        name: &ProfileName,
+        number: u32,
+    ) -> Result<Option<RevisionRow>, Fault>
+        ensures { HasLookedBack (meaning_over S.Store)
+            self.old self.new (λ h. revision_of h name.now number) result }
+    {
+        outcome(revision(alloc, &mut self.conn, name, number))
+    }
+
+    /// The last revision of a profile, where it has one. Nothing is changed.
+    ///
+    /// # Errors
+    ///
+    /// Those of [`Office::shows`].
+    pub fn last_revision(
+        &mut self,
+        alloc: Global,
+        name: &ProfileName,
+    ) -> Result<Option<RevisionRow>, Fault>
+        ensures { HasLookedBack (meaning_over S.Store)
+            self.old self.new (λ h. last_revision h name.now) result }
+    {
+        outcome(last(alloc, &mut self.conn, name))
+    }
+
+    /// The review sheet of a revision, where that is there, as any caller is shown it who may see
+    /// it. Nothing is changed.
+    ///
+    /// # Errors
+    ///
+    /// Those of [`Office::shows`].
+    pub fn sheet(
+        &mut self,
+        alloc: Global,
+        name: &ProfileName,
+        number: u32,
+    ) -> Result<Option<Text>, Fault>
+        ensures { HasLookedBack (meaning_over S.Store)
+            self.old self.new (sheet_at name.now number) result }
+    {
+        outcome(sheet_at(alloc, &mut self.conn, name, number))
     }
 
     /// Has an event happen again, where the policy allows it to the caller that it names: the

@@ -4,16 +4,19 @@ ghost use Rattle.std.specs.Prelude.{◌≡◌, Some, IfOk, option_map};
 ghost use Rattle.sqlite.specs.Held.{state};
 ghost use Rattle.review_policy.specs.declared.ask.Ask.TheVariants as ask;
 ghost use Rattle.review_sheet.specs.Sheet.{sheet_text};
+ghost use Rattle.office_store.specs.Connections.{Reads};
 ghost use Rattle.office_store.specs.Shown.{IsIdle};
+ghost use Rattle.office_policy.specs.LooksBack.{LooksBack};
 ghost use Rattle.office_desk.specs.Judged.{JudgesAsk};
 ghost use Rattle.office_desk.specs.Compared.{sheet_against};
+ghost use Rattle.office_desk.specs.Looking.{sheet_at, sheet_text_of};
 
 use crate::baseline::{Comparison, base, compared_with};
 use crate::need::document;
 use crate::reading::read_facts;
 use crate::refusal::Refusal;
 use office_store::{revision, standing};
-use office_tables::{RevisionRow, UserRow};
+use office_tables::{RevisionRow, StoreFault, UserRow};
 use review_policy::{ProfileName, Reply, Text, VoteRow, Word, decide_read};
 use review_sheet::SheetFacts;
 use sqlite::{Alter, Connection};
@@ -57,6 +60,39 @@ fn sheet_of(
     Ok(Text::new(review_sheet::sheet(alloc, &facts)?))
 }
 
+// The review sheet of a revision that is there, at this moment.
+fn sheet_now<S: Alter>(
+    alloc: Global,
+    conn: &mut Connection<S>,
+    name: &ProfileName,
+    row: &RevisionRow,
+) -> Result<Text, StoreFault>
+    requires { IsIdle (state S.Store conn.old) }
+    ensures { Reads S.Store conn.old conn.new result
+        (LooksBack (sheet_text_of name.now row.now)) }
+{
+    let votes = standing(alloc, conn, name, row.number)?;
+    let compared = compared_with(alloc, conn, &name.team)?;
+    Ok(sheet_of(alloc, name, row, compared, votes)?)
+}
+
+// The review sheet of a revision, where that is there.
+pub(crate) fn sheet_at<S: Alter>(
+    alloc: Global,
+    conn: &mut Connection<S>,
+    name: &ProfileName,
+    number: u32,
+) -> Result<Option<Text>, StoreFault>
+    requires { IsIdle (state S.Store conn.old) }
+    ensures { Reads S.Store conn.old conn.new result (LooksBack (sheet_at name.now number)) }
+{
+    let Some(row) = revision(alloc, conn, name, number)? else {
+        return Ok(None);
+    };
+    let sheet = sheet_now(alloc, conn, name, &row)?;
+    Ok(Some(sheet))
+}
+
 // Shows the review sheet of a revision.
 pub(crate) fn sheet<S: Alter>(
     alloc: Global,
@@ -73,8 +109,6 @@ pub(crate) fn sheet<S: Alter>(
     let found = revision(alloc, conn, name, number)?;
     decide_read(&read_facts(caller, &name.team, found.is_none()))?;
     let Some(row) = found else { unreachable!() };
-    let votes = standing(alloc, conn, name, row.number)?;
-    let compared = compared_with(alloc, conn, &name.team)?;
-    let sheet = sheet_of(alloc, name, &row, compared, votes)?;
+    let sheet = sheet_now(alloc, conn, name, &row)?;
     Ok(Reply::Sheet { sheet })
 }

@@ -3,11 +3,9 @@ use Rattle.std.specs.Prelude.{is_none}
 use Rattle.sqlite.specs.Held.{state}
 use Rattle.review_policy.specs.declared.answer.Reply.TheVariants.{Sheet}
 use Rattle.review_policy.specs.Rules.{first_denial, read_rules}
-use Rattle.office_tables.specs.declared.fault.StoreFault.TheVariants.{NoMemory}
 use Rattle.office_policy.specs.Facts.{read_facts}
 use Rattle.office_desk.specs.declared.refusal.Refusal.TheVariants as refusals
-use Rattle.office_policy.proofs.StandingFacts.{standing_is}
-use Rattle.office_desk.proofs.Judging.{left, read_fails, second_fails, fails_after, found_after}
+use Rattle.office_desk.proofs.Judging.{left, read_fails, second_fails, found_after}
 use Rattle.office_desk.proofs.Compared.{read_pair}
 use Rattle.office_desk.proofs.Deciding.{refuses_at_once, refuses, allowed_at}
 use Rattle.office_desk.proofs.LookedBack.{one_revision}
@@ -40,52 +38,29 @@ returns-in_err-decide_read-2 g c =
     (sym (c.read_facts-2.ensures ∙ ap (read_facts (Some c.args.caller.now) c.args.name.now.team) (none_told c.is_none.result found c.is_none.ensures)))
     ∙ sym c.in_err-decide_read-2.ensures))
 
-pub returns-in_err-votes : goal.returns-in_err-votes
-returns-in_err-votes g c =
-    let old = state g.S.Store c.args.conn.now in
-    let mid = state g.S.Store c.revision.new.conn in
-    let new = state g.S.Store c.standing.new.conn in
-    let fault = c.in_err-votes.field-0.0 in
-    left _ _ _ _ (refusals.Fault fault) c.from_residual-in_err-votes.ensures.1
-    (read_fails _ old new (λ t (x : Unit {0}). Unit {0}) fault
-    (second_fails old mid new _ _ c.in_ok-found.found c.in_ok-found.ensures.read _ fault c.in_err-votes.ensures.read))
-
-pub returns-in_err-compared : goal.returns-in_err-compared
-returns-in_err-compared g c =
-    let old = state g.S.Store c.args.conn.now in
-    let one = state g.S.Store c.revision.new.conn in
-    let two = state g.S.Store c.standing.new.conn in
-    let new = state g.S.Store c.compared_with.new.conn in
-    let both = read_pair old one two _ _ c.in_ok-found.found c.in_ok-votes.votes c.in_ok-found.ensures.read c.in_ok-votes.ensures.read in
-    let fault = c.in_err-compared.field-0.0 in
-    left _ _ _ _ (refusals.Fault fault) c.from_residual-in_err-compared.ensures.1
-    (read_fails _ old new (λ t (x : Unit {0}). Unit {0}) fault (second_fails old two new _ _ _ both _ fault c.in_err-compared.ensures))
-
 pub returns-in_err-sheet : goal.returns-in_err-sheet
 returns-in_err-sheet g c =
     let old = state g.S.Store c.args.conn.now in
-    let one = state g.S.Store c.revision.new.conn in
-    let two = state g.S.Store c.standing.new.conn in
-    let new = state g.S.Store c.compared_with.new.conn in
-    let both = read_pair old one two _ _ c.in_ok-found.found c.in_ok-votes.votes c.in_ok-found.ensures.read c.in_ok-votes.ensures.read in
-    let all = read_pair old two new _ _ _ c.in_ok-compared.compared both c.in_ok-compared.ensures in
-    left _ _ _ _ (refusals.Fault NoMemory) c.from_residual-in_err-sheet.ensures.1 (fails_after _ old new _ _ all NoMemory refl)
+    let mid = state g.S.Store c.revision.new.conn in
+    let new = state g.S.Store c.sheet_now.new.conn in
+    let fault = c.in_err-sheet.field-0.0 in
+    left _ _ _ _ (refusals.Fault fault) c.from_residual-in_err-sheet.ensures.1
+    (read_fails _ old new (λ t (x : Unit {0}). Unit {0}) fault
+    (second_fails old mid new _ _ c.in_ok-found.found c.in_ok-found.ensures.read _ fault c.in_err-sheet.ensures))
 
 pub returns : goal.returns
 returns g c =
     let old = state g.S.Store c.args.conn.now in
-    let one = state g.S.Store c.revision.new.conn in
-    let two = state g.S.Store c.standing.new.conn in
-    let new = state g.S.Store c.compared_with.new.conn in
-    let both = read_pair old one two _ _ c.in_ok-found.found c.in_ok-votes.votes c.in_ok-found.ensures.read c.in_ok-votes.ensures.read in
-    let all = read_pair old two new _ _ _ c.in_ok-compared.compared both c.in_ok-compared.ensures in
+    let mid = state g.S.Store c.revision.new.conn in
+    let new = state g.S.Store c.sheet_now.new.conn in
+    let all = read_pair old mid new _ _ c.in_ok-found.found c.in_ok-sheet.sheet c.in_ok-found.ensures.read c.in_ok-sheet.ensures in
     let found = c.in_ok-found.found in
     found_after _ old new _ _ all (Sheet c.in_ok-sheet.sheet)
     (λ h lawful looks.
     allowed_at (showing_sheet c.args.caller.now c.args.name.now c.args.number) h
     (ap (λ f. first_denial (read_rules f))
     (sym (c.read_facts-2.ensures ∙ ap (read_facts (Some c.args.caller.now) c.args.name.now.team)
-    (none_told c.is_none.result found c.is_none.ensures ∙ ap is_none looks.0.0)))
+    (none_told c.is_none.result found c.is_none.ensures ∙ ap is_none looks.0)))
     ∙ sym c.in_ok-decide_read-2.ensures)
-    ∙ sheet_told h (Some c.args.caller.now) c.args.name.now c.args.number c.in-Some.row c.in_ok-votes.votes.items c.in_ok-compared.compared c.in_ok-sheet.sheet
-    (sym looks.0.0 ∙ c.in-Some.is) (standing_is h c.args.name.now _ c.in_ok-votes.votes.items looks.0.1) (looks.1 h lawful refl) c.in_ok-sheet.ensures)
+    ∙ sheet_told h (Some c.args.caller.now) c.args.name.now c.args.number c.in-Some.row c.in_ok-sheet.sheet
+    (sym looks.0 ∙ c.in-Some.is) (looks.1 h lawful refl))
