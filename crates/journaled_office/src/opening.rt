@@ -9,7 +9,7 @@ ghost use Rattle.office_journal.specs.Begun.{IsLeftOf};
 ghost use Rattle.office_journal.specs.Files.{in_file};
 ghost use Rattle.office_journal.specs.Journals.{goes_on};
 ghost use Rattle.journaled_office.specs.declared.fault.NotReopened.{NotReopened};
-ghost use Rattle.journaled_office.specs.Mending.{HasNoLine, IsMended};
+ghost use Rattle.journaled_office.specs.Mending.{HasNoLine, HasOfficeCause, IsMended};
 ghost use Rattle.journaled_office.specs.Opening.{IsReopened};
 
 use crate::fault::NotReopened;
@@ -25,13 +25,13 @@ use std::io::BufRead;
 ///
 /// # Errors
 ///
-/// Those of `mend`. The office and the log are let go.
+/// Those of `mend`. The office is handed back, with nothing of it changed; the log is let go.
 pub fn reopen<S: Alter + Drop, R: BufRead + Drop, L: Log + Drop>(
     alloc: Global,
     office: Office<S>,
     text: R,
     log: L,
-) -> Result<Journaled<Office<S>, FileJournal<L>>, NotReopened>
+) -> Result<Journaled<Office<S>, FileJournal<L>>, (NotReopened, Office<S>)>
     requires { L.logging.known → R.remaining text ≡ Some (L.logging.text log) }
     ensures office { IfOk result (λ x. LeavesAll (meaning_over S.Store) office x.office) }
     ensures goes_on { IfOk result (λ x. IsTrue (goes_on (meaning_over S.Store) (in_file L.Log) x)) }
@@ -41,14 +41,22 @@ pub fn reopen<S: Alter + Drop, R: BufRead + Drop, L: Log + Drop>(
         → IsLeftOf h (L.logging.text log)
         → IfOk result (λ x. (meaning_over S.Store).is_clean x.office
         → IsReopened S.Store L.Log h office x) }
-    ensures no_line { L.logging.known → IfErr result (λ why.
-        why ≡ NotReopened.NotALine → HasNoLine (L.logging.text log)) }
+    ensures back { IfErr result (λ refusal.
+        LeavesAll (meaning_over S.Store) office refusal.1) }
+    ensures no_line { L.logging.known → IfErr result (λ refusal.
+        refusal.0 ≡ NotReopened.NotALine → HasNoLine (L.logging.text log)) }
     ensures line { L.logging.known → (h : History) → IsLawfulHistory h
-        → IsLeftOf h (L.logging.text log) → IfErr result (λ why. why ≢ NotReopened.NotALine) }
+        → IsLeftOf h (L.logging.text log)
+        → IfErr result (λ refusal. refusal.0 ≢ NotReopened.NotALine) }
+    ensures cause { (h : History) → (meaning_over S.Store).is_of h office
+        → IfErr result (λ refusal. (meaning_over S.Store).is_clean refusal.1
+        → HasOfficeCause (meaning_over S.Store) office refusal.1 refusal.0) }
 {
     let mut office = office;
     let mut text = text;
     let mut log = log;
-    let end = mend(alloc, &mut office, &mut text, &mut log)?;
-    Ok(Journaled::new(office, FileJournal::new(log, end)))
+    match mend(alloc, &mut office, &mut text, &mut log) {
+        Ok(end) => Ok(Journaled::new(office, FileJournal::new(log, end))),
+        Err(why) => Err((why, office)),
+    }
 }
