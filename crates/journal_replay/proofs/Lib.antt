@@ -1,3 +1,3 @@
-mod Replays
-mod Refusals
-mod Unlawful
+pub mod Replays
+pub mod Refusals
+pub mod Unlawful

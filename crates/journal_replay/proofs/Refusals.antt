@@ -1,6 +1,6 @@
 -- Where and why no office is built anew.
-use Rattle.std.proofs.Common.{◌≡◌, ℕ, List, [], ◌∷◌, ◌++◌, Bool, true, Option, Result, Ok, Err, inl, inr, sym, refl, subst, length-append}
-use Rattle.std.specs.Prelude.{IsErrAnd}
+use Rattle.std.proofs.Common.{◌≡◌, ℕ, List, [], ◌∷◌, Option, Result, Ok, Err, inl, inr, sym, refl, subst}
+use Rattle.std.specs.Prelude.{IsErrAnd, ⊤}
 use Rattle.sqlite.specs.Held.{Held, state}
 use Rattle.sqlite.specs.State.{HasCleanDisk}
 use Rattle.sqlite.specs.Store.{Ghosts}
@@ -12,15 +12,13 @@ use Rattle.office_policy.specs.History.{Event}
 use Rattle.office_policy.specs.Lawful.{IsFounding}
 use Rattle.office_policy.specs.Meaning.{Meaning}
 use Rattle.office_desk.specs.Meant.{meaning_over}
-use Rattle.office_desk.specs.Replayed.{HasHappened}
 use Rattle.journal_lines.specs.declared.events.Unreadable.{Unreadable}
 use Rattle.journal_lines.specs.Told.{GoesOn, Place, Stops, start}
 use Rattle.journal_replay.specs.declared.fault.Refused.{Refused}
 use Rattle.journal_replay.specs.declared.fault.Why.{Why}
 use Rattle.journal_replay.specs.declared.fault.Why.TheVariants as why
 use Rattle.journal_replay.specs.Rebuilt.{HasReplayed, IsRefused, line_behind}
-use Rattle.journal_replay.specs.Steps.{Continues, HasBegun, HasGoneOn, IsLeft, IsLeftBehind, IsNoFirst, IsNoFounding}
-use Rattle.journal_replay.proofs.Replays.{more}
+use Rattle.journal_replay.specs.Steps.{Continues, IsKeptOut, IsLeft, IsLeftBehind, IsNoFirst, IsNoFounding}
 
 -- a journal that stops at this place
 pub left_here : (here : Place) (taken : ℕ) (fault : Unreadable) (refused : Refused) → refused ≡ record { line = line_behind taken; why = why.Unread fault } → Stops here taken fault
@@ -55,21 +53,27 @@ module _ {X : Type 0} (m : Meaning X) (bytes : Option (List ℕ)) where
   left_behind here es office left line (why.Unreplayed cause) all at = absurd at
 
   -- a `?` that leaves with it
-  pub left_by : (left : X) (result : Result ℕ Refused) (refused : Refused) → IsErrAnd result (λ e. e ≡ refused) → IsLeftBehind m bytes left refused.line refused.why
-      → Continues m bytes left result
-  left_by left (Ok count) refused is at = absurd is
-  left_by left (Err r) refused is at = subst (λ (r : Refused). IsLeftBehind m bytes left r.line r.why) (sym is) at
+  pub left_by : (left : X) (count : ℕ) (result : Result ⊤ Refused) (refused : Refused) → IsErrAnd result (λ e. e ≡ refused) → IsLeftBehind m bytes left refused.line refused.why
+      → Continues m bytes left count result
+  left_by left count (Ok done) refused is at = absurd is
+  left_by left count (Err r) refused is at = subst (λ (r : Refused). IsLeftBehind m bytes left r.line r.why) (sym is) at
 
-  pub gone_by : (here : Place) (es : List (ℕ × Event)) (left : X) (result : Result Bool Refused) (refused : Refused) → IsErrAnd result (λ e. e ≡ refused)
-      → IsLeftBehind m bytes left refused.line refused.why → HasGoneOn m bytes left here es result
-  gone_by here es left (Ok more) refused is at = absurd is
-  gone_by here es left (Err r) refused is at = subst (λ (r : Refused). IsLeftBehind m bytes left r.line r.why) (sym is) at
-
-  -- the next event
-  pub gone_on : (here after : Place) (es : List (ℕ × Event)) (line : ℕ) (e : Event) (old new : X) → HasReplayed bytes m here es old → GoesOn here after ((line, e) ∷ [])
-      → HasHappened m old new e → HasGoneOn m bytes new after es (Ok true)
-  gone_on here after es line e old new before told happened =
-      (es ++ (line, e) ∷ [], more m bytes here after es line e old new before told happened, length-append es ((line, e) ∷ []))
+  -- the next event doesn't happen again
+  pub kept_out : (here after : Place) (es : List (ℕ × Event)) (placed : ℕ × Event) (old left : X) (line : ℕ) (w : Why) → HasReplayed bytes m here es old → GoesOn here after (placed ∷ [])
+      → IsKeptOut m old left placed line w → IsLeftBehind m bytes left line w
+  kept_out here after es placed old left line (why.Unread fault) before told is = absurd is
+  kept_out here after es placed old left line why.NotFounded before told is = absurd is
+  kept_out here after es placed old left line (why.Unfounded fault) before told is = absurd is
+  kept_out here after es placed old left line (why.Unreplayed cause) before told is = record {
+    before = es;
+    event = placed.1;
+    here = here;
+    after = after;
+    old = old;
+    replayed = before;
+    told = subst (λ (n : ℕ). GoesOn here after ((n, placed.1) ∷ [])) (sym is.0) told;
+    refused = is.1;
+  }
 
   -- the founding is the first event
   pub first_replayed : (after : Place) (line : ℕ) (e : Event) (office : X) → GoesOn (start bytes) after ((line, e) ∷ []) → IsFounding e
@@ -105,8 +109,9 @@ module _ {S : Type 0} (g : Ghosts S) (bytes : Option (List ℕ)) (conn left : He
   none_behind (why.Unreplayed cause) at = at
 
 module _ {S : Type 0} (g : Ghosts S) (bytes : Option (List ℕ)) (conn : Held S) where
-  pub begun_not : (from here : Place) (refused : Refused) → from ≡ start bytes → IsNoFirst from refused.line refused.why → HasBegun g bytes conn here (Err (refused, conn))
-  begun_not from here refused at none =
+  -- of a place before the first line
+  pub begun_not : (from : Place) (refused : Refused) → from ≡ start bytes → IsNoFirst from refused.line refused.why → IsRefused bytes g conn conn refused.line refused.why
+  begun_not from refused at none =
       none_first g bytes conn conn refused.line refused.why (subst (λ (p : Place). IsNoFirst p refused.line refused.why) at none)
 
   pub begun_unfounded : (from here : Place) (line : ℕ) (e : Event) (w : Why) (left : Held S) → from ≡ start bytes → GoesOn from here ((line, e) ∷ []) → IsNoFounding g e conn left w
@@ -115,6 +120,6 @@ module _ {S : Type 0} (g : Ghosts S) (bytes : Option (List ℕ)) (conn : Held S)
       none_founded g bytes conn left line here e w (subst (λ (p : Place). GoesOn p here ((line, e) ∷ [])) at told) none
 
   pub begun_founded : (from here : Place) (line : ℕ) (e : Event) (office : Held S) → from ≡ start bytes → GoesOn from here ((line, e) ∷ []) → IsFounding e
-      → (HasCleanDisk (state g office) → Stands (meaning_over g) (e ∷ []) office) → HasBegun g bytes conn here (Ok office)
+      → (HasCleanDisk (state g office) → Stands (meaning_over g) (e ∷ []) office) → HasReplayed bytes (meaning_over g) here ((line, e) ∷ []) office
   begun_founded from here line e office at told founding stands =
-      ((line, e) ∷ [], first_replayed (meaning_over g) bytes here line e office (subst (λ (p : Place). GoesOn p here ((line, e) ∷ [])) at told) founding stands, refl)
+      first_replayed (meaning_over g) bytes here line e office (subst (λ (p : Place). GoesOn p here ((line, e) ∷ [])) at told) founding stands

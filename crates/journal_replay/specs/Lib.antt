@@ -1,2 +1,3 @@
+pub mod FaultTexts
 pub mod Rebuilt
 pub mod Steps

@@ -1,7 +1,6 @@
 -- What is done with the events of a journal.
-use Rattle.std.specs.Prelude.{◌≡◌, ◌↔◌, ◌+◌, [], ◌∷◌, ℕ, List, length, Bool, true, false}
-use Rattle.std.specs.Prelude.{Option, Result, Ok, Err}
-use Rattle.std.specs.Prelude.{IsTrue}
+use Rattle.std.specs.Prelude.{◌≡◌, ◌↔◌, ◌+◌, ◌-◌, ◌^◌, ◌<◌, [], ◌∷◌, ℕ, List, Option, Some, None}
+use Rattle.std.specs.Prelude.{Result, Ok, Err, IsTrue, ⊤}
 use Rattle.sqlite.specs.Held.{Held, state}
 use Rattle.sqlite.specs.State.{HasCleanDisk}
 use Rattle.sqlite.specs.Store.{Ghosts}
@@ -11,14 +10,13 @@ use Rattle.office_store.specs.Founding.{FailsToFound, first_user, has_table}
 use Rattle.office_policy.specs.History.{Event, founded}
 use Rattle.office_policy.specs.Lawful.{IsFounding}
 use Rattle.office_policy.specs.Meaning.{Meaning}
-use Rattle.office_desk.specs.Meant.{meaning_over}
+use Rattle.office_desk.specs.Replayed.{HasHappened, IsReplayed}
 use Rattle.journal_lines.specs.declared.events.Placed.{Placed}
 use Rattle.journal_lines.specs.Told.{Gives, GoesOn, Place, Tells, placed_meant}
 use Rattle.journal_replay.specs.declared.fault.Refused.{Refused}
 use Rattle.journal_replay.specs.declared.fault.Why.{Why}
 use Rattle.journal_replay.specs.declared.fault.Why.TheVariants as why
-use Rattle.journal_replay.specs.Rebuilt.{HasReplayed, IsRebuilt, IsRefused, IsUnread}
-use Rattle.journal_replay.specs.Rebuilt.{IsUnreplayed, StopsAt}
+use Rattle.journal_replay.specs.Rebuilt.{IsRebuilt, IsUnread, IsUnreplayed, StopsAt}
 
 -- it can't be read on
 abbrev pub IsLeft : Place → ℕ → Why → Type 0
@@ -63,13 +61,24 @@ IsNoFounding g event conn left why.NotFounded = IsFounding event → ⊥
 IsNoFounding g event conn left (why.Unfounded fault) = FoundsNone g event conn left fault
 IsNoFounding g event conn left (why.Unreplayed cause) = ⊥
 
--- the founding happened, and is the only event so far; or there is no office
-abbrev pub HasBegun : {S : Type 0} → Ghosts S → (bytes : Option (List ℕ)) → (conn : Held S)
-    → Place → Result (Held S) (Refused × Held S) → Type 0
-HasBegun g bytes conn here (Ok office) =
-    (es : List (ℕ × Event)) × HasReplayed bytes (meaning_over g) here es office × (length es ≡ 1)
-HasBegun g bytes conn here (Err refusal) =
-    IsRefused bytes g conn refusal.1 refusal.0.line refusal.0.why
+-- an event more was taken, which can be counted, or none
+abbrev pub CountsNext : (old new : ℕ) → Option Placed → Type 0
+CountsNext old new None = new ≡ old
+CountsNext old new (Some placed) = (new ≡ old + 1) × (old < 2 ^ 64 - 1)
+
+module _ {X : Type 0} (m : Meaning X) (old new : X) (placed : ℕ × Event) where
+  -- the event doesn't happen again, for a reason of its own line
+  abbrev pub IsKeptOut : ℕ → Why → Type 0
+  IsKeptOut line (why.Unread fault) = ⊥
+  IsKeptOut line why.NotFounded = ⊥
+  IsKeptOut line (why.Unfounded fault) = ⊥
+  IsKeptOut line (why.Unreplayed cause) =
+      (line ≡ placed.0) × IsReplayed m old new placed.1 (Err cause)
+
+  -- the event happens again, or it doesn't
+  abbrev pub Happens : Result ⊤ Refused → Type 0
+  Happens (Ok done) = HasHappened m old new placed.1
+  Happens (Err refused) = IsKeptOut refused.line refused.why
 
 module _ {X : Type 0} (m : Meaning X) (bytes : Option (List ℕ)) (left : X) where
   -- the events behind the first don't all happen again
@@ -79,14 +88,7 @@ module _ {X : Type 0} (m : Meaning X) (bytes : Option (List ℕ)) (left : X) whe
   IsLeftBehind line (why.Unfounded fault) = ⊥
   IsLeftBehind line (why.Unreplayed cause) = IsUnreplayed bytes m left line cause
 
-  -- the next one does, so that there is one event more; or there is none; or it doesn't
-  abbrev pub HasGoneOn : Place → List (ℕ × Event) → Result Bool Refused → Type 0
-  HasGoneOn here es (Ok true) =
-      (all : List (ℕ × Event)) × HasReplayed bytes m here all left × (length all ≡ length es + 1)
-  HasGoneOn here es (Ok false) = IsRebuilt bytes m (length es) left
-  HasGoneOn here es (Err refused) = IsLeftBehind refused.line refused.why
-
   -- they all do, and with the first they are so many; or not
-  abbrev pub Continues : Result ℕ Refused → Type 0
-  Continues (Ok count) = IsRebuilt bytes m count left
-  Continues (Err refused) = IsLeftBehind refused.line refused.why
+  abbrev pub Continues : ℕ → Result ⊤ Refused → Type 0
+  Continues count (Ok done) = IsRebuilt bytes m count left
+  Continues count (Err refused) = IsLeftBehind refused.line refused.why

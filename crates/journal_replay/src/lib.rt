@@ -3,6 +3,8 @@
 
 mod fault;
 mod office;
+mod replay;
 
 pub use fault::{Refused, Why};
 pub use office::rebuild;
+pub use replay::Replay;

@@ -1,37 +1,36 @@
-use Rattle.std.proofs.Common.{sym, subst}
-use Rattle.journal_replay.specs.Rebuilt.{IsRefused}
+use Rattle.std.proofs.Common.{◌∙◌, ◌∷◌, [], ℕ, sym, subst}
+use Rattle.office_desk.specs.Meant.{meaning_over}
+use Rattle.journal_lines.specs.Told.{placed_meant}
+use Rattle.journal_replay.specs.Rebuilt.{IsRebuilt, IsRefused}
 use Rattle.journal_replay.proofs.Refusals.{none_behind}
 use Rattle.journal_replay.proofs.Unlawful.{refutes}
 use Rattle.journal_replay.proofs.office.rebuild.Goals as goal
 
-pub returns-in-Err-clause-rebuilt : goal.returns-in-Err-clause-rebuilt
-returns-in-Err-clause-rebuilt g c = c.in-Err.ensures.begun (g.R.Read.remaining c.args.journal) c.new-events.ensures.place
-
 pub returns-in-Err-clause-unlawful : goal.returns-in-Err-clause-unlawful
 returns-in-Err-clause-unlawful g c =
-    let bytes = g.R.Read.remaining c.args.journal in
     let refusal = c.in-Err.refusal in
-    refutes g.S.Store bytes c.args.conn refusal.1 refusal.0.line refusal.0.why (c.in-Err.ensures.begun bytes c.new-events.ensures.place)
+    refutes g.S.Store (g.R.Read.remaining c.args.journal) c.args.conn refusal.1 refusal.0.line refusal.0.why c.in-Err.ensures.refused
 
-pub returns-in-Ok-replay_rest-clause-rebuilt : goal.returns-in-Ok-replay_rest-clause-rebuilt
-returns-in-Ok-replay_rest-clause-rebuilt g c =
+pub returns-in-Ok-replayed-clause-rebuilt : goal.returns-in-Ok-replayed-clause-rebuilt
+returns-in-Ok-replayed-clause-rebuilt g c =
     let bytes = g.R.Read.remaining c.args.journal in
-    let begun = c.in-Ok.ensures.begun bytes c.new-events.ensures.place in
-    c.in-Ok-replay_rest.ensures bytes begun.0 begun.1 begun.2
+    let rebuilt = c.in-Ok-replayed.ensures bytes (placed_meant c.in-Ok.begun.1 ∷ []) c.in-Ok.ensures.begun (sym c.in-Ok.ensures.count) in
+    subst (λ (n : ℕ). IsRebuilt bytes (meaning_over g.S.Store) n c.into_office-office.result) (sym c.count-count.ensures)
+    (subst (λ office. IsRebuilt bytes (meaning_over g.S.Store) c.replay_rest-replayed.new.replay.count office) (sym c.into_office-office.ensures) rebuilt)
 
-pub returns-clause-rebuilt : goal.returns-clause-rebuilt
-returns-clause-rebuilt g c =
+pub returns-in-Err-replayed-clause-rebuilt : goal.returns-in-Err-replayed-clause-rebuilt
+returns-in-Err-replayed-clause-rebuilt g c =
     let bytes = g.R.Read.remaining c.args.journal in
-    let refused = c.in-Err-replay_rest.refused in
-    let begun = c.in-Ok.ensures.begun bytes c.new-events.ensures.place in
-    subst (λ left. IsRefused bytes g.S.Store c.args.conn left refused.line refused.why) (sym c.into_connection.ensures.connection)
-    (none_behind g.S.Store bytes c.args.conn c.replay_rest.new.office refused.line refused.why (c.in-Err-replay_rest.ensures bytes begun.0 begun.1 begun.2))
+    let refused = c.in-Err-replayed.refused in
+    let behind = c.in-Err-replayed.ensures bytes (placed_meant c.in-Ok.begun.1 ∷ []) c.in-Ok.ensures.begun (sym c.in-Ok.ensures.count) in
+    subst (λ left. IsRefused bytes g.S.Store c.args.conn left refused.line refused.why) (sym (c.into_connection.ensures.connection ∙ c.into_office-office.ensures))
+    (none_behind g.S.Store bytes c.args.conn c.replay_rest-replayed.new.replay.office refused.line refused.why behind)
 
-pub returns-clause-unlawful : goal.returns-clause-unlawful
-returns-clause-unlawful g c =
+pub returns-in-Err-replayed-clause-unlawful : goal.returns-in-Err-replayed-clause-unlawful
+returns-in-Err-replayed-clause-unlawful g c =
     let bytes = g.R.Read.remaining c.args.journal in
-    let refused = c.in-Err-replay_rest.refused in
-    let begun = c.in-Ok.ensures.begun bytes c.new-events.ensures.place in
+    let refused = c.in-Err-replayed.refused in
+    let behind = c.in-Err-replayed.ensures bytes (placed_meant c.in-Ok.begun.1 ∷ []) c.in-Ok.ensures.begun (sym c.in-Ok.ensures.count) in
     refutes g.S.Store bytes c.args.conn c.into_connection.result refused.line refused.why
-    (subst (λ left. IsRefused bytes g.S.Store c.args.conn left refused.line refused.why) (sym c.into_connection.ensures.connection)
-    (none_behind g.S.Store bytes c.args.conn c.replay_rest.new.office refused.line refused.why (c.in-Err-replay_rest.ensures bytes begun.0 begun.1 begun.2)))
+    (subst (λ left. IsRefused bytes g.S.Store c.args.conn left refused.line refused.why) (sym (c.into_connection.ensures.connection ∙ c.into_office-office.ensures))
+    (none_behind g.S.Store bytes c.args.conn c.replay_rest-replayed.new.replay.office refused.line refused.why behind))

@@ -1,41 +1,66 @@
-use Rattle.std.proofs.Common.{◌∙◌, ◌+◌, ℕ, ap, subst}
+use Rattle.std.proofs.Common.{arith, ◌≡◌, ◌∙◌, ◌+◌, ◌++◌, ◌∷◌, [], ℕ, List, Some, ap, sym, subst, length-append}
+use Rattle.office_policy.specs.History.{Event}
 use Rattle.office_desk.specs.Meant.{meaning_over}
-use Rattle.journal_lines.specs.Told.{place}
-use Rattle.journal_lines.specs.declared.events.Unreadable.TheVariants.{Read}
-use Rattle.journal_lines.proofs.ToldFacts.{input_stops}
-use Rattle.journal_replay.specs.Rebuilt.{IsRebuilt}
-use Rattle.journal_replay.proofs.Refusals.{left_behind, left_by, left_here}
+use Rattle.journal_lines.specs.Told.{place, placed_meant}
+use Rattle.journal_replay.specs.Rebuilt.{HasReplayed}
+use Rattle.journal_replay.specs.Steps.{CountsNext}
+use Rattle.journal_replay.proofs.Refusals.{kept_out, left_behind, left_by}
+use Rattle.journal_replay.proofs.Replays.{ended, more}
 use Rattle.journal_replay.proofs.office.replay_rest.Goals as goal
 
-pub loop-count-init : goal.loop-count-init
-loop-count-init g c = record { fault = c.requires; replayed = λ bytes es all one. (es, all, one) }
+pub events-init : goal.events-init
+events-init g c = record { fault = c.requires; replayed = λ bytes es all one. (es, all, one) }
 
-pub returns-in_err-replay_next : goal.returns-in_err-replay_next
-returns-in_err-replay_next g c = λ bytes es all one.
-    let before = c.loop-count.invariant.replayed bytes es all one in
-    left_by (meaning_over g.S.Store) bytes c.replay_next.new.office c.from_residual.result c.in_err-replay_next.field-0.0 c.from_residual.ensures.1
-    (c.in_err-replay_next.ensures.replayed bytes before.0 before.1)
+pub returns-in_err-placed : goal.returns-in_err-placed
+returns-in_err-placed g c = λ bytes es all one.
+    let m = meaning_over g.S.Store in
+    let before = c.events.invariant.replayed bytes es all one in
+    let refused = c.in_err-placed.field-0.0 in
+    left_by m bytes _ _ c.from_residual.result refused c.from_residual.ensures.1
+    (left_behind m bytes (place g.R.Read.remaining c.events.replay.events) before.0 c.events.replay.office _ refused.line refused.why before.1
+    (c.in_err-placed.ensures.next c.events.invariant.fault))
 
-pub returns-then-not-branch : goal.returns-then-not-branch
-returns-then-not-branch g c = λ bytes es all one.
-    let before = c.loop-count.invariant.replayed bytes es all one in
-    let rebuilt = rw c.if-not-branch.true at (c.in_ok-replay_next.ensures.replayed bytes before.0 before.1) in
-    subst (λ (count : ℕ). IsRebuilt bytes (meaning_over g.S.Store) count c.replay_next.new.office) before.2 rebuilt
+pub returns-in_err-happen : goal.returns-in_err-happen
+returns-in_err-happen g c = λ bytes es all one.
+    let m = meaning_over g.S.Store in
+    let here = place g.R.Read.remaining c.events.replay.events in
+    let before = c.events.invariant.replayed bytes es all one in
+    let refused = c.in_err-happen.field-0.0 in
+    left_by m bytes _ _ c.from_residual-in_err-happen.result refused c.from_residual-in_err-happen.ensures.1
+    (kept_out m bytes here (place g.R.Read.remaining c.next.new.self.events) before.0 (placed_meant c.in-Some.placed) c.next.new.self.office _ refused.line refused.why
+    (subst (λ office. HasReplayed bytes m here before.0 office) (sym c.in_ok-placed.ensures.office) before.1)
+    (rw c.in-Some.is at (c.in_ok-placed.ensures.next c.events.invariant.fault)) c.in_err-happen.ensures.happened)
 
-pub loop-count-preserved : goal.loop-count-preserved
-loop-count-preserved g c = record {
-  fault = c.in_ok-replay_next.ensures.fault;
+pub events-preserved : goal.events-preserved
+events-preserved g c = record {
+  fault = ap (λ e. e.fault) c.in_ok-happen.ensures.events ∙ c.in_ok-placed.ensures.fault;
   replayed = λ bytes es all one.
-      let before = c.loop-count.invariant.replayed bytes es all one in
-      let after = rw c.if-not-branch.false at (c.in_ok-replay_next.ensures.replayed bytes before.0 before.1) in
-      (after.0, after.1, after.2 ∙ ap (λ (n : ℕ). n + 1) before.2);
+      let m = meaning_over g.S.Store in
+      let here = place g.R.Read.remaining c.events.replay.events in
+      let behind = place g.R.Read.remaining c.next.new.self.events in
+      let before = c.events.invariant.replayed bytes es all one in
+      let placed = placed_meant c.in-Some.placed in
+      let was = subst (λ office. HasReplayed bytes m here before.0 office) (sym c.in_ok-placed.ensures.office) before.1 in
+      let counted : CountsNext c.events.replay.count c.next.new.self.count (Some c.in-Some.placed) = rw c.in-Some.is at c.in_ok-placed.ensures.count in (
+        before.0 ++ placed ∷ [],
+        subst (λ e. HasReplayed bytes m (place g.R.Read.remaining e) (before.0 ++ placed ∷ []) c.happen.new.self.office) (sym c.in_ok-happen.ensures.events)
+            (more m bytes here behind before.0 placed.0 placed.1 c.next.new.self.office c.happen.new.self.office was
+            (rw c.in-Some.is at (c.in_ok-placed.ensures.next c.events.invariant.fault)) c.in_ok-happen.ensures.happened),
+        length-append before.0 (placed ∷ []) ∙ ap (λ (n : ℕ). n + 1) before.2 ∙ sym counted.0 ∙ sym c.in_ok-happen.ensures.count,
+      );
 }
+
+pub events-smaller : goal.events-smaller
+events-smaller g c =
+    let counted : CountsNext c.events.replay.count c.next.new.self.count (Some c.in-Some.placed) = rw c.in-Some.is at c.in_ok-placed.ensures.count in
+    omega (arith, counted.0, counted.1, c.in_ok-happen.ensures.count)
 
 pub returns : goal.returns
 returns g c = λ bytes es all one.
     let m = meaning_over g.S.Store in
-    let here = place g.R.Read.remaining c.loop-count.events in
-    let before = c.loop-count.invariant.replayed bytes es all one in
-    let refused = c.unread.result in
-    left_behind m bytes here before.0 c.loop-count.office c.loop-count.office refused.line refused.why before.1
-    (left_here here c.loop-count.events.taken Read refused c.unread.ensures (input_stops _ _ _))
+    let here = place g.R.Read.remaining c.events.replay.events in
+    let before = c.events.invariant.replayed bytes es all one in
+    let counted : c.next.new.self.count ≡ c.events.replay.count = rw c.in_default.is at c.in_ok-placed.ensures.count in
+    ended m bytes here before.0 c.next.new.self.count c.next.new.self.office
+    (subst (λ office. HasReplayed bytes m here before.0 office) (sym c.in_ok-placed.ensures.office) before.1)
+    (rw c.in_default.is at (c.in_ok-placed.ensures.next c.events.invariant.fault)) (counted ∙ sym before.2)

@@ -1,0 +1,42 @@
+-- The texts of why no office is built anew from a journal.
+use Rattle.std.specs.Prelude.{ℕ, List, [], ◌++◌, ◌==◌, if◌then◌else◌, codes, decimal}
+use Rattle.review_policy.specs.WordTables.{fault_word, rule_word}
+use Rattle.office_store.specs.Faults.{founding_fault_word}
+use Rattle.office_desk.specs.declared.replay.Unreplayed.{Unreplayed}
+use Rattle.office_desk.specs.declared.replay.Unreplayed.TheVariants as causes
+use Rattle.journal_lines.specs.declared.events.Unreadable.{Unreadable}
+use Rattle.journal_lines.specs.declared.events.Unreadable.TheVariants as unreadable
+use Rattle.journal_replay.specs.declared.fault.Refused.{Refused}
+use Rattle.journal_replay.specs.declared.fault.Why.{Why}
+use Rattle.journal_replay.specs.declared.fault.Why.TheVariants as why
+
+-- why a line can't be read
+abbrev pub unreadable_word : Unreadable → List ℕ
+unreadable_word unreadable.NotALine = codes "not-a-line"
+unreadable_word unreadable.NothingToStrike = codes "nothing-to-strike"
+unreadable_word unreadable.TornLine = codes "torn-line"
+unreadable_word unreadable.Read = codes "read"
+unreadable_word unreadable.NoMemory = codes "memory"
+
+-- why an event doesn't happen again: of a rule that refuses it the number and the word
+abbrev pub unreplayed_text : Unreplayed → List ℕ
+unreplayed_text (causes.Denied denial) =
+    codes "rule " ++ decimal denial.number ++ codes " " ++ rule_word denial.rule
+unreplayed_text causes.Founding = codes "founding"
+unreplayed_text causes.OtherText = codes "other-text"
+unreplayed_text (causes.Fault fault) = fault_word fault
+
+-- why no office is built anew
+abbrev pub why_text : Why → List ℕ
+why_text (why.Unread fault) = unreadable_word fault
+why_text why.NotFounded = codes "not-founded"
+why_text (why.Unfounded fault) = founding_fault_word fault
+why_text (why.Unreplayed cause) = unreplayed_text cause
+
+-- by which line, where it is one's fault
+abbrev pub line_text : ℕ → List ℕ
+line_text line = if line == 0 then [] else codes "line " ++ decimal line ++ codes ": "
+
+-- where and why
+abbrev pub refused_text : Refused → List ℕ
+refused_text refused = line_text refused.line ++ why_text refused.why
