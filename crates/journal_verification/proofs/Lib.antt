@@ -1,0 +1,13 @@
+mod Again
+mod Apart
+mod Columns
+mod Comparing
+mod Differences
+mod Firsts
+mod Keys
+mod Looks
+mod Offices
+mod Queries
+mod Rising
+mod Telling
+mod Verifying

@@ -1,0 +1,30 @@
+-- The texts of differences.
+use Rattle.std.specs.Prelude.{ℕ, List, ◌++◌, codes, string_bytes}
+use Rattle.std.specs.Fmt.{decimal}
+use Rattle.journal_verification.specs.declared.difference.Difference.{Difference}
+use Rattle.journal_verification.specs.declared.difference.Difference.TheVariants as difference
+use Rattle.journal_verification.specs.declared.table.Table.{Table}
+use Rattle.journal_verification.specs.declared.table.Table.TheVariants as table
+
+abbrev pub table_name : Table → List ℕ
+table_name table.Office = codes "office"
+table_name table.Users = codes "users"
+table_name table.Revisions = codes "revisions"
+table_name table.Votes = codes "votes"
+table_name table.Baselines = codes "baselines"
+table_name table.Holds = codes "holds"
+
+abbrev pub difference_text : Difference → List ℕ
+difference_text difference.Schema = codes "schema"
+difference_text difference.Office = codes "office"
+difference_text (difference.User name) = codes "users " ++ string_bytes name
+difference_text (difference.Revision team profile number) =
+    codes "revisions " ++ string_bytes team ++ codes "/" ++ string_bytes profile ++ codes " "
+    ++ decimal number
+difference_text (difference.Vote team profile number voter) =
+    codes "votes " ++ string_bytes team ++ codes "/" ++ string_bytes profile ++ codes " "
+    ++ decimal number ++ codes " " ++ string_bytes voter
+difference_text (difference.Baseline team) = codes "baselines " ++ string_bytes team
+difference_text (difference.Hold team profile) =
+    codes "holds " ++ string_bytes team ++ codes "/" ++ string_bytes profile
+difference_text (difference.Row t) = table_name t

@@ -1,0 +1,10 @@
+pub mod Compared
+pub mod DifferenceTexts
+pub mod Different
+pub mod Differing
+pub mod Looked
+pub mod Named
+pub mod Same
+pub mod Schemas
+pub mod Texts
+pub mod Verified

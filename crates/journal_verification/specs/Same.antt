@@ -1,0 +1,87 @@
+-- When two databases have the same rows.
+use Rattle.std.specs.Prelude.{◌≡◌, ◌⊎◌, ℕ, Bool, true, false, List, [], Option, None, Some}
+use Rattle.sqlite.specs.Effect.{Database}
+use Rattle.sqlite.specs.Held.{Held, state}
+use Rattle.sqlite.specs.Order.{Row}
+use Rattle.sqlite.specs.State.{Shown}
+use Rattle.sqlite.specs.Store.{Ghosts}
+use Rattle.sqlite_trees.specs.View.{IsShaped}
+use Rattle.sqlite_trees.specs.declared.store.Shape.TheVariants.{Table as TableShape}
+use Rattle.journal_verification.specs.declared.difference.Difference.{Difference}
+use Rattle.journal_verification.specs.declared.difference.Difference.TheVariants as difference
+use Rattle.journal_verification.specs.declared.table.Table.{Table}
+use Rattle.journal_verification.specs.Differing.{IsFirstDiffering}
+use Rattle.journal_verification.specs.Named.{IsNamed}
+use Rattle.journal_verification.specs.Texts.{key_width, rowids_text, rows_text}
+
+-- a connection with this database answers the query by these rows
+pub record IsAnsweredBy {S : Type 0} (g : Ghosts S) (sql : List ℕ) (db : Database)
+    (rows : List Row) : Type 0 where
+  pub old : Held S
+  pub new : Held S
+  pub now : (state g old).now ≡ db
+  pub shown : Shown sql [] (state g old) (state g new) rows
+
+-- the rowids of a table rise
+pub record HaveRowids {S : Type 0} (g : Ghosts S) (table : Table) (db : Database) : Type 0 where
+  pub rowids : List Row
+  pub answered : IsAnsweredBy g (rowids_text table) db rowids
+  pub rising : IsShaped TableShape rowids
+
+-- they don't
+pub record HaveOtherRowids {S : Type 0} (g : Ghosts S) (table : Table)
+    (db : Database) : Type 0 where
+  pub rowids : List Row
+  pub answered : IsAnsweredBy g (rowids_text table) db rowids
+  pub fall : IsShaped TableShape rowids → ⊥
+
+-- whether they do
+abbrev pub TellsRowids : {S : Type 0} → Ghosts S → Table → Database → Bool → Type 0
+TellsRowids g table db true = HaveRowids g table db
+TellsRowids g table db false = HaveOtherRowids g table db
+
+-- that they don't is the difference of the table
+abbrev pub FaultsRowids : {S : Type 0} → Ghosts S → Table → Database → Option Difference → Type 0
+FaultsRowids g table db None = HaveRowids g table db
+FaultsRowids g table db (Some d) = (d ≡ difference.Row table) × HaveOtherRowids g table db
+
+module _ {S T : Type 0} (g : Ghosts S) (f : Ghosts T) where
+  -- both have the same rows in a table, and in the second their rowids rise
+  pub record HaveSame (table : Table) (first second : Database) : Type 0 where
+    pub rows : List Row
+    pub in_first : IsAnsweredBy g (rows_text table) first rows
+    pub in_second : IsAnsweredBy f (rows_text table) second rows
+    pub rowids : HaveRowids f table second
+
+  -- they have other rows there, of which the difference names one
+  pub record HaveOther (table : Table) (first second : Database) (d : Difference) : Type 0 where
+    pub left : List Row
+    pub right : List Row
+    pub in_first : IsAnsweredBy g (rows_text table) first left
+    pub in_second : IsAnsweredBy f (rows_text table) second right
+    pub row : Row
+    pub differs : IsFirstDiffering (key_width table) left right row
+    pub named : IsNamed table row d
+
+  -- the same rows, or one that differs
+  abbrev pub TellsRows : Table → Database → Database → Option Difference → Type 0
+  TellsRows table first second None =
+      (rows : List Row) × IsAnsweredBy g (rows_text table) first rows
+      × IsAnsweredBy f (rows_text table) second rows
+  TellsRows table first second (Some d) = HaveOther table first second d
+
+  -- the same table, or where it differs
+  abbrev pub TellsTable : Table → Database → Database → Option Difference → Type 0
+  TellsTable table first second None = HaveSame table first second
+  TellsTable table first second (Some d) =
+      HaveOther table first second d ⊎ FaultsRowids f table second (Some d)
+
+  -- so they do in each table
+  abbrev pub HaveSameTables : Database → Database → Type 0
+  HaveSameTables first second = (table : Table) → HaveSame table first second
+
+  -- each table is the same, or where one differs
+  abbrev pub TellsTables : Database → Database → Option Difference → Type 0
+  TellsTables first second None = HaveSameTables first second
+  TellsTables first second (Some d) =
+      (table : Table) × TellsTable table first second (Some d)

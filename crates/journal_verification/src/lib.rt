@@ -1,0 +1,14 @@
+//! Whether an office is the one of a journal.
+#![tactic(auto)]
+
+mod compare;
+mod difference;
+mod naming;
+mod rows;
+mod schema;
+mod table;
+mod verification;
+
+pub use difference::Difference;
+pub use table::Table;
+pub use verification::{Unverified, verify};

@@ -1,0 +1,63 @@
+//! Whether an office is the one of a journal.
+
+ghost use Rattle.std.specs.Prelude.{IfErr, IfOk};
+ghost use Rattle.sqlite.specs.Held.{state};
+ghost use Rattle.sqlite.specs.State.{HasCleanDisk};
+ghost use Rattle.office_store.specs.Shown.{IsIdle};
+ghost use Rattle.journal_verification.specs.Looked.{HasLooked};
+ghost use Rattle.journal_verification.specs.Verified.{IsUnverified, IsVerified};
+
+use crate::compare::compare;
+use crate::difference::Difference;
+use journal_replay::{Refused, rebuild};
+use office_tables::StoreFault;
+use sqlite::{Alter, Connection};
+use std::alloc::Global;
+use std::io::BufRead;
+
+/// Why an office isn't verified.
+#[derive(Debug, Drop)]
+pub enum Unverified {
+    /// No office is built anew from the journal.
+    Refused(Refused),
+    /// The office differs from the one of the journal.
+    Differs(Difference),
+    /// One of the two can't be read, or there is no memory.
+    Fault(StoreFault),
+}
+
+/// Whether an office is the one of a journal: built anew from it in memory and compared with it
+/// table by table, its tables are the same. The number of its events. Nothing of the office is
+/// changed.
+///
+/// # Errors
+///
+/// `Refused` with the first line by which no office is built anew, and why; `Differs` with the
+/// first row that one of the two has and the other hasn't, or has otherwise; else the fault.
+pub fn verify<T: Alter, R: BufRead + Drop>(
+    alloc: Global,
+    journal: R,
+    office: &mut Connection<T>,
+) -> Result<u64, Unverified>
+    requires { IsIdle (state T.Store office.old) }
+    ensures looked { HasLooked (state T.Store office.old) (state T.Store office.new) }
+    ensures verified { HasCleanDisk (state T.Store office.new) → IfOk result
+        (IsVerified (R.remaining journal) T.Store office.new) }
+    ensures unverified { HasCleanDisk (state T.Store office.new) → IfErr result
+        (IsUnverified (R.remaining journal) T.Store office.old) }
+{
+    let Ok(conn) = Connection::open_in_memory(alloc) else {
+        return Err(Unverified::Fault(StoreFault::NoMemory));
+    };
+    match rebuild(alloc, conn, journal) {
+        Ok((built, count)) => {
+            let mut built = built.into_connection();
+            match compare(&mut built, office) {
+                Ok(None) => Ok(count),
+                Ok(Some(difference)) => Err(Unverified::Differs(difference)),
+                Err(fault) => Err(Unverified::Fault(fault)),
+            }
+        }
+        Err((refused, _)) => Err(Unverified::Refused(refused)),
+    }
+}
