@@ -1,0 +1,5 @@
+pub mod Adding
+pub mod LineExamples
+pub mod Looks
+pub mod Searching
+pub mod Writing

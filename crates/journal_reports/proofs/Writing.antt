@@ -1,0 +1,250 @@
+-- The lines of events, written one after the other.
+use Rattle.std.proofs.Common.{◌≡◌, ◌∙◌, ◌<◌, inl, inr, ℕ, List, [], ◌∷◌, ◌++◌, length, take, Bool, true, false, Option, Some, None, Result, Ok, Err, IfSome, refl, sym, ap, subst, append_assoc, append-nil}
+use Rattle.std.specs.Prelude.{IsErrAnd, String, ⊤, if◌then◌else◌, string_bytes}
+use Rattle.std.specs.declared.alloc.Global.{Global}
+use Rattle.std.specs.Io.KnownBytes.{Appends}
+use Rattle.std.proofs.KnownBytes.{Appends-nil, Appends-trans}
+use Rattle.streams.specs.Steps.{AppendsPart}
+use Rattle.sqlite.specs.Held.{Held}
+use Rattle.sqlite.specs.Store.{Ghosts}
+use Rattle.review_policy.specs.declared.answer.Fault.{Fault}
+use Rattle.office_tables.specs.declared.row.RevisionRow.{RevisionRow}
+use Rattle.office_policy.specs.History.{Event, History, founded, enrolled, submitted, voted, issued, withdrawn, adopted, held, released}
+use Rattle.office_policy.specs.Handled.{Survives}
+use Rattle.office_policy.specs.Lawful.{IsFounding}
+use Rattle.office_policy.specs.Meaning.{Meaning}
+use Rattle.office_desk.specs.Looking.{HasLookedBack}
+use Rattle.office_desk.specs.Meant.{meaning_over}
+use Rattle.office_desk.specs.Replayed.{HasHappened}
+use Rattle.journal_lines.specs.Told.{GoesOn, Place, Tells, history_told, start}
+use Rattle.journal_lines.proofs.ToldFacts.{stays}
+use Rattle.journal_replay.specs.declared.fault.Refused.{Refused}
+use Rattle.journal_replay.specs.declared.fault.Why.{Why}
+use Rattle.journal_replay.specs.declared.fault.Why.TheVariants as halt
+use Rattle.journal_replay.specs.Rebuilt.{HasReplayed, IsRefused}
+use Rattle.journal_replay.specs.Steps.{IsKeptOut, IsLeft}
+use Rattle.journal_replay.proofs.Replays.{more, told_on}
+use Rattle.journal_reports.specs.declared.fault.Unwritten.{Unwritten}
+use Rattle.journal_reports.specs.declared.fault.Unwritten.TheVariants as why
+use Rattle.journal_reports.specs.History.{HasWritten, IsHalted, IsHaltedBy, IsUnwritten, lines_after, lines_told, shown_of}
+use Rattle.journal_reports.specs.Lines.{line_of, looked_up, text_of}
+use Rattle.journal_reports.specs.Passing.{Asked, passes}
+use Rattle.journal_reports.specs.Writing.{HasLine, HasLookedUp, HasNoLine, IsStopped, LooksUp, MakesLine, WritesAll, WritesFirst, WritesNext, WritesPart, WritesText}
+use Rattle.journal_reports.proofs.Looks.{looked_on}
+
+abbrev Line : Type 0
+Line = ℕ × Event
+
+-- ---- definitions
+
+-- the line of one event more
+lines_more : (asked : Asked) (h : History) (es : List (ℕ × Event)) (placed : ℕ × Event)
+    → lines_after asked h (es ++ placed ∷ []) ≡ lines_after asked h es ++ shown_of asked (history_told es ++ h) placed
+lines_more asked h [] placed = append-nil (shown_of asked h placed)
+lines_more asked h (q ∷ es) placed =
+    let onto : history_told es ++ (q.1 ∷ h) ≡ history_told (q ∷ es) ++ h =
+    sym (append_assoc (history_told es) (q.1 ∷ []) h) ∙ ap (λ (l : List Event). l ++ h) (sym (told_on (q ∷ []) es)) in
+    ap (λ t. shown_of asked h q ++ t) (lines_more asked (q.1 ∷ h) es placed ∙ ap (λ (l : List Event). lines_after asked (q.1 ∷ h) es ++ shown_of asked l placed) onto)
+    ∙ sym (append_assoc (shown_of asked h q) (lines_after asked (q.1 ∷ h) es) (shown_of asked (history_told (q ∷ es) ++ h) placed))
+
+pub told_lines : (asked : Asked) (es : List (ℕ × Event)) (placed : ℕ × Event) → lines_told asked (es ++ placed ∷ []) ≡ lines_told asked es ++ shown_of asked (history_told es) placed
+told_lines asked es placed =
+    lines_more asked [] es placed ∙ ap (λ (l : List Event). lines_told asked es ++ shown_of asked l placed) (append-nil (history_told es))
+
+-- a founding looks nothing up
+pub founding_alone : (e : Event) (h : History) → IsFounding e → looked_up e h ≡ None
+founding_alone (founded name team digest listed) h is = refl
+founding_alone (enrolled caller name team roles digest) h is = absurd is
+founding_alone (submitted caller q text) h is = absurd is
+founding_alone (voted caller q k digest approves) h is = absurd is
+founding_alone (issued caller q k) h is = absurd is
+founding_alone (withdrawn caller q k) h is = absurd is
+founding_alone (adopted caller q k) h is = absurd is
+founding_alone (held caller q) h is = absurd is
+founding_alone (released caller q) h is = absurd is
+
+pub not_shown : (asked : Asked) (h : History) (line : ℕ) (e : Event) (text : List ℕ) → passes asked e ≡ false → text ≡ [] → text ≡ shown_of asked h (line, e)
+not_shown asked h line e text not_asked empty = empty ∙ ap (λ b. if b then line_of h line e else []) (sym not_asked)
+
+pub is_shown : (asked : Asked) (h : History) (line : ℕ) (e : Event) (found : Option RevisionRow) (text : List ℕ) → passes asked e ≡ true → text ≡ text_of line e found → found ≡ looked_up e h
+    → text ≡ shown_of asked h (line, e)
+is_shown asked h line e found text asked_for is looked =
+    is ∙ ap (text_of line e) looked ∙ ap (λ b. if b then line_of h line e else []) (sym asked_for)
+
+module _ {X : Type 0} (m : Meaning X) (bytes : Option (List ℕ)) where
+  -- ---- one event
+
+  module _ (here : Place) (es : List (ℕ × Event)) (old new : X) (before : HasReplayed bytes m here es old) where
+    pub looked_back : (e : Event) (look : History → Option RevisionRow) (r : Result (Option RevisionRow) Fault) → HasLookedBack m old new look r → ((h : History) → look h ≡ looked_up e h)
+        → LooksUp bytes m here es old new e r
+    looked_back e look (Ok found) looked same = record {
+      clean = looked.leaves.survives.clean;
+      replayed = looked_on m bytes here es old new _ found before looked;
+      row = λ clean.
+          looked.found (history_told es) (before.stands (looked.leaves.survives.clean clean)).is_of clean ∙ same (history_told es);
+    }
+    looked_back e look (Err fault) looked same = record {
+      clean = looked.leaves.survives.clean;
+      met = λ clean. looked.cause (history_told es) (before.stands (looked.leaves.survives.clean clean)).is_of clean;
+    }
+
+  pub not_looked_up : (here : Place) (es : List (ℕ × Event)) (office : X) (e : Event) → HasReplayed bytes m here es office → ((h : History) → None ≡ looked_up e h)
+      → HasLookedUp bytes m here es office office e None
+  not_looked_up here es office e before none = record { clean = λ clean. clean; replayed = before; row = λ clean. none (history_told es) }
+
+  pub no_line : (here : Place) (es : List (ℕ × Event)) (office : X) (asked : Asked) (placed : ℕ × Event) (text : List ℕ) → HasReplayed bytes m here es office → passes asked placed.1 ≡ false → text ≡ []
+      → HasLine bytes m here es office office asked placed text
+  no_line here es office asked placed text before not_asked empty = record {
+    clean = λ clean. clean;
+    replayed = before;
+    line = λ clean. not_shown asked (history_told es) placed.0 placed.1 text not_asked empty;
+  }
+
+  pub a_line : (here : Place) (es : List (ℕ × Event)) (old new : X) (asked : Asked) (placed : ℕ × Event) (found : Option RevisionRow) (text : List ℕ)
+      → HasLookedUp bytes m here es old new placed.1 found → passes asked placed.1 ≡ true → text ≡ text_of placed.0 placed.1 found → HasLine bytes m here es old new asked placed text
+  a_line here es old new asked placed found text looked asked_for is = record {
+    clean = looked.clean;
+    replayed = looked.replayed;
+    line = λ clean. is_shown asked (history_told es) placed.0 placed.1 found text asked_for is (looked.row clean);
+  }
+
+  -- ---- one event more
+
+  module _ (asked : Asked) (from out : Option (List ℕ)) where
+    -- why it doesn't happen again
+    halted_by : (here behind : Place) (office left : X) (placed : ℕ × Event) (line : ℕ) (w : Why) → GoesOn here behind (placed ∷ []) → IsKeptOut m office left placed line w
+        → IsHaltedBy bytes asked from out m left here office line w
+    halted_by here behind office left placed line (halt.Unread fault) told out = absurd out
+    halted_by here behind office left placed line halt.NotFounded told out = absurd out
+    halted_by here behind office left placed line (halt.Unfounded fault) told out = absurd out
+    halted_by here behind office left placed line (halt.Unreplayed cause) told out =
+        (placed.1, behind, subst (λ (n : ℕ). GoesOn here behind ((n, placed.1) ∷ [])) (sym out.0) told, out.1)
+
+    read_on : (here : Place) (office left : X) (line : ℕ) (w : Why) → IsLeft here line w → IsHaltedBy bytes asked from out m left here office line w
+    read_on here office left line (halt.Unread fault) at = at
+    read_on here office left line halt.NotFounded at = absurd at
+    read_on here office left line (halt.Unfounded fault) at = absurd at
+    read_on here office left line (halt.Unreplayed cause) at = absurd at
+
+    module _ (here behind : Place) (es : List (ℕ × Event)) (old : X) (placed : ℕ × Event) (before : HasWritten bytes asked from out m old here es old) (told : GoesOn here behind (placed ∷ [])) where
+      -- there is no line of it
+      pub no_more : (new : X) (reason : Unwritten) → HasNoLine bytes m here es old new placed reason → IsStopped bytes m asked from out new reason
+      no_more new (why.Refused refused) none = absurd none
+      no_more new (why.Unseen line fault) none = record {
+        here = here;
+        before = es;
+        office = old;
+        written = record { replayed = before.replayed; written = λ clean. before.written (none.1.clean clean) };
+        event = placed.1;
+        behind = behind;
+        told = subst (λ (n : ℕ). GoesOn here behind ((n, placed.1) ∷ [])) (sym none.0) told;
+        met = none.1.met;
+      }
+      no_more new why.Write none = absurd none
+      no_more new why.NoMemory none = record { here = here; before = es; told = before.replayed.told; written = λ clean. before.written (none clean) }
+
+      module _ (seen new : X) (text : List ℕ) (line : HasLine bytes m here es old seen asked placed text) (survives : Survives m seen new) where
+        -- it doesn't happen again
+        pub kept_out : (refused : Refused) → IsKeptOut m seen new placed refused.line refused.why → IsStopped bytes m asked from out new (why.Refused refused)
+        kept_out refused out = record {
+          here = here;
+          before = es;
+          office = seen;
+          written = record { replayed = line.replayed; written = λ clean. before.written (line.clean (survives.clean clean)) };
+          halted = halted_by here behind seen new placed refused.line refused.why told out;
+        }
+
+        -- it does, and its line is written
+        pub written_next : (end : Option (List ℕ)) (result : Result ⊤ Unwritten) → HasHappened m seen new placed.1 → WritesText out end text result
+            → WritesNext bytes m asked from end new behind (es ++ placed ∷ []) result
+        written_next end (Ok done) happened wrote = record {
+          replayed = more m bytes here behind es placed.0 placed.1 seen new line.replayed told happened;
+          written = λ clean.
+              let was = survives.clean clean in
+              subst (Appends from end) (sym (told_lines asked es placed))
+              (Appends-trans from out end (lines_told asked es) (shown_of asked (history_told es) placed) (before.written (line.clean was)) (subst (Appends out end) (line.line was) wrote));
+        }
+        written_next end (Err reason) happened wrote = subst (IsStopped bytes m asked from end new) (sym wrote.0) (record {
+          before = es;
+          placed = placed;
+          behind = behind;
+          replayed = more m bytes here behind es placed.0 placed.1 seen new line.replayed told happened;
+          written = λ clean.
+              let was = survives.clean clean in
+              let part = wrote.1 in
+              let same = line.line was in (
+                part.0,
+                subst (λ (t : List ℕ). part.0 < length t) same part.1,
+                Appends-trans from out end (lines_told asked es) (take part.0 (shown_of asked (history_told es) placed)) (before.written (line.clean was))
+                    (subst (λ (t : List ℕ). Appends out end (take part.0 t)) same part.2),
+              );
+        })
+
+    -- ---- all of them
+
+    -- a `?` that leaves with this reason
+    pub left_in : (left : X) (result : Result ⊤ Unwritten) (reason : Unwritten) → IsErrAnd result (λ e. e ≡ reason) → IsStopped bytes m asked from out left reason
+        → WritesAll bytes m asked from out left result
+    left_in left (Ok done) reason is stopped = absurd is
+    left_in left (Err e) reason is stopped = subst (IsStopped bytes m asked from out left) (sym is) stopped
+
+    -- the journal can't be read on
+    pub cut_off : (here : Place) (es : List (ℕ × Event)) (old left : X) (refused : Refused) → left ≡ old → HasWritten bytes asked from out m old here es old → IsLeft here refused.line refused.why
+        → IsStopped bytes m asked from out left (why.Refused refused)
+    cut_off here es old left refused same before at = record {
+      here = here;
+      before = es;
+      office = old;
+      written = record { replayed = before.replayed; written = λ clean. before.written (subst (λ (x : X). m.is_clean x) same clean) };
+      halted = read_on here old left refused.line refused.why at;
+    }
+
+    -- or it is at its end
+    pub whole : (here : Place) (es : List (ℕ × Event)) (old left : X) → left ≡ old → HasWritten bytes asked from out m old here es old → Tells here [] → WritesAll bytes m asked from out left (Ok tt)
+    whole here es old left same before end = record {
+      events = es;
+      told = subst (Tells (start bytes)) (append-nil es) (before.replayed.told.tells [] end);
+      lawful = λ clean. before.replayed.lawful (subst (λ (x : X). m.is_clean x) same clean);
+      written = λ clean. before.written (subst (λ (x : X). m.is_clean x) same clean);
+    }
+
+    -- the office is the same
+    pub still_written : (here : Place) (es : List (ℕ × Event)) (old new : X) → new ≡ old → HasWritten bytes asked from out m old here es old → HasWritten bytes asked from out m new here es new
+    still_written here es old new same = subst (λ (x : X). HasWritten bytes asked from out m x here es x) (sym same)
+
+  -- ---- the first one
+
+  module _ (asked : Asked) (old new : Option (List ℕ)) (here : Place) (placed : ℕ × Event) (office : X) (before : HasReplayed bytes m here (placed ∷ []) office) where
+    first_lines : lines_told asked (placed ∷ []) ≡ shown_of asked [] placed
+    first_lines = append-nil (shown_of asked [] placed)
+
+    pub first_written : Appends old new (shown_of asked [] placed) → HasWritten bytes asked old new m office here (placed ∷ []) office
+    first_written wrote = record { replayed = before; written = λ clean. subst (Appends old new) (sym first_lines) wrote }
+
+    pub first_stopped : (reason : Unwritten) → WritesPart old new (shown_of asked [] placed) reason → IsStopped bytes m asked old new office reason
+    first_stopped (why.Refused refused) part = absurd part
+    first_stopped (why.Unseen line fault) part = absurd part
+    first_stopped why.Write part = record { before = []; placed = placed; behind = here; replayed = before; written = λ clean. part }
+    first_stopped why.NoMemory part = record {
+      here = start bytes;
+      before = [];
+      told = stays (start bytes);
+      written = λ clean. subst (λ (o : Option (List ℕ)). Appends old o []) (sym part) (Appends-nil old);
+    }
+
+-- a text that is written, or not, is the first line
+pub first_text : (old new : Option (List ℕ)) (text line : List ℕ) (result : Result ⊤ Unwritten) → text ≡ line → WritesText old new text result → WritesFirst old new line result
+first_text old new text line (Ok done) same wrote = subst (Appends old new) same wrote
+first_text old new text line (Err reason) same wrote =
+    subst (WritesPart old new line) (sym wrote.0) (subst (AppendsPart old new) same wrote.1)
+
+pub first_none : (old new : Option (List ℕ)) (line : List ℕ) (reason : Unwritten) → reason ≡ why.NoMemory → new ≡ old → WritesPart old new line reason
+first_none old new line reason memory same = subst (WritesPart old new line) (sym memory) same
+
+-- why not all lines were written, from the connection on
+pub unwritten : {S : Type 0} (g : Ghosts S) (bytes : Option (List ℕ)) (asked : Asked) (old new : Option (List ℕ)) (conn left : Held S) (reason : Unwritten)
+    → IsStopped bytes (meaning_over g) asked old new left reason → IsUnwritten bytes asked old new g conn left reason
+unwritten g bytes asked old new conn left (why.Refused refused) stopped = inr stopped
+unwritten g bytes asked old new conn left (why.Unseen line fault) stopped = stopped
+unwritten g bytes asked old new conn left why.Write stopped = stopped
+unwritten g bytes asked old new conn left why.NoMemory stopped = stopped

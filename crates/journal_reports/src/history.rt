@@ -1,0 +1,242 @@
+//! The history that people read of a journal.
+
+ghost use Rattle.std.specs.Prelude.{◌≡◌, ◌∷◌, ◌++◌, [], ℕ, List, Option, None, IfErr, IfOk};
+ghost use Rattle.std.specs.Prelude.{string_bytes};
+ghost use Rattle.sqlite.specs.Held.{state};
+ghost use Rattle.office_store.specs.Shown.{IsIdle};
+ghost use Rattle.office_policy.specs.Happened.{event_meant};
+ghost use Rattle.office_policy.specs.History.{Event as TheEvent};
+ghost use Rattle.office_policy.specs.Lawful.{IsFounding};
+ghost use Rattle.office_desk.specs.Meant.{meaning_over};
+ghost use Rattle.journal_lines.specs.Told.{GoesOn, Place, place, placed_meant};
+ghost use Rattle.journal_replay.specs.Rebuilt.{HasReplayed};
+ghost use Rattle.journal_reports.specs.History.{HasWritten, IsUnwritten, IsWritten, shown_of};
+ghost use Rattle.journal_reports.specs.Writing.{LooksUp, MakesLine, WritesAll, WritesFirst};
+ghost use Rattle.journal_reports.specs.Writing.{WritesNext, WritesText};
+
+use crate::fault::Unwritten;
+use crate::filter::Filter;
+use crate::line::text;
+use journal_lines::Placed;
+use journal_replay::Replay;
+use office_desk::Office;
+use office_policy::Event;
+use office_tables::RevisionRow;
+use review_policy::Fault;
+use sqlite::{Alter, Connection};
+use std::alloc::Global;
+use std::io::{BufRead, Write};
+use streams::{Counted, write_whole};
+
+// The revision that the line of an event looks up, where it does.
+fn look_up<S: Alter>(
+    alloc: Global,
+    office: &mut Office<S>,
+    event: &Event,
+) -> Result<Option<RevisionRow>, Fault>
+    ensures { (bytes : Option (List ℕ)) (here : Place) (es : List (ℕ × TheEvent))
+        → HasReplayed bytes (meaning_over S.Store) here es office.old
+        → LooksUp bytes (meaning_over S.Store) here es office.old office.new
+        (event_meant event.now) result }
+{
+    match event {
+        Event::Founded { .. } => Ok(None),
+        Event::Enrolled { .. } => Ok(None),
+        Event::Submitted { name, .. } => office.last_revision(alloc, name),
+        Event::Voted { name, revision, .. } => office.revision(alloc, name, *revision),
+        Event::Issued { name, revision, .. } => office.revision(alloc, name, *revision),
+        Event::Withdrawn { name, revision, .. } => office.revision(alloc, name, *revision),
+        Event::Adopted { name, revision, .. } => office.revision(alloc, name, *revision),
+        Event::Held { .. } => Ok(None),
+        Event::Released { .. } => Ok(None),
+    }
+}
+
+// The line of an event, where it is asked for, and else no text. The office is that of the events
+// before it.
+fn line_of<S: Alter>(
+    alloc: Global,
+    office: &mut Office<S>,
+    placed: &Placed,
+    filter: &Filter<'_>,
+) -> Result<String, Unwritten>
+    ensures { (bytes : Option (List ℕ)) (here : Place) (es : List (ℕ × TheEvent))
+        → HasReplayed bytes (meaning_over S.Store) here es office.old
+        → MakesLine bytes (meaning_over S.Store) here es office.old office.new
+        filter.now (placed_meant placed.now) result }
+{
+    if !filter.passes(&placed.event) {
+        return Ok(String::new(alloc));
+    }
+    match look_up(alloc, office, &placed.event) {
+        Ok(found) => {
+            let made = text(alloc, placed, &found);
+            drop(found);
+            match made {
+                Ok(text) => Ok(text),
+                Err(_) => Err(Unwritten::NoMemory),
+            }
+        }
+        Err(fault) => Err(Unwritten::Unseen {
+            line: placed.line,
+            fault,
+        }),
+    }
+}
+
+// Writes a line.
+fn write_line<W: Write>(output: &mut Counted<W>, line: String) -> Result<(), Unwritten>
+    ensures { WritesText (W.contents output.old.inner) (W.contents output.new.inner)
+        (string_bytes line) result }
+{
+    match write_whole(output, line.as_bytes()) {
+        Ok(()) => Ok(()),
+        Err(_) => Err(Unwritten::Write),
+    }
+}
+
+// Has the next event happen again, and writes its line.
+fn write_next<S: Alter, R: BufRead, W: Write>(
+    alloc: Global,
+    replay: &mut Replay<S, R>,
+    placed: Placed,
+    filter: &Filter<'_>,
+    output: &mut Counted<W>,
+) -> Result<(), Unwritten>
+    ensures events { replay.new.events ≡ replay.old.events }
+    ensures count { replay.new.count ≡ replay.old.count }
+    ensures written { (bytes from : Option (List ℕ)) (here : Place) (es : List (ℕ × TheEvent))
+        → HasWritten bytes filter.now from (W.contents output.old.inner) (meaning_over S.Store)
+        replay.old.office here es replay.old.office
+        → GoesOn here (place R.remaining replay.old.events) (placed_meant placed ∷ [])
+        → WritesNext bytes (meaning_over S.Store) filter.now from (W.contents output.new.inner)
+        replay.new.office (place R.remaining replay.old.events) (es ++ placed_meant placed ∷ [])
+        result }
+{
+    let made = line_of(alloc, &mut replay.office, &placed, filter);
+    match made {
+        Ok(line) => match replay.happen(alloc, placed) {
+            Ok(()) => write_line(output, line),
+            Err(refused) => {
+                drop(line);
+                Err(Unwritten::Refused(refused))
+            }
+        },
+        Err(why) => {
+            drop(placed);
+            Err(why)
+        }
+    }
+}
+
+// Has each further event happen again, and writes its line.
+fn write_rest<S: Alter, R: BufRead, W: Write>(
+    alloc: Global,
+    replay: &mut Replay<S, R>,
+    filter: &Filter<'_>,
+    output: &mut Counted<W>,
+) -> Result<(), Unwritten>
+    requires { replay.old.events.fault ≡ None }
+    ensures { (bytes from : Option (List ℕ)) (es : List (ℕ × TheEvent))
+        → HasWritten bytes filter.now from (W.contents output.old.inner) (meaning_over S.Store)
+        replay.old.office (place R.remaining replay.old.events) es replay.old.office
+        → WritesAll bytes (meaning_over S.Store) filter.now from (W.contents output.new.inner)
+        replay.new.office result }
+{
+    'events: while let Some(placed) = replay.next(alloc)? {
+        write_next(alloc, replay, placed, filter, output)?;
+    }
+    Ok(())
+}
+
+// The line of the founding, where it is asked for, and else no text.
+fn first_line(alloc: Global, first: &Placed, filter: &Filter<'_>) -> Result<String, Unwritten>
+    requires { IsFounding (event_meant first.now.event) }
+    ensures line { IfOk result (λ text.
+        string_bytes text ≡ shown_of filter.now [] (placed_meant first.now)) }
+    ensures none { IfErr result (λ why. why ≡ Unwritten.NoMemory) }
+{
+    if !filter.passes(&first.event) {
+        return Ok(String::new(alloc));
+    }
+    match text(alloc, first, &None) {
+        Ok(text) => Ok(text),
+        Err(_) => Err(Unwritten::NoMemory),
+    }
+}
+
+// Writes the line of the founding.
+fn write_first<W: Write>(
+    alloc: Global,
+    first: Placed,
+    filter: &Filter<'_>,
+    output: &mut Counted<W>,
+) -> Result<(), Unwritten>
+    requires { IsFounding (event_meant first.event) }
+    ensures { WritesFirst (W.contents output.old.inner) (W.contents output.new.inner)
+        (shown_of filter.now [] (placed_meant first)) result }
+{
+    let made = first_line(alloc, &first, filter);
+    drop(first);
+    match made {
+        Ok(line) => write_line(output, line),
+        Err(why) => Err(why),
+    }
+}
+
+// Writes the lines of all events, of which the first one has happened again.
+fn write_all<S: Alter, R: BufRead, W: Write>(
+    alloc: Global,
+    replay: &mut Replay<S, R>,
+    first: Placed,
+    filter: &Filter<'_>,
+    output: &mut Counted<W>,
+) -> Result<(), Unwritten>
+    requires fault { replay.old.events.fault ≡ None }
+    requires founding { IsFounding (event_meant first.event) }
+    ensures { (bytes : Option (List ℕ))
+        → HasReplayed bytes (meaning_over S.Store) (place R.remaining replay.old.events)
+        (placed_meant first ∷ []) replay.old.office
+        → WritesAll bytes (meaning_over S.Store) filter.now (W.contents output.old.inner)
+        (W.contents output.new.inner) replay.new.office result }
+{
+    match write_first(alloc, first, filter, output) {
+        Ok(()) => write_rest(alloc, replay, filter, output),
+        Err(why) => Err(why),
+    }
+}
+
+/// Writes the history of the journal that an office is built anew from over a connection to an
+/// empty store: a line for each event that is asked for, the oldest first. The connection is handed
+/// back in any case, as the last event left it.
+///
+/// # Errors
+///
+/// Why not each line was written. The lines of the events before were.
+pub fn write_history<S: Alter, R: BufRead + Drop, W: Write>(
+    alloc: Global,
+    conn: Connection<S>,
+    journal: R,
+    filter: &Filter<'_>,
+    output: &mut Counted<W>,
+) -> Result<Connection<S>, (Unwritten, Connection<S>)>
+    requires { IsIdle (state S.Store conn) }
+    ensures written { IfOk result (λ left. IsWritten (R.remaining journal) filter.now
+        (W.contents output.old.inner) (W.contents output.new.inner) (meaning_over S.Store) left) }
+    ensures unwritten { IfErr result (λ stopped. IsUnwritten (R.remaining journal) filter.now
+        (W.contents output.old.inner) (W.contents output.new.inner)
+        S.Store conn stopped.1 stopped.0) }
+    ensures idle { IfOk result (λ left. IsIdle (state S.Store left)) }
+    ensures idle_on_error { IfErr result (λ stopped. IsIdle (state S.Store stopped.1)) }
+{
+    let (mut replay, first) = match Replay::begin(alloc, conn, journal) {
+        Ok(begun) => begun,
+        Err((refused, conn)) => return Err((Unwritten::Refused(refused), conn)),
+    };
+    let written = write_all(alloc, &mut replay, first, filter, output);
+    let conn = replay.into_office().into_connection();
+    match written {
+        Ok(()) => Ok(conn),
+        Err(why) => Err((why, conn)),
+    }
+}

@@ -1,0 +1,14 @@
+//! What people read of a journal.
+#![tactic(auto)]
+
+mod fault;
+mod filter;
+mod history;
+mod issue;
+pub mod laws;
+pub mod line;
+
+pub use fault::{NoEvidence, Unwritten};
+pub use filter::Filter;
+pub use history::write_history;
+pub use issue::evidence;

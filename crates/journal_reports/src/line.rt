@@ -1,0 +1,339 @@
+//! The line by which people read what happened.
+
+ghost use Rattle.std.specs.Prelude.{◌≡◌, ◌+◌, ◌∷◌, ◌++◌, ◌==◌, [], IfOk, OnOk, codes};
+ghost use Rattle.std.specs.Prelude.{string_bytes};
+ghost use Rattle.std.specs.Prelude.{if◌then◌else◌, length};
+ghost use Rattle.cap_sets.specs.Capability.{names_of};
+ghost use Rattle.profile_text.specs.Digest.{digest_of};
+ghost use Rattle.review_sheet.specs.Layout.{Adds, spaced};
+ghost use Rattle.office_policy.specs.Happened.{event_meant};
+ghost use Rattle.office_policy.specs.Revisions.{number_of};
+ghost use Rattle.journal_lines.specs.Lines.{role_words, words_among};
+ghost use Rattle.journal_reports.specs.Lines.{deed, digest_in, each_spaced, on_profile};
+ghost use Rattle.journal_reports.specs.Lines.{on_revision, short_digest, text_of, voted_word};
+
+use cap_sets::{Caps, Names};
+use journal_lines::Placed;
+use office_policy::Event;
+use office_tables::RevisionRow;
+use profile_text::digest;
+use review_policy::{ProfileName, Role, Roles, Text, Word};
+use std::alloc::{AllocError, Global};
+
+// Adds an item behind a space.
+fn push_spaced(text: &mut String, item: &str) -> Result<(), AllocError>
+    ensures { OnOk result (Adds text.old text.new (spaced (item.now ∷ []))) }
+{
+    text.push(' ')?;
+    text.push_str(item)
+}
+
+// Adds `none` behind a space, where the text has this length.
+fn push_none_at(text: &mut String, before: usize) -> Result<(), AllocError>
+    ensures { OnOk result (Adds text.old text.new
+        (if length (string_bytes text.old) == before then codes " none" else [])) }
+{
+    if text.len() == before {
+        text.push_str(" none")
+    } else {
+        Ok(())
+    }
+}
+
+// Adds names, each behind a space.
+fn push_each_name(text: &mut String, names: Names) -> Result<(), AllocError>
+    ensures { OnOk result (Adds text.old text.new (spaced names)) }
+{
+    for name in names {
+        push_spaced(text, name)?;
+    }
+    Ok(())
+}
+
+// Adds the names of capabilities, each behind a space, or `none`.
+fn push_names(text: &mut String, caps: Caps) -> Result<(), AllocError>
+    ensures { OnOk result (Adds text.old text.new (each_spaced (names_of caps))) }
+{
+    let before = text.len();
+    push_each_name(text, caps.names())?;
+    push_none_at(text, before)?;
+    Ok(())
+}
+
+// Adds the word of a role behind a space, where it is one of these.
+fn push_role(text: &mut String, roles: Roles, role: Role) -> Result<(), AllocError>
+    ensures { OnOk result (Adds text.old text.new (spaced (words_among roles (role ∷ [])))) }
+{
+    if roles.has(role) {
+        push_spaced(text, role.word())
+    } else {
+        Ok(())
+    }
+}
+
+// Adds the words of those of these roles that are in the set, each behind a space.
+fn push_among(text: &mut String, roles: Roles, among: &[Role]) -> Result<(), AllocError>
+    ensures { OnOk result (Adds text.old text.new (spaced (words_among roles among.now))) }
+{
+    for role in among {
+        push_role(text, roles, *role)?;
+    }
+    Ok(())
+}
+
+// Adds the words of roles, each behind a space.
+fn push_each_role(text: &mut String, roles: Roles) -> Result<(), AllocError>
+    ensures { OnOk result (Adds text.old text.new (spaced (role_words roles))) }
+{
+    let all = [
+        Role::Registrar,
+        Role::Author,
+        Role::Reviewer,
+        Role::Security,
+        Role::Issuer,
+        Role::Machine,
+    ];
+    push_among(text, roles, all.as_slice())
+}
+
+// Adds the words of roles, each behind a space, or `none`.
+fn push_roles(text: &mut String, roles: Roles) -> Result<(), AllocError>
+    ensures { OnOk result (Adds text.old text.new (each_spaced (role_words roles))) }
+{
+    let before = text.len();
+    push_each_role(text, roles)?;
+    push_none_at(text, before)?;
+    Ok(())
+}
+
+// Adds the first six hexadecimal digits of a digest.
+fn push_digest(alloc: Global, text: &mut String, digest: &[u8; 32]) -> Result<(), AllocError>
+    ensures { OnOk result (Adds text.old text.new (short_digest digest.now)) }
+{
+    let digits = hex::encode(alloc, &digest.as_slice()[..3])?;
+    let digits = digits.as_str();
+    write!(text, " ({digits}..)")
+}
+
+// Adds those of a revision's digest, where it is there.
+fn push_found(
+    alloc: Global,
+    text: &mut String,
+    found: &Option<RevisionRow>,
+) -> Result<(), AllocError>
+    ensures { OnOk result (Adds text.old text.new (digest_in found.now)) }
+{
+    match found {
+        Some(row) => push_digest(alloc, text, &row.digest),
+        None => Ok(()),
+    }
+}
+
+// Adds who did what to a profile.
+fn push_on_profile(
+    text: &mut String,
+    caller: &Word,
+    did: &str,
+    name: &ProfileName,
+) -> Result<(), AllocError>
+    ensures { OnOk result (Adds text.old text.new (on_profile caller.now did.now name.now)) }
+{
+    let caller = caller.as_str();
+    let team = name.team.as_str();
+    let profile = name.profile.as_str();
+    write!(text, "{caller} {did} {team}/{profile}")
+}
+
+// Adds who did what to a revision.
+fn push_on_revision(
+    text: &mut String,
+    caller: &Word,
+    did: &str,
+    name: &ProfileName,
+    number: u64,
+) -> Result<(), AllocError>
+    ensures { OnOk result
+        (Adds text.old text.new (on_revision caller.now did.now name.now number)) }
+{
+    push_on_profile(text, caller, did, name)?;
+    write!(text, " {number}")?;
+    Ok(())
+}
+
+// Adds who did what to a revision that was looked up.
+fn push_on_found(
+    alloc: Global,
+    text: &mut String,
+    caller: &Word,
+    did: &str,
+    name: &ProfileName,
+    number: u32,
+    found: &Option<RevisionRow>,
+) -> Result<(), AllocError>
+    ensures { OnOk result (Adds text.old text.new
+        (on_revision caller.now did.now name.now number ++ digest_in found.now)) }
+{
+    push_on_revision(text, caller, did, name, number as u64)?;
+    push_found(alloc, text, found)?;
+    Ok(())
+}
+
+// Adds a founding.
+fn push_founding(
+    text: &mut String,
+    user: &Word,
+    team: &Word,
+    listed: Caps,
+) -> Result<(), AllocError>
+    ensures { OnOk result (Adds text.old text.new
+        ((user.now ++ codes " founded " ++ team.now ++ codes ", listed")
+        ++ each_spaced (names_of listed))) }
+{
+    let user = user.as_str();
+    let team = team.as_str();
+    write!(text, "{user} founded {team}, listed")?;
+    push_names(text, listed)?;
+    Ok(())
+}
+
+// Adds an enrolment.
+fn push_enrolment(
+    alloc: Global,
+    text: &mut String,
+    caller: &Word,
+    user: &Word,
+    team: &Word,
+    roles: Roles,
+    digest: &[u8; 32],
+) -> Result<(), AllocError>
+    ensures { OnOk result (Adds text.old text.new
+        ((caller.now ++ codes " enrolled " ++ user.now ++ codes " of " ++ team.now ++ codes ":")
+        ++ each_spaced (role_words roles) ++ short_digest digest.now)) }
+{
+    let caller = caller.as_str();
+    let user = user.as_str();
+    let team = team.as_str();
+    write!(text, "{caller} enrolled {user} of {team}:")?;
+    push_roles(text, roles)?;
+    push_digest(alloc, text, digest)?;
+    Ok(())
+}
+
+// The number of a revision, or 0.
+fn number_of(found: &Option<RevisionRow>) -> u32
+    ensures { result ≡ number_of found.now }
+{
+    match found {
+        Some(row) => row.number,
+        None => 0,
+    }
+}
+
+// Adds a submission.
+fn push_submission(
+    alloc: Global,
+    text: &mut String,
+    caller: &Word,
+    name: &ProfileName,
+    document: &Text,
+    found: &Option<RevisionRow>,
+) -> Result<(), AllocError>
+    ensures { OnOk result (Adds text.old text.new
+        (on_revision caller.now (codes "submitted") name.now (number_of found.now + 1)
+        ++ short_digest (digest_of document.now))) }
+{
+    push_on_revision(text, caller, "submitted", name, number_of(found) as u64 + 1)?;
+    push_digest(alloc, text, &digest(document.as_str().as_bytes()))?;
+    Ok(())
+}
+
+// What a vote did.
+fn voted_word(approves: bool) -> &'static str
+    ensures { result.now ≡ voted_word approves }
+{
+    if approves { "approved" } else { "rejected" }
+}
+
+// Adds who did what, by what was looked up.
+fn push_deed(
+    alloc: Global,
+    text: &mut String,
+    event: &Event,
+    found: &Option<RevisionRow>,
+) -> Result<(), AllocError>
+    ensures { OnOk result (Adds text.old text.new (deed (event_meant event.now) found.now)) }
+{
+    match event {
+        Event::Founded {
+            user,
+            team,
+            listed,
+            ..
+        } => push_founding(text, user, team, *listed),
+        Event::Enrolled {
+            caller,
+            user,
+            team,
+            roles,
+            digest,
+        } => push_enrolment(alloc, text, caller, user, team, *roles, digest),
+        Event::Submitted {
+            caller,
+            name,
+            text: document,
+        } => push_submission(alloc, text, caller, name, document, found),
+        Event::Voted {
+            caller,
+            name,
+            revision,
+            approves,
+            ..
+        } => push_on_found(
+            alloc,
+            text,
+            caller,
+            voted_word(*approves),
+            name,
+            *revision,
+            found,
+        ),
+        Event::Issued {
+            caller,
+            name,
+            revision,
+        } => push_on_found(alloc, text, caller, "issued", name, *revision, found),
+        Event::Withdrawn {
+            caller,
+            name,
+            revision,
+        } => push_on_found(alloc, text, caller, "withdrew", name, *revision, found),
+        Event::Adopted {
+            caller,
+            name,
+            revision,
+        } => push_on_found(alloc, text, caller, "adopted", name, *revision, found),
+        Event::Held { caller, name } => push_on_profile(text, caller, "held", name),
+        Event::Released { caller, name } => push_on_profile(text, caller, "released", name),
+    }
+}
+
+/// The line of an event, with its line feed, by what was looked up.
+///
+/// # Errors
+///
+/// Memory was refused. No contract can say when.
+pub fn text(
+    alloc: Global,
+    placed: &Placed,
+    found: &Option<RevisionRow>,
+) -> Result<String, AllocError>
+    ensures { IfOk result (λ text. string_bytes text
+        ≡ text_of placed.now.line (event_meant placed.now.event) found.now) }
+{
+    let line = placed.line;
+    let mut text = String::new(alloc);
+    write!(text, "{line}  ")?;
+    push_deed(alloc, &mut text, &placed.event, found)?;
+    text.push('\n')?;
+    Ok(text)
+}
