@@ -7,5 +7,4 @@ mod happened;
 mod journaled;
 mod migrations;
 mod openings;
-pub(crate) mod texts;
 mod votes;

@@ -1,9 +1,6 @@
 // Exchanges until a deadline, by a clock that counts a second more at each look.
 
-use crate::exchanges::clock::Ticking;
-use crate::exchanges::messages::{DONE, ENROLMENT};
 use crate::exchanges::trial::{Exchange, Trial};
-use crate::fake_streams::{Giving, Sink, Source, Taking};
 use desk_http::{Deadline, HttpFault, Timed, Timeouts};
 use std::cell::Cell;
 use std::io;
@@ -11,6 +8,9 @@ use std::io::{ErrorKind, Read, Write};
 use std::process::Abort;
 use std::test::Fail;
 use std::time::Duration;
+use test_doubles::clock::Ticking;
+use test_doubles::fake_streams::{Giving, Sink, Source, Taking};
+use test_doubles::messages::{DONE, ENROLMENT};
 
 // The last time-outs of a read and of a write, unless none can be set.
 #[derive(Drop)]

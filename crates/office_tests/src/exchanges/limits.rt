@@ -1,11 +1,11 @@
 // Documents and answers at their limits, over HTTP.
 
 use crate::exchanges::trial::Trial;
-use crate::fake_streams::Taking;
-use crate::long_texts::{DIGEST, longest_escaped, longest_text};
 use std::alloc::{AllocError, Global};
 use std::process::Abort;
 use std::test::Fail;
+use test_doubles::fake_streams::Taking;
+use test_doubles::long_texts::{DIGEST, longest_escaped, longest_text};
 
 // A submission by ann of a document of 262,144 bytes.
 fn submission(alloc: Global, document: &str) -> Result<String, AllocError> {

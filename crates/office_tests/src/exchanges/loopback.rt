@@ -1,9 +1,6 @@
 // Exchanges over loopback.
 
-use crate::exchanges::clock::Ticking;
-use crate::exchanges::messages::{CALL, LISTING, LONG_BODY, NO_ROUTE, TOO_LARGE, UNKNOWN};
 use crate::exchanges::trial::Trial;
-use crate::fake_streams::{Sink, Taking};
 use std::io;
 use std::io::Write;
 use std::net::{Ipv4Addr, Shutdown, SocketAddr, TcpListener, TcpStream};
@@ -11,6 +8,9 @@ use std::process::Abort;
 use std::test::Fail;
 use std::time::{Clock, Duration, Instant};
 use streams::Counted;
+use test_doubles::clock::Ticking;
+use test_doubles::fake_streams::{Sink, Taking};
+use test_doubles::messages::{CALL, LISTING, LONG_BODY, NO_ROUTE, TOO_LARGE, UNKNOWN};
 
 // For how many milliseconds an exchange may last, where that doesn't matter.
 const LONG: u64 = 10_000;

@@ -1,11 +1,11 @@
 // What is answered where memory is refused.
 
-use crate::exchanges::messages::{MEMORY, REVIEW};
 use crate::exchanges::trial::Trial;
-use crate::fake_streams::{Sink, Taking};
 use desk_http::HttpFault;
 use std::process::Abort;
 use std::test::Fail;
+use test_doubles::fake_streams::{Sink, Taking};
+use test_doubles::messages::{MEMORY, REVIEW};
 
 // Whether a message was handled, and is answered so unless there was no memory for just this answer. Where memory was refused before
 // that, it wasn't.

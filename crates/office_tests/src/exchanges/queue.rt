@@ -1,10 +1,5 @@
 // Clients that wait in the queue of a listener.
 
-use crate::exchanges::messages::{
-    CALL, DONE, ENROLMENT, LISTING, MEMORY, NO_ROUTE, SAME_AS_OPEN, SUBMISSION, SUBMITTED, UNKNOWN,
-};
-use crate::fake_streams::{Giving, Sink, Source, Taking};
-use crate::offices::trial_office;
 use desk_http::{HttpFault, Listener, Stream, serve_exchanges};
 use http_requests::OfficeRouter;
 use std::alloc::Global;
@@ -13,6 +8,11 @@ use std::io::ErrorKind;
 use std::process::Abort;
 use std::test::Fail;
 use streams::Counted;
+use test_doubles::fake_streams::{Giving, Sink, Source, Taking};
+use test_doubles::messages::{
+    CALL, DONE, ENROLMENT, LISTING, MEMORY, NO_ROUTE, SAME_AS_OPEN, SUBMISSION, SUBMITTED, UNKNOWN,
+};
+use test_offices::offices::trial_office;
 
 // A client: what it sends and in which pieces, how it takes its response, and which part of that.
 #[derive(Clone, Copy)]

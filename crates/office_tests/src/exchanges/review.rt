@@ -1,9 +1,9 @@
 // A review over HTTP.
 
-use crate::exchanges::messages::REVIEW;
 use crate::exchanges::trial::Trial;
-use crate::fake_streams::Taking;
 use std::test::Fail;
+use test_doubles::fake_streams::Taking;
+use test_doubles::messages::REVIEW;
 
 // The status of a response, which is one of two here.
 fn status_of(response: &str) -> u16 {

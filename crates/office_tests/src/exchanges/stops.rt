@@ -1,15 +1,15 @@
 // What stands where a reader or a writer fails, and what is answered where they give and take in pieces.
 
-use crate::exchanges::messages::{
-    DONE, ENROLMENT, LONG_BODY, SAME_AS_OPEN, SUBMISSION, SUBMITTED, TOO_LARGE, TOO_LONG,
-};
 use crate::exchanges::trial::Trial;
-use crate::fake_streams::{Giving, Source, Taking};
 use desk_http::{HttpFault, MAX_READS};
 use std::alloc::{AllocError, Global};
 use std::io::Read;
 use std::process::Abort;
 use std::test::Fail;
+use test_doubles::fake_streams::{Giving, Source, Taking};
+use test_doubles::messages::{
+    DONE, ENROLMENT, LONG_BODY, SAME_AS_OPEN, SUBMISSION, SUBMITTED, TOO_LARGE, TOO_LONG,
+};
 
 #[test]
 fn a_submission_is_not_handled_where_it_is_cut_or_a_read_fails(

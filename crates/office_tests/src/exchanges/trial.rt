@@ -1,8 +1,5 @@
 // An office in memory, whose exchanges are compared.
 
-use crate::exchanges::messages::{DONE, ENROLMENT};
-use crate::fake_streams::{Sink, Taking};
-use crate::offices::trial_office;
 use desk_http::{HttpFault, serve_one};
 use http_requests::OfficeRouter;
 use office_desk::Office;
@@ -12,6 +9,9 @@ use std::io::{Read, Write};
 use std::process::Abort;
 use std::test::Fail;
 use streams::Counted;
+use test_doubles::fake_streams::{Sink, Taking};
+use test_doubles::messages::{DONE, ENROLMENT};
+use test_offices::offices::trial_office;
 
 // What came of an exchange.
 #[derive(Clone, Copy)]

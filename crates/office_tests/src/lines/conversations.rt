@@ -1,13 +1,13 @@
 // Conversations, from lines to lines.
 
-use crate::fake_streams::{Giving, Taking};
 use crate::lines::in_step::{Answered, InStep};
 use crate::lines::texts::{FIRST_ANSWERS, FIRST_PATH, SECOND_ANSWERS, first_lines};
 use crate::lines::turns::{WHOLE, take_turn, take_turn_anew};
-use crate::offices::trial_office;
 use crate::served::serve;
 use std::cell::Cell;
 use std::test::Fail;
+use test_doubles::fake_streams::{Giving, Taking};
+use test_offices::offices::trial_office;
 
 #[test]
 fn a_line_that_is_too_long_is_passed_over(rt: HostRuntime) -> Result<(), Fail> {

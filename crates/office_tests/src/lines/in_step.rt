@@ -1,9 +1,9 @@
 // A reader that knows how many lines are answered.
 
-use crate::fake_streams::feeds;
 use std::cell::Cell;
 use std::io;
 use std::io::{ErrorKind, Read, Write};
+use test_doubles::fake_streams::feeds;
 
 // Gives a byte a call, and fails where another number of lines is answered than was given.
 #[derive(Drop)]

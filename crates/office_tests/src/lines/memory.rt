@@ -1,15 +1,15 @@
 // What is answered where memory is refused.
 
-use crate::fake_streams::{Sink, Taking};
 use crate::lines::texts::{FIRST_ANSWERS, FIRST_PATH, SECOND_ANSWERS, first_lines};
 use crate::lines::turns::{WHOLE, take_turn};
-use crate::offices::trial_office;
 use crate::served::serve;
 use desk::DeskFault;
 use office_desk::Office;
 use sqlite::Alter;
 use std::alloc::Global;
 use std::test::Fail;
+use test_doubles::fake_streams::{Sink, Taking};
+use test_offices::offices::trial_office;
 
 // What may be answered to the first path where memory is refused at most once, while a line is read or handled, and the profile
 // is handed in then.

@@ -1,13 +1,13 @@
 // Lists of requests.
 
-use crate::office::texts::{LEFT_BEHIND, VOTE_LEFT_BEHIND};
-use crate::offices::trial_office;
-use crate::stops::tables::tables_of;
 use json_requests::{line, read_line};
 use office_policy::Handler;
 use review_policy::{Answer, Request};
 use std::alloc::{AllocError, Global};
 use std::test::Fail;
+use test_doubles::conversations::{LEFT_BEHIND, VOTE_LEFT_BEHIND};
+use test_offices::offices::trial_office;
+use test_offices::tables::tables_of;
 
 // The requests of these lines.
 fn requests_of(alloc: Global, lines: &str) -> Result<Vec<Request>, Fail> {

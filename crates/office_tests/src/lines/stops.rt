@@ -1,11 +1,9 @@
 // What stands where a reader or a writer stops the desk.
 
-use crate::fake_streams::{Giving, Source, Taking, feeds};
 use crate::lines::texts::{
     FIRST_ANSWERS, FIRST_PATH, SAME_AS_OPEN, SECOND_ANSWERS, SUBMIT, SUBMITTED, first_lines,
 };
 use crate::lines::turns::{WHOLE, take_turn, take_turn_anew};
-use crate::offices::trial_office;
 use crate::served::serve;
 use desk::{DeskFault, MAX_READS};
 use office_desk::Office;
@@ -13,6 +11,8 @@ use sqlite::Alter;
 use std::alloc::Global;
 use std::process::Abort;
 use std::test::Fail;
+use test_doubles::fake_streams::{Giving, Source, Taking, feeds};
+use test_offices::offices::trial_office;
 
 // Has the desk serve the first path once for each read that may fail, where it was served before.
 fn fail_at_each_read<S: Alter>(rt: &impl Abort, alloc: Global, office: &mut Office<S>) {

@@ -1,7 +1,5 @@
 // Streams that the desk serves in turn.
 
-use crate::fake_streams::{Giving, Sink, Source, Taking};
-use crate::offices::trial_office;
 use crate::served::serve;
 use desk::DeskFault;
 use office_desk::Office;
@@ -9,6 +7,8 @@ use sqlite::Alter;
 use std::alloc::Global;
 use std::process::Abort;
 use std::test::Fail;
+use test_doubles::fake_streams::{Giving, Sink, Source, Taking};
+use test_offices::offices::trial_office;
 
 // How a stream is given, and how the answers are taken.
 pub type Manner = (Giving, Taking);

@@ -1,10 +1,10 @@
 // An office in a file.
 
 use crate::office::founded::{founded, reopened};
-use crate::office::texts::{ALL_KINDS, ALL_TOLD, ENROLLED, ENROLMENTS};
 use sqlite::Connection;
 use std::fs;
 use std::test::Fail;
+use test_doubles::conversations::{ALL_KINDS, ALL_TOLD, ENROLLED, ENROLMENTS};
 
 #[test]
 fn a_file_is_closed_and_opened_before_each_request(rt: HostRuntime) -> Result<(), Fail> {

@@ -1,13 +1,12 @@
 // Events: whether the tables of an office show one, and that it happens again.
 
-use crate::offices::{founding, trial_office};
-use office_commands::Founding;
 use office_desk::{Office, Unreplayed};
 use office_policy::Event;
 use review_policy::{Role, Roles, Word};
 use sqlite::Alter;
 use std::alloc::Global;
 use std::test::Fail;
+use test_offices::offices::{Founding, trial_founding, trial_office};
 
 // The founding of the office, by a user of this name.
 fn founded_by(alloc: Global, user: &str) -> Result<Event, Fail> {
@@ -16,7 +15,7 @@ fn founded_by(alloc: Global, user: &str) -> Result<Event, Fail> {
         digest,
         listed,
         ..
-    } = founding(alloc)?;
+    } = trial_founding(alloc)?;
     Ok(Event::Founded {
         user: Word::new(alloc, user)?,
         team,

@@ -3,7 +3,6 @@
 ghost use Rattle.std.specs.Prelude.{◌≡◌, true};
 
 use crate::office::openings::run;
-use crate::offices::{found_office, trial_office};
 use json_requests::{line, read_line};
 use office_desk::Office;
 use office_journal::{Journal, Journaled};
@@ -12,6 +11,7 @@ use review_policy::Fault;
 use sqlite::{Connection, MemStore};
 use std::alloc::Global;
 use std::test::Fail;
+use test_offices::offices::{found_office, trial_office};
 
 // A journal in memory.
 #[derive(Drop)]

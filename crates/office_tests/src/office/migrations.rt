@@ -2,11 +2,11 @@
 
 use crate::office::founded::{founded, reopened};
 use crate::office::openings::{not_opened, run};
-use crate::office::texts::{SHOW, SHOWN, SUBMISSION, SUBMITTED};
 use office_store::{MigrationFault, OpeningFault, migrate};
 use office_tables::StoreFault;
 use sqlite::Connection;
 use std::test::Fail;
+use test_doubles::conversations::{SHOW, SHOWN, SUBMISSION, SUBMITTED};
 
 // In other letters and lines than those of the store. Ann handed in two revisions, and rev approved the first.
 const OLD: &str = "\

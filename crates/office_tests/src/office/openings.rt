@@ -5,8 +5,6 @@ ghost use Rattle.sqlite.specs.Held.{state};
 ghost use Rattle.office_store.specs.Shown.{IsIdle};
 
 use crate::office::founded::{founded, reopened};
-use crate::office::texts::{SHOW, SHOWN, SUBMISSION, SUBMITTED};
-use crate::offices::found_office;
 use office_desk::Office;
 use office_store::{FoundingFault, OpeningFault};
 use office_tables::StoreFault;
@@ -14,6 +12,8 @@ use sqlite::{Alter, Connection};
 use std::alloc::Global;
 use std::process::Abort;
 use std::test::Fail;
+use test_doubles::conversations::{SHOW, SHOWN, SUBMISSION, SUBMITTED};
+use test_offices::offices::found_office;
 
 // The connection that is handed back where no office is founded for this fault.
 fn not_founded<S: Alter + Drop>(

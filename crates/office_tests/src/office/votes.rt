@@ -4,13 +4,13 @@ ghost use Rattle.sqlite.specs.Held.{state};
 ghost use Rattle.office_store.specs.Shown.{IsIdle};
 
 use crate::office::founded::founded;
-use crate::office::texts::{BY_SECURITY_ALONE, ONE_SHORT, SECOND_THOUGHTS, THOUGHT_TWICE};
 use office_store::{authors, is_author, standing, tally};
 use review_policy::{ProfileName, Word, WordFault};
 use sqlite::{Alter, Connection};
 use std::alloc::Global;
 use std::process::Abort;
 use std::test::Fail;
+use test_doubles::conversations::{BY_SECURITY_ALONE, ONE_SHORT, SECOND_THOUGHTS, THOUGHT_TWICE};
 
 // The name of blue/web.
 fn web(alloc: Global) -> Result<ProfileName, WordFault> {

@@ -1,0 +1,137 @@
+// Words that are no command line, help, the stream that each text goes to, and an output that fails.
+
+use crate::said::{assert_said, founding, run_here, said};
+use std::io::{ErrorKind, Write};
+use std::process::Abort;
+use std::test::Fail;
+use std::{fs, io};
+use test_doubles::fake_streams::{Giving, Source};
+
+const REFUSED: &str = "office check --root web.json
+office check
+office check web.json web.json
+office execve web.json --file-permitted
+office execve web.json --root --root
+office fly
+office check web.json --version
+office serve team.db --requests 0
+office serve team.db --requests 1000001
+office serve team.db --requests many
+office serve team.db --port 65536 --requests 1
+office serve team.db";
+
+// What is said to a command line begins so, and where that is no output there is none.
+fn assert_begun(rt: &impl Abort, host: &HostRuntime, line: &str, wanted: &str) -> Result<(), Fail> {
+    let said = said(host, line, Source::new(b"", Giving::Whole))?;
+    let has_output = !said.as_str().ends_with("> ");
+    let begins = said.as_str().starts_with(wanted) && wanted.contains("> ") == has_output;
+    assert!(rt; begins, "{line}: {said}");
+    Ok(())
+}
+
+#[test]
+fn words_that_are_no_command_line_end_with_status_2(rt: HostRuntime) -> Result<(), Fail> {
+    for line in REFUSED.lines() {
+        assert_begun(&rt, &rt, line, "2 error: ")?;
+    }
+    Ok(())
+}
+
+// Command lines, and behind ` = ` how what is said to them begins.
+const TOLD: &str = "office --help = 0 > A review office
+office help = 0 > A review office
+office check --help = 0 > Reads a document
+office execve -h = 0 > Prints what a process has
+office --version = 0 > office 
+office check words.json = 0 > {
+office check /dev/null = 1 office: not-json
+office execve words.json = 0 > effective: none
+office execve words.json --file-permitted CAP_KILL --file-effective = 1 > EPERM
+office execve words.json --root --file-effective = 1 office: root-takes-no-file
+office compare words.json words.json = 0 
+office compare closed.json words.json = 1 > no-seccomp
+office compare closed.json /dev/null = 2 office: new: not-json
+office desk words.json = 1 office: not-an-office";
+
+#[test]
+fn each_text_goes_to_its_stream(rt: HostRuntime) -> Result<(), Fail> {
+    let closed = r#"{"capabilities":{},"seccomp":{"defaultAction":"SCMP_ACT_KILL_PROCESS"}}"#;
+    fs::write(&rt, "words.json", r#"{"capabilities":{}}"#)?;
+    fs::write(&rt, "closed.json", closed)?;
+    for row in TOLD.lines() {
+        let (line, wanted) = row.split_once(" = ").unwrap_or((row, ""));
+        assert_begun(&rt, &rt, line, wanted)?;
+    }
+    Ok(())
+}
+
+#[test]
+fn usage_names_the_office_whatever_the_program_file_is_called(rt: HostRuntime) -> Result<(), Fail> {
+    let line = "./out/office_program check --help";
+    let help = said(&rt, line, Source::new(b"", Giving::Whole))?;
+    let is_named = help.as_str().contains("Usage: office check <FILE>");
+    assert!(rt; is_named, "{help}");
+    Ok(())
+}
+
+const SHOW: &str = r#"{"ask":"show","token":"abc","team":"blue","profile":"web","revision":1}"#;
+
+#[test]
+fn a_last_line_without_a_line_feed_is_answered(rt: HostRuntime) -> Result<(), Fail> {
+    let denied = "0 > {\"answer\":\"denied\",\"rule\":2,\"word\":\"role-missing\"}\n";
+    assert_said(&rt, &rt, "office", SHOW, Giving::Whole, denied)
+}
+
+// A writer that takes nothing.
+#[derive(Drop)]
+struct Closed;
+
+impl Write for Closed {
+    fn write(&mut self, _buf: &[u8]) -> io::Result<usize> {
+        Err(io::Error::from(ErrorKind::BrokenPipe))
+    }
+
+    fn flush(&mut self) -> io::Result<()> {
+        Ok(())
+    }
+}
+
+// What is said of these lines to a command whose output takes nothing.
+fn assert_unwritten(
+    rt: &impl Abort,
+    host: &HostRuntime,
+    line: &str,
+    lines: &str,
+) -> Result<(), Fail> {
+    let input = Source::new(lines.as_bytes(), Giving::Whole);
+    let (status, errors) = run_here(host, line, input, &mut Closed)?;
+    assert_eq!(rt; status, 1, "{line}");
+    assert_eq!(rt; errors.as_slice(), b"office: write\n".as_slice(), "{line}");
+    Ok(())
+}
+
+#[test]
+fn an_output_that_fails_is_told(rt: HostRuntime) -> Result<(), Fail> {
+    fs::write(&rt, "unwritten.json", r#"{"capabilities":{}}"#)?;
+    for line in [
+        "office check unwritten.json",
+        "office execve unwritten.json",
+        "office --help",
+        "office --version",
+    ] {
+        assert_unwritten(&rt, &rt, line, "")?;
+    }
+    Ok(())
+}
+
+#[test]
+fn an_output_that_fails_is_told_of_an_office_in_a_file(rt: HostRuntime) -> Result<(), Fail> {
+    let _ = fs::remove_file(&rt, "unwritten.db");
+    let init = founding(rt.alloc(), "unwritten.db")?;
+    assert_unwritten(&rt, &rt, init.as_str(), "")?;
+    // It is founded all the same.
+    let founded = "1 office: already-founded\n> ";
+    assert_said(&rt, &rt, init.as_str(), "", Giving::Whole, founded)?;
+    assert_unwritten(&rt, &rt, "office desk unwritten.db", SHOW)?;
+    assert_unwritten(&rt, &rt, "office serve unwritten.db --requests 1", "")
+}

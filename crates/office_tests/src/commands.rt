@@ -1,8 +1,0 @@
-// Command lines.
-
-mod documents;
-mod limits;
-mod offices;
-mod said;
-mod served;
-mod words;

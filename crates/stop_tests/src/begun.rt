@@ -1,0 +1,92 @@
+// How an office begins in a database.
+
+ghost use Rattle.std.specs.Prelude.{IfOk};
+ghost use Rattle.sqlite.specs.Held.{state};
+ghost use Rattle.office_store.specs.Shown.{IsIdle};
+
+use crate::texts::OLD_OFFICE;
+use office_desk::Office;
+use office_store::migrate;
+use sqlite::{Alter, Connection};
+use std::alloc::Global;
+use std::test::Fail;
+use test_offices::offices::found_office;
+
+#[derive(Clone, Copy, Debug)]
+pub enum Beginning {
+    // It is founded in an empty database.
+    Founding,
+    // It is migrated, where an office of schema 1 is.
+    Migration,
+}
+
+// An office, or the connection where it didn't begin.
+pub type Begun<S> = Result<Office<S>, Connection<S>>;
+
+// A connection on which no transaction is open and no limit on steps is set.
+pub(crate) fn at_rest<S: Alter + Drop>(conn: Connection<S>) -> Result<Connection<S>, Fail>
+    ensures { IfOk result (λ conn. IsIdle (state S.Store conn)) }
+{
+    let mut conn = conn;
+    conn.set_step_limit(None);
+    if !conn.is_autocommit() {
+        return Err(Fail::from("no transaction is open"));
+    }
+    Ok(conn)
+}
+
+// What is there before an office begins so, made in an empty database.
+pub(crate) fn before<S: Alter + Drop>(
+    conn: Connection<S>,
+    beginning: Beginning,
+) -> Result<Connection<S>, Fail>
+    ensures { IfOk result (λ conn. IsIdle (state S.Store conn)) }
+{
+    let mut conn = conn;
+    if let Beginning::Migration = beginning {
+        conn.execute_batch(OLD_OFFICE)?;
+    }
+    at_rest(conn)
+}
+
+// The office that a database has.
+pub(crate) fn reopened<S: Alter + Drop>(conn: Connection<S>) -> Begun<S>
+    requires { IsIdle (state S.Store conn) }
+{
+    match Office::over(conn) {
+        Ok(office) => Ok(office),
+        Err((_, conn)) => Err(conn),
+    }
+}
+
+fn founded<S: Alter + Drop>(alloc: Global, conn: Connection<S>) -> Result<Begun<S>, Fail>
+    requires { IsIdle (state S.Store conn) }
+{
+    match found_office(alloc, conn)? {
+        Ok(office) => Ok(Ok(office)),
+        Err((_, conn)) => Ok(Err(conn)),
+    }
+}
+
+fn migrated<S: Alter + Drop>(conn: Connection<S>) -> Begun<S>
+    requires { IsIdle (state S.Store conn) }
+{
+    let mut conn = conn;
+    match migrate(&mut conn) {
+        Ok(()) => reopened(conn),
+        Err(_) => Err(conn),
+    }
+}
+
+pub(crate) fn begin<S: Alter + Drop>(
+    alloc: Global,
+    conn: Connection<S>,
+    beginning: Beginning,
+) -> Result<Begun<S>, Fail>
+    requires { IsIdle (state S.Store conn) }
+{
+    match beginning {
+        Beginning::Founding => founded(alloc, conn),
+        Beginning::Migration => Ok(migrated(conn)),
+    }
+}

@@ -1,0 +1,155 @@
+// What comes of a script in memory.
+
+use crate::asked::answer_to;
+use crate::begun::{Beginning, before, begin};
+use office_desk::Office;
+use sqlite::{Connection, MemStore};
+use std::alloc::{AllocError, Global};
+use std::test::Fail;
+use test_offices::tables::tables_of;
+
+// How an office begins, and what it is asked then.
+#[derive(Clone, Copy)]
+pub struct Script<'a> {
+    pub beginning: Beginning,
+    pub requests: &'a [&'a str],
+}
+
+// The requests of these lines.
+pub(crate) fn requests_of(alloc: Global, lines: &str) -> Result<Vec<&str>, AllocError> {
+    let mut requests = Vec::new(alloc);
+    for line in lines.lines() {
+        requests.push(line)?;
+    }
+    Ok(requests)
+}
+
+// How far a script came.
+#[derive(Clone, Copy, Debug, PartialEq, Eq)]
+pub enum Reached {
+    // The office hasn't begun.
+    Nothing,
+    // So many of its requests were answered, and not by a fault.
+    Answers(usize),
+}
+
+impl Reached {
+    // How many requests were answered.
+    pub(crate) fn answers(self) -> usize {
+        match self {
+            Reached::Nothing => 0,
+            Reached::Answers(count) => count,
+        }
+    }
+
+    // One event more.
+    pub(crate) fn next(self) -> Reached {
+        match self {
+            Reached::Nothing => Reached::Answers(0),
+            Reached::Answers(count) => Reached::Answers(count.saturating_add(1)),
+        }
+    }
+}
+
+// What comes of a script whose requests are asked one after the other, where nothing stops.
+#[derive(Drop)]
+pub struct Course {
+    // The tables before the office begins.
+    before: String,
+    // Those after so many requests, the first being those of none.
+    tables: Vec<String>,
+    // What each request is answered, and what it is answered where it is asked twice.
+    pub answers: Vec<String>,
+    pub again: Vec<String>,
+}
+
+// What is there before the office begins.
+fn beginning(alloc: Global, script: Script) -> Result<Connection<MemStore>, Fail> {
+    before(Connection::open_in_memory(alloc)?, script.beginning)
+}
+
+// The office after so many requests of a script.
+fn office_after(alloc: Global, script: Script, count: usize) -> Result<Office<MemStore>, Fail> {
+    let conn = before(Connection::open_in_memory(alloc)?, script.beginning)?;
+    let Ok(mut office) = begin(alloc, conn, script.beginning)? else {
+        return Err(Fail::from("an office"));
+    };
+    for request in script.requests.iter().take(count) {
+        answer_to(alloc, &mut office, request)?;
+    }
+    Ok(office)
+}
+
+fn tables_after(alloc: Global, script: Script, count: usize) -> Result<String, Fail> {
+    let mut conn = office_after(alloc, script, count)?.into_connection();
+    tables_of(alloc, &mut conn)
+}
+
+// What a request is answered after so many of a script.
+fn answer_after(
+    alloc: Global,
+    script: Script,
+    count: usize,
+    request: &str,
+) -> Result<String, Fail> {
+    let mut office = office_after(alloc, script, count)?;
+    answer_to(alloc, &mut office, request)
+}
+
+impl Course {
+    pub(crate) fn of(alloc: Global, script: Script) -> Result<Course, Fail> {
+        let mut tables = Vec::new(alloc);
+        let mut answers = Vec::new(alloc);
+        let mut again = Vec::new(alloc);
+        tables.push(tables_after(alloc, script, 0)?)?;
+        for (at, request) in script.requests.iter().enumerate() {
+            let next = at.saturating_add(1);
+            tables.push(tables_after(alloc, script, next)?)?;
+            answers.push(answer_after(alloc, script, at, request)?)?;
+            again.push(answer_after(alloc, script, next, request)?)?;
+        }
+        let mut conn = beginning(alloc, script)?;
+        Ok(Course {
+            before: tables_of(alloc, &mut conn)?,
+            tables,
+            answers,
+            again,
+        })
+    }
+
+    // The tables at a point of it.
+    pub(crate) fn tables_at(&self, reached: Reached) -> &str {
+        match reached {
+            Reached::Nothing => self.before.as_str(),
+            Reached::Answers(count) => match self.tables.get(count) {
+                Some(tables) => tables.as_str(),
+                None => "",
+            },
+        }
+    }
+
+    // Whether these tables are those of what was reached, or those of one event more.
+    pub(crate) fn place_of(&self, tables: &str, reached: Reached) -> Option<Reached> {
+        if self.tables_at(reached) == tables {
+            Some(reached)
+        } else if self.tables_at(reached.next()) == tables {
+            Some(reached.next())
+        } else {
+            None
+        }
+    }
+
+    // What the next request is answered in an office of this place.
+    pub(crate) fn next_answer(&self, reached: Reached, place: Reached) -> Option<&str> {
+        let next = reached.answers();
+        let answers = if place == Reached::Answers(next.saturating_add(1)) {
+            &self.again
+        } else {
+            &self.answers
+        };
+        match answers.get(next) {
+            Some(answer) => Some(answer.as_str()),
+            None => None,
+        }
+    }
+}

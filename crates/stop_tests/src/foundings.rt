@@ -1,0 +1,22 @@
+// The founding of an office.
+
+use crate::begun::Beginning;
+use crate::course::Script;
+use crate::files::File;
+use crate::runs::assert_stops;
+use std::test::Fail;
+
+const FOUNDING: Script<'static> = Script {
+    beginning: Beginning::Founding,
+    requests: &[],
+};
+
+#[test]
+fn a_log_stops_while_an_office_is_founded(rt: HostRuntime) -> Result<(), Fail> {
+    assert_stops(&rt, rt.alloc(), FOUNDING, File::Log, 63)
+}
+
+#[test]
+fn a_database_stops_while_an_office_is_founded(rt: HostRuntime) -> Result<(), Fail> {
+    assert_stops(&rt, rt.alloc(), FOUNDING, File::Database, 31)
+}

@@ -1,0 +1,28 @@
+//! Offices over two files of which one stops: before each of its calls, over whole conversations; and the same with a journal as the
+//! third file.
+#![tactic(auto)]
+
+#[cfg(test)]
+mod asked;
+#[cfg(test)]
+mod begun;
+#[cfg(test)]
+mod conversations;
+#[cfg(test)]
+mod course;
+#[cfg(test)]
+mod exchanges;
+#[cfg(test)]
+mod files;
+#[cfg(test)]
+mod foundings;
+#[cfg(test)]
+mod journals;
+#[cfg(test)]
+mod migrations;
+#[cfg(test)]
+mod runs;
+#[cfg(test)]
+mod stopping_log;
+#[cfg(test)]
+mod texts;

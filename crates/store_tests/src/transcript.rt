@@ -1,0 +1,64 @@
+// Transcripts: below each call, which `> ` begins, what the store answers.
+
+ghost use Rattle.std.specs.Prelude.{◌≡◌, true};
+ghost use Rattle.sqlite.specs.Held.{state};
+ghost use Rattle.office_store.specs.Shown.{IsIdle};
+
+use crate::call::told;
+use review_policy::WordFault;
+use sqlite::{Alter, Connection};
+use std::alloc::Global;
+use std::process::Abort;
+use std::test::Fail;
+
+// Runs statements, and says whether they ran and left no transaction open.
+fn run<S: Alter>(conn: &mut Connection<S>, sql: &str) -> bool
+    requires { IsIdle (state S.Store conn.old) }
+    ensures { result ≡ true → IsIdle (state S.Store conn.new) }
+{
+    match conn.execute_batch(sql) {
+        Ok(()) => conn.is_autocommit(),
+        Err(_) => false,
+    }
+}
+
+/// Carries a transcript out over a connection, and hands the connection back.
+pub(crate) fn carry_out<S: Alter + Drop>(
+    rt: &impl Abort,
+    alloc: Global,
+    conn: Connection<S>,
+    transcript: &str,
+) -> Result<Connection<S>, Fail>
+    requires { IsIdle (state S.Store conn) }
+{
+    let mut conn = conn;
+    let said = said(alloc, &mut conn, transcript)?;
+    assert_eq!(rt; said.trim_end(), transcript.trim_end());
+    Ok(conn)
+}
+
+/// The lines of a transcript that are no answers, below each call what this store answers. Statements, which `> sql ` begins,
+/// are run; where they fail the transcript ends.
+pub(crate) fn said<S: Alter>(
+    alloc: Global,
+    conn: &mut Connection<S>,
+    transcript: &str,
+) -> Result<String, WordFault>
+    requires { IsIdle (state S.Store conn.old) }
+{
+    let mut said = String::new(alloc);
+    for line in transcript.lines() {
+        if let Some(sql) = line.strip_prefix("> sql ") {
+            writeln!(said, "{line}")?;
+            if !run(conn, sql) {
+                return Ok(said);
+            }
+        } else if let Some(call) = line.strip_prefix("> ") {
+            let answer = told(alloc, conn, call)?;
+            writeln!(said, "{line}\n{answer}")?;
+        } else if line.starts_with("# ") {
+            writeln!(said, "{line}")?;
+        }
+    }
+    Ok(said)
+}

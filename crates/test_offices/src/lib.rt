@@ -1,0 +1,5 @@
+//! Offices that tests begin with, and their tables as text.
+#![tactic(auto)]
+
+pub mod offices;
+pub mod tables;
