@@ -4,12 +4,13 @@ use Rattle.std.proofs.lemmas.Slice.Eq.{bytes_eq-Decides}
 use Rattle.std.specs.Prelude.{codes}
 use Rattle.clap.specs.Words.{HasKind, Kinds, Row, Text, kind_of}
 use Rattle.clap.specs.declared.error.Error.{Error}
-use Rattle.command_line.specs.declared.command.Command.TheVariants.{Trial, Check, Execve, Init, Desk, Serve, Migrate, Compare}
+use Rattle.command_line.specs.declared.command.Command.TheVariants.{Trial, Check, Execve, Init, Desk, Serve, Migrate, Compare, Verify, History, Evidence}
 use Rattle.command_line.specs.declared.fault.WordsFault.{WordsFault}
 use Rattle.command_line.specs.declared.fault.WordsFault.TheVariants.{Help, Version, Refused, NoMemory}
+use Rattle.command_line.specs.declared.command.EvidenceWords.{EvidenceWords}
 use Rattle.command_line.specs.declared.command.InitWords.{InitWords}
 use Rattle.command_line.specs.declared.command.ServeWords.{ServeWords}
-use Rattle.command_line.specs.Meaning.{HasCompareValues, HasInitValues, HasServeValues}
+use Rattle.command_line.specs.Meaning.{HasCompareValues, HasEvidenceValues, HasInitValues, HasServeValues, HasVerifyValues}
 use Rattle.command_line.specs.Refusals.{IsRefused, IsTold, NoneAskedFor}
 
 -- two texts that don't compare equal are two
@@ -27,10 +28,13 @@ no_init rows lacks Trial asked = asked
 no_init rows lacks (Check file) asked = apart _ _ refl asked.0
 no_init rows lacks (Execve words) asked = apart _ _ refl asked.0
 no_init rows lacks (Init words) asked = lacks words asked.1
-no_init rows lacks (Desk database) asked = apart _ _ refl asked.0
+no_init rows lacks (Desk database journal) asked = apart _ _ refl asked.0
 no_init rows lacks (Serve words) asked = apart _ _ refl asked.0
 no_init rows lacks (Migrate database) asked = apart _ _ refl asked.0
 no_init rows lacks (Compare base new) asked = apart _ _ refl asked.0
+no_init rows lacks (Verify database journal) asked = apart _ _ refl asked.0
+no_init rows lacks (History words) asked = apart _ _ refl asked.0
+no_init rows lacks (Evidence words) asked = apart _ _ refl asked.0
 
 -- `serve` asks for nothing where a value that it needs isn't there
 pub no_serve : (rows : List Row) → ((words : ServeWords) → ¬ HasServeValues rows words) → NoneAskedFor (codes "serve") rows
@@ -38,10 +42,13 @@ no_serve rows lacks Trial asked = asked
 no_serve rows lacks (Check file) asked = apart _ _ refl asked.0
 no_serve rows lacks (Execve words) asked = apart _ _ refl asked.0
 no_serve rows lacks (Init words) asked = apart _ _ refl asked.0
-no_serve rows lacks (Desk database) asked = apart _ _ refl asked.0
+no_serve rows lacks (Desk database journal) asked = apart _ _ refl asked.0
 no_serve rows lacks (Serve words) asked = lacks words asked.1
 no_serve rows lacks (Migrate database) asked = apart _ _ refl asked.0
 no_serve rows lacks (Compare base new) asked = apart _ _ refl asked.0
+no_serve rows lacks (Verify database journal) asked = apart _ _ refl asked.0
+no_serve rows lacks (History words) asked = apart _ _ refl asked.0
+no_serve rows lacks (Evidence words) asked = apart _ _ refl asked.0
 
 -- `compare` asks for nothing where a value that it needs isn't there
 pub no_compare : (rows : List Row) → ((base new : Text) → ¬ HasCompareValues rows base new) → NoneAskedFor (codes "compare") rows
@@ -49,10 +56,41 @@ no_compare rows lacks Trial asked = asked
 no_compare rows lacks (Check file) asked = apart _ _ refl asked.0
 no_compare rows lacks (Execve words) asked = apart _ _ refl asked.0
 no_compare rows lacks (Init words) asked = apart _ _ refl asked.0
-no_compare rows lacks (Desk database) asked = apart _ _ refl asked.0
+no_compare rows lacks (Desk database journal) asked = apart _ _ refl asked.0
 no_compare rows lacks (Serve words) asked = apart _ _ refl asked.0
 no_compare rows lacks (Migrate database) asked = apart _ _ refl asked.0
 no_compare rows lacks (Compare base new) asked = lacks base.now new.now asked.1
+no_compare rows lacks (Verify database journal) asked = apart _ _ refl asked.0
+no_compare rows lacks (History words) asked = apart _ _ refl asked.0
+no_compare rows lacks (Evidence words) asked = apart _ _ refl asked.0
+
+-- `verify` asks for nothing where a value that it needs isn't there
+pub no_verify : (rows : List Row) → ((database journal : Text) → ¬ HasVerifyValues rows database journal) → NoneAskedFor (codes "verify") rows
+no_verify rows lacks Trial asked = asked
+no_verify rows lacks (Check file) asked = apart _ _ refl asked.0
+no_verify rows lacks (Execve words) asked = apart _ _ refl asked.0
+no_verify rows lacks (Init words) asked = apart _ _ refl asked.0
+no_verify rows lacks (Desk database journal) asked = apart _ _ refl asked.0
+no_verify rows lacks (Serve words) asked = apart _ _ refl asked.0
+no_verify rows lacks (Migrate database) asked = apart _ _ refl asked.0
+no_verify rows lacks (Compare base new) asked = apart _ _ refl asked.0
+no_verify rows lacks (Verify database journal) asked = lacks database.now journal.now asked.1
+no_verify rows lacks (History words) asked = apart _ _ refl asked.0
+no_verify rows lacks (Evidence words) asked = apart _ _ refl asked.0
+
+-- `evidence` asks for nothing where a value that it needs isn't there
+pub no_evidence : (rows : List Row) → ((words : EvidenceWords) → ¬ HasEvidenceValues rows words) → NoneAskedFor (codes "evidence") rows
+no_evidence rows lacks Trial asked = asked
+no_evidence rows lacks (Check file) asked = apart _ _ refl asked.0
+no_evidence rows lacks (Execve words) asked = apart _ _ refl asked.0
+no_evidence rows lacks (Init words) asked = apart _ _ refl asked.0
+no_evidence rows lacks (Desk database journal) asked = apart _ _ refl asked.0
+no_evidence rows lacks (Serve words) asked = apart _ _ refl asked.0
+no_evidence rows lacks (Migrate database) asked = apart _ _ refl asked.0
+no_evidence rows lacks (Compare base new) asked = apart _ _ refl asked.0
+no_evidence rows lacks (Verify database journal) asked = apart _ _ refl asked.0
+no_evidence rows lacks (History words) asked = apart _ _ refl asked.0
+no_evidence rows lacks (Evidence words) asked = lacks words asked.1
 
 -- a value that isn't there is none
 pub lacks_value : (r : Option Text) (t : Text) → r ≡ None → ¬ (r ≡ Some t)

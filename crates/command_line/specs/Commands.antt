@@ -2,8 +2,9 @@
 use Rattle.std.specs.Prelude.{[], ◌∷◌, List, Option, String, codes, map, string_bytes, true}
 use Rattle.std.specs.declared.alloc.Global.{Global}
 use Rattle.clap.specs.Words.{App, Kinds, Row, Shape, Text, fault_of, new_app, subcommand_of}
-use Rattle.command_line.specs.Parts.{flag_rule, needed_rule, number_rule, option_rule, several_rule}
-use Rattle.command_line.specs.Parts.{with_commands, with_rules, with_version}
+use Rattle.command_line.specs.Parts.{flag_rule, needed_number_rule, needed_rule, number_rule}
+use Rattle.command_line.specs.Parts.{option_rule, several_rule, with_commands, with_rules}
+use Rattle.command_line.specs.Parts.{with_version}
 
 -- `check FILE`
 abbrev pub check_app : App
@@ -20,30 +21,49 @@ abbrev pub compare_app : App
 compare_app = with_rules (new_app (codes "compare")) (needed_rule (codes "base")
     ∷ needed_rule (codes "new") ∷ [])
 
--- `init DB NAME TEAM DIGEST [CAP]...`
+-- `init DB NAME TEAM DIGEST [CAP]... [--journal FILE]`
 abbrev pub init_app : App
 init_app = with_rules (new_app (codes "init")) (needed_rule (codes "database")
     ∷ needed_rule (codes "name") ∷ needed_rule (codes "team") ∷ needed_rule (codes "digest")
-    ∷ several_rule (codes "capability") ∷ [])
+    ∷ several_rule (codes "capability") ∷ option_rule (codes "journal") ∷ [])
 
--- `desk DB`
+-- `desk DB [--journal FILE]`
 abbrev pub desk_app : App
-desk_app = with_rules (new_app (codes "desk")) (needed_rule (codes "database") ∷ [])
+desk_app = with_rules (new_app (codes "desk")) (needed_rule (codes "database")
+    ∷ option_rule (codes "journal") ∷ [])
 
--- `serve DB [--port P] --requests N`: P is 0 where it isn't given
+-- `serve DB [--port P] --requests N [--journal FILE]`: P is 0 where it isn't given
 abbrev pub serve_app : App
 serve_app = with_rules (new_app (codes "serve")) (needed_rule (codes "database")
     ∷ record (number_rule (codes "port") 0 65535) { defaults = codes "0" ∷ [] }
-    ∷ record (number_rule (codes "requests") 1 1000000) { required = true } ∷ [])
+    ∷ record (number_rule (codes "requests") 1 1000000) { required = true }
+    ∷ option_rule (codes "journal") ∷ [])
 
 -- `migrate DB`
 abbrev pub migrate_app : App
 migrate_app = with_rules (new_app (codes "migrate")) (needed_rule (codes "database") ∷ [])
 
+-- `verify DB JOURNAL`
+abbrev pub verify_app : App
+verify_app = with_rules (new_app (codes "verify")) (needed_rule (codes "database")
+    ∷ needed_rule (codes "journal") ∷ [])
+
+-- `history JOURNAL [--team T] [--profile P]`
+abbrev pub history_app : App
+history_app = with_rules (new_app (codes "history")) (needed_rule (codes "journal")
+    ∷ option_rule (codes "team") ∷ option_rule (codes "profile") ∷ [])
+
+-- `evidence JOURNAL TEAM PROFILE N`
+abbrev pub evidence_app : App
+evidence_app = with_rules (new_app (codes "evidence")) (needed_rule (codes "journal")
+    ∷ needed_rule (codes "team") ∷ needed_rule (codes "profile")
+    ∷ needed_number_rule (codes "revision") 1 9999 ∷ [])
+
 -- the commands, in the order of the help
 abbrev pub commands : List Shape
 commands = check_app.top ∷ execve_app.top ∷ compare_app.top ∷ init_app.top
-    ∷ desk_app.top ∷ serve_app.top ∷ migrate_app.top ∷ []
+    ∷ desk_app.top ∷ serve_app.top ∷ migrate_app.top ∷ verify_app.top ∷ history_app.top
+    ∷ evidence_app.top ∷ []
 
 -- `office`, with its version and its commands
 unfoldable pub office_app : App

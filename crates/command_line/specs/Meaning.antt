@@ -8,7 +8,10 @@ use Rattle.clap.specs.declared.parser.matches.ArgMatches.{ArgMatches}
 use Rattle.command_line.specs.declared.command.Command.{Command}
 use Rattle.command_line.specs.declared.command.Command.TheVariants.{Trial, Check, Execve, Init}
 use Rattle.command_line.specs.declared.command.Command.TheVariants.{Desk, Serve, Migrate, Compare}
+use Rattle.command_line.specs.declared.command.Command.TheVariants.{Verify, History, Evidence}
+use Rattle.command_line.specs.declared.command.EvidenceWords.{EvidenceWords}
 use Rattle.command_line.specs.declared.command.ExecveWords.{ExecveWords}
+use Rattle.command_line.specs.declared.command.HistoryWords.{HistoryWords}
 use Rattle.command_line.specs.declared.command.InitWords.{InitWords}
 use Rattle.command_line.specs.declared.command.ServeWords.{ServeWords}
 use Rattle.std.specs.Prelude.{true}
@@ -48,6 +51,7 @@ pub record HasInitValues (rows : List Row) (words : InitWords) : Type 0 where
   pub digest : Gives rows (codes "digest") words.digest.now
   pub capabilities : map (λ s. s.now) words.capabilities.items
       ≡ unwrap_or (all_of (codes "capability") rows) []
+  pub journal : first_of (codes "journal") rows ≡ option_map (λ s. s.now) words.journal
 
 -- the text is decimal digits, after at most one plus sign, that write n, a number from low to high
 abbrev pub IsNumberIn : ℕ → ℕ → ℕ → Option Text → Type 0
@@ -60,11 +64,30 @@ pub record HasServeValues (rows : List Row) (words : ServeWords) : Type 0 where
   pub database : Gives rows (codes "database") words.database.now
   pub port : IsNumberIn 0 65535 words.port (one_of (codes "port") rows)
   pub requests : IsNumberIn 1 1000000 words.requests (one_of (codes "requests") rows)
+  pub journal : first_of (codes "journal") rows ≡ option_map (λ s. s.now) words.journal
 
 -- each value of compare is the one that the rows give for it
 pub record HasCompareValues (rows : List Row) (base_file new_file : Text) : Type 0 where
   pub base : Gives rows (codes "base") base_file
   pub new : Gives rows (codes "new") new_file
+
+-- each value of verify is the one that the rows give for it
+pub record HasVerifyValues (rows : List Row) (database_file journal_file : Text) : Type 0 where
+  pub database : Gives rows (codes "database") database_file
+  pub journal : Gives rows (codes "journal") journal_file
+
+-- each value of history is the one that the rows give for it
+pub record HasHistoryValues (rows : List Row) (words : HistoryWords) : Type 0 where
+  pub journal : Gives rows (codes "journal") words.journal.now
+  pub team : first_of (codes "team") rows ≡ option_map (λ s. s.now) words.team
+  pub profile : first_of (codes "profile") rows ≡ option_map (λ s. s.now) words.profile
+
+-- each value of evidence is the one that the rows give for it, the number within its limits
+pub record HasEvidenceValues (rows : List Row) (words : EvidenceWords) : Type 0 where
+  pub journal : Gives rows (codes "journal") words.journal.now
+  pub team : Gives rows (codes "team") words.team.now
+  pub profile : Gives rows (codes "profile") words.profile.now
+  pub revision : IsNumberIn 1 9999 words.revision (one_of (codes "revision") rows)
 
 -- the subcommand of this name, with these rows of values, asks for the command
 abbrev pub AsksFor : Text → List Row → Command → Type 0
@@ -72,13 +95,18 @@ AsksFor name rows Trial = ⊥
 AsksFor name rows (Check file) = (name ≡ codes "check") × Gives rows (codes "file") file.now
 AsksFor name rows (Execve words) = (name ≡ codes "execve") × HasValues rows words
 AsksFor name rows (Init words) = (name ≡ codes "init") × HasInitValues rows words
-AsksFor name rows (Desk database) =
+AsksFor name rows (Desk database journal) =
     (name ≡ codes "desk") × Gives rows (codes "database") database.now
+    × (first_of (codes "journal") rows ≡ option_map (λ s. s.now) journal)
 AsksFor name rows (Serve words) = (name ≡ codes "serve") × HasServeValues rows words
 AsksFor name rows (Migrate database) =
     (name ≡ codes "migrate") × Gives rows (codes "database") database.now
 AsksFor name rows (Compare base new) =
     (name ≡ codes "compare") × HasCompareValues rows base.now new.now
+AsksFor name rows (Verify database journal) =
+    (name ≡ codes "verify") × HasVerifyValues rows database.now journal.now
+AsksFor name rows (History words) = (name ≡ codes "history") × HasHistoryValues rows words
+AsksFor name rows (Evidence words) = (name ≡ codes "evidence") × HasEvidenceValues rows words
 
 -- the command is what the subcommand that was found asks for; without one it is the trial desk
 abbrev pub IsCommand : Option (Text × List Row) → Command → Type 0

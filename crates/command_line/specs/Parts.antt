@@ -9,7 +9,7 @@ use Rattle.clap.specs.declared.builder.command.Command.TheViews.{out-Command as 
 use Rattle.clap.specs.declared.builder.value_parser.ValueParser.TheVariants.{Unsigned}
 use Rattle.command_line.specs.declared.parts.Form.{Form}
 use Rattle.command_line.specs.declared.parts.Form.TheVariants.{Needed, Several, Flag, Valued}
-use Rattle.command_line.specs.declared.parts.Form.TheVariants.{Number, NumberOr}
+use Rattle.command_line.specs.declared.parts.Form.TheVariants.{NeededNumber, Number, NumberOr}
 use Rattle.command_line.specs.declared.parts.Parameter.{Parameter}
 
 -- the command with `--version`
@@ -30,6 +30,10 @@ with_commands app (shape ∷ shapes) = with_commands (with_subcommand app shape)
 abbrev pub needed_rule : List ℕ → Rule
 needed_rule id = record (new_rule id) { value_names = 1; required = true }
 
+-- a number from low to high that has to be there, by its place
+abbrev pub needed_number_rule : List ℕ → ℕ → ℕ → Rule
+needed_number_rule id low high = record (needed_rule id) { parser = Some (Unsigned low high) }
+
 -- values by their places, as many as there are
 abbrev pub several_rule : List ℕ → Rule
 several_rule id = record (new_rule id) { value_names = 1; action = Some Append }
@@ -49,6 +53,7 @@ flag_rule id = record (new_rule id) { long = Some id; action = Some SetTrue }
 -- an argument that is given in this way
 abbrev pub rule_in : List ℕ → Form → Rule
 rule_in id (Needed shown) = needed_rule id
+rule_in id (NeededNumber shown low high) = needed_number_rule id low high
 rule_in id (Several shown) = several_rule id
 rule_in id Flag = flag_rule id
 rule_in id (Valued shown) = option_rule id

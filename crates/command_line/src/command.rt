@@ -6,19 +6,38 @@ pub enum Command<'w> {
     /// No word: the trial desk.
     Trial,
     /// `check FILE`: the canonical text of the document in a file.
-    Check { file: &'w str },
+    Check {
+        file: &'w str,
+    },
     /// `execve FILE`: what a process with the sets of a document has after execve.
     Execve(ExecveWords<'w>),
-    /// `init DB NAME TEAM DIGEST [CAP]...`: a new office in a file.
+    /// `init DB NAME TEAM DIGEST [CAP]... [--journal FILE]`: a new office in a file.
     Init(InitWords<'w>),
-    /// `desk DB`: the office in a file, over standard input and output.
-    Desk { database: &'w str },
+    /// `desk DB [--journal FILE]`: the office in a file, over standard input and output.
+    Desk {
+        database: &'w str,
+        journal: Option<&'w str>,
+    },
     /// `migrate DB`: the office of schema 1 in a file is made one of schema 2.
-    Migrate { database: &'w str },
-    /// `serve DB [--port P] --requests N`: the office in a file, over HTTP.
+    Migrate {
+        database: &'w str,
+    },
+    /// `serve DB [--port P] --requests N [--journal FILE]`: the office in a file, over HTTP.
     Serve(ServeWords<'w>),
     /// `compare BASE NEW`: what the document in one file permits more than that in another.
-    Compare { base: &'w str, new: &'w str },
+    Compare {
+        base: &'w str,
+        new: &'w str,
+    },
+    /// `verify DB JOURNAL`: whether the office in a file is the one that a journal tells.
+    Verify {
+        database: &'w str,
+        journal: &'w str,
+    },
+    /// `history JOURNAL [--team T] [--profile P]`: what a journal tells, a line an event.
+    History(HistoryWords<'w>),
+    /// `evidence JOURNAL TEAM PROFILE N`: on what a revision was issued.
+    Evidence(EvidenceWords<'w>),
 }
 
 /// The values of `execve`.
@@ -36,6 +55,30 @@ pub struct ExecveWords<'w> {
     pub file_effective: bool,
 }
 
+/// The values of `history`.
+#[derive(Clone, Copy, Debug)]
+pub struct HistoryWords<'w> {
+    /// JOURNAL, its file.
+    pub journal: &'w str,
+    /// The T of `--team`.
+    pub team: Option<&'w str>,
+    /// The P of `--profile`.
+    pub profile: Option<&'w str>,
+}
+
+/// The values of `evidence`.
+#[derive(Clone, Copy, Debug)]
+pub struct EvidenceWords<'w> {
+    /// JOURNAL, its file.
+    pub journal: &'w str,
+    /// TEAM, of the profile.
+    pub team: &'w str,
+    /// PROFILE, its name.
+    pub profile: &'w str,
+    /// N, the number of the revision, from 1 to 9,999.
+    pub revision: u32,
+}
+
 /// The values of `serve`.
 #[derive(Clone, Copy, Debug)]
 pub struct ServeWords<'w> {
@@ -45,6 +88,8 @@ pub struct ServeWords<'w> {
     pub port: u16,
     /// N, how many exchanges are served, from 1 to 1,000,000.
     pub requests: u32,
+    /// The FILE of `--journal`, which goes on.
+    pub journal: Option<&'w str>,
 }
 
 /// The values of `init`.
@@ -60,4 +105,6 @@ pub struct InitWords<'w> {
     pub digest: &'w str,
     /// Each CAP, in the order of the words.
     pub capabilities: Vec<&'w str>,
+    /// The FILE of `--journal`, which is begun.
+    pub journal: Option<&'w str>,
 }

@@ -17,15 +17,17 @@ const ABOUT: &str = "Founds an office in a file";
 const EXAMPLES: &str =
     "The office has one user, NAME, who is a registrar of TEAM. DIGEST is the SHA-256 of that user's token,
 in 64 lower-case hexadecimal digits. A document that holds a CAP needs two approvals, one of them by
-security.
+security. With `--journal`, what happens in the office is written to FILE, a line an event, and its
+founding is the first.
 
 Statuses: 0, it prints `founded`; 1, it was refused or failed, which standard error says as
 `office: WORDS`.
 
 Example:
-  office init team.db root office $(printf abc | sha256sum | cut -c 1-64) CAP_SYS_ADMIN";
+  office init team.db root office $(printf abc | sha256sum | cut -c 1-64) CAP_SYS_ADMIN
+  office init team.db root office $(printf abc | sha256sum | cut -c 1-64) --journal team.journal";
 
-/// Adds `init DB NAME TEAM DIGEST [CAP]...`.
+/// Adds `init DB NAME TEAM DIGEST [CAP]... [--journal FILE]`.
 pub(crate) fn add_init<'a>(
     alloc: Global,
     commands: &mut Vec<clap::Command<'a>>,
@@ -57,6 +59,11 @@ pub(crate) fn add_init<'a>(
             id: "capability",
             form: Form::Several("CAP"),
             help: "A listed capability, by its name",
+        },
+        Parameter {
+            id: "journal",
+            form: Form::Valued("FILE"),
+            help: "The journal of the new office, which is begun",
         },
     ];
     add_command(alloc, commands, "init", ABOUT, EXAMPLES, &parameters)
@@ -96,11 +103,13 @@ pub(crate) fn init_of<'w>(
         return Ok(None);
     };
     let capabilities = capabilities_of(alloc, given)?;
+    let journal = given.get_str("journal");
     Ok(Some(Command::Init(InitWords {
         database,
         name,
         team,
         digest,
         capabilities,
+        journal,
     })))
 }

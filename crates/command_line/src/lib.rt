@@ -8,14 +8,17 @@ mod check;
 mod command;
 mod compare;
 mod desk;
+mod evidence;
 mod execve;
 mod fault;
+mod history;
 mod init;
 mod migrate;
 mod parts;
 mod serve;
+mod verify;
 mod words;
 
-pub use command::{Command, ExecveWords, InitWords, ServeWords};
+pub use command::{Command, EvidenceWords, ExecveWords, HistoryWords, InitWords, ServeWords};
 pub use fault::WordsFault;
 pub use words::read_words;

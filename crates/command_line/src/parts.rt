@@ -12,6 +12,12 @@ use std::alloc::{AllocError, Global};
 pub(crate) enum Form<'a> {
     /// A value that has to be there, by its place.
     Needed(&'a str),
+    /// A number from `low` to `high` that has to be there, by its place.
+    NeededNumber {
+        shown: &'a str,
+        low: u64,
+        high: u64,
+    },
     /// Values by their places, as many as there are.
     Several(&'a str),
     /// `--id`, at most once.
@@ -52,6 +58,10 @@ fn arg_of<'a>(alloc: Global, parameter: Parameter<'a>) -> Arg<'a>
     let arg = Arg::new(alloc, id).help(parameter.help);
     match parameter.form {
         Form::Needed(shown) => arg.required(true).value_name(shown),
+        Form::NeededNumber { shown, low, high } => arg
+            .required(true)
+            .value_name(shown)
+            .value_parser(ValueParser::unsigned(low, high)),
         Form::Several(shown) => arg.action(ArgAction::Append).value_name(shown),
         Form::Flag => arg.long(id).action(ArgAction::SetTrue),
         Form::Valued(shown) => arg.long(id).value_name(shown),

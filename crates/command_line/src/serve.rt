@@ -20,15 +20,17 @@ const EXAMPLES: &str =
     "It listens on 127.0.0.1, serves N exchanges, and ends. At port 0 the system picks a free port.
 
 It prints `listening 127.0.0.1:PORT` first, and then a line for each exchange: the status of its answer,
-or `fault WORD` where it failed.
+or `fault WORD` where it failed. With `--journal`, what happens is written to FILE first, which
+`init --journal` began.
 
 Statuses: 0, N exchanges are over; 1, it was refused or failed, which standard error says as
 `office: WORDS`.
 
 Example:
-  office serve team.db --port 8080 --requests 1000";
+  office serve team.db --port 8080 --requests 1000
+  office serve team.db --port 8080 --requests 1000 --journal team.journal";
 
-/// Adds `serve DB [--port P] --requests N`.
+/// Adds `serve DB [--port P] --requests N [--journal FILE]`.
 pub(crate) fn add_serve<'a>(
     alloc: Global,
     commands: &mut Vec<clap::Command<'a>>,
@@ -59,6 +61,11 @@ pub(crate) fn add_serve<'a>(
                 high: MOST_REQUESTS as u64,
             },
             help: "How many exchanges, from 1 to 1000000",
+        },
+        Parameter {
+            id: "journal",
+            form: Form::Valued("FILE"),
+            help: "The journal of the office, which goes on",
         },
     ];
     add_command(alloc, commands, "serve", ABOUT, EXAMPLES, &parameters)
@@ -96,9 +103,11 @@ pub(crate) fn serve_of<'w>(given: &ArgMatches<'w>) -> Option<Command<'w>>
     let database = given.get_str("database")?;
     let port = port_of(given)?;
     let requests = requests_of(given)?;
+    let journal = given.get_str("journal");
     Some(Command::Serve(ServeWords {
         database,
         port,
         requests,
+        journal,
     }))
 }

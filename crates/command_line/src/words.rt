@@ -12,11 +12,14 @@ use crate::check::{add_check, check_of};
 use crate::command::Command;
 use crate::compare::{add_compare, compare_of};
 use crate::desk::{add_desk, desk_of};
+use crate::evidence::{add_evidence, evidence_of};
 use crate::execve::{add_execve, execve_of};
 use crate::fault::WordsFault;
+use crate::history::{add_history, history_of};
 use crate::init::{add_init, init_of};
 use crate::migrate::{add_migrate, migrate_of};
 use crate::serve::{add_serve, serve_of};
+use crate::verify::{add_verify, verify_of};
 use clap::ArgMatches;
 use std::alloc::{AllocError, Global};
 
@@ -53,6 +56,9 @@ fn commands_of<'a>(alloc: Global) -> Result<Vec<clap::Command<'a>>, AllocError>
     add_desk(alloc, &mut commands)?;
     add_serve(alloc, &mut commands)?;
     add_migrate(alloc, &mut commands)?;
+    add_verify(alloc, &mut commands)?;
+    add_history(alloc, &mut commands)?;
+    add_evidence(alloc, &mut commands)?;
     Ok(commands)
 }
 
@@ -96,6 +102,9 @@ fn command_of<'w>(
         "desk" => Ok(desk_of(given)),
         "serve" => Ok(serve_of(given)),
         "migrate" => Ok(migrate_of(given)),
+        "verify" => Ok(verify_of(given)),
+        "history" => Ok(history_of(given)),
+        "evidence" => Ok(evidence_of(given)),
         _ => Ok(None),
     }
 }

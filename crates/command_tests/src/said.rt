@@ -41,6 +41,7 @@ fn run_line<S: Alter + Drop, D: Databases<Database = Connection<S>>, N: Network,
     let status = run_words(
         rt,
         databases,
+        rt,
         network,
         alloc,
         &words,

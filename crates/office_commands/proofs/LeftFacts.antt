@@ -17,14 +17,14 @@ use Rattle.office_commands.specs.Hosts.{HoldHistory, IsFoundIn, IsClosedInto, Fo
 use Rattle.office_commands.specs.Openings.{IsOpenedOffice}
 
 module _ {D : Type 0} (g : disk.Ghosts D) where
-  left : (office : Held (FileStore D g)) (closed : IsClosedInto office) (h : History) → (HasCleanDisk (file_state office) → IsOffice h (file_state office))
+  pub left : (office : Held (FileStore D g)) (closed : IsClosedInto office) (h : History) → (HasCleanDisk (file_state office) → IsOffice h (file_state office))
       → HoldHistory g closed.0 h
   left office closed h is clean =
       let copied = closed.1 clean in
       let shows = (is copied.was_clean).tables copied.was_clean copied.was_open in
       (closed_holds office closed.0 (tables_of h) shows copied, crashed_holds office closed.0 (tables_of h) shows copied)
 
-  served : (h : History) (image : Image) → IsLawfulHistory h → HoldsOffice image (tables_of h) → (office : Held (FileStore D g))
+  pub served : (h : History) (image : Image) → IsLawfulHistory h → HoldsOffice image (tables_of h) → (office : Held (FileStore D g))
       → IsOpenedOffice (over_files {g = g}) (IsFoundIn image) office → HasCleanDisk (file_state office) → IsOffice h (file_state office)
   served h image lawful holds office it clean =
       let found = it.opened (it.over.clean clean) in

@@ -1,6 +1,8 @@
 pub mod ServingFacts
 pub mod OpeningFacts
+pub mod KeptFacts
 pub mod LeftFacts
+pub mod KeptLeftFacts
 pub mod RunFacts
 pub mod SaidFacts
 pub mod TrialFacts

@@ -1,6 +1,6 @@
 -- What was done by a command, by the words that it was.
 use Rattle.std.proofs.Common.{◌≡◌, ℕ, List, Option, Result, Ok, Err, inl, inr, subst, sym}
-use Rattle.std.specs.Prelude.{IfErr, IfOk, MatchResult}
+use Rattle.std.specs.Prelude.{IfErr, IfOk, MatchResult, ⊤}
 use Rattle.std.specs.declared.io.Error.{Error}
 use Rattle.std.specs.declared.net.socket_addr.SocketAddr.{SocketAddr}
 use Rattle.std.specs.declared.net.tcp.TcpListener.{TcpListener}
@@ -9,27 +9,30 @@ use Rattle.sqlite.specs.Held.{Held}
 use Rattle.sqlite.specs.Store.{Ghosts}
 use Rattle.sqlite.specs.declared.error.Error.{Error as SqliteError}
 use Rattle.command_line.specs.declared.command.Command.{Command}
+use Rattle.office_journal.specs.declared.log.Log.{Ghosts as FileGhosts}
 use Rattle.streams.specs.declared.counted.Counted.{Counted}
+use Rattle.office_commands.specs.declared.journals.OpenedJournal.{OpenedJournal}
 use Rattle.office_commands.specs.Commands.{failed_status, HasEnded, HasRun}
 use Rattle.office_commands.specs.Failing.{HasFailed}
 use Rattle.office_commands.specs.Said.{IsRefusal}
 use Rattle.office_commands.specs.declared.fault.CommandFault.{CommandFault}
 
-module _ {S N F O : Type 0} (g : Ghosts S) (Opened-at : List ℕ → Held S → Type 0) (Closed : Held S → Type 0)
+module _ {S L T N F O : Type 0} (g : Ghosts S) (Opened-at : List ℕ → Held S → Type 0) (Closed : Held S → Type 0)
+    (f : FileGhosts L) (Creates : List ℕ → Result L Error → Type 0) (Finds : List ℕ → Result (OpenedJournal T L) Error → Type 0)
     (Shows : N → Result Duration Error → Type 0) (Binds : N → SocketAddr → Result TcpListener Error → Type 0)
     (Tells : N → TcpListener → Result SocketAddr Error → Type 0)
     (Opens : List ℕ → Result F Error → Type 0) (bytes_of : F → Option (List ℕ)) (contents : O → Option (List ℕ)) where
   -- what was done by a command was done by whatever is the same command
   pub run_as : (x y : Command) (came : Option (List ℕ)) (output wrote : Counted O) (status : ℕ) → x ≡ y
-      → HasRun g Opened-at Closed Shows Binds Tells Opens bytes_of contents y came output wrote status → HasRun g Opened-at Closed Shows Binds Tells Opens bytes_of contents x came output wrote status
+      → HasRun g Opened-at Closed f Creates Finds Shows Binds Tells Opens bytes_of contents y came output wrote status → HasRun g Opened-at Closed f Creates Finds Shows Binds Tells Opens bytes_of contents x came output wrote status
   run_as x y came output wrote status same run =
-      subst (λ (z : Command). HasRun g Opened-at Closed Shows Binds Tells Opens bytes_of contents z came output wrote status) (sym same) run
+      subst (λ (z : Command). HasRun g Opened-at Closed f Creates Finds Shows Binds Tells Opens bytes_of contents z came output wrote status) (sym same) run
 
   -- and so failed
-  pub failed_as : (Ended : Held S → Result (Unit {0}) SqliteError → Type 0) (x y : Command) (came left : Option (List ℕ)) (output wrote : Counted O) (why : CommandFault) → x ≡ y
-      → HasFailed g Opened-at Closed Ended Shows Binds Tells Opens bytes_of contents y came left output wrote why → HasFailed g Opened-at Closed Ended Shows Binds Tells Opens bytes_of contents x came left output wrote why
-  failed_as Ended x y came left output wrote why same failed =
-      subst (λ (z : Command). HasFailed g Opened-at Closed Ended Shows Binds Tells Opens bytes_of contents z came left output wrote why) (sym same) failed
+  pub failed_as : (Ended : Held S → Result (Unit {0}) SqliteError → Type 0) (Removes : List ℕ → Result ⊤ Error → Type 0) (x y : Command) (came left : Option (List ℕ)) (output wrote : Counted O) (why : CommandFault) → x ≡ y
+      → HasFailed g Opened-at Closed Ended f Creates Finds Removes Shows Binds Tells Opens bytes_of contents y came left output wrote why → HasFailed g Opened-at Closed Ended f Creates Finds Removes Shows Binds Tells Opens bytes_of contents x came left output wrote why
+  failed_as Ended Removes x y came left output wrote why same failed =
+      subst (λ (z : Command). HasFailed g Opened-at Closed Ended f Creates Finds Removes Shows Binds Tells Opens bytes_of contents z came left output wrote why) (sym same) failed
 
 module _ {E : Type 0} (said_of : E → Option (List ℕ)) (errors said : Counted E) where
   -- what was said of a fault was said of whatever is the same fault

@@ -1,7 +1,7 @@
 -- What each command has done, by the outcome: what it printed of which bytes, what it said on
 -- standard error, and the status that it ended with.
 use Rattle.std.specs.Prelude.{◌≡◌, ◌⊎◌, ℕ, List, [], ◌∷◌, Option, None, Result, Ok, Err, IfSome}
-use Rattle.std.specs.Prelude.{String, codes, string_bytes}
+use Rattle.std.specs.Prelude.{String, codes, string_bytes, option_copied}
 use Rattle.std.specs.declared.alloc.Global.{Global}
 use Rattle.std.specs.declared.io.Error.{Error}
 use Rattle.std.specs.declared.net.socket_addr.SocketAddr.{SocketAddr}
@@ -19,6 +19,7 @@ use Rattle.command_line.specs.declared.command.Command.TheVariants as command
 use Rattle.command_line.specs.declared.command.ExecveWords.{ExecveWords}
 use Rattle.desk_http.specs.Lines.{IsCut, IsWhole}
 use Rattle.office_desk.specs.Meant.{meaning_over}
+use Rattle.office_journal.specs.declared.log.Log.{Ghosts as FileGhosts}
 use Rattle.streams.specs.declared.counted.Counted.{Counted}
 use Rattle.profile_commands.specs.Comparing.{IsCompared}
 use Rattle.profile_commands.specs.Executions.{execution_of, IsExecuted}
@@ -30,13 +31,18 @@ use Rattle.office_commands.specs.declared.compare.Source.{Source}
 use Rattle.office_commands.specs.declared.compare.Source.TheVariants.{Opened, Unopened}
 use Rattle.office_commands.specs.declared.fault.CommandFault.{CommandFault}
 use Rattle.office_commands.specs.declared.fault.CommandFault.TheVariants as fault
+use Rattle.office_commands.specs.declared.journals.OpenedJournal.{OpenedJournal}
 use Rattle.office_commands.specs.Foundings.{founding_of_words, WasFounded}
+use Rattle.office_commands.specs.Journals.{journaled_over, IfJournaled, WasFoundedWith}
+use Rattle.office_commands.specs.Journals.{WasKept}
 use Rattle.office_commands.specs.Lines.{HasAnswered}
 use Rattle.office_commands.specs.Migrations.{WasMigrated}
 use Rattle.office_commands.specs.Openings.{WasServed}
+use Rattle.office_commands.specs.Reports.{HasProved, WasToldAt}
 use Rattle.office_commands.specs.Said.{IsRefusal, IsSaid}
 use Rattle.office_commands.specs.Serving.{HasServed}
 use Rattle.office_commands.specs.Trials.{WasTried}
+use Rattle.office_commands.specs.Verifications.{HasVerified}
 
 -- what is printed of an execve: the lines of the state after it, or EPERM
 abbrev pub outcome_text : Outcome → List ℕ
@@ -106,11 +112,13 @@ failed_status (command.Compare base shown) = 2
 failed_status _ = 1
 
 -- What a command did that ended well with this status, over input that was to come, databases of
--- which this is known as they are opened and closed, a network of which this is known as its clock
--- is read, as it binds and as it tells where it listens, and files of which this is known as they
--- are opened.
-module _ {S N F O : Type 0} (g : Ghosts S) (Opened-at : List ℕ → Held S → Type 0)
-    (Closed : Held S → Type 0) (Shows : N → Result Duration Error → Type 0)
+-- which this is known as they are opened and closed, journals of which this is known as they are
+-- made and opened, a network of which this is known as its clock is read, as it binds and as it
+-- tells where it listens, and files of which this is known as they are opened.
+module _ {S L T N F O : Type 0} (g : Ghosts S) (Opened-at : List ℕ → Held S → Type 0)
+    (Closed : Held S → Type 0) (f : FileGhosts L) (Creates : List ℕ → Result L Error → Type 0)
+    (Finds : List ℕ → Result (OpenedJournal T L) Error → Type 0)
+    (Shows : N → Result Duration Error → Type 0)
     (Binds : N → SocketAddr → Result TcpListener Error → Type 0)
     (Tells : N → TcpListener → Result SocketAddr Error → Type 0)
     (Opens : List ℕ → Result F Error → Type 0)
@@ -124,19 +132,36 @@ module _ {S N F O : Type 0} (g : Ghosts S) (Opened-at : List ℕ → Held S → 
   HasRun (command.Execve words) came output wrote status =
       HasExecuted Opens bytes_of contents output wrote words status
   HasRun (command.Init words) came output wrote status =
-      WasFounded g (Opened-at words.database.now) Closed (founding_of_words words)
+      IfJournaled (option_copied words.journal)
+      (WasFounded g (Opened-at words.database.now) Closed (founding_of_words words))
+      (λ file. WasFoundedWith g f (Creates file) (Opened-at words.database.now)
+      Closed (founding_of_words words))
       × IsWhole contents output wrote (codes "founded\n") × (status ≡ 0)
-  HasRun (command.Desk database) came output wrote status =
-      WasServed g (Opened-at database.now)
-      (HasAnswered contents (meaning_over g) came output wrote) Closed
+  HasRun (command.Desk database journal) came output wrote status =
+      IfJournaled (option_copied journal)
+      (WasServed g (Opened-at database.now)
+      (HasAnswered contents (meaning_over g) came output wrote) Closed)
+      (λ file. WasKept g f (Finds file) (Opened-at database.now)
+      (HasAnswered contents (journaled_over g f) came output wrote) Closed)
       × (status ≡ 0)
   HasRun (command.Serve words) came output wrote status =
-      WasServed g (Opened-at words.database.now) (λ old new. HasServed Shows Binds Tells contents
-      (meaning_over g) words old new output wrote) Closed
+      IfJournaled (option_copied words.journal)
+      (WasServed g (Opened-at words.database.now) (λ old new. HasServed Shows Binds Tells contents
+      (meaning_over g) words old new output wrote) Closed)
+      (λ file. WasKept g f (Finds file) (Opened-at words.database.now)
+      (λ old new. HasServed Shows Binds Tells contents (journaled_over g f) words old new
+      output wrote) Closed)
       × (status ≡ 0)
   HasRun (command.Migrate database) came output wrote status =
       WasMigrated g (Opened-at database.now) Closed
       × IsWhole contents output wrote (codes "migrated\n") × (status ≡ 0)
+  HasRun (command.Verify database journal) came output wrote status =
+      HasVerified g (Opens journal.now) bytes_of (Opened-at database.now) contents output wrote
+      Closed × (status ≡ 0)
+  HasRun (command.History words) came output wrote status =
+      WasToldAt Opens bytes_of contents output wrote words × (status ≡ 0)
+  HasRun (command.Evidence words) came output wrote status =
+      HasProved Opens bytes_of contents output wrote words × (status ≡ 0)
   HasRun (command.Compare base new) came output wrote status =
       HasCompared Opens bytes_of contents output wrote base.now new.now status
 

@@ -1,6 +1,6 @@
 -- Why each command fails, by the words that it was, and what it then has done.
 use Rattle.std.specs.Prelude.{◌≡◌, ◌⊎◌, ℕ, List, Option, Result, Ok, Err, IfSome, String, codes}
-use Rattle.std.specs.Prelude.{string_bytes}
+use Rattle.std.specs.Prelude.{string_bytes, ⊤, option_copied}
 use Rattle.std.specs.declared.alloc.Global.{Global}
 use Rattle.std.specs.declared.io.Error.{Error}
 use Rattle.std.specs.declared.net.socket_addr.SocketAddr.{SocketAddr}
@@ -15,6 +15,7 @@ use Rattle.command_line.specs.declared.command.Command.TheVariants as command
 use Rattle.command_line.specs.declared.command.ExecveWords.{ExecveWords}
 use Rattle.desk_http.specs.Lines.{IsCut}
 use Rattle.office_desk.specs.Meant.{meaning_over}
+use Rattle.office_journal.specs.declared.log.Log.{Ghosts as FileGhosts}
 use Rattle.profile_commands.specs.Comparing.{IsBase, IsCompared, IsNew}
 use Rattle.profile_commands.specs.Executions.{execution_of, IsExecuted}
 use Rattle.profile_commands.specs.Refusal.{IsChecked, RefusesAs}
@@ -26,13 +27,18 @@ use Rattle.streams.specs.declared.counted.Counted.{Counted}
 use Rattle.office_commands.specs.declared.compare.Source.{Source}
 use Rattle.office_commands.specs.declared.fault.CommandFault.{CommandFault}
 use Rattle.office_commands.specs.declared.fault.CommandFault.TheVariants as fault
+use Rattle.office_commands.specs.declared.journals.OpenedJournal.{OpenedJournal}
 use Rattle.office_commands.specs.Commands.{outcome_text, source_bytes, IsSource}
 use Rattle.office_commands.specs.Foundings.{founding_of_words, IsUnfounded, WasFounded}
+use Rattle.office_commands.specs.Journals.{journaled_over, IfJournaled, IsServedWith}
+use Rattle.office_commands.specs.Journals.{IsUnfoundedWith, WasFoundedWith}
 use Rattle.office_commands.specs.Lines.{HasAnswered, HasStopped}
 use Rattle.office_commands.specs.Migrations.{IsUnmigrated, WasMigrated}
 use Rattle.office_commands.specs.Openings.{IsServed}
 use Rattle.office_commands.specs.Serving.{HasBegun, HasServed}
+use Rattle.office_commands.specs.Reports.{FailsToProve, IsUntoldAt}
 use Rattle.office_commands.specs.Trials.{HasTried}
+use Rattle.office_commands.specs.Verifications.{FailsToVerify}
 
 -- Files of which this is known as they are opened at a path, and whose bytes are these.
 module _ {F : Type 0} (Opens : List ℕ → Result F Error → Type 0)
@@ -111,9 +117,13 @@ module _ {O : Type 0} (contents : O → Option (List ℕ)) (output wrote : Count
       (Failed × (wrote ≡ output)) ⊎ ((why ≡ fault.Write) × Done × IsCut contents output wrote word)
 
 -- What a command did that failed so, over input that was to come and what of it is left, and the
--- same databases, network and files as of a command that ended well.
-module _ {S N F O : Type 0} (g : Ghosts S) (Opened-at : List ℕ → Held S → Type 0)
+-- same databases, journals, network and files as of a command that ended well; of the journals this
+-- is known as they are removed.
+module _ {S L T N F O : Type 0} (g : Ghosts S) (Opened-at : List ℕ → Held S → Type 0)
     (Closed : Held S → Type 0) (Ended : Held S → Result (Unit {0}) SqliteError → Type 0)
+    (f : FileGhosts L) (Creates : List ℕ → Result L Error → Type 0)
+    (Finds : List ℕ → Result (OpenedJournal T L) Error → Type 0)
+    (Removes : List ℕ → Result ⊤ Error → Type 0)
     (Shows : N → Result Duration Error → Type 0)
     (Binds : N → SocketAddr → Result TcpListener Error → Type 0)
     (Tells : N → TcpListener → Result SocketAddr Error → Type 0)
@@ -130,21 +140,45 @@ module _ {S N F O : Type 0} (g : Ghosts S) (Opened-at : List ℕ → Held S → 
       FailsToExecute Opens bytes_of contents output wrote words why
   HasFailed (command.Init words) came left output wrote why =
       FailsToSay contents output wrote (codes "founded\n")
+      (IfJournaled (option_copied words.journal)
       (WasFounded g (Opened-at words.database.now) Closed (founding_of_words words))
-      (IsUnfounded g (Opened-at words.database.now) Ended (founding_of_words words) why) why
-  HasFailed (command.Desk database) came left output wrote why =
-      IsServed g (Opened-at database.now)
+      (λ file. WasFoundedWith g f (Creates file) (Opened-at words.database.now)
+      Closed (founding_of_words words)))
+      (IfJournaled (option_copied words.journal)
+      (IsUnfounded g (Opened-at words.database.now) Ended (founding_of_words words) why)
+      (λ file. IsUnfoundedWith g f (Creates file) (Removes file) (Opened-at words.database.now)
+      Ended (founding_of_words words) why)) why
+  HasFailed (command.Desk database journal) came left output wrote why =
+      IfJournaled (option_copied journal)
+      (IsServed g (Opened-at database.now)
       (HasAnswered contents (meaning_over g) came output wrote)
-      (HasStopped contents (meaning_over g) came left output wrote) Closed Ended (Err why)
+      (HasStopped contents (meaning_over g) came left output wrote) Closed Ended (Err why))
+      (λ file. IsServedWith g f (Finds file) (Opened-at database.now)
+      (HasAnswered contents (journaled_over g f) came output wrote)
+      (HasStopped contents (journaled_over g f) came left output wrote) Closed Ended (Err why))
   HasFailed (command.Serve words) came left output wrote why =
-      IsServed g (Opened-at words.database.now)
+      IfJournaled (option_copied words.journal)
+      (IsServed g (Opened-at words.database.now)
       (λ old new. HasServed Shows Binds Tells contents (meaning_over g) words old new output wrote)
       (λ failed old new. HasBegun Shows Binds Tells contents (meaning_over g) words
       old new output wrote failed)
-      Closed Ended (Err why)
+      Closed Ended (Err why))
+      (λ file. IsServedWith g f (Finds file) (Opened-at words.database.now)
+      (λ old new. HasServed Shows Binds Tells contents (journaled_over g f) words old new
+      output wrote)
+      (λ failed old new. HasBegun Shows Binds Tells contents (journaled_over g f) words
+      old new output wrote failed)
+      Closed Ended (Err why))
   HasFailed (command.Migrate database) came left output wrote why =
       FailsToSay contents output wrote (codes "migrated\n")
       (WasMigrated g (Opened-at database.now) Closed)
       (IsUnmigrated g (Opened-at database.now) Ended why) why
+  HasFailed (command.Verify database journal) came left output wrote why =
+      FailsToVerify g (Opens journal.now) bytes_of (Opened-at database.now) contents output wrote
+      Closed Ended why
+  HasFailed (command.History words) came left output wrote why =
+      IsUntoldAt Opens bytes_of contents output wrote words why
+  HasFailed (command.Evidence words) came left output wrote why =
+      FailsToProve Opens bytes_of contents output wrote words why
   HasFailed (command.Compare base new) came left output wrote why =
       FailsToCompare Opens bytes_of contents output wrote base.now new.now why

@@ -1,6 +1,13 @@
 -- The words of why a command is refused or failed.
 use Rattle.std.specs.Prelude.{ℕ, List, ◌++◌, codes}
 use Rattle.desk.specs.Faults.{desk_fault_word}
+use Rattle.journaled_office.specs.declared.fault.NotReopened.{NotReopened}
+use Rattle.journaled_office.specs.declared.fault.NotReopened.TheVariants as reopening
+use Rattle.journal_replay.specs.FaultTexts.{refused_text}
+use Rattle.journal_reports.specs.FaultTexts.{no_evidence_text, unwritten_text}
+use Rattle.journal_verification.specs.DifferenceTexts.{difference_text}
+use Rattle.journal_verification.specs.declared.verification.Unverified.{Unverified}
+use Rattle.journal_verification.specs.declared.verification.Unverified.TheVariants as unverified
 use Rattle.office_store.specs.Faults.{founding_fault_word, migration_fault_word, opening_fault_word}
 use Rattle.office_tables.specs.Faults.{store_fault_word}
 use Rattle.profile_commands.specs.declared.compare.ComparedFault.{ComparedFault}
@@ -10,6 +17,7 @@ use Rattle.profile_commands.specs.declared.execution.ExecutionFault.TheVariants 
 use Rattle.profile_commands.specs.declared.fault.FileFault.{FileFault}
 use Rattle.profile_commands.specs.declared.fault.FileFault.TheVariants as file
 use Rattle.profile_text.specs.FaultText.{fault_text_of}
+use Rattle.review_policy.specs.WordTables.{fault_word}
 use Rattle.streams.specs.declared.up_to.Unread.{Unread}
 use Rattle.streams.specs.declared.up_to.Unread.TheVariants as unread
 use Rattle.office_commands.specs.declared.fault.CommandFault.{CommandFault}
@@ -45,6 +53,20 @@ compared_fault_text (compared.Base why) = codes "base: " ++ file_fault_text why
 compared_fault_text (compared.New why) = codes "new: " ++ file_fault_text why
 compared_fault_text compared.NoMemory = codes "memory"
 
+-- why an office wasn't opened again with its journal
+abbrev pub reopening_fault_word : NotReopened → List ℕ
+reopening_fault_word reopening.Read = codes "journal"
+reopening_fault_word reopening.NotALine = codes "not-a-journal"
+reopening_fault_word (reopening.Office why) = fault_word why
+reopening_fault_word reopening.Log = codes "journal"
+reopening_fault_word reopening.NoMemory = codes "memory"
+
+-- why an office isn't the one of its journal
+abbrev pub unverified_text : Unverified → List ℕ
+unverified_text (unverified.Refused refused) = refused_text refused
+unverified_text (unverified.Differs row) = codes "differs: " ++ difference_text row
+unverified_text (unverified.Fault why) = store_fault_word why
+
 -- why a command was refused or failed
 abbrev pub command_fault_text : CommandFault → List ℕ
 command_fault_text (fault.Execution why) = execution_fault_word why
@@ -57,6 +79,13 @@ command_fault_text (fault.Migration why) = migration_fault_word why
 command_fault_text (fault.Store why) = store_fault_word why
 command_fault_text (fault.Opening why) = opening_fault_word why
 command_fault_text fault.Close = codes "disk"
+command_fault_text fault.JournalThere = codes "journal-there"
+command_fault_text fault.Journal = codes "journal"
+command_fault_text (fault.Reopening why) = reopening_fault_word why
+command_fault_text (fault.Unverified why) = unverified_text why
+command_fault_text (fault.Unwritten why) = unwritten_text why
+command_fault_text (fault.NoEvidence why) = no_evidence_text why
+command_fault_text fault.NotAWord = codes "bad-word"
 command_fault_text (fault.Desk why) = desk_fault_word why
 command_fault_text fault.Bind = codes "bind"
 command_fault_text fault.Write = codes "write"

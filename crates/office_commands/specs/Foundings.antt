@@ -8,7 +8,7 @@ use Rattle.sqlite.specs.declared.error.Error.{Error}
 use Rattle.sqlite.specs.State.{HasCleanDisk}
 use Rattle.command_line.specs.declared.command.InitWords.{InitWords}
 use Rattle.office_store.specs.Schema.{no_schema}
-use Rattle.office_policy.specs.History.{History, founded}
+use Rattle.office_policy.specs.History.{Event, History, founded}
 use Rattle.office_policy.specs.Handled.{Stands}
 use Rattle.office_desk.specs.Offices.{IsOffice}
 use Rattle.office_desk.specs.Meant.{meaning_over}
@@ -61,9 +61,13 @@ founding_of_words words =
     founding_of words.name.now words.team.now words.digest.now
     (map (λ capability. capability.now) words.capabilities.items)
 
+-- the event that a founding is
+abbrev pub founding_event : Founding → Event
+founding_event founding = founded founding.name founding.team founding.digest founding.listed
+
 -- a history that is just this founding
 abbrev pub history_of : Founding → History
-history_of founding = founded founding.name founding.team founding.digest founding.listed ∷ []
+history_of founding = founding_event founding ∷ []
 
 -- what was founded is the office of just this founding, and stands
 abbrev pub IsFoundedBy : {S : Type 0} → Ghosts S → Founding → Held S → Type 0
@@ -95,6 +99,11 @@ pub record WasFounded {S : Type 0} (g : Ghosts S) (Opened Closed : Held S → Ty
 abbrev pub IsDescribed : Described → Type 0
 IsDescribed (Ok founding) = Unit {0}
 IsDescribed (Err fault) = ⊥
+
+-- why words describe none; memory may have been refused in place of that
+abbrev pub IsUndescribed : Described → CommandFault → Type 0
+IsUndescribed described (fault.FoundingWords why) = Gives (Err why) described
+IsUndescribed described _ = ⊥
 
 -- Why nothing is founded: by the words where they describe no founding, and by the store only where
 -- they describe one, whose database was then closed. Memory may have been refused in place of

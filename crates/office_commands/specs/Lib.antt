@@ -3,9 +3,14 @@ pub mod Failing
 pub mod FaultTexts
 pub mod Said
 pub mod Openings
+pub mod Journals
 pub mod Serving
 pub mod Foundings
 pub mod Trials
 pub mod Lines
 pub mod Migrations
 pub mod Hosts
+pub mod KeptHosts
+pub mod JournalTexts
+pub mod Verifications
+pub mod Reports

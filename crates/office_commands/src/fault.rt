@@ -1,10 +1,14 @@
 //! Why a command is refused or failed.
 
 ghost use Rattle.std.specs.Prelude.{◌≡◌};
-ghost use Rattle.office_commands.specs.FaultTexts.{execution_fault_word, unread_word};
+ghost use Rattle.office_commands.specs.FaultTexts.{execution_fault_word, reopening_fault_word};
+ghost use Rattle.office_commands.specs.FaultTexts.{unread_word};
 
 use crate::founding_fault::FoundingWordsFault;
 use desk::DeskFault;
+use journal_reports::{NoEvidence, Unwritten};
+use journal_verification::Unverified;
+use journaled_office::NotReopened;
 use office_store::{FoundingFault, MigrationFault, OpeningFault};
 use office_tables::StoreFault;
 use profile_commands::{ComparedFault, ExecutionFault, FileFault};
@@ -34,6 +38,20 @@ pub enum CommandFault {
     Opening(OpeningFault),
     /// An office can't be closed.
     Close,
+    /// Something is where a journal is to be begun.
+    JournalThere,
+    /// A journal can't be begun, or can't be opened.
+    Journal,
+    /// An office isn't opened again with its journal.
+    Reopening(NotReopened),
+    /// An office isn't the one of its journal.
+    Unverified(Unverified),
+    /// The history of a journal wasn't written to its end.
+    Unwritten(Unwritten),
+    /// A journal has no evidence of the issue of a revision.
+    NoEvidence(NoEvidence),
+    /// The name of a team or of a profile is none.
+    NotAWord,
     /// The desk stopped.
     Desk(DeskFault),
     /// Nothing listens at the port.
@@ -65,6 +83,18 @@ fn unread_word(unread: Unread) -> &'static str
     }
 }
 
+// The word of why an office isn't opened again with its journal.
+fn reopening_word(fault: NotReopened) -> &'static str
+    ensures { result.now ≡ reopening_fault_word fault }
+{
+    match fault {
+        NotReopened::Read | NotReopened::Log => "journal",
+        NotReopened::NotALine => "not-a-journal",
+        NotReopened::Office(fault) => fault.word(),
+        NotReopened::NoMemory => "memory",
+    }
+}
+
 impl fmt::Display for CommandFault {
     ghost use Rattle.std.specs.Prelude.{Some};
     ghost use Rattle.office_commands.specs.FaultTexts.{command_fault_text};
@@ -93,9 +123,18 @@ impl fmt::Display for CommandFault {
             CommandFault::Migration(fault) => write!(f, "{fault}"),
             CommandFault::Store(fault) => write!(f, "{fault}"),
             CommandFault::Opening(fault) => write!(f, "{fault}"),
+            CommandFault::Unverified(Unverified::Refused(refused)) => write!(f, "{refused}"),
+            CommandFault::Unverified(Unverified::Differs(row)) => write!(f, "differs: {row}"),
+            CommandFault::Unverified(Unverified::Fault(fault)) => write!(f, "{fault}"),
+            CommandFault::Unwritten(why) => write!(f, "{why}"),
+            CommandFault::NoEvidence(why) => write!(f, "{why}"),
+            CommandFault::NotAWord => f.write_str("bad-word"),
             CommandFault::Desk(fault) => write!(f, "{fault}"),
             CommandFault::Open => f.write_str("read"),
             CommandFault::Close => f.write_str("disk"),
+            CommandFault::JournalThere => f.write_str("journal-there"),
+            CommandFault::Journal => f.write_str("journal"),
+            CommandFault::Reopening(fault) => f.write_str(reopening_word(*fault)),
             CommandFault::Bind => f.write_str("bind"),
             CommandFault::Write => f.write_str("write"),
             CommandFault::NoMemory | CommandFault::Compared(ComparedFault::NoMemory) => {

@@ -1,4 +1,4 @@
-//! The commands over the host: its files, its databases and its network.
+//! The commands over the host: its files, its databases, its journals and its network.
 
 use crate::host_files::{HostFiles, Unread};
 use crate::run::run_words;
@@ -20,6 +20,7 @@ fn run_from<T: Start + Copy>(
         rt,
         &databases,
         rt,
+        rt,
         rt.alloc(),
         words,
         &mut Counted::new(input),
@@ -28,7 +29,7 @@ fn run_from<T: Start + Copy>(
     )
 }
 
-/// [`run_words`] over the files, the databases and the network of the host.
+/// [`run_words`] over the files, the databases, the journals and the network of the host.
 pub fn run_here(
     rt: &HostRuntime,
     words: &[String],

@@ -2,17 +2,25 @@
 //! it ends with.
 #![tactic(auto)]
 
+mod begun;
 mod compare;
 mod databases;
+mod evidence;
 mod fault;
 mod files;
 mod founding;
 mod founding_fault;
+mod history;
 mod host;
 mod host_files;
+mod host_journals;
 mod init;
+mod journal_text;
+mod journals;
+mod kept;
 mod lines;
 mod migrate;
+mod name;
 mod network;
 mod opening;
 mod reopening;
@@ -20,6 +28,7 @@ mod run;
 mod serve;
 mod stored;
 mod trial;
+mod verify;
 mod written;
 
 pub use databases::Databases;
@@ -28,6 +37,8 @@ pub use founding::{Founding, founding_of};
 pub use founding_fault::FoundingWordsFault;
 pub use host::run_here;
 pub use host_files::{HostFiles, Unread};
+pub use host_journals::HostLog;
+pub use journals::{Journals, OpenedJournal};
 pub use network::{Network, PassNet};
-pub use reopening::a_closed_office_is_left_in_its_files;
+pub use reopening::{a_closed_office_is_left_in_its_files, a_kept_office_is_left_with_its_journal};
 pub use run::run_words;

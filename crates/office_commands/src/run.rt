@@ -7,20 +7,26 @@ ghost use Rattle.office_commands.specs.Commands.{HasCompared, HasExecuted, HasRu
 ghost use Rattle.office_commands.specs.Commands.{HasTold, IsPrinted};
 ghost use Rattle.office_commands.specs.Failing.{FailsToCheck, FailsToCompare, FailsToExecute};
 ghost use Rattle.office_commands.specs.Failing.{HasFailed};
+ghost use Rattle.office_commands.specs.Reports.{FailsToProve, HasProved, IsUntoldAt, WasToldAt};
 ghost use Rattle.office_commands.specs.Said.{IsRefusal};
+ghost use Rattle.office_commands.specs.Verifications.{FailsToVerify, HasVerified};
 
 use crate::compare::compare_files;
 use crate::databases::Databases;
+use crate::evidence::evidence_at;
 use crate::fault::CommandFault;
 use crate::files::PassFiles;
+use crate::history::history_at;
 use crate::init::found_at;
+use crate::journals::Journals;
 use crate::migrate::migrate_at;
 use crate::network::Network;
 use crate::serve::serve_http;
 use crate::stored::serve_stored;
 use crate::trial::serve_trial;
+use crate::verify::{verified_line, verify_at};
 use crate::written::{print, refuse, say};
-use command_line::{Command, ExecveWords, WordsFault, read_words};
+use command_line::{Command, EvidenceWords, ExecveWords, HistoryWords, WordsFault, read_words};
 use profile_commands::{Outcome, check_document, execution_of, execve_document};
 use sqlite::{Alter, Connection};
 use std::alloc::Global;
@@ -112,6 +118,75 @@ fn run_compare<F: PassFiles, O: Write>(
     Ok(findings_status(&text))
 }
 
+// `verify`.
+fn run_verify<F: PassFiles, S: Alter + Drop, D: Databases<Database = Connection<S>>, O: Write>(
+    files: &F,
+    databases: &D,
+    alloc: Global,
+    database: &str,
+    journal: &str,
+    output: &mut Counted<O>,
+) -> Result<u8, CommandFault>
+    ensures done { IfOk result (λ status. HasVerified S.Store (F.opens files.now journal.now)
+        F.File.remaining (D.opened database.now) O.contents output.old output.new D.closed
+        × (status ≡ 0)) }
+    ensures failed { IfErr result (FailsToVerify S.Store (F.opens files.now journal.now)
+        F.File.remaining (D.opened database.now) O.contents output.old output.new D.closed
+        D.ended) }
+{
+    let events = match verify_at(files, databases, alloc, database, journal) {
+        Ok(events) => events,
+        Err(fault) => return Err(fault),
+    };
+    let Ok(line) = verified_line(alloc, events) else {
+        return Err(CommandFault::NoMemory);
+    };
+    match print(output, line.as_str()) {
+        Ok(()) => Ok(0),
+        Err(fault) => Err(fault),
+    }
+}
+
+// `history`.
+fn run_history<F: PassFiles, O: Write>(
+    files: &F,
+    alloc: Global,
+    words: &HistoryWords<'_>,
+    output: &mut Counted<O>,
+) -> Result<u8, CommandFault>
+    ensures done { IfOk result (λ status. WasToldAt (F.opens files.now) F.File.remaining
+        O.contents output.old output.new words.now × (status ≡ 0)) }
+    ensures failed { IfErr result (IsUntoldAt (F.opens files.now) F.File.remaining O.contents
+        output.old output.new words.now) }
+{
+    match history_at(files, alloc, words, output) {
+        Ok(()) => Ok(0),
+        Err(fault) => Err(fault),
+    }
+}
+
+// `evidence`.
+fn run_evidence<F: PassFiles, O: Write>(
+    files: &F,
+    alloc: Global,
+    words: &EvidenceWords<'_>,
+    output: &mut Counted<O>,
+) -> Result<u8, CommandFault>
+    ensures done { IfOk result (λ status. HasProved (F.opens files.now) F.File.remaining
+        O.contents output.old output.new words.now × (status ≡ 0)) }
+    ensures failed { IfErr result (FailsToProve (F.opens files.now) F.File.remaining O.contents
+        output.old output.new words.now) }
+{
+    let text = match evidence_at(files, alloc, words) {
+        Ok(text) => text,
+        Err(fault) => return Err(fault),
+    };
+    match print(output, text.as_str()) {
+        Ok(()) => Ok(0),
+        Err(fault) => Err(fault),
+    }
+}
+
 // The status that the program ends with where the command is refused or fails.
 fn failed_status(command: &Command<'_>) -> u8
     ensures { result ≡ failed_status command.now }
@@ -127,12 +202,14 @@ fn run<
     F: PassFiles,
     S: Alter + Drop,
     D: Databases<Database = Connection<S>>,
+    J: Journals,
     N: Network,
     I: Read,
     O: Write,
 >(
     files: &F,
     databases: &D,
+    journals: &J,
     network: &N,
     alloc: Global,
     command: Command<'_>,
@@ -142,10 +219,11 @@ fn run<
     requires reads { input.old.calls ≤ 2 ^ 62 }
     requires read_faults { input.old.faults ≤ 2 ^ 62 }
     requires write_faults { output.old.faults ≤ 2 ^ 62 }
-    ensures done { IfOk result (HasRun S.Store D.opened D.closed N.shows N.binds N.tells
-        (F.opens files.now) F.File.remaining O.contents command.entry
+    ensures done { IfOk result (HasRun S.Store D.opened D.closed J.File.Log
+        (J.creates journals.now) (J.opens journals.now) N.shows N.binds N.tells (F.opens files.now) F.File.remaining O.contents command.entry
         (I.remaining input.old.inner) output.old output.new) }
-    ensures failed { IfErr result (HasFailed S.Store D.opened D.closed D.ended
+    ensures failed { IfErr result (HasFailed S.Store D.opened D.closed D.ended J.File.Log
+        (J.creates journals.now) (J.opens journals.now) (J.removes journals.now)
         N.shows N.binds N.tells (F.opens files.now) F.File.remaining O.contents command.entry
         (I.remaining input.old.inner) (I.remaining input.new.inner) output.old output.new) }
 {
@@ -157,12 +235,12 @@ fn run<
         Command::Check { file } => run_check(files, alloc, file, output),
         Command::Execve(words) => run_execve(files, alloc, &words, output),
         Command::Init(words) => {
-            found_at(databases, alloc, &words)?;
+            found_at(databases, journals, alloc, &words)?;
             print(output, "founded\n")?;
             Ok(0)
         }
         Command::Serve(words) => {
-            serve_http(files, databases, network, alloc, &words, output)?;
+            serve_http(files, databases, journals, network, alloc, &words, output)?;
             Ok(0)
         }
         Command::Migrate { database } => {
@@ -170,11 +248,18 @@ fn run<
             print(output, "migrated\n")?;
             Ok(0)
         }
-        Command::Desk { database } => {
-            serve_stored(files, databases, alloc, database, input, output)?;
+        Command::Desk { database, journal } => {
+            serve_stored(
+                files, databases, journals, alloc, database, journal, input, output,
+            )?;
             Ok(0)
         }
         Command::Compare { base, new } => run_compare(files, alloc, base, new, output),
+        Command::Verify { database, journal } => {
+            run_verify(files, databases, alloc, database, journal, output)
+        }
+        Command::History(words) => run_history(files, alloc, &words, output),
+        Command::Evidence(words) => run_evidence(files, alloc, &words, output),
     }
 }
 
@@ -251,6 +336,7 @@ pub fn run_words<
     F: PassFiles,
     S: Alter + Drop,
     D: Databases<Database = Connection<S>>,
+    J: Journals,
     N: Network,
     I: Read,
     O: Write,
@@ -258,6 +344,7 @@ pub fn run_words<
 >(
     files: &F,
     databases: &D,
+    journals: &J,
     network: &N,
     alloc: Global,
     words: &[String],
@@ -269,10 +356,12 @@ pub fn run_words<
     requires read_faults { input.old.faults ≤ 2 ^ 62 }
     requires write_faults { output.old.faults ≤ 2 ^ 62 }
     ensures { HasRunWords E.contents errors.old errors.new O.contents output.old output.new
-        (λ command. HasRun S.Store D.opened D.closed N.shows N.binds N.tells
-        (F.opens files.now) F.File.remaining O.contents
+        (λ command. HasRun S.Store D.opened D.closed J.File.Log
+        (J.creates journals.now) (J.opens journals.now) N.shows N.binds N.tells (F.opens files.now) F.File.remaining O.contents
         command (I.remaining input.old.inner) output.old output.new)
-        (λ command. HasFailed S.Store D.opened D.closed D.ended N.shows N.binds N.tells
+        (λ command. HasFailed S.Store D.opened D.closed D.ended J.File.Log
+        (J.creates journals.now) (J.opens journals.now) (J.removes journals.now)
+        N.shows N.binds N.tells
         (F.opens files.now) F.File.remaining O.contents command
         (I.remaining input.old.inner) (I.remaining input.new.inner) output.old output.new)
         words.entry.now result }
@@ -280,7 +369,9 @@ pub fn run_words<
     match read_words(alloc, words) {
         Ok(command) => {
             let failed = failed_status(&command);
-            let ended = run(files, databases, network, alloc, command, input, output);
+            let ended = run(
+                files, databases, journals, network, alloc, command, input, output,
+            );
             status_of(alloc, errors, ended, failed)
         }
         Err(fault) => tell(alloc, &fault, output, errors),

@@ -1,9 +1,10 @@
 //! `serve`: an office in a file, over HTTP on loopback.
 
-ghost use Rattle.std.specs.Prelude.{◌≡◌, IfErr, IfOk, string_bytes};
+ghost use Rattle.std.specs.Prelude.{◌≡◌, IfErr, IfOk, option_copied, string_bytes};
 ghost use Rattle.std.specs.Duration.{as_nanos};
 ghost use Rattle.std.specs.Net.Socket.{socket_ip, socket_port};
 ghost use Rattle.office_desk.specs.Meant.{meaning_over};
+ghost use Rattle.office_commands.specs.Journals.{IfJournaled, IsServedWith, journaled_over};
 ghost use Rattle.office_commands.specs.Openings.{IsServed};
 ghost use Rattle.office_commands.specs.Serving.{HasBegun, HasServed, IsAt, IsLoopback, IsServing};
 ghost use Rattle.office_commands.specs.Serving.{IsTellingPort, IsUnbound, listening_line};
@@ -11,6 +12,8 @@ ghost use Rattle.office_commands.specs.Serving.{longest_exchange};
 
 use crate::databases::Databases;
 use crate::fault::CommandFault;
+use crate::journals::Journals;
+use crate::kept::{close_kept, kept_office_at};
 use crate::network::Network;
 use crate::opening::{close, first_fault, office_at};
 use crate::written::print;
@@ -94,10 +97,8 @@ fn serve_bound<N: Network, H: Handler, O: Write>(
     }
 }
 
-/// Serves exchanges with the office at a path, and closes it, also where that failed. Where closing
-/// fails too, the first fault is told. The port is bound last, so that nothing is heard where there
-/// is no office.
-pub(crate) fn serve_http<
+// The same without a journal.
+fn serve_alone<
     F: Files,
     S: Alter + Drop,
     D: Databases<Database = Connection<S>>,
@@ -125,4 +126,88 @@ pub(crate) fn serve_http<
     let served = serve_bound(network, &mut office, alloc, words, output);
     let closed = close(databases, office);
     first_fault(served, closed)
+}
+
+// The same with the journal at this path.
+fn serve_kept<
+    F: Files,
+    S: Alter + Drop,
+    D: Databases<Database = Connection<S>>,
+    J: Journals,
+    N: Network,
+    O: Write,
+>(
+    files: &F,
+    databases: &D,
+    journals: &J,
+    network: &N,
+    alloc: Global,
+    words: &ServeWords<'_>,
+    journal: &str,
+    output: &mut Counted<O>,
+) -> Result<(), CommandFault>
+    ensures { IsServedWith S.Store J.File.Log (J.opens journals.now journal.now)
+        (D.opened words.now.database.now)
+        (λ old new. HasServed N.shows N.binds N.tells O.contents
+        (journaled_over S.Store J.File.Log) words.now old new output.old output.new)
+        (λ why old new. HasBegun N.shows N.binds N.tells O.contents
+        (journaled_over S.Store J.File.Log) words.now old new output.old output.new why)
+        D.closed D.ended result }
+{
+    let mut kept = match kept_office_at(
+        files,
+        databases,
+        journals,
+        alloc,
+        words.database,
+        journal,
+    ) {
+        Ok(kept) => kept,
+        Err(fault) => return Err(fault),
+    };
+    let served = serve_bound(network, &mut kept, alloc, words, output);
+    let closed = close_kept(databases, kept);
+    first_fault(served, closed)
+}
+
+/// Serves exchanges with the office at a path, with its journal where the words give one, and
+/// closes it, also where that failed. Where closing fails too, the first fault is told. The port is
+/// bound last, so that nothing is heard where there is no office.
+pub(crate) fn serve_http<
+    F: Files,
+    S: Alter + Drop,
+    D: Databases<Database = Connection<S>>,
+    J: Journals,
+    N: Network,
+    O: Write,
+>(
+    files: &F,
+    databases: &D,
+    journals: &J,
+    network: &N,
+    alloc: Global,
+    words: &ServeWords<'_>,
+    output: &mut Counted<O>,
+) -> Result<(), CommandFault>
+    ensures { IfJournaled (option_copied words.now.journal)
+        (IsServed S.Store (D.opened words.now.database.now)
+        (λ old new. HasServed N.shows N.binds N.tells O.contents (meaning_over S.Store) words.now
+        old new output.old output.new)
+        (λ why old new. HasBegun N.shows N.binds N.tells O.contents (meaning_over S.Store) words.now
+        old new output.old output.new why)
+        D.closed D.ended result)
+        (λ file. IsServedWith S.Store J.File.Log (J.opens journals.now file)
+        (D.opened words.now.database.now)
+        (λ old new. HasServed N.shows N.binds N.tells O.contents
+        (journaled_over S.Store J.File.Log) words.now old new output.old output.new)
+        (λ why old new. HasBegun N.shows N.binds N.tells O.contents
+        (journaled_over S.Store J.File.Log) words.now old new output.old output.new why)
+        D.closed D.ended result) }
+{
+    match words.journal {
+        Some(file) => serve_kept(
+            files, databases, journals, network, alloc, words, file, output,
+        ),
+        None => serve_alone(files, databases, network, alloc, words, output),
+    }
 }

@@ -1,12 +1,15 @@
 //! `desk`: the desk of an office in a file.
 
-ghost use Rattle.std.specs.Prelude.{◌^◌, ◌≤◌};
+ghost use Rattle.std.specs.Prelude.{◌^◌, ◌≤◌, option_copied};
 ghost use Rattle.office_desk.specs.Meant.{meaning_over};
+ghost use Rattle.office_commands.specs.Journals.{IfJournaled, IsServedWith, journaled_over};
 ghost use Rattle.office_commands.specs.Lines.{HasAnswered, HasStopped};
 ghost use Rattle.office_commands.specs.Openings.{IsServed};
 
 use crate::databases::Databases;
 use crate::fault::CommandFault;
+use crate::journals::Journals;
+use crate::kept::{close_kept, kept_office_at};
 use crate::lines::answer_lines;
 use crate::opening::{close, first_fault, office_at};
 use sqlite::{Alter, Connection};
@@ -15,9 +18,8 @@ use std::fs::Files;
 use std::io::{Read, Write};
 use streams::Counted;
 
-/// Answers the lines of a reader at the desk of the office at a path, and closes the office, also
-/// after a fault of the desk. Where closing fails too, the desk's fault is told.
-pub(crate) fn serve_stored<
+// The same without a journal.
+fn serve_alone<
     F: Files,
     S: Alter + Drop,
     D: Databases<Database = Connection<S>>,
@@ -48,4 +50,85 @@ pub(crate) fn serve_stored<
     let answered = answer_lines(&mut office, alloc, input, output);
     let closed = close(databases, office);
     first_fault(answered, closed)
+}
+
+// The same with the journal at this path.
+fn serve_kept<
+    F: Files,
+    S: Alter + Drop,
+    D: Databases<Database = Connection<S>>,
+    J: Journals,
+    R: Read,
+    W: Write,
+>(
+    files: &F,
+    databases: &D,
+    journals: &J,
+    alloc: Global,
+    path: &str,
+    journal: &str,
+    input: &mut Counted<R>,
+    output: &mut Counted<W>,
+) -> Result<(), CommandFault>
+    requires reads { input.old.calls ≤ 2 ^ 62 }
+    requires read_faults { input.old.faults ≤ 2 ^ 62 }
+    requires write_faults { output.old.faults ≤ 2 ^ 62 }
+    ensures { IsServedWith S.Store J.File.Log (J.opens journals.now journal.now)
+        (D.opened path.now)
+        (HasAnswered W.contents (journaled_over S.Store J.File.Log)
+        (R.remaining input.old.inner) output.old output.new)
+        (HasStopped W.contents (journaled_over S.Store J.File.Log)
+        (R.remaining input.old.inner) (R.remaining input.new.inner) output.old output.new)
+        D.closed D.ended result }
+{
+    let mut kept = match kept_office_at(files, databases, journals, alloc, path, journal) {
+        Ok(kept) => kept,
+        Err(fault) => return Err(fault),
+    };
+    let answered = answer_lines(&mut kept, alloc, input, output);
+    let closed = close_kept(databases, kept);
+    first_fault(answered, closed)
+}
+
+/// Answers the lines of a reader at the desk of the office at a path, with its journal at another
+/// where that is given, and closes the office, also after a fault of the desk. Where closing fails
+/// too, the desk's fault is told.
+pub(crate) fn serve_stored<
+    F: Files,
+    S: Alter + Drop,
+    D: Databases<Database = Connection<S>>,
+    J: Journals,
+    R: Read,
+    W: Write,
+>(
+    files: &F,
+    databases: &D,
+    journals: &J,
+    alloc: Global,
+    path: &str,
+    journal: Option<&str>,
+    input: &mut Counted<R>,
+    output: &mut Counted<W>,
+) -> Result<(), CommandFault>
+    requires reads { input.old.calls ≤ 2 ^ 62 }
+    requires read_faults { input.old.faults ≤ 2 ^ 62 }
+    requires write_faults { output.old.faults ≤ 2 ^ 62 }
+    ensures { IfJournaled (option_copied journal.entry)
+        (IsServed S.Store (D.opened path.now)
+        (HasAnswered W.contents (meaning_over S.Store)
+        (R.remaining input.old.inner) output.old output.new)
+        (HasStopped W.contents (meaning_over S.Store)
+        (R.remaining input.old.inner) (R.remaining input.new.inner) output.old output.new)
+        D.closed D.ended result)
+        (λ file. IsServedWith S.Store J.File.Log (J.opens journals.now file) (D.opened path.now)
+        (HasAnswered W.contents (journaled_over S.Store J.File.Log)
+        (R.remaining input.old.inner) output.old output.new)
+        (HasStopped W.contents (journaled_over S.Store J.File.Log)
+        (R.remaining input.old.inner) (R.remaining input.new.inner) output.old output.new)
+        D.closed D.ended result) }
+{
+    match journal {
+        Some(file) => serve_kept(files, databases, journals, alloc, path, file, input, output),
+        None => serve_alone(files, databases, alloc, path, input, output),
+    }
 }

@@ -26,12 +26,17 @@ fn forget(rt: &HostRuntime, path: &str) -> Result<()> {
     Ok(())
 }
 
-// Removes the databases that `init` makes, whose names end with `.db`, as an earlier run may have left them.
+// Removes the databases that `init` makes, whose names end with `.db`, and the journals that it begins, as an earlier run may have
+// left them.
 fn forget_founded(rt: &HostRuntime, shown: &str) -> Result<()> {
     for founding in shown.split("\n$ ./office init ").skip(1) {
         let (path, _) = founding.split_once(" ").unwrap_or((founding, ""));
         if path.ends_with(".db") {
             forget(rt, path)?;
+        }
+        let (words, _) = founding.split_once("\n").unwrap_or((founding, ""));
+        if let Some((_, journal)) = words.split_once(" --journal ") {
+            let _ = fs::remove_file(rt, journal);
         }
     }
     Ok(())

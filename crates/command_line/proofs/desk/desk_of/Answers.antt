@@ -4,7 +4,12 @@ use Rattle.command_line.proofs.Getters.{lacks, text_is}
 use Rattle.command_line.proofs.desk.desk_of.Goals as goal
 
 pub returns-clause-command : goal.returns-clause-command
-returns-clause-command c = (refl, text_is (found_of c.args.given.now) (codes "database") _ c.in_ok-database.ensures)
+returns-clause-command c =
+    let f = found_of c.args.given.now in (
+      refl,
+      text_is f (codes "database") _ c.in_ok-database.ensures,
+      text_is f (codes "journal") _ c.get_str-journal.ensures,
+    )
 
 pub returns-in_err-database-clause-lacking : goal.returns-in_err-database-clause-lacking
 returns-in_err-database-clause-lacking c = lacks _ _ (text_is (found_of c.args.given.now) (codes "database") None c.in_err-database.ensures)

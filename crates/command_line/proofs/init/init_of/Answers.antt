@@ -14,6 +14,7 @@ returns-clause-command c =
         team = text_is f (codes "team") _ c.in-Some-get_str-2.ensures;
         digest = text_is f (codes "digest") _ c.in-Some-get_str-3.ensures;
         capabilities = c.in_ok-capabilities.ensures;
+        journal = text_is f (codes "journal") _ c.get_str-journal.ensures;
       },
     )
 

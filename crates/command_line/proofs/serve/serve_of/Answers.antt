@@ -12,6 +12,7 @@ returns-clause-command c =
         database = text_is f (codes "database") _ c.in_ok-database.ensures;
         port = c.in_ok-port.ensures.number;
         requests = c.in_ok-requests.ensures.number;
+        journal = text_is f (codes "journal") _ c.get_str-journal.ensures;
       },
     )
 

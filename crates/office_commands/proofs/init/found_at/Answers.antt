@@ -1,8 +1,10 @@
-use Rattle.office_commands.proofs.OpeningFacts.{founded_closed, founded_open}
+use Rattle.std.proofs.Common.{IfErr, ap, option_copied, subst, sym}
+use Rattle.office_commands.specs.Foundings.{Described, IsUnfounded}
+use Rattle.office_commands.proofs.KeptFacts.{failed_without}
 use Rattle.office_commands.proofs.init.found_at.Goals as goal
 
-pub returns-clause-founded : goal.returns-clause-founded
-returns-clause-founded g c = founded_closed g.S.Store _ _ _ c.in_ok-office.office c.close.result c.in_ok-office.ensures.founded c.close.ensures.closed
-
 pub returns-clause-failed : goal.returns-clause-failed
-returns-clause-failed g c = founded_open g.S.Store _ _ _ _ c.close.result c.in_ok-office.ensures.founded c.close.ensures.ended c.close.ensures.fault
+returns-clause-failed g c =
+    failed_without _ _ _ c.found_and_close.result (ap option_copied c.in-None.is)
+    (subst (λ (d : Described). IfErr c.found_and_close.result (IsUnfounded g.S.Store (g.D.Databases.opened c.args.words.now.database.now) g.D.Databases.ended d))
+    (sym c.in-Ok.ensures.described) c.found_and_close.ensures.failed)

@@ -1,7 +1,7 @@
 use Rattle.std.proofs.Common.{inl}
 use Rattle.office_commands.proofs.OpeningFacts.{was_served}
 use Rattle.office_commands.proofs.ServingFacts.{begun_with, served_all}
-use Rattle.office_commands.proofs.serve.serve_http.Goals as goal
+use Rattle.office_commands.proofs.serve.serve_alone.Goals as goal
 
 pub returns-in-Err : goal.returns-in-Err
 returns-in-Err g c = inl c.in-Err.ensures.fault

@@ -1,6 +1,6 @@
 use Rattle.std.proofs.Common.{inl}
 use Rattle.office_commands.proofs.OpeningFacts.{was_served}
-use Rattle.office_commands.proofs.stored.serve_stored.Goals as goal
+use Rattle.office_commands.proofs.stored.serve_alone.Goals as goal
 
 pub returns-in-Err : goal.returns-in-Err
 returns-in-Err g c = inl c.in-Err.ensures.fault

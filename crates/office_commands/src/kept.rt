@@ -1,0 +1,109 @@
+//! An office that is kept with a journal.
+
+ghost use Rattle.std.specs.Prelude.{◌≡◌, ◌⊎◌, IfErr, IfOk, OnOk};
+ghost use Rattle.office_commands.specs.Openings.{IsEnded};
+ghost use Rattle.office_commands.specs.Journals.{IsKeptOffice, IsOfJournal, IsOpenedWith, IsUnkept};
+
+use crate::databases::Databases;
+use crate::fault::CommandFault;
+use crate::journals::Journals;
+use crate::opening::{close, office_at};
+use journaled_office::reopen;
+use office_desk::Office;
+use office_journal::{FileJournal, Journaled, Log};
+use sqlite::{Alter, Connection};
+use std::alloc::Global;
+use std::fs::Files;
+use std::io;
+use std::io::ErrorKind;
+
+/// An office in a database, with its journal in a file.
+pub(crate) type Kept<S, L> = Journaled<Office<S>, FileJournal<L>>;
+
+// Why the file of a journal isn't opened.
+fn fault_of(error: &io::Error) -> CommandFault
+    ensures { (result ≡ CommandFault.NoMemory) ⊎ (result ≡ CommandFault.Journal) }
+{
+    match error.kind() {
+        ErrorKind::OutOfMemory => CommandFault::NoMemory,
+        _ => CommandFault::Journal,
+    }
+}
+
+// The office, opened again with its journal at a path; or why not, and the office.
+fn opened_with<S: Alter + Drop, J: Journals>(
+    journals: &J,
+    alloc: Global,
+    office: Office<S>,
+    path: &str,
+) -> Result<Kept<S, J::File>, (CommandFault, Office<S>)>
+    ensures opened { IfOk result (λ x. IsOpenedWith S.Store J.File.Log
+        (J.opens journals.now path.now) office x) }
+    ensures none { IfErr result (λ refusal. IsOfJournal S.Store J.File.Log
+        (J.opens journals.now path.now) office refusal.1 refusal.0) }
+{
+    let journal = match journals.open(alloc, path) {
+        Ok(journal) => journal,
+        Err(error) => return Err((fault_of(&error), office)),
+    };
+    match reopen(alloc, office, journal.text, journal.log) {
+        Ok(kept) => Ok(kept),
+        Err((why, office)) => Err((CommandFault::Reopening(why), office)),
+    }
+}
+
+/// The office at a path, opened again with its journal at another.
+///
+/// # Errors
+///
+/// As of [`office_at`]; and `Journal` or `NoMemory` where the file of the journal can't be opened,
+/// `Reopening` where the two can't be opened again. Then the office is closed; and where that fails
+/// too, the first fault is told.
+pub(crate) fn kept_office_at<
+    F: Files,
+    S: Alter + Drop,
+    D: Databases<Database = Connection<S>>,
+    J: Journals,
+>(
+    files: &F,
+    databases: &D,
+    journals: &J,
+    alloc: Global,
+    path: &str,
+    journal: &str,
+) -> Result<Kept<S, J::File>, CommandFault>
+    ensures opened { IfOk result (IsKeptOffice S.Store J.File.Log
+        (J.opens journals.now journal.now) (D.opened path.now)) }
+    ensures fault { IfErr result (IsUnkept S.Store J.File.Log
+        (J.opens journals.now journal.now) (D.opened path.now) D.ended) }
+{
+    let office = match office_at(files, databases, path) {
+        Ok(office) => office,
+        Err(fault) => return Err(fault),
+    };
+    match opened_with(journals, alloc, office, journal) {
+        Ok(kept) => Ok(kept),
+        Err((fault, office)) => {
+            // Why it has no journal is reported, and not whether this closed.
+            let _ = close(databases, office);
+            Err(fault)
+        }
+    }
+}
+
+/// Closes an office with a journal. The file of the journal is let go: all of it is written.
+///
+/// # Errors
+///
+/// As of [`close`].
+pub(crate) fn close_kept<S: Alter, L: Log + Drop, D: Databases<Database = Connection<S>>>(
+    databases: &D,
+    kept: Kept<S, L>,
+) -> Result<(), CommandFault>
+    ensures closed { OnOk result (D.closed kept.office) }
+    ensures ended { IsEnded D.ended kept.office }
+    ensures fault { IfErr result (λ fault. fault ≡ CommandFault.Close) }
+{
+    let (office, _) = kept.into_parts();
+    close(databases, office)
+}
