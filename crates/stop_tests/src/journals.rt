@@ -1,9 +1,10 @@
 // An office over two files with its journal in a third: each of the three stops in turn.
 
 use crate::asked::is_fault;
-use crate::begun::at_rest;
+use crate::begun::{Beginning, at_rest, begin};
 use crate::course::requests_of;
 use crate::files::{ENDLESS, File, Stop, crashed, empty_files, files_of, kept, opened};
+use crate::runs::closed;
 use crate::stopping_log::{FOUNDING, StoppingLog};
 use journal_replay::rebuild;
 use journaled_office::mend;
@@ -17,7 +18,6 @@ use std::alloc::Global;
 use std::process::Abort;
 use std::test::Fail;
 use test_doubles::conversations::{HELD_AND_RELEASED, SECOND_THOUGHTS};
-use test_offices::offices::found_office;
 use test_offices::tables::tables_of;
 
 // An office over files, with its journal.
@@ -88,13 +88,12 @@ fn founded_files(alloc: Global) -> Result<Files<Memory>, Fail> {
     let Ok(conn) = opened(alloc, empty_files(alloc)) else {
         return Err(Fail::from("files that open"));
     };
-    match found_office(alloc, at_rest(conn)?)? {
-        Ok(office) => match office.into_connection().close_files() {
-            Ok(files) => files_of(alloc, files.log.bytes(), files.db.bytes()),
-            Err(_) => Err(Fail::from("files that close")),
-        },
-        Err((fault, _)) => Err(Fail::from(fault)),
-    }
+    let conn = match begin(alloc, at_rest(conn)?, Beginning::Founding)? {
+        Ok(office) => office.into_connection(),
+        Err(conn) => conn,
+    };
+    let files = closed(conn);
+    files_of(alloc, files.log.bytes(), files.db.bytes())
 }
 
 // The office of a store with its journal, mended; or both where that can't be done.

@@ -16,7 +16,7 @@ use test_offices::tables::tables_of;
 type Run = (Reached, Files<Fuse<Memory>>);
 
 // The files of a connection, after it was closed where it could be.
-fn closed<D: Disk + Drop>(conn: Connection<FileStore<D>>) -> Files<D> {
+pub(crate) fn closed<D: Disk + Drop>(conn: Connection<FileStore<D>>) -> Files<D> {
     match conn.close_files() {
         Ok(files) => files,
         Err((_, store)) => store.close(),
