@@ -29,10 +29,10 @@ back : (t u : Tables) (d : Difference) → DifferAt u t d → DifferAt t u d
 back t u difference.Schema h = h
 back t u difference.Office h = λ equal. h (sym equal)
 back t u (difference.User name) h = λ equal. h (sym equal)
-back t u (difference.Revision team profile number) h = λ equal. h (sym equal)
-back t u (difference.Vote team profile number voter) h = λ equal. h (sym equal)
+back t u (difference.Revision p number) h = λ equal. h (sym equal)
+back t u (difference.Vote p number voter) h = λ equal. h (sym equal)
 back t u (difference.Baseline team) h = λ equal. h (sym equal)
-back t u (difference.Hold team profile) h = λ equal. h (sym equal)
+back t u (difference.Hold p) h = λ equal. h (sym equal)
 back t u (difference.Row s) h = tt
 
 module _ {S T : Type 0} (g : Ghosts S) (f : Ghosts T) (a b : Database) (t u : Tables) (o : IsOffice a t) (p : IsOffice b u) (left right : List Row) (row : Row) where
@@ -43,10 +43,10 @@ module _ {S T : Type 0} (g : Ghosts S) (f : Ghosts T) (a b : Database) (t u : Ta
       let second = one_permuted (office_columns u.listed) right (subst (λ l. IsPermutation (map (shown table.Office) l) right) p.office (rows_shown f b p.schema table.Office right in_b)) in
       stands.differ.differ (ap (λ (l : List Row). slice_get l stands.at) (first ∙ (λ i. office_columns (equal i) ∷ []) ∙ sym second))
   office_named in_a in_b stands (difference.User name) h = absurd (let k = h.0 in cc)
-  office_named in_a in_b stands (difference.Revision team profile number) h = absurd (let k = h.0 in cc)
-  office_named in_a in_b stands (difference.Vote team profile number voter) h = absurd (let k = h.0 in cc)
+  office_named in_a in_b stands (difference.Revision p number) h = absurd (let k = h.0 in cc)
+  office_named in_a in_b stands (difference.Vote p number voter) h = absurd (let k = h.0 in cc)
   office_named in_a in_b stands (difference.Baseline team) h = absurd (let k = h.0 in cc)
-  office_named in_a in_b stands (difference.Hold team profile) h = absurd (let k = h.0 in cc)
+  office_named in_a in_b stands (difference.Hold p) h = absurd (let k = h.0 in cc)
   office_named in_a in_b stands (difference.Row s) h = tt
 
   one_side : (x : Table) → IsAnsweredBy g (rows_text x) a left → IsAnsweredBy f (rows_text x) b right → StandsFirst (key_width x) left right row → (d : Difference) → IsNamed x row d → DifferAt t u d

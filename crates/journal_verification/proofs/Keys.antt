@@ -1,6 +1,6 @@
 -- At which key the tables of two offices differ.
 use Rattle.std.proofs.Common.{◌≡◌, ℕ, ℤ, pos, List, [], ◌∷◌, map, Option, None, Some, Ordering, Less, Equal, Greater, refl, sym, ap, subst, ◌∙◌, arith}
-use Rattle.std.specs.Prelude.{bytes_eq, find, option_map, is_some, string_bytes}
+use Rattle.std.specs.Prelude.{bytes_eq, find, option_map, is_some}
 use Rattle.std.specs.Ordering.{int_cmp, ordering_then}
 use Rattle.std.proofs.lemmas.Bool.Decides.{nat_tests}
 use Rattle.std.proofs.lemmas.Slice.Eq.{bytes_eq-Decides}
@@ -14,7 +14,6 @@ use Rattle.sqlite_value.proofs.OrderLemmas.{value_cmp-Int, value_cmp-Text}
 use Rattle.review_policy.specs.declared.ask.ProfileName.{ProfileName}
 use Rattle.office_tables.specs.declared.row.UserRow.{UserRow}
 use Rattle.office_tables.specs.Tables.{Tables, is_profile}
-use Rattle.office_tables.specs.Lists.{profile_of}
 use Rattle.office_rows.specs.Entries.{row_of}
 use Rattle.office_rows.proofs.InOrder.{order_cmp}
 use Rattle.office_store.specs.Entries.{BaselineEntry, IsBaseline, IsProfileName, IsRevision, IsUser, IsVote, Revision, VoteEntry, VoteKey, baseline_row, hold_row, revision_key, revision_row, same_revision, same_vote, user_row, vote_key as vote_key_of, vote_row}
@@ -180,15 +179,15 @@ module _ (a b : Database) (t u : Tables) (o : IsOffice a t) (p : IsOffice b u) (
   user_named difference.Schema h = absurd h
   user_named difference.Office h = absurd cc
   user_named (difference.User name) h = λ equal.
-      let name_is = text_is row (user_row only.entry) 0 only.entry.name (string_bytes name) only.row_is refl h.1 in
+      let name_is = text_is row (user_row only.entry) 0 only.entry.name name only.row_is refl h.1 in
       differ_at user_row user_keyed bytes_eq bytes_eq-Decides user_key IsUser table.Users user_showed user_sorts user_tied user_columns (λ e. e) (λ a b k v. v) _ _ o.users p.users row only
       (ap (option_map (λ (e : UserRow). e))
       (subst (λ n. find (λ (e : UserRow). bytes_eq n e.name) o.users.entries ≡ find (λ (e : UserRow). bytes_eq n e.name) p.users.entries) (sym name_is)
-      (sym (o.users_are (string_bytes name)) ∙ equal ∙ p.users_are (string_bytes name))))
-  user_named (difference.Revision team profile number) h = absurd (let k = h.0 in cc)
-  user_named (difference.Vote team profile number voter) h = absurd (let k = h.0 in cc)
+      (sym (o.users_are name) ∙ equal ∙ p.users_are name)))
+  user_named (difference.Revision p number) h = absurd (let k = h.0 in cc)
+  user_named (difference.Vote p number voter) h = absurd (let k = h.0 in cc)
   user_named (difference.Baseline team) h = absurd (let k = h.0 in cc)
-  user_named (difference.Hold team profile) h = absurd (let k = h.0 in cc)
+  user_named (difference.Hold p) h = absurd (let k = h.0 in cc)
   user_named (difference.Row s) h = tt
 
 module _ (a b : Database) (t u : Tables) (o : IsOffice a t) (p : IsOffice b u) (row : Row) (only : IsOnlyIn revision_row o.revisions.entries p.revisions.entries row) where
@@ -196,18 +195,17 @@ module _ (a b : Database) (t u : Tables) (o : IsOffice a t) (p : IsOffice b u) (
   revision_named difference.Schema h = absurd h
   revision_named difference.Office h = absurd cc
   revision_named (difference.User name) h = absurd (let k = h.0 in cc)
-  revision_named (difference.Revision team profile number) h = λ equal.
-      let team_is = text_is row (revision_row only.entry) 0 only.entry.0.team (string_bytes team) only.row_is refl h.1 in
-      let profile_is = text_is row (revision_row only.entry) 1 only.entry.0.profile (string_bytes profile) only.row_is refl h.2 in
-      let number_is = number_of row (revision_row only.entry) 2 only.entry.1.number number only.row_is refl h.3 in
-      let named : ProfileName = profile_of (string_bytes team) (string_bytes profile) in
+  revision_named (difference.Revision named number) h = λ equal.
+      let team_is = text_is row (revision_row only.entry) 0 only.entry.0.team named.team only.row_is refl h.1.0 in
+      let profile_is = text_is row (revision_row only.entry) 1 only.entry.0.profile named.profile only.row_is refl h.1.1 in
+      let number_is = number_of row (revision_row only.entry) 2 only.entry.1.number number only.row_is refl h.2 in
       let key_is : ◌≡◌ {A = ProfileName × ℕ} (revision_key only.entry) (named, number) = λ i. (record { team = team_is i; profile = profile_is i }, number_is i) in
       differ_at revision_row revision_keyed same_revision revisions_decide revision_key IsRevision table.Revisions revision_showed revision_sorts revision_tied revision_columns (λ e. e.1) (λ a b k v i. (ap (λ (q : ProfileName × ℕ). q.0) k i, v i)) _ _ o.revisions p.revisions row only
       (subst (λ k. option_map (λ (e : Revision). e.1) (find (λ (e : Revision). same_revision k (revision_key e)) o.revisions.entries) ≡ option_map (λ (e : Revision). e.1) (find (λ (e : Revision). same_revision k (revision_key e)) p.revisions.entries)) (sym key_is)
       (sym (o.revisions_are named number) ∙ equal ∙ p.revisions_are named number))
-  revision_named (difference.Vote team profile number voter) h = absurd (let k = h.0 in cc)
+  revision_named (difference.Vote p number voter) h = absurd (let k = h.0 in cc)
   revision_named (difference.Baseline team) h = absurd (let k = h.0 in cc)
-  revision_named (difference.Hold team profile) h = absurd (let k = h.0 in cc)
+  revision_named (difference.Hold p) h = absurd (let k = h.0 in cc)
   revision_named (difference.Row s) h = tt
 
 module _ (a b : Database) (t u : Tables) (o : IsOffice a t) (p : IsOffice b u) (row : Row) (only : IsOnlyIn vote_row o.votes.entries p.votes.entries row) where
@@ -215,19 +213,18 @@ module _ (a b : Database) (t u : Tables) (o : IsOffice a t) (p : IsOffice b u) (
   vote_named difference.Schema h = absurd h
   vote_named difference.Office h = absurd cc
   vote_named (difference.User name) h = absurd (let k = h.0 in cc)
-  vote_named (difference.Revision team profile number) h = absurd (let k = h.0 in cc)
-  vote_named (difference.Vote team profile number voter) h = λ equal.
-      let team_is = text_is row (vote_row only.entry) 0 only.entry.0.profile.team (string_bytes team) only.row_is refl h.1 in
-      let profile_is = text_is row (vote_row only.entry) 1 only.entry.0.profile.profile (string_bytes profile) only.row_is refl h.2 in
-      let number_is = number_of row (vote_row only.entry) 2 only.entry.0.number number only.row_is refl h.3 in
-      let voter_is = text_is row (vote_row only.entry) 3 only.entry.0.voter (string_bytes voter) only.row_is refl h.4 in
-      let named : ProfileName = profile_of (string_bytes team) (string_bytes profile) in
-      let key_is : only.entry.0 ≡ vote_key_of named number (string_bytes voter) = λ i. record { profile = record { team = team_is i; profile = profile_is i }; number = number_is i; voter = voter_is i } in
+  vote_named (difference.Revision p number) h = absurd (let k = h.0 in cc)
+  vote_named (difference.Vote named number voter) h = λ equal.
+      let team_is = text_is row (vote_row only.entry) 0 only.entry.0.profile.team named.team only.row_is refl h.1.0 in
+      let profile_is = text_is row (vote_row only.entry) 1 only.entry.0.profile.profile named.profile only.row_is refl h.1.1 in
+      let number_is = number_of row (vote_row only.entry) 2 only.entry.0.number number only.row_is refl h.2 in
+      let voter_is = text_is row (vote_row only.entry) 3 only.entry.0.voter voter only.row_is refl h.3 in
+      let key_is : only.entry.0 ≡ vote_key_of named number voter = λ i. record { profile = record { team = team_is i; profile = profile_is i }; number = number_is i; voter = voter_is i } in
       differ_at vote_row vote_keyed same_vote votes_decide vote_key IsVote table.Votes vote_showed vote_sorts vote_tied vote_columns (λ e. e.1) (λ a b k v i. (k i, v i)) _ _ o.votes p.votes row only
       (subst (λ k. option_map (λ (e : VoteEntry). e.1) (find (λ (e : VoteEntry). same_vote k e.0) o.votes.entries) ≡ option_map (λ (e : VoteEntry). e.1) (find (λ (e : VoteEntry). same_vote k e.0) p.votes.entries)) (sym key_is)
-      (sym (o.votes_are named number (string_bytes voter)) ∙ equal ∙ p.votes_are named number (string_bytes voter)))
+      (sym (o.votes_are named number voter) ∙ equal ∙ p.votes_are named number voter))
   vote_named (difference.Baseline team) h = absurd (let k = h.0 in cc)
-  vote_named (difference.Hold team profile) h = absurd (let k = h.0 in cc)
+  vote_named (difference.Hold p) h = absurd (let k = h.0 in cc)
   vote_named (difference.Row s) h = tt
 
 module _ (a b : Database) (t u : Tables) (o : IsOffice a t) (p : IsOffice b u) (row : Row) (only : IsOnlyIn baseline_row o.baselines.entries p.baselines.entries row) where
@@ -235,14 +232,14 @@ module _ (a b : Database) (t u : Tables) (o : IsOffice a t) (p : IsOffice b u) (
   baseline_named difference.Schema h = absurd h
   baseline_named difference.Office h = absurd cc
   baseline_named (difference.User name) h = absurd (let k = h.0 in cc)
-  baseline_named (difference.Revision team profile number) h = absurd (let k = h.0 in cc)
-  baseline_named (difference.Vote team profile number voter) h = absurd (let k = h.0 in cc)
+  baseline_named (difference.Revision p number) h = absurd (let k = h.0 in cc)
+  baseline_named (difference.Vote p number voter) h = absurd (let k = h.0 in cc)
   baseline_named (difference.Baseline team) h = λ equal.
-      let team_is = text_is row (baseline_row only.entry) 0 only.entry.0 (string_bytes team) only.row_is refl h.1 in
+      let team_is = text_is row (baseline_row only.entry) 0 only.entry.0 team only.row_is refl h.1 in
       differ_at baseline_row baseline_keyed bytes_eq bytes_eq-Decides baseline_key IsBaseline table.Baselines baseline_showed baseline_sorts baseline_tied baseline_columns (λ e. e.1) (λ a b k v i. (k i, v i)) _ _ o.baselines p.baselines row only
       (subst (λ k. option_map (λ (e : BaselineEntry). e.1) (find (λ (e : BaselineEntry). bytes_eq k e.0) o.baselines.entries) ≡ option_map (λ (e : BaselineEntry). e.1) (find (λ (e : BaselineEntry). bytes_eq k e.0) p.baselines.entries)) (sym team_is)
-      (sym (o.baselines_are (string_bytes team)) ∙ equal ∙ p.baselines_are (string_bytes team)))
-  baseline_named (difference.Hold team profile) h = absurd (let k = h.0 in cc)
+      (sym (o.baselines_are team) ∙ equal ∙ p.baselines_are team))
+  baseline_named (difference.Hold p) h = absurd (let k = h.0 in cc)
   baseline_named (difference.Row s) h = tt
 
 module _ (a b : Database) (t u : Tables) (o : IsOffice a t) (p : IsOffice b u) (row : Row) (only : IsOnlyIn hold_row o.holds.entries p.holds.entries row) where
@@ -250,13 +247,12 @@ module _ (a b : Database) (t u : Tables) (o : IsOffice a t) (p : IsOffice b u) (
   hold_named difference.Schema h = absurd h
   hold_named difference.Office h = absurd cc
   hold_named (difference.User name) h = absurd (let k = h.0 in cc)
-  hold_named (difference.Revision team profile number) h = absurd (let k = h.0 in cc)
-  hold_named (difference.Vote team profile number voter) h = absurd (let k = h.0 in cc)
+  hold_named (difference.Revision p number) h = absurd (let k = h.0 in cc)
+  hold_named (difference.Vote p number voter) h = absurd (let k = h.0 in cc)
   hold_named (difference.Baseline team) h = absurd (let k = h.0 in cc)
-  hold_named (difference.Hold team profile) h = λ equal.
-      let team_is = text_is row (hold_row only.entry) 0 only.entry.team (string_bytes team) only.row_is refl h.1 in
-      let profile_is = text_is row (hold_row only.entry) 1 only.entry.profile (string_bytes profile) only.row_is refl h.2 in
-      let named : ProfileName = profile_of (string_bytes team) (string_bytes profile) in
+  hold_named (difference.Hold named) h = λ equal.
+      let team_is = text_is row (hold_row only.entry) 0 only.entry.team named.team only.row_is refl h.1.0 in
+      let profile_is = text_is row (hold_row only.entry) 1 only.entry.profile named.profile only.row_is refl h.1.1 in
       let key_is : ◌≡◌ {A = ProfileName} only.entry named = λ i. record { team = team_is i; profile = profile_is i } in
       differ_at hold_row hold_keyed is_profile profiles_decide hold_key IsProfileName table.Holds hold_showed hold_sorts hold_tied hold_columns {V = Unit {0}} (λ _. tt) (λ a b k v. k) _ _ o.holds p.holds row only
       (both_there (find (is_profile only.entry) o.holds.entries) (find (is_profile only.entry) p.holds.entries)

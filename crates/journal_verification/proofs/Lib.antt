@@ -3,6 +3,7 @@ mod Apart
 mod Columns
 mod Comparing
 mod Differences
+mod Faults
 mod Firsts
 mod Keys
 mod Looks

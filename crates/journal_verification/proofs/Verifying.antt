@@ -1,5 +1,5 @@
 -- What it takes for an office to be verified.
-use Rattle.std.proofs.Common.{ℕ, List, Option, refl}
+use Rattle.std.proofs.Common.{◌≡◌, ℕ, List, Option, refl, sym, subst}
 use Rattle.sqlite.specs.Held.{Held, state}
 use Rattle.sqlite.specs.State.{State, HasCleanDisk}
 use Rattle.sqlite.specs.Steps.{over_memory}
@@ -51,11 +51,15 @@ module _ (bytes : Option (List ℕ)) where
   refuted Clean clean (why.Unreplayed (causes.Fault fault)) h = h
 
   module _ (built : Held MemStore) (count : ℕ) (rebuilt : IsRebuilt bytes (meaning_over over_memory) count built) where
-    pub built_shows : Shows (state over_memory built) (tables_of rebuilt.history)
+    built_shows : Shows (state over_memory built) (tables_of rebuilt.history)
     built_shows =
         let clean = memory_is_clean built in
         let stands = rebuilt.stands clean in
         stands.is_of.tables clean stands.is_open
+
+    -- so does the connection that was made of it
+    pub still_shows : (conn : Held MemStore) → conn ≡ built → Shows (state over_memory conn) (tables_of rebuilt.history)
+    still_shows conn is = subst (λ (b : Held MemStore). Shows (state over_memory b) (tables_of rebuilt.history)) (sym is) built_shows
 
     module _ {T : Type 0} (f : Ghosts T) where
       pub verified : (office : Held T) → IsIdle (state f office) → Settles (state f office) → Shows (state f office) (tables_of rebuilt.history) → IsVerified bytes f office count

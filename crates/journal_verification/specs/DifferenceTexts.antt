@@ -1,5 +1,5 @@
 -- The texts of differences.
-use Rattle.std.specs.Prelude.{ℕ, List, ◌++◌, codes, string_bytes}
+use Rattle.std.specs.Prelude.{ℕ, List, ◌++◌, codes}
 use Rattle.std.specs.Fmt.{decimal}
 use Rattle.journal_verification.specs.declared.difference.Difference.{Difference}
 use Rattle.journal_verification.specs.declared.difference.Difference.TheVariants as difference
@@ -17,14 +17,12 @@ table_name table.Holds = codes "holds"
 abbrev pub difference_text : Difference → List ℕ
 difference_text difference.Schema = codes "schema"
 difference_text difference.Office = codes "office"
-difference_text (difference.User name) = codes "users " ++ string_bytes name
-difference_text (difference.Revision team profile number) =
-    codes "revisions " ++ string_bytes team ++ codes "/" ++ string_bytes profile ++ codes " "
-    ++ decimal number
-difference_text (difference.Vote team profile number voter) =
-    codes "votes " ++ string_bytes team ++ codes "/" ++ string_bytes profile ++ codes " "
-    ++ decimal number ++ codes " " ++ string_bytes voter
-difference_text (difference.Baseline team) = codes "baselines " ++ string_bytes team
-difference_text (difference.Hold team profile) =
-    codes "holds " ++ string_bytes team ++ codes "/" ++ string_bytes profile
+difference_text (difference.User name) = codes "users " ++ name
+difference_text (difference.Revision p number) =
+    codes "revisions " ++ p.team ++ codes "/" ++ p.profile ++ codes " " ++ decimal number
+difference_text (difference.Vote p number voter) =
+    codes "votes " ++ p.team ++ codes "/" ++ p.profile ++ codes " " ++ decimal number
+    ++ codes " " ++ voter
+difference_text (difference.Baseline team) = codes "baselines " ++ team
+difference_text (difference.Hold p) = codes "holds " ++ p.team ++ codes "/" ++ p.profile
 difference_text (difference.Row t) = table_name t

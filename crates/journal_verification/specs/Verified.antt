@@ -5,6 +5,7 @@ use Rattle.sqlite.specs.Steps.{over_memory}
 use Rattle.sqlite.specs.Store.{Ghosts}
 use Rattle.sqlite_trees.specs.declared.memory.MemStore.{MemStore}
 use Rattle.office_tables.specs.Tables.{Tables}
+use Rattle.office_rows.specs.Causes.{HasFailed}
 use Rattle.office_store.specs.Shown.{Shows}
 use Rattle.office_policy.specs.Handled.{Stands}
 use Rattle.office_policy.specs.History.{History}
@@ -41,7 +42,9 @@ module _ (bytes : Option (List ℕ)) {T : Type 0} (f : Ghosts T) where
     pub differs : Differs over_memory f built office d
     pub differ : (u : Tables) → Shows (state f office) u → DifferAt (tables_of history) u d
 
-  abbrev pub IsUnverified : Held T → Unverified → Type 0
-  IsUnverified office (unverified.Refused refused) = Refutes bytes (Unit {0}) refused.why
-  IsUnverified office (unverified.Differs d) = IsOther office d
-  IsUnverified office (unverified.Fault fault) = Unit {0}
+  -- no lawful history has the journal; the office is another; or the office can't be read, or there
+  -- is no memory
+  abbrev pub IsUnverified : (old new : Held T) → Unverified → Type 0
+  IsUnverified old new (unverified.Refused refused) = Refutes bytes (Unit {0}) refused.why
+  IsUnverified old new (unverified.Differs d) = IsOther old d
+  IsUnverified old new (unverified.Fault fault) = HasFailed (state f old) (state f new) fault

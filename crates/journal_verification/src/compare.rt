@@ -1,14 +1,16 @@
 //! Two offices, compared table by table.
 
-ghost use Rattle.std.specs.Prelude.{◌≡◌, ◌↔◌, IsTrue, IfOk, OnOk};
+ghost use Rattle.std.specs.Prelude.{◌≡◌, ◌↔◌, [], IsTrue, IfErr, IfOk, OnOk};
 ghost use Rattle.sqlite.specs.Held.{state};
 ghost use Rattle.sqlite.specs.State.{HasCleanDisk, IsLive, IsUnchanged};
+ghost use Rattle.office_rows.specs.Causes.{HasFailed};
 ghost use Rattle.office_rows.specs.Queries.{IsQuery};
+ghost use Rattle.office_rows.specs.Rows.{IsFaultOf};
 ghost use Rattle.office_store.specs.Schema.{office_schema};
 ghost use Rattle.office_store.specs.Shown.{IsIdle, Shows};
 ghost use Rattle.office_tables.specs.Tables.{Tables};
 ghost use Rattle.journal_verification.specs.Compared.{TellsOffice};
-ghost use Rattle.journal_verification.specs.Looked.{HasLooked};
+ghost use Rattle.journal_verification.specs.Looked.{HasFailedIn, HasLooked};
 ghost use Rattle.journal_verification.specs.Same.{FaultsRowids, IsAnsweredBy, TellsRowids};
 ghost use Rattle.journal_verification.specs.Same.{TellsRows, TellsTables};
 ghost use Rattle.journal_verification.specs.Same.{TellsTable};
@@ -22,6 +24,7 @@ use crate::table::{FURTHER, Table};
 use office_rows::all_rows;
 use office_tables::StoreFault;
 use sqlite::{Alter, Connection, Row};
+use std::alloc::Global;
 
 // All rows that a query answers. Nothing is changed.
 fn read<S: Alter>(conn: &mut Connection<S>, sql: &str) -> Result<Vec<Row>, StoreFault>
@@ -32,6 +35,8 @@ fn read<S: Alter>(conn: &mut Connection<S>, sql: &str) -> Result<Vec<Row>, Store
         IsAnsweredBy S.Store sql.now (state S.Store conn.old).now rows.items) }
     ensures unchanged { HasCleanDisk (state S.Store conn.new) → OnOk result
         (IsUnchanged (state S.Store conn.old) (state S.Store conn.new)) }
+    ensures fault { HasCleanDisk (state S.Store conn.new) → IfErr result
+        (IsFaultOf sql.now [] (state S.Store conn.old) (state S.Store conn.new)) }
 {
     all_rows(conn, sql, &[])
 }
@@ -44,6 +49,9 @@ fn rows_of<S: Alter>(conn: &mut Connection<S>, table: Table) -> Result<Vec<Row>,
         IsAnsweredBy S.Store (rows_text table) (state S.Store conn.old).now rows.items) }
     ensures unchanged { HasCleanDisk (state S.Store conn.new) → OnOk result
         (IsUnchanged (state S.Store conn.old) (state S.Store conn.new)) }
+    ensures cause { HasCleanDisk (state S.Store conn.new)
+        → (state S.Store conn.old).now.schema ≡ office_schema → IfErr result
+        (HasFailed (state S.Store conn.old) (state S.Store conn.new)) }
 {
     read(conn, table.rows())
 }
@@ -56,6 +64,9 @@ fn have_rowids<S: Alter>(conn: &mut Connection<S>, table: Table) -> Result<bool,
         table (state S.Store conn.old).now) }
     ensures unchanged { HasCleanDisk (state S.Store conn.new) → OnOk result
         (IsUnchanged (state S.Store conn.old) (state S.Store conn.new)) }
+    ensures cause { HasCleanDisk (state S.Store conn.new)
+        → (state S.Store conn.old).now.schema ≡ office_schema → IfErr result
+        (HasFailed (state S.Store conn.old) (state S.Store conn.new)) }
 {
     let rows = read(conn, table.rowids())?;
     Ok(are_rising(rows.as_slice()))
@@ -63,6 +74,7 @@ fn have_rowids<S: Alter>(conn: &mut Connection<S>, table: Table) -> Result<bool,
 
 // The row by which a table differs, where its rows do.
 fn rows_differ<S: Alter, T: Alter>(
+    alloc: Global,
     built: &mut Connection<S>,
     office: &mut Connection<T>,
     table: Table,
@@ -78,11 +90,16 @@ fn rows_differ<S: Alter, T: Alter>(
         (IsUnchanged (state S.Store built.old) (state S.Store built.new)) }
     ensures same { HasCleanDisk (state T.Store office.new) → OnOk result
         (IsUnchanged (state T.Store office.old) (state T.Store office.new)) }
+    ensures cause { HasCleanDisk (state S.Store built.new) → HasCleanDisk (state T.Store office.new)
+        → (state S.Store built.old).now.schema ≡ office_schema
+        → (state T.Store office.old).now.schema ≡ office_schema → IfErr result
+        (HasFailedIn (state S.Store built.old) (state S.Store built.new)
+        (state T.Store office.old) (state T.Store office.new)) }
 {
     let left = rows_of(built, table)?;
     let right = rows_of(office, table)?;
     match first_differing(left.as_slice(), right.as_slice(), table.key_width()) {
-        Some(row) => Ok(Some(named(table, row)?)),
+        Some(row) => Ok(Some(named(alloc, table, row)?)),
         None => Ok(None),
     }
 }
@@ -98,6 +115,9 @@ fn rowids_differ<S: Alter>(
         table (state S.Store conn.old).now) }
     ensures unchanged { HasCleanDisk (state S.Store conn.new) → OnOk result
         (IsUnchanged (state S.Store conn.old) (state S.Store conn.new)) }
+    ensures cause { HasCleanDisk (state S.Store conn.new)
+        → (state S.Store conn.old).now.schema ≡ office_schema → IfErr result
+        (HasFailed (state S.Store conn.old) (state S.Store conn.new)) }
 {
     if have_rowids(conn, table)? {
         Ok(None)
@@ -108,6 +128,7 @@ fn rowids_differ<S: Alter>(
 
 // The difference of a table, where it has one.
 fn table_differs<S: Alter, T: Alter>(
+    alloc: Global,
     built: &mut Connection<S>,
     office: &mut Connection<T>,
     table: Table,
@@ -123,8 +144,13 @@ fn table_differs<S: Alter, T: Alter>(
         (IsUnchanged (state S.Store built.old) (state S.Store built.new)) }
     ensures same { HasCleanDisk (state T.Store office.new) → OnOk result
         (IsUnchanged (state T.Store office.old) (state T.Store office.new)) }
+    ensures cause { HasCleanDisk (state S.Store built.new) → HasCleanDisk (state T.Store office.new)
+        → (state S.Store built.old).now.schema ≡ office_schema
+        → (state T.Store office.old).now.schema ≡ office_schema → IfErr result
+        (HasFailedIn (state S.Store built.old) (state S.Store built.new)
+        (state T.Store office.old) (state T.Store office.new)) }
 {
-    let difference = rows_differ(built, office, table)?;
+    let difference = rows_differ(alloc, built, office, table)?;
     match difference {
         Some(row) => Ok(Some(row)),
         None => rowids_differ(office, table),
@@ -133,6 +159,7 @@ fn table_differs<S: Alter, T: Alter>(
 
 // The first difference of the tables, where there is one.
 fn tables_differ<S: Alter, T: Alter>(
+    alloc: Global,
     built: &mut Connection<S>,
     office: &mut Connection<T>,
 ) -> Result<Option<Difference>, StoreFault>
@@ -147,12 +174,17 @@ fn tables_differ<S: Alter, T: Alter>(
         (IsUnchanged (state S.Store built.old) (state S.Store built.new)) }
     ensures same { HasCleanDisk (state T.Store office.new) → OnOk result
         (IsUnchanged (state T.Store office.old) (state T.Store office.new)) }
+    ensures cause { HasCleanDisk (state S.Store built.new) → HasCleanDisk (state T.Store office.new)
+        → (state S.Store built.old).now.schema ≡ office_schema
+        → (state T.Store office.old).now.schema ≡ office_schema → IfErr result
+        (HasFailedIn (state S.Store built.old) (state S.Store built.new)
+        (state T.Store office.old) (state T.Store office.new)) }
 {
-    if let Some(row) = table_differs(built, office, Table::Office)? {
+    if let Some(row) = table_differs(alloc, built, office, Table::Office)? {
         return Ok(Some(row));
     }
     for table in &FURTHER {
-        if let Some(row) = table_differs(built, office, *table)? {
+        if let Some(row) = table_differs(alloc, built, office, *table)? {
             return Ok(Some(row));
         }
     }
@@ -174,6 +206,7 @@ fn has_schema<S: Alter, T: Alter>(built: &Connection<S>, office: &Connection<T>)
 /// The first difference of an office from one that was built anew, which shows tables. Where there
 /// is none it shows them too. Nothing is changed.
 pub(crate) fn compare<S: Alter, T: Alter>(
+    alloc: Global,
     built: &mut Connection<S>,
     office: &mut Connection<T>,
 ) -> Result<Option<Difference>, StoreFault>
@@ -184,9 +217,13 @@ pub(crate) fn compare<S: Alter, T: Alter>(
     ensures told { (t : Tables) → Shows (state S.Store built.old) t
         → HasCleanDisk (state S.Store built.new) → HasCleanDisk (state T.Store office.new)
         → IfOk result (TellsOffice S.Store T.Store t built.old office.old office.new) }
+    ensures cause { (t : Tables) → Shows (state S.Store built.old) t
+        → HasCleanDisk (state S.Store built.new) → HasCleanDisk (state T.Store office.new)
+        → IfErr result (HasFailedIn (state S.Store built.old) (state S.Store built.new)
+        (state T.Store office.old) (state T.Store office.new)) }
 {
     if !has_schema(built, office) {
         return Ok(Some(Difference::Schema));
     }
-    tables_differ(built, office)
+    tables_differ(alloc, built, office)
 }

@@ -1,6 +1,7 @@
 //! Where an office differs from the one of its journal.
 
 use crate::table::Table;
+use review_policy::{ProfileName, Word};
 use std::error::Error;
 use std::fmt;
 
@@ -14,32 +15,23 @@ pub enum Difference {
     /// The row of the office.
     Office,
     /// A user.
-    User {
-        name: String,
-    },
+    User(Word),
     /// A revision.
     Revision {
-        team: String,
-        profile: String,
+        name: ProfileName,
         number: u32,
     },
     /// A vote.
     Vote {
-        team: String,
-        profile: String,
+        name: ProfileName,
         number: u32,
-        voter: String,
+        voter: Word,
     },
     /// The baseline of a team.
-    Baseline {
-        team: String,
-    },
+    Baseline(Word),
     /// A profile that is held.
-    Hold {
-        team: String,
-        profile: String,
-    },
-    /// A row of a table whose key is none, or rowids that don't rise.
+    Hold(ProfileName),
+    /// A row of a table whose key no office has, or rowids that don't rise.
     Row(Table),
 }
 
@@ -53,20 +45,28 @@ impl fmt::Display for Difference {
         match self {
             Difference::Schema => f.write_str("schema"),
             Difference::Office => f.write_str("office"),
-            Difference::User { name } => write!(f, "users {name}"),
-            Difference::Revision {
-                team,
-                profile,
-                number,
-            } => write!(f, "revisions {team}/{profile} {number}"),
+            Difference::User(name) => write!(f, "users {}", name.as_str()),
+            Difference::Revision { name, number } => {
+                let team = name.team.as_str();
+                let profile = name.profile.as_str();
+                write!(f, "revisions {team}/{profile} {number}")
+            }
             Difference::Vote {
-                team,
-                profile,
+                name,
                 number,
                 voter,
-            } => write!(f, "votes {team}/{profile} {number} {voter}"),
-            Difference::Baseline { team } => write!(f, "baselines {team}"),
-            Difference::Hold { team, profile } => write!(f, "holds {team}/{profile}"),
+            } => {
+                let team = name.team.as_str();
+                let profile = name.profile.as_str();
+                let voter = voter.as_str();
+                write!(f, "votes {team}/{profile} {number} {voter}")
+            }
+            Difference::Baseline(team) => write!(f, "baselines {}", team.as_str()),
+            Difference::Hold(name) => {
+                let team = name.team.as_str();
+                let profile = name.profile.as_str();
+                write!(f, "holds {team}/{profile}")
+            }
             Difference::Row(table) => f.write_str(table.name()),
         }
     }

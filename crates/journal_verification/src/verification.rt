@@ -44,7 +44,7 @@ pub fn verify<T: Alter, R: BufRead + Drop>(
     ensures verified { HasCleanDisk (state T.Store office.new) → IfOk result
         (IsVerified (R.remaining journal) T.Store office.new) }
     ensures unverified { HasCleanDisk (state T.Store office.new) → IfErr result
-        (IsUnverified (R.remaining journal) T.Store office.old) }
+        (IsUnverified (R.remaining journal) T.Store office.old office.new) }
 {
     let Ok(conn) = Connection::open_in_memory(alloc) else {
         return Err(Unverified::Fault(StoreFault::NoMemory));
@@ -52,7 +52,7 @@ pub fn verify<T: Alter, R: BufRead + Drop>(
     match rebuild(alloc, conn, journal) {
         Ok((built, count)) => {
             let mut built = built.into_connection();
-            match compare(&mut built, office) {
+            match compare(alloc, &mut built, office) {
                 Ok(None) => Ok(count),
                 Ok(Some(difference)) => Err(Unverified::Differs(difference)),
                 Err(fault) => Err(Unverified::Fault(fault)),

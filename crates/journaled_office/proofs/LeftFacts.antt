@@ -20,7 +20,7 @@ use Rattle.journaled_office.proofs.Ends.{ends_within, first_bytes, none_before, 
 
 -- ---- lines end
 
-line_ends : (l : Line) → EndsLine (line_of l)
+pub line_ends : (l : Line) → EndsLine (line_of l)
 unfolding line_of
 line_ends l = ends_line (text_of l)
 

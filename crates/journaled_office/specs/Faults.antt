@@ -2,8 +2,8 @@
 use Rattle.journal_lines.specs.declared.fault.Unread.{Unread}
 use Rattle.journal_lines.specs.declared.fault.Unread.TheVariants as unread
 use Rattle.journaled_office.specs.declared.fault.NotReopened.{NotReopened}
-use Rattle.journaled_office.specs.declared.fault.NotReopened.TheVariants.{Read, NotALine, Office}
-use Rattle.journaled_office.specs.declared.fault.NotReopened.TheVariants.{Log, NoMemory}
+use Rattle.journaled_office.specs.declared.fault.NotReopened.TheVariants.{Read, NotALine, OtherJournal}
+use Rattle.journaled_office.specs.declared.fault.NotReopened.TheVariants.{Office, Log, NoMemory}
 
 -- why no line was read of a text
 abbrev pub unread_fault : Unread → NotReopened
@@ -14,6 +14,7 @@ unread_fault unread.NoMemory = NoMemory
 abbrev pub IsOutside : NotReopened → Type 0
 IsOutside Read = Unit {0}
 IsOutside NotALine = ⊥
+IsOutside OtherJournal = ⊥
 IsOutside (Office fault) = ⊥
 IsOutside Log = Unit {0}
 IsOutside NoMemory = Unit {0}

@@ -17,6 +17,19 @@ pub record IsLastOf (whole text : List ℕ) : Type 0 where
 abbrev pub HasLast : (whole text : List ℕ) → Type 0
 HasLast whole text = IsLastOf whole text ⊎ ((whole ≡ []) × (text ≡ []))
 
+-- whole lines, of which the last two have these texts
+pub record AreLastOf (whole before text : List ℕ) : Type 0 where
+  pub earlier : List ℕ
+  pub ends : EndsLine earlier
+  pub one : NoFeed before
+  pub is : whole ≡ (earlier ++ (before ++ 10 ∷ [])) ++ (text ++ 10 ∷ [])
+
+-- or one line at most, and no text of one before it
+abbrev pub HasBefore : (whole before text : List ℕ) → Type 0
+HasBefore whole before text =
+    AreLastOf whole before text
+    ⊎ ((before ≡ []) × ((whole ≡ []) ⊎ (whole ≡ text ++ 10 ∷ [])))
+
 -- of the bytes whole lines were read, and the rest is left
 pub record IsRead (bytes : List ℕ) (now : Option (List ℕ)) (last : LastLine) : Type 0 where
   pub whole : List ℕ
@@ -25,6 +38,7 @@ pub record IsRead (bytes : List ℕ) (now : Option (List ℕ)) (last : LastLine)
   pub left : now ≡ Some rest
   pub end : last.end ≡ length whole
   pub has : HasLast whole last.text.items
+  pub second : HasBefore whole last.before.items last.text.items
 
 -- this is the last whole line of the bytes: what stands behind it is torn
 pub record IsLast (bytes : List ℕ) (last : LastLine) : Type 0 where
@@ -34,6 +48,7 @@ pub record IsLast (bytes : List ℕ) (last : LastLine) : Type 0 where
   pub none : NoFeed torn
   pub end : last.end ≡ length whole
   pub has : HasLast whole last.text.items
+  pub second : HasBefore whole last.before.items last.text.items
 
 -- one line more was read, or none is left
 abbrev pub ReadsOn : (old new : Option (List ℕ)) → (before after : LastLine)

@@ -15,7 +15,11 @@ pub enum NotReopened {
     /// The journal has no whole line, or its last one is no line of a journal.
     #[error("not-a-line")]
     NotALine,
-    /// The office met this fault when it was asked about the last line.
+    /// The last two lines have events, and the tables show neither: the journal is of another
+    /// office, or of this one at another time.
+    #[error("other-journal")]
+    OtherJournal,
+    /// The office met this fault when it was asked about the last lines.
     #[error("office")]
     Office(Fault),
     /// The journal can't be cut, written or synced. No contract can say when.

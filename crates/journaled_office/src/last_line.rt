@@ -1,4 +1,4 @@
-//! The last whole line of a text.
+//! The last whole lines of a text.
 
 ghost use Rattle.std.specs.Prelude.{IfOk, IfErr, IfSome};
 ghost use Rattle.journaled_office.specs.Faults.{IsOutside};
@@ -10,9 +10,11 @@ use std::alloc::Global;
 use std::io::BufRead;
 use std::mem::swap;
 
-// The last whole line of a text.
+// The last whole line of a text, and the one before it.
 #[derive(Drop)]
 pub(crate) struct LastLine {
+    // The text of the one before it, without its line feed; empty where there is none.
+    pub(crate) before: Vec<u8>,
     // Its text, without its line feed; empty where no line is whole.
     pub(crate) text: Vec<u8>,
     // How many bytes end with it.
@@ -33,6 +35,7 @@ fn read_on<R: BufRead>(
                 return Err(NotReopened::Read);
             };
             last.end = end;
+            swap(&mut last.before, &mut last.text);
             swap(&mut last.text, line);
             Ok(true)
         }
@@ -43,7 +46,7 @@ fn read_on<R: BufRead>(
     }
 }
 
-// The last whole line of a text, of which no other is kept.
+// The last whole line of a text and the one before it. No other is kept.
 pub(crate) fn last_line<R: BufRead>(alloc: Global, input: &mut R) -> Result<LastLine, NotReopened>
     ensures last { IfOk result (λ last.
         IfSome (R.remaining input.old) (λ bytes. IsLast bytes last)) }
@@ -51,6 +54,7 @@ pub(crate) fn last_line<R: BufRead>(alloc: Global, input: &mut R) -> Result<Last
 {
     let mut line = Vec::new(alloc);
     let mut last = LastLine {
+        before: Vec::new(alloc),
         text: Vec::new(alloc),
         end: 0,
     };

@@ -5,12 +5,13 @@ ghost use Rattle.office_policy.specs.Judging.{LeavesAll};
 ghost use Rattle.office_desk.specs.Meant.{meaning_over};
 ghost use Rattle.office_journal.specs.Logging.{IsCutOff};
 ghost use Rattle.journaled_office.specs.LastLines.{IsLast};
-ghost use Rattle.journaled_office.specs.Mending.{Asks, IsStruckOut, Mends};
+ghost use Rattle.journaled_office.specs.Mending.{Asks, AsksLast, IsStruckOut, LooksFor};
+ghost use Rattle.journaled_office.specs.Mending.{Mends};
 
 use crate::fault::NotReopened;
 use crate::last_line::{LastLine, last_line};
 use journal_lines::print::line;
-use journal_lines::{Line, read_line};
+use journal_lines::{Line, Unread, read_line};
 use office_desk::Office;
 use office_journal::Log;
 use sqlite::Alter;
@@ -32,6 +33,40 @@ fn has_reached<S: Alter>(
         Line::Event(event) => Ok(office.shows(alloc, &event)?),
         Line::Strike => Ok(true),
     }
+}
+
+// Whether the line of this text says what hasn't reached the tables. A text that isn't that of a
+// line says nothing.
+fn is_missing<S: Alter>(
+    alloc: Global,
+    office: &mut Office<S>,
+    text: &[u8],
+) -> Result<bool, NotReopened>
+    ensures leaves { LeavesAll (meaning_over S.Store) office.old office.new }
+    ensures looks { LooksFor (meaning_over S.Store) office.old office.new text.now result }
+{
+    match read_line(alloc, text) {
+        Ok(Line::Event(event)) => Ok(!office.shows(alloc, &event)?),
+        Ok(Line::Strike) | Err(Unread::NotALine) => Ok(false),
+        Err(Unread::NoMemory) => Err(NotReopened::NoMemory),
+    }
+}
+
+// Whether what the last line says has reached the tables. Where it hasn't, what the line before it
+// says has: a crash keeps one event back, and no more.
+fn has_last_reached<S: Alter>(
+    alloc: Global,
+    office: &mut Office<S>,
+    last: &LastLine,
+) -> Result<bool, NotReopened>
+    ensures leaves { LeavesAll (meaning_over S.Store) office.old office.new }
+    ensures asks { AsksLast (meaning_over S.Store) office.old office.new last.now result }
+{
+    let reached = has_reached(alloc, office, &last.text)?;
+    if !reached && is_missing(alloc, office, &last.before)? {
+        return Err(NotReopened::OtherJournal);
+    }
+    Ok(reached)
 }
 
 // Takes away all that stands behind so many bytes, and waits until a crash would leave the rest.
@@ -67,7 +102,7 @@ fn set_right<S: Alter, L: Log>(
     ensures { (L.logging.known → IsLast (L.logging.text log.old) last.now)
         → Mends (meaning_over S.Store) L.logging office.old office.new log.old log.new result }
 {
-    let reached = has_reached(alloc, office, &last.text)?;
+    let reached = has_last_reached(alloc, office, last)?;
     cut_off(log, last.end)?;
     if reached {
         Ok(last.end)
@@ -84,9 +119,9 @@ fn set_right<S: Alter, L: Log>(
 ///
 /// # Errors
 ///
-/// The text has no line, or its last one is no line of a journal; the office has a fault when it is
-/// asked; the text, the log or memory fails. After any of them it can be done again: the file is
-/// again what a crash may leave.
+/// The text has no line, or its last one is no line of a journal; its last two lines have events
+/// that the tables don't show; the office has a fault when it is asked; the text, the log or memory
+/// fails. After any of them it can be done again: the file is again what a crash may leave.
 pub fn mend<S: Alter, R: BufRead, L: Log>(
     alloc: Global,
     office: &mut Office<S>,

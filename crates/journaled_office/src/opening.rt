@@ -10,6 +10,7 @@ ghost use Rattle.office_journal.specs.Files.{in_file};
 ghost use Rattle.office_journal.specs.Journals.{goes_on};
 ghost use Rattle.journaled_office.specs.declared.fault.NotReopened.{NotReopened};
 ghost use Rattle.journaled_office.specs.Mending.{HasNoLine, HasOfficeCause, IsMended};
+ghost use Rattle.journaled_office.specs.Mending.{SaysOther};
 ghost use Rattle.journaled_office.specs.Opening.{IsReopened};
 
 use crate::fault::NotReopened;
@@ -48,6 +49,16 @@ pub fn reopen<S: Alter + Drop, R: BufRead + Drop, L: Log + Drop>(
     ensures line { L.logging.known → (h : History) → IsLawfulHistory h
         → IsLeftOf h (L.logging.text log)
         → IfErr result (λ refusal. refusal.0 ≢ NotReopened.NotALine) }
+    ensures other { L.logging.known → (h : History) → (meaning_over S.Store).is_of h office
+        → IfErr result (λ refusal. (meaning_over S.Store).is_clean refusal.1
+        → refusal.0 ≡ NotReopened.OtherJournal → SaysOther h (L.logging.text log)) }
+    ensures ours { L.logging.known → (h : History) → (meaning_over S.Store).is_of h office
+        → IfOk result (λ x. (meaning_over S.Store).is_clean x.office
+        → SaysOther h (L.logging.text log) → ⊥) }
+    ensures own { L.logging.known → (h : History) → (meaning_over S.Store).is_of h office
+        → IsLeftOf h (L.logging.text log)
+        → IfErr result (λ refusal. (meaning_over S.Store).is_clean refusal.1
+        → refusal.0 ≢ NotReopened.OtherJournal) }
     ensures cause { (h : History) → (meaning_over S.Store).is_of h office
         → IfErr result (λ refusal. (meaning_over S.Store).is_clean refusal.1
         → HasOfficeCause (meaning_over S.Store) office refusal.1 refusal.0) }

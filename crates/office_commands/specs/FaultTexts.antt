@@ -57,6 +57,7 @@ compared_fault_text compared.NoMemory = codes "memory"
 abbrev pub reopening_fault_word : NotReopened → List ℕ
 reopening_fault_word reopening.Read = codes "journal"
 reopening_fault_word reopening.NotALine = codes "not-a-journal"
+reopening_fault_word reopening.OtherJournal = codes "other-journal"
 reopening_fault_word (reopening.Office why) = fault_word why
 reopening_fault_word reopening.Log = codes "journal"
 reopening_fault_word reopening.NoMemory = codes "memory"

@@ -21,7 +21,7 @@ use Rattle.office_journal.specs.Journals.{goes_on, journaled}
 use Rattle.office_journal.specs.declared.file.FileJournal.{FileJournal}
 use Rattle.office_journal.specs.declared.journaled.Journaled.{Journaled}
 use Rattle.office_journal.specs.declared.log.Log.{Ghosts as FileGhosts}
-use Rattle.journaled_office.specs.Mending.{HasNoLine, HasOfficeCause, IsMended}
+use Rattle.journaled_office.specs.Mending.{HasNoLine, HasOfficeCause, IsMended, SaysOther}
 use Rattle.journaled_office.specs.Opening.{IsReopened}
 use Rattle.journaled_office.specs.declared.fault.NotReopened.{NotReopened}
 use Rattle.journaled_office.specs.declared.fault.NotReopened.TheVariants as reopening
@@ -120,6 +120,9 @@ pub record IsOpenedAgain {S L : Type 0} (g : Ghosts S) (f : FileGhosts L) (old :
   pub goes_on : IsTrue (goes_on (meaning_over g) (in_file f) x)
   -- the file has its whole lines, and the last of them may be struck out
   pub text : f.logging.known → IsMended (f.logging.text log) (f.logging.text x.journal.log)
+  -- it isn't another office's, as its last two lines say
+  pub ours : f.logging.known → (h : History) → (meaning_over g).is_of h old
+      → (meaning_over g).is_clean x.office → SaysOther h (f.logging.text log) → ⊥
   -- where it was what a crash may leave of the journal of the office, it is that journal
   pub journal : f.logging.known → (h : History) → (meaning_over g).is_of h old
       → IsLeftOf h (f.logging.text log) → (meaning_over g).is_clean x.office
@@ -134,6 +137,13 @@ pub record IsNotOpenedAgain {S L : Type 0} (g : Ghosts S) (f : FileGhosts L) (ol
   pub no_line : f.logging.known → why ≡ reopening.NotALine → HasNoLine (f.logging.text log)
   pub line : f.logging.known → (h : History) → IsLawfulHistory h → IsLeftOf h (f.logging.text log)
       → why ≢ reopening.NotALine
+  -- only one whose last two lines have events that the tables don't show is told to be another's
+  pub other : f.logging.known → (h : History) → (meaning_over g).is_of h old
+      → (meaning_over g).is_clean new → why ≡ reopening.OtherJournal
+      → SaysOther h (f.logging.text log)
+  pub own : f.logging.known → (h : History) → (meaning_over g).is_of h old
+      → IsLeftOf h (f.logging.text log) → (meaning_over g).is_clean new
+      → why ≢ reopening.OtherJournal
   -- and a fault of the office has a cause
   pub cause : (h : History) → (meaning_over g).is_of h old → (meaning_over g).is_clean new
       → HasOfficeCause (meaning_over g) old new why

@@ -44,7 +44,7 @@ module _ {S F : Type 0} (g : Ghosts S) (Opens : Result F IoError → Type 0)
     pub old : Held S
     pub new : Held S
     pub looked : WasLookedAt text old new
-    pub unverified : HasCleanDisk (state g new) → IsUnverified text g old why
+    pub unverified : HasCleanDisk (state g new) → IsUnverified text g old new why
     pub closed : Closed new
 
   -- There is no text, or no office; or the office isn't that of the journal, and was closed,

@@ -90,6 +90,7 @@ fn reopening_word(fault: NotReopened) -> &'static str
     match fault {
         NotReopened::Read | NotReopened::Log => "journal",
         NotReopened::NotALine => "not-a-journal",
+        NotReopened::OtherJournal => "other-journal",
         NotReopened::Office(fault) => fault.word(),
         NotReopened::NoMemory => "memory",
     }

@@ -16,16 +16,24 @@ insert into users values('ann', 'blue', 2, x'b9382ae65bf200e3350f913c9c98f85340b
 insert into users values('rev', 'office', 4, x'c6be5267fea2eba314742579352918002962e8c076047877d111f95eb2bb6eae');
 insert into users values('sue', 'office', 12, x'1cedc29c5bbef44da589b7c8f2cfe7a4539b238dbd1f11d1724d982035c1e785');
 insert into users values('iss', 'office', 16, x'51f33083ff97a280a4f5409a93e8474a829afcbe5ef1bd936069921164e65d09');
-insert into revisions values('blue', 'web', 1, 'ann', 1, '{"capabilities":{"ambient":[],"bounding":[],"effective":[],"inheritable":[],"permitted":[]}}', x'67d59648e3164479ed30407333c338a60764f60cd31c54ca1cd477602ac5e5d6');
-insert into revisions values('blue', 'web', 2, 'ann', 0, '{"capabilities":{"ambient":[],"bounding":[],"effective":[],"inheritable":[],"permitted":[]},"seccomp":{"defaultAction":"SCMP_ACT_KILL_PROCESS"}}', x'68a92f41776a711521830f21a18af0fdeaffdd13f5ae5a0db239a6d035c49f80');
+insert into revisions values('blue', 'web', 1, 'ann', 1,
+  '{"capabilities":{"ambient":[],"bounding":[],"effective":[],"inheritable":[],"permitted":[]}}',
+  x'67d59648e3164479ed30407333c338a60764f60cd31c54ca1cd477602ac5e5d6');
+insert into revisions values('blue', 'web', 2, 'ann', 0,
+  '{"capabilities":{"ambient":[],"bounding":[],"effective":[],"inheritable":[],"permitted":[]},"seccomp":{"defaultAction":"SCMP_ACT_KILL_PROCESS"}}',
+  x'68a92f41776a711521830f21a18af0fdeaffdd13f5ae5a0db239a6d035c49f80');
 insert into votes values('blue', 'web', 1, 'rev', 1, 0);"#;
 
 /// It is looked at, its last revision is issued, held and released, and ann hands in another.
-pub const AFTER_MIGRATION: &str = r#"{"ask":"list","token":"t-sue","team":"blue"}
+pub const AFTER_MIGRATION: &str = concat!(
+    r#"{"ask":"list","token":"t-sue","team":"blue"}
 {"ask":"sheet","token":"t-sue","team":"blue","profile":"web","revision":1}
 {"ask":"issue","token":"t-iss","team":"blue","profile":"web","revision":2}
-{"ask":"vote","token":"t-rev","team":"blue","profile":"web","revision":2,"digest":"68a92f41776a711521830f21a18af0fdeaffdd13f5ae5a0db239a6d035c49f80","vote":"approve"}
+{"ask":"vote","token":"t-rev","team":"blue","profile":"web","revision":2,"#,
+    r#""digest":"68a92f41776a711521830f21a18af0fdeaffdd13f5ae5a0db239a6d035c49f80","vote":"approve"}
 {"ask":"issue","token":"t-iss","team":"blue","profile":"web","revision":2}
 {"ask":"hold","token":"t-sue","team":"blue","profile":"web"}
 {"ask":"release","token":"t-sue","team":"blue","profile":"web"}
-{"ask":"submit","token":"t-ann","team":"blue","profile":"web","document":"{\"capabilities\":{\"ambient\":[],\"bounding\":[],\"effective\":[],\"inheritable\":[],\"permitted\":[]}}"}"#;
+{"ask":"submit","token":"t-ann","team":"blue","profile":"web","#,
+    r#""document":"{\"capabilities\":{\"ambient\":[],\"bounding\":[],\"effective\":[],\"inheritable\":[],\"permitted\":[]}}"}"#
+);

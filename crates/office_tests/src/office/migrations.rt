@@ -24,8 +24,12 @@ insert into users values('root', 'office', 1, x'ba7816bf8f01cfea414140de5dae2223
 insert into users values('ann', 'blue', 2, x'b9382ae65bf200e3350f913c9c98f85340bd0ffff6d864c5c9c6829d2c5b05dd');
 insert into users values('rev', 'office', 4, x'c6be5267fea2eba314742579352918002962e8c076047877d111f95eb2bb6eae');
 insert into users values('sue', 'office', 12, x'1cedc29c5bbef44da589b7c8f2cfe7a4539b238dbd1f11d1724d982035c1e785');
-insert into revisions values('blue', 'web', 1, 'ann', 1, '{\"capabilities\":{\"ambient\":[],\"bounding\":[],\"effective\":[],\"inheritable\":[],\"permitted\":[]}}', x'67d59648e3164479ed30407333c338a60764f60cd31c54ca1cd477602ac5e5d6');
-insert into revisions values('blue', 'web', 2, 'ann', 0, '{\"capabilities\":{\"ambient\":[],\"bounding\":[],\"effective\":[],\"inheritable\":[],\"permitted\":[]},\"seccomp\":{\"defaultAction\":\"SCMP_ACT_KILL_PROCESS\"}}', x'68a92f41776a711521830f21a18af0fdeaffdd13f5ae5a0db239a6d035c49f80');
+insert into revisions values('blue', 'web', 1, 'ann', 1,
+  '{\"capabilities\":{\"ambient\":[],\"bounding\":[],\"effective\":[],\"inheritable\":[],\"permitted\":[]}}',
+  x'67d59648e3164479ed30407333c338a60764f60cd31c54ca1cd477602ac5e5d6');
+insert into revisions values('blue', 'web', 2, 'ann', 0,
+  '{\"capabilities\":{\"ambient\":[],\"bounding\":[],\"effective\":[],\"inheritable\":[],\"permitted\":[]},\"seccomp\":{\"defaultAction\":\"SCMP_ACT_KILL_PROCESS\"}}',
+  x'68a92f41776a711521830f21a18af0fdeaffdd13f5ae5a0db239a6d035c49f80');
 insert into votes values('blue', 'web', 1, 'rev', 1, 0);
 ";
 
@@ -34,11 +38,17 @@ const ASKED: &str = r#"{"ask":"list","token":"t-sue","team":"blue"}
 {"ask":"sheet","token":"t-sue","team":"blue","profile":"web","revision":1}
 {"ask":"release","token":"t-sue","team":"blue","profile":"web"}"#;
 
-const TOLD: &str =
+const TOLD: &str = concat!(
     r#"{"answer":"done","profiles":[{"issued":0,"profile":"web","revisions":2,"state":"open"}]}
-{"answer":"done","digest":"67d59648e3164479ed30407333c338a60764f60cd31c54ca1cd477602ac5e5d6","document":"{\"capabilities\":{\"ambient\":[],\"bounding\":[],\"effective\":[],\"inheritable\":[],\"permitted\":[]}}","state":"closed"}
-{"answer":"done","sheet":"REVIEW SHEET\nteam: blue\nprofile: web\nrevision: 1\nstate: closed\ndigest: 67d59648e3164479ed30407333c338a60764f60cd31c54ca1cd477602ac5e5d6\nbaseline: closed\neffective: none\npermitted: none\ninheritable: none\nbounding: none\nambient: none\nplain permitted: none\nplain effective: none\nplain ambient: none\nroot permitted: none\nroot effective: none\nroot ambient: none\nseccomp: none\nfindings: 1\n  no-seccomp\nlisted: none\nneed: 2 with security\nvotes: 1\n  rev approve\napprovals: 1\nrejections: 0\n"}
-{"answer":"denied","rule":4,"word":"not-held"}"#;
+{"answer":"done","digest":"67d59648e3164479ed30407333c338a60764f60cd31c54ca1cd477602ac5e5d6","#,
+    r#""document":"{\"capabilities\":{\"ambient\":[],\"bounding\":[],\"effective\":[],\"inheritable\":[],\"permitted\":[]}}","state":"closed"}
+{"answer":"done","sheet":"REVIEW SHEET\nteam: blue\nprofile: web\nrevision: 1\nstate: closed\n"#,
+    r#"digest: 67d59648e3164479ed30407333c338a60764f60cd31c54ca1cd477602ac5e5d6\nbaseline: closed\neffective: none\npermitted: none\n"#,
+    r#"inheritable: none\nbounding: none\nambient: none\nplain permitted: none\nplain effective: none\nplain ambient: none\nroot permitted: none\n"#,
+    r#"root effective: none\nroot ambient: none\nseccomp: none\nfindings: 1\n  no-seccomp\nlisted: none\nneed: 2 with security\nvotes: 1\n"#,
+    r#"  rev approve\napprovals: 1\nrejections: 0\n"}
+{"answer":"denied","rule":4,"word":"not-held"}"#
+);
 
 #[test]
 fn an_office_of_schema_1_is_migrated_with_its_votes(rt: HostRuntime) -> Result<(), Fail> {

@@ -4,7 +4,7 @@ use Rattle.journaled_office.proofs.ReadFacts.{at_first, of_known}
 use Rattle.journaled_office.proofs.last_line.last_line.Goals as goal
 
 pub loop-last-init : goal.loop-last-init
-loop-last-init g c = record { read = λ bytes is. at_first _ _ bytes is refl c.new.ensures.items }
+loop-last-init g c = record { read = λ bytes is. at_first _ _ bytes is refl c.new-2.ensures.items c.new.ensures.items }
 
 pub returns-then-not-branch-clause-last : goal.returns-then-not-branch-clause-last
 returns-then-not-branch-clause-last g c =

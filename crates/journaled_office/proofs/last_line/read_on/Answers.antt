@@ -8,7 +8,7 @@ returns-in-Some g c =
     let long = c.len.ensures in (
       omega arith,
       λ bytes read.
-          one_more _ _ c.read_text.new.text.items c.args.last.now _ bytes _ c.in-Ok-true.ensures c.in-Ok-true.field-0-test (ap (λ v. v.items) c.swap.ensures.x_after)
+          one_more _ _ c.read_text.new.text.items c.args.last.now _ bytes _ c.in-Ok-true.ensures c.in-Ok-true.field-0-test (ap (λ v. v.items) c.swap-in-Ok-true.ensures.x_after) (ap (λ v. v.items) c.swap.ensures.x_after)
           (c.in-Some.ensures.1 ∙ ap (λ n. c.args.last.now.end + (n + 1)) (c.len.ensures ∙ c.read_text.new.text.ok.0)) read,
     )
 

@@ -57,6 +57,6 @@ returns-in-Err-default-clause-failed g c =
         office = subst (IsOpenedOffice g.S.Store (g.D.Databases.opened c.args.database.now)) (sym c.into_connection-conn.ensures.connection) c.in-Ok-office_at.ensures.opened;
         looked = c.verify-verified.ensures.looked;
       };
-      unverified = λ clean. subst (λ r. IfErr r (IsUnverified text g.S.Store old)) c.in-Err-default.is-0 (c.verify-verified.ensures.unverified clean);
+      unverified = λ clean. subst (λ r. IfErr r (IsUnverified text g.S.Store old new)) c.in-Err-default.is-0 (c.verify-verified.ensures.unverified clean);
       closed = (c.close-closed.result, c.close-closed.ensures.ended);
     }

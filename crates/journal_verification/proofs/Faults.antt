@@ -1,0 +1,76 @@
+-- Why an office can't be read.
+use Rattle.std.proofs.Common.{inl, inr, ◌≡◌, ℕ, List, [], Result, Ok, Err, IfErr, IsErrAnd, IsTrue, refl, sym, subst, arith}
+use Rattle.sqlite.specs.declared.error.Error.{Error}
+use Rattle.sqlite.specs.Held.{Held, state}
+use Rattle.sqlite.specs.Listing.{understood}
+use Rattle.sqlite.specs.State.{State, FailsToQuery}
+use Rattle.sqlite.specs.Steps.{over_memory}
+use Rattle.sqlite_tied.specs.Compute.{everything}
+use Rattle.sqlite_trees.specs.declared.memory.MemStore.{MemStore}
+use Rattle.office_tables.specs.Tables.{Tables}
+use Rattle.office_tables.specs.declared.fault.StoreFault.{StoreFault}
+use Rattle.office_tables.specs.declared.fault.StoreFault.TheVariants as fault
+use Rattle.office_rows.specs.Causes.{HasFailed}
+use Rattle.office_rows.specs.Faults.{fault_of_error}
+use Rattle.office_rows.specs.Queries.{IsQuery}
+use Rattle.office_rows.specs.Rows.{IsFaultOf}
+use Rattle.office_rows.proofs.Sure.{IsSure, rows_fault, shut_failed, sure_failed}
+use Rattle.office_store.specs.Schema.{office_schema}
+use Rattle.office_store.specs.Shown.{IsIdle, Shows}
+use Rattle.office_store.proofs.Calls.{by_open, never_both}
+use Rattle.journal_verification.specs.declared.table.Table.{Table}
+use Rattle.journal_verification.specs.declared.table.Table.TheVariants as table
+use Rattle.journal_verification.specs.Looked.{HasFailedIn}
+use Rattle.journal_verification.specs.Texts.{rowids_text, rows_text}
+use Rattle.journal_verification.proofs.Queries.{rows_are_asked, rowids_are_asked}
+
+rows_are_sure : (t : Table) → IsSure office_schema (rows_text t) []
+unfolding understood everything
+rows_are_sure table.Office = record { text = record { whole = refl; given = refl; bare = refl; timeless = refl; query = (refl, refl, refl, refl) }; unlisted = refl }
+rows_are_sure table.Users = record { text = record { whole = refl; given = refl; bare = refl; timeless = refl; query = (refl, refl, refl, refl) }; unlisted = refl }
+rows_are_sure table.Revisions = record { text = record { whole = refl; given = refl; bare = refl; timeless = refl; query = (refl, refl, refl, refl) }; unlisted = refl }
+rows_are_sure table.Votes = record { text = record { whole = refl; given = refl; bare = refl; timeless = refl; query = (refl, refl, refl, refl) }; unlisted = refl }
+rows_are_sure table.Baselines = record { text = record { whole = refl; given = refl; bare = refl; timeless = refl; query = (refl, refl, refl, refl) }; unlisted = refl }
+rows_are_sure table.Holds = record { text = record { whole = refl; given = refl; bare = refl; timeless = refl; query = (refl, refl, refl, refl) }; unlisted = refl }
+
+rowids_are_sure : (t : Table) → IsSure office_schema (rowids_text t) []
+unfolding understood everything
+rowids_are_sure table.Office = record { text = record { whole = refl; given = refl; bare = refl; timeless = refl; query = (refl, refl, refl, refl) }; unlisted = refl }
+rowids_are_sure table.Users = record { text = record { whole = refl; given = refl; bare = refl; timeless = refl; query = (refl, refl, refl, refl) }; unlisted = refl }
+rowids_are_sure table.Revisions = record { text = record { whole = refl; given = refl; bare = refl; timeless = refl; query = (refl, refl, refl, refl) }; unlisted = refl }
+rowids_are_sure table.Votes = record { text = record { whole = refl; given = refl; bare = refl; timeless = refl; query = (refl, refl, refl, refl) }; unlisted = refl }
+rowids_are_sure table.Baselines = record { text = record { whole = refl; given = refl; bare = refl; timeless = refl; query = (refl, refl, refl, refl) }; unlisted = refl }
+rowids_are_sure table.Holds = record { text = record { whole = refl; given = refl; bare = refl; timeless = refl; query = (refl, refl, refl, refl) }; unlisted = refl }
+
+-- a query that the schema takes fails for no memory, for the disk, or over a connection that was shut
+failed : (sql : List ℕ) → IsQuery sql → IsSure office_schema sql [] → (old new : State) → IsIdle old → old.now.schema ≡ office_schema → (f : StoreFault) → IsFaultOf sql [] old new f → HasFailed old new f
+failed sql query sure old new idle has f fault =
+    let r : Result (Unit {0}) StoreFault = Err f in
+    rows_fault (HasFailed old new) sql [] old new
+    (by_open old.is_open ((e : Error) → FailsToQuery sql [] old new e → HasFailed old new (fault_of_error e))
+    (λ is_open e. sure_failed office_schema sql [] sure old new e has idle.unlimited)
+    (λ shut e. shut_failed sql [] old new e (query old.now.schema) shut)) r fault
+
+pub rows_failed : (t : Table) (sql : List ℕ) → sql ≡ rows_text t → (old new : State) → IsIdle old → old.now.schema ≡ office_schema → (f : StoreFault) → IsFaultOf sql [] old new f → HasFailed old new f
+rows_failed t sql is old new idle has f fault = failed (rows_text t) (rows_are_asked t) (rows_are_sure t) old new idle has f (subst (λ s. IsFaultOf s [] old new f) is fault)
+
+pub rowids_failed : (t : Table) (sql : List ℕ) → sql ≡ rowids_text t → (old new : State) → IsIdle old → old.now.schema ≡ office_schema → (f : StoreFault) → IsFaultOf sql [] old new f → HasFailed old new f
+rowids_failed t sql is old new idle has f fault = failed (rowids_text t) (rowids_are_asked t) (rowids_are_sure t) old new idle has f (subst (λ s. IsFaultOf s [] old new f) is fault)
+
+-- a `?` that leaves with this
+pub passed_on : {A : Type 0} (P : StoreFault → Type 0) (r : Result A StoreFault) (f : StoreFault) → IsErrAnd r (λ e. e ≡ f) → P f → IfErr r P
+passed_on P (Ok a) f is p = absurd is
+passed_on P (Err e) f is p = subst P (sym is) p
+
+-- memory has no faults
+memory_never_failed : (old new : Held MemStore) (f : StoreFault) → IsTrue (state over_memory old).is_open → HasFailed (state over_memory old) (state over_memory new) f → f ≡ fault.NoMemory
+memory_never_failed old new fault.NoMemory is_open h = refl
+memory_never_failed old new fault.Disk is_open (inl h) = absurd (omega (arith, h))
+memory_never_failed old new fault.Disk is_open (inr shut) = never_both (state over_memory old).is_open is_open shut
+memory_never_failed old new fault.Full is_open h = absurd (omega (arith, h))
+memory_never_failed old new fault.NotAnOffice is_open h = absurd h
+
+-- so the office failed
+pub failed_office : (built left : Held MemStore) (t : Tables) → Shows (state over_memory built) t → (old new : State) (f : StoreFault) → HasFailedIn (state over_memory built) (state over_memory left) old new f → HasFailed old new f
+failed_office built left t shows old new f (inl h) = subst (HasFailed old new) (sym (memory_never_failed built left f shows.is_open h)) tt
+failed_office built left t shows old new f (inr h) = h
