@@ -12,6 +12,7 @@ pub mod GivenOut
 pub mod CastFacts
 pub mod VoterFacts
 pub mod CallerFacts
+pub mod TokenFacts
 pub mod TextFacts
 pub mod DutyFacts
 pub mod AnswerFacts

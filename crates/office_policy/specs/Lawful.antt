@@ -1,12 +1,15 @@
 -- Histories that the policy allows.
-use Rattle.std.specs.Prelude.{◌≡◌, ◌<◌, ◌^◌, [], ◌∷◌, Some}
+use Rattle.std.specs.Prelude.{◌≡◌, ◌<◌, ◌^◌, ℕ, List, [], ◌∷◌, true, Some}
+use Rattle.profile_text.specs.Digest.{digest_of}
 use Rattle.review_policy.specs.declared.ask.Ask.{Ask}
 use Rattle.review_policy.specs.declared.ask.Request.{Request}
 use Rattle.review_policy.specs.declared.answer.Reply.{Reply}
+use Rattle.review_policy.specs.Words.{is_token}
 use Rattle.office_tables.specs.declared.row.UserRow.{UserRow}
 use Rattle.office_policy.specs.History.{Event, founded, History}
 use Rattle.office_policy.specs.Users.{user_of}
 use Rattle.office_policy.specs.Verdict.{accepted, verdict_of, verdict}
+use Rattle.office_policy.specs.Callers.{caller_of}
 use Rattle.office_policy.specs.Formed.{IsWord, IsDigest, HasForms, HasNumber, IsFormed}
 
 -- the event is a founding that can be made: the listed capabilities are some of the 41
@@ -39,3 +42,28 @@ abbrev pub IsLawfulHistory : History → Type 0
 IsLawfulHistory [] = ⊥
 IsLawfulHistory (e ∷ []) = IsFounding e
 IsLawfulHistory (e ∷ f ∷ before) = IsAllowed (f ∷ before) e × IsLawfulHistory (f ∷ before)
+
+-- ---- with tokens
+
+-- some token has this digest
+abbrev pub IsOfToken : List ℕ → Type 0
+IsOfToken digest = (token : List ℕ) × (is_token token ≡ true) × (digest ≡ digest_of token)
+
+-- whoever asked for the event had a token to show
+abbrev pub HadToken : History → Event → Type 0
+HadToken before e =
+    (name : List ℕ) (user : UserRow) → caller_of e ≡ Some name → user_of before name ≡ Some user
+    → IsOfToken user.digest
+
+-- and so each time
+abbrev pub AllHadTokens : History → Type 0
+AllHadTokens [] = Unit {0}
+AllHadTokens (e ∷ before) = HadToken before e × AllHadTokens before
+
+-- the first event is a founding, and each later one is that of a request with a token, which the
+-- policy allows on those before it
+abbrev pub IsHistoryOfRequests : History → Type 0
+IsHistoryOfRequests [] = ⊥
+IsHistoryOfRequests (e ∷ []) = IsFounding e
+IsHistoryOfRequests (e ∷ f ∷ before) =
+    IsRequested (f ∷ before) e × IsHistoryOfRequests (f ∷ before)

@@ -1,7 +1,7 @@
 //! Laws of histories. Each is a function without a parameter whose contract is the law; it does
 //! nothing.
 
-ghost use Rattle.std.specs.Prelude.{◌≡◌, ◌≤◌, ◌∷◌, List, ℕ, Some};
+ghost use Rattle.std.specs.Prelude.{◌≡◌, ◌≤◌, ◌↔◌, ◌∷◌, List, ℕ, Some};
 ghost use Rattle.review_policy.specs.declared.ask.ProfileName.{ProfileName};
 ghost use Rattle.review_policy.specs.declared.ask.Request.{Request};
 ghost use Rattle.review_policy.specs.Rules.{max_revisions};
@@ -16,6 +16,7 @@ ghost use Rattle.office_policy.specs.Need.{need_at};
 ghost use Rattle.office_policy.specs.Sheets.{sheet_of};
 ghost use Rattle.office_policy.specs.TablesOf.{tables_of};
 ghost use Rattle.office_policy.specs.Lawful.{IsLawfulHistory, IsAllowed, IsRequested};
+ghost use Rattle.office_policy.specs.Lawful.{IsHistoryOfRequests, AllHadTokens};
 ghost use Rattle.office_policy.specs.Laws.{AreApart, KeepsTeams, KeepsSubmissions, NumbersRun};
 ghost use Rattle.office_policy.specs.Laws.{OpenIsLast, OneIssued, IsDecided, ListsInOrder, ListsAll};
 
@@ -58,6 +59,12 @@ pub fn every_request_is_judged()
 /// What happens by an accepted request is allowed, to the user who shows its token.
 pub fn accepted_requests_are_allowed()
     ensures { (h : History) (e : Event) → IsRequested h e → IsAllowed h e }
+{}
+
+/// The histories of requests with tokens are just the lawful ones in which whoever asked for
+/// something had a token to show.
+pub fn histories_of_requests_are_lawful_ones_of_tokens()
+    ensures { (h : History) → IsHistoryOfRequests h ↔ (IsLawfulHistory h × AllHadTokens h) }
 {}
 
 /// The profiles of a team are listed in byte order of their names, each once.
