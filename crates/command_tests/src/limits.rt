@@ -1,6 +1,7 @@
 // Documents and answers at their limits, in lines and in files.
 
-use crate::said::{assert_said, said};
+use crate::said::assert_said;
+use said_commands::said;
 use std::fs;
 use std::process::Abort;
 use std::test::Fail;

@@ -1,7 +1,8 @@
 // Offices in files that a command finds in an odd state.
 
-use crate::said::{assert_said, founding, said_on};
+use crate::said::assert_said;
 use office_commands::Databases;
+use said_commands::{founding, said_on};
 use sqlite::{Connection, Error, ErrorCode, MemStore};
 use std::alloc::Global;
 use std::fs;

@@ -1,6 +1,7 @@
 // Words that are no command line, help, the stream that each text goes to, and an output that fails.
 
-use crate::said::{assert_said, founding, run_here, said};
+use crate::said::assert_said;
+use said_commands::{founding, run_here, said};
 use std::io::{ErrorKind, Write};
 use std::process::Abort;
 use std::test::Fail;

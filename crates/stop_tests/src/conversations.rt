@@ -1,12 +1,12 @@
 // Conversations of lines.
 
-use crate::begun::Beginning;
-use crate::course::{Script, requests_of};
-use crate::files::File;
-use crate::runs::{assert_stops, assert_torn};
+use crate::seen::{assert_stops, assert_torn};
 use std::alloc::Global;
 use std::process::Abort;
 use std::test::Fail;
+use stopping_offices::begun::Beginning;
+use stopping_offices::course::{Script, requests_of};
+use stopping_offices::files::File;
 use test_doubles::conversations::{HELD_AND_RELEASED, SECOND_THOUGHTS, VOTE_LEFT_BEHIND};
 
 // An office that is founded and asked these lines.

@@ -1,12 +1,12 @@
 // A review over HTTP.
 
-use crate::begun::Beginning;
-use crate::course::Script;
-use crate::files::File;
-use crate::runs::assert_stops;
+use crate::seen::assert_stops;
 use std::alloc::Global;
 use std::process::Abort;
 use std::test::Fail;
+use stopping_offices::begun::Beginning;
+use stopping_offices::course::Script;
+use stopping_offices::files::File;
 use test_doubles::messages::REVIEW;
 
 fn assert_kept(rt: &impl Abort, alloc: Global, file: File, stops: u64) -> Result<(), Fail> {

@@ -1,10 +1,10 @@
 // The founding of an office.
 
-use crate::begun::Beginning;
-use crate::course::Script;
-use crate::files::File;
-use crate::runs::assert_stops;
+use crate::seen::assert_stops;
 use std::test::Fail;
+use stopping_offices::begun::Beginning;
+use stopping_offices::course::Script;
+use stopping_offices::files::File;
 
 const FOUNDING: Script<'static> = Script {
     beginning: Beginning::Founding,

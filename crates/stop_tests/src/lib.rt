@@ -3,17 +3,9 @@
 #![tactic(auto)]
 
 #[cfg(test)]
-mod asked;
-#[cfg(test)]
-mod begun;
-#[cfg(test)]
 mod conversations;
 #[cfg(test)]
-mod course;
-#[cfg(test)]
 mod exchanges;
-#[cfg(test)]
-mod files;
 #[cfg(test)]
 mod foundings;
 #[cfg(test)]
@@ -21,8 +13,4 @@ mod journals;
 #[cfg(test)]
 mod migrations;
 #[cfg(test)]
-mod runs;
-#[cfg(test)]
-mod stopping_log;
-#[cfg(test)]
-mod texts;
+mod seen;

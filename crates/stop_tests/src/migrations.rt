@@ -1,13 +1,13 @@
 // The migration of an office of schema 1, and what it is asked then.
 
-use crate::begun::Beginning;
-use crate::course::{Script, requests_of};
-use crate::files::File;
-use crate::runs::assert_stops;
-use crate::texts::AFTER_MIGRATION;
+use crate::seen::assert_stops;
 use std::alloc::Global;
 use std::process::Abort;
 use std::test::Fail;
+use stopping_offices::begun::Beginning;
+use stopping_offices::course::{Script, requests_of};
+use stopping_offices::files::File;
+use stopping_offices::texts::AFTER_MIGRATION;
 
 fn assert_kept(rt: &impl Abort, alloc: Global, file: File, stops: u64) -> Result<(), Fail> {
     let requests = requests_of(alloc, AFTER_MIGRATION)?;

@@ -2,4 +2,6 @@
 #![tactic(auto)]
 
 pub mod offices;
+pub mod served;
 pub mod tables;
+pub mod trial;

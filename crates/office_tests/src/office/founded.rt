@@ -4,13 +4,13 @@ ghost use Rattle.std.specs.Prelude.{IfOk};
 ghost use Rattle.sqlite.specs.Held.{state};
 ghost use Rattle.office_store.specs.Shown.{IsIdle};
 
-use crate::served::serve;
 use office_desk::Office;
 use sqlite::{Alter, Connection};
 use std::alloc::Global;
 use std::process::Abort;
 use std::test::Fail;
 use test_offices::offices::found_office;
+use test_offices::served::serve;
 
 // Compares what an office answers to the requests of these lines, and hands back what is under it.
 fn converse<S: Alter + Drop>(

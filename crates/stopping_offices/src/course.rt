@@ -1,4 +1,4 @@
-// What comes of a script in memory.
+//! What comes of a script in memory.
 
 use crate::asked::answer_to;
 use crate::begun::{Beginning, before, begin};
@@ -8,15 +8,15 @@ use std::alloc::{AllocError, Global};
 use std::test::Fail;
 use test_offices::tables::tables_of;
 
-// How an office begins, and what it is asked then.
+/// How an office begins, and what it is asked then.
 #[derive(Clone, Copy)]
 pub struct Script<'a> {
     pub beginning: Beginning,
     pub requests: &'a [&'a str],
 }
 
-// The requests of these lines.
-pub(crate) fn requests_of(alloc: Global, lines: &str) -> Result<Vec<&str>, AllocError> {
+/// The requests of these lines.
+pub fn requests_of(alloc: Global, lines: &str) -> Result<Vec<&str>, AllocError> {
     let mut requests = Vec::new(alloc);
     for line in lines.lines() {
         requests.push(line)?;
@@ -24,26 +24,26 @@ pub(crate) fn requests_of(alloc: Global, lines: &str) -> Result<Vec<&str>, Alloc
     Ok(requests)
 }
 
-// How far a script came.
+/// How far a script came.
 #[derive(Clone, Copy, Debug, PartialEq, Eq)]
 pub enum Reached {
-    // The office hasn't begun.
+    /// The office hasn't begun.
     Nothing,
-    // So many of its requests were answered, and not by a fault.
+    /// So many of its requests were answered, and not by a fault.
     Answers(usize),
 }
 
 impl Reached {
-    // How many requests were answered.
-    pub(crate) fn answers(self) -> usize {
+    /// How many requests were answered.
+    pub fn answers(self) -> usize {
         match self {
             Reached::Nothing => 0,
             Reached::Answers(count) => count,
         }
     }
 
-    // One event more.
-    pub(crate) fn next(self) -> Reached {
+    /// One event more.
+    pub fn next(self) -> Reached {
         match self {
             Reached::Nothing => Reached::Answers(0),
             Reached::Answers(count) => Reached::Answers(count.saturating_add(1)),
@@ -51,14 +51,14 @@ impl Reached {
     }
 }
 
-// What comes of a script whose requests are asked one after the other, where nothing stops.
+/// What comes of a script whose requests are asked one after the other, where nothing stops.
 #[derive(Drop)]
 pub struct Course {
     // The tables before the office begins.
     before: String,
     // Those after so many requests, the first being those of none.
     tables: Vec<String>,
-    // What each request is answered, and what it is answered where it is asked twice.
+    /// What each request is answered, and what it is answered where it is asked twice.
     pub answers: Vec<String>,
     pub again: Vec<String>,
 }
@@ -97,7 +97,7 @@ fn answer_after(
 }
 
 impl Course {
-    pub(crate) fn of(alloc: Global, script: Script) -> Result<Course, Fail> {
+    pub fn of(alloc: Global, script: Script) -> Result<Course, Fail> {
         let mut tables = Vec::new(alloc);
         let mut answers = Vec::new(alloc);
         let mut again = Vec::new(alloc);
@@ -117,8 +117,8 @@ impl Course {
         })
     }
 
-    // The tables at a point of it.
-    pub(crate) fn tables_at(&self, reached: Reached) -> &str {
+    /// The tables at a point of it.
+    pub fn tables_at(&self, reached: Reached) -> &str {
         match reached {
             Reached::Nothing => self.before.as_str(),
             Reached::Answers(count) => match self.tables.get(count) {
@@ -128,8 +128,8 @@ impl Course {
         }
     }
 
-    // Whether these tables are those of what was reached, or those of one event more.
-    pub(crate) fn place_of(&self, tables: &str, reached: Reached) -> Option<Reached> {
+    /// Whether these tables are those of what was reached, or those of one event more.
+    pub fn place_of(&self, tables: &str, reached: Reached) -> Option<Reached> {
         if self.tables_at(reached) == tables {
             Some(reached)
         } else if self.tables_at(reached.next()) == tables {
@@ -139,8 +139,8 @@ impl Course {
         }
     }
 
-    // What the next request is answered in an office of this place.
-    pub(crate) fn next_answer(&self, reached: Reached, place: Reached) -> Option<&str> {
+    /// What the next request is answered in an office of this place.
+    pub fn next_answer(&self, reached: Reached, place: Reached) -> Option<&str> {
         let next = reached.answers();
         let answers = if place == Reached::Answers(next.saturating_add(1)) {
             &self.again

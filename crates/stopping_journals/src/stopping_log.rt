@@ -1,4 +1,4 @@
-// The file of a journal in memory, which stops.
+//! The file of a journal in memory, which stops.
 
 use office_journal::Log;
 use std::alloc::Global;
@@ -23,7 +23,7 @@ pub struct StoppingLog {
 }
 
 impl StoppingLog {
-    pub(crate) fn new(alloc: Global, bytes: &[u8], calls: u64) -> Result<StoppingLog, Fail> {
+    pub fn new(alloc: Global, bytes: &[u8], calls: u64) -> Result<StoppingLog, Fail> {
         Ok(StoppingLog {
             written: Vec::from_slice(alloc, bytes)?,
             synced: Vec::from_slice(alloc, bytes)?,
@@ -33,16 +33,16 @@ impl StoppingLog {
     }
 
     // All that was written.
-    pub(crate) fn text(&self, alloc: Global) -> Result<Vec<u8>, Fail> {
+    pub fn text(&self, alloc: Global) -> Result<Vec<u8>, Fail> {
         Ok(Vec::from_slice(alloc, &self.written)?)
     }
 
     // What a crash would leave.
-    pub(crate) fn synced(&self, alloc: Global) -> Result<Vec<u8>, Fail> {
+    pub fn synced(&self, alloc: Global) -> Result<Vec<u8>, Fail> {
         Ok(Vec::from_slice(alloc, &self.synced)?)
     }
 
-    pub(crate) fn has_stopped(&self) -> bool {
+    pub fn has_stopped(&self) -> bool {
         self.has_stopped
     }
 

@@ -1,4 +1,4 @@
-// What the desk does in an office.
+//! What the desk does in an office.
 
 use desk::{DeskFault, desk};
 use office_policy::Handler;
@@ -6,18 +6,21 @@ use std::alloc::Global;
 use std::io::{Read, Write};
 use streams::Counted;
 
-// How the desk ended.
+/// How the desk ended.
 #[derive(Clone, Copy)]
 pub struct End {
+    /// What it answered.
     pub result: Result<(), DeskFault>,
-    // How often the reader was called, how many of these calls failed, and how many of those of the writer.
+    /// How often the reader was called.
     pub reads: u64,
+    /// How many of these calls failed.
     pub failed_reads: u64,
+    /// How many calls of the writer failed.
     pub failed_writes: u64,
 }
 
-// Has the desk serve a stream, and hands the writer back.
-pub(crate) fn serve<H: Handler, R: Read + Drop, W: Write + Drop>(
+/// Has the desk serve a stream, and hands the writer back.
+pub fn serve<H: Handler, R: Read + Drop, W: Write + Drop>(
     alloc: Global,
     office: &mut H,
     reader: R,

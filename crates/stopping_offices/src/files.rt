@@ -1,30 +1,30 @@
-// Two files in memory, of which one stops.
+//! Two files in memory, of which one stops.
 
 use sqlite::{Connection, FileStore, Files, Options};
 use sqlite_disk::{Crash, Disk, Fuse, Memory};
 use std::alloc::Global;
 use std::test::Fail;
 
-// One of the two files of an office.
+/// One of the two files of an office.
 #[derive(Clone, Copy, Debug)]
 pub enum File {
     Log,
     Database,
 }
 
-// A file that stops after so many of its calls: each later one fails, and changes nothing.
+/// A file that stops after so many of its calls: each later one fails, and changes nothing.
 #[derive(Clone, Copy, Debug)]
 pub struct Stop {
     pub file: File,
     pub calls: u64,
 }
 
-// More calls than any run makes.
+/// More calls than any run makes.
 pub const ENDLESS: u64 = 1_000_000;
 
 impl Stop {
-    // These files, of which one stops.
-    pub(crate) fn of(self, files: Files<Memory>) -> Files<Fuse<Memory>> {
+    /// These files, of which one stops.
+    pub fn of(self, files: Files<Memory>) -> Files<Fuse<Memory>> {
         let (log_calls, db_calls) = match self.file {
             File::Log => (self.calls, ENDLESS),
             File::Database => (ENDLESS, self.calls),
@@ -35,8 +35,8 @@ impl Stop {
         }
     }
 
-    // Whether the file has stopped.
-    pub(crate) fn is_reached(self, files: &mut Files<Fuse<Memory>>) -> bool {
+    /// Whether the file has stopped.
+    pub fn is_reached(self, files: &mut Files<Fuse<Memory>>) -> bool {
         match self.file {
             File::Log => has_stopped(&mut files.log),
             File::Database => has_stopped(&mut files.db),
@@ -51,8 +51,8 @@ fn has_stopped(file: &mut Fuse<Memory>) -> bool {
     file.len().is_err()
 }
 
-// Two empty files.
-pub(crate) fn empty_files(alloc: Global) -> Files<Memory> {
+/// Two empty files.
+pub fn empty_files(alloc: Global) -> Files<Memory> {
     Files {
         log: Memory::new(alloc),
         db: Memory::new(alloc),
@@ -67,21 +67,21 @@ fn synced(alloc: Global, bytes: &[u8]) -> Result<Memory, Fail> {
     Ok(file)
 }
 
-// Files that have the bytes of a log and of a database.
-pub(crate) fn files_of(alloc: Global, log: &[u8], db: &[u8]) -> Result<Files<Memory>, Fail> {
+/// Files that have the bytes of a log and of a database.
+pub fn files_of(alloc: Global, log: &[u8], db: &[u8]) -> Result<Files<Memory>, Fail> {
     Ok(Files {
         log: synced(alloc, log)?,
         db: synced(alloc, db)?,
     })
 }
 
-// What is left where the process died: all that was written.
-pub(crate) fn kept(alloc: Global, files: &Files<Fuse<Memory>>) -> Result<Files<Memory>, Fail> {
+/// What is left where the process died: all that was written.
+pub fn kept(alloc: Global, files: &Files<Fuse<Memory>>) -> Result<Files<Memory>, Fail> {
     files_of(alloc, files.log.inner().bytes(), files.db.inner().bytes())
 }
 
-// What is left where the machine stopped: what was synced.
-pub(crate) fn crashed(files: Files<Fuse<Memory>>) -> Files<Fuse<Memory>> {
+/// What is left where the machine stopped: what was synced.
+pub fn crashed(files: Files<Fuse<Memory>>) -> Files<Fuse<Memory>> {
     let mut files = files;
     files.log.crash();
     files.db.crash();
@@ -116,8 +116,8 @@ fn half_written(alloc: Global, old: &[u8], new: &[u8]) -> Result<Option<Memory>,
     Ok(Some(synced(alloc, &bytes)?))
 }
 
-// What is left where the last call of the file that stops was a write, and was torn; none where it was another.
-pub(crate) fn torn(
+/// What is left where the last call of the file that stops was a write, and was torn; none where it was another.
+pub fn torn(
     alloc: Global,
     file: File,
     old: &Files<Memory>,
@@ -148,8 +148,8 @@ fn options() -> Options {
     options
 }
 
-// A connection over files, or the files where they don't open.
-pub(crate) fn opened<D: Disk + Drop>(
+/// A connection over files, or the files where they don't open.
+pub fn opened<D: Disk + Drop>(
     alloc: Global,
     files: Files<D>,
 ) -> Result<Connection<FileStore<D>>, Files<D>> {

@@ -1,4 +1,4 @@
-// Scripts over files that stop, and what is left of them.
+//! Scripts over files that stop, and what is left of them.
 
 use crate::asked::{answer_to, is_fault};
 use crate::begun::{Beginning, at_rest, before, begin, reopened};
@@ -8,15 +8,14 @@ use office_desk::Office;
 use sqlite::{Connection, FileStore, Files};
 use sqlite_disk::{Disk, Fuse, Memory};
 use std::alloc::Global;
-use std::process::Abort;
 use std::test::Fail;
 use test_offices::tables::tables_of;
 
 // How far a script came over files, and what it left in them.
 type Run = (Reached, Files<Fuse<Memory>>);
 
-// The files of a connection, after it was closed where it could be.
-pub(crate) fn closed<D: Disk + Drop>(conn: Connection<FileStore<D>>) -> Files<D> {
+/// The files of a connection, after it was closed where it could be.
+pub fn closed<D: Disk + Drop>(conn: Connection<FileStore<D>>) -> Files<D> {
     match conn.close_files() {
         Ok(files) => files,
         Err((_, store)) => store.close(),
@@ -38,7 +37,6 @@ fn first_files(alloc: Global, script: Script) -> Result<Files<Memory>, Fail> {
 // Asks an office the requests of a script up to the first that is answered by a fault, where the process dies. Without a fault the
 // files are closed.
 fn converse(
-    rt: &impl Abort,
     alloc: Global,
     mut office: Office<FileStore<Fuse<Memory>>>,
     script: Script,
@@ -51,14 +49,15 @@ fn converse(
             let left = office.into_connection().into_store().close();
             return Ok((reached, left));
         }
-        assert_eq!(rt; answer.as_str(), wanted.as_str());
+        if answer.as_str() != wanted.as_str() {
+            return Err(Fail::from((reached, answer)));
+        }
         reached = reached.next();
     }
     Ok((reached, closed(office.into_connection())))
 }
 
 fn run(
-    rt: &impl Abort,
     alloc: Global,
     files: Files<Fuse<Memory>>,
     script: Script,
@@ -66,7 +65,7 @@ fn run(
 ) -> Result<Run, Fail> {
     match opened(alloc, files) {
         Ok(conn) => match begin(alloc, at_rest(conn)?, script.beginning)? {
-            Ok(office) => converse(rt, alloc, office, script, course),
+            Ok(office) => converse(alloc, office, script, course),
             Err(conn) => Ok((Reached::Nothing, conn.into_store().close())),
         },
         Err(files) => Ok((Reached::Nothing, files)),
@@ -75,8 +74,7 @@ fn run(
 
 // An office that was left at a place, in which the next request of a script is answered as the policy says, and leaves the
 // tables that it leaves in memory.
-fn assert_goes_on<D: Disk + Drop>(
-    rt: &impl Abort,
+fn expect_going_on<D: Disk + Drop>(
     alloc: Global,
     mut office: Office<FileStore<D>>,
     script: Script,
@@ -87,17 +85,20 @@ fn assert_goes_on<D: Disk + Drop>(
     let mut done = next;
     if let Some(request) = script.requests.get(next) {
         let answer = answer_to(alloc, &mut office, request)?;
-        assert_eq!(rt; Some(answer.as_str()), course.next_answer(reached, place));
+        if Some(answer.as_str()) != course.next_answer(reached, place) {
+            return Err(Fail::from((reached, place, answer)));
+        }
         done = next.saturating_add(1);
     }
     let tables = tables_of(alloc, &mut office.into_connection())?;
-    assert_eq!(rt; tables.as_str(), course.tables_at(Reached::Answers(done)));
+    if tables.as_str() != course.tables_at(Reached::Answers(done)) {
+        return Err(Fail::from((reached, place, tables)));
+    }
     Ok(())
 }
 
 // That files open, with the tables of what was reached or of one event more, and that the office goes on in them.
-fn assert_kept<D: Disk + Drop>(
-    rt: &impl Abort,
+fn expect_kept<D: Disk + Drop>(
     alloc: Global,
     files: Files<D>,
     script: Script,
@@ -117,33 +118,28 @@ fn assert_kept<D: Disk + Drop>(
         Reached::Answers(_) => reopened(conn),
     };
     match begun {
-        Ok(office) => assert_goes_on(rt, alloc, office, script, course, (reached, place)),
+        Ok(office) => expect_going_on(alloc, office, script, course, (reached, place)),
         Err(_) => Err(Fail::from("an office again")),
     }
 }
 
 // Stops a file once in a run, and looks at what is left of both. Gives whether the file has stopped.
-fn assert_stop(
-    rt: &impl Abort,
-    alloc: Global,
-    stop: Stop,
-    script: Script,
-    course: &Course,
-) -> Result<bool, Fail> {
+fn stop_once(alloc: Global, stop: Stop, script: Script, course: &Course) -> Result<bool, Fail> {
     let files = stop.of(first_files(alloc, script)?);
-    let (reached, mut left) = run(rt, alloc, files, script, course)?;
+    let (reached, mut left) = run(alloc, files, script, course)?;
     let is_reached = stop.is_reached(&mut left);
-    assert_kept(rt, alloc, kept(alloc, &left)?, script, course, reached)?;
-    assert_kept(rt, alloc, crashed(left), script, course, reached)?;
+    expect_kept(alloc, kept(alloc, &left)?, script, course, reached)?;
+    expect_kept(alloc, crashed(left), script, course, reached)?;
     Ok(is_reached)
 }
 
-// Stops a file before each of its calls in turn, each in a run of its own, and gives how many there are.
-fn stops(rt: &impl Abort, alloc: Global, script: Script, file: File) -> Result<u64, Fail> {
+/// Stops a file before each of its calls in turn, each in a run of its own, and gives how many there are. It fails where anything is lost, or is
+/// answered otherwise than the policy says.
+pub fn stops(alloc: Global, script: Script, file: File) -> Result<u64, Fail> {
     let course = Course::of(alloc, script)?;
     for calls in 0..ENDLESS {
         let stop = Stop { file, calls };
-        if !assert_stop(rt, alloc, stop, script, &course)? {
+        if !stop_once(alloc, stop, script, &course)? {
             // The run before had all its calls.
             return Ok(calls.saturating_sub(1));
         }
@@ -151,50 +147,24 @@ fn stops(rt: &impl Abort, alloc: Global, script: Script, file: File) -> Result<u
     Err(Fail::from("a run without a stop"))
 }
 
-// That a file can be stopped so often over a script, or more often, and that all is kept each time.
-pub(crate) fn assert_stops(
-    rt: &impl Abort,
-    alloc: Global,
-    script: Script,
-    file: File,
-    wanted: u64,
-) -> Result<(), Fail> {
-    let seen = stops(rt, alloc, script, file)?;
-    assert!(rt; seen >= wanted, "{file:?}: {seen} stops, and not {wanted}");
-    Ok(())
-}
-
-// Tears the last write before each stop of a file, and gives how many there are.
-fn torn_writes(rt: &impl Abort, alloc: Global, script: Script, file: File) -> Result<u64, Fail> {
+/// Tears the last write before each stop of a file, and gives how many there are. It fails as [`stops`] does.
+pub fn torn_writes(alloc: Global, script: Script, file: File) -> Result<u64, Fail> {
     let course = Course::of(alloc, script)?;
     let mut old = first_files(alloc, script)?;
     let mut writes = 0u64;
     for calls in 0..ENDLESS {
         let stop = Stop { file, calls };
         let files = stop.of(first_files(alloc, script)?);
-        let (reached, mut left) = run(rt, alloc, files, script, &course)?;
+        let (reached, mut left) = run(alloc, files, script, &course)?;
         if !stop.is_reached(&mut left) {
             return Ok(writes);
         }
         let new = kept(alloc, &left)?;
         if let Some(files) = torn(alloc, file, &old, &new)? {
-            assert_kept(rt, alloc, files, script, &course, reached)?;
+            expect_kept(alloc, files, script, &course, reached)?;
             writes = writes.saturating_add(1);
         }
         old = new;
     }
     Err(Fail::from("a run without a stop"))
-}
-
-// That a file is written to so often over a script, or more often, and that all is kept where a stop tears the last write.
-pub(crate) fn assert_torn(
-    rt: &impl Abort,
-    alloc: Global,
-    script: Script,
-    file: File,
-    wanted: u64,
-) -> Result<(), Fail> {
-    let seen = torn_writes(rt, alloc, script, file)?;
-    assert!(rt; seen >= wanted, "{file:?}: {seen} writes, and not {wanted}");
-    Ok(())
 }

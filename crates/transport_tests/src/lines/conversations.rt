@@ -3,11 +3,11 @@
 use crate::lines::in_step::{Answered, InStep};
 use crate::lines::texts::{FIRST_ANSWERS, FIRST_PATH, SECOND_ANSWERS, first_lines};
 use crate::lines::turns::{WHOLE, take_turn, take_turn_anew};
-use crate::served::serve;
 use std::cell::Cell;
 use std::test::Fail;
 use test_doubles::fake_streams::{Giving, Taking};
-use test_offices::offices::trial_office;
+use test_offices::served::serve;
+use test_offices::trial::TrialOffice;
 
 #[test]
 fn a_line_that_is_too_long_is_passed_over(rt: HostRuntime) -> Result<(), Fail> {
@@ -47,7 +47,7 @@ fn a_last_line_needs_no_line_feed(rt: HostRuntime) -> Result<(), Fail> {
 
 #[test]
 fn each_line_is_answered_before_the_reader_is_called_again(rt: HostRuntime) -> Result<(), Fail> {
-    let mut office = trial_office(rt.alloc())?;
+    let mut office = TrialOffice::new(rt.alloc())?;
     let answered = Cell::new(0);
     let reader = InStep::new(FIRST_PATH.as_bytes(), &answered);
     let held = Vec::new(rt.alloc());
@@ -65,7 +65,7 @@ fn each_line_is_answered_before_the_reader_is_called_again(rt: HostRuntime) -> R
 
 #[test]
 fn a_stream_cut_at_any_place_has_the_same_answers(rt: HostRuntime) -> Result<(), Fail> {
-    let mut office = trial_office(rt.alloc())?;
+    let mut office = TrialOffice::new(rt.alloc())?;
     let mut answers = FIRST_ANSWERS;
     for place in 0..FIRST_PATH.len() {
         let manner = (Giving::CutAt(place), Taking::All);

@@ -2,14 +2,12 @@
 
 use crate::lines::texts::{FIRST_ANSWERS, FIRST_PATH, SECOND_ANSWERS, first_lines};
 use crate::lines::turns::{WHOLE, take_turn};
-use crate::served::serve;
 use desk::DeskFault;
-use office_desk::Office;
-use sqlite::Alter;
 use std::alloc::Global;
 use std::test::Fail;
 use test_doubles::fake_streams::{Sink, Taking};
-use test_offices::offices::trial_office;
+use test_offices::served::serve;
+use test_offices::trial::TrialOffice;
 
 // What may be answered to the first path where memory is refused at most once, while a line is read or handled, and the profile
 // is handed in then.
@@ -83,7 +81,7 @@ fn is_submitted_by(line: u64, written: &[u8]) -> Option<bool> {
 
 // Has the desk serve the first path, with room for what it writes, and says whether the profile was handed in by it; none where
 // more went wrong than may.
-fn hand_in<S: Alter>(alloc: Global, office: &mut Office<S>) -> Result<Option<bool>, Fail> {
+fn hand_in(alloc: Global, office: &mut TrialOffice) -> Result<Option<bool>, Fail> {
     let held = Vec::with_capacity(alloc, 1024)?;
     let sink = Sink::new(held, Taking::Bytes(1024));
     let (end, sink) = serve(alloc, office, FIRST_PATH.as_bytes(), sink);
@@ -99,7 +97,7 @@ fn hand_in<S: Alter>(alloc: Global, office: &mut Office<S>) -> Result<Option<boo
 #[test]
 fn out_of_memory_is_answered_and_leaves_what_was_handled(rt: HostRuntime) -> Result<(), Fail> {
     let alloc = rt.alloc();
-    let mut office = trial_office(alloc)?;
+    let mut office = TrialOffice::new(alloc)?;
     let is_submitted = hand_in(alloc, &mut office)?;
     let answers = if is_submitted.expect(&rt, "a refusal that is told") {
         SECOND_ANSWERS

@@ -1,4 +1,4 @@
-// How an office begins in a database.
+//! How an office begins in a database.
 
 ghost use Rattle.std.specs.Prelude.{IfOk};
 ghost use Rattle.sqlite.specs.Held.{state};
@@ -14,17 +14,17 @@ use test_offices::offices::found_office;
 
 #[derive(Clone, Copy, Debug)]
 pub enum Beginning {
-    // It is founded in an empty database.
+    /// It is founded in an empty database.
     Founding,
-    // It is migrated, where an office of schema 1 is.
+    /// It is migrated, where an office of schema 1 is.
     Migration,
 }
 
-// An office, or the connection where it didn't begin.
+/// An office, or the connection where it didn't begin.
 pub type Begun<S> = Result<Office<S>, Connection<S>>;
 
-// A connection on which no transaction is open and no limit on steps is set.
-pub(crate) fn at_rest<S: Alter + Drop>(conn: Connection<S>) -> Result<Connection<S>, Fail>
+/// A connection on which no transaction is open and no limit on steps is set.
+pub fn at_rest<S: Alter + Drop>(conn: Connection<S>) -> Result<Connection<S>, Fail>
     ensures { IfOk result (λ conn. IsIdle (state S.Store conn)) }
 {
     let mut conn = conn;
@@ -35,8 +35,8 @@ pub(crate) fn at_rest<S: Alter + Drop>(conn: Connection<S>) -> Result<Connection
     Ok(conn)
 }
 
-// What is there before an office begins so, made in an empty database.
-pub(crate) fn before<S: Alter + Drop>(
+/// What is there before an office begins so, made in an empty database.
+pub fn before<S: Alter + Drop>(
     conn: Connection<S>,
     beginning: Beginning,
 ) -> Result<Connection<S>, Fail>
@@ -49,8 +49,8 @@ pub(crate) fn before<S: Alter + Drop>(
     at_rest(conn)
 }
 
-// The office that a database has.
-pub(crate) fn reopened<S: Alter + Drop>(conn: Connection<S>) -> Begun<S>
+/// The office that a database has.
+pub fn reopened<S: Alter + Drop>(conn: Connection<S>) -> Begun<S>
     requires { IsIdle (state S.Store conn) }
 {
     match Office::over(conn) {
@@ -78,7 +78,7 @@ fn migrated<S: Alter + Drop>(conn: Connection<S>) -> Begun<S>
     }
 }
 
-pub(crate) fn begin<S: Alter + Drop>(
+pub fn begin<S: Alter + Drop>(
     alloc: Global,
     conn: Connection<S>,
     beginning: Beginning,

@@ -1,14 +1,12 @@
 // Streams that the desk serves in turn.
 
-use crate::served::serve;
 use desk::DeskFault;
-use office_desk::Office;
-use sqlite::Alter;
 use std::alloc::Global;
 use std::process::Abort;
 use std::test::Fail;
 use test_doubles::fake_streams::{Giving, Sink, Source, Taking};
-use test_offices::offices::trial_office;
+use test_offices::served::serve;
+use test_offices::trial::TrialOffice;
 
 // How a stream is given, and how the answers are taken.
 pub type Manner = (Giving, Taking);
@@ -29,10 +27,10 @@ fn failed(end: Result<(), DeskFault>) -> (u64, u64) {
 }
 
 // Has the desk serve a stream, and compares how it ends and what it writes.
-pub(crate) fn take_turn<S: Alter>(
+pub(crate) fn take_turn(
     rt: &impl Abort,
     alloc: Global,
-    office: &mut Office<S>,
+    office: &mut TrialOffice,
     (lines, manner, ends, answers): Turn,
 ) {
     let (giving, taking) = manner;
@@ -49,7 +47,7 @@ pub(crate) fn take_turn<S: Alter>(
 
 // The same in a new office.
 pub(crate) fn take_turn_anew(rt: &impl Abort, alloc: Global, turn: Turn) -> Result<(), Fail> {
-    let mut office = trial_office(alloc)?;
+    let mut office = TrialOffice::new(alloc)?;
     take_turn(rt, alloc, &mut office, turn);
     Ok(())
 }

@@ -1,4 +1,4 @@
-// What an office is asked.
+//! What an office is asked.
 
 use desk_http::serve_one;
 use http_requests::OfficeRouter;
@@ -32,8 +32,8 @@ fn answer_to_message<S: Alter>(
     Ok(String::from_utf8(writer.into_inner())?)
 }
 
-// What is answered to a request, which is a line, or else a message over HTTP.
-pub(crate) fn answer_to<S: Alter>(
+/// What is answered to a request, which is a line, or else a message over HTTP.
+pub fn answer_to<S: Alter>(
     alloc: Global,
     office: &mut Office<S>,
     request: &str,
@@ -45,6 +45,6 @@ pub(crate) fn answer_to<S: Alter>(
     }
 }
 
-pub(crate) fn is_fault(answer: &str) -> bool {
+pub fn is_fault(answer: &str) -> bool {
     answer.contains("\"answer\":\"fault\"")
 }

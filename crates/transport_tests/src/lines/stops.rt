@@ -4,18 +4,16 @@ use crate::lines::texts::{
     FIRST_ANSWERS, FIRST_PATH, SAME_AS_OPEN, SECOND_ANSWERS, SUBMIT, SUBMITTED, first_lines,
 };
 use crate::lines::turns::{WHOLE, take_turn, take_turn_anew};
-use crate::served::serve;
 use desk::{DeskFault, MAX_READS};
-use office_desk::Office;
-use sqlite::Alter;
 use std::alloc::Global;
 use std::process::Abort;
 use std::test::Fail;
 use test_doubles::fake_streams::{Giving, Source, Taking, feeds};
-use test_offices::offices::trial_office;
+use test_offices::served::serve;
+use test_offices::trial::TrialOffice;
 
 // Has the desk serve the first path once for each read that may fail, where it was served before.
-fn fail_at_each_read<S: Alter>(rt: &impl Abort, alloc: Global, office: &mut Office<S>) {
+fn fail_at_each_read(rt: &impl Abort, alloc: Global, office: &mut TrialOffice) {
     let input = FIRST_PATH.as_bytes();
     for call in 0..input.len() {
         let told = feeds(&input[..call]).min(5);
@@ -30,7 +28,7 @@ fn fail_at_each_read<S: Alter>(rt: &impl Abort, alloc: Global, office: &mut Offi
 #[test]
 fn lines_before_a_failing_read_are_answered(rt: HostRuntime) -> Result<(), Fail> {
     let alloc = rt.alloc();
-    let mut office = trial_office(alloc)?;
+    let mut office = TrialOffice::new(alloc)?;
     take_turn(
         &rt,
         alloc,
@@ -63,7 +61,7 @@ fn a_writer_that_takes_no_byte_has_failed(rt: HostRuntime) -> Result<(), Fail> {
 
 #[test]
 fn a_line_that_the_reader_cuts_is_not_handled(rt: HostRuntime) -> Result<(), Fail> {
-    let mut office = trial_office(rt.alloc())?;
+    let mut office = TrialOffice::new(rt.alloc())?;
     let lines = first_lines(FIRST_PATH, 2).trim_end();
     let manner = (Giving::FailsAtEnd, Taking::All);
     let ends = Err(DeskFault::Read { line: 2 });
@@ -80,7 +78,7 @@ fn a_line_that_the_reader_cuts_is_not_handled(rt: HostRuntime) -> Result<(), Fai
 
 #[test]
 fn a_reader_is_not_called_without_end(rt: HostRuntime) -> Result<(), Fail> {
-    let mut office = trial_office(rt.alloc())?;
+    let mut office = TrialOffice::new(rt.alloc())?;
     let source = Source::new(b"", Giving::Never);
     let (end, written) = serve(rt.alloc(), &mut office, source, Vec::new(rt.alloc()));
     assert_eq!(rt;
@@ -92,7 +90,7 @@ fn a_reader_is_not_called_without_end(rt: HostRuntime) -> Result<(), Fail> {
 
 #[test]
 fn a_submission_whose_answer_is_cut_stands(rt: HostRuntime) -> Result<(), Fail> {
-    let mut office = trial_office(rt.alloc())?;
+    let mut office = TrialOffice::new(rt.alloc())?;
     let (enrolment, done) = (first_lines(FIRST_PATH, 1), first_lines(FIRST_ANSWERS, 1));
     let manner = (Giving::Whole, Taking::Bytes(10));
     let ends = Err(DeskFault::Write { line: 1 });

@@ -6,8 +6,7 @@ use review_policy::{Answer, Request};
 use std::alloc::{AllocError, Global};
 use std::test::Fail;
 use test_doubles::conversations::{LEFT_BEHIND, VOTE_LEFT_BEHIND};
-use test_offices::offices::trial_office;
-use test_offices::tables::tables_of;
+use test_offices::trial::TrialOffice;
 
 // The requests of these lines.
 fn requests_of(alloc: Global, lines: &str) -> Result<Vec<Request>, Fail> {
@@ -31,13 +30,13 @@ fn lines_of(alloc: Global, answers: &[Answer]) -> Result<String, Fail> {
 // the answers nothing is handled, so that the list may be run again.
 fn ran(alloc: Global, lines: &str) -> Result<(String, String), Fail> {
     let requests = requests_of(alloc, lines)?;
-    let mut office = trial_office(alloc)?;
+    let mut office = TrialOffice::new(alloc)?;
     let answers = match office.run(alloc, &requests) {
         Ok(answers) => answers,
         Err(_) => office.run(alloc, &requests)?,
     };
     let told = lines_of(alloc, &answers)?;
-    let tables = tables_of(alloc, &mut office.into_connection())?;
+    let tables = office.into_tables(alloc)?;
     Ok((told, tables))
 }
 

@@ -2,8 +2,6 @@
 
 use desk_http::{HttpFault, serve_one};
 use http_requests::OfficeRouter;
-use office_desk::Office;
-use sqlite::MemStore;
 use std::alloc::Global;
 use std::io::{Read, Write};
 use std::process::Abort;
@@ -11,7 +9,7 @@ use std::test::Fail;
 use streams::Counted;
 use test_doubles::fake_streams::{Sink, Taking};
 use test_doubles::messages::{DONE, ENROLMENT};
-use test_offices::offices::trial_office;
+use test_offices::trial::TrialOffice;
 
 // What came of an exchange.
 #[derive(Clone, Copy)]
@@ -26,14 +24,14 @@ pub struct Exchange {
 #[derive(Drop)]
 pub struct Trial {
     pub alloc: Global,
-    pub office: Office<MemStore>,
+    pub office: TrialOffice,
     router: OfficeRouter,
 }
 
 impl Trial {
     // One in which root may enrol users.
     pub(crate) fn new(alloc: Global) -> Result<Trial, Fail> {
-        let office = trial_office(alloc)?;
+        let office = TrialOffice::new(alloc)?;
         let router = OfficeRouter::new(alloc)?;
         Ok(Trial {
             alloc,

@@ -12,7 +12,7 @@ use test_doubles::fake_streams::{Giving, Sink, Source, Taking};
 use test_doubles::messages::{
     CALL, DONE, ENROLMENT, LISTING, MEMORY, NO_ROUTE, SAME_AS_OPEN, SUBMISSION, SUBMITTED, UNKNOWN,
 };
-use test_offices::offices::trial_office;
+use test_offices::trial::TrialOffice;
 
 // A client: what it sends and in which pieces, how it takes its response, and which part of that.
 #[derive(Clone, Copy)]
@@ -90,7 +90,7 @@ fn assert_answered(
     exchanges: u32,
     lines: &str,
 ) -> Result<(), Fail> {
-    let mut office = trial_office(alloc)?;
+    let mut office = TrialOffice::new(alloc)?;
     let router = OfficeRouter::new(alloc)?;
     let mut queue = Queue {
         alloc,
@@ -172,7 +172,7 @@ fn told_by(written: &[u8]) -> &str {
 #[test]
 fn out_of_memory_has_its_line(rt: HostRuntime) -> Result<(), Fail> {
     let alloc = rt.alloc();
-    let mut office = trial_office(alloc)?;
+    let mut office = TrialOffice::new(alloc)?;
     let router = OfficeRouter::new(alloc)?;
     let clients = [Client::plain(ENROLMENT, DONE)];
     let mut queue = Queue {

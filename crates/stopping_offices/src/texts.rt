@@ -1,4 +1,4 @@
-// An office of schema 1, by statements that no founding makes, and what it is asked.
+//! An office of schema 1, by statements that no founding makes, and what it is asked.
 
 /// Ann has handed a profile in twice, and rev has approved the first revision.
 pub const OLD_OFFICE: &str = r#"create table office(key integer not null primary key,

@@ -1,0 +1,19 @@
+-- A meaning of offices by which nothing is promised of them.
+use Rattle.office_policy.specs.Meaning.{Meaning}
+
+-- it is the office of no history
+abbrev pub silent : {X : Type 0} → Meaning X
+silent = record {
+  is_clean = λ x. ⊥;
+  is_open = λ x. ⊥;
+  faults = λ x. 0;
+  refuses = λ h e fault. ⊥;
+  is_of = λ h x. ⊥;
+  keeps = λ x y. Unit {0};
+  Left = Unit {0};
+  may_leave = λ x left. ⊥;
+  are_of = λ h left. ⊥;
+  lawful = λ h x is. absurd is;
+  keeps_itself = λ x. tt;
+  keeps_on = λ x y z first second. tt;
+}
