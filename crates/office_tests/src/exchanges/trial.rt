@@ -12,6 +12,7 @@ use streams::Counted;
 use test_doubles::fake_streams::{Sink, Taking};
 use test_doubles::messages::{DONE, ENROLMENT};
 use test_offices::offices::trial_office;
+use test_offices::tables::tables_of;
 
 // What came of an exchange.
 #[derive(Clone, Copy)]
@@ -94,5 +95,15 @@ impl Trial {
         assert_eq!(rt; exchange.faults, faults);
         assert_eq!(rt; output.held.as_slice(), written);
         exchange.calls
+    }
+
+    // The tables that it leaves.
+    pub(crate) fn tables(self) -> Result<String, Fail> {
+        let Trial {
+            alloc,
+            office,
+            router: _,
+        } = self;
+        tables_of(alloc, &mut office.into_connection())
     }
 }
