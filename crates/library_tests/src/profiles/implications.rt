@@ -1,4 +1,4 @@
-// All implications between comparisons with the least and the greatest words.
+// All implications between comparisons with the least and the greatest words, and some that are worked out.
 
 use seccomp_doc::{Compare, Op};
 use std::alloc::{AllocError, Global};
@@ -67,4 +67,58 @@ fn comparisons_with_outer_words_imply_as_the_words_tell(rt: HostRuntime) -> Resu
     assert_eq!(rt; all.len(), 352);
     assert_imply_by_words(&rt, all.as_slice());
     Ok(())
+}
+
+// A comparison with one value.
+fn simple(op: Op, value: u64) -> Compare {
+    comparison(op, value, 0)
+}
+
+// One with a mask and a datum.
+fn masked(mask: u64, datum: u64) -> Compare {
+    comparison(Op::MaskedEqual, mask, datum)
+}
+
+#[test]
+fn comparisons_imply_as_it_is_worked_out(rt: HostRuntime) {
+    for (c, d, wanted) in [
+        (
+            simple(Op::GreaterThan, 5),
+            simple(Op::GreaterOrEqual, 7),
+            false,
+        ),
+        (
+            simple(Op::GreaterThan, 6),
+            simple(Op::GreaterOrEqual, 7),
+            true,
+        ),
+        (
+            simple(Op::GreaterThan, 18446744073709551615),
+            simple(Op::Equal, 3),
+            true,
+        ),
+        (simple(Op::Equal, 12), masked(3, 0), true),
+        (masked(7, 5), masked(3, 1), true),
+        (masked(3, 1), masked(7, 5), false),
+        (simple(Op::NotEqual, 3), masked(0, 9), true),
+        (simple(Op::LessOrEqual, 4), simple(Op::NotEqual, 5), true),
+        (simple(Op::NotEqual, 0), simple(Op::GreaterOrEqual, 1), true),
+        (
+            simple(Op::LessOrEqual, 7),
+            masked(18446744073709551608, 0),
+            true,
+        ),
+        (
+            simple(Op::LessOrEqual, 8),
+            masked(18446744073709551608, 0),
+            false,
+        ),
+        (
+            masked(18446744073709551608, 8),
+            simple(Op::GreaterOrEqual, 8),
+            true,
+        ),
+    ] {
+        assert_eq!(rt; implies(c, d), wanted, "{c:?} {d:?}");
+    }
 }

@@ -88,6 +88,46 @@ fn entries_and_names_have_limits_also_where_all_are_alike(rt: HostRuntime) -> Re
     Ok(())
 }
 
+// A document of a default and so many entries that are alike.
+fn alike(alloc: Global, (before, entry): (&str, &str), count: usize) -> Result<String, AllocError> {
+    let mut text = String::from_str(alloc, before)?;
+    for i in 0..count {
+        if i > 0 {
+            text.push(',')?;
+        }
+        text.push_str(entry)?;
+    }
+    text.push_str("]}}")?;
+    Ok(text)
+}
+
+// As it is handed in, and as its canonical text.
+const GIVEN: (&str, &str) = (
+    r#"{"capabilities":{},"seccomp":{"defaultAction":"SCMP_ACT_KILL_PROCESS","syscalls":["#,
+    r#"{"names":["a"],"action":"SCMP_ACT_LOG"}"#,
+);
+
+const CANONICAL: (&str, &str) = (
+    r#"{"capabilities":{"ambient":[],"bounding":[],"effective":[],"inheritable":[],"permitted":[]},"seccomp":{"defaultAction":"SCMP_ACT_KILL_PROCESS","syscalls":["#,
+    r#"{"action":"SCMP_ACT_LOG","names":["a"]}"#,
+);
+
+// What is reported of it.
+fn told_alike(alloc: Global, count: usize) -> Result<String, AllocError> {
+    let document = alike(alloc, GIVEN, count)?;
+    told(alloc, document.as_bytes())
+}
+
+#[test]
+fn entries_of_one_name_and_action_are_all_kept(rt: HostRuntime) -> Result<(), Fail> {
+    for count in [513, 2_048] {
+        let wanted = alike(rt.alloc(), CANONICAL, count)?;
+        assert_eq!(rt; told_alike(rt.alloc(), count)?, wanted);
+    }
+    assert_eq!(rt; told_alike(rt.alloc(), 2_049)?.as_str(), "too-many");
+    Ok(())
+}
+
 // Each of so many names is found once, in byte order.
 fn assert_names_found(
     rt: &impl Abort,

@@ -10,10 +10,10 @@ use sqlite::{Alter, Connection};
 use std::alloc::Global;
 use std::process::Abort;
 use std::test::Fail;
-use test_doubles::conversations::{BY_SECURITY_ALONE, ONE_SHORT, SECOND_THOUGHTS, THOUGHT_TWICE};
+use test_doubles::conversations::{FIRST_APPROVAL, FIRST_APPROVED, SECOND_THOUGHTS, THOUGHT_TWICE};
 
 // The name of blue/web.
-fn web(alloc: Global) -> Result<ProfileName, WordFault> {
+pub(crate) fn web(alloc: Global) -> Result<ProfileName, WordFault> {
     Ok(ProfileName {
         team: Word::new(alloc, "blue")?,
         profile: Word::new(alloc, "web")?,
@@ -33,7 +33,7 @@ fn counted<S: Alter>(alloc: Global, conn: &mut Connection<S>) -> Result<Counted,
     Ok((votes, tally.approvals, tally.secure, tally.rejections))
 }
 
-// That ann alone is an author of blue/web, and rev isn't, who may have voted on it.
+// That ann alone is an author of blue/web, and rev isn't.
 fn assert_by_ann<S: Alter>(
     rt: &impl Abort,
     alloc: Global,
@@ -58,7 +58,7 @@ fn a_user_who_votes_again_has_one_vote(rt: HostRuntime) -> Result<(), Fail> {
     let alloc = rt.alloc();
     for (requests, answers, votes) in [
         (SECOND_THOUGHTS, THOUGHT_TWICE, (1, 1, 0, 0)),
-        (BY_SECURITY_ALONE, ONE_SHORT, (1, 1, 1, 0)),
+        (FIRST_APPROVAL, FIRST_APPROVED, (1, 1, 1, 0)),
     ] {
         let conn = Connection::open_in_memory(alloc)?;
         let mut conn = founded(&rt, alloc, conn, requests, answers)?;

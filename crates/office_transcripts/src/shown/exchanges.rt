@@ -20,11 +20,15 @@ type Founded = Result<Office<MemStore>, (FoundingFault, Connection<MemStore>)>;
 fn found(alloc: Global) -> Result<Founded> {
     let name = Word::new(alloc, "root")?;
     let team = Word::new(alloc, "office")?;
+    let Some(listed) = Caps::from_name("CAP_SYS_ADMIN") else {
+        bail!("a capability is not known");
+    };
     let conn = Connection::open_in_memory(alloc)?;
-    Ok(Office::found(conn, &name, &team, &digest(b"abc"), Caps::empty()))
+    Ok(Office::found(conn, &name, &team, &digest(b"abc"), listed))
 }
 
-/// An office in memory, of which root of the team office may enrol users, by the token abc.
+/// An office in memory that is founded as that of the trial desk: root of the team office may enrol users, by the token abc, and
+/// CAP_SYS_ADMIN is listed.
 fn found_office(alloc: Global) -> Result<Office<MemStore>> {
     match found(alloc)? {
         Ok(office) => Ok(office),

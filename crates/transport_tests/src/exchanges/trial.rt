@@ -93,4 +93,14 @@ impl Trial {
         assert_eq!(rt; output.held.as_slice(), written);
         exchange.calls
     }
+
+    // The tables that it leaves.
+    pub(crate) fn tables(self) -> Result<String, Fail> {
+        let Trial {
+            alloc,
+            office,
+            router: _,
+        } = self;
+        office.into_tables(alloc)
+    }
 }

@@ -1,8 +1,8 @@
 // Conversations, from lines to lines.
 
 use crate::lines::in_step::{Answered, InStep};
-use crate::lines::texts::{FIRST_ANSWERS, FIRST_PATH, SECOND_ANSWERS, first_lines};
-use crate::lines::turns::{WHOLE, take_turn, take_turn_anew};
+use crate::lines::texts::{FIRST_ANSWERS, FIRST_PATH, first_lines};
+use crate::lines::turns::{WHOLE, take_turn_anew};
 use std::cell::Cell;
 use std::test::Fail;
 use test_doubles::fake_streams::{Giving, Taking};
@@ -65,17 +65,9 @@ fn each_line_is_answered_before_the_reader_is_called_again(rt: HostRuntime) -> R
 
 #[test]
 fn a_stream_cut_at_any_place_has_the_same_answers(rt: HostRuntime) -> Result<(), Fail> {
-    let mut office = TrialOffice::new(rt.alloc())?;
-    let mut answers = FIRST_ANSWERS;
     for place in 0..FIRST_PATH.len() {
         let manner = (Giving::CutAt(place), Taking::All);
-        take_turn(
-            &rt,
-            rt.alloc(),
-            &mut office,
-            (FIRST_PATH, manner, Ok(()), answers),
-        );
-        answers = SECOND_ANSWERS;
+        take_turn_anew(&rt, rt.alloc(), (FIRST_PATH, manner, Ok(()), FIRST_ANSWERS))?;
     }
     Ok(())
 }

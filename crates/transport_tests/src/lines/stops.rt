@@ -1,13 +1,15 @@
 // What stands where a reader or a writer stops the desk.
 
 use crate::lines::texts::{
-    FIRST_ANSWERS, FIRST_PATH, SAME_AS_OPEN, SECOND_ANSWERS, SUBMIT, SUBMITTED, first_lines,
+    CANONICAL, CANONICAL_AGAIN, FIRST_ANSWERS, FIRST_PATH, SECOND_ANSWERS, STANDS, SUBMIT,
+    SUBMITTED, first_lines,
 };
 use crate::lines::turns::{WHOLE, take_turn, take_turn_anew};
 use desk::{DeskFault, MAX_READS};
 use std::alloc::Global;
 use std::process::Abort;
 use std::test::Fail;
+use test_doubles::conversations::{ENROLLED, ENROLMENTS};
 use test_doubles::fake_streams::{Giving, Source, Taking, feeds};
 use test_offices::served::serve;
 use test_offices::trial::TrialOffice;
@@ -90,27 +92,28 @@ fn a_reader_is_not_called_without_end(rt: HostRuntime) -> Result<(), Fail> {
 
 #[test]
 fn a_submission_whose_answer_is_cut_stands(rt: HostRuntime) -> Result<(), Fail> {
-    let mut office = TrialOffice::new(rt.alloc())?;
-    let (enrolment, done) = (first_lines(FIRST_PATH, 1), first_lines(FIRST_ANSWERS, 1));
+    let alloc = rt.alloc();
+    let mut office = TrialOffice::new(alloc)?;
+    let enrolled = format!(in alloc; "{ENROLLED}\n")?;
     let manner = (Giving::Whole, Taking::Bytes(10));
     let ends = Err(DeskFault::Write { line: 1 });
     take_turn(
         &rt,
-        rt.alloc(),
+        alloc,
         &mut office,
-        (enrolment, WHOLE, Ok(()), done),
+        (ENROLMENTS, WHOLE, Ok(()), enrolled.as_str()),
     );
     take_turn(
         &rt,
-        rt.alloc(),
+        alloc,
         &mut office,
-        (SUBMIT, manner, ends, r#"{"answer":"#),
+        (CANONICAL, manner, ends, r#"{"answer":"#),
     );
     take_turn(
         &rt,
-        rt.alloc(),
+        alloc,
         &mut office,
-        (SUBMIT, WHOLE, Ok(()), SAME_AS_OPEN),
+        (CANONICAL_AGAIN, WHOLE, Ok(()), STANDS),
     );
     Ok(())
 }

@@ -33,7 +33,18 @@ pub const SUBMITTED: &str =
     r#"{"answer":"done","digest":"67d59648e3164479ed30407333c338a60764f60cd31c54ca1cd477602ac5e5d6","revision":1}
 "#;
 
-pub const SAME_AS_OPEN: &str = r#"{"answer":"denied","rule":5,"word":"same-as-open"}
+// Another author hands the profile in as its canonical text; then once more, and sees it.
+pub const CANONICAL: &str =
+    r#"{"ask":"submit","token":"t-ann","team":"blue","profile":"web","document":"{\"capabilities\":{\"ambient\":[],\"bounding\":[],\"effective\":[],\"inheritable\":[],\"permitted\":[]}}"}
+"#;
+
+pub const CANONICAL_AGAIN: &str =
+    r#"{"ask":"submit","token":"t-ann","team":"blue","profile":"web","document":"{\"capabilities\":{\"ambient\":[],\"bounding\":[],\"effective\":[],\"inheritable\":[],\"permitted\":[]}}"}
+{"ask":"show","token":"t-ann","team":"blue","profile":"web","revision":1}
+"#;
+
+pub const STANDS: &str = r#"{"answer":"denied","rule":5,"word":"same-as-open"}
+{"answer":"done","digest":"67d59648e3164479ed30407333c338a60764f60cd31c54ca1cd477602ac5e5d6","document":"{\"capabilities\":{\"ambient\":[],\"bounding\":[],\"effective\":[],\"inheritable\":[],\"permitted\":[]}}","state":"open"}
 "#;
 
 // The first lines of a text, this many.
