@@ -280,7 +280,7 @@ export function begin() {
     leave();
     draw(true, arrive());
   });
-  addEventListener('error', (event) => sayBug(event.error));
+  addEventListener('error', (event) => sayBug(event.error ?? { message: event.message }));
   addEventListener('unhandledrejection', (event) => sayBug(event.reason));
   addEventListener('pagehide', () => { memory.token = memory.name = ''; });
   addEventListener('pageshow', (event) => { if (event.persisted) draw(true); });

@@ -68,7 +68,7 @@ export async function queueView() {
       !answer.done || !list ? refused('list', answer, { team })
         : !list.length ? noProfile(team)
           : !open.length ? el('p', { class: 'empty' }, `Nothing is open. The team has ${some(list.length, 'profile')}.`)
-            : [el('ul', { class: 'cards' }, own.map((one) => one.item)), voted]));
+            : [el('ul', { class: 'cards waits' }, own.map((one) => one.item)), voted]));
   }
   if (rows.length) {
     parts.push(el('div', { class: 'row' },
