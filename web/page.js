@@ -69,13 +69,17 @@ export function hush() {
 }
 
 /**
- * Says what a bug of the page threw.
+ * What a bug of the page threw, and where.
  * @param {any} error
  */
-export function sayBug(error) {
+function bugSaid(error) {
   const where = /((?:views\/)?[a-z-]+\.js:\d+:\d+)/.exec(error?.stack ?? '');
-  say('refused', 'The page has a fault of its own, and didn’t end what it was doing.',
-    `${error?.name ?? 'Error'}: ${error?.message ?? error}${where ? `, at ${where[1]}` : ''}`,
+  return `${error?.name ?? 'Error'}: ${error?.message ?? error}${where ? `, at ${where[1]}` : ''}`;
+}
+
+/** @param {any} error */
+function sayBug(error) {
+  say('refused', 'The page has a fault of its own, and didn’t end what it was doing.', bugSaid(error),
     'Look what stands in the office, load the page anew, and tell those who made the page.');
 }
 
@@ -91,17 +95,18 @@ export function areNames(names, of) {
 }
 
 /**
- * Says beside a button that no answer came, and offers the same again.
- * @param {any} pressed
- * @param {any[]} parts
+ * Says beside a button that no answer came, and offers the same again; where one has gone to another place it is said alone.
+ * @param {string} pressed
+ * @param {[string, string, string]} parts
  * @param {() => void} again
  */
 function beside(pressed, parts, again) {
-  const id = `${pressed.id}-lost`;
-  at(id)?.remove();
-  const said = notice('refused', parts, { id, role: 'alert' });
-  said.append(button(`${pressed.id}-again`, 'Ask again', () => { said.remove(); again(); }, ''));
-  (pressed.closest('p') ?? pressed).after(said);
+  at(`${pressed}-lost`)?.remove();
+  const there = at(pressed);
+  if (!there) return say('refused', ...parts);
+  const said = notice('refused', parts, { id: `${pressed}-lost`, role: 'alert' });
+  said.append(button(`${pressed}-again`, 'Ask again', () => { said.remove(); again(); }, ''));
+  (there.closest('p') ?? there).after(said);
 }
 
 // ---- places --------------------------------------------------------------------------------------------------------------
@@ -224,7 +229,7 @@ export function stays() {
  * is on the screen where no answer comes.
  * @param {boolean} moved
  * @param {{ scroll: number, values: Map<string, any> }} [back] what the place had when one left it
- * @returns {Promise<boolean>} whether what is on the screen is from after
+ * @returns {Promise<string>} why what is on the screen is from before, or nothing where it isn't
  */
 export async function draw(moved, back) {
   const mine = ++turn;
@@ -241,25 +246,21 @@ export async function draw(moved, back) {
   try {
     parts = [memory.token ? await views[now.view](now) : views.entrance(now)];
   } catch (error) {
-    if (mine !== turn) return true;
+    if (mine !== turn) return '';
     view.removeAttribute('aria-busy');
-    if (!(error instanceof Lost)) {
-      view.replaceChildren();
-      sayBug(error);
-      return false;
+    const lost = error instanceof Lost;
+    const said = lost ? lostSaid(error.answer.lost, error.answer.seconds) : `The page has a fault of its own. ${bugSaid(error)}.`;
+    const parts = [`${said}${moved ? '' : ' What is on the screen is from before.'}`, '',
+      lost ? 'Look whether you reach the office.' : 'Tell those who made the page.'];
+    if (moved) {
+      view.replaceChildren(notice('refused', parts, { id: 'lost', role: 'alert' }), button('lost-again', 'Ask again', () => draw(true, back), ''));
+      at('lost-again').focus();
+    } else {
+      say('refused', parts[0], '', parts[2], button('read-again', 'Read again', () => { hush(); draw(false); }, ''));
     }
-    const said = lostSaid(error.answer.lost, error.answer.seconds);
-    if (!moved) {
-      say('refused', `${said} What is on the screen is from before.`, '', 'Look whether you reach the office.',
-        button('read-again', 'Read again', () => { hush(); draw(false); }, ''));
-      return false;
-    }
-    view.replaceChildren(notice('refused', [said, '', 'Look whether you reach the office.'], { id: 'lost', role: 'alert' }),
-      button('lost-again', 'Ask again', () => draw(true, back), ''));
-    at('lost-again').focus();
-    return false;
+    return parts[0];
   }
-  if (mine !== turn) return true;
+  if (mine !== turn) return '';
   view.replaceChildren(...parts.flat(Infinity).filter(Boolean));
   view.removeAttribute('aria-busy');
   const heading = view.querySelector('h1');
@@ -269,7 +270,7 @@ export async function draw(moved, back) {
     /** @type {any} */ (view.querySelector('[data-first]') ?? view).focus();
     if (back) refill(back);
   } else if (focused) (at(focused) ?? view).focus({ preventScroll: true });
-  return true;
+  return '';
 }
 
 /** Begins: draws the place of the address, and each that one goes to. */
@@ -310,7 +311,7 @@ export async function sent(pressed, kind, about, body, again) {
   hush();
   const answer = await ask(kind, about, body);
   if (!answer.lost) return answer;
-  beside(at(pressed), [lostSaid(answer.lost, answer.seconds), '', kind === 'fetch' ? 'Nothing was changed.'
+  beside(pressed, [lostSaid(answer.lost, answer.seconds), '', kind === 'fetch' ? 'Nothing was changed.'
     : 'Nobody knows whether the office did it. Asking again does no harm: what stands already is told so.'], again);
   return null;
 }
@@ -319,14 +320,14 @@ export async function sent(pressed, kind, about, body, again) {
 
 /**
  * Whether the sheet still is the one on the screen. Where it is another the place is drawn anew, and it says what changed.
- * @param {any} pressed
+ * @param {string} pressed
  * @param {Decided} decided
  * @param {() => void} again
  */
 async function isUnchanged(pressed, { about, sheet }, again) {
   const answer = await ask('sheet', about);
   if (answer.lost) {
-    beside(at(pressed), [`${lostSaid(answer.lost, answer.seconds)} Nothing was sent.`, '',
+    beside(pressed, [`${lostSaid(answer.lost, answer.seconds)} Nothing was sent.`, '',
       'The sheet has to be read again first. Look whether you reach the office.'], again);
     return false;
   }
@@ -364,13 +365,13 @@ export async function carry(pressed, kind, decided, done, body) {
     if (['vote', 'issue', 'adopt'].includes(kind) && !await isUnchanged(pressed, decided, again)) return;
     const answer = await ask(kind, about, body);
     if (answer.lost) {
-      beside(at(pressed), [lostSaid(answer.lost, answer.seconds), '',
+      beside(pressed, [lostSaid(answer.lost, answer.seconds), '',
         'Nobody knows whether the office did it. Asking again does no harm: what stands already is told so.'], again);
       return;
     }
-    const drawn = await draw(false);
+    const before = await draw(false);
     if (answer.done && answer.json?.answer === 'done') {
-      say('done', done, '', drawn ? '' : 'What is on the screen is from before: no answer came when it was to be read again.');
+      say('done', done, '', before);
     } else say('refused', ...refusal(kind, answer, about));
   } finally {
     for (const one of buttons) one.removeAttribute('aria-disabled');
