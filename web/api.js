@@ -1,7 +1,7 @@
 // Asks the office over HTTP, as anybody does.
 
 /** How long a request may take, in seconds: longer than a request waits for its turn behind deploy/haproxy.cfg. */
-export const SECONDS = 60;
+const SECONDS = 60;
 /** How many times what only reads is asked again, where the proxy says that one asked too often. */
 const TIMES = 6;
 

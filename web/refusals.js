@@ -128,12 +128,6 @@ const PROXY_SAYS = {
 };
 
 /**
- * A sentence with a capital and a full stop.
- * @param {string} text
- */
-export const sentence = (text) => `${text[0].toUpperCase()}${text.slice(1)}.`;
-
-/**
  * What is said where no answer came.
  * @param {'time' | 'connection'} lost
  * @param {number} seconds

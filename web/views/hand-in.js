@@ -4,7 +4,7 @@ import { sha256 } from '../api.js';
 import { Fault, MOST_BYTES, readDocument } from '../document.js';
 import { at, el, field, link, notice, some } from '../elements.js';
 import { indented, readJson } from '../json.js';
-import { alone, areNames, ask, memory, say, sent } from '../page.js';
+import { WORD, alone, areNames, ask, memory, say, sent } from '../page.js';
 import { faultSaid, lostSaid, refusal } from '../refusals.js';
 import { differing, documentOf } from './differing.js';
 import { holdSaid } from './teams.js';
@@ -36,7 +36,7 @@ async function check() {
       el('pre', { id: 'hand-text', tabindex: '0', role: 'region', 'aria-label': 'The document as it will stand' },
         indented(readJson(made.text))))];
   show(stands);
-  if (!/^[a-z0-9-]{1,64}$/.test(team) || !/^[a-z0-9-]{1,64}$/.test(profile)) return;
+  if (!WORD.test(team) || !WORD.test(profile)) return;
   show(stands, await comparedWithIssued({ team, profile }, made.profile));
 }
 

@@ -1,9 +1,8 @@
 // What the queue and the list of profiles share.
 
-import { at, badge, el, field } from '../elements.js';
+import { at, badge, el, field, notice } from '../elements.js';
 import { areNames, hush, memory, to } from '../page.js';
 import { refusal } from '../refusals.js';
-import { notice } from '../elements.js';
 
 /**
  * The form that names the teams of a place.
