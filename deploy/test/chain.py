@@ -133,52 +133,62 @@ class Chain:
             time.sleep(0.02)
         return process
 
-    # HAProxy with a section of haproxy.cfg for each of these triples of ports: of nginx's connections, of deploy/keep, of the office.
-    def haproxy(self, triples):
+    # HAProxy with a section of haproxy.cfg for each of these: the ports for people, for hosts, for deploy/keep, and of the office.
+    def haproxy(self, sections):
         text = open(f"{DEPLOY}/haproxy.cfg").read()
         text = replaced(text, r"^    (user|group) haproxy$", "")
+        # not every machine lets a test open as many files as haproxy.cfg asks for
+        text = replaced(text, r"^    maxconn \d+$", "    maxconn 4096")
         head, section = re.split(r"^# An office: .*\n(?:#.*\n)*", text, flags=re.M)
         section = section.split("\n#")[0]
-        for number, (front, keep, office) in enumerate(triples, 1):
+        for number, (front, hosts, keep, office) in enumerate(sections, 1):
             part = replaced(section, r"\boffice_1\b", f"office_{number}")
             part = replaced(part, r"127\.0\.0\.1:7081", f"127.0.0.1:{front}")
+            part = replaced(part, r"127\.0\.0\.1:5081", f"127.0.0.1:{hosts}")
             part = replaced(part, r"127\.0\.0\.1:6081", f"127.0.0.1:{keep}")
             head += replaced(part, r"127\.0\.0\.1:8081", f"127.0.0.1:{office}") + "\n"
         process = self.start(["haproxy", "-db", "-f", self.write("haproxy.cfg", head)], "haproxy.out")
         # a connection to these ports would wait for its turn, so what listens is only looked up
         end = time.monotonic() + 20
         while time.monotonic() < end and process.poll() is None:
-            if any(f":{triples[-1][0]:04X} " in line and " 0A " in line for line in open("/proc/net/tcp")):
+            if any(f":{sections[-1][0]:04X} " in line and " 0A " in line for line in open("/proc/net/tcp")):
                 return process
             time.sleep(0.05)
         sys.exit(f"{NAME}: HAProxy doesn't listen: {self.read('haproxy.out')}")
 
-    # nginx after nginx.conf at this port, with an upstream for each of these ports; the teams of the map are with these offices.
-    def nginx(self, port, upstreams, teams=None, unlimited=True):
+    # nginx after nginx.conf at this port, with upstreams for each of these pairs of ports, for people and for hosts; the teams of the map
+    # are with these offices. With `authority` hosts show certificates of that file.
+    def nginx(self, port, upstreams, teams=None, unlimited=True, authority=None):
         key, certificate = f"{self.work}/office.key", f"{self.work}/office.crt"
         words = ["openssl", "req", "-x509", "-newkey", "ec", "-pkeyopt", "ec_paramgen_curve:prime256v1", "-nodes", "-days", "2"]
         words += ["-subj", "/CN=localhost", "-addext", "subjectAltName=DNS:localhost", "-keyout", key, "-out", certificate]
-        subprocess.run(words, stderr=subprocess.DEVNULL, check=True)
+        if not os.path.exists(key):
+            subprocess.run(words, stderr=subprocess.DEVNULL, check=True)
         os.makedirs(f"{self.work}/web", exist_ok=True)
         text = open(f"{DEPLOY}/nginx.conf").read()
-        text = replaced(text, r"listen 443 ssl http2;", f"listen 127.0.0.1:{port} ssl http2;")
+        text = replaced(text, r"listen 443 ssl http2", f"listen 127.0.0.1:{port} ssl http2")
         text = replaced(text, r"/etc/nginx/office\.", f"{self.work}/office.")
         text = replaced(text, r"/var/log/nginx/office\.", f"{self.work}/nginx-office.")
         text = replaced(text, r"/usr/local/share/office/web", f"{self.work}/web")
         text = replaced(text, r"    # green .*", "".join(f"    {team} office_{n};\n" for team, n in (teams or {}).items()))
-        servers = "".join(f"upstream office_{n} {{ server 127.0.0.1:{up}; }}\n" for n, up in enumerate(upstreams, 1))
-        text = replaced(text, r"^upstream office_1 .*$", servers)
+        if authority:
+            text = replaced(text, r"# (ssl_client_certificate) .*", f"ssl_client_certificate {authority};")
+            text = replaced(text, r"# ssl_verify_client ", "ssl_verify_client ")
+            text = replaced(text, r"# if \(\$ssl_client_verify", "if ($ssl_client_verify")
+        servers = "".join(f"upstream office_{n} {{ server 127.0.0.1:{people}; }}\nupstream office_{n}_hosts {{ server 127.0.0.1:{hosts}; }}\n"
+                          for n, (people, hosts) in enumerate(upstreams, 1))
+        text = replaced(replaced(text, r"^upstream office_1 .*$", servers), r"^upstream office_1_hosts { server 127\.0\.0\.1:5081; }$", "")
         if len(upstreams) > 1:
             text = replaced(text, r"proxy_pass http://office_1;", "return 403;")
         if unlimited:
             text = replaced(text, r"rate=\d+r/s", "rate=1000000r/s")
             text = replaced(text, r"burst=\d+", "burst=100000")
-            text = replaced(text, r"office_connections \d+;", "office_connections 60000;")
+            text = replaced(text, r"limit_conn( +)office_callers \d+;", "limit_conn office_callers 60000;")
         self.write("office.conf", text)
         places = "".join(f"{kind}_temp_path {self.work}/{kind};\n" for kind in ("client_body", "proxy", "fastcgi", "uwsgi", "scgi"))
         user = "user root;\n" if os.geteuid() == 0 else ""
         main = f"{user}worker_processes 2;\nerror_log {self.work}/nginx.log;\npid {self.work}/nginx.pid;\ndaemon off;\n"
-        main += "events { worker_connections 4000; }\n"
+        main += "worker_rlimit_nofile 16384;\nevents { worker_connections 8000; }\n"
         main += f"http {{\ninclude /etc/nginx/mime.types;\n{places}access_log off;\ninclude {self.work}/office.conf;\n}}\n"
         process = self.start(["nginx", "-e", f"{self.work}/nginx.log", "-c", self.write("nginx.conf", main)], "nginx.out")
         await_port(port, process, f"nginx ({self.read('nginx.out')})")
@@ -187,11 +197,14 @@ class Chain:
 
 # Requests over a connection that is kept where it can be.
 class Client:
-    def __init__(self, port, certificate=None, timeout=100):
+    # `own` is a certificate to be shown, and its key.
+    def __init__(self, port, certificate=None, timeout=100, own=None):
         if certificate is None:
             self.open = lambda: HTTPConnection("127.0.0.1", port, timeout=timeout)
         else:
             context = ssl.create_default_context(cafile=certificate)
+            if own:
+                context.load_cert_chain(*own)
             self.open = lambda: HTTPSConnection("localhost", port, timeout=timeout, context=context)
         self.connection = self.open()
 

@@ -1,0 +1,107 @@
+import assert from 'node:assert/strict';
+import test from 'node:test';
+import { asker, eachOf, sha256 } from '../api.js';
+import { Known } from '../known.js';
+
+const response = (status, body, fields = {}) => new Response(body, { status, headers: fields });
+const ABOUT = { team: 'blue', profile: 'web', revision: 3 };
+
+// What asks by these answers in turn, and what was asked and slept.
+function over(answers, more = {}) {
+  const asked = [];
+  const slept = [];
+  const fetch = async (target, how) => {
+    asked.push(`${how.method} ${target} ${how.headers.Authorization}`);
+    const next = answers.shift();
+    if (next instanceof Error) throw next;
+    return typeof next === 'function' ? next(how) : next;
+  };
+  return { asked, slept, ask: asker({ token: () => 't', fetch: /** @type {any} */ (fetch), sleep: async (time) => { slept.push(time); }, ...more }) };
+}
+
+test('each kind has its method and target', async () => {
+  const kinds = { enrol: 'POST /users', submit: 'POST /p/blue/web', list: 'GET /p/blue', show: 'GET /p/blue/web/3',
+    sheet: 'GET /p/blue/web/3/sheet', vote: 'POST /p/blue/web/3/vote', issue: 'POST /p/blue/web/3/issue',
+    withdraw: 'POST /p/blue/web/3/withdraw', adopt: 'POST /p/blue/web/3/adopt', fetch: 'GET /issued/blue/web',
+    hold: 'POST /hold/blue/web', release: 'POST /release/blue/web' };
+  const { ask, asked } = over(Object.keys(kinds).map(() => response(200, '{"answer":"done"}')));
+  for (const kind of Object.keys(kinds)) assert.equal((await ask(kind, ABOUT)).done, true);
+  assert.deepEqual(asked, Object.values(kinds).map((one) => `${one} Bearer t`));
+});
+
+test('an answer of the office is told from a sheet and from what a proxy says', async () => {
+  const { ask } = over([response(403, '{"answer":"denied","rule":1,"word":"caller-unknown"}'), response(200, 'REVIEW SHEET\n'),
+    response(502, '<html>'), response(200, '{"capabilities":{}}')]);
+  assert.equal((await ask('list', ABOUT)).json.word, 'caller-unknown');
+  assert.deepEqual([(await ask('sheet', ABOUT)).json, (await ask('list', ABOUT)).json, (await ask('fetch', ABOUT)).json], [null, null, null]);
+});
+
+test('a lost connection and a request that takes too long are told apart', async () => {
+  const { ask } = over([new TypeError('Failed to fetch'), ({ signal }) => new Promise((on, off) => {
+    signal.addEventListener('abort', () => off(new DOMException('', 'AbortError')));
+  }), response(200, '{"answer":"done"}')], { seconds: 0.02 });
+  assert.deepEqual([(await ask('vote', ABOUT)).lost, (await ask('vote', ABOUT)).lost, (await ask('vote', ABOUT)).lost],
+    ['connection', 'time', null]);
+});
+
+test('what only reads is asked again where the proxy says so, after as long as it says, and what changes is not', async () => {
+  const often = () => response(429, '', { 'Retry-After': '2' });
+  const { ask, asked, slept } = over([often(), often(), response(200, 'x'), often(), ...Array(6).fill(0).map(often)]);
+  assert.equal((await ask('sheet', ABOUT)).done, true);
+  assert.ok(slept.length === 2 && slept.every((time) => time >= 2000 && time <= 4000), String(slept));
+  assert.equal((await ask('vote', ABOUT)).status, 429);
+  assert.equal((await ask('sheet', ABOUT)).status, 429);
+  assert.equal(asked.length, 10);
+});
+
+test('items are done so many at a time, and no more once it is over', async () => {
+  let [now, most, done] = [0, 0, 0];
+  const act = async () => {
+    most = Math.max(most, ++now);
+    await new Promise((on) => setTimeout(on, 1));
+    now--;
+    done++;
+  };
+  await eachOf(Array(50).fill(0), 6, act, () => false);
+  assert.deepEqual([most, done], [6, 50]);
+  await eachOf(Array(50).fill(0), 6, act, () => done >= 56);
+  assert.ok(done < 63);
+});
+
+test('SHA-256', async () => {
+  assert.equal(await sha256('{"capabilities":{"ambient":[],"bounding":[],"effective":[],"inheritable":[],"permitted":[]}}'),
+    '67d59648e3164479ed30407333c338a60764f60cd31c54ca1cd477602ac5e5d6');
+});
+
+test('what answers show of roles', () => {
+  const shown = (...answers) => {
+    const known = new Known();
+    for (const [kind, word] of answers) {
+      const json = word ? { answer: 'denied', rule: 1, word } : { answer: 'done' };
+      known.learn(kind, ABOUT, { status: word ? 403 : 200, done: !word, json });
+    }
+    return { ...known.shown(), unknown: known.unknown };
+  };
+  assert.deepEqual(shown(), { yes: [], no: [], one: [], unknown: false });
+  assert.deepEqual(shown(['list', 'caller-unknown']), { yes: [], no: [], one: [], unknown: true });
+  assert.deepEqual(shown(['list', '']).one, [['author', 'reviewer', 'security', 'issuer']]);
+  assert.deepEqual(shown(['list', 'other-team']), { yes: ['author'], no: ['reviewer', 'security', 'issuer'], one: [], unknown: false });
+  assert.deepEqual(shown(['list', 'role-missing']).no, ['author', 'reviewer', 'security', 'issuer']);
+  assert.deepEqual(shown(['list', ''], ['vote', 'not-open'], ['adopt', 'role-missing']),
+    { yes: ['reviewer'], no: ['security'], one: [], unknown: false });
+  assert.deepEqual(shown(['list', ''], ['vote', 'role-missing'], ['adopt', 'role-missing'], ['issue', 'role-missing']).yes, ['author']);
+  assert.deepEqual(shown(['withdraw', '']).one, [['author', 'security']]);
+});
+
+test('what answers show of holds', () => {
+  const known = new Known();
+  const hear = (kind, word) => known.learn(kind, ABOUT, { status: 0, done: !word, json: word ? { answer: 'denied', word } : null });
+  const rows = [['issue', 'held', true], ['issue', '', false], ['hold', '', true], ['release', '', false], ['hold', 'already-held', true],
+    ['fetch', '', false], ['fetch', 'held', true], ['release', 'not-held', false], ['fetch', 'nothing-issued', false], ['vote', '', false]];
+  assert.equal(known.hold(ABOUT), undefined);
+  for (const [kind, word, held] of rows) {
+    hear(kind, word);
+    assert.equal(known.hold(ABOUT).held, held, `${kind} ${word}`);
+  }
+  assert.equal(known.hold({ ...ABOUT, profile: 'api' }), undefined);
+});

@@ -1,0 +1,35 @@
+// Where one shows a token.
+
+import { at, el, field } from '../elements.js';
+import { TOKEN, areNames, ask, draw, hush, memory, place, say, to } from '../page.js';
+
+export function entranceView() {
+  const enter = async (event) => {
+    event.preventDefault();
+    const [token, name, named] = ['token', 'name', 'teams'].map((id) => at(id).value.trim());
+    const list = [...new Set(named.split(/[\s,]+/).filter(Boolean))];
+    if (!TOKEN.test(token)) return say('refused', 'A token is 1 to 128 characters without spaces.', '', 'Enter the one that you were given.');
+    if (!areNames([...list, ...(name ? [name] : [])], 'a user or a team')) return;
+    memory.token = token;
+    memory.name = name;
+    at('token').value = '';
+    hush();
+    const now = place();
+    if (list.length) memory.teams = list;
+    // the answer to a list tells which roles a user may have; where a place asks for one itself this one isn't needed
+    if (!['queue', 'profiles', 'profile', 'compare'].includes(now.view) && list.length) await ask('list', { team: list[0] });
+    if (now.view === 'queue' && list.length && list.join() !== now.teams.join()) to(`queue/${list.join(',')}`);
+    else draw(true);
+  };
+  return el('section', { class: 'card entrance' },
+    el('h1', {}, 'Review container sandbox profiles'),
+    el('p', {}, 'Show your token, and name the teams whose profiles you work on. The token stays in the memory of this page '
+      + 'alone, and is gone with the tab.'),
+    el('form', { id: 'entrance', submit: enter },
+      field('token', 'Token', null, { type: 'password', required: true, maxlength: '128', 'data-first': true }),
+      field('name', 'Your name in the office',
+        'Optional, and not checked: no answer of the office says whose a token is. The page finds your votes by it.', { maxlength: '64' }),
+      field('teams', 'Teams', 'Optional, with commas between them, as: blue, green',
+        { value: place().teams.join(', ') || memory.teams.join(', ') }),
+      el('p', {}, el('button', { id: 'enter', class: 'main' }, 'Enter'))));
+}

@@ -1,0 +1,232 @@
+// A profile: its sheet with the findings first, its document, what differs from what is issued, the votes, and the decision.
+
+import { sha256 } from '../api.js';
+import { byKind } from '../calls.js';
+import { SETS } from '../document.js';
+import { at, badge, button, chips, code, el, folded, link, notice, some } from '../elements.js';
+import { indented, squeezed } from '../json.js';
+import { memory, read, to } from '../page.js';
+import { against, holds, readSheet, sheetOf, still, voteSaid } from '../sheet.js';
+import { CLOSED, permits } from '../widening.js';
+import { decideCard } from './decide.js';
+import { differing, documentOf, opened } from './differing.js';
+import { heldBadge, refused } from './teams.js';
+
+/** @typedef {import('../document.js').Profile} Profile */
+/** @typedef {import('../sheet.js').Sheet} Sheet */
+/**
+ * @typedef {{ digest: string, named: string, same: boolean, own: boolean, left: string[], beyond: string[], unseen: string,
+ *   text: string, shown: any }} Reading how the sheet, the text and what is on the screen go together
+ */
+
+/** @param {import('../page.js').Place} now */
+export async function profileView(now) {
+  const about = { team: now.team, profile: now.profile, revision: now.revision };
+  const title = el('h1', { tabindex: '-1', 'data-first': true }, `${about.team}/${about.profile}`);
+  const list = await read('list', { team: about.team });
+  if (!list.done || !list.json?.profiles) return [title, refused('list', list, about)];
+  const own = list.json.profiles.find((one) => one.profile === about.profile);
+  if (!own) return [title, el('p', { class: 'empty' }, `The team ${about.team} has no profile ${about.profile}.`)];
+  if (!about.revision) about.revision = own.revisions;
+  const [shown, told] = await Promise.all([read('show', about), read('sheet', about)]);
+  if (!shown.done || typeof shown.json?.document !== 'string') return [title, refused('show', shown, about)];
+  const sheet = told.done ? readSheet(told.text) : null;
+  if (!sheet) return [title, told.done ? el('p', { class: 'notice refused inline' }, 'What came as its sheet is no review sheet.')
+    : refused('sheet', told, about)];
+  const text = shown.json.document;
+  const { node, profile, wrong } = opened(text);
+  const pre = el('pre', { id: 'document', tabindex: '0', role: 'region', 'aria-label': 'The document as indented JSON' },
+    node ? indented(node) : text);
+  const base = await baseOf(about.team, sheet);
+  const reading = await verified(about, shown.json, sheet, profile, base, pre, text);
+  const state = shown.json.state;
+  const needs = still(sheet);
+  return [
+    el('p', { class: 'crumbs' }, link(`profiles/${about.team}`, `Team ${about.team}`)),
+    el('div', { class: 'title' }, title, badge(state), heldBadge(about)),
+    el('section', { class: 'card summary', 'aria-label': 'In short' },
+      revisionChoice(about, own),
+      el('dl', {},
+        el('div', {}, el('dt', {}, 'Still needed'), el('dd', { id: 'needed', class: needs.ready ? 'ready' : '' }, needs.text)),
+        el('div', {}, el('dt', {}, 'Issued now'), el('dd', {},
+          own.issued ? own.issued === about.revision ? 'this revision'
+            : ['revision ', link(`profile/${about.team}/${about.profile}/${own.issued}`, String(own.issued))] : 'no revision')),
+        el('div', {}, el('dt', {}, 'Compared with'), el('dd', { id: 'baseline' }, baselineSaid(sheet, about))),
+        el('div', { class: 'wide' }, el('dt', {}, 'SHA-256 of the text below'),
+          el('dd', {}, el('code', { id: 'digest', class: 'digest' }, reading.digest),
+            el('span', { class: `told ${reading.same ? 'ready' : 'wrong'}` },
+              reading.same ? 'It is the digest that the sheet names.' : reading.own
+                ? 'It is not the digest that the sheet names.' : 'The sheet is of another revision.')))),
+      el('p', { class: 'jump' }, button('to-decide', 'To the decision',
+        () => { at('decide').scrollIntoView(); at('decide').focus({ preventScroll: true }); }, 'quiet'))),
+    el('div', { class: 'beside' },
+      el('div', {}, findingsCard(sheet, reading, profile, base.profile), keepsCard(sheet)),
+      el('div', {}, await differsCard(about, own, profile), votesCard(sheet, needs))),
+    grantsCard(sheet),
+    el('section', { class: 'card', 'aria-labelledby': 'document-title' }, el('h2', { id: 'document-title' }, 'The document'),
+      el('p', { class: 'hint' },
+        wrong || `${some(new TextEncoder().encode(text).length, 'byte')}; only line feeds and indents are added here.`), pre),
+    decideCard(about, state, sheet, reading, own),
+    el('details', { class: 'card' }, el('summary', {}, 'The sheet as the office wrote it'),
+      el('pre', { id: 'sheet', tabindex: '0', role: 'region', 'aria-label': 'The sheet as the office wrote it' }, sheet.text)),
+  ];
+}
+
+// The baseline that a sheet names, or why the page doesn't have it.
+async function baseOf(team, sheet) {
+  const [profile, number] = sheet.value('baseline').split(' ');
+  if (number === undefined) return { profile: CLOSED, instead: null };
+  return documentOf({ team, profile, revision: Number(number) });
+}
+
+/**
+ * Whether the text on the screen is the one that the sheet names, and what of the sheet isn't what the page works out of the document.
+ * @returns {Promise<Reading>}
+ */
+async function verified(about, json, sheet, profile, base, pre, text) {
+  const digest = await sha256(text);
+  const own = ['team', 'profile', 'revision'].every((name) => sheet.value(name) === String(about[name]));
+  const named = sheet.value('digest');
+  const same = squeezed(pre.textContent) === text && digest === named && digest === json.digest && own;
+  const said = { digest, named, same, own, text, shown: pre, left: [], beyond: [], unseen: '' };
+  if (!profile) return { ...said, unseen: 'The document can’t be read, so the page can’t look whether the sheet is the one of it.' };
+  if (!base.profile) return { ...said, unseen: 'The page couldn’t read the baseline, so it can’t look whether findings are left out.' };
+  const listed = memory.known.listed;
+  const found = against(sheet.text, sheetOf({ ...about, digest }, sheet, profile, base.profile, listed));
+  // what a sheet of this office said to be listed is listed on each other one, as long as the office stands
+  const has = holds(profile);
+  for (const one of sheet.value('listed').split(' ')) if (has.includes(one)) listed.add(one);
+  return { ...said, ...found };
+}
+
+function revisionChoice(about, own) {
+  const whole = `${about.team}/${about.profile}`;
+  const select = el('select', { id: 'revision', 'data-leads': true, change: (event) => to(`profile/${whole}/${event.target.value}`) });
+  const last = Math.max(own.revisions, about.revision);
+  for (let number = last; number >= 1; number--) {
+    const note = [number === own.revisions ? `last, ${own.state}` : '',
+      number === own.issued && own.state !== 'issued' ? 'issued' : ''].filter(Boolean).join(', ');
+    select.append(el('option', { value: String(number), selected: number === about.revision },
+      note ? `${number} (${note})` : String(number)));
+  }
+  return el('p', { class: 'field' }, el('label', { for: 'revision' }, 'Revision'), select);
+}
+
+function baselineSaid(sheet, about) {
+  const [profile, number] = sheet.value('baseline').split(' ');
+  return number === undefined ? 'the closed profile: no adopted revision stands'
+    : ['the team’s baseline, ', link(`profile/${about.team}/${profile}/${number}`, `${profile} ${number}`)];
+}
+
+const words = (text) => chips(text === 'none' || text === '' ? [] : text.split(' '));
+
+// Calls that are found, by what becomes of them and by their kinds.
+function callsSaid(calls, profile, base) {
+  /** @type {[string, (now: string, old: string) => boolean][]} */
+  const groups = [
+    ['permitted now, and not before', (now, old) => now === 'always' && old === 'never'],
+    ['permitted now with some arguments, and not at all before', (now, old) => now === 'sometimes' && old === 'never'],
+    ['permitted with more arguments, perhaps', (now, old) => now !== 'never' && old !== 'never'],
+    ['still refused, by a milder action', (now) => now === 'never'],
+  ];
+  return groups.map(([text, is]) => {
+    const own = calls.filter((call) => is(permits(profile, call), permits(base, call)));
+    return own.length > 0 && el('li', { class: 'calls' }, el('span', { class: 'tag' },
+      `${some(own.length, 'call')} ${text}`), el('dl', { class: 'kinds' }, byKind(own).map((kind) => el('div', {},
+      el('dt', {}, `${kind.title}${kind.group && ` (${kind.group})`}, ${kind.calls.length}`), el('dd', {}, folded(kind.calls, 'calls'))))));
+  });
+}
+
+function findingsCard(sheet, reading, profile, base) {
+  const calls = sheet.findings.filter((line) => line.startsWith('call ')).map((line) => line.slice(5));
+  const sets = SETS.map((set) => [set,
+    sheet.findings.filter((line) => line.startsWith(`capability ${set} `)).map((line) => line.split(' ')[2])])
+    .filter((one) => one[1].length);
+  const others = sheet.findings.filter((line) => !line.startsWith('call ') && !line.startsWith('capability '));
+  const said = (line) => {
+    if (line === 'no-seccomp') return 'There is no filter, and the baseline has one: every call is allowed.';
+    if (line === 'default') return 'The default action permits more.';
+    if (line === 'architecture any') return 'No architecture is listed, and the baseline lists some.';
+    if (line.startsWith('architecture ')) return ['The architecture ', code(line.slice(13)), ' is listed.'];
+    if (line.startsWith('flag ')) return ['The flag ', code(line.slice(5)), ' is set.'];
+    return line;
+  };
+  const wrong = reading.left.length > 0 || reading.beyond.length > 0;
+  const calm = !sheet.findings.length && !wrong && !reading.unseen;
+  return el('section', { class: `card findings ${calm ? 'calm' : ''}`, 'aria-labelledby': 'findings-title' },
+    el('h2', { id: 'findings-title' }, 'New against the baseline'),
+    wrong && wrongSaid(reading),
+    reading.unseen && notice('plain', [reading.unseen], { id: 'unseen' }),
+    el('p', { class: 'lead', id: 'findings-count' }, sheet.findings.length ? `${some(sheet.findings.length, 'finding')}.`
+      : calm ? 'Nothing: no capability and no call is permitted more.' : 'The sheet has no finding.'),
+    el('ul', { class: 'plain' },
+      sets.map(([set, caps]) => el('li', {}, el('span', { class: 'tag' }, `Capabilities, ${set}`), chips(caps))),
+      others.map((line) => el('li', {}, said(line))),
+      profile && base ? callsSaid(calls, profile, base) : calls.length > 0 && el('li', {},
+        el('span', { class: 'tag' }, `${some(calls.length, 'call')} that may be permitted more`), folded(calls, 'calls'))),
+    sheet.value('listed') !== 'none' && el('p', {}, el('span', { class: 'tag' },
+      'Listed by this office, so two approvals are needed whatever is new'), words(sheet.value('listed'))));
+}
+
+// Where the sheet isn't the one that the page works out of the document.
+function wrongSaid({ left, beyond }) {
+  // the lines that decide first, as that of the need, and then those below them
+  const lines = (these) => {
+    const sorted = [...these.filter((line) => line.includes(': ')), ...these.filter((line) => !line.includes(': '))];
+    return el('ul', {}, sorted.slice(0, 12).map((line) => el('li', {}, code(line))),
+      these.length > 12 && el('li', {}, `and ${these.length - 12} more`));
+  };
+  return el('div', { class: 'notice refused inline', id: 'not-the-sheet', role: 'alert' },
+    el('p', { class: 'sentence' }, 'The sheet isn’t the one of this document, as the page works it out.'),
+    left.length > 0 && [el('p', {}, 'It leaves out:'), lines(left)],
+    beyond.length > 0 && [el('p', {}, 'It has instead:'), lines(beyond)],
+    el('p', { class: 'way' }, 'Load it anew; if it stays so it was changed on the way, or the page and the office are of two versions: tell '
+      + 'those who run the proxy.'));
+}
+
+function keepsCard(sheet) {
+  const rows = (who) => ['permitted', 'effective', 'ambient'].map((set) => el('tr', {}, el('th', { scope: 'row' }, set),
+    el('td', {}, words(sheet.value(`${who} ${set}`)))));
+  const table = (who, text) => el('table', {}, el('caption', {}, text), el('tbody', {}, rows(who)));
+  return el('section', { class: 'card', 'aria-labelledby': 'keeps-title' }, el('h2', { id: 'keeps-title' }, 'What execve keeps'),
+    table('plain', 'A process that starts a file without capabilities has'),
+    table('root', 'The same where its user ids are 0'));
+}
+
+function grantsCard(sheet) {
+  const rows = [...SETS, 'architectures', 'flags'].map((name) => [name, sheet.value(name)]).filter((one) => one[1] !== '');
+  const filter = sheet.value('seccomp');
+  return el('section', { class: 'card', 'aria-labelledby': 'grants-title' },
+    el('h2', { id: 'grants-title' }, 'What the document grants'),
+    el('p', {}, 'Calls without an entry: ', filter === 'none' ? 'there is no filter, and every call is allowed.'
+      : [code(filter), `, with ${some(Number(sheet.value('entries')), 'entry', 'entries')}.`]),
+    el('table', {}, el('caption', {}, 'Capabilities by set'),
+      el('tbody', {}, rows.map(([name, value]) => el('tr', {}, el('th', { scope: 'row' }, name), el('td', {}, words(value)))))));
+}
+
+function votesCard(sheet, needs) {
+  return el('section', { class: 'card', 'aria-labelledby': 'votes-title' }, el('h2', { id: 'votes-title' }, 'Votes'),
+    sheet.votes.length ? el('ul', { class: 'plain', id: 'votes' },
+      sheet.votes.map((vote) => el('li', { class: vote.lapsed ? 'lapsed' : vote.vote },
+        el('strong', {}, vote.name), vote.name === memory.name ? ' (you) ' : ' ', voteSaid(vote))))
+      : el('p', { class: 'empty' }, 'Nobody has voted.'),
+    el('p', {}, `It needs ${sheet.need === 2 ? 'two approvals, at least one with security' : 'one approval'}. `,
+      el('span', { class: needs.ready ? 'ready' : '' }, needs.text)));
+}
+
+async function differsCard(about, own, profile) {
+  const whole = `${about.team}/${about.profile}`;
+  const older = about.revision > 1 ? about.revision - 1 : own.revisions;
+  const other = own.revisions > 1 && el('p', {}, link(`compare/${whole}/${older}/${about.revision}`, 'Compare any two revisions',
+    { id: 'to-compare' }));
+  const card = (...inside) => el('section', { class: 'card', id: 'differs', 'aria-labelledby': 'differs-title' },
+    el('h2', { id: 'differs-title' }, own.issued && own.issued !== about.revision
+      ? `What differs from revision ${own.issued}, which is issued` : 'What differs from what is issued'), inside, other);
+  if (!own.issued) return card(el('p', { class: 'empty' },
+    'No revision of this profile is issued, so there is nothing to compare.'));
+  if (own.issued === about.revision) return card(el('p', { class: 'empty' }, 'This is the revision that is issued.'));
+  const issued = await documentOf({ ...about, revision: own.issued });
+  if (!issued.profile) return card(issued.instead);
+  return card(profile ? differing(issued.profile, profile) : el('p', { class: 'notice refused inline' },
+    'This text is no document, so the page can’t compare it.'));
+}

@@ -1,0 +1,119 @@
+// What the office's words mean. Each sentence stands here alone: the tables of docs/policy.md, docs/http.md and docs/documents.md are made
+// of these by `web/test/unit --write`, so a sentence is written as those files are, and `plain` is it without their marks.
+
+/**
+ * A sentence of a document as plain text.
+ * @param {string} sentence
+ */
+export const plain = (sentence) => sentence.replace(/\[([^\]]*)\]\([^)]*\)/g, '$1').replaceAll('`', '').replaceAll("'", '’');
+
+export const ROLES = ['registrar', 'author', 'reviewer', 'security', 'issuer', 'machine'];
+
+/**
+ * The roles of which one is needed, and for which requests.
+ * @type {[string[], string[]][]}
+ */
+export const NEEDED = [
+  [['registrar'], ['enrol']],
+  [['author'], ['submit']],
+  [['reviewer'], ['vote']],
+  [['issuer'], ['issue']],
+  [['author', 'security'], ['withdraw']],
+  [['security'], ['adopt', 'hold', 'release']],
+  [['author', 'reviewer', 'security', 'issuer'], ['show', 'sheet', 'list']],
+  [['machine'], ['fetch']],
+];
+
+/**
+ * Words in a row, the last behind `and` or another word.
+ * @param {string[]} words
+ */
+export const listed = (words, last = 'and') =>
+  (words.length < 2 ? words.join('') : `${words.slice(0, -1).join(', ')} ${last} ${words.at(-1)}`);
+
+/**
+ * Where each rule refuses; words that a table tells together stand together.
+ * @type {[string[], string][]}
+ */
+export const RULES = [
+  [['caller-unknown'], "no user's present digest is that of the token"],
+  [['role-missing'], `the caller doesn't hold the role: ${NEEDED.map(([roles, kinds]) =>
+    `${listed(roles, 'or')} for ${listed(kinds.map((kind) => `\`${kind}\``))}`).join('; ')}`],
+  [['own-row'], 'the user to be enrolled is the caller'],
+  [['team-fixed'], 'the user is enrolled already, in another team'],
+  [['token-taken'], 'another user shows this digest now'],
+  [['other-team'], 'the caller is of another team. For `show`, `sheet` and `list` a reviewer, security or an issuer passes; for '
+    + '`withdraw` security does'],
+  [['document'], "the document doesn't read; the answer names its fault"],
+  [['same-as-open'], "the document's canonical text is that of the profile's open revision"],
+  [['revisions-full'], 'the profile has 9,999 revisions'],
+  [['no-revision'], 'the profile has no revision of this number'],
+  [['author-votes', 'author-issues', 'author-adopts'], 'the caller is an author of the profile'],
+  [['not-open'], "the revision isn't open"],
+  [['other-bytes'], "the digest that the vote names isn't the revision's"],
+  [['rejected'], 'a name rejects'],
+  [['approvals-short'], 'fewer names approve than are needed; the answer has both numbers'],
+  [['security-missing'], 'the need asks for an approval with security, and there is none'],
+  [['not-standing'], 'the revision is neither open nor issued'],
+  [['not-issued'], "the revision isn't issued"],
+  [['nothing-issued'], 'no revision of the profile is issued now'],
+  [['no-profile'], 'the profile has no revision'],
+  [['already-held', 'not-held'], "the profile is held already; isn't held"],
+  [['held'], 'the profile is held'],
+];
+
+/**
+ * Each fault of a document: the text of the fault, and its cause.
+ * @type {[string, string][]}
+ */
+export const DOCUMENT_FAULTS = [
+  ['too-long', 'more than 262,144 bytes'],
+  ['not-json', 'the bytes are no JSON text'],
+  ['wrong-shape PATH', "a value of another kind than its place asks for, or a required member that isn't there"],
+  ['unknown-member PATH', 'the object has no such member'],
+  ['unknown-word PATH', 'a text that is no name of a capability, an action, an operator, an architecture or a flag'],
+  ['not-in-profile PATH', "a part of the specification that documents here don't have: `SCMP_ACT_NOTIFY`, and `listenerPath` and "
+    + '`listenerMetadata` of `seccomp`'],
+  ['bad-number PATH', 'not a whole number from 0 to 18446744073709551615'],
+  ['effective-outside N', 'capability N is effective and not permitted'],
+  ['ambient-outside N', 'capability N is ambient, and not both permitted and inheritable'],
+  ['too-many', 'more entries, architectures, flags, names or arguments than there may be'],
+  ['errno-not-taken', 'an error number with an action that takes none'],
+  ['errno-too-large', 'an error number above 65,535'],
+  ['no-names', 'an entry without a name'],
+  ['bad-call-name', "a name that isn't of the form"],
+  ['bad-index', 'an index above 5'],
+  ['index-twice', 'an index twice in one entry'],
+  ['two-actions NAME', 'two entries have the name under different actions'],
+  ['text-too-long', 'the canonical text has more than 262,144 bytes; one without a filter never has'],
+];
+
+/**
+ * Each fault of the store: its word, what it says, what to do.
+ * @type {[string, string, string][]}
+ */
+export const STORE_FAULTS = [
+  ['memory', 'memory was refused before the request was handled or while it was', 'ask again; give the program more'],
+  ['disk', 'the disk below the tables failed, or had failed and shut them', 'look after the disk, and start `serve` anew'],
+  ['full', 'there was no room for what was to be written, or a value was too big for a table', 'make room, and ask again'],
+  ['not-an-office', "the tables are no office's: another program changed them", 'put a copy back, by `deploy/restore` '
+    + '([operate.md](operate.md)): a file that is put beside an old `team.db-wal` is corrupt, or undone'],
+];
+
+/**
+ * What is no request, step by step: what has to be so, the status and the word.
+ * @type {[string, string, string][]}
+ */
+export const NO_REQUEST = [
+  ['the head, with the empty line that ends it, has at most 8,192 bytes', '400', '`head-too-long`'],
+  ['it is a head of HTTP/1.0 or HTTP/1.1, of at most 64 fields', '400', '`bad-head`'],
+  ['it has at most one `Host`, and one in HTTP/1.1', '400', '`bad-host`'],
+  ['it has no `Transfer-Encoding`', '400', '`transfer-encoding`'],
+  ['it has at most one `Content-Length`, which is digits alone; without one the body is empty', '400', '`bad-length`'],
+  ['the body has at most 262,144 bytes', '413', '`too-large`'],
+  ['the target is one of the routes', '404', '`no-route`'],
+  ['the method is that of the route, which `Allow` names', '405', '`wrong-method`'],
+  ['there is one `Authorization` that shows a token', '400', '`no-token`'],
+  ['the body comes whole', '', 'no answer; it prints `fault ended`'],
+  ['the body is of the form of its route, or empty', '400', '`not-a-request`'],
+];
