@@ -37,8 +37,8 @@ export const listed = (words, last = 'and') =>
  */
 export const RULES = [
   [['caller-unknown'], "no user's present digest is that of the token"],
-  [['role-missing'], `the caller doesn't hold the role: ${NEEDED.map(([roles, kinds]) =>
-    `${listed(roles, 'or')} for ${listed(kinds.map((kind) => `\`${kind}\``))}`).join('; ')}`],
+  [['role-missing'], `the caller doesn't hold the role. It is ${NEEDED.map(([roles, kinds]) =>
+    `${listed(roles, 'or')} for ${listed(kinds.map((kind) => `\`${kind}\``))}`).join('. It is ')}`],
   [['own-row'], 'the user to be enrolled is the caller'],
   [['team-fixed'], 'the user is enrolled already, in another team'],
   [['token-taken'], 'another user shows this digest now'],
