@@ -40,7 +40,8 @@ export async function profileView(now) {
   const base = await baseOf(about.team, sheet);
   const reading = await verified(about, shown.json, sheet, profile, base, pre, text);
   const state = shown.json.state;
-  const needs = still(sheet);
+  // what a false sheet says of its need isn't shown as what is needed
+  const needs = isWrong(reading) ? { ready: false, text: 'Not known: the sheet isn’t the one of this document.' } : still(sheet);
   return [
     el('p', { class: 'crumbs' }, link(`profiles/${about.team}`, `Team ${about.team}`)),
     el('div', { class: 'title' }, title, badge(state), heldBadge(about)),
@@ -61,7 +62,7 @@ export async function profileView(now) {
         () => { at('decide').scrollIntoView(); at('decide').focus({ preventScroll: true }); }, 'quiet'))),
     el('div', { class: 'beside' },
       el('div', {}, findingsCard(sheet, reading, profile, base.profile), keepsCard(sheet)),
-      el('div', {}, await differsCard(about, own, profile), votesCard(sheet, needs))),
+      el('div', {}, await differsCard(about, own, profile), votesCard(sheet, needs, isWrong(reading)))),
     grantsCard(sheet),
     el('section', { class: 'card', 'aria-labelledby': 'document-title' }, el('h2', { id: 'document-title' }, 'The document'),
       el('p', { class: 'hint' },
@@ -71,6 +72,9 @@ export async function profileView(now) {
       el('pre', { id: 'sheet', tabindex: '0', role: 'region', 'aria-label': 'The sheet as the office wrote it' }, sheet.text)),
   ];
 }
+
+// Whether the sheet isn't the one that the page works out.
+const isWrong = (reading) => reading.left.length > 0 || reading.beyond.length > 0;
 
 // The baseline that a sheet names, or why the page doesn't have it.
 async function baseOf(team, sheet) {
@@ -151,7 +155,7 @@ function findingsCard(sheet, reading, profile, base) {
     if (line.startsWith('flag ')) return ['The flag ', code(line.slice(5)), ' is set.'];
     return line;
   };
-  const wrong = reading.left.length > 0 || reading.beyond.length > 0;
+  const wrong = isWrong(reading);
   const calm = !sheet.findings.length && !wrong && !reading.unseen;
   return el('section', { class: `card findings ${calm ? 'calm' : ''}`, 'aria-labelledby': 'findings-title' },
     el('h2', { id: 'findings-title' }, 'New against the baseline'),
@@ -204,13 +208,13 @@ function grantsCard(sheet) {
       el('tbody', {}, rows.map(([name, value]) => el('tr', {}, el('th', { scope: 'row' }, name), el('td', {}, words(value)))))));
 }
 
-function votesCard(sheet, needs) {
+function votesCard(sheet, needs, wrong) {
   return el('section', { class: 'card', 'aria-labelledby': 'votes-title' }, el('h2', { id: 'votes-title' }, 'Votes'),
     sheet.votes.length ? el('ul', { class: 'plain', id: 'votes' },
       sheet.votes.map((vote) => el('li', { class: vote.lapsed ? 'lapsed' : vote.vote },
         el('strong', {}, vote.name), vote.name === memory.name ? ' (you) ' : ' ', voteSaid(vote))))
       : el('p', { class: 'empty' }, 'Nobody has voted.'),
-    el('p', {}, `It needs ${sheet.need === 2 ? 'two approvals, at least one with security' : 'one approval'}. `,
+    el('p', {}, !wrong && `It needs ${sheet.need === 2 ? 'two approvals, at least one with security' : 'one approval'}. `,
       el('span', { class: needs.ready ? 'ready' : '' }, needs.text)));
 }
 
