@@ -2,6 +2,7 @@
 
 mod conversations;
 mod in_step;
+mod largest;
 mod memory;
 mod requests;
 mod stops;
