@@ -10,8 +10,9 @@ use Rattle.command_line.specs.declared.fault.WordsFault.TheVariants.{Help, Versi
 use Rattle.command_line.specs.declared.command.EvidenceWords.{EvidenceWords}
 use Rattle.command_line.specs.declared.command.InitWords.{InitWords}
 use Rattle.command_line.specs.declared.command.ServeWords.{ServeWords}
+use Rattle.command_line.specs.declared.command.VerifyWords.{VerifyWords}
 use Rattle.command_line.specs.Meaning.{HasCompareValues, HasEvidenceValues, HasInitValues, HasServeValues, HasVerifyValues}
-use Rattle.command_line.specs.Refusals.{IsRefused, IsTold, NoneAskedFor}
+use Rattle.command_line.specs.Refusals.{IsRefused, IsTold, NoKeptSeal, NoSealGiven, NoneAskedFor}
 
 -- two texts that don't compare equal are two
 apart : (a b : Text) → bytes_eq a b ≡ false → a ≢ b
@@ -32,7 +33,7 @@ no_init rows lacks (Desk database journal) asked = apart _ _ refl asked.0
 no_init rows lacks (Serve words) asked = apart _ _ refl asked.0
 no_init rows lacks (Migrate database) asked = apart _ _ refl asked.0
 no_init rows lacks (Compare base new) asked = apart _ _ refl asked.0
-no_init rows lacks (Verify database journal) asked = apart _ _ refl asked.0
+no_init rows lacks (Verify words) asked = apart _ _ refl asked.0
 no_init rows lacks (History words) asked = apart _ _ refl asked.0
 no_init rows lacks (Evidence words) asked = apart _ _ refl asked.0
 
@@ -46,7 +47,7 @@ no_serve rows lacks (Desk database journal) asked = apart _ _ refl asked.0
 no_serve rows lacks (Serve words) asked = lacks words asked.1
 no_serve rows lacks (Migrate database) asked = apart _ _ refl asked.0
 no_serve rows lacks (Compare base new) asked = apart _ _ refl asked.0
-no_serve rows lacks (Verify database journal) asked = apart _ _ refl asked.0
+no_serve rows lacks (Verify words) asked = apart _ _ refl asked.0
 no_serve rows lacks (History words) asked = apart _ _ refl asked.0
 no_serve rows lacks (Evidence words) asked = apart _ _ refl asked.0
 
@@ -60,12 +61,12 @@ no_compare rows lacks (Desk database journal) asked = apart _ _ refl asked.0
 no_compare rows lacks (Serve words) asked = apart _ _ refl asked.0
 no_compare rows lacks (Migrate database) asked = apart _ _ refl asked.0
 no_compare rows lacks (Compare base new) asked = lacks base.now new.now asked.1
-no_compare rows lacks (Verify database journal) asked = apart _ _ refl asked.0
+no_compare rows lacks (Verify words) asked = apart _ _ refl asked.0
 no_compare rows lacks (History words) asked = apart _ _ refl asked.0
 no_compare rows lacks (Evidence words) asked = apart _ _ refl asked.0
 
 -- `verify` asks for nothing where a value that it needs isn't there
-pub no_verify : (rows : List Row) → ((database journal : Text) → ¬ HasVerifyValues rows database journal) → NoneAskedFor (codes "verify") rows
+pub no_verify : (rows : List Row) → ((words : VerifyWords) → ¬ HasVerifyValues rows words) → NoneAskedFor (codes "verify") rows
 no_verify rows lacks Trial asked = asked
 no_verify rows lacks (Check file) asked = apart _ _ refl asked.0
 no_verify rows lacks (Execve words) asked = apart _ _ refl asked.0
@@ -74,7 +75,7 @@ no_verify rows lacks (Desk database journal) asked = apart _ _ refl asked.0
 no_verify rows lacks (Serve words) asked = apart _ _ refl asked.0
 no_verify rows lacks (Migrate database) asked = apart _ _ refl asked.0
 no_verify rows lacks (Compare base new) asked = apart _ _ refl asked.0
-no_verify rows lacks (Verify database journal) asked = lacks database.now journal.now asked.1
+no_verify rows lacks (Verify words) asked = lacks words asked.1
 no_verify rows lacks (History words) asked = apart _ _ refl asked.0
 no_verify rows lacks (Evidence words) asked = apart _ _ refl asked.0
 
@@ -88,7 +89,7 @@ no_evidence rows lacks (Desk database journal) asked = apart _ _ refl asked.0
 no_evidence rows lacks (Serve words) asked = apart _ _ refl asked.0
 no_evidence rows lacks (Migrate database) asked = apart _ _ refl asked.0
 no_evidence rows lacks (Compare base new) asked = apart _ _ refl asked.0
-no_evidence rows lacks (Verify database journal) asked = apart _ _ refl asked.0
+no_evidence rows lacks (Verify words) asked = apart _ _ refl asked.0
 no_evidence rows lacks (History words) asked = apart _ _ refl asked.0
 no_evidence rows lacks (Evidence words) asked = lacks words asked.1
 
@@ -106,3 +107,8 @@ refused_as_told kinds found error (Version text) (inr among) told = rw told at a
 refused_as_told kinds found error (Refused text) (inl memory) told = absurd (told.2 memory)
 refused_as_told kinds found error (Refused text) (inr among) told = inl (kind_of error, among, told.0, told.1)
 refused_as_told kinds found error NoMemory has told = tt
+
+-- a text that names no line with a seal gives none
+pub no_seal_given : (text : Text) → NoKeptSeal text → NoSealGiven (Some text)
+no_seal_given text none None given = given
+no_seal_given text none (Some kept) given = none kept given

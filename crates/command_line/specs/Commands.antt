@@ -43,10 +43,10 @@ serve_app = with_rules (new_app (codes "serve")) (needed_rule (codes "database")
 abbrev pub migrate_app : App
 migrate_app = with_rules (new_app (codes "migrate")) (needed_rule (codes "database") ∷ [])
 
--- `verify DB JOURNAL`
+-- `verify DB JOURNAL [--seal N:HEX]`
 abbrev pub verify_app : App
 verify_app = with_rules (new_app (codes "verify")) (needed_rule (codes "database")
-    ∷ needed_rule (codes "journal") ∷ [])
+    ∷ needed_rule (codes "journal") ∷ option_rule (codes "seal") ∷ [])
 
 -- `history JOURNAL [--team T] [--profile P]`
 abbrev pub history_app : App

@@ -1,7 +1,8 @@
 -- What the words of a command line ask for, by the command that clap finds in them and the values
 -- that it gives.
-use Rattle.std.specs.Prelude.{◌≡◌, ℕ, Bool, false, Option, Some, None, List, [], codes, map}
-use Rattle.std.specs.Prelude.{option_map, unwrap_or}
+use Rattle.std.specs.Prelude.{◌≡◌, ◌==◌, ◌&&◌, ◌||◌, ℕ, Bool, true, false, Option, Some, None, List}
+use Rattle.std.specs.Prelude.{[], codes, length, map, nat_le, option_map, unwrap_or}
+use Rattle.std.specs.List.{after_first, before_first, list_all}
 use Rattle.std.specs.Str.Parse.{digits_value, without_leading_plus}
 use Rattle.clap.specs.Words.{IsUnsignedIn, Row, Text, all_of, first_of, found_of, one_of, rows_of}
 use Rattle.clap.specs.declared.parser.matches.ArgMatches.{ArgMatches}
@@ -13,8 +14,9 @@ use Rattle.command_line.specs.declared.command.EvidenceWords.{EvidenceWords}
 use Rattle.command_line.specs.declared.command.ExecveWords.{ExecveWords}
 use Rattle.command_line.specs.declared.command.HistoryWords.{HistoryWords}
 use Rattle.command_line.specs.declared.command.InitWords.{InitWords}
+use Rattle.command_line.specs.declared.command.KeptSeal.{KeptSeal}
 use Rattle.command_line.specs.declared.command.ServeWords.{ServeWords}
-use Rattle.std.specs.Prelude.{true}
+use Rattle.command_line.specs.declared.command.VerifyWords.{VerifyWords}
 
 -- the values that are given to a subcommand, and the one of this name
 abbrev pub values_of : ArgMatches → List Row
@@ -71,10 +73,33 @@ pub record HasCompareValues (rows : List Row) (base_file new_file : Text) : Type
   pub base : Gives rows (codes "base") base_file
   pub new : Gives rows (codes "new") new_file
 
+-- 0-9 and a-f
+abbrev pub is_seal_digit : ℕ → Bool
+is_seal_digit c = (nat_le 48 c && nat_le c 57) || (nat_le 97 c && nat_le c 102)
+
+-- 64 lower-case hexadecimal digits
+pub record IsSealText (text : Text) : Type 0 where
+  pub long : length text ≡ 64
+  pub digits : list_all is_seal_digit text ≡ true
+
+-- a number from 1, of 64 bits, stands before the first colon of the text, and a seal behind it
+pub record IsKeptSeal (text : Text) (kept : KeptSeal) : Type 0 where
+  pub line : IsNumberIn 1 18446744073709551615 kept.line
+      (Some (before_first (λ byte. byte == 58) text))
+  pub seal : kept.seal ≡ after_first (λ byte. byte == 58) text
+  pub is_seal : IsSealText kept.seal
+
+-- the text, if there is one, names this line and this seal
+abbrev pub IsSealGiven : Option Text → Option KeptSeal → Type 0
+IsSealGiven None seal = seal ≡ None
+IsSealGiven (Some text) None = ⊥
+IsSealGiven (Some text) (Some kept) = IsKeptSeal text kept
+
 -- each value of verify is the one that the rows give for it
-pub record HasVerifyValues (rows : List Row) (database_file journal_file : Text) : Type 0 where
-  pub database : Gives rows (codes "database") database_file
-  pub journal : Gives rows (codes "journal") journal_file
+pub record HasVerifyValues (rows : List Row) (words : VerifyWords) : Type 0 where
+  pub database : Gives rows (codes "database") words.database.now
+  pub journal : Gives rows (codes "journal") words.journal.now
+  pub seal : IsSealGiven (first_of (codes "seal") rows) words.seal
 
 -- each value of history is the one that the rows give for it
 pub record HasHistoryValues (rows : List Row) (words : HistoryWords) : Type 0 where
@@ -103,8 +128,7 @@ AsksFor name rows (Migrate database) =
     (name ≡ codes "migrate") × Gives rows (codes "database") database.now
 AsksFor name rows (Compare base new) =
     (name ≡ codes "compare") × HasCompareValues rows base.now new.now
-AsksFor name rows (Verify database journal) =
-    (name ≡ codes "verify") × HasVerifyValues rows database.now journal.now
+AsksFor name rows (Verify words) = (name ≡ codes "verify") × HasVerifyValues rows words
 AsksFor name rows (History words) = (name ≡ codes "history") × HasHistoryValues rows words
 AsksFor name rows (Evidence words) = (name ≡ codes "evidence") × HasEvidenceValues rows words
 

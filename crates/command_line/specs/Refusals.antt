@@ -5,10 +5,11 @@ use Rattle.clap.specs.declared.error.kind.ErrorKind.{ErrorKind}
 use Rattle.clap.specs.declared.error.kind.ErrorKind.TheVariants.{DisplayHelp, DisplayVersion}
 use Rattle.clap.specs.declared.error.kind.ErrorKind.TheVariants.{OutOfMemory}
 use Rattle.command_line.specs.declared.command.Command.{Command}
+use Rattle.command_line.specs.declared.command.KeptSeal.{KeptSeal}
 use Rattle.command_line.specs.declared.fault.WordsFault.{WordsFault}
 use Rattle.command_line.specs.declared.fault.WordsFault.TheVariants.{Help, Version, Refused}
 use Rattle.command_line.specs.declared.fault.WordsFault.TheVariants.{NoMemory}
-use Rattle.command_line.specs.Meaning.{AsksFor, IsCommand, IsNumberIn}
+use Rattle.command_line.specs.Meaning.{AsksFor, IsCommand, IsKeptSeal, IsNumberIn, IsSealGiven}
 
 -- what is reported of an error of clap's by its kind; out of memory may stand in place of its text
 abbrev pub IsTold : ErrorKind → WordsFault → Type 0
@@ -20,6 +21,14 @@ IsTold kind NoMemory = Unit {0}
 -- the text, if there is one, writes no number from low to high
 abbrev pub NoNumberIn : ℕ → ℕ → Option Text → Type 0
 NoNumberIn low high text = (n : ℕ) → ¬ IsNumberIn low high n text
+
+-- the text names no line with a seal
+abbrev pub NoKeptSeal : Text → Type 0
+NoKeptSeal text = (kept : KeptSeal) → ¬ IsKeptSeal text kept
+
+-- and there is one
+abbrev pub NoSealGiven : Option Text → Type 0
+NoSealGiven given = (seal : Option KeptSeal) → ¬ IsSealGiven given seal
 
 -- the subcommand of this name, with these rows of values, asks for no command
 abbrev pub NoneAskedFor : Text → List Row → Type 0

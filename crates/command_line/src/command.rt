@@ -29,11 +29,9 @@ pub enum Command<'w> {
         base: &'w str,
         new: &'w str,
     },
-    /// `verify DB JOURNAL`: whether the office in a file is the one that a journal tells.
-    Verify {
-        database: &'w str,
-        journal: &'w str,
-    },
+    /// `verify DB JOURNAL [--seal N:HEX]`: whether the office in a file is the one that a journal
+    /// tells.
+    Verify(VerifyWords<'w>),
     /// `history JOURNAL [--team T] [--profile P]`: what a journal tells, a line an event.
     History(HistoryWords<'w>),
     /// `evidence JOURNAL TEAM PROFILE N`: on what a revision was issued.
@@ -53,6 +51,26 @@ pub struct ExecveWords<'w> {
     pub file_inheritable: Option<&'w str>,
     /// Whether there is `--file-effective`.
     pub file_effective: bool,
+}
+
+/// The values of `verify`.
+#[derive(Clone, Copy, Debug)]
+pub struct VerifyWords<'w> {
+    /// DB, the file of the office.
+    pub database: &'w str,
+    /// JOURNAL, its file.
+    pub journal: &'w str,
+    /// The N:HEX of `--seal`.
+    pub seal: Option<KeptSeal>,
+}
+
+/// The seal that a line of a journal had.
+#[derive(Clone, Copy, Debug)]
+pub struct KeptSeal {
+    /// N, the number of the line, from 1.
+    pub line: u64,
+    /// HEX, its 64 lower-case hexadecimal digits.
+    pub seal: [u8; 64],
 }
 
 /// The values of `history`.

@@ -15,10 +15,13 @@ mod history;
 mod init;
 mod migrate;
 mod parts;
+mod seal;
 mod serve;
 mod verify;
 mod words;
 
-pub use command::{Command, EvidenceWords, ExecveWords, HistoryWords, InitWords, ServeWords};
+pub use command::{
+    Command, EvidenceWords, ExecveWords, HistoryWords, InitWords, KeptSeal, ServeWords, VerifyWords,
+};
 pub use fault::WordsFault;
 pub use words::read_words;

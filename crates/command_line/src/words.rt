@@ -109,6 +109,17 @@ fn command_of<'w>(
     }
 }
 
+// What is said of values that ask for no command. `clap` has seen to all but that N:HEX is of its
+// form.
+fn refusal_of(alloc: Global, given: &ArgMatches<'_>) -> Result<String, AllocError> {
+    match given.get_str("seal") {
+        Some(text) => format!(in alloc;
+            "error: invalid value '{text}' for '--seal <N:HEX>'\n\nFor more information, try '--help'.\n"
+        ),
+        None => String::from_str(alloc, "error: a value is missing\n"),
+    }
+}
+
 // What was found asks for; a refusal where it is no command.
 fn asked_for<'w>(alloc: Global, matches: &ArgMatches<'w>) -> Result<Command<'w>, WordsFault>
     ensures command { IfOk result (IsCommand (subcommand_rows_of matches.now)) }
@@ -120,7 +131,7 @@ fn asked_for<'w>(alloc: Global, matches: &ArgMatches<'w>) -> Result<Command<'w>,
     match command_of(alloc, name, given)? {
         Some(command) => Ok(command),
         None => {
-            let text = String::from_str(alloc, "error: a value is missing\n")?;
+            let text = refusal_of(alloc, given)?;
             Err(WordsFault::Refused(text))
         }
     }

@@ -4,6 +4,8 @@
 #[cfg(test)]
 mod documents;
 #[cfg(test)]
+mod journals;
+#[cfg(test)]
 mod limits;
 #[cfg(test)]
 mod offices;

@@ -18,3 +18,17 @@ pub(crate) fn assert_said(
     assert_eq!(rt; said.as_str(), wanted, "{line}");
     Ok(())
 }
+
+// What is said to a command line begins so, and where that is no output there is none.
+pub(crate) fn assert_begun(
+    rt: &impl Abort,
+    host: &HostRuntime,
+    line: &str,
+    wanted: &str,
+) -> Result<(), Fail> {
+    let said = said(host, line, Source::new(b"", Giving::Whole))?;
+    let has_output = !said.as_str().ends_with("> ");
+    let begins = said.as_str().starts_with(wanted) && wanted.contains("> ") == has_output;
+    assert!(rt; begins, "{line}: {said}");
+    Ok(())
+}

@@ -1,6 +1,6 @@
 // Words that are no command line, help, the stream that each text goes to, and an output that fails.
 
-use crate::said::assert_said;
+use crate::said::{assert_begun, assert_said};
 use said_commands::{founding, run_here, said};
 use std::io::{ErrorKind, Write};
 use std::process::Abort;
@@ -20,15 +20,6 @@ office serve team.db --requests 1000001
 office serve team.db --requests many
 office serve team.db --port 65536 --requests 1
 office serve team.db";
-
-// What is said to a command line begins so, and where that is no output there is none.
-fn assert_begun(rt: &impl Abort, host: &HostRuntime, line: &str, wanted: &str) -> Result<(), Fail> {
-    let said = said(host, line, Source::new(b"", Giving::Whole))?;
-    let has_output = !said.as_str().ends_with("> ");
-    let begins = said.as_str().starts_with(wanted) && wanted.contains("> ") == has_output;
-    assert!(rt; begins, "{line}: {said}");
-    Ok(())
-}
 
 #[test]
 fn words_that_are_no_command_line_end_with_status_2(rt: HostRuntime) -> Result<(), Fail> {

@@ -33,7 +33,7 @@ module _ {X : Type 0} (m : Meaning X) where
   handled_bad s line fault is = record {
     survives = survives_none m s;
     policy = λ h office clean. is;
-    cause = λ h office clean. tt;
+    each = refl;
     office = λ h office. office;
     stands = λ h office clean stood. stood;
     crash = λ h office clean left may. may;
@@ -48,7 +48,7 @@ module _ {X : Type 0} (m : Meaning X) where
   handled_unread s line = record {
     survives = survives_none m s;
     policy = λ h office clean. tt;
-    cause = λ h office clean. tt;
+    each = refl;
     office = λ h office. office;
     stands = λ h office clean stood. stood;
     crash = λ h office clean left may. may;
@@ -60,7 +60,7 @@ module _ {X : Type 0} (m : Meaning X) where
   handled_answered old new line request answer asks handled = record {
     survives = handled.survives;
     policy = λ h office clean. (asks, handled.answer h office clean);
-    cause = handled.cause;
+    each = handled;
     office = handled.office;
     stands = handled.stands;
     crash = λ h office clean. left_by_one m (m.may_leave old) old new h request answer handled office clean (λ left may. may);

@@ -11,8 +11,8 @@ use Rattle.desk.specs.declared.outcome.Outcome.{Outcome}
 use Rattle.desk.specs.declared.outcome.Outcome.TheVariants.{Bad, NoMemory, Answered}
 use Rattle.desk.specs.Outcomes.{history_after_line, history_after_lines, requests_of, answers_of}
 use Rattle.desk.specs.Parts.{AreFirstOf}
-use Rattle.desk.specs.Left.{LeftAfterLine, LeftAfterLines, LeavesLast}
-use Rattle.desk.specs.Stands.{AreHandled}
+use Rattle.desk.specs.Left.{LeftAfterLine, LeftAfterLines}
+use Rattle.desk.specs.Stands.{AreHandled, LeavesLast}
 
 -- lines leave the history that the requests among them leave
 after_requests : (h : History) (os : List Outcome) → history_after_lines h os ≡ history_after_all h (requests_of os) (answers_of os)
@@ -51,11 +51,12 @@ module _ {X : Type 0} (m : Meaning X) where
   left_requests Before h (Answered r a ∷ os) rest left = left_requests (LeftAfterOne m Before h r a) (history_after h r a) os rest left
 
   pub leaves_last : (old new : X) (unread : Option (List ℕ)) (lines : List (List ℕ)) (os : List Outcome) → AreHandled m old new lines os → AreFirstOf unread lines
-      → (h : History) → m.is_of h old → LeavesOnly m h old → m.is_clean new → LeavesLast m h new unread
+      → (h : History) → m.is_of h old → LeavesOnly m h old → m.is_clean new → LeavesLast m h old new unread
   leaves_last old new unread lines os handled first h office only clean = record {
     lines = lines;
     first = first;
     outcomes = os;
+    handled = handled;
     policy = handled.policy h office clean;
     office = handled.office h office;
     left = λ rest may.

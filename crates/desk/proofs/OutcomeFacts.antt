@@ -1,14 +1,13 @@
 -- One more line is handled, and its answer is written, or cut short.
-use Rattle.std.proofs.Common.{◌≡◌, ◌∙◌, ℕ, ◌<◌, ◌≤◌, List, [], ◌∷◌, ◌++◌, Option, length, take, refl, sym, ap, subst, arith, append-nil, append_assoc, length-append}
+use Rattle.std.proofs.Common.{◌≡◌, ◌∙◌, ℕ, ◌<◌, List, [], ◌∷◌, ◌++◌, Option, length, take, refl, sym, ap, subst, arith, append-nil, append_assoc, length-append}
 use Rattle.std.proofs.KnownBytes.{Appends-nil, Appends-trans}
 use Rattle.std.specs.Io.KnownBytes.{Appends}
 use Rattle.streams.specs.Steps.{AppendsPart}
 use Rattle.office_policy.specs.History.{History}
 use Rattle.office_policy.specs.Runs.{history_after}
 use Rattle.office_policy.specs.Meaning.{Meaning}
-use Rattle.office_policy.specs.Handled.{UnlessFaulty, Stands, Survives}
-use Rattle.office_policy.specs.Ran.{HaveCauses, UnlessLastFaulty}
-use Rattle.office_policy.proofs.CauseFacts.{cause_after, causes_before}
+use Rattle.office_policy.specs.Handled.{IsHandled as IsRequestHandled, UnlessFaulty, Stands}
+use Rattle.office_policy.specs.Ran.{HandlesEach, UnlessLastFaulty}
 use Rattle.office_policy.proofs.SurvivalFacts.{survives_on, survives_none}
 use Rattle.review_policy.specs.declared.ask.Request.{Request}
 use Rattle.review_policy.specs.declared.answer.Answer.{Answer}
@@ -20,7 +19,7 @@ use Rattle.desk.specs.declared.outcome.Outcome.{Outcome}
 use Rattle.desk.specs.declared.outcome.Outcome.TheVariants.{Bad, NoMemory, Answered}
 use Rattle.desk.specs.Outcomes.{IsOutcome, history_after_line, told, AreOutcomes, history_after_lines, requests_of, answers_of, transcript}
 use Rattle.desk.specs.Left.{LeftAfterLines}
-use Rattle.desk.specs.Stands.{StandsAfterLine, LineHasCause, IsHandled, AreHandled, AreAnswered, AreCutShort}
+use Rattle.desk.specs.Stands.{StandsAfterLine, HandlesLine, IsHandled, AreHandled, AreAnswered, AreCutShort}
 use Rattle.desk.proofs.LeftFacts.{left_more_lines, left_by_more}
 
 outcomes_more : (h : History) (lines : List (List ℕ)) (os : List Outcome) (line : List ℕ) (o : Outcome) → AreOutcomes h lines os
@@ -93,19 +92,15 @@ module _ {X : Type 0} (m : Meaning X) where
       rw (after_more h os (Answered r a), answers_more os r a)
       (unless_last (answers_of os) a (Stands m (history_after (history_after_lines h os) r a) new) last)
 
-  causes_more : (old new : X) (h : History) (os : List Outcome) (o : Outcome) → HaveCauses m old new h (requests_of os) (answers_of os)
-      → LineHasCause m old new (history_after_lines h os) o → HaveCauses m old new h (requests_of (os ++ o ∷ [])) (answers_of (os ++ o ∷ []))
-  causes_more old new h [] (Bad fault) causes cause = tt
-  causes_more old new h [] NoMemory causes cause = tt
-  causes_more old new h [] (Answered r a) causes cause = (cause, tt)
-  causes_more old new h (Bad fault ∷ os) o causes cause = causes_more old new h os o causes cause
-  causes_more old new h (NoMemory ∷ os) o causes cause = causes_more old new h os o causes cause
-  causes_more old new h (Answered r a ∷ os) o causes cause = (causes.0, causes_more old new (history_after h r a) os o causes.1 cause)
-
-  line_after : (old mid new : X) (h : History) (o : Outcome) → m.is_clean mid → Survives m old mid → m.faults mid ≤ m.faults new → LineHasCause m mid new h o → LineHasCause m old new h o
-  line_after old mid new h (Bad fault) clean first after cause = tt
-  line_after old mid new h NoMemory clean first after cause = tt
-  line_after old mid new h (Answered r a) clean first after cause = cause_after m old mid new h r a clean first after cause
+  -- and one more line is handled
+  each_more : (old mid new : X) (os : List Outcome) (o : Outcome) → HandlesEach m old mid (requests_of os) (answers_of os) → HandlesLine m mid new o
+      → HandlesEach m old new (requests_of (os ++ o ∷ [])) (answers_of (os ++ o ∷ []))
+  each_more old mid new [] (Bad fault) each line = line ∙ each
+  each_more old mid new [] NoMemory each line = line ∙ each
+  each_more old mid new [] (Answered r a) each line = (new, subst (λ x. IsRequestHandled m x new r a) each line, refl)
+  each_more old mid new (Bad fault ∷ os) o each line = each_more old mid new os o each line
+  each_more old mid new (NoMemory ∷ os) o each line = each_more old mid new os o each line
+  each_more old mid new (Answered r a ∷ os) o each line = (each.0, each.1, each_more each.0 mid new os o each.2 line)
 
   pub handled_more : (old mid new : X) (lines : List (List ℕ)) (os : List Outcome) (line : List ℕ) (o : Outcome)
       → AreHandled m old mid lines os → IsHandled m mid new line o → AreHandled m old new (lines ++ line ∷ []) (os ++ o ∷ [])
@@ -113,11 +108,7 @@ module _ {X : Type 0} (m : Meaning X) where
     survives = survives_on m old mid new s.survives more.survives;
     policy = λ h office clean.
         outcomes_more h lines os line o (s.policy h office (more.survives.clean clean)) (more.policy (history_after_lines h os) (s.office h office) clean);
-    causes = λ h office clean.
-        let before = more.survives.clean clean in
-        let last = more.cause (history_after_lines h os) (s.office h office) clean in
-        causes_more old new h os o (causes_before m old mid new h (requests_of os) (answers_of os) more.survives.counts (s.causes h office before))
-        (line_after old mid new (history_after_lines h os) o before s.survives more.survives.counts last);
+    each = each_more old mid new os o s.each more.each;
     office = λ h office. subst (λ (x : History). m.is_of x new) (sym (after_more h os o)) (more.office (history_after_lines h os) (s.office h office));
     stands = λ h office clean.
         let before = s.stands h office (more.survives.clean clean) in
@@ -133,7 +124,7 @@ module _ {X : Type 0} (m : Meaning X) where
   none_handled s = record {
     survives = survives_none m s;
     policy = λ h office clean. tt;
-    causes = λ h office clean. tt;
+    each = refl;
     office = λ h office. office;
     stands = λ h office clean. tt;
     crash = λ h office clean left may. may;

@@ -14,9 +14,8 @@ use Rattle.desk.specs.declared.fault.DeskFault.{DeskFault}
 use Rattle.desk.specs.declared.fault.DeskFault.TheVariants.{Read, Write, TooManyReads, NoMemory}
 use Rattle.desk.specs.declared.outcome.Outcome.{Outcome}
 use Rattle.desk.specs.Outcomes.{told}
-use Rattle.desk.specs.Stands.{IsHandled, HasHandled, AreAnswered, AreCutShort, StopsWriting, StandsAfter, IsUnfinished}
+use Rattle.desk.specs.Stands.{IsHandled, HasHandled, AreAnswered, AreCutShort, LeavesLast, StopsWriting, StandsAfter, IsUnfinished}
 use Rattle.desk.specs.Parts.{AreFirstOf}
-use Rattle.desk.specs.Left.{LeavesLast}
 use Rattle.desk.specs.Written.{IsServed}
 use Rattle.desk.proofs.LeftFacts.{leaves_last}
 use Rattle.desk.proofs.OutcomeFacts.{answered_none, answered_more, cut_short, cut_before, none_handled, handled_more}
@@ -38,7 +37,7 @@ more_first (Some input) lines line next = (next.0, next.1 ∙ sym (append_assoc 
 module _ {X : Type 0} (m : Meaning X) where
   -- what a crash may leave, where it could leave only the office before
   abbrev pub LeavesIt : (old new : X) → (unread : Option (List ℕ)) → Type 0
-  LeavesIt old new unread = (h : History) → m.is_of h old → LeavesOnly m h old → m.is_clean new → LeavesLast m h new unread
+  LeavesIt old new unread = (h : History) → m.is_of h old → LeavesOnly m h old → m.is_clean new → LeavesLast m h old new unread
 
   -- the lines that were handed out are answered
   pub record Progress (old now : X) (held : Held) (unread rest before current : Option (List ℕ)) (number : ℕ) : Type 0 where

@@ -4,16 +4,18 @@ use Rattle.std.specs.Prelude.{length, take}
 use Rattle.std.specs.Io.KnownBytes.{Keeps, Appends, Consumes}
 use Rattle.office_policy.specs.History.{History}
 use Rattle.office_policy.specs.Runs.{history_after}
+use Rattle.office_policy.specs.Left.{AreLeft}
 use Rattle.office_policy.specs.Meaning.{Meaning}
-use Rattle.office_policy.specs.Handled.{UnlessFaulty, HasCause, Stands, Survives}
-use Rattle.office_policy.specs.Ran.{HaveCauses, UnlessLastFaulty}
+use Rattle.office_policy.specs.Handled.{IsHandled as IsRequestHandled}
+use Rattle.office_policy.specs.Handled.{UnlessFaulty, Stands, Survives}
+use Rattle.office_policy.specs.Ran.{HandlesEach, UnlessLastFaulty}
 use Rattle.streams.specs.Lines.{lines_of}
 use Rattle.desk.specs.declared.outcome.Outcome.{Outcome}
 use Rattle.desk.specs.declared.outcome.Outcome.TheVariants as came
 use Rattle.desk.specs.Left.{LeavesWithin, LeftAfterLine, LeftAfterLines}
 use Rattle.desk.specs.Outcomes.{IsOutcome, history_after_line, AreOutcomes, history_after_lines}
 use Rattle.desk.specs.Outcomes.{requests_of, answers_of, told, transcript}
-use Rattle.desk.specs.Parts.{IsCut}
+use Rattle.desk.specs.Parts.{AreFirstOf, IsCut}
 use Rattle.desk.specs.declared.fault.DeskFault.{DeskFault}
 use Rattle.desk.specs.declared.fault.DeskFault.TheVariants.{Read, Write, TooManyReads, NoMemory}
 
@@ -32,17 +34,18 @@ module _ {X : Type 0} (m : Meaning X) where
   StandsAfterLine h old new (came.Answered request answer) =
       UnlessFaulty answer (Stands m (history_after h request answer) new)
 
-  -- a fault other than `memory` in the answer has a cause
-  abbrev pub LineHasCause : (old new : X) → History → Outcome → Type 0
-  LineHasCause old new h (came.Bad fault) = Unit {0}
-  LineHasCause old new h came.NoMemory = Unit {0}
-  LineHasCause old new h (came.Answered request answer) = HasCause m old new h request answer
+  -- its request was handled as it is alone, so that a fault in the answer has a cause; a line that
+  -- asks nothing leaves the office as it is
+  abbrev pub HandlesLine : (old new : X) → Outcome → Type 0
+  HandlesLine old new (came.Bad fault) = new ≡ old
+  HandlesLine old new came.NoMemory = new ≡ old
+  HandlesLine old new (came.Answered request answer) = IsRequestHandled m old new request answer
 
   -- the line was handled, and this is what came of it
   pub record IsHandled (old new : X) (line : List ℕ) (outcome : Outcome) : Type 0 where
     pub survives : Survives m old new
     pub policy : (h : History) → m.is_of h old → m.is_clean new → IsOutcome h line outcome
-    pub cause : (h : History) → m.is_of h old → m.is_clean new → LineHasCause old new h outcome
+    pub each : HandlesLine old new outcome
     pub office : (h : History) → m.is_of h old → m.is_of (history_after_line h outcome) new
     pub stands : (h : History) → m.is_of h old → m.is_clean new → StandsAfterLine h old new outcome
     -- what a crash may leave
@@ -53,9 +56,8 @@ module _ {X : Type 0} (m : Meaning X) where
   pub record AreHandled (old new : X) (lines : List Bytes) (outcomes : List Outcome) : Type 0 where
     pub survives : Survives m old new
     pub policy : (h : History) → m.is_of h old → m.is_clean new → AreOutcomes h lines outcomes
-    -- and each fault other than `memory` in the answers has a cause
-    pub causes : (h : History) → m.is_of h old → m.is_clean new
-        → HaveCauses m old new h (requests_of outcomes) (answers_of outcomes)
+    -- and each request was handled as it is alone, on what the one before it left
+    pub each : HandlesEach m old new (requests_of outcomes) (answers_of outcomes)
     pub office : (h : History) → m.is_of h old → m.is_of (history_after_lines h outcomes) new
     -- it stands where the last request that was asked was answered by no fault
     pub stands : (h : History) → m.is_of h old → m.is_clean new
@@ -68,6 +70,19 @@ module _ {X : Type 0} (m : Meaning X) where
     pub lines : List (List ℕ)
     pub outcomes : List Outcome
     pub handled : AreHandled old new lines outcomes
+
+  -- the first lines of a stream were handled, and a crash leaves the office of the history after
+  -- them, or that office with one event more: that of a request among them which was answered by a
+  -- fault
+  pub record LeavesLast (h : History) (old new : X) (unread : Known) : Type 0 where
+    pub lines : List Bytes
+    pub first : AreFirstOf unread lines
+    pub outcomes : List Outcome
+    pub handled : AreHandled old new lines outcomes
+    pub policy : AreOutcomes h lines outcomes
+    pub office : m.is_of (history_after_lines h outcomes) new
+    pub left : LeavesWithin m new
+        (AreLeft m (history_after_lines h outcomes) (requests_of outcomes) (answers_of outcomes))
 
   -- the lines were handled, and just their transcript was written
   pub record AreAnswered (old new : X) (before after : Known) (lines : List Bytes) : Type 0 where

@@ -6,10 +6,9 @@ ghost use Rattle.office_policy.specs.Handled.{LeavesOnly};
 ghost use Rattle.streams.specs.Held.{Holds};
 ghost use Rattle.streams.specs.Lines.{first_line, lines_of};
 ghost use Rattle.json_requests.specs.Answers.{line_of};
-ghost use Rattle.desk.specs.Left.{LeavesLast};
 ghost use Rattle.desk.specs.Outcomes.{told};
 ghost use Rattle.desk.specs.declared.outcome.Outcome.{Outcome};
-ghost use Rattle.desk.specs.Stands.{IsHandled, HasHandled, AreAnswered, StandsAfter};
+ghost use Rattle.desk.specs.Stands.{IsHandled, HasHandled, AreAnswered, LeavesLast, StandsAfter};
 ghost use Rattle.desk.specs.Written.{IsServed, CountsServed};
 
 use crate::fault::DeskFault;
@@ -104,7 +103,7 @@ pub fn desk<H: Handler, R: Read, W: Write>(
     ensures handled { HasHandled H.meaning office.old office.new }
     ensures left { (h : History) → H.meaning.is_of h office.old → LeavesOnly H.meaning h office.old
         → H.meaning.is_clean office.new
-        → LeavesLast H.meaning h office.new (R.remaining reader.old.inner) }
+        → LeavesLast H.meaning h office.old office.new (R.remaining reader.old.inner) }
     ensures nothing { result ≡ Err (DeskFault.NoMemory 0) → office.new ≡ office.old }
     ensures read { IfErr result (λ e. (line : ℕ) → e ≡ DeskFault.Read line →
         reader.old.faults < reader.new.faults) }

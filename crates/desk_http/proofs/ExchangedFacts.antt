@@ -76,7 +76,7 @@ module _ {X : Type 0} (m : Meaning X) where
     count = refl;
     survives = survives_none m s;
     answers = λ h office clean. tt;
-    causes = λ h office clean. tt;
+    each = refl;
     office = λ h office. office;
     stands = λ h office clean. tt;
     kept = λ clean none. m.keeps_itself s;

@@ -60,20 +60,23 @@ module _ (Same : Type 0) (Handled : Request → Answer → Type 0) where
 -- ---- a crash
 
 module _ {X : Type 0} (m : Meaning X) (old new : X) (h : History) (office : m.is_of h old) (only : LeavesOnly m h old) (clean : m.is_clean new) where
-  stays_whole : new ≡ old → StaysWhole m h new
-  stays_whole same = subst (λ (x : X). StaysWhole m h x) (sym same) (office, only)
+  stays_whole : new ≡ old → StaysWhole m h old new
+  stays_whole same =
+      let both : m.is_of h new × LeavesOnly m h new = subst (λ (x : X). m.is_of h x × LeavesOnly m h x) (sym same) (office, only) in
+      (same, both.0, both.1)
 
-  left_by : (request : Request) (answer : Answer) → IsHandled m old new request answer → LeftByOne m h new request answer
-  left_by request answer step = (
-    step.answer h office clean,
-    step.office h office,
-    λ left may. left_of_one m old h (request ∷ []) (answer ∷ []) left only
-        (left_by_one m (m.may_leave old) old new h request answer step office clean (λ rest may. may) left may),
-  )
+  left_by : (request : Request) (answer : Answer) → IsHandled m old new request answer → LeftByOne m h old new request answer
+  left_by request answer step = record {
+    handled = step;
+    answer_is = step.answer h office clean;
+    office = step.office h office;
+    left = λ left may. left_of_one m old h (request ∷ []) (answer ∷ []) left only
+        (left_by_one m (m.may_leave old) old new h request answer step office clean (λ rest may. may) left may);
+  }
 
   module _ (unread rest : Option (List ℕ)) where
     outcome_left : (r : Result Outcome HttpFault) → HasOutcome (new ≡ old) (IsHandled m old new) unread rest r
-        → HasOutcome (StaysWhole m h new) (LeftByOne m h new) unread rest r
+        → HasOutcome (StaysWhole m h old new) (LeftByOne m h old new) unread rest r
     outcome_left (Ok (Refused why)) has = (has.0, stays_whole has.1)
     outcome_left (Ok (Answered request answer)) has = (has.0, left_by request answer has.1)
     outcome_left (Ok NoMemory) has = stays_whole has
@@ -84,7 +87,7 @@ module _ {X : Type 0} (m : Meaning X) (old new : X) (h : History) (office : m.is
     outcome_left (Err (fault.NoMemory status)) has = has
 
     pub served_left : (before after : Option (List ℕ)) (result : Result ℕ HttpFault) → IsServed (new ≡ old) (IsHandled m old new) unread rest before after result
-        → IsServed (StaysWhole m h new) (LeftByOne m h new) unread rest before after result
+        → IsServed (StaysWhole m h old new) (LeftByOne m h old new) unread rest before after result
     served_left before after result served =
-        served_as (HasOutcome (new ≡ old) (IsHandled m old new) unread rest) (HasOutcome (StaysWhole m h new) (LeftByOne m h new) unread rest)
+        served_as (HasOutcome (new ≡ old) (IsHandled m old new) unread rest) (HasOutcome (StaysWhole m h old new) (LeftByOne m h old new) unread rest)
         outcome_left before after result served

@@ -6,7 +6,7 @@ use Rattle.review_policy.specs.declared.answer.Answer.{Answer}
 use Rattle.office_policy.specs.History.{History}
 use Rattle.office_policy.specs.Runs.{IsAnswer, history_after}
 use Rattle.office_policy.specs.Meaning.{Meaning}
-use Rattle.office_policy.specs.Handled.{LeavesOnly}
+use Rattle.office_policy.specs.Handled.{IsHandled, LeavesOnly}
 use Rattle.office_policy.specs.Left.{AreLeft}
 use Rattle.streams.specs.Counts.{one_more}
 use Rattle.streams.specs.Steps.{AppendsPart}
@@ -83,18 +83,19 @@ module _ (Same : Type 0) (Handled : Request → Answer → Type 0) where
 
 -- ---- what a crash leaves, where it left the office of a history and no other before the exchange
 
-module _ {X : Type 0} (m : Meaning X) (h : History) (new : X) where
-  -- it is the office of that history, and a crash leaves just that
+module _ {X : Type 0} (m : Meaning X) (h : History) (old new : X) where
+  -- it is what it was, the office of that history, and a crash leaves just that
   abbrev pub StaysWhole : Type 0
-  StaysWhole = m.is_of h new × LeavesOnly m h new
+  StaysWhole = (new ≡ old) × m.is_of h new × LeavesOnly m h new
 
-  -- it is the office of the history after the request; a crash leaves just that, or after a fault
-  -- that with the event of the request
-  abbrev pub LeftByOne : Request → Answer → Type 0
-  LeftByOne request answer =
-      IsAnswer h request answer × m.is_of (history_after h request answer) new
-      × ((left : m.Left) → m.may_leave new left
-      → AreLeft m (history_after h request answer) (request ∷ []) (answer ∷ []) left)
+  -- the request was handled with this answer, and it is the office of the history after it; a crash
+  -- leaves just that, or after a fault that with the event of the request
+  pub record LeftByOne (request : Request) (answer : Answer) : Type 0 where
+    pub handled : IsHandled m old new request answer
+    pub answer_is : IsAnswer h request answer
+    pub office : m.is_of (history_after h request answer) new
+    pub left : (left : m.Left) → m.may_leave new left
+        → AreLeft m (history_after h request answer) (request ∷ []) (answer ∷ []) left
 
 -- only where the writer failed is there one fault more
 abbrev pub TellCounts : ℕ → ℕ → Result ℕ HttpFault → Type 0

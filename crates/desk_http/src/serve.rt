@@ -111,7 +111,8 @@ pub fn serve_one<H: Handler, R: Read, W: Write>(
         (W.contents writer.old.inner) (W.contents writer.new.inner) result }
     ensures left { (h : History) → H.meaning.is_of h office.old → LeavesOnly H.meaning h office.old
         → H.meaning.is_clean office.new
-        → IsServed (StaysWhole H.meaning h office.new) (LeftByOne H.meaning h office.new)
+        → IsServed (StaysWhole H.meaning h office.old office.new)
+        (LeftByOne H.meaning h office.old office.new)
         (R.remaining reader.old.inner) (R.remaining reader.new.inner)
         (W.contents writer.old.inner) (W.contents writer.new.inner) result }
     ensures read { ReadCounts reader.old.calls reader.new.calls (reader.old.calls + 600000)

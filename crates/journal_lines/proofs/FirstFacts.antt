@@ -1,20 +1,10 @@
 -- The first line of a journal, and what it tells.
-use Rattle.std.proofs.Common.{◌≡◌, ◌∙◌, ℕ, ◌+◌, List, ◌++◌, ◌∷◌, Option, Some, None, refl, ap}
+use Rattle.std.proofs.Common.{◌≡◌, ℕ, ◌+◌, List, ◌++◌, ◌∷◌, Option, Some, None, refl}
 use Rattle.std.specs.Prelude.{option_and_then, option_map}
-use Rattle.streams.proofs.LineFacts.{after_line-feed, first_line-feed}
-use Rattle.streams.specs.Lines.{after_line, first_line}
 use Rattle.office_policy.specs.History.{Event}
-use Rattle.journal_lines.specs.Forms.{IsFormed}
 use Rattle.journal_lines.specs.Journal.{taken}
-use Rattle.journal_lines.specs.Lines.{Line, line_of, text_of}
+use Rattle.journal_lines.specs.Lines.{Line}
 use Rattle.journal_lines.specs.Told.{standing, told}
-use Rattle.journal_lines.proofs.JournalFacts.{no_feed, split}
-
-pub first_is : (l : Line) (rest : List ℕ) → IsFormed l → first_line (line_of l ++ rest) ≡ text_of l
-first_is l rest formed = ap first_line (split l rest) ∙ first_line-feed (text_of l) rest (no_feed l formed)
-
-pub after_is : (l : Line) (rest : List ℕ) → IsFormed l → after_line (line_of l ++ rest) ≡ rest
-after_is l rest formed = ap after_line (split l rest) ∙ after_line-feed (text_of l) rest (no_feed l formed)
 
 -- ---- what the first of the lines tells
 

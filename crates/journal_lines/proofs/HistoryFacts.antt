@@ -1,12 +1,14 @@
 -- What a journal tells is its history.
 use Rattle.std.proofs.Common.{◌≡◌, ◌∙◌, ℕ, ◌+◌, List, [], ◌∷◌, ◌++◌, Option, Some, None, refl, sym, ap, append_assoc, append-nil, map}
-use Rattle.std.specs.Prelude.{flat_map, option_and_then, option_map, reverse}
+use Rattle.std.specs.Prelude.{option_and_then, option_map, reverse}
 use Rattle.std.proofs.lemmas.List.{map-append, reverse-append}
 use Rattle.office_policy.specs.History.{Event, History}
 use Rattle.office_policy.specs.Runs.{with_event}
-use Rattle.journal_lines.specs.Journal.{IsJournalOf, history_from, history_in, taken}
-use Rattle.journal_lines.specs.Lines.{Line, line_of}
-use Rattle.journal_lines.specs.Told.{IsBegun, IsJournalTo, IsTold, Place, history_told, standing, told}
+use Rattle.sealed_log.specs.Sealed.{no_seal, sealed_text}
+use Rattle.journal_lines.specs.Journal.{IsJournalOf, IsSealedJournal, history_from, history_in, taken}
+use Rattle.journal_lines.specs.Lines.{Line, text_of}
+use Rattle.journal_lines.proofs.ToldFacts.{still_known}
+use Rattle.journal_lines.specs.Told.{Ends, GoesOn, IsBegun, IsJournalTo, IsTold, Place, history_told, standing, start, text_behind, told}
 
 abbrev Placed : Type 0
 Placed = ℕ × Event
@@ -54,17 +56,43 @@ adds (line ∷ lines) before held es h tells = at (adds lines) (taken held line)
 pub lines_tell : (lines : List Line) (es : List (ℕ × Event)) → told 0 None lines ≡ Some es → history_in lines ≡ Some (history_told es)
 lines_tell lines es tells = adds lines 0 None es [] tells ∙ ap (λ l. Some l) (append-nil (history_told es))
 
-pub journal_told : (text : List ℕ) (es : List (ℕ × Event)) → IsTold 0 None text es → IsJournalOf text (history_told es)
-journal_told text es t = record { lines = t.lines; formed = t.formed; says = t.says; history = lines_tell t.lines es t.tells }
+pub journal_told : (text : List ℕ) (es : List (ℕ × Event)) → IsTold 0 None no_seal text es → IsJournalOf text (history_told es)
+journal_told text es t = record {
+  bodies = map text_of t.lines;
+  is = t.says;
+  says = record { lines = t.lines; entries = t.entries; are = refl; history = lines_tell t.lines es t.tells };
+}
 
-pub before_place : (text : List ℕ) (p : Place) (es : List (ℕ × Event)) → IsBegun 0 None text p es → IsJournalTo p text (history_told (es ++ standing p.taken p.held))
+pub before_place : (text : List ℕ) (p : Place) (es : List (ℕ × Event)) → IsBegun 0 None no_seal text p es → IsJournalTo p text (history_told (es ++ standing p.taken p.held))
 before_place text p es b = record {
-  front = flat_map line_of b.lines;
+  front = text_behind no_seal b.lines;
   rest = b.rest;
   parts = b.says;
   left = b.left;
-  journal = record { lines = b.lines; formed = b.formed; says = refl; history = lines_tell b.lines (es ++ standing p.taken p.held) b.tells };
+  journal = record {
+    bodies = map text_of b.lines;
+    is = refl;
+    says = record { lines = b.lines; entries = b.entries; are = refl; history = lines_tell b.lines (es ++ standing p.taken p.held) b.tells };
+  };
+  sealed = b.sealed;
 }
+
+-- what was read to the end is all of the journal
+pub read_whole : (text : List ℕ) (here end : Place) (es : List (ℕ × Event)) → GoesOn (start (Some text)) here es → Ends here end → IsSealedJournal text (history_told es) end.seal
+read_whole text here end es on ends =
+    let begun : IsBegun 0 None no_seal text end (es ++ []) = on.begins end [] ends.begins in
+    let tells : told 0 None begun.lines ≡ Some es =
+    begun.tells ∙ ap (λ (held : Option Event). Some ((es ++ []) ++ standing end.taken held)) ends.held ∙ ap (λ l. Some l) (append-nil (es ++ []) ∙ append-nil es) in
+    let left : end.left ≡ Some [] = still_known (start (Some text)) here es (end.left ≡ Some []) on ends.left in
+    let none : begun.rest ≡ [] = let both : ◌≡◌ {A = Option (List ℕ)} (Some begun.rest) (Some []) = sym begun.left ∙ left in cc in
+    record {
+      journal = record {
+        bodies = map text_of begun.lines;
+        is = begun.says ∙ ap (λ (l : List ℕ). text_behind no_seal begun.lines ++ l) none ∙ append-nil (text_behind no_seal begun.lines);
+        says = record { lines = begun.lines; entries = begun.entries; are = refl; history = lines_tell begun.lines es tells };
+      };
+      sealed = begun.sealed;
+    }
 
 -- ---- each history is told
 
@@ -83,8 +111,9 @@ told_by (line ∷ lines) before held g h is = at (told_by lines) (taken held lin
         let rest = further (before + 1) t.1 (with_event t.0 g) h given in
         (standing before t.0 ++ rest.0, ap (λ o. option_map (λ es. standing before t.0 ++ es) o) rest.1)
 
-pub journal_tells : (text : List ℕ) (h : History) → IsJournalOf text h → (es : List (ℕ × Event)) × IsTold 0 None text es × (h ≡ history_told es)
+pub journal_tells : (text : List ℕ) (h : History) → IsJournalOf text h → (es : List (ℕ × Event)) × IsTold 0 None no_seal text es × (h ≡ history_told es)
 journal_tells text h is =
-    let all = told_by is.lines 0 None [] h is.history in
-    let both : ◌≡◌ {A = Option History} (Some h) (Some (history_told all.0)) = sym is.history ∙ lines_tell is.lines all.0 all.1 in
-    (all.0, record { lines = is.lines; formed = is.formed; says = is.says; tells = all.1 }, cc)
+    let says = is.says in
+    let all = told_by says.lines 0 None [] h says.history in
+    let both : ◌≡◌ {A = Option History} (Some h) (Some (history_told all.0)) = sym says.history ∙ lines_tell says.lines all.0 all.1 in
+    (all.0, record { lines = says.lines; entries = says.entries; says = is.is ∙ ap sealed_text says.are; tells = all.1 }, cc)

@@ -7,8 +7,8 @@ pub mod NumberFacts
 pub mod LineFacts
 pub mod LineExamples
 pub mod NoFeeds
+pub mod Lengths
 pub mod JournalFacts
-pub mod ThroughFacts
 pub mod FirstFacts
 pub mod ToldFacts
 pub mod StepFacts

@@ -1,10 +1,10 @@
 -- The text of a line has no control character, so no line feed.
-use Rattle.std.proofs.Common.{◌≡◌, ℕ, ◌<◌, ◌≤◌, ◌^◌, ◌+◌, ◌%◌, List, [], ◌∷◌, ◌++◌, map, Bool, true, false, decimal, refl, arith, inl, inr, le-leb, leb-true, All}
+use Rattle.std.proofs.Common.{◌≡◌, ◌≢◌, ℕ, ◌<◌, ◌≤◌, ◌^◌, ◌+◌, ◌%◌, List, [], ◌∷◌, ◌++◌, map, Bool, true, false, decimal, refl, arith, inl, inr, le-leb, leb-true, All}
 use Rattle.std.specs.Prelude.{nat_le}
 use Rattle.std.specs.List.{list_all}
 use Rattle.std.proofs.lemmas.Bool.{and_parts, cases_lt}
 use Rattle.std.proofs.lemmas.Fmt.{decimal_by_steps}
-use Rattle.std.proofs.lemmas.List.Elements.{All-nil, All-cons}
+use Rattle.std.proofs.lemmas.List.Elements.{All-nil, All-cons, All-weaker}
 use Rattle.json.proofs.Printed.Strings.{escape_byte_plain}
 use Rattle.json.specs.Print.{escape, escape_byte, quoted}
 use Rattle.serde_json.specs.Data.{unsigned, negative, float, Data, null, boolean, number, string, array, object, Items, no_items, item, Members, no_members, member}
@@ -13,6 +13,7 @@ use Rattle.serde_json.specs.Written.{comma_if, compact_text, items_text, members
 use Rattle.cap_sets.specs.Capability.{names_of}
 use Rattle.office_policy.specs.History.{founded, enrolled, submitted, voted, issued, withdrawn, adopted, held, released}
 use Rattle.office_policy.specs.Formed.{IsNumber}
+use Rattle.streams.specs.Lines.{NoFeed}
 use Rattle.journal_lines.specs.Forms.{IsFormed}
 use Rattle.journal_lines.specs.Lines.{Line, happened, strike, line_data, role_words, text_of}
 use Rattle.journal_lines.proofs.Tables.{holds_below, each_below}
@@ -53,7 +54,7 @@ digits_printed n small = decimal_by_steps (λ _ ds. are_printed ds ≡ true) (λ
 
 -- its numbers are whole and fit 64 bits
 abbrev mutual
-  HasSmall : Data → Type 0
+  pub HasSmall : Data → Type 0
   HasSmall null = Unit {0}
   HasSmall (boolean b) = Unit {0}
   HasSmall (number (unsigned n)) = n < 2 ^ 64
@@ -63,11 +64,11 @@ abbrev mutual
   HasSmall (array ds) = ItemsHaveSmall ds
   HasSmall (object ms) = MembersHaveSmall ms
 
-  ItemsHaveSmall : Items → Type 0
+  pub ItemsHaveSmall : Items → Type 0
   ItemsHaveSmall no_items = Unit {0}
   ItemsHaveSmall (item d ds) = HasSmall d × ItemsHaveSmall ds
 
-  MembersHaveSmall : Members → Type 0
+  pub MembersHaveSmall : Members → Type 0
   MembersHaveSmall no_members = Unit {0}
   MembersHaveSmall (member k d ms) = HasSmall d × MembersHaveSmall ms
 
@@ -105,7 +106,7 @@ texts_small (text ∷ texts) = (tt, texts_small texts)
 number_small : (n : ℕ) → IsNumber n → n < 2 ^ 64
 number_small n h = let low = h.0 in let high = h.1 in omega arith
 
-line_small : (l : Line) → IsFormed l → HasSmall (line_data l)
+pub line_small : (l : Line) → IsFormed l → HasSmall (line_data l)
 line_small (happened (founded name team digest listed)) h = (tt, (tt, (texts_small (names_of listed), (tt, (tt, tt)))))
 line_small (happened (enrolled caller name team roles digest)) h = (tt, (tt, (tt, (texts_small (role_words roles), (tt, (tt, tt))))))
 line_small (happened (submitted caller p text)) h = (tt, (tt, (tt, (tt, (tt, tt)))))
@@ -132,3 +133,6 @@ all_from (x ∷ bytes) h =
 
 pub no_controls : (l : Line) → IsFormed l → All (λ byte. 32 ≤ byte) (text_of l)
 no_controls l h = all_from (text_of l) (line_printed l h)
+
+pub no_feed : (l : Line) → IsFormed l → NoFeed (text_of l)
+no_feed l h = All-weaker (λ byte. 32 ≤ byte) (λ byte. byte ≢ 10) (λ byte above same. omega arith) (text_of l) (no_controls l h)

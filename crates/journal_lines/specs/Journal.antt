@@ -1,10 +1,11 @@
 -- What a journal says: its lines, the oldest first, and the events of them that stand.
-use Rattle.std.specs.Prelude.{◌≡◌, ℕ, List, [], ◌∷◌, Option, Some, None, option_and_then, flat_map}
+use Rattle.std.specs.Prelude.{◌≡◌, ℕ, List, [], ◌∷◌, Option, Some, None, option_and_then, map}
 use Rattle.std.specs.Prelude.{All}
+use Rattle.sealed_log.specs.Sealed.{IsBody, sealed_text, seal_of}
 use Rattle.office_policy.specs.History.{Event, History}
 use Rattle.office_policy.specs.Runs.{with_event}
 use Rattle.journal_lines.specs.Forms.{IsFormed}
-use Rattle.journal_lines.specs.Lines.{Line, happened, strike, line_of}
+use Rattle.journal_lines.specs.Lines.{Line, happened, strike, text_of}
 
 -- an event is held back until the next line, which may strike it out: the event that stands by
 -- the next line, if one does, and the one that is held back then; none where nothing is struck out
@@ -23,9 +24,25 @@ history_from h held (line ∷ lines) =
 abbrev pub history_in : List Line → Option History
 history_in lines = history_from [] None lines
 
--- the text is that of lines with their forms, and these are their events that stand
-pub record IsJournalOf (text : List ℕ) (h : History) : Type 0 where
+-- a line that can stand in a journal
+pub record IsEntry (line : Line) : Type 0 where
+  pub formed : IsFormed line
+  pub body : IsBody (text_of line)
+
+-- the bodies are those of such lines, and these are their events that stand
+pub record Says (bodies : List (List ℕ)) (h : History) : Type 0 where
   pub lines : List Line
-  pub formed : All IsFormed lines
-  pub says : text ≡ flat_map line_of lines
+  pub entries : All IsEntry lines
+  pub are : bodies ≡ map text_of lines
   pub history : history_in lines ≡ Some h
+
+-- the text is that of such bodies, each sealed
+pub record IsJournalOf (text : List ℕ) (h : History) : Type 0 where
+  pub bodies : List (List ℕ)
+  pub is : text ≡ sealed_text bodies
+  pub says : Says bodies h
+
+-- it is, and this is its seal
+pub record IsSealedJournal (text : List ℕ) (h : History) (seal : List ℕ) : Type 0 where
+  pub journal : IsJournalOf text h
+  pub sealed : seal ≡ seal_of journal.bodies

@@ -9,3 +9,4 @@ pub mod Journal
 pub mod Reading
 pub mod Told
 pub mod Steps
+pub mod FaultTexts

@@ -1,6 +1,6 @@
 -- The lines of a journal: compact JSON, with the members of each object in byte order of their
 -- names.
-use Rattle.std.specs.Prelude.{ℕ, List, ◌∷◌, [], ◌++◌, Bool, true, false, map, filter, if◌then◌else◌}
+use Rattle.std.specs.Prelude.{ℕ, List, ◌∷◌, [], Bool, true, false, map, filter, if◌then◌else◌}
 use Rattle.std.specs.Prelude.{codes}
 use Rattle.serde_json.specs.Data.{Data, string, object, Members, no_members, member}
 use Rattle.serde_json.specs.Written.{compact_text}
@@ -101,10 +101,6 @@ abbrev pub line_data : Line → Data
 line_data (happened e) = event_data e
 line_data strike = object (kind_member Strike no_members)
 
--- the text of a line, without its line feed
+-- the text of a line, which is the body of a sealed one
 unfoldable pub text_of : Line → List ℕ
 text_of line = compact_text (line_data line)
-
--- a line with its line feed
-unfoldable pub line_of : Line → List ℕ
-line_of line = text_of line ++ 10 ∷ []

@@ -1,38 +1,56 @@
 //! A journal, read as a stream: its events that stand, the oldest first.
 
-ghost use Rattle.std.specs.Prelude.{◌≡◌, ◌<◌, ◌^◌, ◌-◌, None};
-ghost use Rattle.std.specs.IoError.{error_kind};
+ghost use Rattle.std.specs.Prelude.{◌≡◌, ◌<◌, ◌^◌, ◌-◌, IfErr, None, option_map};
 ghost use Rattle.journal_lines.specs.Reading.{held};
-ghost use Rattle.journal_lines.specs.Steps.{IsLast, ReadsText, Steps, input_fault, line_fault};
-ghost use Rattle.journal_lines.specs.Told.{Gives, KeepsFault, place, start};
+ghost use Rattle.journal_lines.specs.Steps.{IsLast, Steps, body_fault, line_fault};
+ghost use Rattle.journal_lines.specs.Told.{Gives, KeepsFault, Leaves, held_at, place};
+ghost use Rattle.journal_lines.specs.Told.{placed_meant, start, without_held};
 
 use crate::reader::{Faulty, Reader};
 use office_policy::Event;
+use sealed_log::{NoBody, Seal, no_seal, read_body};
 use std::alloc::Global;
-use std::io;
-use std::io::{BufRead, ErrorKind};
+use std::error::Error;
+use std::fmt;
+use std::io::BufRead;
 use std::mem::replace;
-use thiserror::Error;
 
-/// Why a journal can't be read on.
-#[derive(Clone, Copy, Debug, Drop, PartialEq, Eq, Error)]
+/// Why a journal can't be read on. Its text is one word.
+#[derive(Clone, Copy, Debug, Drop, PartialEq, Eq)]
 pub enum Unreadable {
-    /// The text of the line is that of no line.
-    #[error("not-a-line")]
+    /// The line is too long, or its body is that of none.
     NotALine,
     /// The line strikes out the one before it, which says nothing that happened.
-    #[error("nothing-to-strike")]
     NothingToStrike,
+    /// The line isn't sealed behind those before it.
+    Unsealed,
     /// The journal ends within the line: it has no line feed.
-    #[error("torn-line")]
     TornLine,
     /// The input failed, or gave 2^64 - 1 lines. No contract can say when.
-    #[error("read")]
     Read,
     /// There was no memory to read the line. No contract can say when.
-    #[error("memory")]
     NoMemory,
 }
+
+impl fmt::Display for Unreadable {
+    ghost use Rattle.std.specs.Prelude.{Some};
+    ghost use Rattle.journal_lines.specs.FaultTexts.{unreadable_word};
+
+    ghost output = { λ fault. Some (unreadable_word fault) };
+
+    fn fmt<W: fmt::Write>(&self, f: &mut fmt::Formatter<W>) -> fmt::Result {
+        f.write_str(match self {
+            Unreadable::NotALine => "not-a-line",
+            Unreadable::NothingToStrike => "nothing-to-strike",
+            Unreadable::Unsealed => "unsealed",
+            Unreadable::TornLine => "torn-line",
+            Unreadable::Read => "read",
+            Unreadable::NoMemory => "memory",
+        })
+    }
+}
+
+impl Error for Unreadable {}
 
 impl From<Faulty> for Unreadable {
     ghost from_gives = { λ fault e. e ≡ line_fault fault };
@@ -42,6 +60,20 @@ impl From<Faulty> for Unreadable {
             Faulty::NotALine => Unreadable::NotALine,
             Faulty::NothingToStrike => Unreadable::NothingToStrike,
             Faulty::NoMemory => Unreadable::NoMemory,
+        }
+    }
+}
+
+impl From<NoBody> for Unreadable {
+    ghost from_gives = { λ fault e. e ≡ body_fault fault };
+
+    fn from(fault: NoBody) -> Unreadable {
+        match fault {
+            NoBody::Unsealed => Unreadable::Unsealed,
+            NoBody::TooLong => Unreadable::NotALine,
+            NoBody::Torn => Unreadable::TornLine,
+            NoBody::Read => Unreadable::Read,
+            NoBody::NoMemory => Unreadable::NoMemory,
         }
     }
 }
@@ -63,35 +95,6 @@ enum Step {
     Ended,
 }
 
-// Why the input couldn't be read.
-fn fault_of(error: &io::Error) -> Unreadable
-    ensures { result ≡ input_fault (error_kind error.now) }
-{
-    match error.kind() {
-        ErrorKind::OutOfMemory => Unreadable::NoMemory,
-        _ => Unreadable::Read,
-    }
-}
-
-/// Reads the text of the next line, without its line feed; false where no byte is left.
-///
-/// # Errors
-///
-/// `TornLine` where bytes are left, but no line feed; or the input or memory fails.
-pub fn read_text<R: BufRead>(input: &mut R, text: &mut Vec<u8>) -> Result<bool, Unreadable>
-    ensures { ReadsText (R.remaining input.old) (R.remaining input.new) text.new.items result }
-{
-    text.clear();
-    match input.read_until(b'\n', text) {
-        Ok(_) => match text.pop() {
-            Some(b'\n') => Ok(true),
-            Some(_) => Err(Unreadable::TornLine),
-            None => Ok(false),
-        },
-        Err(error) => Err(fault_of(&error)),
-    }
-}
-
 // What stands at the end, by the line of this number.
 fn last(reader: &mut Reader, line: u64) -> Step
     ensures none_held { held reader.new ≡ None }
@@ -109,6 +112,7 @@ fn last(reader: &mut Reader, line: u64) -> Step
 pub struct Events<R> {
     input: R,
     reader: Reader,
+    seal: Seal,
     text: Vec<u8>,
     taken: u64,
     fault: Option<Unreadable>,
@@ -123,6 +127,7 @@ impl<R: BufRead> Events<R> {
         Events {
             input,
             reader: Reader::new(),
+            seal: no_seal(),
             text: Vec::new(alloc),
             taken: 0,
             fault: None,
@@ -136,13 +141,22 @@ impl<R: BufRead> Events<R> {
         self.taken
     }
 
+    /// The seal of the lines that were taken.
+    pub fn seal(&self) -> Seal
+        ensures { result ≡ (place R.remaining self.now).seal }
+    {
+        self.seal
+    }
+
     // Takes the next line.
     fn step(&mut self, alloc: Global) -> Result<Step, Unreadable>
         requires { self.old.taken < 2 ^ 64 - 1 }
         ensures told { Steps (place R.remaining self.old) (place R.remaining self.new) result }
+        ensures leaves { IfErr result
+            (Leaves (place R.remaining self.old) (place R.remaining self.new)) }
         ensures fault { self.new.fault ≡ self.old.fault }
     {
-        if !read_text(&mut self.input, &mut self.text)? {
+        if !read_body(alloc, &mut self.input, &mut self.seal, &mut self.text)? {
             return Ok(last(&mut self.reader, self.taken));
         }
         let line = self.taken;
@@ -157,6 +171,8 @@ impl<R: BufRead> Events<R> {
     // Takes lines until an event stands.
     fn find(&mut self, alloc: Global) -> Result<Option<Placed>, Unreadable>
         ensures told { Gives (place R.remaining self.old) (place R.remaining self.new) result }
+        ensures leaves { IfErr result
+            (Leaves (place R.remaining self.old) (place R.remaining self.new)) }
         ensures fault { self.new.fault ≡ self.old.fault }
     {
         while self.taken < u64::MAX {
@@ -173,11 +189,13 @@ impl<R: BufRead> Events<R> {
     ///
     /// # Errors
     ///
-    /// The line behind those that were taken can't be, since it is no line, strikes out nothing or
-    /// has no line feed; or the input or memory fails. From then on it is the same error.
+    /// The line behind those that were taken can't be, since it is no line, strikes out nothing, isn't
+    /// sealed or has no line feed; or the input or memory fails. From then on it is the same error.
     pub fn next(&mut self, alloc: Global) -> Result<Option<Placed>, Unreadable>
         ensures told { self.old.fault ≡ None
             → Gives (place R.remaining self.old) (place R.remaining self.new) result }
+        ensures leaves { self.old.fault ≡ None → IfErr result
+            (Leaves (place R.remaining self.old) (place R.remaining self.new)) }
         ensures fault { KeepsFault self.old.fault self.new.fault result }
     {
         match self.fault {
@@ -189,6 +207,21 @@ impl<R: BufRead> Events<R> {
                     Err(fault)
                 }
             },
+        }
+    }
+
+    /// The event that is held back: that of the last line that was taken, where the next could strike
+    /// it out. After an error none can, so it stands as far as the journal can be read. It is held back
+    /// no longer.
+    pub fn held_back(&mut self) -> Option<Placed>
+        ensures held { option_map placed_meant result ≡ held_at (place R.remaining self.old) }
+        ensures place { place R.remaining self.new ≡ without_held (place R.remaining self.old) }
+        ensures fault { self.new.fault ≡ self.old.fault }
+    {
+        let line = self.taken;
+        match replace(&mut self.reader, Reader::new()).end() {
+            Some(event) => Some(Placed { line, event }),
+            None => None,
         }
     }
 }

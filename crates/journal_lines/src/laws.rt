@@ -3,17 +3,18 @@
 
 ghost use Rattle.std.specs.Prelude.{◌≡◌, ◌≤◌, [], ◌∷◌, ◌++◌, ℕ, List, All, IfSome, Some, None};
 ghost use Rattle.office_policy.specs.History.{Event, History};
+ghost use Rattle.office_policy.specs.Lawful.{IsAllowed, IsFounding};
 ghost use Rattle.journal_lines.specs.declared.events.Unreadable.{Unreadable};
 ghost use Rattle.journal_lines.specs.Examples.{founding, enrolment, submission, vote, issue};
 ghost use Rattle.journal_lines.specs.Examples.{withdrawal, adoption, hold, release, founding_text};
 ghost use Rattle.journal_lines.specs.Examples.{enrolment_text, submission_text, vote_text};
 ghost use Rattle.journal_lines.specs.Examples.{issue_text, withdrawal_text, adoption_text};
 ghost use Rattle.journal_lines.specs.Examples.{hold_text, release_text, strike_text};
-ghost use Rattle.journal_lines.specs.Forms.{IsFormed};
-ghost use Rattle.journal_lines.specs.Journal.{IsJournalOf, history_in};
+ghost use Rattle.journal_lines.specs.Forms.{HasForms, IsFormed};
+ghost use Rattle.journal_lines.specs.Journal.{IsEntry, IsJournalOf, IsSealedJournal, history_in};
 ghost use Rattle.journal_lines.specs.Lines.{Line, happened, strike, text_of};
-ghost use Rattle.journal_lines.specs.Told.{Begins, GoesOn, IsJournalTo, IsOutside, Place, Stops};
-ghost use Rattle.journal_lines.specs.Told.{Tells, history_told, standing, start, told};
+ghost use Rattle.journal_lines.specs.Told.{Begins, Ends, GoesOn, IsJournalTo, IsOutside, Place};
+ghost use Rattle.journal_lines.specs.Told.{Stops, Tells, history_told, standing, start, told};
 
 /// A text is that of one line: it says what happened, by whom, and of what.
 pub fn a_text_is_of_one_line()
@@ -24,6 +25,15 @@ pub fn a_text_is_of_one_line()
 /// else.
 pub fn no_line_feed_stands_in_a_text()
     ensures { (line : Line) → IsFormed line → All (λ byte. 32 ≤ byte) (text_of line) }
+{}
+
+/// The line of what the policy allows, of a founding, and the one that strikes out, are no longer than
+/// a line can be: so no crash leaves more than that behind a journal.
+pub fn what_is_allowed_can_be_written()
+    ensures allowed { (h : History) (e : Event) → IsAllowed h e → HasForms e
+        → IsEntry (happened e) }
+    ensures founding { (e : Event) → IsFounding e → HasForms e → IsEntry (happened e) }
+    ensures strike { IsEntry strike }
 {}
 
 /// A text is the journal of one history at most.
@@ -64,6 +74,13 @@ pub fn the_lines_before_a_place_are_a_journal()
     ensures history { (text : List ℕ) (p : Place) (es : List (ℕ × Event))
         → Begins (start (Some text)) p es
         → IsJournalTo p text (history_told (es ++ standing p.taken p.held)) }
+{}
+
+/// What is told to the end is the history of the whole journal, of which the place has the seal.
+pub fn what_is_read_to_the_end_is_the_journal()
+    ensures { (text : List ℕ) (here end : Place) (es : List (ℕ × Event))
+        → GoesOn (start (Some text)) here es → Ends here end
+        → IsSealedJournal text (history_told es) end.seal }
 {}
 
 /// Where what is left can be told, no line keeps from it: the input or memory fails, or nothing.

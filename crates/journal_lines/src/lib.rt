@@ -8,11 +8,11 @@ mod kind;
 pub mod laws;
 pub mod line;
 mod part;
-pub mod print;
+mod print;
 pub mod read;
 pub mod reader;
 
-pub use events::{Events, Placed, Unreadable, read_text};
+pub use events::{Events, Placed, Unreadable};
 pub use fault::Unread;
 pub use line::Line;
 pub use print::text;

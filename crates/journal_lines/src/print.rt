@@ -11,7 +11,7 @@ ghost use Rattle.office_policy.specs.History.{founded, enrolled, submitted, vote
 ghost use Rattle.office_policy.specs.Happened.{event_meant};
 ghost use Rattle.journal_lines.specs.Lines.{event_data, kind_member, line_data, of_profile};
 ghost use Rattle.journal_lines.specs.Lines.{of_revision, role_data, role_words, text_of, vote_word};
-ghost use Rattle.journal_lines.specs.Lines.{words_among, line_of};
+ghost use Rattle.journal_lines.specs.Lines.{words_among};
 ghost use Rattle.journal_lines.specs.Shown.{shown};
 
 use crate::kind::Kind;
@@ -292,14 +292,4 @@ pub fn text(alloc: Global, line: &Line) -> Result<String, AllocError>
 {
     let value = value_of(alloc, line)?;
     value.to_string(alloc)
-}
-
-/// The line, with its line feed.
-#[tactic(auto, unfolding(crate::specs::Lines::line_of))]
-pub fn line(alloc: Global, line: &Line) -> Result<String, AllocError>
-    ensures { IfOk result (λ text. string_bytes text ≡ line_of (shown line.now)) }
-{
-    let mut text = text(alloc, line)?;
-    text.push('\n')?;
-    Ok(text)
 }

@@ -1,6 +1,6 @@
 -- Where and why no office is built anew.
-use Rattle.std.proofs.Common.{◌≡◌, ℕ, List, [], ◌∷◌, Option, Result, Ok, Err, inl, inr, sym, refl, subst}
-use Rattle.std.specs.Prelude.{IsErrAnd, ⊤}
+use Rattle.std.proofs.Common.{◌≡◌, ◌∙◌, ℕ, List, [], ◌∷◌, Option, Some, None, Result, Ok, Err, inl, inr, sym, refl, ap, ap₂, subst}
+use Rattle.std.specs.Prelude.{IsErrAnd, ⊤, option_map}
 use Rattle.sqlite.specs.Held.{Held, state}
 use Rattle.sqlite.specs.State.{HasCleanDisk}
 use Rattle.sqlite.specs.Store.{Ghosts}
@@ -13,24 +13,51 @@ use Rattle.office_policy.specs.Lawful.{IsFounding}
 use Rattle.office_policy.specs.Meaning.{Meaning}
 use Rattle.office_desk.specs.Meant.{meaning_over}
 use Rattle.journal_lines.specs.declared.events.Unreadable.{Unreadable}
-use Rattle.journal_lines.specs.Told.{GoesOn, Place, Stops, start}
+use Rattle.journal_lines.specs.Told.{GoesOn, Leaves, Place, held_at, start}
+use Rattle.journal_lines.proofs.ToldFacts.{leaves_stops}
 use Rattle.journal_replay.specs.declared.fault.Refused.{Refused}
 use Rattle.journal_replay.specs.declared.fault.Why.{Why}
 use Rattle.journal_replay.specs.declared.fault.Why.TheVariants as why
 use Rattle.journal_replay.specs.Rebuilt.{HasReplayed, IsRefused, line_behind}
-use Rattle.journal_replay.specs.Steps.{Continues, IsKeptOut, IsLeft, IsLeftBehind, IsNoFirst, IsNoFounding}
+use Rattle.journal_replay.specs.Steps.{Continues, IsFirstRead, IsKeptOut, IsLeft, IsLeftBehind, IsLeftHeld, IsNoFirst, IsNoFounding, IsNoneRead, IsUnbegun, LeavesAt, LeavesHeld}
 
--- a journal that stops at this place
-pub left_here : (here : Place) (taken : ℕ) (fault : Unreadable) (refused : Refused) → refused ≡ record { line = line_behind taken; why = why.Unread fault } → Stops here taken fault
-    → IsLeft here refused.line refused.why
-left_here here taken fault refused is stops =
-    subst (λ (r : Refused). IsLeft here r.line r.why) (sym is) (record { taken = taken; stops = stops; counted = refl })
+-- a journal that is left at this place
+pub left_here : (here after : Place) (fault : Unreadable) (refused : Refused) → refused ≡ record { line = line_behind after.taken; why = why.Unread fault } → Leaves here after fault
+    → IsLeft here after refused.line refused.why
+left_here here after fault refused is leaves =
+    subst (λ (r : Refused). IsLeft here after r.line r.why) (sym is) (record { leaves = leaves; counted = refl })
 
-pub left_first : (here : Place) (line : ℕ) (w : Why) → IsLeft here line w → IsNoFirst here line w
-left_first here line (why.Unread fault) left = left
-left_first here line why.NotFounded left = absurd left
-left_first here line (why.Unfounded fault) left = absurd left
-left_first here line (why.Unreplayed cause) left = absurd left
+pub left_first : (here after : Place) (line : ℕ) (w : Why) → IsLeft here after line w → IsNoFirst here line w
+left_first here after line (why.Unread fault) left = record { taken = after.taken; stops = leaves_stops here after fault left.leaves; counted = left.counted }
+left_first here after line why.NotFounded left = absurd left
+left_first here after line (why.Unfounded fault) left = absurd left
+left_first here after line (why.Unreplayed cause) left = absurd left
+
+-- the event that is held back at a place
+pub held_there : (after last : Place) → after.taken ≡ last.taken → after.held ≡ last.held → held_at after ≡ held_at last
+held_there after last taken kept = ap₂ (λ (n : ℕ) (h : Option Event). option_map (λ e. (n, e)) h) taken kept
+
+-- is held back where the journal is left
+left_held : (here after : Place) (line : ℕ) (fault : Unreadable) (kept : Option (ℕ × Event)) → LeavesAt here after line fault → kept ≡ held_at after → LeavesHeld here kept line fault
+left_held here after line fault kept at is = record {
+  last = at.leaves.last;
+  on = at.leaves.on;
+  cannot = at.leaves.cannot;
+  held = sym (is ∙ held_there after at.leaves.last at.leaves.taken at.leaves.held);
+  counted = at.counted ∙ ap line_behind at.leaves.taken;
+}
+
+pub held_first : (here after : Place) (line : ℕ) (w : Why) (kept : Option (ℕ × Event)) → IsLeft here after line w → kept ≡ held_at after → IsLeftHeld here kept line w
+held_first here after line (why.Unread fault) kept at is = left_held here after line fault kept at is
+held_first here after line why.NotFounded kept at is = absurd at
+held_first here after line (why.Unfounded fault) kept at is = absurd at
+held_first here after line (why.Unreplayed cause) kept at is = absurd at
+
+pub none_read : (here after : Place) (line : ℕ) (w : Why) → IsLeft here after line w → None ≡ held_at after → IsNoneRead here line w
+none_read here after line (why.Unread fault) at is = left_held here after line fault None at is
+none_read here after line why.NotFounded at is = absurd at
+none_read here after line (why.Unfounded fault) at is = absurd at
+none_read here after line (why.Unreplayed cause) at is = absurd at
 
 pub no_founding : (e : values.Event) → ((user team digest : List ℕ) (listed : ℕ) → e ≡ events.Founded user team digest listed → ⊥) → IsFounding (event_meant e) → ⊥
 no_founding (events.Founded user team digest listed) not_founded is = not_founded user team digest listed refl
@@ -45,18 +72,19 @@ no_founding (events.Released caller name) not_founded is = is
 
 module _ {X : Type 0} (m : Meaning X) (bytes : Option (List ℕ)) where
   -- what is told before it is told of the whole
-  pub left_behind : (here : Place) (es : List (ℕ × Event)) (office left : X) (line : ℕ) (w : Why) → HasReplayed bytes m here es office → IsLeft here line w
+  pub left_behind : (here after : Place) (es : List (ℕ × Event)) (office left : X) (line : ℕ) (w : Why) → HasReplayed bytes m here es office → IsLeft here after line w
       → IsLeftBehind m bytes left line w
-  left_behind here es office left line (why.Unread fault) all at = record { taken = at.taken; stops = all.told.stops at.taken fault at.stops; counted = at.counted }
-  left_behind here es office left line why.NotFounded all at = absurd at
-  left_behind here es office left line (why.Unfounded fault) all at = absurd at
-  left_behind here es office left line (why.Unreplayed cause) all at = absurd at
+  left_behind here after es office left line (why.Unread fault) all at =
+      record { taken = after.taken; stops = all.told.stops after.taken fault (leaves_stops here after fault at.leaves); counted = at.counted }
+  left_behind here after es office left line why.NotFounded all at = absurd at
+  left_behind here after es office left line (why.Unfounded fault) all at = absurd at
+  left_behind here after es office left line (why.Unreplayed cause) all at = absurd at
 
   -- a `?` that leaves with it
-  pub left_by : (left : X) (count : ℕ) (result : Result ⊤ Refused) (refused : Refused) → IsErrAnd result (λ e. e ≡ refused) → IsLeftBehind m bytes left refused.line refused.why
-      → Continues m bytes left count result
-  left_by left count (Ok done) refused is at = absurd is
-  left_by left count (Err r) refused is at = subst (λ (r : Refused). IsLeftBehind m bytes left r.line r.why) (sym is) at
+  pub left_by : (left : X) (count : ℕ) (seal : List ℕ) (result : Result ⊤ Refused) (refused : Refused) → IsErrAnd result (λ e. e ≡ refused) → IsLeftBehind m bytes left refused.line refused.why
+      → Continues m bytes left count seal result
+  left_by left count seal (Ok done) refused is at = absurd is
+  left_by left count seal (Err r) refused is at = subst (λ (r : Refused). IsLeftBehind m bytes left r.line r.why) (sym is) at
 
   -- the next event doesn't happen again
   pub kept_out : (here after : Place) (es : List (ℕ × Event)) (placed : ℕ × Event) (old left : X) (line : ℕ) (w : Why) → HasReplayed bytes m here es old → GoesOn here after (placed ∷ [])
@@ -123,3 +151,43 @@ module _ {S : Type 0} (g : Ghosts S) (bytes : Option (List ℕ)) (conn : Held S)
       → (HasCleanDisk (state g office) → Stands (meaning_over g) (e ∷ []) office) → HasReplayed bytes (meaning_over g) here ((line, e) ∷ []) office
   begun_founded from here line e office at told founding stands =
       first_replayed (meaning_over g) bytes here line e office (subst (λ (p : Place). GoesOn p here ((line, e) ∷ [])) at told) founding stands
+
+  -- nothing founds one
+  none_held : (line : ℕ) (w : Why) → IsNoneRead (start bytes) line w → IsUnbegun bytes g conn conn line w
+  none_held line (why.Unread fault) none = record { kept = None; held = none; none = tt }
+  none_held line why.NotFounded none = inl none
+  none_held line (why.Unfounded fault) none = absurd none
+  none_held line (why.Unreplayed cause) none = absurd none
+
+  pub unbegun_none : (from : Place) (refused : Refused) → from ≡ start bytes → IsNoneRead from refused.line refused.why → IsUnbegun bytes g conn conn refused.line refused.why
+  unbegun_none from refused at none = none_held refused.line refused.why (subst (λ (p : Place). IsNoneRead p refused.line refused.why) at none)
+
+  -- nor does the event that is held back
+  held_unfounded : (line : ℕ) (w cause : Why) (placed : ℕ × Event) (left : Held S) → IsLeftHeld (start bytes) (Some placed) line w → IsNoFounding g placed.1 conn left cause
+      → IsUnbegun bytes g conn left line w
+  held_unfounded line (why.Unread fault) cause placed left at none = record { kept = Some placed; held = at; none = (cause, none) }
+  held_unfounded line why.NotFounded cause placed left at none = absurd at
+  held_unfounded line (why.Unfounded fault) cause placed left at none = absurd at
+  held_unfounded line (why.Unreplayed cause2) cause placed left at none = absurd at
+
+  pub unbegun_held : (from here : Place) (refused : Refused) (cause : Why) (placed : ℕ × Event) (halt : Option Refused) (left : Held S) → from ≡ start bytes → IsFirstRead from here placed halt
+      → halt ≡ Some refused → IsNoFounding g placed.1 conn left cause → IsUnbegun bytes g conn left refused.line refused.why
+  unbegun_held from here refused cause placed halt left at first is none =
+      held_unfounded refused.line refused.why cause placed left
+      (subst (λ (p : Place). IsLeftHeld p (Some placed) refused.line refused.why) at (subst (λ (h : Option Refused). IsFirstRead from here placed h) is first)) none
+
+  -- nor the first that stands
+  first_unfounded : (after : Place) (line : ℕ) (e : Event) (w : Why) (left : Held S) → GoesOn (start bytes) after ((line, e) ∷ []) → IsNoFounding g e conn left w → IsUnbegun bytes g conn left line w
+  first_unfounded after line e (why.Unread fault) left told is = absurd is
+  first_unfounded after line e why.NotFounded left told is = none_founded g bytes conn left line after e why.NotFounded told is
+  first_unfounded after line e (why.Unfounded fault) left told is = none_founded g bytes conn left line after e (why.Unfounded fault) told is
+  first_unfounded after line e (why.Unreplayed cause) left told is = absurd is
+
+  pub unbegun_first : (from here : Place) (cause : Why) (placed : ℕ × Event) (halt : Option Refused) (left : Held S) → from ≡ start bytes → IsFirstRead from here placed halt
+      → halt ≡ None → IsNoFounding g placed.1 conn left cause → IsUnbegun bytes g conn left placed.0 cause
+  unbegun_first from here cause placed halt left at first is none =
+      first_unfounded here placed.0 placed.1 cause left
+      (subst (λ (p : Place). GoesOn p here (placed ∷ [])) at (subst (λ (h : Option Refused). IsFirstRead from here placed h) is first)) none
+
+  pub begun_read : (from here : Place) (placed : ℕ × Event) (halt : Option Refused) → from ≡ start bytes → IsFirstRead from here placed halt → IsFirstRead (start bytes) here placed halt
+  begun_read from here placed halt at first = subst (λ (p : Place). IsFirstRead p here placed halt) at first

@@ -1,5 +1,5 @@
 -- Events that happen again, one after the other.
-use Rattle.std.proofs.Common.{◌≡◌, ◌∙◌, ℕ, List, [], ◌∷◌, ◌++◌, length, Option, Some, None, IfSome, sym, ap, subst, append_assoc, append-nil, map}
+use Rattle.std.proofs.Common.{◌≡◌, ◌∙◌, ℕ, List, [], ◌∷◌, ◌++◌, length, Option, Some, None, IfSome, sym, ap, subst, append_assoc, map}
 use Rattle.std.specs.Prelude.{reverse}
 use Rattle.std.proofs.lemmas.List.{map-append, reverse-append, length-map, length-reverse}
 use Rattle.office_policy.specs.History.{Event, History}
@@ -7,9 +7,9 @@ use Rattle.office_policy.specs.Lawful.{IsAllowed, IsLawfulHistory}
 use Rattle.office_policy.specs.Handled.{Stands}
 use Rattle.office_policy.specs.Meaning.{Meaning}
 use Rattle.office_desk.specs.Replayed.{HasHappened}
-use Rattle.journal_lines.specs.Journal.{IsJournalOf}
-use Rattle.journal_lines.specs.Told.{Begins, GoesOn, Place, Tells, history_told, start}
-use Rattle.journal_lines.proofs.HistoryFacts.{journal_told}
+use Rattle.journal_lines.specs.Journal.{IsSealedJournal}
+use Rattle.journal_lines.specs.Told.{Begins, Ends, GoesOn, Place, Tells, history_told, start}
+use Rattle.journal_lines.proofs.HistoryFacts.{read_whole}
 use Rattle.journal_replay.specs.Rebuilt.{HasReplayed, IsRebuilt}
 
 abbrev Line : Type 0
@@ -53,30 +53,37 @@ lawful_more (f ∷ h) e allowed lawful = (allowed, lawful)
 
 module _ {X : Type 0} (m : Meaning X) (bytes : Option (List ℕ)) where
   -- an event that happens again
+  module _ (here : Place) (es : List (ℕ × Event)) (line : ℕ) (e : Event) (old new : X) (before : HasReplayed bytes m here es old) (happened : HasHappened m old new e) where
+    pub more_lawful : m.is_clean new → IsLawfulHistory (history_told (es ++ (line, e) ∷ []))
+    more_lawful clean =
+        let was = happened.survives.clean clean in
+        subst IsLawfulHistory (sym (told_more es line e))
+        (lawful_more (history_told es) e (happened.allowed (history_told es) (before.stands was).is_of clean) (before.lawful was))
+
+    pub more_stands : m.is_clean new → Stands m (history_told (es ++ (line, e) ∷ [])) new
+    more_stands clean =
+        let was = happened.survives.clean clean in
+        subst (λ (h : History). Stands m h new) (sym (told_more es line e)) (happened.stands (history_told es) (before.stands was).is_of clean)
+
   pub more : (here after : Place) (es : List (ℕ × Event)) (line : ℕ) (e : Event) (old new : X) → HasReplayed bytes m here es old → GoesOn here after ((line, e) ∷ [])
       → HasHappened m old new e → HasReplayed bytes m after (es ++ (line, e) ∷ []) new
   more here after es line e old new before on happened = record {
     told = goes_then (start bytes) here after es ((line, e) ∷ []) before.told on;
-    lawful = λ clean.
-        let was = happened.survives.clean clean in
-        subst IsLawfulHistory (sym (told_more es line e))
-        (lawful_more (history_told es) e (happened.allowed (history_told es) (before.stands was).is_of clean) (before.lawful was));
-    stands = λ clean.
-        let was = happened.survives.clean clean in
-        subst (λ (h : History). Stands m h new) (sym (told_more es line e)) (happened.stands (history_told es) (before.stands was).is_of clean);
+    lawful = more_lawful here es line e old new before happened;
+    stands = more_stands here es line e old new before happened;
   }
 
   -- the journal is at its end
-  pub ended : (here : Place) (es : List (ℕ × Event)) (count : ℕ) (office : X) → HasReplayed bytes m here es office → Tells here [] → count ≡ length es
-      → IsRebuilt bytes m count office
-  ended here es count office all end counted = record {
+  pub ended : (here end : Place) (es : List (ℕ × Event)) (count : ℕ) (office : X) → HasReplayed bytes m here es office → Ends here end → count ≡ length es
+      → IsRebuilt bytes m count end.seal office
+  ended here end es count office all ends counted = record {
     history = history_told es;
-    journal = journal bytes (subst (Tells (start bytes)) (append-nil es) (all.told.tells [] end));
+    journal = journal bytes all.told;
     counted = counted ∙ sym (told_length es);
     lawful = all.lawful;
     stands = all.stands;
   }
     where
-      journal : (bytes : Option (List ℕ)) → Tells (start bytes) es → IfSome bytes (λ text. IsJournalOf text (history_told es))
-      journal None t = tt
-      journal (Some text) t = journal_told text es t
+      journal : (bytes : Option (List ℕ)) → GoesOn (start bytes) here es → IfSome bytes (λ text. IsSealedJournal text (history_told es) end.seal)
+      journal None told = tt
+      journal (Some text) told = read_whole text here end es told ends

@@ -77,6 +77,7 @@ pub refutes : {S : Type 0} (g : Ghosts S) (bytes : Option (List ℕ)) (conn left
     → Refutes bytes (HasCleanDisk (state g left)) w
 refutes g bytes conn left line (why.Unread unreadable.NotALine) is = of_line bytes line unreadable.NotALine is (λ x. x)
 refutes g bytes conn left line (why.Unread unreadable.NothingToStrike) is = of_line bytes line unreadable.NothingToStrike is (λ x. x)
+refutes g bytes conn left line (why.Unread unreadable.Unsealed) is = of_line bytes line unreadable.Unsealed is (λ x. x)
 refutes g bytes conn left line (why.Unread unreadable.TornLine) is = of_line bytes line unreadable.TornLine is (λ x. x)
 refutes g bytes conn left line (why.Unread unreadable.Read) is = tt
 refutes g bytes conn left line (why.Unread unreadable.NoMemory) is = tt

@@ -4,19 +4,10 @@ use Rattle.review_policy.specs.WordTables.{fault_word, rule_word}
 use Rattle.office_store.specs.Faults.{founding_fault_word}
 use Rattle.office_desk.specs.declared.replay.Unreplayed.{Unreplayed}
 use Rattle.office_desk.specs.declared.replay.Unreplayed.TheVariants as causes
-use Rattle.journal_lines.specs.declared.events.Unreadable.{Unreadable}
-use Rattle.journal_lines.specs.declared.events.Unreadable.TheVariants as unreadable
+use Rattle.journal_lines.specs.FaultTexts.{unreadable_word}
 use Rattle.journal_replay.specs.declared.fault.Refused.{Refused}
 use Rattle.journal_replay.specs.declared.fault.Why.{Why}
 use Rattle.journal_replay.specs.declared.fault.Why.TheVariants as why
-
--- why a line can't be read
-abbrev pub unreadable_word : Unreadable → List ℕ
-unreadable_word unreadable.NotALine = codes "not-a-line"
-unreadable_word unreadable.NothingToStrike = codes "nothing-to-strike"
-unreadable_word unreadable.TornLine = codes "torn-line"
-unreadable_word unreadable.Read = codes "read"
-unreadable_word unreadable.NoMemory = codes "memory"
 
 -- why an event doesn't happen again: of a rule that refuses it the number and the word
 abbrev pub unreplayed_text : Unreplayed → List ℕ

@@ -17,8 +17,9 @@ use Rattle.office_desk.specs.Meant.{meaning_over}
 use Rattle.office_desk.specs.Replayed.{IsReplayed}
 use Rattle.journal_lines.specs.declared.events.Unreadable.{Unreadable}
 use Rattle.journal_lines.specs.declared.events.Unreadable.TheVariants as unreadable
-use Rattle.journal_lines.specs.Journal.{IsJournalOf}
+use Rattle.journal_lines.specs.Journal.{IsJournalOf, IsSealedJournal}
 use Rattle.journal_lines.specs.Told.{GoesOn, Place, Stops, Tells, history_told, start}
+use Rattle.journal_replay.specs.declared.office.Rebuilt.{Rebuilt}
 use Rattle.journal_replay.specs.declared.fault.Refused.{Refused}
 use Rattle.journal_replay.specs.declared.fault.Why.{Why}
 use Rattle.journal_replay.specs.declared.fault.Why.TheVariants as why
@@ -63,7 +64,7 @@ module _ (bytes : Option (List ℕ)) where
     pub told : GoesOn (start bytes) after ((line, founded name team digest listed) ∷ [])
     pub already : fault ≡ AlreadyFounded ↔ IsTrue (has_table (state g conn).now.schema)
     pub cause : HasCleanDisk (state g left)
-        → FailsToFound g (first_user name team digest) listed conn fault
+        → FailsToFound g (first_user name team digest) listed conn left fault
 
   -- ---- what happens again
 
@@ -85,10 +86,11 @@ module _ (bytes : Option (List ℕ)) where
       pub told : GoesOn here after ((line, event) ∷ [])
       pub refused : IsReplayed m old left event (Err cause)
 
-    -- the office is of the history that the journal is of, which is lawful and has so many events
-    pub record IsRebuilt (count : ℕ) (office : X) : Type 0 where
+    -- the office is of the history that the journal is of, which is lawful and has so many events;
+    -- and the seal is the journal's
+    pub record IsRebuilt (count : ℕ) (seal : List ℕ) (office : X) : Type 0 where
       pub history : History
-      pub journal : IfSome bytes (λ text. IsJournalOf text history)
+      pub journal : IfSome bytes (λ text. IsSealedJournal text history seal)
       pub counted : count ≡ length history
       pub lawful : m.is_clean office → IsLawfulHistory history
       pub stands : m.is_clean office → Stands m history office
@@ -102,10 +104,10 @@ module _ (bytes : Option (List ℕ)) where
   IsRefused g conn left line (why.Unfounded fault) = IsUnfounded g conn left line fault
   IsRefused g conn left line (why.Unreplayed cause) = IsUnreplayed (meaning_over g) left line cause
 
-  -- the office with the number of its events, or why there is none
+  -- the office with the number of its events and the seal of its journal, or why there is none
   abbrev pub Rebuilds : {S : Type 0} → Ghosts S → (conn : Held S)
-      → Result (Held S × ℕ) (Refused × Held S) → Type 0
-  Rebuilds g conn (Ok built) = IsRebuilt (meaning_over g) built.1 built.0
+      → Result (Rebuilt S) (Refused × Held S) → Type 0
+  Rebuilds g conn (Ok built) = IsRebuilt (meaning_over g) built.events built.seal built.office
   Rebuilds g conn (Err refusal) =
       IsRefused g conn refusal.1 refusal.0.line refusal.0.why
 
@@ -118,6 +120,7 @@ module _ (bytes : Option (List ℕ)) where
   abbrev pub Refutes : (clean : Type 0) → Why → Type 0
   Refutes clean (why.Unread unreadable.NotALine) = IsUnlawful
   Refutes clean (why.Unread unreadable.NothingToStrike) = IsUnlawful
+  Refutes clean (why.Unread unreadable.Unsealed) = IsUnlawful
   Refutes clean (why.Unread unreadable.TornLine) = IsUnlawful
   Refutes clean (why.Unread unreadable.Read) = Unit {0}
   Refutes clean (why.Unread unreadable.NoMemory) = Unit {0}

@@ -1,6 +1,6 @@
 -- What is done with the events of a journal.
 use Rattle.std.specs.Prelude.{◌≡◌, ◌↔◌, ◌+◌, ◌-◌, ◌^◌, ◌<◌, [], ◌∷◌, ℕ, List, Option, Some, None}
-use Rattle.std.specs.Prelude.{Result, Ok, Err, IsTrue, ⊤}
+use Rattle.std.specs.Prelude.{Result, Ok, Err, IfSome, IsTrue, ⊤}
 use Rattle.sqlite.specs.Held.{Held, state}
 use Rattle.sqlite.specs.State.{HasCleanDisk}
 use Rattle.sqlite.specs.Store.{Ghosts}
@@ -12,23 +12,31 @@ use Rattle.office_policy.specs.Lawful.{IsFounding}
 use Rattle.office_policy.specs.Meaning.{Meaning}
 use Rattle.office_desk.specs.Replayed.{HasHappened, IsReplayed}
 use Rattle.journal_lines.specs.declared.events.Placed.{Placed}
-use Rattle.journal_lines.specs.Told.{Gives, GoesOn, Place, Tells, placed_meant}
+use Rattle.journal_lines.specs.declared.events.Unreadable.{Unreadable}
+use Rattle.journal_lines.specs.Told.{CannotGoOn, Gives, GoesOn, Leaves, Place, Tells, held_at}
+use Rattle.journal_lines.specs.Told.{placed_meant, start}
 use Rattle.journal_replay.specs.declared.fault.Refused.{Refused}
 use Rattle.journal_replay.specs.declared.fault.Why.{Why}
 use Rattle.journal_replay.specs.declared.fault.Why.TheVariants as why
-use Rattle.journal_replay.specs.Rebuilt.{IsRebuilt, IsUnread, IsUnreplayed, StopsAt}
+use Rattle.journal_replay.specs.Rebuilt.{IsNotFounded, IsRebuilt, IsUnfounded, IsUnread}
+use Rattle.journal_replay.specs.Rebuilt.{IsUnreplayed, StopsAt, line_behind}
+
+-- it can't be read further than to a line, for this fault
+pub record LeavesAt (old new : Place) (line : ℕ) (fault : Unreadable) : Type 0 where
+  pub leaves : Leaves old new fault
+  pub counted : line ≡ line_behind new.taken
 
 -- it can't be read on
-abbrev pub IsLeft : Place → ℕ → Why → Type 0
-IsLeft old line (why.Unread fault) = StopsAt old line fault
-IsLeft old line why.NotFounded = ⊥
-IsLeft old line (why.Unfounded fault) = ⊥
-IsLeft old line (why.Unreplayed cause) = ⊥
+abbrev pub IsLeft : (old new : Place) → ℕ → Why → Type 0
+IsLeft old new line (why.Unread fault) = LeavesAt old new line fault
+IsLeft old new line why.NotFounded = ⊥
+IsLeft old new line (why.Unfounded fault) = ⊥
+IsLeft old new line (why.Unreplayed cause) = ⊥
 
 -- the next event that stands, or that there is none
 abbrev pub IsNext : Place → Place → Result (Option Placed) Refused → Type 0
 IsNext old new (Ok found) = Gives old new (Ok found)
-IsNext old new (Err refused) = IsLeft old refused.line refused.why
+IsNext old new (Err refused) = IsLeft old new refused.line refused.why
 
 -- it can't be read on, or tells nothing
 abbrev pub IsNoFirst : Place → ℕ → Why → Type 0
@@ -42,6 +50,39 @@ abbrev pub IsFirst : Place → Place → Result Placed Refused → Type 0
 IsFirst old new (Ok placed) = GoesOn old new (placed_meant placed ∷ [])
 IsFirst old new (Err refused) = IsNoFirst old refused.line refused.why
 
+-- it can't be read further than to a line, for this fault; no event stands before, and this one is
+-- held back there, or none
+pub record LeavesHeld (old : Place) (kept : Option (ℕ × Event)) (line : ℕ) (fault : Unreadable)
+    : Type 0 where
+  pub last : Place
+  pub on : GoesOn old last []
+  pub cannot : CannotGoOn fault last
+  pub held : held_at last ≡ kept
+  pub counted : line ≡ line_behind last.taken
+
+abbrev pub IsLeftHeld : Place → Option (ℕ × Event) → ℕ → Why → Type 0
+IsLeftHeld old kept line (why.Unread fault) = LeavesHeld old kept line fault
+IsLeftHeld old kept line why.NotFounded = ⊥
+IsLeftHeld old kept line (why.Unfounded fault) = ⊥
+IsLeftHeld old kept line (why.Unreplayed cause) = ⊥
+
+-- the event is the first one that stands; or it is held back where the journal can't be read on
+abbrev pub IsFirstRead : (old new : Place) → (ℕ × Event) → Option Refused → Type 0
+IsFirstRead old new placed None = GoesOn old new (placed ∷ [])
+IsFirstRead old new placed (Some refused) =
+    IsLeftHeld old (Some placed) refused.line refused.why
+
+-- none is, nor is one held back
+abbrev pub IsNoneRead : Place → ℕ → Why → Type 0
+IsNoneRead old line (why.Unread fault) = LeavesHeld old None line fault
+IsNoneRead old line why.NotFounded = Tells old [] × (line ≡ 0)
+IsNoneRead old line (why.Unfounded fault) = ⊥
+IsNoneRead old line (why.Unreplayed cause) = ⊥
+
+abbrev pub ReadsFirst : (old new : Place) → Result (Placed × Option Refused) Refused → Type 0
+ReadsFirst old new (Ok found) = IsFirstRead old new (placed_meant found.0) found.1
+ReadsFirst old new (Err refused) = IsNoneRead old refused.line refused.why
+
 -- the event founds no office, for this fault
 pub record FoundsNone {S : Type 0} (g : Ghosts S) (event : Event) (conn left : Held S)
     (fault : FoundingFault) : Type 0 where
@@ -52,7 +93,7 @@ pub record FoundsNone {S : Type 0} (g : Ghosts S) (event : Event) (conn left : H
   pub is : event ≡ founded name team digest listed
   pub already : fault ≡ AlreadyFounded ↔ IsTrue (has_table (state g conn).now.schema)
   pub cause : HasCleanDisk (state g left)
-      → FailsToFound g (first_user name team digest) listed conn fault
+      → FailsToFound g (first_user name team digest) listed conn left fault
 
 -- it is no founding, or founds no office
 abbrev pub IsNoFounding : {S : Type 0} → Ghosts S → Event → (conn left : Held S) → Why → Type 0
@@ -60,6 +101,21 @@ IsNoFounding g event conn left (why.Unread fault) = ⊥
 IsNoFounding g event conn left why.NotFounded = IsFounding event → ⊥
 IsNoFounding g event conn left (why.Unfounded fault) = FoundsNone g event conn left fault
 IsNoFounding g event conn left (why.Unreplayed cause) = ⊥
+
+-- of a journal with these bytes, where they are known
+module _ (bytes : Option (List ℕ)) {S : Type 0} (g : Ghosts S) (conn left : Held S) where
+  -- it can't be read further than to a line, and what is held back there founds no office
+  pub record IsUnreadAt (line : ℕ) (fault : Unreadable) : Type 0 where
+    pub kept : Option (ℕ × Event)
+    pub held : LeavesHeld (start bytes) kept line fault
+    pub none : IfSome kept (λ placed. (w : Why) × IsNoFounding g placed.1 conn left w)
+
+  -- why no office is founded by what can be read of it
+  abbrev pub IsUnbegun : (line : ℕ) → Why → Type 0
+  IsUnbegun line (why.Unread fault) = IsUnreadAt line fault
+  IsUnbegun line why.NotFounded = IsNotFounded bytes line
+  IsUnbegun line (why.Unfounded fault) = IsUnfounded bytes g conn left line fault
+  IsUnbegun line (why.Unreplayed cause) = ⊥
 
 -- an event more was taken, which can be counted, or none
 abbrev pub CountsNext : (old new : ℕ) → Option Placed → Type 0
@@ -88,7 +144,7 @@ module _ {X : Type 0} (m : Meaning X) (bytes : Option (List ℕ)) (left : X) whe
   IsLeftBehind line (why.Unfounded fault) = ⊥
   IsLeftBehind line (why.Unreplayed cause) = IsUnreplayed bytes m left line cause
 
-  -- they all do, and with the first they are so many; or not
-  abbrev pub Continues : ℕ → Result ⊤ Refused → Type 0
-  Continues count (Ok done) = IsRebuilt bytes m count left
-  Continues count (Err refused) = IsLeftBehind refused.line refused.why
+  -- they all do, with the first they are so many, and this is the seal of the journal; or not
+  abbrev pub Continues : ℕ → List ℕ → Result ⊤ Refused → Type 0
+  Continues count seal (Ok done) = IsRebuilt bytes m count seal left
+  Continues count seal (Err refused) = IsLeftBehind refused.line refused.why

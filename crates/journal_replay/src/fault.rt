@@ -1,8 +1,5 @@
 //! Why no office is built anew from a journal.
 
-ghost use Rattle.std.specs.Prelude.{◌≡◌};
-ghost use Rattle.journal_replay.specs.FaultTexts.{unreadable_word};
-
 use journal_lines::Unreadable;
 use office_desk::Unreplayed;
 use office_store::FoundingFault;
@@ -23,19 +20,6 @@ pub enum Why {
     Unreplayed(Unreplayed),
 }
 
-// The word of why a line can't be read.
-fn unreadable_word(fault: Unreadable) -> &'static str
-    ensures { result.now ≡ unreadable_word fault }
-{
-    match fault {
-        Unreadable::NotALine => "not-a-line",
-        Unreadable::NothingToStrike => "nothing-to-strike",
-        Unreadable::TornLine => "torn-line",
-        Unreadable::Read => "read",
-        Unreadable::NoMemory => "memory",
-    }
-}
-
 impl fmt::Display for Why {
     ghost use Rattle.std.specs.Prelude.{Some};
     ghost use Rattle.journal_replay.specs.FaultTexts.{why_text};
@@ -44,7 +28,7 @@ impl fmt::Display for Why {
 
     fn fmt<W: fmt::Write>(&self, f: &mut fmt::Formatter<W>) -> fmt::Result {
         match self {
-            Why::Unread(fault) => f.write_str(unreadable_word(*fault)),
+            Why::Unread(fault) => write!(f, "{fault}"),
             Why::NotFounded => f.write_str("not-founded"),
             Why::Unfounded(fault) => write!(f, "{fault}"),
             Why::Unreplayed(Unreplayed::Denied(denial)) => {

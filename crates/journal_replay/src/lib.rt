@@ -6,5 +6,5 @@ mod office;
 mod replay;
 
 pub use fault::{Refused, Why};
-pub use office::rebuild;
+pub use office::{Rebuilt, rebuild};
 pub use replay::Replay;

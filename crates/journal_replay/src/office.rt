@@ -14,6 +14,7 @@ ghost use Rattle.journal_replay.specs.Steps.{Continues};
 use crate::fault::Refused;
 use crate::replay::Replay;
 use office_desk::Office;
+use sealed_log::Seal;
 use sqlite::{Alter, Connection};
 use std::alloc::Global;
 use std::io::BufRead;
@@ -28,7 +29,8 @@ fn replay_rest<S: Alter, R: BufRead>(
         → HasReplayed bytes (meaning_over S.Store)
         (place R.remaining replay.old.events) es replay.old.office
         → length es ≡ replay.old.count
-        → Continues (meaning_over S.Store) bytes replay.new.office replay.new.count result }
+        → Continues (meaning_over S.Store) bytes replay.new.office replay.new.count
+        (place R.remaining replay.new.events).seal result }
 {
     'events: while let Some(placed) = replay.next(alloc)? {
         replay.happen(alloc, placed)?;
@@ -36,9 +38,19 @@ fn replay_rest<S: Alter, R: BufRead>(
     Ok(())
 }
 
+/// An office that was built anew from its journal.
+#[derive(Drop)]
+pub struct Rebuilt<S: Alter> {
+    pub office: Office<S>,
+    /// How many events stand.
+    pub events: u64,
+    /// The seal of the journal, which names all of it.
+    pub seal: Seal,
+}
+
 /// Builds an office anew over a connection to an empty store: the first event of a journal founds
 /// it, and each later one happens again in it, where the policy allows it to the caller that it
-/// names. The office, with how many events stand.
+/// names.
 ///
 /// # Errors
 ///
@@ -49,7 +61,7 @@ pub fn rebuild<S: Alter, R: BufRead + Drop>(
     alloc: Global,
     conn: Connection<S>,
     journal: R,
-) -> Result<(Office<S>, u64), (Refused, Connection<S>)>
+) -> Result<Rebuilt<S>, (Refused, Connection<S>)>
     requires { IsIdle (state S.Store conn) }
     ensures rebuilt { Rebuilds (R.remaining journal) S.Store conn result }
     ensures unlawful { IfErr result (λ refusal. Refutes (R.remaining journal)
@@ -63,10 +75,15 @@ pub fn rebuild<S: Alter, R: BufRead + Drop>(
     };
     drop(first);
     let replayed = replay_rest(alloc, &mut replay);
-    let count = replay.count();
+    let events = replay.count();
+    let seal = replay.seal();
     let office = replay.into_office();
     match replayed {
-        Ok(()) => Ok((office, count)),
+        Ok(()) => Ok(Rebuilt {
+            office,
+            events,
+            seal,
+        }),
         Err(refused) => Err((refused, office.into_connection())),
     }
 }

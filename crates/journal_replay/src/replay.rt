@@ -1,6 +1,7 @@
 //! What happened in an office, let happen again event by event.
 
 ghost use Rattle.std.specs.Prelude.{◌≡◌, [], ◌∷◌, ◌+◌, ◌-◌, ◌^◌, ◌<◌, None, IfErr, IfOk, OnOk};
+ghost use Rattle.std.specs.Prelude.{option_map};
 ghost use Rattle.sqlite.specs.Held.{state};
 ghost use Rattle.sqlite.specs.State.{HasCleanDisk};
 ghost use Rattle.office_store.specs.Schema.{no_schema};
@@ -8,16 +9,18 @@ ghost use Rattle.office_store.specs.Shown.{IsIdle};
 ghost use Rattle.office_policy.specs.Handled.{Stands, Survives};
 ghost use Rattle.office_policy.specs.Happened.{event_meant};
 ghost use Rattle.office_policy.specs.Lawful.{IsFounding};
-ghost use Rattle.journal_lines.specs.Told.{place, placed_meant, start};
+ghost use Rattle.journal_lines.specs.Told.{held_at, place, placed_meant, start, without_held};
 ghost use Rattle.office_desk.specs.Meant.{meaning_over};
 ghost use Rattle.journal_replay.specs.Rebuilt.{HasReplayed, IsRefused, line_behind};
-ghost use Rattle.journal_replay.specs.Steps.{CountsNext, Happens, IsFirst, IsNext, IsNoFounding};
+ghost use Rattle.journal_replay.specs.Steps.{CountsNext, Happens, IsFirst, IsFirstRead, IsNext};
+ghost use Rattle.journal_replay.specs.Steps.{IsNoFounding, IsUnbegun, ReadsFirst};
 ghost use Rattle.journal_replay.specs.declared.fault.Why.TheVariants.{Unread};
 
 use crate::fault::{Refused, Why};
 use journal_lines::{Events, Placed, Unreadable};
 use office_desk::Office;
 use office_policy::Event;
+use sealed_log::Seal;
 use sqlite::{Alter, Connection};
 use std::alloc::Global;
 use std::io::BufRead;
@@ -70,6 +73,29 @@ fn first<R: BufRead>(alloc: Global, events: &mut Events<R>) -> Result<Placed, Re
             why: Why::NotFounded,
         }),
         Err(refused) => Err(refused),
+    }
+}
+
+// The first event that stands; or the one that is held back where the journal can't be read on, with
+// why.
+fn first_read<R: BufRead>(
+    alloc: Global,
+    events: &mut Events<R>,
+) -> Result<(Placed, Option<Refused>), Refused>
+    requires { events.old.fault ≡ None }
+    ensures first { ReadsFirst (place R.remaining events.old) (place R.remaining events.new) result }
+    ensures fault { IfOk result (λ found. found.1 ≡ None → events.new.fault ≡ None) }
+{
+    match next(alloc, events) {
+        Ok(Some(placed)) => Ok((placed, None)),
+        Ok(None) => Err(Refused {
+            line: 0,
+            why: Why::NotFounded,
+        }),
+        Err(refused) => match events.held_back() {
+            Some(placed) => Ok((placed, Some(refused))),
+            None => Err(refused),
+        },
     }
 }
 
@@ -147,6 +173,56 @@ impl<S: Alter, R: BufRead + Drop> Replay<S, R> {
         }
     }
 
+    /// As `begin`. But where the journal can't be read on before an event of it stands, the one that is
+    /// held back founds the office, where it can; why it can't be read on is with it then.
+    ///
+    /// # Errors
+    ///
+    /// Those of `begin`.
+    pub fn begin_as_read(
+        alloc: Global,
+        conn: Connection<S>,
+        journal: R,
+    ) -> Result<(Replay<S, R>, Placed, Option<Refused>), (Refused, Connection<S>)>
+        requires { IsIdle (state S.Store conn) }
+        ensures told { IfOk result (λ begun. IsFirstRead (start (R.remaining journal))
+            (place R.remaining begun.0.events) (placed_meant begun.1) begun.2) }
+        ensures founding { IfOk result (λ begun. IsFounding (event_meant begun.1.event)) }
+        ensures stands { IfOk result (λ begun. HasCleanDisk (state S.Store begun.0.office)
+            → Stands (meaning_over S.Store) (event_meant begun.1.event ∷ []) begun.0.office) }
+        ensures fault { IfOk result (λ begun. begun.2 ≡ None → begun.0.events.fault ≡ None) }
+        ensures unbegun { IfErr result (λ refusal. IsUnbegun (R.remaining journal)
+            S.Store conn refusal.1 refusal.0.line refusal.0.why) }
+        ensures empty { OnOk result ((state S.Store conn).now.schema ≡ no_schema) }
+        ensures idle { IfErr result (λ refusal. IsIdle (state S.Store refusal.1)) }
+    {
+        let mut events = Events::new(alloc, journal);
+        let (placed, halt) = match first_read(alloc, &mut events) {
+            Ok(found) => found,
+            Err(refused) => return Err((refused, conn)),
+        };
+        let founded = found(conn, &placed.event);
+        let line = placed.line;
+        match founded {
+            Ok(office) => {
+                let count = 1;
+                let replay = Replay {
+                    office,
+                    events,
+                    count,
+                };
+                Ok((replay, placed, halt))
+            }
+            Err((why, conn)) => {
+                drop(placed);
+                match halt {
+                    Some(refused) => Err((refused, conn)),
+                    None => Err((Refused { line, why }, conn)),
+                }
+            }
+        }
+    }
+
     /// The office, of which no more events happen again.
     pub fn into_office(self) -> Office<S>
         ensures { result ≡ self.office }
@@ -166,6 +242,13 @@ impl<S: Alter, R: BufRead> Replay<S, R> {
         ensures { result ≡ self.now.count }
     {
         self.count
+    }
+
+    /// The seal of the lines that were taken of the journal. At its end that is the seal of all of it.
+    pub fn seal(&self) -> Seal
+        ensures { result ≡ (place R.remaining self.now.events).seal }
+    {
+        self.events.seal()
     }
 
     /// The next event that stands, which hasn't happened again yet; `None` at the end of the
@@ -192,6 +275,20 @@ impl<S: Alter, R: BufRead> Replay<S, R> {
             Ok(None) => Ok(None),
             Err(refused) => Err(refused),
         }
+    }
+
+    /// The event of the last line that was taken, where the next could strike it out. It hasn't happened
+    /// again yet. Where the journal can't be read on it stands as far as it can be. It is given once.
+    pub fn held_back(&mut self) -> Option<Placed>
+        ensures office { self.new.office ≡ self.old.office }
+        ensures count { self.new.count ≡ self.old.count }
+        ensures held { option_map placed_meant result
+            ≡ held_at (place R.remaining self.old.events) }
+        ensures place { place R.remaining self.new.events
+            ≡ without_held (place R.remaining self.old.events) }
+        ensures fault { self.new.events.fault ≡ self.old.events.fault }
+    {
+        self.events.held_back()
     }
 
     /// Has the event happen again that was taken last, where the policy allows it to the caller

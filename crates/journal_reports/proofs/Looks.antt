@@ -1,8 +1,6 @@
 -- What a look at an office between two events of its journal leaves and finds.
-use Rattle.std.proofs.Common.{◌≡◌, ◌∙◌, ◌==◌, ◌&&◌, ◌||◌, ℕ, List, [], ◌∷◌, Bool, true, false, cond, Option, Some, None, Ok, refl, sym, ap, eqb-true}
+use Rattle.std.proofs.Common.{◌≡◌, ◌==◌, ◌&&◌, ℕ, List, true, false, cond, Option, Some, None, Ok, refl, sym, eqb-true}
 use Rattle.std.specs.Prelude.{is_none, option_map}
-use Rattle.std.specs.List.{list_any}
-use Rattle.review_policy.specs.declared.answer.Fault.{Fault}
 use Rattle.review_policy.specs.declared.ask.ProfileName.{ProfileName}
 use Rattle.office_tables.specs.declared.row.RevisionRow.{RevisionRow}
 use Rattle.office_tables.specs.Tables.{is_profile}

@@ -14,7 +14,7 @@ use Rattle.office_desk.specs.Looking.{HasLookedBack, sheet_at}
 use Rattle.office_desk.specs.Meant.{meaning_over}
 use Rattle.office_desk.specs.Replayed.{HasHappened}
 use Rattle.journal_lines.specs.Journal.{IsJournalOf}
-use Rattle.journal_lines.specs.Told.{GoesOn, Place, Tells, history_told, start}
+use Rattle.journal_lines.specs.Told.{Ends, GoesOn, Place, Tells, history_told, start}
 use Rattle.journal_lines.proofs.HistoryFacts.{journal_told}
 use Rattle.journal_replay.specs.declared.fault.Refused.{Refused}
 use Rattle.journal_replay.specs.Rebuilt.{HasReplayed}
@@ -183,12 +183,12 @@ module _ {X : Type 0} (m : Meaning X) (bytes : Option (List ℕ)) (p : ProfileNa
     stepped (Some text) look = found_text text look
 
   -- no event is left
-  pub never : (here : Place) (es : List (ℕ × Event)) (office : X) → HasReplayed bytes m here es office → Tells here [] → (m.is_clean office → IsUnissued p n es)
+  pub never : (here end : Place) (es : List (ℕ × Event)) (office : X) → HasReplayed bytes m here es office → Ends here end → (m.is_clean office → IsUnissued p n es)
       → IsNeverIssued bytes p n m office
-  never here es office before end none =
+  never here end es office before ends none =
       record {
         history = history_told es;
-        journal = journal bytes (subst (Tells (start bytes)) (append-nil es) (before.told.tells [] end));
+        journal = journal bytes (subst (Tells (start bytes)) (append-nil es) (before.told.tells [] ends.tells));
         lawful = before.lawful;
         never = none;
       }

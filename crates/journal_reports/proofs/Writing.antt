@@ -1,7 +1,6 @@
 -- The lines of events, written one after the other.
-use Rattle.std.proofs.Common.{◌≡◌, ◌∙◌, ◌<◌, inl, inr, ℕ, List, [], ◌∷◌, ◌++◌, length, take, Bool, true, false, Option, Some, None, Result, Ok, Err, IfSome, refl, sym, ap, subst, append_assoc, append-nil}
-use Rattle.std.specs.Prelude.{IsErrAnd, String, ⊤, if◌then◌else◌, string_bytes}
-use Rattle.std.specs.declared.alloc.Global.{Global}
+use Rattle.std.proofs.Common.{◌≡◌, ◌∙◌, ◌<◌, inl, inr, ℕ, List, [], ◌∷◌, ◌++◌, length, take, true, false, Option, Some, None, Result, Ok, Err, refl, sym, ap, ap₂, subst, append_assoc, append-nil}
+use Rattle.std.specs.Prelude.{IsErrAnd, ⊤, if◌then◌else◌, option_map}
 use Rattle.std.specs.Io.KnownBytes.{Appends}
 use Rattle.std.proofs.KnownBytes.{Appends-nil, Appends-trans}
 use Rattle.streams.specs.Steps.{AppendsPart}
@@ -10,26 +9,28 @@ use Rattle.sqlite.specs.Store.{Ghosts}
 use Rattle.review_policy.specs.declared.answer.Fault.{Fault}
 use Rattle.office_tables.specs.declared.row.RevisionRow.{RevisionRow}
 use Rattle.office_policy.specs.History.{Event, History, founded, enrolled, submitted, voted, issued, withdrawn, adopted, held, released}
-use Rattle.office_policy.specs.Handled.{Survives}
-use Rattle.office_policy.specs.Lawful.{IsFounding}
+use Rattle.office_policy.specs.Handled.{Stands, Survives}
+use Rattle.office_policy.specs.Lawful.{IsFounding, IsLawfulHistory}
 use Rattle.office_policy.specs.Meaning.{Meaning}
 use Rattle.office_desk.specs.Looking.{HasLookedBack}
 use Rattle.office_desk.specs.Meant.{meaning_over}
 use Rattle.office_desk.specs.Replayed.{HasHappened}
-use Rattle.journal_lines.specs.Told.{GoesOn, Place, Tells, history_told, start}
+use Rattle.journal_lines.specs.declared.events.Unreadable.{Unreadable}
+use Rattle.journal_lines.specs.Told.{Ends, GoesOn, Place, Tells, held_at, history_told, standing, start}
 use Rattle.journal_lines.proofs.ToldFacts.{stays}
 use Rattle.journal_replay.specs.declared.fault.Refused.{Refused}
 use Rattle.journal_replay.specs.declared.fault.Why.{Why}
 use Rattle.journal_replay.specs.declared.fault.Why.TheVariants as halt
-use Rattle.journal_replay.specs.Rebuilt.{HasReplayed, IsRefused}
-use Rattle.journal_replay.specs.Steps.{IsKeptOut, IsLeft}
-use Rattle.journal_replay.proofs.Replays.{more, told_on}
+use Rattle.journal_replay.specs.Rebuilt.{HasReplayed, line_behind}
+use Rattle.journal_replay.specs.Steps.{IsFirstRead, IsKeptOut as IsOut, IsLeft, IsLeftHeld, LeavesAt}
+use Rattle.journal_replay.proofs.Refusals.{held_there}
+use Rattle.journal_replay.proofs.Replays.{goes_then, more_lawful, more_stands, told_on}
 use Rattle.journal_reports.specs.declared.fault.Unwritten.{Unwritten}
 use Rattle.journal_reports.specs.declared.fault.Unwritten.TheVariants as why
-use Rattle.journal_reports.specs.History.{HasWritten, IsHalted, IsHaltedBy, IsUnwritten, lines_after, lines_told, shown_of}
+use Rattle.journal_reports.specs.History.{ComesNext, HasWritten, IsCutOff, IsHalted, IsUnwritten, lines_after, lines_told, shown_of}
 use Rattle.journal_reports.specs.Lines.{line_of, looked_up, text_of}
 use Rattle.journal_reports.specs.Passing.{Asked, passes}
-use Rattle.journal_reports.specs.Writing.{HasLine, HasLookedUp, HasNoLine, IsStopped, LooksUp, MakesLine, WritesAll, WritesFirst, WritesNext, WritesPart, WritesText}
+use Rattle.journal_reports.specs.Writing.{AreWritten, HasLine, HasLookedUp, HasNoLine, IsStopped, LooksUp, WritesAll, WritesFirst, WritesNext, WritesPart, WritesText}
 use Rattle.journal_reports.proofs.Looks.{looked_on}
 
 abbrev Line : Type 0
@@ -70,6 +71,43 @@ pub is_shown : (asked : Asked) (h : History) (line : ℕ) (e : Event) (found : O
     → text ≡ shown_of asked h (line, e)
 is_shown asked h line e found text asked_for is looked =
     is ∙ ap (text_of line e) looked ∙ ap (λ b. if b then line_of h line e else []) (sym asked_for)
+
+-- the event that is held back at a place stands there
+held_stands : (number : ℕ) (kept : Option Event) (placed : ℕ × Event) → Some placed ≡ option_map (λ e. (number, e)) kept → standing number kept ≡ placed ∷ []
+held_stands number None placed is = absurd cc
+held_stands number (Some e) placed is = let same : placed ≡ (number, e) = cc in ap (λ (p : ℕ × Event). p ∷ []) (sym same)
+
+abbrev numbered : ℕ → Event → ℕ × Event
+numbered number e = (number, e)
+
+none_stands : (number : ℕ) (kept : Option Event) → None ≡ option_map (numbered number) kept → standing number kept ≡ []
+none_stands number None is = refl
+none_stands number (Some e) is = absurd cc
+
+-- where the journal can't be read on, it comes next
+pub last_comes : (here after : Place) (line : ℕ) (w : Why) (placed : ℕ × Event) → IsLeft here after line w → Some placed ≡ held_at after → ComesNext here placed
+last_comes here after line (halt.Unread fault) placed at is =
+    inr (record {
+      fault = fault;
+      last = at.leaves.last;
+      on = at.leaves.on;
+      cannot = at.leaves.cannot;
+      held = sym (is ∙ held_there after at.leaves.last at.leaves.taken at.leaves.held);
+    })
+last_comes here after line halt.NotFounded placed at is = absurd at
+last_comes here after line (halt.Unfounded fault) placed at is = absurd at
+last_comes here after line (halt.Unreplayed cause) placed at is = absurd at
+
+-- what is read first comes first
+held_comes : (from : Place) (placed : ℕ × Event) (line : ℕ) (w : Why) → IsLeftHeld from (Some placed) line w → ComesNext from placed
+held_comes from placed line (halt.Unread fault) at = inr (record { fault = fault; last = at.last; on = at.on; cannot = at.cannot; held = at.held })
+held_comes from placed line halt.NotFounded at = absurd at
+held_comes from placed line (halt.Unfounded fault) at = absurd at
+held_comes from placed line (halt.Unreplayed cause) at = absurd at
+
+pub first_comes : (from here : Place) (placed : ℕ × Event) (halted : Option Refused) → IsFirstRead from here placed halted → ComesNext from placed
+first_comes from here placed None first = inl (here, first)
+first_comes from here placed (Some refused) first = held_comes from placed refused.line refused.why first
 
 module _ {X : Type 0} (m : Meaning X) (bytes : Option (List ℕ)) where
   -- ---- one event
@@ -112,21 +150,22 @@ module _ {X : Type 0} (m : Meaning X) (bytes : Option (List ℕ)) where
 
   module _ (asked : Asked) (from out : Option (List ℕ)) where
     -- why it doesn't happen again
-    halted_by : (here behind : Place) (office left : X) (placed : ℕ × Event) (line : ℕ) (w : Why) → GoesOn here behind (placed ∷ []) → IsKeptOut m office left placed line w
-        → IsHaltedBy bytes asked from out m left here office line w
-    halted_by here behind office left placed line (halt.Unread fault) told out = absurd out
-    halted_by here behind office left placed line halt.NotFounded told out = absurd out
-    halted_by here behind office left placed line (halt.Unfounded fault) told out = absurd out
-    halted_by here behind office left placed line (halt.Unreplayed cause) told out =
-        (placed.1, behind, subst (λ (n : ℕ). GoesOn here behind ((n, placed.1) ∷ [])) (sym out.0) told, out.1)
+    halted_by : (here : Place) (es : List (ℕ × Event)) (office left : X) (placed : ℕ × Event) (line : ℕ) (w : Why) → HasWritten bytes asked from out m left here es office → ComesNext here placed
+        → IsOut m office left placed line w → IsHalted bytes asked from out m left line w
+    halted_by here es office left placed line (halt.Unread fault) written comes out = absurd out
+    halted_by here es office left placed line halt.NotFounded written comes out = absurd out
+    halted_by here es office left placed line (halt.Unfounded fault) written comes out = absurd out
+    halted_by here es office left placed line (halt.Unreplayed cause) written comes out = record {
+      here = here;
+      before = es;
+      office = office;
+      written = written;
+      event = placed.1;
+      comes = subst (λ (n : ℕ). ComesNext here (n, placed.1)) (sym out.0) comes;
+      refused = out.1;
+    }
 
-    read_on : (here : Place) (office left : X) (line : ℕ) (w : Why) → IsLeft here line w → IsHaltedBy bytes asked from out m left here office line w
-    read_on here office left line (halt.Unread fault) at = at
-    read_on here office left line halt.NotFounded at = absurd at
-    read_on here office left line (halt.Unfounded fault) at = absurd at
-    read_on here office left line (halt.Unreplayed cause) at = absurd at
-
-    module _ (here behind : Place) (es : List (ℕ × Event)) (old : X) (placed : ℕ × Event) (before : HasWritten bytes asked from out m old here es old) (told : GoesOn here behind (placed ∷ [])) where
+    module _ (here : Place) (es : List (ℕ × Event)) (old : X) (placed : ℕ × Event) (before : HasWritten bytes asked from out m old here es old) (comes : ComesNext here placed) where
       -- there is no line of it
       pub no_more : (new : X) (reason : Unwritten) → HasNoLine bytes m here es old new placed reason → IsStopped bytes m asked from out new reason
       no_more new (why.Refused refused) none = absurd none
@@ -136,8 +175,7 @@ module _ {X : Type 0} (m : Meaning X) (bytes : Option (List ℕ)) where
         office = old;
         written = record { replayed = before.replayed; written = λ clean. before.written (none.1.clean clean) };
         event = placed.1;
-        behind = behind;
-        told = subst (λ (n : ℕ). GoesOn here behind ((n, placed.1) ∷ [])) (sym none.0) told;
+        comes = subst (λ (n : ℕ). ComesNext here (n, placed.1)) (sym none.0) comes;
         met = none.1.met;
       }
       no_more new why.Write none = absurd none
@@ -145,30 +183,29 @@ module _ {X : Type 0} (m : Meaning X) (bytes : Option (List ℕ)) where
 
       module _ (seen new : X) (text : List ℕ) (line : HasLine bytes m here es old seen asked placed text) (survives : Survives m seen new) where
         -- it doesn't happen again
-        pub kept_out : (refused : Refused) → IsKeptOut m seen new placed refused.line refused.why → IsStopped bytes m asked from out new (why.Refused refused)
-        kept_out refused out = record {
-          here = here;
-          before = es;
-          office = seen;
-          written = record { replayed = line.replayed; written = λ clean. before.written (line.clean (survives.clean clean)) };
-          halted = halted_by here behind seen new placed refused.line refused.why told out;
-        }
+        pub kept_out : (refused : Refused) → IsOut m seen new placed refused.line refused.why → IsStopped bytes m asked from out new (why.Refused refused)
+        kept_out refused out =
+            halted_by here es seen new placed refused.line refused.why (record { replayed = line.replayed; written = λ clean. before.written (line.clean (survives.clean clean)) }) comes out
 
         -- it does, and its line is written
         pub written_next : (end : Option (List ℕ)) (result : Result ⊤ Unwritten) → HasHappened m seen new placed.1 → WritesText out end text result
-            → WritesNext bytes m asked from end new behind (es ++ placed ∷ []) result
+            → WritesNext bytes m asked from end new (es ++ placed ∷ []) result
         written_next end (Ok done) happened wrote = record {
-          replayed = more m bytes here behind es placed.0 placed.1 seen new line.replayed told happened;
+          lawful = more_lawful m bytes here es placed.0 placed.1 seen new line.replayed happened;
+          stands = more_stands m bytes here es placed.0 placed.1 seen new line.replayed happened;
           written = λ clean.
               let was = survives.clean clean in
               subst (Appends from end) (sym (told_lines asked es placed))
               (Appends-trans from out end (lines_told asked es) (shown_of asked (history_told es) placed) (before.written (line.clean was)) (subst (Appends out end) (line.line was) wrote));
         }
         written_next end (Err reason) happened wrote = subst (IsStopped bytes m asked from end new) (sym wrote.0) (record {
+          here = here;
           before = es;
           placed = placed;
-          behind = behind;
-          replayed = more m bytes here behind es placed.0 placed.1 seen new line.replayed told happened;
+          told = line.replayed.told;
+          comes = comes;
+          lawful = more_lawful m bytes here es placed.0 placed.1 seen new line.replayed happened;
+          stands = more_stands m bytes here es placed.0 placed.1 seen new line.replayed happened;
           written = λ clean.
               let was = survives.clean clean in
               let part = wrote.1 in
@@ -180,6 +217,52 @@ module _ {X : Type 0} (m : Meaning X) (bytes : Option (List ℕ)) where
               );
         })
 
+    -- the event stands, and so the next ones can
+    pub written_on : (here behind : Place) (es : List (ℕ × Event)) (placed : ℕ × Event) (office : X) → GoesOn (start bytes) here es → GoesOn here behind (placed ∷ [])
+        → AreWritten bytes m asked from out office (es ++ placed ∷ []) → HasWritten bytes asked from out m office behind (es ++ placed ∷ []) office
+    written_on here behind es placed office first on are = record {
+      replayed = record { told = goes_then (start bytes) here behind es (placed ∷ []) first on; lawful = are.lawful; stands = are.stands };
+      written = are.written;
+    }
+
+    -- ---- the last line that can be read
+
+    -- all lines before it were written
+    cut_at : (here after : Place) (es all : List (ℕ × Event)) (left : X) (line : ℕ) (fault : Unreadable) → GoesOn (start bytes) here es → LeavesAt here after line fault
+        → all ≡ es ++ standing after.taken after.held → (m.is_clean left → IsLawfulHistory (history_told all)) → (m.is_clean left → Appends from out (lines_told asked all))
+        → IsCutOff bytes asked from out m left line fault
+    cut_at here after es all left line fault told at is lawful written =
+        let last = at.leaves.last in
+        let same : all ≡ es ++ standing last.taken last.held = is ∙ ap₂ (λ (n : ℕ) (h : Option Event). es ++ standing n h) at.leaves.taken at.leaves.held in
+        record {
+          last = last;
+          before = es;
+          told = subst (λ (xs : List (ℕ × Event)). GoesOn (start bytes) last xs) (append-nil es) (goes_then (start bytes) here last es [] told at.leaves.on);
+          cannot = at.leaves.cannot;
+          counted = at.counted ∙ ap line_behind at.leaves.taken;
+          lawful = λ clean. subst (λ (xs : List (ℕ × Event)). IsLawfulHistory (history_told xs)) same (lawful clean);
+          written = λ clean. subst (λ (xs : List (ℕ × Event)). Appends from out (lines_told asked xs)) same (written clean);
+        }
+
+    -- with that event
+    pub cut_behind : (here after : Place) (es : List (ℕ × Event)) (placed : ℕ × Event) (left : X) (line : ℕ) (w : Why) → GoesOn (start bytes) here es → IsLeft here after line w
+        → Some placed ≡ held_at after → AreWritten bytes m asked from out left (es ++ placed ∷ []) → IsHalted bytes asked from out m left line w
+    cut_behind here after es placed left line (halt.Unread fault) told at is are =
+        cut_at here after es (es ++ placed ∷ []) left line fault told at (ap (λ (xs : List (ℕ × Event)). es ++ xs) (sym (held_stands after.taken after.held placed is))) are.lawful are.written
+    cut_behind here after es placed left line halt.NotFounded told at is are = absurd at
+    cut_behind here after es placed left line (halt.Unfounded fault) told at is are = absurd at
+    cut_behind here after es placed left line (halt.Unreplayed cause) told at is are = absurd at
+
+    -- or where none is
+    pub cut_off : (here after : Place) (es : List (ℕ × Event)) (old left : X) (line : ℕ) (w : Why) → left ≡ old → HasWritten bytes asked from out m old here es old → IsLeft here after line w
+        → None ≡ held_at after → IsHalted bytes asked from out m left line w
+    cut_off here after es old left line (halt.Unread fault) same before at none =
+        cut_at here after es es left line fault before.replayed.told at (sym (append-nil es) ∙ ap (λ (xs : List (ℕ × Event)). es ++ xs) (sym (none_stands after.taken after.held none)))
+        (λ clean. before.replayed.lawful (subst (λ (x : X). m.is_clean x) same clean)) (λ clean. before.written (subst (λ (x : X). m.is_clean x) same clean))
+    cut_off here after es old left line halt.NotFounded same before at none = absurd at
+    cut_off here after es old left line (halt.Unfounded fault) same before at none = absurd at
+    cut_off here after es old left line (halt.Unreplayed cause) same before at none = absurd at
+
     -- ---- all of them
 
     -- a `?` that leaves with this reason
@@ -188,22 +271,11 @@ module _ {X : Type 0} (m : Meaning X) (bytes : Option (List ℕ)) where
     left_in left (Ok done) reason is stopped = absurd is
     left_in left (Err e) reason is stopped = subst (IsStopped bytes m asked from out left) (sym is) stopped
 
-    -- the journal can't be read on
-    pub cut_off : (here : Place) (es : List (ℕ × Event)) (old left : X) (refused : Refused) → left ≡ old → HasWritten bytes asked from out m old here es old → IsLeft here refused.line refused.why
-        → IsStopped bytes m asked from out left (why.Refused refused)
-    cut_off here es old left refused same before at = record {
-      here = here;
-      before = es;
-      office = old;
-      written = record { replayed = before.replayed; written = λ clean. before.written (subst (λ (x : X). m.is_clean x) same clean) };
-      halted = read_on here old left refused.line refused.why at;
-    }
-
-    -- or it is at its end
-    pub whole : (here : Place) (es : List (ℕ × Event)) (old left : X) → left ≡ old → HasWritten bytes asked from out m old here es old → Tells here [] → WritesAll bytes m asked from out left (Ok tt)
-    whole here es old left same before end = record {
+    -- the journal is at its end
+    pub whole : (here end : Place) (es : List (ℕ × Event)) (old left : X) → left ≡ old → HasWritten bytes asked from out m old here es old → Ends here end → WritesAll bytes m asked from out left (Ok tt)
+    whole here end es old left same before ends = record {
       events = es;
-      told = subst (Tells (start bytes)) (append-nil es) (before.replayed.told.tells [] end);
+      told = subst (Tells (start bytes)) (append-nil es) (before.replayed.told.tells [] ends.tells);
       lawful = λ clean. before.replayed.lawful (subst (λ (x : X). m.is_clean x) same clean);
       written = λ clean. before.written (subst (λ (x : X). m.is_clean x) same clean);
     }
@@ -214,18 +286,48 @@ module _ {X : Type 0} (m : Meaning X) (bytes : Option (List ℕ)) where
 
   -- ---- the first one
 
-  module _ (asked : Asked) (old new : Option (List ℕ)) (here : Place) (placed : ℕ × Event) (office : X) (before : HasReplayed bytes m here (placed ∷ []) office) where
+  module _ (asked : Asked) (old new : Option (List ℕ)) (here : Place) (placed : ℕ × Event) (office : X) (founding : IsFounding placed.1)
+      (stands : m.is_clean office → Stands m (placed.1 ∷ []) office) where
     first_lines : lines_told asked (placed ∷ []) ≡ shown_of asked [] placed
     first_lines = append-nil (shown_of asked [] placed)
 
-    pub first_written : Appends old new (shown_of asked [] placed) → HasWritten bytes asked old new m office here (placed ∷ []) office
-    first_written wrote = record { replayed = before; written = λ clean. subst (Appends old new) (sym first_lines) wrote }
+    pub first_written : GoesOn (start bytes) here (placed ∷ []) → Appends old new (shown_of asked [] placed) → HasWritten bytes asked old new m office here (placed ∷ []) office
+    first_written told wrote = record {
+      replayed = record { told = told; lawful = λ clean. founding; stands = stands };
+      written = λ clean. subst (Appends old new) (sym first_lines) wrote;
+    }
 
-    pub first_stopped : (reason : Unwritten) → WritesPart old new (shown_of asked [] placed) reason → IsStopped bytes m asked old new office reason
-    first_stopped (why.Refused refused) part = absurd part
-    first_stopped (why.Unseen line fault) part = absurd part
-    first_stopped why.Write part = record { before = []; placed = placed; behind = here; replayed = before; written = λ clean. part }
-    first_stopped why.NoMemory part = record {
+    -- it is held back
+    pub first_cut : (line : ℕ) (w : Why) → IsLeftHeld (start bytes) (Some placed) line w → Appends old new (shown_of asked [] placed) → IsHalted bytes asked old new m office line w
+    first_cut line (halt.Unread fault) at wrote =
+        let same : placed ∷ [] ≡ standing at.last.taken at.last.held = sym (held_stands at.last.taken at.last.held placed (sym at.held)) in
+        record {
+          last = at.last;
+          before = [];
+          told = at.on;
+          cannot = at.cannot;
+          counted = at.counted;
+          lawful = λ clean. subst (λ (xs : List (ℕ × Event)). IsLawfulHistory (history_told xs)) same founding;
+          written = λ clean. subst (λ (xs : List (ℕ × Event)). Appends old new (lines_told asked xs)) same (subst (Appends old new) (sym first_lines) wrote);
+        }
+    first_cut line halt.NotFounded at wrote = absurd at
+    first_cut line (halt.Unfounded fault) at wrote = absurd at
+    first_cut line (halt.Unreplayed cause) at wrote = absurd at
+
+    pub first_stopped : ComesNext (start bytes) placed → (reason : Unwritten) → WritesPart old new (shown_of asked [] placed) reason → IsStopped bytes m asked old new office reason
+    first_stopped comes (why.Refused refused) part = absurd part
+    first_stopped comes (why.Unseen line fault) part = absurd part
+    first_stopped comes why.Write part = record {
+      here = start bytes;
+      before = [];
+      placed = placed;
+      told = stays (start bytes);
+      comes = comes;
+      lawful = λ clean. founding;
+      stands = stands;
+      written = λ clean. part;
+    }
+    first_stopped comes why.NoMemory part = record {
       here = start bytes;
       before = [];
       told = stays (start bytes);

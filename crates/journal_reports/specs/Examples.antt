@@ -1,10 +1,9 @@
 -- Lines as people read them, written out.
-use Rattle.std.specs.Prelude.{ℕ, ◌+◌, ◌^◌, List, [], ◌∷◌, ◌++◌, true, false, Some, None, codes, replicate}
+use Rattle.std.specs.Prelude.{ℕ, ◌+◌, ◌^◌, List, [], ◌∷◌, codes, replicate}
 use Rattle.review_policy.specs.declared.ask.ProfileName.{ProfileName}
 use Rattle.review_policy.specs.declared.revision.State.TheVariants.{Open}
 use Rattle.office_tables.specs.declared.row.RevisionRow.{RevisionRow}
-use Rattle.office_policy.specs.History.{Event, founded, enrolled, voted, issued, withdrawn}
-use Rattle.office_policy.specs.History.{adopted, held, released}
+use Rattle.office_policy.specs.History.{Event, founded, enrolled}
 
 abbrev pub web : ProfileName
 web = record { team = codes "blue"; profile = codes "web" }

@@ -1,20 +1,25 @@
 -- The history that people read of a journal: the lines of its events.
-use Rattle.std.specs.Prelude.{◌≡◌, ◌⊎◌, ◌<◌, ◌++◌, ◌∷◌, [], ℕ, List, length, take, Option}
-use Rattle.std.specs.Prelude.{Result, Ok, Err, if◌then◌else◌}
+use Rattle.std.specs.Prelude.{◌≡◌, ◌⊎◌, ◌<◌, ◌++◌, ◌∷◌, [], ℕ, List, length, take, Option, Some}
+use Rattle.std.specs.Prelude.{Err, if◌then◌else◌}
 use Rattle.std.specs.Io.KnownBytes.{Appends}
 use Rattle.sqlite.specs.Held.{Held}
 use Rattle.sqlite.specs.Store.{Ghosts}
 use Rattle.review_policy.specs.declared.answer.Fault.{Fault}
+use Rattle.office_policy.specs.Handled.{Stands}
 use Rattle.office_policy.specs.History.{Event, History}
 use Rattle.office_policy.specs.Lawful.{IsLawfulHistory}
 use Rattle.office_policy.specs.Meaning.{Meaning}
+use Rattle.office_desk.specs.declared.replay.Unreplayed.{Unreplayed}
 use Rattle.office_desk.specs.Looking.{IsMetBetween}
 use Rattle.office_desk.specs.Meant.{meaning_over}
 use Rattle.office_desk.specs.Replayed.{IsReplayed}
-use Rattle.journal_lines.specs.Told.{GoesOn, Place, Tells, history_told, start}
+use Rattle.journal_lines.specs.declared.events.Unreadable.{Unreadable}
+use Rattle.journal_lines.specs.Told.{CannotGoOn, GoesOn, Place, Tells, held_at, history_told}
+use Rattle.journal_lines.specs.Told.{standing, start}
 use Rattle.journal_replay.specs.declared.fault.Why.{Why}
 use Rattle.journal_replay.specs.declared.fault.Why.TheVariants as halt
-use Rattle.journal_replay.specs.Rebuilt.{HasReplayed, IsRefused, StopsAt}
+use Rattle.journal_replay.specs.Rebuilt.{HasReplayed, line_behind}
+use Rattle.journal_replay.specs.Steps.{IsUnbegun}
 use Rattle.journal_reports.specs.declared.fault.Unwritten.{Unwritten}
 use Rattle.journal_reports.specs.declared.fault.Unwritten.TheVariants as why
 use Rattle.journal_reports.specs.Lines.{line_of}
@@ -33,6 +38,19 @@ lines_after asked h (placed ∷ es) =
 abbrev pub lines_told : Asked → List (ℕ × Event) → List ℕ
 lines_told asked es = lines_after asked [] es
 
+-- the event is that of the last line that can be read behind the place, and the only one that stands
+-- there: the line behind it can't be read, for this fault
+pub record IsLast (here : Place) (placed : ℕ × Event) : Type 0 where
+  pub fault : Unreadable
+  pub last : Place
+  pub on : GoesOn here last []
+  pub cannot : CannotGoOn fault last
+  pub held : held_at last ≡ Some placed
+
+-- the event is the next one behind the place: it stands, or it does as far as the journal can be read
+abbrev pub ComesNext : Place → (ℕ × Event) → Type 0
+ComesNext here placed = ((behind : Place) × GoesOn here behind (placed ∷ [])) ⊎ IsLast here placed
+
 -- of a journal with these bytes, where they are known, what was asked for is behind what a writer
 -- had
 module _ (bytes : Option (List ℕ)) (asked : Asked) (old new : Option (List ℕ)) where
@@ -49,21 +67,35 @@ module _ (bytes : Option (List ℕ)) (asked : Asked) (old new : Option (List ℕ
       pub replayed : HasReplayed bytes m here before office
       pub written : m.is_clean left → Appends old new (lines_told asked before)
 
-    -- behind this place the journal can't be read, or its event doesn't happen again
-    abbrev pub IsHaltedBy : Place → X → ℕ → Why → Type 0
-    IsHaltedBy here office line (halt.Unread fault) = StopsAt here line fault
-    IsHaltedBy here office line halt.NotFounded = ⊥
-    IsHaltedBy here office line (halt.Unfounded fault) = ⊥
-    IsHaltedBy here office line (halt.Unreplayed cause) =
-        (event : Event) × (behind : Place) × GoesOn here behind ((line, event) ∷ [])
-        × IsReplayed m office left event (Err cause)
+    -- the line of this number can't be read, for this fault; the events of all lines before it that
+    -- aren't struck out are a lawful history, and their lines were written
+    pub record IsCutOff (line : ℕ) (fault : Unreadable) : Type 0 where
+      pub last : Place
+      pub before : List (ℕ × Event)
+      pub told : GoesOn (start bytes) last before
+      pub cannot : CannotGoOn fault last
+      pub counted : line ≡ line_behind last.taken
+      pub lawful : m.is_clean left
+          → IsLawfulHistory (history_told (before ++ standing last.taken last.held))
+      pub written : m.is_clean left
+          → Appends old new (lines_told asked (before ++ standing last.taken last.held))
 
-    pub record IsHalted (line : ℕ) (w : Why) : Type 0 where
+    -- the event of this line is the next one, and doesn't happen again
+    pub record IsKeptOut (line : ℕ) (cause : Unreplayed) : Type 0 where
       pub here : Place
       pub before : List (ℕ × Event)
       pub office : X
       pub written : HasWritten here before office
-      pub halted : IsHaltedBy here office line w
+      pub event : Event
+      pub comes : ComesNext here (line, event)
+      pub refused : IsReplayed m office left event (Err cause)
+
+    -- the journal can't be read on, or its event doesn't happen again
+    abbrev pub IsHalted : (line : ℕ) → Why → Type 0
+    IsHalted line (halt.Unread fault) = IsCutOff line fault
+    IsHalted line halt.NotFounded = ⊥
+    IsHalted line (halt.Unfounded fault) = ⊥
+    IsHalted line (halt.Unreplayed cause) = IsKeptOut line cause
 
     -- the event of this line is the next one, and the office met this fault when it was looked at
     pub record IsBlind (line : ℕ) (fault : Fault) : Type 0 where
@@ -72,16 +104,18 @@ module _ (bytes : Option (List ℕ)) (asked : Asked) (old new : Option (List ℕ
       pub office : X
       pub written : HasWritten here before office
       pub event : Event
-      pub behind : Place
-      pub told : GoesOn here behind ((line, event) ∷ [])
+      pub comes : ComesNext here (line, event)
       pub met : m.is_clean left → IsMetBetween m office left fault
 
     -- the next event happened again, and of its line only a front part was written
     pub record IsCutIn : Type 0 where
+      pub here : Place
       pub before : List (ℕ × Event)
       pub placed : ℕ × Event
-      pub behind : Place
-      pub replayed : HasReplayed bytes m behind (before ++ placed ∷ []) left
+      pub told : GoesOn (start bytes) here before
+      pub comes : ComesNext here placed
+      pub lawful : m.is_clean left → IsLawfulHistory (history_told (before ++ placed ∷ []))
+      pub stands : m.is_clean left → Stands m (history_told (before ++ placed ∷ [])) left
       pub written : m.is_clean left → (count : ℕ)
           × (count < length (shown_of asked (history_told before) placed))
           × Appends old new
@@ -95,10 +129,11 @@ module _ (bytes : Option (List ℕ)) (asked : Asked) (old new : Option (List ℕ
       pub written : m.is_clean left → Appends old new (lines_told asked before)
 
   module _ {S : Type 0} (g : Ghosts S) (conn left : Held S) where
-    -- why not all lines were written, and what was; what can't be founded has no line
+    -- why not all lines were written, and what was; where no office is founded, by what can be read
+    -- of the journal, no line was
     abbrev pub IsUnwritten : Unwritten → Type 0
     IsUnwritten (why.Refused refused) =
-        (IsRefused bytes g conn left refused.line refused.why × (new ≡ old))
+        (IsUnbegun bytes g conn left refused.line refused.why × (new ≡ old))
         ⊎ IsHalted (meaning_over g) left refused.line refused.why
     IsUnwritten (why.Unseen line fault) = IsBlind (meaning_over g) left line fault
     IsUnwritten why.Write = IsCutIn (meaning_over g) left

@@ -6,15 +6,17 @@ use Rattle.std.specs.declared.alloc.Global.{Global}
 use Rattle.streams.specs.Steps.{AppendsPart}
 use Rattle.review_policy.specs.declared.answer.Fault.{Fault}
 use Rattle.office_tables.specs.declared.row.RevisionRow.{RevisionRow}
+use Rattle.office_policy.specs.Handled.{Stands}
 use Rattle.office_policy.specs.History.{Event}
+use Rattle.office_policy.specs.Lawful.{IsLawfulHistory}
 use Rattle.office_policy.specs.Meaning.{Meaning}
 use Rattle.office_desk.specs.Looking.{IsMetBetween}
 use Rattle.journal_lines.specs.Told.{Place, history_told}
 use Rattle.journal_replay.specs.Rebuilt.{HasReplayed}
 use Rattle.journal_reports.specs.declared.fault.Unwritten.{Unwritten}
 use Rattle.journal_reports.specs.declared.fault.Unwritten.TheVariants as why
-use Rattle.journal_reports.specs.History.{HasWritten, IsBlind, IsCutIn, IsGivenUp, IsHalted}
-use Rattle.journal_reports.specs.History.{IsWritten, shown_of}
+use Rattle.journal_reports.specs.History.{IsBlind, IsCutIn, IsGivenUp, IsHalted}
+use Rattle.journal_reports.specs.History.{IsWritten, lines_told, shown_of}
 use Rattle.journal_reports.specs.Lines.{looked_up}
 use Rattle.journal_reports.specs.Passing.{Asked}
 
@@ -79,10 +81,16 @@ module _ (bytes : Option (List ℕ)) {X : Type 0} (m : Meaning X) where
     IsStopped why.Write = IsCutIn bytes asked old new m left
     IsStopped why.NoMemory = IsGivenUp bytes asked old new m left
 
-    -- the line of the next event was written, which has happened again
-    abbrev pub WritesNext : (behind : Place) → List (ℕ × Event) → Result ⊤ Unwritten → Type 0
-    WritesNext behind all (Ok done) = HasWritten bytes asked old new m left behind all left
-    WritesNext behind all (Err reason) = IsStopped reason
+    -- these events are a lawful history, of which the office stands, and their lines were written
+    pub record AreWritten (all : List (ℕ × Event)) : Type 0 where
+      pub lawful : m.is_clean left → IsLawfulHistory (history_told all)
+      pub stands : m.is_clean left → Stands m (history_told all) left
+      pub written : m.is_clean left → Appends old new (lines_told asked all)
+
+    -- the line of the last of them was written, which has happened again
+    abbrev pub WritesNext : List (ℕ × Event) → Result ⊤ Unwritten → Type 0
+    WritesNext all (Ok done) = AreWritten all
+    WritesNext all (Err reason) = IsStopped reason
 
     -- the lines of all events were written
     abbrev pub WritesAll : Result ⊤ Unwritten → Type 0

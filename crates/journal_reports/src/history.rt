@@ -1,24 +1,29 @@
 //! The history that people read of a journal.
 
-ghost use Rattle.std.specs.Prelude.{◌≡◌, ◌∷◌, ◌++◌, [], ℕ, List, Option, None, IfErr, IfOk};
+ghost use Rattle.std.specs.Prelude.{◌≡◌, ◌∷◌, ◌++◌, [], ℕ, List, Option, None, Ok, IfErr, IfOk};
 ghost use Rattle.std.specs.Prelude.{string_bytes};
 ghost use Rattle.sqlite.specs.Held.{state};
+ghost use Rattle.sqlite.specs.State.{HasCleanDisk};
 ghost use Rattle.office_store.specs.Shown.{IsIdle};
+ghost use Rattle.office_policy.specs.Handled.{Stands};
 ghost use Rattle.office_policy.specs.Happened.{event_meant};
 ghost use Rattle.office_policy.specs.History.{Event as TheEvent};
 ghost use Rattle.office_policy.specs.Lawful.{IsFounding};
 ghost use Rattle.office_desk.specs.Meant.{meaning_over};
-ghost use Rattle.journal_lines.specs.Told.{GoesOn, Place, place, placed_meant};
+ghost use Rattle.journal_lines.specs.Told.{Gives, Place, place, placed_meant, start};
 ghost use Rattle.journal_replay.specs.Rebuilt.{HasReplayed};
-ghost use Rattle.journal_reports.specs.History.{HasWritten, IsUnwritten, IsWritten, shown_of};
-ghost use Rattle.journal_reports.specs.Writing.{LooksUp, MakesLine, WritesAll, WritesFirst};
+ghost use Rattle.journal_replay.specs.Steps.{CountsNext, IsFirstRead, IsLeft};
+ghost use Rattle.journal_reports.specs.History.{ComesNext, HasWritten, IsUnwritten, IsWritten};
+ghost use Rattle.journal_reports.specs.History.{shown_of};
+ghost use Rattle.journal_reports.specs.Writing.{IsStopped, LooksUp, MakesLine, WritesAll};
+ghost use Rattle.journal_reports.specs.Writing.{WritesFirst};
 ghost use Rattle.journal_reports.specs.Writing.{WritesNext, WritesText};
 
 use crate::fault::Unwritten;
 use crate::filter::Filter;
 use crate::line::text;
 use journal_lines::Placed;
-use journal_replay::Replay;
+use journal_replay::{Refused, Replay};
 use office_desk::Office;
 use office_policy::Event;
 use office_tables::RevisionRow;
@@ -108,10 +113,9 @@ fn write_next<S: Alter, R: BufRead, W: Write>(
     ensures written { (bytes from : Option (List ℕ)) (here : Place) (es : List (ℕ × TheEvent))
         → HasWritten bytes filter.now from (W.contents output.old.inner) (meaning_over S.Store)
         replay.old.office here es replay.old.office
-        → GoesOn here (place R.remaining replay.old.events) (placed_meant placed ∷ [])
+        → ComesNext here (placed_meant placed)
         → WritesNext bytes (meaning_over S.Store) filter.now from (W.contents output.new.inner)
-        replay.new.office (place R.remaining replay.old.events) (es ++ placed_meant placed ∷ [])
-        result }
+        replay.new.office (es ++ placed_meant placed ∷ []) result }
 {
     let made = line_of(alloc, &mut replay.office, &placed, filter);
     match made {
@@ -129,6 +133,58 @@ fn write_next<S: Alter, R: BufRead, W: Write>(
     }
 }
 
+// Of a journal that can't be read on, has the event that is held back happen again, where one is, and
+// writes its line. Why no more is written.
+fn write_last<S: Alter, R: BufRead, W: Write>(
+    alloc: Global,
+    replay: &mut Replay<S, R>,
+    refused: Refused,
+    filter: &Filter<'_>,
+    output: &mut Counted<W>,
+) -> Unwritten
+    ensures { (bytes from : Option (List ℕ)) (here : Place) (es : List (ℕ × TheEvent))
+        → HasWritten bytes filter.now from (W.contents output.old.inner) (meaning_over S.Store)
+        replay.old.office here es replay.old.office
+        → IsLeft here (place R.remaining replay.old.events) refused.line refused.why
+        → IsStopped bytes (meaning_over S.Store) filter.now from (W.contents output.new.inner)
+        replay.new.office result }
+{
+    match replay.held_back() {
+        Some(placed) => match write_next(alloc, replay, placed, filter, output) {
+            Ok(()) => Unwritten::Refused(refused),
+            Err(why) => why,
+        },
+        None => Unwritten::Refused(refused),
+    }
+}
+
+// The next event that stands. Where the journal can't be read on, the line of the one that is held
+// back is written first.
+fn next_event<S: Alter, R: BufRead, W: Write>(
+    alloc: Global,
+    replay: &mut Replay<S, R>,
+    filter: &Filter<'_>,
+    output: &mut Counted<W>,
+) -> Result<Option<Placed>, Unwritten>
+    requires { replay.old.events.fault ≡ None }
+    ensures office { IfOk result (λ _. replay.new.office ≡ replay.old.office) }
+    ensures output { IfOk result (λ _. output.new ≡ output.old) }
+    ensures next { IfOk result (λ found. Gives (place R.remaining replay.old.events)
+        (place R.remaining replay.new.events) (Ok found)) }
+    ensures fault { IfOk result (λ _. replay.new.events.fault ≡ None) }
+    ensures count { IfOk result (CountsNext replay.old.count replay.new.count) }
+    ensures stopped { IfErr result (λ why. (bytes from : Option (List ℕ)) (es : List (ℕ × TheEvent))
+        → HasWritten bytes filter.now from (W.contents output.old.inner) (meaning_over S.Store)
+        replay.old.office (place R.remaining replay.old.events) es replay.old.office
+        → IsStopped bytes (meaning_over S.Store) filter.now from (W.contents output.new.inner)
+        replay.new.office why) }
+{
+    match replay.next(alloc) {
+        Ok(found) => Ok(found),
+        Err(refused) => Err(write_last(alloc, replay, refused, filter, output)),
+    }
+}
+
 // Has each further event happen again, and writes its line.
 fn write_rest<S: Alter, R: BufRead, W: Write>(
     alloc: Global,
@@ -143,7 +199,7 @@ fn write_rest<S: Alter, R: BufRead, W: Write>(
         → WritesAll bytes (meaning_over S.Store) filter.now from (W.contents output.new.inner)
         replay.new.office result }
 {
-    'events: while let Some(placed) = replay.next(alloc)? {
+    'events: while let Some(placed) = next_event(alloc, replay, filter, output)? {
         write_next(alloc, replay, placed, filter, output)?;
     }
     Ok(())
@@ -184,24 +240,30 @@ fn write_first<W: Write>(
     }
 }
 
-// Writes the lines of all events, of which the first one has happened again.
+// Writes the lines of all events, of which the first one has happened again. Where the journal can't
+// be read on behind that, it says why.
 fn write_all<S: Alter, R: BufRead, W: Write>(
     alloc: Global,
     replay: &mut Replay<S, R>,
     first: Placed,
+    halt: Option<Refused>,
     filter: &Filter<'_>,
     output: &mut Counted<W>,
 ) -> Result<(), Unwritten>
-    requires fault { replay.old.events.fault ≡ None }
+    requires fault { halt ≡ None → replay.old.events.fault ≡ None }
     requires founding { IsFounding (event_meant first.event) }
     ensures { (bytes : Option (List ℕ))
-        → HasReplayed bytes (meaning_over S.Store) (place R.remaining replay.old.events)
-        (placed_meant first ∷ []) replay.old.office
+        → IsFirstRead (start bytes) (place R.remaining replay.old.events) (placed_meant first) halt
+        → (HasCleanDisk (state S.Store replay.old.office)
+        → Stands (meaning_over S.Store) (event_meant first.event ∷ []) replay.old.office)
         → WritesAll bytes (meaning_over S.Store) filter.now (W.contents output.old.inner)
         (W.contents output.new.inner) replay.new.office result }
 {
     match write_first(alloc, first, filter, output) {
-        Ok(()) => write_rest(alloc, replay, filter, output),
+        Ok(()) => match halt {
+            None => write_rest(alloc, replay, filter, output),
+            Some(refused) => Err(Unwritten::Refused(refused)),
+        },
         Err(why) => Err(why),
     }
 }
@@ -229,11 +291,11 @@ pub fn write_history<S: Alter, R: BufRead + Drop, W: Write>(
     ensures idle { IfOk result (λ left. IsIdle (state S.Store left)) }
     ensures idle_on_error { IfErr result (λ stopped. IsIdle (state S.Store stopped.1)) }
 {
-    let (mut replay, first) = match Replay::begin(alloc, conn, journal) {
+    let (mut replay, first, halt) = match Replay::begin_as_read(alloc, conn, journal) {
         Ok(begun) => begun,
         Err((refused, conn)) => return Err((Unwritten::Refused(refused), conn)),
     };
-    let written = write_all(alloc, &mut replay, first, filter, output);
+    let written = write_all(alloc, &mut replay, first, halt, filter, output);
     let conn = replay.into_office().into_connection();
     match written {
         Ok(()) => Ok(conn),

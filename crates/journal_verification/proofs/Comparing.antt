@@ -18,7 +18,7 @@ pub told : {S T : Type 0} (g : Ghosts S) (f : Ghosts T) (t : Tables) (built : He
     → IsLive (state f old) → (IsTrue (state f old).is_open → (state f old).now ≡ (state f old).committed) → OnOk r (IsUnchanged (state f old) (state f new))
     → IfOk r (TellsTables g f (state g built).now (state f old).now) → IfOk r (TellsOffice g f t built old new)
 told g f t built old new (Err fault) shows has live settled same tells = tt
-told g f t built old new (Ok (Some d)) shows has live settled same tells = inr tells
+told g f t built old new (Ok (Some d)) shows has live settled same tells = inr (has, tells)
 told g f t built old new (Ok None) shows has live settled same tells = record {
   is_open = same.0.is_open;
   settled = same.0.now_is ∙ settled same.0.was_open ∙ sym same.0.committed_is;

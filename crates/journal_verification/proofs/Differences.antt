@@ -1,5 +1,5 @@
 -- Where two offices answer by other rows, their tables differ at the key that is named.
-use Rattle.std.proofs.Common.{inl, inr, List, [], ◌∷◌, map, sym, ap, subst, ◌∙◌}
+use Rattle.std.proofs.Common.{inl, inr, List, [], ◌∷◌, map, Some, sym, ap, subst, ◌∙◌}
 use Rattle.std.specs.Prelude.{bytes_eq, slice_get}
 use Rattle.std.specs.List.Sorted.{IsPermutation}
 use Rattle.std.proofs.lemmas.Slice.Eq.{bytes_eq-Decides}
@@ -19,7 +19,7 @@ use Rattle.journal_verification.specs.Compared.{Differs}
 use Rattle.journal_verification.specs.Different.{DifferAt}
 use Rattle.journal_verification.specs.Differing.{StandsFirst}
 use Rattle.journal_verification.specs.Named.{IsKeyOf, IsNamed}
-use Rattle.journal_verification.specs.Same.{IsAnsweredBy}
+use Rattle.journal_verification.specs.Same.{IsAnsweredBy, TellsTable}
 use Rattle.journal_verification.specs.Texts.{key_width, rows_text}
 use Rattle.journal_verification.proofs.Keys.{baseline_columns, baseline_key, baseline_keyed, baseline_named, baseline_showed, baseline_sorts, baseline_tied, hold_columns, hold_key, hold_keyed, hold_named, hold_showed, hold_sorts, hold_tied, revision_columns, revision_keyed, revision_named, revision_showed, revision_sorts, revision_tied, user_columns, user_key, user_keyed, user_named, user_showed, user_sorts, user_tied, vote_columns, vote_key, vote_keyed, vote_named, vote_showed, vote_sorts, vote_tied}
 use Rattle.journal_verification.proofs.Offices.{office_columns, one_permuted, rows_shown, shown}
@@ -58,11 +58,15 @@ module _ {S T : Type 0} (g : Ghosts S) (f : Ghosts T) (a b : Database) (t u : Ta
   one_side table.Baselines in_a in_b stands d (inl h) = baseline_named a b t u o p row (only_in baseline_row baseline_keyed bytes_eq bytes_eq-Decides baseline_key IsBaseline table.Baselines baseline_showed baseline_sorts baseline_tied baseline_columns g f a b o.schema p.schema left right row in_a in_b o.baselines p.baselines stands) d h
   one_side table.Holds in_a in_b stands d (inl h) = hold_named a b t u o p row (only_in hold_row hold_keyed is_profile profiles_decide hold_key IsProfileName table.Holds hold_showed hold_sorts hold_tied hold_columns g f a b o.schema p.schema left right row in_a in_b o.holds p.holds stands) d h
 
--- what differs differs at the key
-pub differ : {S T : Type 0} (g : Ghosts S) (f : Ghosts T) (built : Held S) (office : Held T) (t u : Tables) (d : Difference) → Shows (state g built) t → Shows (state f office) u → Differs g f built office d → DifferAt t u d
-differ g f built office t u d first second (inl other) = absurd (other.1 second.office.schema)
-differ g f built office t u d first second (inr (x, inr fall)) = subst (DifferAt t u) (sym fall.0) tt
-differ g f built office t u d first second (inr (x, inl other)) = elim other.differs [
-  | inl stands ↦ one_side g f (state g built).now (state f office).now t u first.office second.office other.left other.right other.row x other.in_first other.in_second stands d other.named
-  | inr stands ↦ back t u d (one_side f g (state f office).now (state g built).now u t second.office first.office other.right other.left other.row x other.in_second other.in_first stands d other.named)
-]
+module _ {S T : Type 0} (g : Ghosts S) (f : Ghosts T) (built : Held S) (office : Held T) (t u : Tables) (d : Difference) (first : Shows (state g built) t) (second : Shows (state f office) u) where
+  -- a table that differs differs at the key
+  differ_in : (x : Table) → TellsTable g f x (state g built).now (state f office).now (Some d) → DifferAt t u d
+  differ_in x (inr fall) = subst (DifferAt t u) (sym fall.1.0) tt
+  differ_in x (inl other) = elim other.differs [
+    | inl stands ↦ one_side g f (state g built).now (state f office).now t u first.office second.office other.left other.right other.row x other.in_first other.in_second stands d other.named
+    | inr stands ↦ back t u d (one_side f g (state f office).now (state g built).now u t second.office first.office other.right other.left other.row x other.in_second other.in_first stands d other.named)
+  ]
+
+  pub differ : Differs g f built office d → DifferAt t u d
+  differ (inl other) = absurd (other.1 second.office.schema)
+  differ (inr tells) = differ_in tells.1.table tells.1.differs

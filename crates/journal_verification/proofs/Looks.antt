@@ -1,8 +1,9 @@
 -- What looking at a connection leaves of it.
-use Rattle.std.proofs.Common.{◌≡◌, ℕ, ◌+◌, ◌<◌, List, [], ◌∷◌, take, get_or, length, false, Result, Ok, Err, IfOk, IfErr, refl, sym, subst, ◌∙◌, arith}
+use Rattle.std.proofs.Common.{◌≡◌, ℕ, ◌+◌, ◌<◌, List, [], ◌∷◌, ◌++◌, take, drop, get_or, length, false, Result, Ok, Err, Some, IfOk, IfErr, refl, sym, ap, subst, ◌∙◌, arith}
 use Rattle.std.specs.Prelude.{OnOk}
 use Rattle.std.specs.List.{AllByRecursion}
-use Rattle.std.proofs.lemmas.List.{take_more}
+use Rattle.std.proofs.lemmas.List.{drop_more, take-append-drop, take_more}
+use Rattle.std.proofs.lemmas.List.Elements.{All-from_recursion, All-nil}
 use Rattle.sqlite.specs.Effect.{Database}
 use Rattle.sqlite.proofs.StateLemmas.{survives_then}
 use Rattle.sqlite_trees.proofs.ListLemmas.{all-append}
@@ -16,11 +17,12 @@ use Rattle.office_rows.specs.Rows.{IsFaultOf}
 use Rattle.office_rows.proofs.Queries.{rows_asked, shown_left}
 use Rattle.office_store.specs.Shown.{IsIdle}
 use Rattle.office_store.proofs.Calls.{opened}
+use Rattle.journal_verification.specs.declared.difference.Difference.{Difference}
 use Rattle.journal_verification.specs.declared.table.Table.{Table}
 use Rattle.journal_verification.specs.declared.table.Table.TheVariants as table
 use Rattle.journal_verification.specs.declared.table.TheConstants.{FURTHER}
 use Rattle.journal_verification.specs.Looked.{HasLooked}
-use Rattle.journal_verification.specs.Same.{IsAnsweredBy, HaveSame, HaveSameTables}
+use Rattle.journal_verification.specs.Same.{IsAnsweredBy, DiffersFirst, HaveSame, HaveSameTables, TellsTable}
 
 pub has_looked : (sql : List ℕ) → IsQuery sql → (params : Row) (old new : State) {X : Type 0} (items : X → List Row) (r : Result X StoreFault) → IsIdle old → (old.in_transaction ≡ false → new.in_transaction ≡ false)
     → (HasCleanDisk new → IfOk r (λ x. Shown sql params old new (items x))) → (HasCleanDisk new → IfErr r (IsFaultOf sql params old new)) → Survives old new (CommitsShowing sql params old) → HasLooked old new
@@ -73,3 +75,25 @@ module _ {S T : Type 0} (g : Ghosts S) (f : Ghosts T) where
   all_six a b office further table.Votes = further.1.1.0
   all_six a b office further table.Baselines = further.1.1.1.0
   all_six a b office further table.Holds = further.1.1.1.1.0
+
+  -- the table of the office is the first of all
+  pub first_of_all : (a b : Database) (d : Difference) → TellsTable g f table.Office a b (Some d) → DiffersFirst g f a b d
+  first_of_all a b d differs = record {
+    before = [];
+    table = table.Office;
+    rest = FURTHER;
+    parts = refl;
+    same = All-nil (λ t. HaveSame g f t a b);
+    differs = differs;
+  }
+
+  pub first_further : (a b : Database) (i : ℕ) (x : Table) (d : Difference) → i < length FURTHER → HaveSame g f table.Office a b → AllByRecursion (λ t. HaveSame g f t a b) (take i FURTHER)
+      → TellsTable g f (get_or FURTHER i x) a b (Some d) → DiffersFirst g f a b d
+  first_further a b i x d within office further differs = record {
+    before = table.Office ∷ take i FURTHER;
+    table = get_or FURTHER i x;
+    rest = drop (i + 1) FURTHER;
+    parts = ap (λ l. table.Office ∷ l) (sym (take-append-drop i FURTHER) ∙ ap (λ l. take i FURTHER ++ l) (drop_more FURTHER i x within));
+    same = All-from_recursion (λ t. HaveSame g f t a b) (table.Office ∷ take i FURTHER) (office, further);
+    differs = differs;
+  }

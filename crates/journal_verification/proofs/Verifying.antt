@@ -1,24 +1,33 @@
 -- What it takes for an office to be verified.
-use Rattle.std.proofs.Common.{◌≡◌, ℕ, List, Option, refl, sym, subst}
+use Rattle.std.proofs.Common.{◌≡◌, ℕ, List, [], ◌∷◌, Option, Some, None, IfSome, refl, sym, subst}
 use Rattle.sqlite.specs.Held.{Held, state}
 use Rattle.sqlite.specs.State.{State, HasCleanDisk}
-use Rattle.sqlite.specs.Steps.{over_memory}
+use Rattle.sqlite.specs.Steps.{IsEmpty, over_memory}
 use Rattle.sqlite.specs.Store.{Ghosts}
 use Rattle.sqlite_trees.specs.View.{doubt}
 use Rattle.sqlite_trees.specs.declared.memory.MemStore.{MemStore}
 use Rattle.office_store.specs.Shown.{IsIdle, Shows}
 use Rattle.office_store.proofs.Calls.{Settles, leaves_only}
 use Rattle.office_store.proofs.Committed.{survives_same}
+use Rattle.office_policy.specs.Callers.{caller_of}
+use Rattle.office_policy.specs.History.{Event, History}
 use Rattle.office_policy.specs.TablesOf.{tables_of}
+use Rattle.office_desk.specs.declared.replay.Unreplayed.{Unreplayed}
 use Rattle.office_desk.specs.declared.replay.Unreplayed.TheVariants as causes
 use Rattle.office_desk.specs.Meant.{meaning_over}
+use Rattle.office_desk.specs.Replayed.{HasOtherText, IsDeniedBy, IsRefused as IsDenied}
 use Rattle.journal_lines.specs.declared.events.Unreadable.TheVariants as unreadable
+use Rattle.journal_lines.specs.Journal.{IsJournalOf, IsSealedJournal}
+use Rattle.journal_lines.specs.Told.{history_told, start}
+use Rattle.journal_replay.specs.declared.fault.Refused.{Refused}
 use Rattle.journal_replay.specs.declared.fault.Why.{Why}
 use Rattle.journal_replay.specs.declared.fault.Why.TheVariants as why
-use Rattle.journal_replay.specs.Rebuilt.{IsRebuilt, Refutes}
+use Rattle.journal_replay.specs.Rebuilt.{IsRebuilt, IsRefused, IsUnreplayed, Refutes}
+use Rattle.journal_replay.proofs.Replays.{goes_then}
 use Rattle.journal_verification.specs.declared.difference.Difference.{Difference}
 use Rattle.journal_verification.specs.Compared.{Differs}
 use Rattle.journal_verification.specs.Looked.{HasLooked}
+use Rattle.journal_verification.specs.Refused.{IsFirstUnlawful, IsNotRebuilt, IsWrongAt}
 use Rattle.journal_verification.specs.Verified.{IsOther, IsVerified}
 use Rattle.journal_verification.proofs.Differences.{differ}
 
@@ -36,10 +45,15 @@ looked_itself s idle = record {
   survives = survives_same s _;
 }
 
+unsealed : (bytes : Option (List ℕ)) (h : History) (seal : List ℕ) → IfSome bytes (λ text. IsSealedJournal text h seal) → IfSome bytes (λ text. IsJournalOf text h)
+unsealed None h seal is = tt
+unsealed (Some text) h seal is = is.journal
+
 module _ (bytes : Option (List ℕ)) where
-  pub refuted : (Clean : Type 0) → Clean → (w : Why) → Refutes bytes Clean w → Refutes bytes (Unit {0}) w
+  refuted : (Clean : Type 0) → Clean → (w : Why) → Refutes bytes Clean w → Refutes bytes (Unit {0}) w
   refuted Clean clean (why.Unread unreadable.NotALine) h = h
   refuted Clean clean (why.Unread unreadable.NothingToStrike) h = h
+  refuted Clean clean (why.Unread unreadable.Unsealed) h = h
   refuted Clean clean (why.Unread unreadable.TornLine) h = h
   refuted Clean clean (why.Unread unreadable.Read) h = h
   refuted Clean clean (why.Unread unreadable.NoMemory) h = h
@@ -50,7 +64,44 @@ module _ (bytes : Option (List ℕ)) where
   refuted Clean clean (why.Unreplayed causes.OtherText) h = λ _. h clean
   refuted Clean clean (why.Unreplayed (causes.Fault fault)) h = h
 
-  module _ (built : Held MemStore) (count : ℕ) (rebuilt : IsRebuilt bytes (meaning_over over_memory) count built) where
+  -- an event that is refused in memory is the first one that isn't allowed
+  first_unlawful : (left : Held MemStore) (line : ℕ) (cause : Unreplayed) (Because : Event → History → Type 0) (is : IsUnreplayed bytes (meaning_over over_memory) left line cause)
+      → IsDenied (meaning_over over_memory) is.old left is.event (Because is.event) → IsFirstUnlawful bytes line Because
+  first_unlawful left line cause Because is denied =
+      let clean = memory_is_clean is.old in
+      let here = (is.replayed.stands clean).is_of in
+      record {
+        before = is.before;
+        event = is.event;
+        after = is.after;
+        told = goes_then (start bytes) is.here is.after is.before ((line, is.event) ∷ []) is.replayed.told is.told;
+        lawful = is.replayed.lawful clean;
+        never = denied.never (history_told is.before) here (memory_is_clean left);
+        because = denied.why (history_told is.before) here (memory_is_clean left);
+      }
+
+  wrong_at : (conn left : Held MemStore) (line : ℕ) (w : Why) → IsRefused bytes over_memory conn left line w → IsWrongAt bytes line w
+  wrong_at conn left line (why.Unread fault) is = is
+  wrong_at conn left line why.NotFounded is = is
+  wrong_at conn left line (why.Unfounded fault) is = tt
+  wrong_at conn left line (why.Unreplayed (causes.Denied denial)) is = first_unlawful left line (causes.Denied denial) (λ e h. IsDeniedBy e h denial) is is.refused
+  wrong_at conn left line (why.Unreplayed causes.Founding) is = first_unlawful left line causes.Founding (λ e h. caller_of e ≡ None) is is.refused
+  wrong_at conn left line (why.Unreplayed causes.OtherText) is = first_unlawful left line causes.OtherText HasOtherText is is.refused
+  wrong_at conn left line (why.Unreplayed (causes.Fault fault)) is = tt
+
+  pub not_rebuilt : (conn left : Held MemStore) (refused : Refused) → IsIdle (state over_memory conn) → IsEmpty (state over_memory conn)
+      → IsRefused bytes over_memory conn left refused.line refused.why → Refutes bytes (HasCleanDisk (state over_memory left)) refused.why → IsNotRebuilt bytes refused
+  not_rebuilt conn left refused idle empty is unlawful = record {
+    conn = conn;
+    idle = idle;
+    empty = empty;
+    left = left;
+    refused = is;
+    wrong = wrong_at conn left refused.line refused.why is;
+    unlawful = refuted (HasCleanDisk (state over_memory left)) (memory_is_clean left) refused.why unlawful;
+  }
+
+  module _ (built : Held MemStore) (count : ℕ) (seal : List ℕ) (rebuilt : IsRebuilt bytes (meaning_over over_memory) count seal built) where
     built_shows : Shows (state over_memory built) (tables_of rebuilt.history)
     built_shows =
         let clean = memory_is_clean built in
@@ -62,7 +113,7 @@ module _ (bytes : Option (List ℕ)) where
     still_shows conn is = subst (λ (b : Held MemStore). Shows (state over_memory b) (tables_of rebuilt.history)) (sym is) built_shows
 
     module _ {T : Type 0} (f : Ghosts T) where
-      pub verified : (office : Held T) → IsIdle (state f office) → Settles (state f office) → Shows (state f office) (tables_of rebuilt.history) → IsVerified bytes f office count
+      pub verified : (office : Held T) → IsIdle (state f office) → Settles (state f office) → Shows (state f office) (tables_of rebuilt.history) → IsVerified bytes f office (record { events = count; seal = seal })
       verified office idle law shows =
           let lawful = rebuilt.lawful (memory_is_clean built) in
           record {
@@ -81,7 +132,7 @@ module _ (bytes : Option (List ℕ)) where
       pub other : (office : Held T) (d : Difference) → Differs over_memory f built office d → IsOther bytes f office d
       other office d differs = record {
         history = rebuilt.history;
-        journal = rebuilt.journal;
+        journal = unsealed bytes rebuilt.history seal rebuilt.journal;
         lawful = rebuilt.lawful (memory_is_clean built);
         built = built;
         shows = built_shows;

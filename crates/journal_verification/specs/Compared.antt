@@ -10,11 +10,12 @@ use Rattle.journal_verification.specs.declared.difference.Difference.TheVariants
 use Rattle.journal_verification.specs.Same.{TellsTables}
 
 module _ {S T : Type 0} (g : Ghosts S) (f : Ghosts T) where
-  -- the second is of another schema, or a table of it differs
+  -- the second is of another schema; or it is of that of an office, and a table of it differs
   abbrev pub Differs : Held S → Held T → Difference → Type 0
   Differs built office d =
       ((d ≡ difference.Schema) × ((state f office).now.schema ≡ office_schema → ⊥))
-      ⊎ TellsTables g f (state g built).now (state f office).now (Some d)
+      ⊎ (((state f office).now.schema ≡ office_schema)
+      × TellsTables g f (state g built).now (state f office).now (Some d))
 
   -- where the first shows these tables the second, as it is then, shows them too, or differs
   abbrev pub TellsOffice : Tables → (built : Held S) → (old new : Held T)

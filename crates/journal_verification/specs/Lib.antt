@@ -4,6 +4,7 @@ pub mod Different
 pub mod Differing
 pub mod Looked
 pub mod Named
+pub mod Refused
 pub mod Same
 pub mod Schemas
 pub mod Texts

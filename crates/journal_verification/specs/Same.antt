@@ -1,5 +1,6 @@
 -- When two databases have the same rows.
-use Rattle.std.specs.Prelude.{◌≡◌, ◌⊎◌, ℕ, Bool, true, false, List, [], Option, None, Some}
+use Rattle.std.specs.Prelude.{◌≡◌, ◌⊎◌, ℕ, Bool, true, false, List, [], ◌∷◌, ◌++◌, All}
+use Rattle.std.specs.Prelude.{Option, None, Some}
 use Rattle.sqlite.specs.Effect.{Database}
 use Rattle.sqlite.specs.Held.{Held, state}
 use Rattle.sqlite.specs.Order.{Row}
@@ -12,7 +13,7 @@ use Rattle.journal_verification.specs.declared.difference.Difference.TheVariants
 use Rattle.journal_verification.specs.declared.table.Table.{Table}
 use Rattle.journal_verification.specs.Differing.{IsFirstDiffering}
 use Rattle.journal_verification.specs.Named.{IsNamed}
-use Rattle.journal_verification.specs.Texts.{key_width, rowids_text, rows_text}
+use Rattle.journal_verification.specs.Texts.{key_width, rowids_text, rows_text, tables}
 
 -- a connection with this database answers the query by these rows
 pub record IsAnsweredBy {S : Type 0} (g : Ghosts S) (sql : List ℕ) (db : Database)
@@ -70,18 +71,27 @@ module _ {S T : Type 0} (g : Ghosts S) (f : Ghosts T) where
       × IsAnsweredBy f (rows_text table) second rows
   TellsRows table first second (Some d) = HaveOther table first second d
 
-  -- the same table, or where it differs
+  -- the same table; or where it differs: in a row, or where none does in the rowids of the second
   abbrev pub TellsTable : Table → Database → Database → Option Difference → Type 0
   TellsTable table first second None = HaveSame table first second
   TellsTable table first second (Some d) =
-      HaveOther table first second d ⊎ FaultsRowids f table second (Some d)
+      HaveOther table first second d
+      ⊎ (TellsRows table first second None × FaultsRowids f table second (Some d))
 
   -- so they do in each table
   abbrev pub HaveSameTables : Database → Database → Type 0
   HaveSameTables first second = (table : Table) → HaveSame table first second
 
-  -- each table is the same, or where one differs
+  -- the tables before this one are the same, and this one differs where the difference says
+  pub record DiffersFirst (first second : Database) (d : Difference) : Type 0 where
+    pub before : List Table
+    pub table : Table
+    pub rest : List Table
+    pub parts : tables ≡ before ++ table ∷ rest
+    pub same : All (λ t. HaveSame t first second) before
+    pub differs : TellsTable table first second (Some d)
+
+  -- each table is the same, or where the first one differs that does
   abbrev pub TellsTables : Database → Database → Option Difference → Type 0
   TellsTables first second None = HaveSameTables first second
-  TellsTables first second (Some d) =
-      (table : Table) × TellsTable table first second (Some d)
+  TellsTables first second (Some d) = DiffersFirst first second d

@@ -1,10 +1,16 @@
--- The queries of the tables of an office.
-use Rattle.std.specs.Prelude.{ℕ, List}
+-- The tables of an office, and the queries of them.
+use Rattle.std.specs.Prelude.{ℕ, List, [], ◌∷◌}
 use Rattle.journal_verification.specs.declared.table.Table.{Table}
 use Rattle.journal_verification.specs.declared.table.Table.TheVariants as table
 use Rattle.journal_verification.specs.declared.table.TheConstants as query
 
--- of all columns of the rows, by their key
+-- the tables, in the order in which those of two offices are compared
+abbrev pub tables : List Table
+tables =
+    table.Office ∷ table.Users ∷ table.Revisions ∷ table.Votes ∷ table.Baselines ∷ table.Holds
+    ∷ []
+
+-- the query of all columns of the rows, by their key
 abbrev pub rows_text : Table → List ℕ
 rows_text table.Office = query.OFFICE.now
 rows_text table.Users = query.USERS.now
@@ -13,7 +19,7 @@ rows_text table.Votes = query.VOTES.now
 rows_text table.Baselines = query.BASELINES.now
 rows_text table.Holds = query.HOLDS.now
 
--- of the rowids
+-- the query of the rowids
 abbrev pub rowids_text : Table → List ℕ
 rowids_text table.Office = query.OFFICE_ROWIDS.now
 rowids_text table.Users = query.USERS_ROWIDS.now

@@ -12,21 +12,23 @@ use Rattle.office_policy.specs.History.{History}
 use Rattle.office_policy.specs.Lawful.{IsLawfulHistory}
 use Rattle.office_policy.specs.TablesOf.{tables_of}
 use Rattle.office_desk.specs.Meant.{meaning_over}
-use Rattle.journal_lines.specs.Journal.{IsJournalOf}
-use Rattle.journal_replay.specs.Rebuilt.{Refutes}
+use Rattle.journal_lines.specs.Journal.{IsJournalOf, IsSealedJournal}
 use Rattle.journal_verification.specs.declared.difference.Difference.{Difference}
 use Rattle.journal_verification.specs.declared.verification.Unverified.{Unverified}
 use Rattle.journal_verification.specs.declared.verification.Unverified.TheVariants as unverified
+use Rattle.journal_verification.specs.declared.verification.Verified.{Verified}
 use Rattle.journal_verification.specs.Compared.{Differs}
 use Rattle.journal_verification.specs.Different.{DifferAt}
+use Rattle.journal_verification.specs.Refused.{IsNotRebuilt}
 
 -- of a journal with these bytes, where they are known
 module _ (bytes : Option (List ℕ)) {T : Type 0} (f : Ghosts T) where
-  -- the office is that of the history that the journal is of, which is lawful and has so many events
-  pub record IsVerified (office : Held T) (count : ℕ) : Type 0 where
+  -- the office is that of the history that the journal is of, which is lawful and has so many
+  -- events, and the seal is the journal's
+  pub record IsVerified (office : Held T) (verified : Verified) : Type 0 where
     pub history : History
-    pub journal : IfSome bytes (λ text. IsJournalOf text history)
-    pub counted : count ≡ length history
+    pub journal : IfSome bytes (λ text. IsSealedJournal text history verified.seal)
+    pub counted : verified.events ≡ length history
     pub lawful : IsLawfulHistory history
     pub shows : Shows (state f office) (tables_of history)
     pub stands : Stands (meaning_over f) history office
@@ -42,9 +44,9 @@ module _ (bytes : Option (List ℕ)) {T : Type 0} (f : Ghosts T) where
     pub differs : Differs over_memory f built office d
     pub differ : (u : Tables) → Shows (state f office) u → DifferAt (tables_of history) u d
 
-  -- no lawful history has the journal; the office is another; or the office can't be read, or there
-  -- is no memory
+  -- no lawful history has the journal, by this line; the office is another; or the office can't be
+  -- read, or there is no memory
   abbrev pub IsUnverified : (old new : Held T) → Unverified → Type 0
-  IsUnverified old new (unverified.Refused refused) = Refutes bytes (Unit {0}) refused.why
+  IsUnverified old new (unverified.Refused refused) = IsNotRebuilt bytes refused
   IsUnverified old new (unverified.Differs d) = IsOther old d
   IsUnverified old new (unverified.Fault fault) = HasFailed (state f old) (state f new) fault

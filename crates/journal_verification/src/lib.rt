@@ -11,4 +11,4 @@ mod verification;
 
 pub use difference::Difference;
 pub use table::Table;
-pub use verification::{Unverified, verify};
+pub use verification::{Unverified, Verified, verify};

@@ -11,9 +11,19 @@ use crate::compare::compare;
 use crate::difference::Difference;
 use journal_replay::{Refused, rebuild};
 use office_tables::StoreFault;
+use sealed_log::Seal;
 use sqlite::{Alter, Connection};
 use std::alloc::Global;
 use std::io::BufRead;
+
+/// What is known of an office that is the one of its journal.
+#[derive(Debug, Drop)]
+pub struct Verified {
+    /// The number of its events.
+    pub events: u64,
+    /// The seal of the last line of the journal, which names the whole of it.
+    pub seal: Seal,
+}
 
 /// Why an office isn't verified.
 #[derive(Debug, Drop)]
@@ -27,8 +37,8 @@ pub enum Unverified {
 }
 
 /// Whether an office is the one of a journal: built anew from it in memory and compared with it
-/// table by table, its tables are the same. The number of its events. Nothing of the office is
-/// changed.
+/// table by table, its tables are the same. The number of its events, and the seal of the journal.
+/// Nothing of the office is changed.
 ///
 /// # Errors
 ///
@@ -38,7 +48,7 @@ pub fn verify<T: Alter, R: BufRead + Drop>(
     alloc: Global,
     journal: R,
     office: &mut Connection<T>,
-) -> Result<u64, Unverified>
+) -> Result<Verified, Unverified>
     requires { IsIdle (state T.Store office.old) }
     ensures looked { HasLooked (state T.Store office.old) (state T.Store office.new) }
     ensures verified { HasCleanDisk (state T.Store office.new) → IfOk result
@@ -50,10 +60,12 @@ pub fn verify<T: Alter, R: BufRead + Drop>(
         return Err(Unverified::Fault(StoreFault::NoMemory));
     };
     match rebuild(alloc, conn, journal) {
-        Ok((built, count)) => {
-            let mut built = built.into_connection();
+        Ok(rebuilt) => {
+            let events = rebuilt.events;
+            let seal = rebuilt.seal;
+            let mut built = rebuilt.office.into_connection();
             match compare(alloc, &mut built, office) {
-                Ok(None) => Ok(count),
+                Ok(None) => Ok(Verified { events, seal }),
                 Ok(Some(difference)) => Err(Unverified::Differs(difference)),
                 Err(fault) => Err(Unverified::Fault(fault)),
             }

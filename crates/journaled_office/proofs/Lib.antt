@@ -1,5 +1,4 @@
 pub mod Ends
-pub mod ReadFacts
-pub mod LeftFacts
 pub mod MendFacts
 pub mod OpenFacts
+pub mod Leaving

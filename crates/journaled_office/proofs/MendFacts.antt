@@ -1,207 +1,43 @@
 -- What becomes of a journal that a crash left, by what its last line says.
-use Rattle.std.proofs.Common.{◌≡◌, ◌≢◌, ◌∙◌, ◌⊎◌, ℕ, ◌≤◌, List, [], ◌∷◌, ◌++◌, Option, Some, None, All, Bool, true, false, not, Result, Ok, Err, IfErr, IfOk, length, take, refl, sym, ap, subst, arith, inl, inr, append_assoc, append-nil, length-append}
-use Rattle.std.specs.Prelude.{flat_map, OnOk, IsErrAnd, ⊤}
-use Rattle.std.specs.declared.io.Error.{Error}
-use Rattle.std.proofs.lemmas.Grind.{flat_map-append}
-use Rattle.std.proofs.lemmas.List.{append_cancel_right, take_at}
-use Rattle.std.proofs.lemmas.List.Elements.{All-head, All-tail}
-use Rattle.streams.specs.Lines.{EndsLine}
-use Rattle.streams.proofs.LineFacts.{ends_line-append}
-use Rattle.serde_json.specs.Data.{Members, object}
-use Rattle.serde_json.specs.Written.{compact_text}
+use Rattle.std.proofs.Common.{◌≡◌, ◌≢◌, ◌∙◌, ◌⊎◌, ℕ, ◌+◌, ◌≤◌, ◌<◌, List, [], ◌∷◌, ◌++◌, Bool, true, false, not, Result, Ok, Err, IfErr, IsTrue, length, refl, sym, ap, subst, arith, inl, inr, append_assoc, length-append}
+use Rattle.std.specs.Prelude.{OnOk, IsErrAnd, ⊤}
+use Rattle.std.proofs.lemmas.List.{append_cancel_right}
+use Rattle.sqlite_disk.specs.declared.Disk.{Ghosts}
+use Rattle.sealed_log.specs.Disks.{LeavesTail}
+use Rattle.sealed_log.specs.Log.{bodies_of}
+use Rattle.sealed_log.specs.Reading.{IsThrough, last_two}
+use Rattle.sealed_log.specs.Sealed.{longest, no_seal, seal_on, sealed_line, sealed_lines, sealed_text}
+use Rattle.sealed_log.proofs.SealFacts.{length-sealed_line}
+use Rattle.sealed_log.specs.Told.{HasMore, HasTail, told}
+use Rattle.sealed_log.specs.declared.log.SealedLog.{SealedLog}
+use Rattle.sealed_log.specs.declared.through.Through.{Through}
+use Rattle.sealed_log.proofs.LogFacts.{all_told, length-through, more_behind}
+use Rattle.sealed_log.proofs.ToldFacts.{told_text}
 use Rattle.office_policy.proofs.ShownFacts.{last_shown, shown_unchanged}
 use Rattle.office_policy.proofs.SurvivalFacts.{survives_none, survives_on}
 use Rattle.review_policy.specs.declared.answer.Fault.{Fault}
 use Rattle.review_policy.specs.declared.answer.Fault.TheVariants as faults
 use Rattle.office_desk.specs.Looking.{HasLooked, IsMetBetween, TellsWhether}
-use Rattle.office_policy.specs.History.{Event, History, founded, enrolled, submitted, voted, issued, withdrawn, adopted, held, released}
+use Rattle.office_policy.specs.History.{Event, History}
 use Rattle.office_policy.specs.Handled.{HasRisen, Stands}
 use Rattle.office_policy.specs.Judging.{LeavesAll}
 use Rattle.office_policy.specs.Lawful.{IsAllowed, IsLawfulHistory}
 use Rattle.office_policy.specs.Meaning.{Meaning}
-use Rattle.office_policy.specs.Runs.{with_event}
 use Rattle.office_policy.specs.ShowsEvent.{Shows}
 use Rattle.office_policy.specs.TablesOf.{tables_of}
 use Rattle.journal_lines.specs.Forms.{HasForms, IsFormed}
-use Rattle.journal_lines.specs.Journal.{IsJournalOf, history_from}
-use Rattle.journal_lines.specs.Lines.{Line, happened, strike, line_data, line_of, text_of}
-use Rattle.journal_lines.proofs.JournalFacts.{no_feed}
+use Rattle.journal_lines.specs.Journal.{Says}
+use Rattle.journal_lines.specs.Lines.{Line, happened, strike, text_of}
+use Rattle.journal_lines.proofs.Lengths.{allowed_entry}
 use Rattle.journal_lines.proofs.LineFacts.{same_line}
-use Rattle.office_journal.specs.Begun.{IsLeftOf}
-use Rattle.office_journal.specs.Logging.{IsCutOff, IsLonger, Logging}
+use Rattle.office_journal.proofs.Texts.{one_more, one_struck}
 use Rattle.journaled_office.specs.declared.fault.NotReopened.{NotReopened}
-use Rattle.journaled_office.specs.declared.fault.NotReopened.TheVariants.{Read, NotALine, OtherJournal, Office, Log, NoMemory}
-use Rattle.journaled_office.specs.declared.last_line.LastLine.{LastLine}
-use Rattle.journaled_office.specs.Faults.{IsOutside}
-use Rattle.journaled_office.specs.LastLines.{HasBefore, HasLast, IsLast}
-use Rattle.journaled_office.specs.Mending.{AsksLast, EndsWithLine, HasNoLine, HasWhole, HasOfficeCause, HasReached, HasTablesOf, IsAsked, IsAskedLast, IsMissing, IsOther, IsStruckOut, LooksFor, Mends, Says, SaysOther}
-use Rattle.journaled_office.proofs.Ends.{same_ends}
-use Rattle.journaled_office.proofs.LeftFacts.{IsOneMore, IsWhole, cut_left, journal_ends, line_ends, lines_end, more_says, struck_left, struck_says, whole_left}
-use Rattle.journaled_office.proofs.ReadFacts.{whole_ends}
-
--- ---- the last of lines
-
--- there is none, or one behind others
-data Ended (ls : List Line) : Type 0 where
-  no_line : ls ≡ [] → Ended ls
-  one_line : (before : List Line) (l : Line) → ls ≡ before ++ l ∷ [] → Ended ls
-
-ended : (ls : List Line) → Ended ls
-ended [] = no_line refl
-ended (l ∷ ls) = onto (ended ls)
-  where
-    onto : Ended ls → Ended (l ∷ ls)
-    onto (no_line none) = one_line [] l (ap (λ k. l ∷ k) none)
-    onto (one_line before last is) = one_line (l ∷ before) last (ap (λ k. l ∷ k) is)
-
-last_formed : (before : List Line) (l : Line) → All IsFormed (before ++ l ∷ []) → IsFormed l
-last_formed [] l formed = All-head IsFormed l [] formed
-last_formed (b ∷ before) l formed = last_formed before l (All-tail IsFormed b (before ++ l ∷ []) formed)
-
--- the event of the last line is the newest
-abbrev pub IsNewest : History → Event → Type 0
-IsNewest h e = (before : History) × (h ≡ e ∷ before)
-
-newest : (g : History) (was : Option Event) (before : List Line) (e : Event) (h : History) → history_from g was (before ++ happened e ∷ []) ≡ Some h → IsNewest h e
-newest g was [] e h is = let same : e ∷ with_event was g ≡ h = cc in (with_event was g, sym same)
-newest g was (happened f ∷ before) e h is = newest (with_event was g) (Some f) before e h is
-newest g None (strike ∷ before) e h is = absurd cc
-newest g (Some f) (strike ∷ before) e h is = newest g None before e h is
-
--- the last line of a text has one text
-not_none : (before : List ℕ) (l : Line) → before ++ line_of l ≡ [] → ⊥
-unfolding line_of
-not_none before l none = let long = ap length none in omega (arith, long, length-append before (text_of l ++ 10 ∷ []), length-append (text_of l) (10 ∷ []))
-
-last_text : (whole text before : List ℕ) (l : Line) → HasLast whole text → EndsLine before → IsFormed l → whole ≡ before ++ line_of l → text ≡ text_of l
-unfolding line_of
-last_text whole text before l (inl last) ends formed is =
-    let joined : (last.before ++ text) ++ 10 ∷ [] ≡ (before ++ text_of l) ++ 10 ∷ [] =
-    append_assoc last.before text (10 ∷ []) ∙ sym last.is ∙ is ∙ sym (append_assoc before (text_of l) (10 ∷ [])) in
-    (same_ends last.before text before (text_of l) (append_cancel_right (last.before ++ text) (before ++ text_of l) (10 ∷ []) joined) last.ends ends last.one (no_feed l formed)).1
-last_text whole text before l (inr none) ends formed is = absurd (not_none before l (sym is ∙ none.0))
-
--- a line has a text
-object_some : (ms : Members) → compact_text (object ms) ≡ [] → ⊥
-object_some ms none = cc
-
-is_object : (l : Line) → (ms : Members) × (line_data l ≡ object ms)
-is_object (happened (founded name team digest listed)) = (_, refl)
-is_object (happened (enrolled caller name team roles digest)) = (_, refl)
-is_object (happened (submitted caller p text)) = (_, refl)
-is_object (happened (voted caller p n digest approves)) = (_, refl)
-is_object (happened (issued caller p n)) = (_, refl)
-is_object (happened (withdrawn caller p n)) = (_, refl)
-is_object (happened (adopted caller p n)) = (_, refl)
-is_object (happened (held caller p)) = (_, refl)
-is_object (happened (released caller p)) = (_, refl)
-is_object strike = (_, refl)
-
-some_text : (l : Line) → text_of l ≡ [] → ⊥
-unfolding text_of
-some_text l none = let o = is_object l in object_some o.0 (sym (ap compact_text o.1) ∙ none)
-
-of_line : (whole before : List ℕ) (l : Line) → IsFormed l → EndsLine before → whole ≡ before ++ line_of l → HasLast whole (text_of l)
-unfolding line_of
-of_line whole before l formed ends is = inl (record { before = before; ends = ends; one = no_feed l formed; is = is })
-
-with_line : (whole text : List ℕ) (l : Line) → HasLast whole text → IsFormed l → text ≡ text_of l → EndsWithLine whole
-unfolding line_of
-with_line whole text l (inl last) formed says =
-    record { before = last.before; ends = last.ends; line = l; formed = formed; is = last.is ∙ ap (λ t. last.before ++ (t ++ 10 ∷ [])) says }
-with_line whole text l (inr none) formed says = absurd (some_text l (sym says ∙ none.1))
-
--- ---- the last line of what is whole
-
--- what is whole says the history, whose newest event the line names where it names one; or the line
--- names one event more
-abbrev pub EndsBy : History → List ℕ → Line → Type 0
-EndsBy h whole strike = IsJournalOf whole h
-EndsBy h whole (happened e) = (IsNewest h e × IsJournalOf whole h) ⊎ IsOneMore h whole e
-
-record HasEnd (h : History) (whole text : List ℕ) : Type 0 where
-  line : Line
-  formed : IsFormed line
-  says : text ≡ text_of line
-  by : EndsBy h whole line
-
-by_line : (h : History) (whole : List ℕ) (before : List Line) (l : Line) → history_from [] None (before ++ l ∷ []) ≡ Some h → IsJournalOf whole h → EndsBy h whole l
-by_line h whole before (happened e) is says = inl (newest [] None before e h is, says)
-by_line h whole before strike is says = says
-
-journal_end : (h : History) (whole text : List ℕ) (says : IsJournalOf whole h) → Ended says.lines → IsLawfulHistory h → HasLast whole text → HasEnd h whole text
-journal_end h whole text says (no_line none) lawful has =
-    let all : ◌≡◌ {A = Option History} (Some []) (Some h) = sym (ap (history_from [] None) none) ∙ says.history in
-    let empty : h ≡ [] = cc in
-    absurd (subst IsLawfulHistory empty lawful)
-journal_end h whole text says (one_line before l is) lawful has =
-    let formed = last_formed before l (subst (All IsFormed) is says.formed) in
-    let split : whole ≡ flat_map line_of before ++ line_of l =
-    says.says ∙ ap (flat_map line_of) is ∙ flat_map-append line_of before (l ∷ []) ∙ ap (λ t. flat_map line_of before ++ t) (append-nil (line_of l)) in
-    record {
-      line = l;
-      formed = formed;
-      says = last_text whole text (flat_map line_of before) l has (lines_end before) formed split;
-      by = by_line h whole before l (sym (ap (history_from [] None) is) ∙ says.history) says;
-    }
-
-has_end : (h : History) (whole text : List ℕ) → IsLawfulHistory h → HasLast whole text → IsWhole h whole → HasEnd h whole text
-has_end h whole text lawful has (inl says) = journal_end h whole text says (ended says.lines) lawful has
-has_end h whole text lawful has (inr more) = record {
-  line = happened more.0;
-  formed = more.1.forms;
-  says = last_text whole text more.1.text (happened more.0) has (journal_ends more.1.text h more.1.says) more.1.forms more.1.is;
-  by = inr more.1;
-}
-
--- ---- the last two lines
-
-record AreTwo (whole : List ℕ) (first second : Event) : Type 0 where
-  earlier : List ℕ
-  ends : EndsLine earlier
-  is : whole ≡ (earlier ++ line_of (happened first)) ++ line_of (happened second)
-
-two_lines : (whole before text : List ℕ) (first second : Event) → HasBefore whole before text → before ≡ text_of (happened first) → text ≡ text_of (happened second) → AreTwo whole first second
-unfolding line_of
-two_lines whole before text first second (inl lines) is_first is_second =
-    record { earlier = lines.earlier; ends = lines.ends; is = lines.is ∙ (λ i. (lines.earlier ++ (is_first i ++ 10 ∷ [])) ++ (is_second i ++ 10 ∷ [])) }
-two_lines whole before text first second (inr none) is_first is_second = absurd (some_text (happened first) (sym is_first ∙ none.0))
-
--- where the second is one more than the history, the first is its newest
-newest_of : (h : History) (text earlier : List ℕ) (f : Event) (says : IsJournalOf text h) → Ended says.lines → IsLawfulHistory h → HasForms f → EndsLine earlier → text ≡ earlier ++ line_of (happened f) → IsNewest h f
-newest_of h text earlier f says (no_line none) lawful forms ends is =
-    let all : ◌≡◌ {A = Option History} (Some []) (Some h) = sym (ap (history_from [] None) none) ∙ says.history in
-    let empty : h ≡ [] = cc in
-    absurd (subst IsLawfulHistory empty lawful)
-newest_of h text earlier f says (one_line before l last) lawful forms ends is =
-    let formed = last_formed before l (subst (All IsFormed) last says.formed) in
-    let split : text ≡ flat_map line_of before ++ line_of l =
-    says.says ∙ ap (flat_map line_of) last ∙ flat_map-append line_of before (l ∷ []) ∙ ap (λ t. flat_map line_of before ++ t) (append-nil (line_of l)) in
-    let has = of_line text earlier (happened f) forms ends is in
-    let same = same_line l (happened f) formed forms (sym (last_text text (text_of (happened f)) (flat_map line_of before) l has (lines_end before) formed split)) in
-    newest [] None before f h (ap (λ k. history_from [] None (before ++ k ∷ [])) (sym same) ∙ ap (history_from [] None) (sym last) ∙ says.history)
-
--- the last two lines have their texts
-texts_of_two : (whole before text earlier : List ℕ) (first second : Event) → HasLast whole text → HasBefore whole before text → HasForms first → HasForms second → EndsLine earlier
-    → whole ≡ (earlier ++ line_of (happened first)) ++ line_of (happened second) → (before ≡ text_of (happened first)) × (text ≡ text_of (happened second))
-unfolding line_of
-texts_of_two whole before text earlier first second has two forms more ends is = (of_first two, says)
-  where
-    until : EndsLine (earlier ++ line_of (happened first))
-    until = ends_line-append earlier (line_of (happened first)) ends (line_ends (happened first))
-
-    says : text ≡ text_of (happened second)
-    says = last_text whole text (earlier ++ line_of (happened first)) (happened second) has until more is
-
-    of_first : HasBefore whole before text → before ≡ text_of (happened first)
-    of_first (inl lines) =
-        let joined : lines.earlier ++ (before ++ 10 ∷ []) ≡ earlier ++ line_of (happened first) =
-        append_cancel_right (lines.earlier ++ (before ++ 10 ∷ [])) (earlier ++ line_of (happened first)) (line_of (happened second)) (ap (λ t. (lines.earlier ++ (before ++ 10 ∷ [])) ++ (t ++ 10 ∷ [])) (sym says) ∙ sym lines.is ∙ is) in
-        last_text (earlier ++ line_of (happened first)) before earlier (happened first) (inl (record { before = lines.earlier; ends = lines.ends; one = lines.one; is = sym joined })) ends forms refl
-    of_first (inr (none, inl empty)) = absurd (not_none (earlier ++ line_of (happened first)) (happened second) (sym is ∙ empty))
-    of_first (inr (none, inr one)) =
-        let alone : [] ++ line_of (happened second) ≡ (earlier ++ line_of (happened first)) ++ line_of (happened second) = ap (λ t. t ++ 10 ∷ []) (sym says) ∙ sym one ∙ is in
-        absurd (not_none earlier (happened first) (sym (append_cancel_right [] (earlier ++ line_of (happened first)) (line_of (happened second)) alone)))
+use Rattle.journaled_office.specs.declared.fault.NotReopened.TheVariants.{Unsealed, NotALine, Changed, OtherJournal, Office, Log, NoMemory}
+use Rattle.sealed_log.specs.declared.fault.LogFault.{LogFault}
+use Rattle.sealed_log.specs.declared.fault.LogFault.TheVariants as logs
+use Rattle.journaled_office.specs.Faults.{IsOutside, IsRefusal, log_fault}
+use Rattle.journaled_office.specs.Mending.{AsksLast, EndsWithLine, HasOfficeCause, HasReached, HasTablesOf, IsAsked, IsAskedLast, IsMended, IsMissing, IsOneMore, IsOther, IsStruckOut, LooksFor, Mends, SaysNow, SaysOther, TellsOf}
+use Rattle.journaled_office.proofs.Ends.{EndsBy, IsNewest, has_end, last_is, last_push, newest_of, second_of, two_lines, two_push, with_line}
 
 -- ---- what the tables tell of it
 
@@ -215,70 +51,80 @@ newest_shown h e lawful new = subst (λ k. Shows (tables_of k) e) (sym new.1) (l
 never_both : (b : Bool) → b ≡ true → b ≡ false → ⊥
 never_both b is_true is_false = let c : true ≡ false = sym is_true ∙ is_false in absurd cc
 
+-- bodies with one event more say it
+pub more_says : (h : History) (bodies : List (List ℕ)) (e : Event) → IsOneMore h bodies e → Says bodies (e ∷ h)
+more_says h bodies e more =
+    subst (λ (b : List (List ℕ)). Says b (e ∷ h)) (sym more.is) (one_more more.before h e (allowed_entry h e more.allowed more.forms) more.says)
+
+-- and don't where it is struck out
+pub struck_says : (h : History) (bodies new : List (List ℕ)) (e : Event) → IsOneMore h bodies e → new ≡ bodies ++ text_of strike ∷ [] → Says new h
+struck_says h bodies new e more is =
+    subst (λ (b : List (List ℕ)). Says b h) (sym (is ∙ ap (λ b. b ++ text_of strike ∷ []) more.is))
+    (one_struck more.before h e (allowed_entry h e more.allowed more.forms) more.says)
+
 itself : (h : History) → HasTablesOf h h
 itself h = record { grown = inl refl; tables = refl }
 
 module _ {X : Type 0} (m : Meaning X) (old new : X) (h : History) (of : m.is_of h old) (clean : m.is_clean new) where
-  says_reached : (whole : List ℕ) (l : Line) (reached : Bool) → HasReached m l old new reached → EndsBy h whole l → reached ≡ true → Says h whole
-  says_reached whole strike reached has by is = record { now = h; tables = itself h; says = by }
-  says_reached whole (happened e) reached has (inl kept) is = record { now = h; tables = itself h; says = kept.1 }
-  says_reached whole (happened e) reached has (inr more) is = record {
+  says_reached : (bodies : List (List ℕ)) (l : Line) (reached : Bool) → HasReached m l old new reached → EndsBy h bodies l → reached ≡ true → SaysNow h bodies
+  says_reached bodies strike reached has by is = record { now = h; tables = itself h; says = by }
+  says_reached bodies (happened e) reached has (inl kept) is = record { now = h; tables = itself h; says = kept.1 }
+  says_reached bodies (happened e) reached has (inr more) is = record {
     now = e ∷ h;
     tables = record {
       grown = inr (e, refl, more.allowed);
       tables = shown_unchanged h e (lawful_more h e (m.lawful h old of) more.allowed) ((has h of clean).0 is);
     };
-    says = more_says h whole e more;
+    says = more_says h bodies e more;
   }
 
-  more_unreached : (whole : List ℕ) (l : Line) (reached : Bool) → HasReached m l old new reached → EndsBy h whole l → reached ≡ false → (e : Event) × IsOneMore h whole e
-  more_unreached whole strike reached has by is = absurd (never_both reached has is)
-  more_unreached whole (happened e) reached has (inl kept) is =
+  more_unreached : (bodies : List (List ℕ)) (l : Line) (reached : Bool) → HasReached m l old new reached → EndsBy h bodies l → reached ≡ false → (e : Event) × IsOneMore h bodies e
+  more_unreached bodies strike reached has by is = absurd (never_both reached has is)
+  more_unreached bodies (happened e) reached has (inl kept) is =
       absurd (never_both reached ((has h of clean).1 (newest_shown h e (m.lawful h old of) kept.0)) is)
-  more_unreached whole (happened e) reached has (inr more) is = (e, more)
+  more_unreached bodies (happened e) reached has (inr more) is = (e, more)
 
--- what a crash may leave of the journal of a history isn't another's
-pub left_ours : (h : History) (text : List ℕ) → IsLawfulHistory h → IsLeftOf h text → SaysOther h text → ⊥
-left_ours h text lawful left other = elim (whole_left h text other.whole other.lines.torn left other.lines.parts other.lines.ends other.lines.none) [
-  | inl says ↦ other.second_unshown (newest_shown h other.second lawful (newest_of h other.whole (other.before ++ line_of (happened other.first)) other.second says (ended says.lines) lawful other.second_forms until other.is))
-  | inr one ↦
-      let more = one.1 in
-      let has = of_line other.whole (other.before ++ line_of (happened other.first)) (happened other.second) other.second_forms until other.is in
-      let same = same_line (happened one.0) (happened other.second) more.forms other.second_forms (sym (last_text other.whole (text_of (happened other.second)) more.text (happened one.0) has (journal_ends more.text h more.says) more.forms more.is)) in
-      let joined : more.text ++ line_of (happened other.second) ≡ (other.before ++ line_of (happened other.first)) ++ line_of (happened other.second) = ap (λ k. more.text ++ line_of k) (sym same) ∙ sym more.is ∙ other.is in
-      other.first_unshown (newest_shown h other.first lawful
-      (newest_of h more.text other.before other.first more.says (ended more.says.lines) lawful other.first_forms other.ends
-      (append_cancel_right more.text (other.before ++ line_of (happened other.first)) (line_of (happened other.second)) joined)))
-]
-  where
-    until : EndsLine (other.before ++ line_of (happened other.first))
-    until = ends_line-append other.before (line_of (happened other.first)) other.ends (line_ends (happened other.first))
+-- what a crash may leave a file telling isn't another's
+pub left_ours : (h : History) (bodies : List (List ℕ)) → IsLawfulHistory h → TellsOf h bodies → SaysOther h bodies → ⊥
+left_ours h bodies lawful (inl says) other =
+    let joined : bodies ≡ (other.before ++ text_of (happened other.first) ∷ []) ++ text_of (happened other.second) ∷ [] =
+    other.is ∙ sym (append_assoc other.before (text_of (happened other.first) ∷ []) (text_of (happened other.second) ∷ [])) in
+    other.second_unshown (newest_shown h other.second lawful
+    (newest_of h bodies (other.before ++ text_of (happened other.first) ∷ []) other.second says lawful other.second_forms joined))
+left_ours h bodies lawful (inr one) other =
+    let more = one.1 in
+    let front = other.before ++ text_of (happened other.first) ∷ [] in
+    let joined : bodies ≡ front ++ text_of (happened other.second) ∷ [] =
+    other.is ∙ sym (append_assoc other.before (text_of (happened other.first) ∷ []) (text_of (happened other.second) ∷ [])) in
+    let texts : text_of (happened one.0) ≡ text_of (happened other.second) =
+    sym (last_push [] [] more.before (text_of (happened one.0))) ∙ ap (λ l. (last_two [] [] l).1) (sym more.is ∙ joined) ∙ last_push [] [] front (text_of (happened other.second)) in
+    let same : more.before ≡ front =
+    append_cancel_right more.before front (text_of (happened other.second) ∷ []) (ap (λ b. more.before ++ b ∷ []) (sym texts) ∙ sym more.is ∙ joined) in
+    other.first_unshown (newest_shown h other.first lawful (newest_of h more.before other.before other.first more.says lawful other.first_forms same))
 
 -- ---- faults
 
-outside_line : (why : NotReopened) → IsOutside why → why ≢ NotALine
-outside_line Read outside same = cc
-outside_line NotALine outside same = outside
-outside_line OtherJournal outside same = cc
-outside_line (Office fault) outside same = outside
-outside_line Log outside same = cc
-outside_line NoMemory outside same = cc
+outside_no_refusal : {A : Type 0} (why : NotReopened) → IsOutside why → IsRefusal why → A
+outside_no_refusal Unsealed outside is = absurd outside
+outside_no_refusal NotALine outside is = absurd outside
+outside_no_refusal (Changed at) outside is = absurd outside
+outside_no_refusal OtherJournal outside is = absurd outside
+outside_no_refusal (Office fault) outside is = absurd outside
+outside_no_refusal Log outside is = absurd is
+outside_no_refusal NoMemory outside is = absurd is
 
-outside_other : (why : NotReopened) → IsOutside why → why ≢ OtherJournal
-outside_other Read outside same = cc
-outside_other NotALine outside same = cc
-outside_other OtherJournal outside same = outside
-outside_other (Office fault) outside same = outside
-outside_other Log outside same = cc
-outside_other NoMemory outside same = cc
+refused_by : {A : Type 0} (why other : NotReopened) → IsOutside why → IsRefusal other → why ≡ other → A
+refused_by why other outside is same = outside_no_refusal why outside (subst IsRefusal (sym same) is)
 
-outside_untouched : {A : Type 0} (why : NotReopened) → IsOutside why → (why ≡ NotALine) ⊎ (why ≡ OtherJournal) → A
-outside_untouched why outside (inl same) = absurd (outside_line why outside same)
-outside_untouched why outside (inr same) = absurd (outside_other why outside same)
+pub log_outside : (fault : LogFault) → IsOutside (log_fault fault)
+log_outside logs.Memory = tt
+log_outside logs.Disk = tt
+log_outside logs.Full = tt
 
 outside_cause : {X : Type 0} (m : Meaning X) (old new : X) (why : NotReopened) → IsOutside why → HasOfficeCause m old new why
-outside_cause m old new Read outside = tt
+outside_cause m old new Unsealed outside = tt
 outside_cause m old new NotALine outside = tt
+outside_cause m old new (Changed at) outside = tt
 outside_cause m old new OtherJournal outside = tt
 outside_cause m old new (Office fault) outside = absurd outside
 outside_cause m old new Log outside = tt
@@ -303,11 +149,11 @@ met_on m old mid new faults.Disk counts closes rest met = λ is_open. elim (clos
 met_on m old mid new faults.Full counts closes rest met = omega (arith, counts, met)
 met_on m old mid new faults.NotAnOffice counts closes rest met = met
 
-module _ {X : Type 0} (m : Meaning X) (old mid new : X) (last : LastLine) (first : LeavesAll m old mid) (asks : IsAsked m old mid last.text.items false) (then : LeavesAll m mid new) where
+module _ {X : Type 0} (m : Meaning X) (old mid new : X) (last : Through) (first : LeavesAll m old mid) (asks : IsAsked m old mid last.last.items false) (then : LeavesAll m mid new) where
   pub leaves_both : LeavesAll m old new
   leaves_both = left_on m old mid new first then
 
-  missing_text : (l : Line) → HasReached m l old mid false → IsFormed l → last.text.items ≡ text_of l → IsMissing m old new last.text.items
+  missing_text : (l : Line) → HasReached m l old mid false → IsFormed l → last.last.items ≡ text_of l → IsMissing m old new last.last.items
   missing_text strike reached formed says = absurd (never_both false reached refl)
   missing_text (happened e) reached formed says = record {
     event = e;
@@ -346,7 +192,8 @@ module _ {X : Type 0} (m : Meaning X) (old mid new : X) (last : LastLine) (first
   }
 
   pub not_looked : (why : NotReopened) → LooksFor m mid new last.before.items (Err why) → AsksLast m old new last (Err why)
-  not_looked Read looks = absurd looks
+  not_looked Unsealed looks = absurd looks
+  not_looked (Changed at) looks = absurd looks
   not_looked NotALine looks = absurd looks
   not_looked OtherJournal looks = absurd looks
   not_looked (Office fault) looks = λ h of clean.
@@ -392,7 +239,7 @@ module _ {X : Type 0} (m : Meaning X) (x : X) (text : List ℕ) where
 reached_line : {X : Type 0} (m : Meaning X) (old new : X) (l : Line) (e : Event) → HasReached m l old new true → l ≡ happened e → (h : History) → m.is_of h old → m.is_clean new → Shows (tables_of h) e
 reached_line m old new l e reached is h of clean = ((subst (λ k. HasReached m k old new true) is reached) h of clean).0 refl
 
-pub is_reached : {X : Type 0} (m : Meaning X) (old new : X) (last : LastLine) → IsAsked m old new last.text.items true → IsAskedLast m old new last true
+pub is_reached : {X : Type 0} (m : Meaning X) (old new : X) (last : Through) → IsAsked m old new last.last.items true → IsAskedLast m old new last true
 is_reached m old new last asks = record {
   asked = asks;
   ours = λ h of clean first second forms more is_first is_second first_unshown unshown. unshown (reached_line m old new asks.line second asks.reached (same_line asks.line (happened second) asks.formed more (sym asks.says ∙ is_second)) h of clean);
@@ -404,12 +251,8 @@ on_ok : {A E : Type 0} (r : Result A E) (P : Type 0) → P → OnOk r P
 on_ok (Ok a) P p = p
 on_ok (Err e) P p = tt
 
-if_ok : {A E : Type 0} (r : Result A E) (P Q : A → Type 0) → ((a : A) → P a → Q a) → IfOk r P → IfOk r Q
-if_ok (Ok a) P Q to p = to a p
-if_ok (Err e) P Q to p = tt
-
-ok_on : {A E : Type 0} (r : Result A E) (P : A → Type 0) (Q : Type 0) → ((a : A) → P a → Q) → IfOk r P → OnOk r Q
-ok_on (Ok a) P Q to p = to a p
+ok_on : {A E : Type 0} (r : Result A E) (P Q : Type 0) → (P → Q) → OnOk r P → OnOk r Q
+ok_on (Ok a) P Q to p = to p
 ok_on (Err e) P Q to p = tt
 
 if_err : {A E : Type 0} (r : Result A E) (P Q : E → Type 0) → ((e : E) → P e → Q e) → IfErr r P → IfErr r Q
@@ -421,204 +264,328 @@ pub left_with : {A : Type 0} (P : Result A NotReopened → Type 0) (r : Result A
 left_with P (Ok a) why is p = absurd is
 left_with P (Err e) why is p = subst (λ w. P (Err w)) (sym is) p
 
+-- what was cut where its sealed lines end tells the same
+pub same_bodies : {D : Type 0} (g : Ghosts D) (old new : SealedLog D g) → g.seen new.disk ≡ sealed_text (bodies_of g old) → bodies_of g new ≡ bodies_of g old
+same_bodies g old new has = ap told has ∙ told_text (bodies_of g old) (all_told (g.seen old.disk))
+
+-- a text of no length tells nothing
+nothing_told : (bodies : List (List ℕ)) → length (sealed_text bodies) ≡ 0 → bodies ≡ []
+nothing_told [] none = refl
+nothing_told (body ∷ more) none = absurd (omega (arith, none, length-append (sealed_line no_seal body) (sealed_lines (seal_on no_seal body) more), length-sealed_line no_seal body))
+
+-- what a crash may leave tells something
+told_some : (h : History) (bodies : List (List ℕ)) → IsLawfulHistory h → TellsOf h bodies → bodies ≡ [] → ⊥
+told_some h bodies lawful tells none =
+    let end = has_end h bodies lawful tells in
+    omega (arith, ap length (sym none ∙ end.is), length-append end.before (text_of end.line ∷ []))
+
 -- ---- the file
 
--- the text can't be read
-pub not_read : {X Y : Type 0} (m : Meaning X) (l : Logging Y) (x : X) (log : Y) (why : NotReopened) → IsOutside why → Mends m l x x log log (Err why)
-not_read m l x log why outside = record {
-  leaves = record { survives = survives_none m x; office = λ h of. of; kept = λ clean. m.keeps_itself x; crash = λ clean left may. may };
-  stands = λ h stands clean. tt;
-  text = λ known. tt;
-  journal = λ known h of left clean. tt;
-  no_line = λ known same. absurd (outside_line why outside same);
-  line = λ known h lawful left. outside_line why outside;
-  other = λ known h of clean same. absurd (outside_other why outside same);
-  ours = λ known h of clean. tt;
-  untouched = outside_untouched why outside;
-  cause = λ h of clean. outside_cause m x x why outside;
-  crash = λ known h of left clean bytes may. inl may;
-}
+module _ {X D : Type 0} (m : Meaning X) (g : Ghosts D) where
+  same_office : (x : X) → LeavesAll m x x
+  same_office x = record { survives = survives_none m x; office = λ h of. of; kept = λ clean. m.keeps_itself x; crash = λ clean left may. may }
 
-module _ {X Y : Type 0} (m : Meaning X) (l : Logging Y) (old new : X) (before : Y) (last : LastLine) (leaves : LeavesAll m old new) (is_last : l.known → IsLast (l.text before) last) where
-  ends : (known : l.known) → EndsLine (is_last known).whole
-  ends known = whole_ends (is_last known).whole last.text.items (is_last known).has
+  -- the file was read, and no more done
+  pub record IsSeen (before after : SealedLog D g) : Type 0 where
+    pub seen : g.seen after.disk ≡ g.seen before.disk
+    pub clean : IsTrue (g.is_clean after.disk) → IsTrue (g.is_clean before.disk)
+    pub crash : (left : List ℕ) → g.may_leave after.disk left → g.may_leave before.disk left
 
-  whole_lines : (known : l.known) → HasWhole (l.text before) (is_last known).whole
-  whole_lines known = let x = is_last known in record { torn = x.torn; parts = x.parts; ends = ends known; none = x.none }
-
-  end_of : (known : l.known) (h : History) → IsLawfulHistory h → IsLeftOf h (l.text before) → HasEnd h (is_last known).whole last.text.items
-  end_of known h lawful left =
-      let x = is_last known in
-      has_end h x.whole last.text.items lawful x.has (whole_left h (l.text before) x.whole x.torn left x.parts (ends known) x.none)
-
-  -- no line, or nothing to be asked
-
-  asked_line : (why : NotReopened) → AsksLast m old new last (Err why) → l.known → (h : History) → IsLawfulHistory h → IsLeftOf h (l.text before) → why ≢ NotALine
-  asked_line Read asks known h lawful left same = asks
-  asked_line NotALine asks known h lawful left same = let x = end_of known h lawful left in asks x.line x.formed x.says
-  asked_line OtherJournal asks known h lawful left same = cc
-  asked_line (Office fault) asks known h lawful left same = cc
-  asked_line Log asks known h lawful left same = asks
-  asked_line NoMemory asks known h lawful left same = cc
-
-  asked_no_line : (why : NotReopened) → AsksLast m old new last (Err why) → l.known → why ≡ NotALine → HasNoLine (l.text before)
-  asked_no_line Read asks known same = absurd asks
-  asked_no_line NotALine asks known same =
-      let x = is_last known in
-      record {
-        whole = x.whole;
-        lines = whole_lines known;
-        none = λ e. asks e.line e.formed (last_text x.whole last.text.items e.before e.line x.has e.ends e.formed e.is);
-      }
-  asked_no_line OtherJournal asks known same = absurd cc
-  asked_no_line (Office fault) asks known same = absurd cc
-  asked_no_line Log asks known same = absurd asks
-  asked_no_line NoMemory asks known same = absurd cc
-
-  asked_cause : (why : NotReopened) → AsksLast m old new last (Err why) → (h : History) → m.is_of h old → m.is_clean new → HasOfficeCause m old new why
-  asked_cause Read asks h of clean = tt
-  asked_cause NotALine asks h of clean = tt
-  asked_cause OtherJournal asks h of clean = tt
-  asked_cause (Office fault) asks h of clean = asks h of clean
-  asked_cause Log asks h of clean = tt
-  asked_cause NoMemory asks h of clean = tt
-
-  -- another office's journal
-
-  asked_other : (why : NotReopened) → AsksLast m old new last (Err why) → l.known → (h : History) → m.is_of h old → m.is_clean new → why ≡ OtherJournal → SaysOther h (l.text before)
-  asked_other Read asks known h of clean same = absurd asks
-  asked_other NotALine asks known h of clean same = absurd cc
-  asked_other OtherJournal asks known h of clean same =
-      let x = is_last known in
-      let lines = two_lines x.whole last.before.items last.text.items asks.first.event asks.second.event x.second asks.first.says asks.second.says in
-      record {
-        whole = x.whole;
-        lines = whole_lines known;
-        before = lines.earlier;
-        ends = lines.ends;
-        first = asks.first.event;
-        first_forms = asks.first.forms;
-        second = asks.second.event;
-        second_forms = asks.second.forms;
-        is = lines.is;
-        first_unshown = asks.first.unshown h of clean;
-        second_unshown = asks.second.unshown h of clean;
-      }
-  asked_other (Office fault) asks known h of clean same = absurd cc
-  asked_other Log asks known h of clean same = absurd asks
-  asked_other NoMemory asks known h of clean same = absurd cc
-
-  pub not_asked : (why : NotReopened) → AsksLast m old new last (Err why) → Mends m l old new before before (Err why)
-  not_asked why asks = record {
-    leaves = leaves;
-    stands = λ h stands clean. tt;
-    text = λ known. tt;
-    journal = λ known h of left clean. tt;
-    no_line = λ known same. asked_no_line why asks known same;
-    line = λ known h lawful left. asked_line why asks known h lawful left;
-    other = λ known h of clean. asked_other why asks known h of clean;
-    ours = λ known h of clean. tt;
-    untouched = λ either. refl;
-    cause = λ h of clean. asked_cause why asks h of clean;
-    crash = λ known h of left clean bytes may. inl may;
-  }
-
-  -- ---- what is torn is cut off
-
-  crash_cut : (mid : Y) (r : Result ⊤ Error) → IsCutOff l before mid last.end r → l.known → (h : History) → IsLeftOf h (l.text before) → (left : List ℕ) → l.may_leave mid left
-      → l.may_leave before left ⊎ IsLeftOf h left
-  crash_cut mid r cut known h left bytes may = let x = is_last known in
-      elim (cut.crash known bytes may) [
-        | inl stood ↦ inl stood
-        | inr shorter ↦ inr (cut_left h (l.text before) x.whole x.torn bytes last.end left x.parts x.none x.end shorter)
-      ]
-
-  pub not_cut : (mid : Y) (e : Error) → IsCutOff l before mid last.end (Err e) → Mends m l old new before mid (Err Log)
-  not_cut mid e cut = record {
-    leaves = leaves;
-    stands = λ h stands clean. tt;
-    text = λ known. tt;
-    journal = λ known h of left clean. tt;
-    no_line = λ known same. absurd (outside_line Log tt same);
-    line = λ known h lawful left. outside_line Log tt;
-    other = λ known h of clean same. absurd (outside_other Log tt same);
-    ours = λ known h of clean. tt;
-    untouched = outside_untouched Log tt;
-    cause = λ h of clean. tt;
-    crash = λ known h of left clean bytes may. crash_cut mid (Err e) cut known h left bytes may;
-  }
-
-  module _ (mid : Y) (cut : IsCutOff l before mid last.end (Ok tt)) (reached : Bool) (asks : IsAskedLast m old new last reached) where
-    asked : IsAsked m old new last.text.items reached
-    asked = asks.asked
-
-    never_other : (known : l.known) (h : History) → m.is_of h old → m.is_clean new → SaysOther h (l.text before) → ⊥
-    never_other known h of clean other =
-        let x = is_last known in
-        let same = same_ends x.whole x.torn other.whole other.lines.torn (sym x.parts ∙ other.lines.parts) (ends known) other.lines.ends x.none other.lines.none in
-        let texts = texts_of_two x.whole last.before.items last.text.items other.before other.first other.second x.has x.second other.first_forms other.second_forms other.ends (same.0 ∙ other.is) in
-        asks.ours h of clean other.first other.second other.first_forms other.second_forms texts.0 texts.1 other.first_unshown other.second_unshown
-
-    cut_text : (known : l.known) → l.text mid ≡ (is_last known).whole
-    cut_text known = let x = is_last known in (cut.text known).0 ∙ ap (take last.end) x.parts ∙ take_at x.whole x.torn last.end (sym x.end)
-
-    cut_end : (known : l.known) → last.end ≡ length (l.text mid)
-    cut_end known = (is_last known).end ∙ ap length (sym (cut_text known))
-
-    -- the line that was asked about is the last one
-    ends_by : (known : l.known) (h : History) → IsLawfulHistory h → IsLeftOf h (l.text before) → EndsBy h (is_last known).whole asked.line
-    ends_by known h lawful left =
-        let x = end_of known h lawful left in
-        subst (EndsBy h (is_last known).whole) (same_line x.line asked.line x.formed asked.formed (sym x.says ∙ asked.says)) x.by
-
-    pub stays : reached ≡ true → Mends m l old new before mid (Ok last.end)
-    stays is = record {
-      leaves = leaves;
-      stands = asked.stands;
-      text = λ known. let x = is_last known in
-          (record { whole = x.whole; lines = whole_lines known; last = with_line x.whole last.text.items asked.line x.has asked.formed asked.says; is = inl (cut_text known) }, cut_end known, (cut.text known).1);
-      journal = λ known h of left clean.
-          subst (Says h) (sym (cut_text known))
-          (says_reached m old new h of clean (is_last known).whole asked.line reached asked.reached (ends_by known h (m.lawful h old of) left) is);
-      no_line = λ known. tt;
-      line = λ known h lawful left. tt;
-      other = λ known h of clean. tt;
-      ours = λ known h of clean. never_other known h of clean;
-      untouched = tt;
-      cause = λ h of clean. tt;
-      crash = λ known h of left clean bytes may. crash_cut mid (Ok tt) cut known h left bytes may;
+  module _ (x : X) (before after : SealedLog D g) (read : IsSeen before after) where
+    -- it can't be read
+    pub not_read : (why : NotReopened) → IsOutside why → Mends m g x x before after (Err why)
+    not_read why outside = record {
+      leaves = same_office x;
+      stands = λ h stands clean. tt;
+      clean = read.clean;
+      opened = tt;
+      bodies = λ clean. tt;
+      journal = λ clean h of tells is_clean. tt;
+      unsealed = λ clean same. refused_by why Unsealed outside tt same;
+      changed = λ clean at same. refused_by why (Changed at) outside tt same;
+      whole = λ clean. tt;
+      no_line = λ clean same. refused_by why NotALine outside tt same;
+      line = λ clean h lawful tells. (λ same. refused_by why NotALine outside tt same, λ same. refused_by why Unsealed outside tt same);
+      other = λ clean h of is_clean same. refused_by why OtherJournal outside tt same;
+      ours = λ clean h of is_clean. tt;
+      untouched = λ refusal. read.seen;
+      cause = λ h of clean. outside_cause m x x why outside;
+      crash = λ clean leaves left may. leaves left (read.crash left may);
     }
 
-    -- and the last line is struck out
-    module _ (after : Y) (result : Result ℕ NotReopened) (struck : IsStruckOut l mid after last.end result) (is : reached ≡ false) where
-      more : (known : l.known) (h : History) → m.is_of h old → IsLeftOf h (l.text before) → m.is_clean new → (e : Event) × IsOneMore h (is_last known).whole e
-      more known h of left clean =
-          more_unreached m old new h of clean (is_last known).whole asked.line reached asked.reached (ends_by known h (m.lawful h old of) left) is
+    module _ (found : Through) (through : IsTrue (g.is_clean after.disk) → IsThrough (g.seen before.disk) found) where
+      none_told : found.at ≡ 0 → IsTrue (g.is_clean after.disk) → bodies_of g before ≡ []
+      none_told none clean = nothing_told (bodies_of g before) (sym (length-through (g.seen before.disk) found (through clean)) ∙ none)
 
-      struck_text : (known : l.known) → l.text after ≡ l.text mid ++ line_of strike → l.text after ≡ (is_last known).whole ++ line_of strike
-      struck_text known text = text ∙ ap (λ t. t ++ line_of strike) (cut_text known)
-
-      pub struck_out : Mends m l old new before after result
-      struck_out = record {
-        leaves = leaves;
-        stands = λ h stands clean. on_ok result (Stands m h new) (asked.stands h stands clean);
-        text = λ known. let x = is_last known in
-            if_ok result _ _ (λ end text.
-            (record { whole = x.whole; lines = whole_lines known; last = with_line x.whole last.text.items asked.line x.has asked.formed asked.says; is = inr (struck_text known text.0) }, text.1, text.2))
-            (struck.text known (cut_end known));
-        journal = λ known h of left clean. let e = more known h of left clean in
-            ok_on result _ _ (λ end text.
-            record { now = h; tables = itself h; says = subst (λ t. IsJournalOf t h) (sym (struck_text known text.0)) (struck_says h (is_last known).whole e.0 e.1) })
-            (struck.text known (cut_end known));
-        no_line = λ known. if_err result IsOutside (λ why. why ≡ NotALine → HasNoLine (l.text before)) (λ why outside same. absurd (outside_line why outside same)) struck.why;
-        line = λ known h lawful left. if_err result IsOutside (λ why. why ≢ NotALine) outside_line struck.why;
-        other = λ known h of clean. if_err result IsOutside (λ why. why ≡ OtherJournal → SaysOther h (l.text before)) (λ why outside same. absurd (outside_other why outside same)) struck.why;
-        ours = λ known h of clean. on_ok result (SaysOther h (l.text before) → ⊥) (never_other known h of clean);
-        untouched = if_err result IsOutside (λ why. (why ≡ NotALine) ⊎ (why ≡ OtherJournal) → after ≡ before) outside_untouched struck.why;
-        cause = λ h of clean. if_err result IsOutside (HasOfficeCause m old new) (outside_cause m old new) struck.why;
-        crash = λ known h of left clean bytes may. elim (struck.crash known bytes may) [
-          | inl stood ↦ crash_cut mid (Ok tt) cut known h left bytes stood
-          | inr longer ↦ let e = more known h of left clean in
-              inr (struck_left h (is_last known).whole bytes e.0 e.1 (subst (λ t. IsLonger t (line_of strike) bytes) (cut_text known) longer))
-        ];
+      -- none of its lines is sealed
+      pub no_seal_there : found.at ≡ 0 → Mends m g x x before after (Err Unsealed)
+      no_seal_there none = record {
+        leaves = same_office x;
+        stands = λ h stands clean. tt;
+        clean = read.clean;
+        opened = tt;
+        bodies = λ clean. tt;
+        journal = λ clean h of tells is_clean. tt;
+        unsealed = λ clean same. none_told none clean;
+        changed = λ clean at same. absurd cc;
+        whole = λ clean. tt;
+        no_line = λ clean same. absurd cc;
+        line = λ clean h lawful tells. (λ same. cc, λ same. told_some h (bodies_of g before) lawful tells (none_told none clean));
+        other = λ clean h of is_clean same. absurd cc;
+        ours = λ clean h of is_clean. tt;
+        untouched = λ refusal. read.seen;
+        cause = λ h of clean. tt;
+        crash = λ clean leaves left may. leaves left (read.crash left may);
       }
+
+      -- too much stands behind those that are
+      pub was_changed : found.at + longest < found.len → Mends m g x x before after (Err (Changed found.at))
+      was_changed more = record {
+        leaves = same_office x;
+        stands = λ h stands clean. tt;
+        clean = read.clean;
+        opened = tt;
+        bodies = λ clean. tt;
+        journal = λ clean h of tells is_clean. tt;
+        unsealed = λ clean same. absurd cc;
+        changed = λ clean at same.
+            let here : found.at ≡ at = cc in
+            (more_behind (g.seen before.disk) found (through clean) more, sym here ∙ length-through (g.seen before.disk) found (through clean));
+        whole = λ clean. tt;
+        no_line = λ clean same. absurd cc;
+        line = λ clean h lawful tells. (λ same. cc, λ same. cc);
+        other = λ clean h of is_clean same. absurd cc;
+        ours = λ clean h of is_clean. tt;
+        untouched = λ refusal. read.seen;
+        cause = λ h of clean. tt;
+        crash = λ clean leaves left may. leaves left (read.crash left may);
+      }
+
+  -- a file that was read first
+  pub seen_on : (old new : X) (before mid after : SealedLog D g) (result : Result ⊤ NotReopened) → IsSeen before mid → Mends m g old new mid after result
+      → Mends m g old new before after result
+  seen_on old new before mid after result read mends =
+      let same : bodies_of g mid ≡ bodies_of g before = ap told read.seen in
+      record {
+        leaves = mends.leaves;
+        stands = mends.stands;
+        clean = λ clean. read.clean (mends.clean clean);
+        opened = mends.opened;
+        bodies = λ clean. subst (λ (b : List (List ℕ)). OnOk result (IsMended b (bodies_of g after))) same (mends.bodies clean);
+        journal = λ clean h of tells is_clean. mends.journal clean h of (subst (TellsOf h) (sym same) tells) is_clean;
+        unsealed = λ clean. subst (λ (b : List (List ℕ)). IfErr result (λ why. why ≡ Unsealed → b ≡ [])) same (mends.unsealed clean);
+        changed = λ clean.
+            subst (λ (f : List ℕ). IfErr result (λ why. (at : ℕ) → why ≡ Changed at → HasMore f × (at ≡ length (sealed_text (told f))))) read.seen (mends.changed clean);
+        whole = λ clean. subst (λ (f : List ℕ). OnOk result (HasMore f → ⊥)) read.seen (mends.whole clean);
+        no_line = λ clean. subst (λ (b : List (List ℕ)). IfErr result (λ why. why ≡ NotALine → EndsWithLine b → ⊥)) same (mends.no_line clean);
+        line = λ clean h lawful tells. mends.line clean h lawful (subst (TellsOf h) (sym same) tells);
+        other = λ clean h of is_clean. subst (λ (b : List (List ℕ)). IfErr result (λ why. why ≡ OtherJournal → SaysOther h b)) same (mends.other clean h of is_clean);
+        ours = λ clean h of is_clean. subst (λ (b : List (List ℕ)). OnOk result (SaysOther h b → ⊥)) same (mends.ours clean h of is_clean);
+        untouched = subst (λ (f : List ℕ). IfErr result (λ why. IsRefusal why → g.seen after.disk ≡ f)) read.seen mends.untouched;
+        cause = mends.cause;
+        crash = λ clean leaves.
+            subst (λ (b : List (List ℕ)). LeavesTail g after.disk (sealed_text b) longest) same
+            (mends.crash clean λ left may. subst (λ (b : List (List ℕ)). HasTail (sealed_text b) longest left) (sym same) (leaves left (read.crash left may)));
+      }
+
+  -- ---- the office is asked
+
+  module _ (old new : X) (before : SealedLog D g) (found : Through) (leaves : LeavesAll m old new)
+      (through : IsTrue (g.is_clean before.disk) → IsThrough (g.seen before.disk) found) where
+    two : IsTrue (g.is_clean before.disk) → last_two [] [] (bodies_of g before) ≡ (found.before.items, found.last.items)
+    two clean = (through clean).two
+
+    -- the last line of what a crash may leave is a line
+    asked_line : (why : NotReopened) → AsksLast m old new found (Err why) → IsTrue (g.is_clean before.disk) → (h : History) → IsLawfulHistory h → TellsOf h (bodies_of g before)
+        → (why ≢ NotALine) × (why ≢ Unsealed)
+    asked_line Unsealed asks clean h lawful tells = absurd asks
+    asked_line NotALine asks clean h lawful tells =
+        let end = has_end h (bodies_of g before) lawful tells in
+        absurd (asks end.line end.formed (last_is (bodies_of g before) end.before found.before.items found.last.items (text_of end.line) (two clean) end.is))
+    asked_line (Changed at) asks clean h lawful tells = absurd asks
+    asked_line OtherJournal asks clean h lawful tells = (λ same. cc, λ same. cc)
+    asked_line (Office fault) asks clean h lawful tells = (λ same. cc, λ same. cc)
+    asked_line Log asks clean h lawful tells = absurd asks
+    asked_line NoMemory asks clean h lawful tells = (λ same. cc, λ same. cc)
+
+    asked_no_line : (why : NotReopened) → AsksLast m old new found (Err why) → IsTrue (g.is_clean before.disk) → why ≡ NotALine → EndsWithLine (bodies_of g before) → ⊥
+    asked_no_line Unsealed asks clean same = absurd asks
+    asked_no_line NotALine asks clean same = λ e.
+        asks e.line e.formed (last_is (bodies_of g before) e.before found.before.items found.last.items (text_of e.line) (two clean) e.is)
+    asked_no_line (Changed at) asks clean same = absurd asks
+    asked_no_line OtherJournal asks clean same = absurd cc
+    asked_no_line (Office fault) asks clean same = absurd cc
+    asked_no_line Log asks clean same = absurd asks
+    asked_no_line NoMemory asks clean same = absurd cc
+
+    asked_cause : (why : NotReopened) → AsksLast m old new found (Err why) → (h : History) → m.is_of h old → m.is_clean new → HasOfficeCause m old new why
+    asked_cause Unsealed asks h of clean = tt
+    asked_cause NotALine asks h of clean = tt
+    asked_cause (Changed at) asks h of clean = tt
+    asked_cause OtherJournal asks h of clean = tt
+    asked_cause (Office fault) asks h of clean = asks h of clean
+    asked_cause Log asks h of clean = tt
+    asked_cause NoMemory asks h of clean = tt
+
+    -- another office's journal
+    asked_other : (why : NotReopened) → AsksLast m old new found (Err why) → IsTrue (g.is_clean before.disk) → (h : History) → m.is_of h old → m.is_clean new → why ≡ OtherJournal
+        → SaysOther h (bodies_of g before)
+    asked_other Unsealed asks clean h of is_clean same = absurd asks
+    asked_other NotALine asks clean h of is_clean same = absurd cc
+    asked_other (Changed at) asks clean h of is_clean same = absurd asks
+    asked_other OtherJournal asks clean h of is_clean same =
+        let lines = two_lines (bodies_of g before) found.before.items found.last.items asks.first.event asks.second.event (two clean) asks.first.says asks.second.says in
+        record {
+          before = lines.earlier;
+          first = asks.first.event;
+          first_forms = asks.first.forms;
+          second = asks.second.event;
+          second_forms = asks.second.forms;
+          is = lines.is;
+          first_unshown = asks.first.unshown h of is_clean;
+          second_unshown = asks.second.unshown h of is_clean;
+        }
+    asked_other (Office fault) asks clean h of is_clean same = absurd cc
+    asked_other Log asks clean h of is_clean same = absurd asks
+    asked_other NoMemory asks clean h of is_clean same = absurd cc
+
+    never_unsealed : (why : NotReopened) → AsksLast m old new found (Err why) → why ≡ Unsealed → ⊥
+    never_unsealed Unsealed asks same = asks
+    never_unsealed NotALine asks same = cc
+    never_unsealed (Changed at) asks same = cc
+    never_unsealed OtherJournal asks same = cc
+    never_unsealed (Office fault) asks same = cc
+    never_unsealed Log asks same = cc
+    never_unsealed NoMemory asks same = cc
+
+    never_changed : (why : NotReopened) (at : ℕ) → AsksLast m old new found (Err why) → why ≡ Changed at → ⊥
+    never_changed Unsealed at asks same = cc
+    never_changed NotALine at asks same = cc
+    never_changed (Changed there) at asks same = asks
+    never_changed OtherJournal at asks same = cc
+    never_changed (Office fault) at asks same = cc
+    never_changed Log at asks same = cc
+    never_changed NoMemory at asks same = cc
+
+    pub not_asked : (why : NotReopened) → AsksLast m old new found (Err why) → Mends m g old new before before (Err why)
+    not_asked why asks = record {
+      leaves = leaves;
+      stands = λ h stands clean. tt;
+      clean = λ clean. clean;
+      opened = tt;
+      bodies = λ clean. tt;
+      journal = λ clean h of tells is_clean. tt;
+      unsealed = λ clean same. absurd (never_unsealed why asks same);
+      changed = λ clean at same. absurd (never_changed why at asks same);
+      whole = λ clean. tt;
+      no_line = λ clean same. asked_no_line why asks clean same;
+      line = λ clean h lawful tells. asked_line why asks clean h lawful tells;
+      other = λ clean h of is_clean. asked_other why asks clean h of is_clean;
+      ours = λ clean h of is_clean. tt;
+      untouched = λ refusal. refl;
+      cause = λ h of clean. asked_cause why asks h of clean;
+      crash = λ clean leaves. leaves;
+    }
+
+    -- ---- what stands behind is cut off
+
+    -- what opening the log did to it
+    module _ (mid : SealedLog D g) (cut_clean : IsTrue (g.is_clean mid.disk) → IsTrue (g.is_clean before.disk))
+        (cut_crash : IsTrue (g.is_clean mid.disk) → LeavesTail g before.disk (sealed_text (bodies_of g before)) longest
+        → LeavesTail g mid.disk (sealed_text (bodies_of g before)) longest) where
+      pub not_cut : (why : NotReopened) → IsOutside why → Mends m g old new before mid (Err why)
+      not_cut why outside = record {
+        leaves = leaves;
+        stands = λ h stands clean. tt;
+        clean = cut_clean;
+        opened = tt;
+        bodies = λ clean. tt;
+        journal = λ clean h of tells is_clean. tt;
+        unsealed = λ clean same. refused_by why Unsealed outside tt same;
+        changed = λ clean at same. refused_by why (Changed at) outside tt same;
+        whole = λ clean. tt;
+        no_line = λ clean same. refused_by why NotALine outside tt same;
+        line = λ clean h lawful tells. (λ same. refused_by why NotALine outside tt same, λ same. refused_by why Unsealed outside tt same);
+        other = λ clean h of is_clean same. refused_by why OtherJournal outside tt same;
+        ours = λ clean h of is_clean. tt;
+        untouched = λ refusal. outside_no_refusal why outside refusal;
+        cause = λ h of clean. outside_cause m old new why outside;
+        crash = cut_crash;
+      }
+
+      module _ (is_open : mid.is_open ≡ true) (same : IsTrue (g.is_clean mid.disk) → bodies_of g mid ≡ bodies_of g before)
+          (no_more_there : IsTrue (g.is_clean mid.disk) → HasMore (g.seen before.disk) → ⊥) (reached : Bool) (asks : IsAskedLast m old new found reached) where
+        asked : IsAsked m old new found.last.items reached
+        asked = asks.asked
+
+        never_other : IsTrue (g.is_clean mid.disk) → (h : History) → m.is_of h old → m.is_clean new → SaysOther h (bodies_of g before) → ⊥
+        never_other clean h of is_clean other =
+            let texts = second_of (bodies_of g before) found.before.items found.last.items (text_of (happened other.first)) (text_of (happened other.second)) (two (cut_clean clean))
+            (ap (last_two [] []) other.is ∙ two_push [] [] other.before (text_of (happened other.first)) (text_of (happened other.second))) in
+            asks.ours h of is_clean other.first other.second other.first_forms other.second_forms (sym texts.0) (sym texts.1) other.first_unshown other.second_unshown
+
+        ends_line : IsTrue (g.is_clean mid.disk) → EndsWithLine (bodies_of g before)
+        ends_line clean = with_line (bodies_of g before) found.before.items found.last.items asked.line (two (cut_clean clean)) asked.formed asked.says
+
+        -- the line that was asked about is the last one
+        ends_by : IsTrue (g.is_clean mid.disk) → (h : History) → IsLawfulHistory h → TellsOf h (bodies_of g before) → EndsBy h (bodies_of g before) asked.line
+        ends_by clean h lawful tells =
+            let end = has_end h (bodies_of g before) lawful tells in
+            let texts = last_is (bodies_of g before) end.before found.before.items found.last.items (text_of end.line) (two (cut_clean clean)) end.is in
+            subst (EndsBy h (bodies_of g before)) (same_line end.line asked.line end.formed asked.formed (sym texts ∙ asked.says)) end.by
+
+        pub stays : reached ≡ true → Mends m g old new before mid (Ok tt)
+        stays is = record {
+          leaves = leaves;
+          stands = asked.stands;
+          clean = cut_clean;
+          opened = is_open;
+          bodies = λ clean. record { last = ends_line clean; is = inl (same clean) };
+          journal = λ clean h of tells is_clean.
+              subst (SaysNow h) (sym (same clean))
+              (says_reached m old new h of is_clean (bodies_of g before) asked.line reached asked.reached (ends_by clean h (m.lawful h old of) tells) is);
+          unsealed = λ clean. tt;
+          changed = λ clean. tt;
+          whole = no_more_there;
+          no_line = λ clean. tt;
+          line = λ clean h lawful tells. tt;
+          other = λ clean h of is_clean. tt;
+          ours = never_other;
+          untouched = tt;
+          cause = λ h of clean. tt;
+          crash = cut_crash;
+        }
+
+        -- and the last line is struck out
+        module _ (after : SealedLog D g) (result : Result ⊤ NotReopened) (struck : IsStruckOut g mid after result) (is : reached ≡ false) where
+          more : IsTrue (g.is_clean after.disk) → (h : History) → m.is_of h old → TellsOf h (bodies_of g before) → m.is_clean new → (e : Event) × IsOneMore h (bodies_of g before) e
+          more clean h of tells is_clean =
+              more_unreached m old new h of is_clean (bodies_of g before) asked.line reached asked.reached (ends_by (struck.clean clean) h (m.lawful h old of) tells) is
+
+          both : (clean : IsTrue (g.is_clean after.disk)) → bodies_of g after ≡ bodies_of g mid ++ text_of strike ∷ [] → bodies_of g after ≡ bodies_of g before ++ text_of strike ∷ []
+          both clean bodies = bodies ∙ ap (λ b. b ++ text_of strike ∷ []) (same (struck.clean clean))
+
+          pub struck_out : Mends m g old new before after result
+          struck_out = record {
+            leaves = leaves;
+            stands = λ h stands clean. on_ok result (Stands m h new) (asked.stands h stands clean);
+            clean = λ clean. cut_clean (struck.clean clean);
+            opened = struck.opened;
+            bodies = λ clean. ok_on result _ _ (λ bodies. record { last = ends_line (struck.clean clean); is = inr (both clean bodies) }) (struck.bodies clean);
+            journal = λ clean h of tells is_clean. let e = more clean h of tells is_clean in
+                ok_on result _ _ (λ bodies. record { now = h; tables = itself h; says = struck_says h (bodies_of g before) (bodies_of g after) e.0 e.1 (both clean bodies) })
+                (struck.bodies clean);
+            unsealed = λ clean. if_err result IsOutside (λ why. why ≡ Unsealed → bodies_of g before ≡ []) (λ why outside same. refused_by why Unsealed outside tt same) struck.why;
+            changed = λ clean. if_err result IsOutside (λ why. (at : ℕ) → why ≡ Changed at → HasMore (g.seen before.disk) × (at ≡ length (sealed_text (bodies_of g before))))
+                (λ why outside at same. refused_by why (Changed at) outside tt same) struck.why;
+            whole = λ clean. on_ok result (HasMore (g.seen before.disk) → ⊥) (no_more_there (struck.clean clean));
+            no_line = λ clean. if_err result IsOutside (λ why. why ≡ NotALine → EndsWithLine (bodies_of g before) → ⊥) (λ why outside same. refused_by why NotALine outside tt same) struck.why;
+            line = λ clean h lawful tells. if_err result IsOutside (λ why. (why ≢ NotALine) × (why ≢ Unsealed))
+                (λ why outside. (λ same. refused_by why NotALine outside tt same, λ same. refused_by why Unsealed outside tt same)) struck.why;
+            other = λ clean h of is_clean. if_err result IsOutside (λ why. why ≡ OtherJournal → SaysOther h (bodies_of g before)) (λ why outside same. refused_by why OtherJournal outside tt same) struck.why;
+            ours = λ clean h of is_clean. on_ok result (SaysOther h (bodies_of g before) → ⊥) (never_other (struck.clean clean) h of is_clean);
+            untouched = if_err result IsOutside (λ why. IsRefusal why → g.seen after.disk ≡ g.seen before.disk) (λ why outside refusal. outside_no_refusal why outside refusal) struck.why;
+            cause = λ h of clean. if_err result IsOutside (HasOfficeCause m old new) (outside_cause m old new) struck.why;
+            crash = λ clean leaves.
+                subst (λ (b : List (List ℕ)). LeavesTail g after.disk (sealed_text b) longest) (same (struck.clean clean)) (struck.crash is_open clean);
+          }

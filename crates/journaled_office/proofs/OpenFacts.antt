@@ -1,5 +1,5 @@
 -- An office that is opened again with its journal.
-use Rattle.std.proofs.Common.{◌≡◌, inl, inr, true, false, not, IsTrue, refl, sym, subst}
+use Rattle.std.proofs.Common.{◌≡◌, inl, inr, false, not, IsTrue, Ok, Err, refl, sym, subst}
 use Rattle.std.proofs.lemmas.Bool.{and_from}
 use Rattle.sqlite.specs.Held.{Held, state}
 use Rattle.sqlite.specs.State.{State}
@@ -10,15 +10,17 @@ use Rattle.office_policy.specs.Handled.{Stands}
 use Rattle.office_policy.specs.Lawful.{IsLawfulHistory}
 use Rattle.office_desk.specs.Meant.{meaning_over}
 use Rattle.office_desk.specs.Offices.{IsOffice}
-use Rattle.office_journal.specs.declared.file.FileJournal.{FileJournal}
 use Rattle.office_journal.specs.declared.journaled.Journaled.{Journaled}
-use Rattle.office_journal.specs.declared.log.Log.{Ghosts as FileGhosts}
-use Rattle.office_journal.specs.Files.{in_file}
+use Rattle.office_journal.specs.Logs.{in_log}
+use Rattle.sqlite_disk.specs.declared.Disk.{Ghosts as DiskGhosts}
+use Rattle.sealed_log.specs.Log.{bodies_of}
+use Rattle.sealed_log.specs.declared.log.SealedLog.{SealedLog}
 use Rattle.office_journal.specs.Journals.{IsOf, goes_on}
 use Rattle.office_journal.proofs.Offices.{stands_with}
-use Rattle.journaled_office.specs.Mending.{HasTablesOf, Says}
-use Rattle.journaled_office.specs.Opening.{IsReopened}
-use Rattle.journaled_office.proofs.MendFacts.{lawful_more}
+use Rattle.journaled_office.specs.declared.fault.NotReopened.{NotReopened}
+use Rattle.journaled_office.specs.Mending.{HasTablesOf, Mends, SaysNow}
+use Rattle.journaled_office.specs.Opening.{IsHandedBack, IsOfNow, IsReopened}
+use Rattle.journaled_office.proofs.MendFacts.{lawful_more, left_ours}
 
 lawful_now : (h now : History) → HasTablesOf h now → IsLawfulHistory h → IsLawfulHistory now
 lawful_now h now same lawful = elim same.grown [
@@ -34,7 +36,7 @@ office_now h now s same of = record {
   tables = λ clean. subst (ShowsIfOpen s) (sym same.tables) (of.tables clean);
 }
 
-module _ {S L : Type 0} (s : Ghosts S) (f : FileGhosts L) where
+module _ {S D : Type 0} (s : Ghosts S) (g : DiskGhosts D) where
   stands_now : (h now : History) (x : Held S) → HasTablesOf h now → Stands (meaning_over s) h x → Stands (meaning_over s) now x
   stands_now h now x same stands = record {
     is_of = office_now h now (state s x) same stands.is_of;
@@ -42,28 +44,52 @@ module _ {S L : Type 0} (s : Ghosts S) (f : FileGhosts L) where
     leaves = λ left may. subst (AreOffice left) (sym same.tables) (stands.leaves left may);
   }
 
-  reopened : (h : History) (old : Held S) (x : Journaled (Held S) (FileJournal L f)) → (meaning_over s).is_of h x.office → (meaning_over s).is_clean x.office
-      → IsTrue (goes_on (meaning_over s) (in_file f) x) → (Stands (meaning_over s) h old → Stands (meaning_over s) h x.office) → Says h (f.logging.text x.journal.log)
-      → IsReopened s f h old x
-  reopened h old x of clean goes kept says =
-      let of_now : IsOf (meaning_over s) (in_file f) says.now x = record {
+  of_now : (h : History) (old : Held S) (x : Journaled (Held S) (SealedLog D g)) → (meaning_over s).is_of h x.office → (meaning_over s).is_clean x.office
+      → IsTrue (g.is_clean x.journal.disk) → IsTrue (goes_on (meaning_over s) (in_log g) x) → (Stands (meaning_over s) h old → Stands (meaning_over s) h x.office)
+      → SaysNow h (bodies_of g x.journal) → IsOfNow s g h old x
+  of_now h old x of clean clean_log goes kept says =
+      let is_of_now : IsOf (meaning_over s) (in_log g) says.now x = record {
         office = office_now h says.now (state s x.office) says.tables of;
-        says = λ known clean goes. says.says;
+        says = λ clean goes. says.says;
       } in
       record {
         now = says.now;
         tables = says.tables;
-        of = of_now;
-        stands = λ stands. stands_with (meaning_over s) (in_file f) x says.now clean goes of_now (stands_now h says.now x.office says.tables (kept stands));
+        of = is_of_now;
+        stands = λ stands. stands_with (meaning_over s) (in_log g) x says.now (clean, clean_log) goes is_of_now (stands_now h says.now x.office says.tables (kept stands));
       }
 
   -- what `new` made of the office and of the journal
-  pub opened : (h : History) (old office : Held S) (journal : FileJournal L f) (log : L) (x : Journaled (Held S) (FileJournal L f))
-      → x ≡ record { office = office; journal = journal; has_stray = false } → journal.log ≡ log → journal.is_open ≡ true → (meaning_over s).is_of h office
-      → ((meaning_over s).is_clean office → Stands (meaning_over s) h old → Stands (meaning_over s) h office) → ((meaning_over s).is_clean office → Says h (f.logging.text log))
-      → (meaning_over s).is_clean x.office → IsReopened s f h old x
-  opened h old office journal log x is same_log is_open of kept says clean =
-      let is_clean = subst (λ (y : Journaled (Held S) (FileJournal L f)). (meaning_over s).is_clean y.office) is clean in
-      subst (IsReopened s f h old) (sym is)
-      (reopened h old (record { office = office; journal = journal; has_stray = false }) of is_clean (and_from journal.is_open (not false) is_open refl) (kept is_clean)
-      (subst (λ (l : L). Says h (f.logging.text l)) (sym same_log) (says is_clean)))
+  pub opened : (old office : Held S) (before log : SealedLog D g) (x : Journaled (Held S) (SealedLog D g)) → x ≡ record { office = office; journal = log; has_stray = false }
+      → Mends (meaning_over s) g old office before log (Ok tt) → IsReopened s g old before x
+  opened old office before log x is mends =
+      let made : Journaled (Held S) (SealedLog D g) = record { office = office; journal = log; has_stray = false } in
+      let goes : IsTrue (goes_on (meaning_over s) (in_log g) made) = and_from log.is_open (not false) mends.opened refl in
+      subst (IsReopened s g old before) (sym is) (record {
+        office = mends.leaves;
+        goes_on = goes;
+        clean = mends.clean;
+        bodies = mends.bodies;
+        whole = mends.whole;
+        journal = λ clean h of tells is_clean.
+            of_now h old made (mends.leaves.office h of) is_clean clean goes (λ stands. mends.stands h stands is_clean) (mends.journal clean h of tells is_clean);
+        ours = mends.ours;
+        crash = mends.crash;
+      })
+
+  pub handed_back : (old office : Held S) (before log : SealedLog D g) (why : NotReopened) → Mends (meaning_over s) g old office before log (Err why)
+      → IsHandedBack s g old before why office log
+  handed_back old office before log why mends = record {
+    unchanged = mends.leaves;
+    clean = mends.clean;
+    unsealed = mends.unsealed;
+    changed = mends.changed;
+    no_line = mends.no_line;
+    line = mends.line;
+    other = mends.other;
+    own = λ clean h of is_clean tells same.
+        left_ours h (bodies_of g before) ((meaning_over s).lawful h old of) tells (mends.other clean h of is_clean same);
+    untouched = mends.untouched;
+    cause = mends.cause;
+    crash = mends.crash;
+  }

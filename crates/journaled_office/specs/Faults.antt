@@ -1,8 +1,11 @@
 -- Why an office isn't opened again.
+use Rattle.sealed_log.specs.declared.fault.LogFault.{LogFault}
+use Rattle.sealed_log.specs.declared.fault.LogFault.TheVariants as logs
 use Rattle.journal_lines.specs.declared.fault.Unread.{Unread}
 use Rattle.journal_lines.specs.declared.fault.Unread.TheVariants as unread
 use Rattle.journaled_office.specs.declared.fault.NotReopened.{NotReopened}
-use Rattle.journaled_office.specs.declared.fault.NotReopened.TheVariants.{Read, NotALine, OtherJournal}
+use Rattle.journaled_office.specs.declared.fault.NotReopened.TheVariants.{Unsealed, NotALine}
+use Rattle.journaled_office.specs.declared.fault.NotReopened.TheVariants.{Changed, OtherJournal}
 use Rattle.journaled_office.specs.declared.fault.NotReopened.TheVariants.{Office, Log, NoMemory}
 
 -- why no line was read of a text
@@ -10,11 +13,28 @@ abbrev pub unread_fault : Unread → NotReopened
 unread_fault unread.NotALine = NotALine
 unread_fault unread.NoMemory = NoMemory
 
--- the text, the log or memory failed, and neither the journal nor the office
+-- why the file of a journal can't be used
+abbrev pub log_fault : LogFault → NotReopened
+log_fault logs.Memory = NoMemory
+log_fault logs.Disk = Log
+log_fault logs.Full = Log
+
+-- the file or memory failed, and neither the journal nor the office
 abbrev pub IsOutside : NotReopened → Type 0
-IsOutside Read = Unit {0}
+IsOutside Unsealed = ⊥
 IsOutside NotALine = ⊥
+IsOutside (Changed at) = ⊥
 IsOutside OtherJournal = ⊥
 IsOutside (Office fault) = ⊥
 IsOutside Log = Unit {0}
 IsOutside NoMemory = Unit {0}
+
+-- the journal is none, or another's, or was changed
+abbrev pub IsRefusal : NotReopened → Type 0
+IsRefusal Unsealed = Unit {0}
+IsRefusal NotALine = Unit {0}
+IsRefusal (Changed at) = Unit {0}
+IsRefusal OtherJournal = Unit {0}
+IsRefusal (Office fault) = ⊥
+IsRefusal Log = ⊥
+IsRefusal NoMemory = ⊥

@@ -1,4 +1,4 @@
 pub mod Faults
-pub mod LastLines
+pub mod Left
 pub mod Mending
 pub mod Opening

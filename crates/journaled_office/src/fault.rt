@@ -2,19 +2,22 @@
 
 use journal_lines::Unread;
 use review_policy::Fault;
+use sealed_log::LogFault;
 use std::alloc::AllocError;
-use std::io;
 use thiserror::Error;
 
 /// Why an office and its journal aren't opened again.
 #[derive(Clone, Copy, Debug, Drop, PartialEq, Eq, Error)]
 pub enum NotReopened {
-    /// The text of the journal can't be read. No contract can say when.
-    #[error("read")]
-    Read,
-    /// The journal has no whole line, or its last one is no line of a journal.
+    /// No line of the journal is sealed.
+    #[error("unsealed")]
+    Unsealed,
+    /// The last line that is sealed is no line of a journal.
     #[error("not-a-line")]
     NotALine,
+    /// More stands behind what is sealed, which ends at this offset, than a line: no crash left that.
+    #[error("changed at {at}")]
+    Changed { at: usize },
     /// The last two lines have events, and the tables show neither: the journal is of another
     /// office, or of this one at another time.
     #[error("other-journal")]
@@ -22,7 +25,7 @@ pub enum NotReopened {
     /// The office met this fault when it was asked about the last lines.
     #[error("office")]
     Office(Fault),
-    /// The journal can't be cut, written or synced. No contract can say when.
+    /// The file of the journal can't be read, cut, written or synced.
     #[error("log")]
     Log,
     /// There was no memory to read a line. No contract can say when.
@@ -30,14 +33,17 @@ pub enum NotReopened {
     NoMemory,
 }
 
-impl From<io::Error> for NotReopened {
+impl From<LogFault> for NotReopened {
     ghost use Rattle.std.specs.Prelude.{◌≡◌};
-    ghost use Rattle.journaled_office.specs.declared.fault.NotReopened.TheVariants.{Log};
+    ghost use Rattle.journaled_office.specs.Faults.{log_fault};
 
-    ghost from_gives = { λ _ e. e ≡ Log };
+    ghost from_gives = { λ fault e. e ≡ log_fault fault };
 
-    fn from(_error: io::Error) -> NotReopened {
-        NotReopened::Log
+    fn from(fault: LogFault) -> NotReopened {
+        match fault {
+            LogFault::Memory => NotReopened::NoMemory,
+            LogFault::Disk | LogFault::Full => NotReopened::Log,
+        }
     }
 }
 

@@ -2,7 +2,7 @@
 #![tactic(auto)]
 
 mod fault;
-mod last_line;
+pub mod laws;
 mod mending;
 mod opening;
 

@@ -1,23 +1,20 @@
 //! What a crash left of a journal is made the journal of its office again.
 
-ghost use Rattle.std.specs.Prelude.{◌≡◌, Some};
+ghost use Rattle.std.specs.Prelude.{IsTrue};
+ghost use Rattle.sealed_log.specs.Reading.{IsThrough};
+ghost use Rattle.sealed_log.specs.Told.{HasMore};
 ghost use Rattle.office_policy.specs.Judging.{LeavesAll};
 ghost use Rattle.office_desk.specs.Meant.{meaning_over};
-ghost use Rattle.office_journal.specs.Logging.{IsCutOff};
-ghost use Rattle.journaled_office.specs.LastLines.{IsLast};
 ghost use Rattle.journaled_office.specs.Mending.{Asks, AsksLast, IsStruckOut, LooksFor};
 ghost use Rattle.journaled_office.specs.Mending.{Mends};
 
 use crate::fault::NotReopened;
-use crate::last_line::{LastLine, last_line};
-use journal_lines::print::line;
-use journal_lines::{Line, Unread, read_line};
+use journal_lines::{Line, Unread, read_line, text};
 use office_desk::Office;
-use office_journal::Log;
+use sealed_log::{SealedLog, Through};
 use sqlite::Alter;
+use sqlite_disk::Disk;
 use std::alloc::Global;
-use std::io;
-use std::io::BufRead;
 
 // Whether what the line of this text says has reached the tables. A line that strikes out the one
 // before it is to reach nothing.
@@ -57,81 +54,75 @@ fn is_missing<S: Alter>(
 fn has_last_reached<S: Alter>(
     alloc: Global,
     office: &mut Office<S>,
-    last: &LastLine,
+    last: &Through,
 ) -> Result<bool, NotReopened>
     ensures leaves { LeavesAll (meaning_over S.Store) office.old office.new }
     ensures asks { AsksLast (meaning_over S.Store) office.old office.new last.now result }
 {
-    let reached = has_reached(alloc, office, &last.text)?;
+    let reached = has_reached(alloc, office, &last.last)?;
     if !reached && is_missing(alloc, office, &last.before)? {
         return Err(NotReopened::OtherJournal);
     }
     Ok(reached)
 }
 
-// Takes away all that stands behind so many bytes, and waits until a crash would leave the rest.
-fn cut_off<L: Log>(log: &mut L, end: u64) -> io::Result<()>
-    ensures { IsCutOff L.logging log.old log.new end result }
+// Writes the line that strikes out the one before it.
+fn strike_out<D: Disk>(alloc: Global, log: &mut SealedLog<D>) -> Result<(), NotReopened>
+    ensures { IsStruckOut D.Disk log.old log.new result }
 {
-    log.cut(end)?;
-    log.sync()
+    let text = text(alloc, &Line::Strike)?;
+    log.put(alloc, text.as_bytes())?;
+    Ok(())
 }
 
-// Writes the line that strikes out the one before it, behind so many bytes: how many there are
-// then.
-fn strike_out<L: Log>(alloc: Global, log: &mut L, end: u64) -> Result<u64, NotReopened>
-    ensures { IsStruckOut L.logging log.old log.new end result }
-{
-    let text = line(alloc, &Line::Strike)?;
-    let Some(end) = end.checked_add(text.len() as u64) else {
-        return Err(NotReopened::Log);
-    };
-    log.add(text.as_bytes())?;
-    log.sync()?;
-    Ok(end)
-}
-
-// Cuts off what is torn behind the last line, and strikes that out where it says what the tables
+// Cuts off what stands behind the last line, and strikes that out where it says what the tables
 // haven't got.
-fn set_right<S: Alter, L: Log>(
+fn set_right<S: Alter, D: Disk>(
     alloc: Global,
     office: &mut Office<S>,
-    last: &LastLine,
-    log: &mut L,
-) -> Result<u64, NotReopened>
-    ensures { (L.logging.known → IsLast (L.logging.text log.old) last.now)
-        → Mends (meaning_over S.Store) L.logging office.old office.new log.old log.new result }
+    found: &Through,
+    log: &mut SealedLog<D>,
+) -> Result<(), NotReopened>
+    requires found { IsTrue (D.is_clean log.old.disk)
+        → IsThrough (D.seen log.old.disk) found.now }
+    requires whole { IsTrue (D.is_clean log.old.disk) → HasMore (D.seen log.old.disk) → ⊥ }
+    ensures { Mends (meaning_over S.Store) D.Disk office.old office.new log.old log.new result }
 {
-    let reached = has_last_reached(alloc, office, last)?;
-    cut_off(log, last.end)?;
+    let reached = has_last_reached(alloc, office, found)?;
+    log.open_at(found)?;
     if reached {
-        Ok(last.end)
+        Ok(())
     } else {
-        strike_out(alloc, log, last.end)
+        strike_out(alloc, log)
     }
 }
 
-/// Makes what a crash left of a journal the journal of this office: how many bytes it has then. The
-/// text, from its beginning, is that of the very file that the log writes at its end.
+/// Makes what a crash left of a journal the journal of this office, and opens it.
 ///
-/// What stands behind its last line feed is cut off. Where its last line says what has not reached
-/// the tables, the line that strikes it out is written behind it. Nothing of the office is changed.
+/// What stands behind its last line that is sealed is cut off, where that is no more than a line.
+/// Where its last line says what has not reached the tables, the line that strikes it out is written
+/// behind it. Nothing of the office is changed.
 ///
 /// # Errors
 ///
-/// The text has no line, or its last one is no line of a journal; its last two lines have events
-/// that the tables don't show; the office has a fault when it is asked; the text, the log or memory
-/// fails. After any of them it can be done again: the file is again what a crash may leave.
-pub fn mend<S: Alter, R: BufRead, L: Log>(
+/// No line is sealed, or more than a line stands behind those that are; the last one is no line of a
+/// journal; the last two have events that the tables don't show; the office has a fault when it is
+/// asked; the file or memory fails. After any of them it can be done again: a crash then leaves what
+/// the file told, and behind that no more than it may have left before, or than a line that strikes
+/// out.
+pub fn mend<S: Alter, D: Disk>(
     alloc: Global,
     office: &mut Office<S>,
-    text: &mut R,
-    log: &mut L,
-) -> Result<u64, NotReopened>
-    requires { L.logging.known → R.remaining text.old ≡ Some (L.logging.text log.old) }
-    ensures { Mends (meaning_over S.Store) L.logging
-        office.old office.new log.old log.new result }
+    log: &mut SealedLog<D>,
+) -> Result<(), NotReopened>
+    ensures { Mends (meaning_over S.Store) D.Disk office.old office.new log.old log.new result }
 {
-    let last = last_line(alloc, text)?;
-    set_right(alloc, office, &last, log)
+    let found = log.read(alloc)?;
+    if found.at() == 0 {
+        return Err(NotReopened::Unsealed);
+    }
+    if found.has_more() {
+        return Err(NotReopened::Changed { at: found.at() });
+    }
+    set_right(alloc, office, &found, log)
 }

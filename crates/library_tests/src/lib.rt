@@ -10,9 +10,13 @@ mod journal;
 #[cfg(test)]
 mod journal_events;
 #[cfg(test)]
-mod journal_file;
+mod journal_limits;
 pub mod lines;
 #[cfg(test)]
 mod profiles;
 #[cfg(test)]
 mod requests;
+#[cfg(test)]
+mod sealed;
+#[cfg(test)]
+mod sealed_lines;

@@ -1,55 +1,78 @@
 -- An office that is kept with a journal: what is known of it as it is founded, opened, served and closed.
-use Rattle.std.proofs.Common.{◌≡◌, ◌∙◌, ℕ, List, [], ◌∷◌, ◌++◌, Option, Some, None, Result, Ok, Err, inl, inr, refl, subst, sym, ap}
+use Rattle.std.proofs.Common.{◌≡◌, ◌∙◌, ℕ, List, [], ◌∷◌, ◌++◌, arith, length, length-append, take, Option, Some, None, Result, Ok, Err, IsTrue, true, inl, inr, refl, subst, sym, ap}
 use Rattle.std.specs.Prelude.{IfErr, OnOk, ⊤}
-use Rattle.std.proofs.lemmas.List.{append-nil}
 use Rattle.std.proofs.lemmas.List.Elements.{All-cons, All-nil}
 use Rattle.std.specs.declared.io.Error.{Error}
 use Rattle.sqlite.specs.Held.{Held}
 use Rattle.sqlite.specs.Store.{Ghosts}
 use Rattle.sqlite.specs.declared.error.Error.{Error as SqliteError}
-use Rattle.journal_lines.specs.Forms.{HasForms, IsFormed}
-use Rattle.journal_lines.specs.Journal.{IsJournalOf}
-use Rattle.journal_lines.specs.Lines.{happened, line_of}
+use Rattle.sqlite_disk.specs.declared.Disk.{Ghosts as DiskGhosts}
+use Rattle.sealed_log.specs.Log.{bodies_of}
+use Rattle.sealed_log.specs.Reading.{IsThrough}
+use Rattle.sealed_log.specs.Sealed.{no_seal, seal_on, sealed_line, sealed_lines, sealed_text}
+use Rattle.sealed_log.specs.Told.{told}
+use Rattle.sealed_log.specs.declared.log.SealedLog.{SealedLog}
+use Rattle.sealed_log.specs.declared.through.Through.{Through}
+use Rattle.sealed_log.proofs.SealFacts.{length-sealed_line}
+use Rattle.sealed_log.proofs.ToldFacts.{told_nothing}
+use Rattle.journal_lines.specs.Forms.{HasForms}
+use Rattle.journal_lines.specs.Journal.{IsEntry, Says}
+use Rattle.journal_lines.specs.Lines.{happened, text_of}
+use Rattle.journal_lines.proofs.Lengths.{founding_entry}
 use Rattle.office_policy.specs.History.{Event}
-use Rattle.office_journal.specs.Files.{HasJust}
-use Rattle.office_journal.specs.Logging.{Logging, IsAdded, IsSynced}
-use Rattle.office_journal.specs.declared.file.FileJournal.{FileJournal}
 use Rattle.office_journal.specs.declared.journaled.Journaled.{Journaled}
-use Rattle.office_journal.specs.declared.log.Log.{Ghosts as FileGhosts}
 use Rattle.office_commands.specs.declared.fault.CommandFault.{CommandFault}
 use Rattle.office_commands.specs.declared.fault.CommandFault.TheVariants as fault
 use Rattle.office_commands.specs.declared.founding.Founding.{Founding}
-use Rattle.office_commands.specs.declared.journals.OpenedJournal.{OpenedJournal}
-use Rattle.office_commands.specs.Foundings.{founding_event, history_of, Described, IsFoundedIn}
+use Rattle.office_commands.specs.declared.no_file.NoFile.{NoFile}
+use Rattle.office_commands.specs.Foundings.{founding_event, Described, IsFoundedIn}
 use Rattle.office_commands.specs.Journals.{IfJournaled, IsBegunBy, IsKeptOffice, IsServedWith, IsUnfoundedBehind, IsUnfoundedWith, WasFoundedBehind, WasFoundedWith}
 use Rattle.office_commands.specs.Openings.{IsEnded, IsFirstOf}
 
--- the line of an event is the journal of the history that is just this event
-pub journal_of_one : (e : Event) → HasForms e → IsJournalOf (line_of (happened e)) (e ∷ [])
-journal_of_one e forms = record {
+-- nothing is sealed in a file where what is sealed ends at its beginning
+pub none_sealed : (file : List ℕ) (found : Through) → IsThrough file found → found.at ≡ 0 → told file ≡ []
+none_sealed file found through at = go (told file) (through.text ∙ ap (λ n. take n file) at)
+  where
+    go : (bodies : List (List ℕ)) → sealed_text bodies ≡ [] → bodies ≡ []
+    go [] is = refl
+    go (body ∷ more) is =
+        absurd (omega (
+          arith,
+          ap length is,
+          length-append (sealed_line no_seal body) (sealed_lines (seal_on no_seal body) more),
+          length-sealed_line no_seal body,
+        ))
+
+-- what is put there is then all that is sealed
+pub only_body : (before opened after body : List ℕ) → told before ≡ [] → opened ≡ sealed_text (told before)
+    → told after ≡ told opened ++ body ∷ [] → told after ≡ body ∷ []
+only_body before opened after body none has put =
+    put ∙ ap (λ (bodies : List (List ℕ)). bodies ++ body ∷ [])
+    (ap told has ∙ ap (λ (bodies : List (List ℕ)). told (sealed_text bodies)) none ∙ told_nothing)
+
+-- the text of an event is the journal of the history that is just this event
+pub says_one : (e : Event) (bodies : List (List ℕ)) → IsEntry (happened e) → bodies ≡ text_of (happened e) ∷ [] → Says bodies (e ∷ [])
+says_one e bodies entry is = record {
   lines = happened e ∷ [];
-  formed = All-cons IsFormed (happened e) [] forms (All-nil IsFormed);
-  says = sym (append-nil (line_of (happened e)));
+  entries = All-cons IsEntry (happened e) [] entry (All-nil IsEntry);
+  are = is;
   history = refl;
 }
 
--- what was written to an empty file, and synced, is all that it has
-pub first_written : {L : Type 0} (l : Logging L) (old mid new : L) (text : List ℕ) (r : Result ⊤ Error) → IsAdded l old mid text (Ok (tt {0})) → IsSynced l mid new r
-    → l.known → l.text old ≡ [] → OnOk r (HasJust l new text)
-first_written l old mid new text (Ok done) added synced known empty = record {
-  has = synced.text known ∙ added.text known ∙ ap (λ t. t ++ text) empty;
-  settled = synced.settled known;
-}
-first_written l old mid new text (Err e) added synced known empty = tt
+-- the founding of a founding is one
+pub founding_is : (founding : Founding) → HasForms (founding_event founding) → IsEntry (happened (founding_event founding))
+founding_is founding forms = founding_entry (founding_event founding) forms forms
 
 -- a file that was made has just the line of a founding
-pub begun_by : {L : Type 0} (f : FileGhosts L) (Created : Result L Error → Type 0) (founding : Founding) (made log : L) (text : List ℕ) → Created (Ok made)
-    → HasForms (founding_event founding) → text ≡ line_of (happened (founding_event founding)) → (f.logging.known → HasJust f.logging log text) → IsBegunBy f Created founding log
-begun_by f Created founding made log text created forms is just = record {
+pub begun_by : {L : Type 0} (f : DiskGhosts L) (Created : Result L NoFile → Type 0) (founding : Founding) (made : L) (log : SealedLog L f) (text : List ℕ) → Created (Ok made)
+    → HasForms (founding_event founding) → text ≡ text_of (happened (founding_event founding)) → log.is_open ≡ true
+    → (IsTrue (f.is_clean log.disk) → bodies_of f log ≡ text ∷ []) → IsBegunBy f Created founding log
+begun_by f Created founding made log text created forms is is_open has = record {
   made = made;
   created = created;
-  line = λ known. subst (λ (t : List ℕ). HasJust f.logging log t) is (just known);
-  says = λ known. subst (λ (t : List ℕ). IsJournalOf t (history_of founding)) (sym ((just known).has ∙ is)) (journal_of_one (founding_event founding) forms);
+  is_open = is_open;
+  line = λ clean. has clean ∙ ap (λ (t : List ℕ). t ∷ []) is;
+  says = λ clean. says_one (founding_event founding) (bodies_of f log) (founding_is founding forms) (has clean ∙ ap (λ (t : List ℕ). t ∷ []) is);
 }
 
 -- why a command failed without a journal
@@ -58,10 +81,10 @@ pub failed_without : (given : Option (List ℕ)) (Without : CommandFault → Typ
 failed_without given Without With (Ok done) is failed = tt
 failed_without given Without With (Err why) is failed = subst (λ (o : Option (List ℕ)). IfJournaled o (Without why) (λ file. With file why)) (sym is) failed
 
-module _ {S L T : Type 0} (g : Ghosts S) (f : FileGhosts L) (Found : Result (OpenedJournal T L) Error → Type 0) (Opened : Held S → Type 0)
-    (Done : (old new : Journaled (Held S) (FileJournal L f)) → Type 0) (Stops : CommandFault → (old new : Journaled (Held S) (FileJournal L f)) → Type 0)
+module _ {S L : Type 0} (g : Ghosts S) (f : DiskGhosts L) (Found : Result L NoFile → Type 0) (Opened : Held S → Type 0)
+    (Done : (old new : Journaled (Held S) (SealedLog L f)) → Type 0) (Stops : CommandFault → (old new : Journaled (Held S) (SealedLog L f)) → Type 0)
     (Closed : Held S → Type 0) (Ended : Held S → Result (Unit {0}) SqliteError → Type 0) where
-  pub was_kept : (old new : Journaled (Held S) (FileJournal L f)) → IsKeptOffice g f Found Opened old → (served closed result : Result (Unit {0}) CommandFault)
+  pub was_kept : (old new : Journaled (Held S) (SealedLog L f)) → IsKeptOffice g f Found Opened old → (served closed result : Result (Unit {0}) CommandFault)
       → OnOk served (Done old new) → IfErr served (λ why. Stops why old new) → OnOk closed (Closed new.office) → IsEnded Ended new.office
       → IfErr closed (λ why. why ≡ fault.Close) → IsFirstOf served closed result → IsServedWith g f Found Opened Done Stops Closed Ended result
   was_kept old new office (Ok a) (Ok b) result done stops closed ended why is =
@@ -80,14 +103,14 @@ with_journal given path Without With is it = subst (λ (o : Option (List ℕ)). 
 pub without_journal : (given : Option (List ℕ)) (Without : Type 0) (With : List ℕ → Type 0) → given ≡ None → Without → IfJournaled given Without With
 without_journal given Without With is it = subst (λ (o : Option (List ℕ)). IfJournaled o Without With) (sym is) it
 
-module _ {S L : Type 0} (g : Ghosts S) (f : FileGhosts L) (Created : Result L Error → Type 0) (Opened : Held S → Type 0) where
-  pub founded_behind : (Closed : Held S → Type 0) (founding : Founding) (log : L) (office : Held S) (r : Result (Unit {0}) CommandFault) → IsBegunBy f Created founding log
+module _ {S L : Type 0} (g : Ghosts S) (f : DiskGhosts L) (Created : Result L NoFile → Type 0) (Opened : Held S → Type 0) where
+  pub founded_behind : (Closed : Held S → Type 0) (founding : Founding) (log : SealedLog L f) (office : Held S) (r : Result (Unit {0}) CommandFault) → IsBegunBy f Created founding log
       → IsFoundedIn g Opened (Ok founding) office → OnOk r (Closed office) → OnOk r (WasFoundedBehind g f Created Opened Closed founding)
   founded_behind Closed founding log office (Ok done) begun founded closed =
       record { log = log; journal = begun; office = record { office = office; founded = founded; closed = closed } }
   founded_behind Closed founding log office (Err why) begun founded closed = tt
 
-  pub behind_open : (Removed : Result ⊤ Error → Type 0) (Ended : Held S → Result (Unit {0}) SqliteError → Type 0) (founding : Founding) (log : L) (office : Held S) (r : Result (Unit {0}) CommandFault)
+  pub behind_open : (Removed : Result ⊤ Error → Type 0) (Ended : Held S → Result (Unit {0}) SqliteError → Type 0) (founding : Founding) (log : SealedLog L f) (office : Held S) (r : Result (Unit {0}) CommandFault)
       → IsBegunBy f Created founding log → IsFoundedIn g Opened (Ok founding) office → IsEnded Ended office → IfErr r (λ why. why ≡ fault.Close)
       → IfErr r (IsUnfoundedBehind g f Created Removed Opened Ended founding)
   behind_open Removed Ended founding log office (Ok done) begun founded ended closed = tt

@@ -7,3 +7,4 @@ pub mod RunFacts
 pub mod SaidFacts
 pub mod TrialFacts
 pub mod FailingFacts
+pub mod SameFacts

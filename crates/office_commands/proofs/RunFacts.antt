@@ -9,16 +9,16 @@ use Rattle.sqlite.specs.Held.{Held}
 use Rattle.sqlite.specs.Store.{Ghosts}
 use Rattle.sqlite.specs.declared.error.Error.{Error as SqliteError}
 use Rattle.command_line.specs.declared.command.Command.{Command}
-use Rattle.office_journal.specs.declared.log.Log.{Ghosts as FileGhosts}
+use Rattle.sqlite_disk.specs.declared.Disk.{Ghosts as DiskGhosts}
 use Rattle.streams.specs.declared.counted.Counted.{Counted}
-use Rattle.office_commands.specs.declared.journals.OpenedJournal.{OpenedJournal}
+use Rattle.office_commands.specs.declared.no_file.NoFile.{NoFile}
 use Rattle.office_commands.specs.Commands.{failed_status, HasEnded, HasRun}
 use Rattle.office_commands.specs.Failing.{HasFailed}
 use Rattle.office_commands.specs.Said.{IsRefusal}
 use Rattle.office_commands.specs.declared.fault.CommandFault.{CommandFault}
 
-module _ {S L T N F O : Type 0} (g : Ghosts S) (Opened-at : List ℕ → Held S → Type 0) (Closed : Held S → Type 0)
-    (f : FileGhosts L) (Creates : List ℕ → Result L Error → Type 0) (Finds : List ℕ → Result (OpenedJournal T L) Error → Type 0)
+module _ {S L N F O : Type 0} (g : Ghosts S) (Opened-at : List ℕ → Held S → Type 0) (Closed : Held S → Type 0)
+    (f : DiskGhosts L) (Creates : List ℕ → Result L NoFile → Type 0) (Finds : List ℕ → Result L NoFile → Type 0)
     (Shows : N → Result Duration Error → Type 0) (Binds : N → SocketAddr → Result TcpListener Error → Type 0)
     (Tells : N → TcpListener → Result SocketAddr Error → Type 0)
     (Opens : List ℕ → Result F Error → Type 0) (bytes_of : F → Option (List ℕ)) (contents : O → Option (List ℕ)) where

@@ -19,7 +19,7 @@ use Rattle.command_line.specs.declared.command.Command.TheVariants as command
 use Rattle.command_line.specs.declared.command.ExecveWords.{ExecveWords}
 use Rattle.desk_http.specs.Lines.{IsCut, IsWhole}
 use Rattle.office_desk.specs.Meant.{meaning_over}
-use Rattle.office_journal.specs.declared.log.Log.{Ghosts as FileGhosts}
+use Rattle.sqlite_disk.specs.declared.Disk.{Ghosts as DiskGhosts}
 use Rattle.streams.specs.declared.counted.Counted.{Counted}
 use Rattle.profile_commands.specs.Comparing.{IsCompared}
 use Rattle.profile_commands.specs.Executions.{execution_of, IsExecuted}
@@ -31,7 +31,7 @@ use Rattle.office_commands.specs.declared.compare.Source.{Source}
 use Rattle.office_commands.specs.declared.compare.Source.TheVariants.{Opened, Unopened}
 use Rattle.office_commands.specs.declared.fault.CommandFault.{CommandFault}
 use Rattle.office_commands.specs.declared.fault.CommandFault.TheVariants as fault
-use Rattle.office_commands.specs.declared.journals.OpenedJournal.{OpenedJournal}
+use Rattle.office_commands.specs.declared.no_file.NoFile.{NoFile}
 use Rattle.office_commands.specs.Foundings.{founding_of_words, WasFounded}
 use Rattle.office_commands.specs.Journals.{journaled_over, IfJournaled, WasFoundedWith}
 use Rattle.office_commands.specs.Journals.{WasKept}
@@ -115,9 +115,9 @@ failed_status _ = 1
 -- which this is known as they are opened and closed, journals of which this is known as they are
 -- made and opened, a network of which this is known as its clock is read, as it binds and as it
 -- tells where it listens, and files of which this is known as they are opened.
-module _ {S L T N F O : Type 0} (g : Ghosts S) (Opened-at : List ℕ → Held S → Type 0)
-    (Closed : Held S → Type 0) (f : FileGhosts L) (Creates : List ℕ → Result L Error → Type 0)
-    (Finds : List ℕ → Result (OpenedJournal T L) Error → Type 0)
+module _ {S L N F O : Type 0} (g : Ghosts S) (Opened-at : List ℕ → Held S → Type 0)
+    (Closed : Held S → Type 0) (f : DiskGhosts L) (Creates : List ℕ → Result L NoFile → Type 0)
+    (Finds : List ℕ → Result L NoFile → Type 0)
     (Shows : N → Result Duration Error → Type 0)
     (Binds : N → SocketAddr → Result TcpListener Error → Type 0)
     (Tells : N → TcpListener → Result SocketAddr Error → Type 0)
@@ -155,9 +155,9 @@ module _ {S L T N F O : Type 0} (g : Ghosts S) (Opened-at : List ℕ → Held S 
   HasRun (command.Migrate database) came output wrote status =
       WasMigrated g (Opened-at database.now) Closed
       × IsWhole contents output wrote (codes "migrated\n") × (status ≡ 0)
-  HasRun (command.Verify database journal) came output wrote status =
-      HasVerified g (Opens journal.now) bytes_of (Opened-at database.now) contents output wrote
-      Closed × (status ≡ 0)
+  HasRun (command.Verify words) came output wrote status =
+      HasVerified g (Opens words.journal.now) bytes_of (Opened-at words.database.now) words.seal
+      contents output wrote Closed × (status ≡ 0)
   HasRun (command.History words) came output wrote status =
       WasToldAt Opens bytes_of contents output wrote words × (status ≡ 0)
   HasRun (command.Evidence words) came output wrote status =

@@ -15,7 +15,7 @@ use Rattle.command_line.specs.declared.command.Command.TheVariants as command
 use Rattle.command_line.specs.declared.command.ExecveWords.{ExecveWords}
 use Rattle.desk_http.specs.Lines.{IsCut}
 use Rattle.office_desk.specs.Meant.{meaning_over}
-use Rattle.office_journal.specs.declared.log.Log.{Ghosts as FileGhosts}
+use Rattle.sqlite_disk.specs.declared.Disk.{Ghosts as DiskGhosts}
 use Rattle.profile_commands.specs.Comparing.{IsBase, IsCompared, IsNew}
 use Rattle.profile_commands.specs.Executions.{execution_of, IsExecuted}
 use Rattle.profile_commands.specs.Refusal.{IsChecked, RefusesAs}
@@ -27,7 +27,7 @@ use Rattle.streams.specs.declared.counted.Counted.{Counted}
 use Rattle.office_commands.specs.declared.compare.Source.{Source}
 use Rattle.office_commands.specs.declared.fault.CommandFault.{CommandFault}
 use Rattle.office_commands.specs.declared.fault.CommandFault.TheVariants as fault
-use Rattle.office_commands.specs.declared.journals.OpenedJournal.{OpenedJournal}
+use Rattle.office_commands.specs.declared.no_file.NoFile.{NoFile}
 use Rattle.office_commands.specs.Commands.{outcome_text, source_bytes, IsSource}
 use Rattle.office_commands.specs.Foundings.{founding_of_words, IsUnfounded, WasFounded}
 use Rattle.office_commands.specs.Journals.{journaled_over, IfJournaled, IsServedWith}
@@ -119,10 +119,10 @@ module _ {O : Type 0} (contents : O → Option (List ℕ)) (output wrote : Count
 -- What a command did that failed so, over input that was to come and what of it is left, and the
 -- same databases, journals, network and files as of a command that ended well; of the journals this
 -- is known as they are removed.
-module _ {S L T N F O : Type 0} (g : Ghosts S) (Opened-at : List ℕ → Held S → Type 0)
+module _ {S L N F O : Type 0} (g : Ghosts S) (Opened-at : List ℕ → Held S → Type 0)
     (Closed : Held S → Type 0) (Ended : Held S → Result (Unit {0}) SqliteError → Type 0)
-    (f : FileGhosts L) (Creates : List ℕ → Result L Error → Type 0)
-    (Finds : List ℕ → Result (OpenedJournal T L) Error → Type 0)
+    (f : DiskGhosts L) (Creates : List ℕ → Result L NoFile → Type 0)
+    (Finds : List ℕ → Result L NoFile → Type 0)
     (Removes : List ℕ → Result ⊤ Error → Type 0)
     (Shows : N → Result Duration Error → Type 0)
     (Binds : N → SocketAddr → Result TcpListener Error → Type 0)
@@ -173,9 +173,9 @@ module _ {S L T N F O : Type 0} (g : Ghosts S) (Opened-at : List ℕ → Held S 
       FailsToSay contents output wrote (codes "migrated\n")
       (WasMigrated g (Opened-at database.now) Closed)
       (IsUnmigrated g (Opened-at database.now) Ended why) why
-  HasFailed (command.Verify database journal) came left output wrote why =
-      FailsToVerify g (Opens journal.now) bytes_of (Opened-at database.now) contents output wrote
-      Closed Ended why
+  HasFailed (command.Verify words) came left output wrote why =
+      FailsToVerify g (Opens words.journal.now) bytes_of (Opened-at words.database.now) words.seal
+      contents output wrote Closed Ended why
   HasFailed (command.History words) came left output wrote why =
       IsUntoldAt Opens bytes_of contents output wrote words why
   HasFailed (command.Evidence words) came left output wrote why =

@@ -1,5 +1,5 @@
 -- The words of why a command is refused or failed.
-use Rattle.std.specs.Prelude.{ℕ, List, ◌++◌, codes}
+use Rattle.std.specs.Prelude.{ℕ, List, ◌++◌, codes, decimal}
 use Rattle.desk.specs.Faults.{desk_fault_word}
 use Rattle.journaled_office.specs.declared.fault.NotReopened.{NotReopened}
 use Rattle.journaled_office.specs.declared.fault.NotReopened.TheVariants as reopening
@@ -54,13 +54,14 @@ compared_fault_text (compared.New why) = codes "new: " ++ file_fault_text why
 compared_fault_text compared.NoMemory = codes "memory"
 
 -- why an office wasn't opened again with its journal
-abbrev pub reopening_fault_word : NotReopened → List ℕ
-reopening_fault_word reopening.Read = codes "journal"
-reopening_fault_word reopening.NotALine = codes "not-a-journal"
-reopening_fault_word reopening.OtherJournal = codes "other-journal"
-reopening_fault_word (reopening.Office why) = fault_word why
-reopening_fault_word reopening.Log = codes "journal"
-reopening_fault_word reopening.NoMemory = codes "memory"
+abbrev pub reopening_fault_text : NotReopened → List ℕ
+reopening_fault_text reopening.Unsealed = codes "unsealed"
+reopening_fault_text reopening.NotALine = codes "not-a-journal"
+reopening_fault_text (reopening.Changed at) = codes "changed at " ++ decimal at
+reopening_fault_text reopening.OtherJournal = codes "other-journal"
+reopening_fault_text (reopening.Office why) = fault_word why
+reopening_fault_text reopening.Log = codes "journal"
+reopening_fault_text reopening.NoMemory = codes "memory"
 
 -- why an office isn't the one of its journal
 abbrev pub unverified_text : Unverified → List ℕ
@@ -81,9 +82,12 @@ command_fault_text (fault.Store why) = store_fault_word why
 command_fault_text (fault.Opening why) = opening_fault_word why
 command_fault_text fault.Close = codes "disk"
 command_fault_text fault.JournalThere = codes "journal-there"
+command_fault_text fault.JournalBusy = codes "busy"
 command_fault_text fault.Journal = codes "journal"
-command_fault_text (fault.Reopening why) = reopening_fault_word why
+command_fault_text (fault.Reopening why) = reopening_fault_text why
+command_fault_text fault.SameFile = codes "same-file"
 command_fault_text (fault.Unverified why) = unverified_text why
+command_fault_text fault.OtherSeal = codes "other-seal"
 command_fault_text (fault.Unwritten why) = unwritten_text why
 command_fault_text (fault.NoEvidence why) = no_evidence_text why
 command_fault_text fault.NotAWord = codes "bad-word"

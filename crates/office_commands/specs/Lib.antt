@@ -11,6 +11,9 @@ pub mod Lines
 pub mod Migrations
 pub mod Hosts
 pub mod KeptHosts
+pub mod SameFiles
 pub mod JournalTexts
+pub mod KeptSeals
 pub mod Verifications
 pub mod Reports
+pub mod NoFiles

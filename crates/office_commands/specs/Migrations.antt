@@ -27,6 +27,6 @@ abbrev pub IsUnmigrated : {S : Type 0} → Ghosts S → (Opened : Held S → Typ
 IsUnmigrated g Opened Ended (fault.Store why) = Unit {0}
 IsUnmigrated {S} g Opened Ended (fault.Migration why) =
     (old new : Held S) × IsUnlimited Opened old
-    × (HasCleanDisk (state g new) → FailsToMigrate g old why) × IsEnded Ended new
+    × (HasCleanDisk (state g new) → FailsToMigrate g old new why) × IsEnded Ended new
 IsUnmigrated g Opened Ended fault.Close = WasMigrated g Opened (IsEnded Ended)
 IsUnmigrated g Opened Ended _ = ⊥

@@ -1,26 +1,26 @@
 //! A journal is begun.
 
-ghost use Rattle.std.specs.Prelude.{◌≡◌, ◌<◌, ◌^◌, [], IfErr, IfOk, OnOk, string_bytes};
-ghost use Rattle.std.specs.IoError.{error_kind};
+ghost use Rattle.std.specs.Prelude.{◌≡◌, ◌<◌, ◌^◌, [], ◌∷◌, true, IfErr, IfOk, IsTrue};
+ghost use Rattle.std.specs.Prelude.{string_bytes};
+ghost use Rattle.sealed_log.specs.Log.{bodies_of};
+ghost use Rattle.sealed_log.specs.Sealed.{IsBody};
 ghost use Rattle.journal_lines.specs.Forms.{HasForms};
-ghost use Rattle.journal_lines.specs.Lines.{happened, line_of};
-ghost use Rattle.office_journal.specs.Files.{HasJust};
+ghost use Rattle.journal_lines.specs.Lines.{happened, text_of};
 ghost use Rattle.office_policy.specs.Formed.{IsDigest, IsWord};
 ghost use Rattle.office_commands.specs.Foundings.{founding_event};
-ghost use Rattle.office_commands.specs.Journals.{IsBegunBy, IsUnbegun, IsUnmade};
+ghost use Rattle.office_commands.specs.Journals.{IsBegunBy, IsUnbegun};
 
 use crate::fault::CommandFault;
 use crate::founding::Founding;
 use crate::journals::Journals;
+use crate::no_file::fault_of;
 use cap_sets::Caps;
-use journal_lines::Line;
-use journal_lines::print::line;
-use office_journal::Log;
+use journal_lines::{Line, text};
 use office_policy::Event;
 use review_policy::Word;
+use sealed_log::{LogFault, SealedLog};
+use sqlite_disk::Disk;
 use std::alloc::{AllocError, Global};
-use std::io;
-use std::io::ErrorKind;
 
 // A word is of its form. Nothing is done here but to read it.
 fn read_word(word: &Word)
@@ -53,10 +53,10 @@ fn read_forms(founding: &Founding)
     read_caps(founding.listed);
 }
 
-// The line of a founding.
-fn founding_line(alloc: Global, founding: &Founding) -> Result<String, AllocError>
+// The text of a founding.
+fn founding_text(alloc: Global, founding: &Founding) -> Result<String, AllocError>
     ensures { IfOk result (λ text. string_bytes text
-        ≡ line_of (happened (founding_event founding.now))) }
+        ≡ text_of (happened (founding_event founding.now))) }
 {
     let event = Event::Founded {
         user: founding.name.clone()?,
@@ -64,26 +64,24 @@ fn founding_line(alloc: Global, founding: &Founding) -> Result<String, AllocErro
         digest: founding.digest,
         listed: founding.listed,
     };
-    line(alloc, &Line::Event(event))
+    text(alloc, &Line::Event(event))
 }
 
-// Why the file of a journal isn't made.
-fn fault_of(error: &io::Error) -> CommandFault
-    ensures { IsUnmade (error_kind error.now) result }
+// Puts a body into a file in which nothing is sealed.
+fn put_first<D: Disk + Drop>(alloc: Global, file: D, body: &[u8]) -> Result<SealedLog<D>, LogFault>
+    requires { IsBody body.now }
+    ensures opened { IfOk result (λ log. log.is_open ≡ true) }
+    ensures has { IfOk result (λ log. IsTrue (D.is_clean log.disk)
+        → bodies_of D.Disk log ≡ body.now ∷ []) }
 {
-    match error.kind() {
-        ErrorKind::AlreadyExists => CommandFault::JournalThere,
-        _ => CommandFault::Journal,
+    let mut log = SealedLog::new(file);
+    let found = log.read(alloc)?;
+    if found.at() > 0 {
+        return Err(LogFault::Disk);
     }
-}
-
-// Writes to an empty file, and waits until a crash would leave what was written.
-fn write_first<L: Log>(log: &mut L, text: &[u8]) -> io::Result<()>
-    ensures { L.logging.known → L.logging.text log.old ≡ []
-        → OnOk result (HasJust L.logging log.new text.now) }
-{
-    log.add(text)?;
-    log.sync()
+    log.open_at(&found)?;
+    log.put(alloc, body)?;
+    Ok(log)
 }
 
 /// Begins a journal at a path by the line of a founding, which a crash then leaves.
@@ -97,22 +95,22 @@ pub(crate) fn begin_journal<J: Journals>(
     alloc: Global,
     path: &str,
     founding: &Founding,
-) -> Result<J::File, CommandFault>
-    ensures begun { IfOk result (IsBegunBy J.File.Log (J.creates journals.now path.now)
+) -> Result<SealedLog<J::File>, CommandFault>
+    ensures begun { IfOk result (IsBegunBy J.File.Disk (J.creates journals.now path.now)
         founding.now) }
     ensures unbegun { IfErr result (IsUnbegun (J.creates journals.now path.now)
         (J.removes journals.now path.now)) }
 {
     read_forms(founding);
-    let Ok(line) = founding_line(alloc, founding) else {
+    let Ok(text) = founding_text(alloc, founding) else {
         return Err(CommandFault::NoMemory);
     };
-    let mut log = match journals.create(path) {
-        Ok(log) => log,
-        Err(error) => return Err(fault_of(&error)),
+    let file = match journals.create(path) {
+        Ok(file) => file,
+        Err(why) => return Err(fault_of(why)),
     };
-    match write_first(&mut log, line.as_str().as_bytes()) {
-        Ok(()) => Ok(log),
+    match put_first(alloc, file, text.as_str().as_bytes()) {
+        Ok(log) => Ok(log),
         Err(_) => {
             // That it wasn't written is reported, and not whether it was removed.
             let _ = journals.remove(path);

@@ -1,8 +1,7 @@
 //! Why a command is refused or failed.
 
 ghost use Rattle.std.specs.Prelude.{◌≡◌};
-ghost use Rattle.office_commands.specs.FaultTexts.{execution_fault_word, reopening_fault_word};
-ghost use Rattle.office_commands.specs.FaultTexts.{unread_word};
+ghost use Rattle.office_commands.specs.FaultTexts.{execution_fault_word, unread_word};
 
 use crate::founding_fault::FoundingWordsFault;
 use desk::DeskFault;
@@ -40,12 +39,18 @@ pub enum CommandFault {
     Close,
     /// Something is where a journal is to be begun.
     JournalThere,
+    /// Another command has the journal open.
+    JournalBusy,
     /// A journal can't be begun, or can't be opened.
     Journal,
     /// An office isn't opened again with its journal.
     Reopening(NotReopened),
+    /// A journal is the file of its database, or one of the files beside that, by its name.
+    SameFile,
     /// An office isn't the one of its journal.
     Unverified(Unverified),
+    /// A line of a journal hasn't the seal that was kept.
+    OtherSeal,
     /// The history of a journal wasn't written to its end.
     Unwritten(Unwritten),
     /// A journal has no evidence of the issue of a revision.
@@ -80,19 +85,6 @@ fn unread_word(unread: Unread) -> &'static str
         Unread::Failed => "read",
         Unread::TooManyReads => "too-many-reads",
         Unread::NoMemory => "memory",
-    }
-}
-
-// The word of why an office isn't opened again with its journal.
-fn reopening_word(fault: NotReopened) -> &'static str
-    ensures { result.now ≡ reopening_fault_word fault }
-{
-    match fault {
-        NotReopened::Read | NotReopened::Log => "journal",
-        NotReopened::NotALine => "not-a-journal",
-        NotReopened::OtherJournal => "other-journal",
-        NotReopened::Office(fault) => fault.word(),
-        NotReopened::NoMemory => "memory",
     }
 }
 
@@ -135,7 +127,16 @@ impl fmt::Display for CommandFault {
             CommandFault::Close => f.write_str("disk"),
             CommandFault::JournalThere => f.write_str("journal-there"),
             CommandFault::Journal => f.write_str("journal"),
-            CommandFault::Reopening(fault) => f.write_str(reopening_word(*fault)),
+            CommandFault::JournalBusy => f.write_str("busy"),
+            CommandFault::SameFile => f.write_str("same-file"),
+            CommandFault::OtherSeal => f.write_str("other-seal"),
+            CommandFault::Reopening(NotReopened::Unsealed) => f.write_str("unsealed"),
+            CommandFault::Reopening(NotReopened::NotALine) => f.write_str("not-a-journal"),
+            CommandFault::Reopening(NotReopened::Changed { at }) => write!(f, "changed at {at}"),
+            CommandFault::Reopening(NotReopened::OtherJournal) => f.write_str("other-journal"),
+            CommandFault::Reopening(NotReopened::Office(fault)) => f.write_str(fault.word()),
+            CommandFault::Reopening(NotReopened::Log) => f.write_str("journal"),
+            CommandFault::Reopening(NotReopened::NoMemory) => f.write_str("memory"),
             CommandFault::Bind => f.write_str("bind"),
             CommandFault::Write => f.write_str("write"),
             CommandFault::NoMemory | CommandFault::Compared(ComparedFault::NoMemory) => {

@@ -1,25 +1,28 @@
 //! The commands over the host: its files, its databases, its journals and its network.
 
 use crate::host_files::{HostFiles, Unread};
+use crate::host_journals::HostJournals;
 use crate::run::run_words;
 use sqlite::Start;
 use std::io::{Read, Write};
 use streams::Counted;
 
-// The same, whatever the files of databases hold as they are opened.
-fn run_from<T: Start + Copy>(
+// The same, whatever the files of databases and of journals hold as they are opened.
+fn run_from<T: Start + Copy, U: Start + Copy>(
     rt: &HostRuntime,
     start: T,
+    journal: U,
     words: &[String],
     input: &mut dyn Read,
     output: &mut dyn Write,
     errors: &mut dyn Write,
 ) -> u8 {
     let databases = HostFiles::new(rt, start);
+    let journals = HostJournals::new(rt, journal);
     run_words(
         rt,
         &databases,
-        rt,
+        &journals,
         rt,
         rt.alloc(),
         words,
@@ -37,5 +40,5 @@ pub fn run_here(
     output: &mut dyn Write,
     errors: &mut dyn Write,
 ) -> u8 {
-    run_from(rt, Unread, words, input, output, errors)
+    run_from(rt, Unread, Unread, words, input, output, errors)
 }

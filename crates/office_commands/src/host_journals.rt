@@ -1,42 +1,18 @@
 //! The journals in the files of the host.
 
-use crate::journals::{Journals, OpenedJournal};
-use office_journal::Log;
-use std::alloc::Global;
+use crate::journals::Journals;
+use crate::no_file::NoFile;
+use sqlite::{FileFrom, Start};
+use sqlite_disk::Files;
+use sqlite_std_file::{OpenError, open};
 use std::fs::{File, OpenOptions, Permissions};
-use std::io::{BufReader, Write};
+use std::io::ErrorKind;
 use std::os::unix::fs::{OpenOptionsExt, PermissionsExt};
 use std::path::Path;
 use std::{fs, io};
 
 // What the owner of a journal may do with it, and nobody else anything.
 const OWNER_ALONE: u32 = 0o600;
-
-/// A file of the host that is written at its end.
-#[derive(Drop)]
-pub struct HostLog {
-    // Opened so that the host writes at the end.
-    file: File,
-}
-
-impl Log for HostLog {
-    ghost use Rattle.std.specs.Prelude.{[], ⊤};
-
-    // Of what a file has, the standard library says nothing.
-    ghost logging = { record { known = ⊥; text = λ _. []; may_leave = λ _ _. ⊤ } };
-
-    fn add(&mut self, bytes: &[u8]) -> io::Result<()> {
-        self.file.write_all(bytes)
-    }
-
-    fn cut(&mut self, end: u64) -> io::Result<()> {
-        self.file.set_len(end)
-    }
-
-    fn sync(&mut self) -> io::Result<()> {
-        self.file.sync_data()
-    }
-}
 
 // Waits until a crash would leave the entry of a path in its folder.
 fn sync_entry(rt: &HostRuntime, path: &str) -> io::Result<()> {
@@ -49,62 +25,108 @@ fn sync_entry(rt: &HostRuntime, path: &str) -> io::Result<()> {
 }
 
 // Makes an empty file where nothing is. The mode is given to the call that makes it, so that nobody
-// else can ever have it open.
-fn make_file(rt: &HostRuntime, path: &str) -> io::Result<File> {
-    OpenOptions::new()
-        .append(true)
+// else can ever have it open, and set again since the umask took from it.
+fn make_file(rt: &HostRuntime, path: &str) -> io::Result<()> {
+    let file = OpenOptions::new()
+        .write(true)
         .create_new(true)
         .mode(OWNER_ALONE)
-        .open(rt, path)
+        .open(rt, path)?;
+    file.set_permissions(Permissions::from_mode(OWNER_ALONE))
 }
 
-// Sees to it that its owner can use a file that was made, from which the umask took, and that a
-// crash leaves it in its folder.
-fn settle_file(rt: &HostRuntime, path: &str, file: &File) -> io::Result<()> {
-    file.set_permissions(Permissions::from_mode(OWNER_ALONE))?;
-    sync_entry(rt, path)
+// Why a file can't be made.
+fn unmade(error: &io::Error) -> NoFile {
+    match error.kind() {
+        ErrorKind::AlreadyExists => NoFile::There,
+        ErrorKind::OutOfMemory => NoFile::NoMemory,
+        _ => NoFile::Failed,
+    }
 }
 
-impl Journals for HostRuntime {
-    type File = HostLog;
+// Why a file can't be opened.
+fn unopened(error: OpenError) -> NoFile {
+    match error {
+        OpenError::Busy => NoFile::Busy,
+        OpenError::OutOfMemory => NoFile::NoMemory,
+        OpenError::Io(error) => match error.kind() {
+            ErrorKind::OutOfMemory => NoFile::NoMemory,
+            _ => NoFile::Failed,
+        },
+        OpenError::HotJournal => NoFile::Failed,
+    }
+}
 
-    type Text = BufReader<File>;
+// Removes the empty file that was made beside a journal's. One that has bytes is another's, and
+// stays.
+fn remove_spare(rt: &HostRuntime, path: &str) -> io::Result<()> {
+    let real = fs::canonicalize(rt, path)?;
+    let spare = format!(in rt.alloc(); "{}-wal", real.as_str())?;
+    if fs::symlink_metadata(rt, spare.as_str())?.len() == 0 {
+        fs::remove_file(rt, spare.as_str())?;
+    }
+    Ok(())
+}
+
+/// The journals in the files of the host. `T` stands for what a file holds as it is opened: what is
+/// proved of a command over them is proved for all contents.
+#[derive(Drop)]
+pub struct HostJournals<'r, T: Start + Copy> {
+    rt: &'r HostRuntime,
+    start: T,
+}
+
+impl<'r, T: Start + Copy> HostJournals<'r, T> {
+    /// The journals in the files of this host.
+    pub fn new(rt: &'r HostRuntime, start: T) -> HostJournals<'r, T> {
+        HostJournals { rt, start }
+    }
+}
+
+impl<T: Start + Copy> Journals for HostJournals<'_, T> {
+    type File = FileFrom<T>;
 
     ghost use Rattle.std.specs.Prelude.{⊤};
 
     ghost creates = { λ _ _ _. ⊤ };
 
-    fn create(&self, path: &str) -> io::Result<HostLog> {
-        let file = make_file(self, path)?;
-        match settle_file(self, path, &file) {
-            Ok(()) => Ok(HostLog { file }),
-            Err(error) => {
-                // Why it can't be used is reported, and not whether it was removed.
-                let _ = fs::remove_file(self, path);
-                Err(error)
-            }
+    fn create(&self, path: &str) -> Result<FileFrom<T>, NoFile> {
+        match make_file(self.rt, path) {
+            Ok(()) => {}
+            Err(error) => return Err(unmade(&error)),
         }
+        let why = match self.open(path) {
+            Ok(file) => match sync_entry(self.rt, path) {
+                Ok(()) => return Ok(file),
+                Err(_) => NoFile::Failed,
+            },
+            Err(why) => why,
+        };
+        // Why there is no journal is reported, and not whether the file was removed.
+        let _ = fs::remove_file(self.rt, path);
+        Err(why)
     }
 
     ghost opens = { λ _ _ _. ⊤ };
 
-    fn open(
-        &self,
-        alloc: Global,
-        path: &str,
-    ) -> io::Result<OpenedJournal<BufReader<File>, HostLog>> {
-        let file = OpenOptions::new().read(true).append(true).open(self, path)?;
-        let text = BufReader::new(alloc, file.try_clone()?)?;
-        Ok(OpenedJournal {
-            text,
-            log: HostLog { file },
-        })
+    // The kit's file takes the lock, and would be made where none is: so one is looked for first.
+    fn open(&self, path: &str) -> Result<FileFrom<T>, NoFile> {
+        if fs::metadata(self.rt, path).is_err() {
+            return Err(NoFile::Failed);
+        }
+        let Files { log: _spare, db } = match open(self.rt, path, self.start) {
+            Ok(files) => files,
+            Err(error) => return Err(unopened(error)),
+        };
+        // It is no harm where it stays.
+        let _ = remove_spare(self.rt, path);
+        Ok(db)
     }
 
     ghost removes = { λ _ _ _. ⊤ };
 
     fn remove(&self, path: &str) -> io::Result<()> {
-        fs::remove_file(self, path)?;
-        sync_entry(self, path)
+        fs::remove_file(self.rt, path)?;
+        sync_entry(self.rt, path)
     }
 }

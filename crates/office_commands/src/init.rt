@@ -20,9 +20,10 @@ use crate::journals::Journals;
 use crate::opening::{close, open};
 use command_line::InitWords;
 use office_desk::Office;
-use office_journal::Log;
 use office_store::FoundingFault;
+use sealed_log::SealedLog;
 use sqlite::{Alter, Connection};
+use sqlite_disk::Disk;
 use std::alloc::Global;
 
 /// Founds the office of a founding in a store.
@@ -36,7 +37,7 @@ pub(crate) fn found_in<S: Alter>(
     ensures cause { IfErr result (λ refusal. HasCleanDisk (state S.Store refusal.1)
         → FailsToFound S.Store
         (first_user founding.now.name founding.now.team founding.now.digest)
-        founding.now.listed conn refusal.0) }
+        founding.now.listed conn refusal.1 refusal.0) }
 {
     Office::found(
         conn,
@@ -89,13 +90,13 @@ fn founded_at<S: Alter + Drop, D: Databases<Database = Connection<S>>>(
 }
 
 // The same, once the line of the founding stands in the file of a journal, which is then let go.
-fn founded_behind<S: Alter + Drop, D: Databases<Database = Connection<S>>, L: Log + Drop>(
+fn founded_behind<S: Alter + Drop, D: Databases<Database = Connection<S>>, J: Disk + Drop>(
     databases: &D,
     path: &str,
     founding: &Founding,
-    log: L,
+    log: SealedLog<J>,
 ) -> Result<Office<S>, CommandFault>
-    requires { HasLine L.Log founding.now log }
+    requires { HasLine J.Disk founding.now log }
     ensures founded { IfOk result
         (IsFoundedIn S.Store (D.opened path.now) (Ok founding.now)) }
     ensures refused { IfErr result (IsUnfoundedAs D.ended (Ok founding.now)) }
@@ -130,9 +131,9 @@ fn found_behind<S: Alter + Drop, D: Databases<Database = Connection<S>>, J: Jour
     journal: &str,
     founding: &Founding,
 ) -> Result<(), CommandFault>
-    ensures founded { OnOk result (WasFoundedBehind S.Store J.File.Log
+    ensures founded { OnOk result (WasFoundedBehind S.Store J.File.Disk
         (J.creates journals.now journal.now) (D.opened path.now) D.closed founding.now) }
-    ensures failed { IfErr result (IsUnfoundedBehind S.Store J.File.Log
+    ensures failed { IfErr result (IsUnfoundedBehind S.Store J.File.Disk
         (J.creates journals.now journal.now) (J.removes journals.now journal.now)
         (D.opened path.now) D.ended founding.now) }
 {
@@ -163,13 +164,13 @@ pub(crate) fn found_at<S: Alter + Drop, D: Databases<Database = Connection<S>>, 
     ensures founded { OnOk result (IfJournaled (option_copied words.now.journal)
         (WasFounded S.Store (D.opened words.now.database.now) D.closed
         (founding_of_words words.now))
-        (λ file. WasFoundedWith S.Store J.File.Log (J.creates journals.now file)
+        (λ file. WasFoundedWith S.Store J.File.Disk (J.creates journals.now file)
         (D.opened words.now.database.now) D.closed (founding_of_words words.now))) }
     ensures failed { IfErr result (λ why.
         IfJournaled (option_copied words.now.journal)
         (IsUnfounded S.Store (D.opened words.now.database.now) D.ended
         (founding_of_words words.now) why)
-        (λ file. IsUnfoundedWith S.Store J.File.Log (J.creates journals.now file)
+        (λ file. IsUnfoundedWith S.Store J.File.Disk (J.creates journals.now file)
         (J.removes journals.now file) (D.opened words.now.database.now) D.ended
         (founding_of_words words.now) why)) }
 {

@@ -1,54 +1,46 @@
 //! An office that is kept with a journal.
 
-ghost use Rattle.std.specs.Prelude.{◌≡◌, ◌⊎◌, IfErr, IfOk, OnOk};
+ghost use Rattle.std.specs.Prelude.{◌≡◌, IfErr, IfOk, OnOk};
 ghost use Rattle.office_commands.specs.Openings.{IsEnded};
 ghost use Rattle.office_commands.specs.Journals.{IsKeptOffice, IsOfJournal, IsOpenedWith, IsUnkept};
 
 use crate::databases::Databases;
 use crate::fault::CommandFault;
 use crate::journals::Journals;
+use crate::no_file::fault_of;
 use crate::opening::{close, office_at};
 use journaled_office::reopen;
 use office_desk::Office;
-use office_journal::{FileJournal, Journaled, Log};
+use office_journal::Journaled;
+use sealed_log::SealedLog;
 use sqlite::{Alter, Connection};
+use sqlite_disk::Disk;
 use std::alloc::Global;
 use std::fs::Files;
-use std::io;
-use std::io::ErrorKind;
 
 /// An office in a database, with its journal in a file.
-pub(crate) type Kept<S, L> = Journaled<Office<S>, FileJournal<L>>;
+pub(crate) type Kept<S, D> = Journaled<Office<S>, SealedLog<D>>;
 
-// Why the file of a journal isn't opened.
-fn fault_of(error: &io::Error) -> CommandFault
-    ensures { (result ≡ CommandFault.NoMemory) ⊎ (result ≡ CommandFault.Journal) }
-{
-    match error.kind() {
-        ErrorKind::OutOfMemory => CommandFault::NoMemory,
-        _ => CommandFault::Journal,
-    }
-}
-
-// The office, opened again with its journal at a path; or why not, and the office.
+// The office, opened again with its journal at a path; or why not, and the office. The journal is
+// let go then.
 fn opened_with<S: Alter + Drop, J: Journals>(
     journals: &J,
     alloc: Global,
     office: Office<S>,
     path: &str,
 ) -> Result<Kept<S, J::File>, (CommandFault, Office<S>)>
-    ensures opened { IfOk result (λ x. IsOpenedWith S.Store J.File.Log
+    ensures opened { IfOk result (λ x. IsOpenedWith S.Store J.File.Disk
         (J.opens journals.now path.now) office x) }
-    ensures none { IfErr result (λ refusal. IsOfJournal S.Store J.File.Log
+    ensures none { IfErr result (λ refusal. IsOfJournal S.Store J.File.Disk
         (J.opens journals.now path.now) office refusal.1 refusal.0) }
 {
-    let journal = match journals.open(alloc, path) {
-        Ok(journal) => journal,
-        Err(error) => return Err((fault_of(&error), office)),
+    let file = match journals.open(path) {
+        Ok(file) => file,
+        Err(why) => return Err((fault_of(why), office)),
     };
-    match reopen(alloc, office, journal.text, journal.log) {
+    match reopen(alloc, office, SealedLog::new(file)) {
         Ok(kept) => Ok(kept),
-        Err((why, office)) => Err((CommandFault::Reopening(why), office)),
+        Err((why, office, _)) => Err((CommandFault::Reopening(why), office)),
     }
 }
 
@@ -56,8 +48,8 @@ fn opened_with<S: Alter + Drop, J: Journals>(
 ///
 /// # Errors
 ///
-/// As of [`office_at`]; and `Journal` or `NoMemory` where the file of the journal can't be opened,
-/// `Reopening` where the two can't be opened again. Then the office is closed; and where that fails
+/// As of [`office_at`]; and `Journal`, `JournalBusy` or `NoMemory` where the file of the journal can't
+/// be opened, `Reopening` where the two can't be opened again. Then the office is closed; and where that fails
 /// too, the first fault is told.
 pub(crate) fn kept_office_at<
     F: Files,
@@ -72,9 +64,9 @@ pub(crate) fn kept_office_at<
     path: &str,
     journal: &str,
 ) -> Result<Kept<S, J::File>, CommandFault>
-    ensures opened { IfOk result (IsKeptOffice S.Store J.File.Log
+    ensures opened { IfOk result (IsKeptOffice S.Store J.File.Disk
         (J.opens journals.now journal.now) (D.opened path.now)) }
-    ensures fault { IfErr result (IsUnkept S.Store J.File.Log
+    ensures fault { IfErr result (IsUnkept S.Store J.File.Disk
         (J.opens journals.now journal.now) (D.opened path.now) D.ended) }
 {
     let office = match office_at(files, databases, path) {
@@ -96,9 +88,9 @@ pub(crate) fn kept_office_at<
 /// # Errors
 ///
 /// As of [`close`].
-pub(crate) fn close_kept<S: Alter, L: Log + Drop, D: Databases<Database = Connection<S>>>(
+pub(crate) fn close_kept<S: Alter, J: Disk + Drop, D: Databases<Database = Connection<S>>>(
     databases: &D,
-    kept: Kept<S, L>,
+    kept: Kept<S, J>,
 ) -> Result<(), CommandFault>
     ensures closed { OnOk result (D.closed kept.office) }
     ensures ended { IsEnded D.ended kept.office }

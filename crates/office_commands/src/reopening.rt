@@ -31,7 +31,7 @@ pub fn a_kept_office_is_left_with_its_journal<D: Disk + Drop, J: Journals>(
     _journals: &J,
 )
     ensures desk { (journals : J) (path : List ℕ)
-        → KeptDeskIsLeft D.Disk J.File.Log (J.opens journals path) }
+        → KeptDeskIsLeft D.Disk J.File.Disk (J.opens journals path) }
     ensures exchanges { (journals : J) (path : List ℕ)
-        → KeptExchangesAreLeft D.Disk J.File.Log (J.opens journals path) }
+        → KeptExchangesAreLeft D.Disk J.File.Disk (J.opens journals path) }
 {}

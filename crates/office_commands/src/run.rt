@@ -9,6 +9,7 @@ ghost use Rattle.office_commands.specs.Failing.{FailsToCheck, FailsToCompare, Fa
 ghost use Rattle.office_commands.specs.Failing.{HasFailed};
 ghost use Rattle.office_commands.specs.Reports.{FailsToProve, HasProved, IsUntoldAt, WasToldAt};
 ghost use Rattle.office_commands.specs.Said.{IsRefusal};
+ghost use Rattle.office_commands.specs.SameFiles.{FailsApart, WasApart};
 ghost use Rattle.office_commands.specs.Verifications.{FailsToVerify, HasVerified};
 
 use crate::compare::compare_files;
@@ -21,12 +22,15 @@ use crate::init::found_at;
 use crate::journals::Journals;
 use crate::migrate::migrate_at;
 use crate::network::Network;
+use crate::same_file::names_one_file;
 use crate::serve::serve_http;
 use crate::stored::serve_stored;
 use crate::trial::serve_trial;
-use crate::verify::{verified_line, verify_at};
-use crate::written::{print, refuse, say};
-use command_line::{Command, EvidenceWords, ExecveWords, HistoryWords, WordsFault, read_words};
+use crate::verify::{verified_line, verify_with};
+use crate::written::{print, print_bytes, refuse, say};
+use command_line::{
+    Command, EvidenceWords, ExecveWords, HistoryWords, VerifyWords, WordsFault, read_words,
+};
 use profile_commands::{Outcome, check_document, execution_of, execve_document};
 use sqlite::{Alter, Connection};
 use std::alloc::Global;
@@ -123,25 +127,26 @@ fn run_verify<F: PassFiles, S: Alter + Drop, D: Databases<Database = Connection<
     files: &F,
     databases: &D,
     alloc: Global,
-    database: &str,
-    journal: &str,
+    words: &VerifyWords<'_>,
     output: &mut Counted<O>,
 ) -> Result<u8, CommandFault>
-    ensures done { IfOk result (λ status. HasVerified S.Store (F.opens files.now journal.now)
-        F.File.remaining (D.opened database.now) O.contents output.old output.new D.closed
+    ensures done { IfOk result (λ status. HasVerified S.Store
+        (F.opens files.now words.now.journal.now) F.File.remaining
+        (D.opened words.now.database.now) words.now.seal O.contents output.old output.new D.closed
         × (status ≡ 0)) }
-    ensures failed { IfErr result (FailsToVerify S.Store (F.opens files.now journal.now)
-        F.File.remaining (D.opened database.now) O.contents output.old output.new D.closed
+    ensures failed { IfErr result (FailsToVerify S.Store
+        (F.opens files.now words.now.journal.now) F.File.remaining
+        (D.opened words.now.database.now) words.now.seal O.contents output.old output.new D.closed
         D.ended) }
 {
-    let events = match verify_at(files, databases, alloc, database, journal) {
-        Ok(events) => events,
+    let verified = match verify_with(files, databases, alloc, words) {
+        Ok(verified) => verified,
         Err(fault) => return Err(fault),
     };
-    let Ok(line) = verified_line(alloc, events) else {
+    let Ok(line) = verified_line(alloc, &verified) else {
         return Err(CommandFault::NoMemory);
     };
-    match print(output, line.as_str()) {
+    match print_bytes(output, &line) {
         Ok(()) => Ok(0),
         Err(fault) => Err(fault),
     }
@@ -219,10 +224,11 @@ fn run<
     requires reads { input.old.calls ≤ 2 ^ 62 }
     requires read_faults { input.old.faults ≤ 2 ^ 62 }
     requires write_faults { output.old.faults ≤ 2 ^ 62 }
-    ensures done { IfOk result (HasRun S.Store D.opened D.closed J.File.Log
-        (J.creates journals.now) (J.opens journals.now) N.shows N.binds N.tells (F.opens files.now) F.File.remaining O.contents command.entry
+    ensures done { IfOk result (HasRun S.Store D.opened D.closed J.File.Disk
+        (J.creates journals.now) (J.opens journals.now) N.shows N.binds N.tells
+        (F.opens files.now) F.File.remaining O.contents command.entry
         (I.remaining input.old.inner) output.old output.new) }
-    ensures failed { IfErr result (HasFailed S.Store D.opened D.closed D.ended J.File.Log
+    ensures failed { IfErr result (HasFailed S.Store D.opened D.closed D.ended J.File.Disk
         (J.creates journals.now) (J.opens journals.now) (J.removes journals.now)
         N.shows N.binds N.tells (F.opens files.now) F.File.remaining O.contents command.entry
         (I.remaining input.old.inner) (I.remaining input.new.inner) output.old output.new) }
@@ -255,12 +261,52 @@ fn run<
             Ok(0)
         }
         Command::Compare { base, new } => run_compare(files, alloc, base, new, output),
-        Command::Verify { database, journal } => {
-            run_verify(files, databases, alloc, database, journal, output)
-        }
+        Command::Verify(words) => run_verify(files, databases, alloc, &words, output),
         Command::History(words) => run_history(files, alloc, &words, output),
         Command::Evidence(words) => run_evidence(files, alloc, &words, output),
     }
+}
+
+// The same, where the journal that the command names is no file of its database. Else that is told,
+// and nothing is opened.
+fn run_apart<
+    F: PassFiles,
+    S: Alter + Drop,
+    D: Databases<Database = Connection<S>>,
+    J: Journals,
+    N: Network,
+    I: Read,
+    O: Write,
+>(
+    files: &F,
+    databases: &D,
+    journals: &J,
+    network: &N,
+    alloc: Global,
+    command: Command<'_>,
+    input: &mut Counted<I>,
+    output: &mut Counted<O>,
+) -> Result<u8, CommandFault>
+    requires reads { input.old.calls ≤ 2 ^ 62 }
+    requires read_faults { input.old.faults ≤ 2 ^ 62 }
+    requires write_faults { output.old.faults ≤ 2 ^ 62 }
+    ensures done { IfOk result (λ status. WasApart command.entry
+        (HasRun S.Store D.opened D.closed J.File.Disk
+        (J.creates journals.now) (J.opens journals.now) N.shows N.binds N.tells
+        (F.opens files.now) F.File.remaining O.contents command.entry
+        (I.remaining input.old.inner) output.old output.new status)) }
+    ensures failed { IfErr result (FailsApart command.entry
+        (HasFailed S.Store D.opened D.closed D.ended J.File.Disk
+        (J.creates journals.now) (J.opens journals.now) (J.removes journals.now)
+        N.shows N.binds N.tells (F.opens files.now) F.File.remaining O.contents command.entry
+        (I.remaining input.old.inner) (I.remaining input.new.inner) output.old output.new)) }
+{
+    if names_one_file(&command) {
+        return Err(CommandFault::SameFile);
+    }
+    run(
+        files, databases, journals, network, alloc, command, input, output,
+    )
 }
 
 // Prints a text, or says that it couldn't be printed.
@@ -356,20 +402,21 @@ pub fn run_words<
     requires read_faults { input.old.faults ≤ 2 ^ 62 }
     requires write_faults { output.old.faults ≤ 2 ^ 62 }
     ensures { HasRunWords E.contents errors.old errors.new O.contents output.old output.new
-        (λ command. HasRun S.Store D.opened D.closed J.File.Log
-        (J.creates journals.now) (J.opens journals.now) N.shows N.binds N.tells (F.opens files.now) F.File.remaining O.contents
-        command (I.remaining input.old.inner) output.old output.new)
-        (λ command. HasFailed S.Store D.opened D.closed D.ended J.File.Log
+        (λ command status. WasApart command (HasRun S.Store D.opened D.closed J.File.Disk
+        (J.creates journals.now) (J.opens journals.now) N.shows N.binds N.tells
+        (F.opens files.now) F.File.remaining O.contents command
+        (I.remaining input.old.inner) output.old output.new status))
+        (λ command. FailsApart command (HasFailed S.Store D.opened D.closed D.ended J.File.Disk
         (J.creates journals.now) (J.opens journals.now) (J.removes journals.now)
         N.shows N.binds N.tells
         (F.opens files.now) F.File.remaining O.contents command
-        (I.remaining input.old.inner) (I.remaining input.new.inner) output.old output.new)
+        (I.remaining input.old.inner) (I.remaining input.new.inner) output.old output.new))
         words.entry.now result }
 {
     match read_words(alloc, words) {
         Ok(command) => {
             let failed = failed_status(&command);
-            let ended = run(
+            let ended = run_apart(
                 files, databases, journals, network, alloc, command, input, output,
             );
             status_of(alloc, errors, ended, failed)

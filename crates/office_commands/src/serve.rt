@@ -146,12 +146,12 @@ fn serve_kept<
     journal: &str,
     output: &mut Counted<O>,
 ) -> Result<(), CommandFault>
-    ensures { IsServedWith S.Store J.File.Log (J.opens journals.now journal.now)
+    ensures { IsServedWith S.Store J.File.Disk (J.opens journals.now journal.now)
         (D.opened words.now.database.now)
         (λ old new. HasServed N.shows N.binds N.tells O.contents
-        (journaled_over S.Store J.File.Log) words.now old new output.old output.new)
+        (journaled_over S.Store J.File.Disk) words.now old new output.old output.new)
         (λ why old new. HasBegun N.shows N.binds N.tells O.contents
-        (journaled_over S.Store J.File.Log) words.now old new output.old output.new why)
+        (journaled_over S.Store J.File.Disk) words.now old new output.old output.new why)
         D.closed D.ended result }
 {
     let mut kept = match kept_office_at(
@@ -196,12 +196,12 @@ pub(crate) fn serve_http<
         (λ why old new. HasBegun N.shows N.binds N.tells O.contents (meaning_over S.Store) words.now
         old new output.old output.new why)
         D.closed D.ended result)
-        (λ file. IsServedWith S.Store J.File.Log (J.opens journals.now file)
+        (λ file. IsServedWith S.Store J.File.Disk (J.opens journals.now file)
         (D.opened words.now.database.now)
         (λ old new. HasServed N.shows N.binds N.tells O.contents
-        (journaled_over S.Store J.File.Log) words.now old new output.old output.new)
+        (journaled_over S.Store J.File.Disk) words.now old new output.old output.new)
         (λ why old new. HasBegun N.shows N.binds N.tells O.contents
-        (journaled_over S.Store J.File.Log) words.now old new output.old output.new why)
+        (journaled_over S.Store J.File.Disk) words.now old new output.old output.new why)
         D.closed D.ended result) }
 {
     match words.journal {

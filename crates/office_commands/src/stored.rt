@@ -73,11 +73,11 @@ fn serve_kept<
     requires reads { input.old.calls ≤ 2 ^ 62 }
     requires read_faults { input.old.faults ≤ 2 ^ 62 }
     requires write_faults { output.old.faults ≤ 2 ^ 62 }
-    ensures { IsServedWith S.Store J.File.Log (J.opens journals.now journal.now)
+    ensures { IsServedWith S.Store J.File.Disk (J.opens journals.now journal.now)
         (D.opened path.now)
-        (HasAnswered W.contents (journaled_over S.Store J.File.Log)
+        (HasAnswered W.contents (journaled_over S.Store J.File.Disk)
         (R.remaining input.old.inner) output.old output.new)
-        (HasStopped W.contents (journaled_over S.Store J.File.Log)
+        (HasStopped W.contents (journaled_over S.Store J.File.Disk)
         (R.remaining input.old.inner) (R.remaining input.new.inner) output.old output.new)
         D.closed D.ended result }
 {
@@ -120,10 +120,10 @@ pub(crate) fn serve_stored<
         (HasStopped W.contents (meaning_over S.Store)
         (R.remaining input.old.inner) (R.remaining input.new.inner) output.old output.new)
         D.closed D.ended result)
-        (λ file. IsServedWith S.Store J.File.Log (J.opens journals.now file) (D.opened path.now)
-        (HasAnswered W.contents (journaled_over S.Store J.File.Log)
+        (λ file. IsServedWith S.Store J.File.Disk (J.opens journals.now file) (D.opened path.now)
+        (HasAnswered W.contents (journaled_over S.Store J.File.Disk)
         (R.remaining input.old.inner) output.old output.new)
-        (HasStopped W.contents (journaled_over S.Store J.File.Log)
+        (HasStopped W.contents (journaled_over S.Store J.File.Disk)
         (R.remaining input.old.inner) (R.remaining input.new.inner) output.old output.new)
         D.closed D.ended result) }
 {

@@ -9,16 +9,28 @@ use std::alloc::Global;
 use std::io::Write;
 use streams::{Counted, write_whole};
 
+/// Writes all bytes of what a command prints.
+pub(crate) fn print_bytes<W: Write>(
+    output: &mut Counted<W>,
+    bytes: &[u8],
+) -> Result<(), CommandFault>
+    ensures whole { OnOk result (IsWhole W.contents output.old output.new bytes.now) }
+    ensures fault { IfErr result (λ fault. (fault ≡ CommandFault.Write)
+        × IsCut W.contents output.old output.new bytes.now) }
+{
+    match write_whole(output, bytes) {
+        Ok(()) => Ok(()),
+        Err(_) => Err(CommandFault::Write),
+    }
+}
+
 /// Writes all of a text that a command prints.
 pub(crate) fn print<W: Write>(output: &mut Counted<W>, text: &str) -> Result<(), CommandFault>
     ensures whole { OnOk result (IsWhole W.contents output.old output.new text.now) }
     ensures fault { IfErr result (λ fault. (fault ≡ CommandFault.Write)
         × IsCut W.contents output.old output.new text.now) }
 {
-    match write_whole(output, text.as_bytes()) {
-        Ok(()) => Ok(()),
-        Err(_) => Err(CommandFault::Write),
-    }
+    print_bytes(output, text.as_bytes())
 }
 
 /// Says a text. Where that fails there is no more to say.

@@ -16,15 +16,16 @@ use Rattle.review_policy.specs.declared.role.Role.TheVariants.{Security}
 use Rattle.review_policy.specs.Role.{has_role}
 use Rattle.profile_text.specs.Digest.{digest_of}
 use Rattle.office_tables.specs.declared.fault.StoreFault.{StoreFault}
-use Rattle.office_tables.specs.declared.fault.StoreFault.TheVariants.{NotAnOffice}
+use Rattle.office_tables.specs.declared.fault.StoreFault.TheVariants.{NoMemory, Disk, Full, NotAnOffice}
 use Rattle.office_tables.specs.declared.row.RevisionRow.{RevisionRow}
 use Rattle.office_tables.specs.Changes.{with_vote}
 use Rattle.office_tables.specs.Lists.{holds_role}
 use Rattle.office_tables.specs.Reads.{Adds, submitted as new_row}
 use Rattle.office_rows.specs.Causes.{HasFailed}
+use Rattle.office_rows.specs.Statements.{Statement, IsCause, Refuses}
 use Rattle.office_rows.proofs.Sure.{met_between}
 use Rattle.office_store.specs.Entries.{vote_entry}
-use Rattle.office_store.specs.Refusing.{Write, puts_user, adds_revision, issues, withdraws, puts_vote, puts_baseline, puts_hold, deletes_hold, Makes}
+use Rattle.office_store.specs.Refusing.{Write, puts_user, adds_revision, issues, withdraws, puts_vote, puts_baseline, puts_hold, deletes_hold, statements_of, Makes, Stops}
 use Rattle.office_store.specs.Shown.{Shows, ShowsIfOpen}
 use Rattle.office_policy.specs.declared.judge.Allowed.{Allowed}
 use Rattle.office_policy.specs.History.{Event, enrolled, submitted, voted, issued, withdrawn, adopted, held, released, History}
@@ -35,7 +36,7 @@ use Rattle.office_policy.specs.Formed.{HasForms}
 use Rattle.office_policy.specs.Lawful.{IsAllowed, IsLawfulHistory}
 use Rattle.office_policy.specs.TablesOf.{tables_of}
 use Rattle.office_policy.specs.Runs.{IsAnswer, answer_of, event_of, with_event}
-use Rattle.office_policy.specs.Handled.{AreWithEvent, IsHandled, RefusesEvent, Stands, Survives, only_reads}
+use Rattle.office_policy.specs.Handled.{AreWithEvent, IsHandled, IsUnwritten, RefusesEvent, Stands, Survives, only_reads}
 use Rattle.office_policy.specs.Judging.{IsNextRevision, IsPermitted, LeavesAll, answer_in, event_in}
 use Rattle.office_policy.proofs.EventFacts.{enrolled_tables, submitted_tables, voted_tables, issued_tables, withdrawn_tables, adopted_tables, held_tables, released_tables}
 use Rattle.office_policy.proofs.HeadlineFacts.{given_out_approved}
@@ -146,6 +147,17 @@ module _ {S : Type 0} (g : Ghosts S) (old new : Held S) where
     | inr unasked ↦ subst (Survives (meaning_over g) old) (sym unasked.same) (survives_none (meaning_over g) old)
   ]
 
+-- what kept statements from being committed
+module _ {S : Type 0} (g : Ghosts S) (ss : List Statement) (h : Held S) where
+  stops_refused : (fault : StoreFault) → IsCause g ss h fault → Refuses g ss h fault → Stops g ss h fault
+  stops_refused NoMemory cause refused = cause
+  stops_refused Disk cause refused = refused
+  stops_refused Full cause refused = refused
+  stops_refused NotAnOffice cause refused = refused
+
+  stops_memory : (fault : StoreFault) → fault ≡ NoMemory → IsCause g ss h fault → Stops g ss h NoMemory
+  stops_memory fault is cause = subst (IsCause g ss h) is cause
+
 -- this was allowed on a history, with this event, to a user of then
 pub record IsGranted (h : History) (a : Ask) (allowed : Allowed) (v : Verdict) : Type 0 where
   pub known : user_of h allowed.caller.name ≡ Some allowed.caller
@@ -208,25 +220,41 @@ module _ {S : Type 0} (g : Ghosts S) (before old new : Held S) (a : Ask) (allowe
 
   -- there was a fault
   module _ (fault : StoreFault) (asks : Asks g w old new (Err fault)) where
-    pub unwritten_cause : (h : History) → IsOffice h (state g before) → HasCleanDisk (state g new) → IsTrue (state g old).is_open
-        → HasFailed (state g before) (state g new) fault ⊎ RefusesEvent (meaning_over g) h (judge h) (told_of fault)
-    unwritten_cause h office clean is_open =
+    -- over what was there SQLite doesn't write it
+    stopped : (f : StoreFault) → Stops g (statements_of w) old f → (h : History) → IsOffice h (state g before) → HasCleanDisk (state g new) → IsTrue (state g old).is_open
+        → RefusesEvent (meaning_over g) before h (judge h) (told_of f)
+    stopped f stops h office clean is_open =
         let to = granted_at (Err fault) asks h office clean in
+        let clean_old = asks.written.leaves.clean clean in
+        let kept = leaves.kept clean_old in
+        let same = kept.same (office.tables (leaves.survives.clean clean_old) (kept.shut is_open)).settled is_open in
+        subst (λ v. RefusesEvent (meaning_over g) before h v (told_of f)) (sym to.verdict) (
+          f,
+          refl,
+          record {
+            write = w;
+            makes = makes h office.lawful to;
+            over = old;
+            now = same.0;
+            committed = same.1;
+            idle = (leaves.office h office).idle;
+            shows = shows_at (Err fault) asks h office clean is_open;
+            refused = stops;
+          },
+        )
+
+    pub unwritten_cause : (h : History) → IsOffice h (state g before) → HasCleanDisk (state g new) → IsTrue (state g old).is_open
+        → HasFailed (state g before) (state g new) fault ⊎ RefusesEvent (meaning_over g) before h (judge h) (told_of fault)
+    unwritten_cause h office clean is_open =
         elim (asks.cause clean).met [
           | inl met ↦ inl (met_between (state g before) (state g old) (state g new) (state g new) fault leaves.survives.counts (omega arith) (never_both (state g old).is_open is_open) met)
-          | inr refused ↦ inr (subst (λ v. RefusesEvent (meaning_over g) h v (told_of fault)) (sym to.verdict) (
-            fault,
-            refl,
-            record {
-              write = w;
-              makes = makes h office.lawful to;
-              over = old;
-              idle = (leaves.office h office).idle;
-              shows = shows_at (Err fault) asks h office clean is_open;
-              refused = refused;
-            },
-          ))
+          | inr refused ↦ inr (stopped fault (stops_refused g (statements_of w) old fault (asks.cause clean).cause refused) h office clean is_open)
         ]
+
+    -- or has no memory for it
+    pub unwritten_memory : (h : History) → IsOffice h (state g before) → HasCleanDisk (state g new) → IsTrue (state g old).is_open → fault ≡ NoMemory
+        → IsUnwritten (meaning_over g) before new ⊎ RefusesEvent (meaning_over g) before h (judge h) faults.Memory
+    unwritten_memory h office clean is_open is = inr (stopped NoMemory (stops_memory g (statements_of w) old fault is (asks.cause clean).cause) h office clean is_open)
 
     pub unwritten_office : (h : History) → IsOffice h (state g before) → IsOffice h (state g new)
     unwritten_office h office = record {
@@ -247,7 +275,7 @@ module _ {S : Type 0} (g : Ghosts S) (before old new : Held S) (r : Request) (to
   unwritten = record {
     survives = permitted.leaves.survives;
     answer = λ h office clean. tt;
-    cause = λ h office clean. tt;
+    cause = λ h office clean. inl (permitted.leaves.kept clean, permitted.leaves.crash clean);
     approved = λ h office clean. tt;
     office = permitted.leaves.office;
     stands = λ h office clean. tt;
@@ -300,9 +328,10 @@ module _ {S : Type 0} (g : Ghosts S) (before old new : Held S) (r : Request) (to
           survives = written_survives g before old new r.ask allowed (λ h. verdict h r) permitted.leaves granted w is (Err fault) asks;
           answer = λ h office clean. passing h r fault (formed h office clean);
           cause = λ h office clean.
+              let is_open = (permitted.stands h office (asks.written.leaves.clean clean)).is_open in
               caused g before new h r fault (formed h office clean)
-              (unwritten_cause g before old new r.ask allowed (λ h. verdict h r) permitted.leaves granted w is fault asks h office clean
-              (permitted.stands h office (asks.written.leaves.clean clean)).is_open);
+              (unwritten_memory g before old new r.ask allowed (λ h. verdict h r) permitted.leaves granted w is fault asks h office clean is_open)
+              (unwritten_cause g before old new r.ask allowed (λ h. verdict h r) permitted.leaves granted w is fault asks h office clean is_open);
           approved = λ h office clean. tt;
           office = unwritten_office g before old new r.ask allowed (λ h. verdict h r) permitted.leaves granted w is fault asks;
           stands = λ h office clean. tt;

@@ -10,6 +10,7 @@ use Rattle.review_policy.specs.declared.ask.Ask.TheVariants as ask
 use Rattle.review_policy.specs.declared.ask.Request.{Request}
 use Rattle.review_policy.specs.declared.answer.Answer.TheVariants.{Done, Denied, Fault}
 use Rattle.review_policy.specs.declared.answer.Fault.{Fault as TheFault}
+use Rattle.review_policy.specs.declared.answer.Fault.TheVariants as faults
 use Rattle.review_policy.specs.declared.answer.Reply.{Reply}
 use Rattle.review_policy.specs.declared.denial.Denial.{Denial}
 use Rattle.review_policy.specs.declared.denial.Rule.TheVariants.{CallerUnknown}
@@ -32,7 +33,7 @@ use Rattle.office_policy.specs.Formed.{HasForms, IsFormed}
 use Rattle.office_policy.specs.Lawful.{IsLawfulHistory}
 use Rattle.office_policy.specs.TablesOf.{tables_of}
 use Rattle.office_policy.specs.Runs.{answer_of, event_of, with_event, IsAnswer}
-use Rattle.office_policy.specs.Handled.{HasCause, RefusesEvent, Stands, Survives, only_reads}
+use Rattle.office_policy.specs.Handled.{HasCause, IsUnwritten, LacksMemory, RefusesEvent, Stands, Survives, only_reads}
 use Rattle.office_policy.specs.Judging.{HasEvent, IsAnswered, IsJudged, IsNextRevision, IsPermitted, LeavesAll, event_in}
 use Rattle.office_policy.proofs.HeadlineFacts.{given_out_approved}
 use Rattle.office_policy.proofs.LawFacts.{lawful_more, requested_allowed}
@@ -165,21 +166,22 @@ passing h r NotAnOffice passes = absurd (passes refl)
 
 -- a fault over the connection is one of the office, which may refuse what was to be written
 pub caused_by : {S : Type 0} (g : Ghosts S) (old new : Held S) (Refuses : TheFault → Type 0) (fault : StoreFault) → fault ≢ NotAnOffice
+    → (fault ≡ NoMemory → IsUnwritten (meaning_over g) old new ⊎ Refuses faults.Memory)
     → HasFailed (state g old) (state g new) fault ⊎ Refuses (told_of fault) → IsCaused (meaning_over g) old new Refuses (told_of fault)
-caused_by g old new Refuses NoMemory passes cause = tt
-caused_by g old new Refuses Disk passes (inl (inl risen)) = λ is_open. inl risen
-caused_by g old new Refuses Disk passes (inl (inr shut)) = λ is_open. never_both (state g old).is_open is_open shut
-caused_by g old new Refuses Disk passes (inr refused) = λ is_open. inr refused
-caused_by g old new Refuses Full passes cause = cause
-caused_by g old new Refuses NotAnOffice passes cause = absurd (passes refl)
+caused_by g old new Refuses NoMemory passes memory cause = memory refl
+caused_by g old new Refuses Disk passes memory (inl (inl risen)) = λ is_open. inl risen
+caused_by g old new Refuses Disk passes memory (inl (inr shut)) = λ is_open. never_both (state g old).is_open is_open shut
+caused_by g old new Refuses Disk passes memory (inr refused) = λ is_open. inr refused
+caused_by g old new Refuses Full passes memory cause = cause
+caused_by g old new Refuses NotAnOffice passes memory cause = absurd (passes refl)
 
 -- and so is that of a request
-pub caused : {S : Type 0} (g : Ghosts S) (old new : Held S) (h : History) (r : Request) (fault : StoreFault) → fault ≢ NotAnOffice
-    → HasFailed (state g old) (state g new) fault ⊎ RefusesEvent (meaning_over g) h (verdict h r) (told_of fault) → HasCause (meaning_over g) old new h r (Fault (told_of fault))
-caused g old new h r NoMemory passes cause = tt
-caused g old new h r Disk passes cause = caused_by g old new (RefusesEvent (meaning_over g) h (verdict h r)) Disk passes cause
-caused g old new h r Full passes cause = cause
-caused g old new h r NotAnOffice passes cause = absurd (passes refl)
+pub caused : {S : Type 0} (g : Ghosts S) (old new : Held S) (h : History) (r : Request) (fault : StoreFault) → fault ≢ NotAnOffice → (fault ≡ NoMemory → LacksMemory (meaning_over g) old new h r)
+    → HasFailed (state g old) (state g new) fault ⊎ RefusesEvent (meaning_over g) old h (verdict h r) (told_of fault) → HasCause (meaning_over g) old new h r (Fault (told_of fault))
+caused g old new h r NoMemory passes memory cause = memory refl
+caused g old new h r Disk passes memory cause = caused_by g old new (RefusesEvent (meaning_over g) old h (verdict h r)) Disk passes memory cause
+caused g old new h r Full passes memory cause = cause
+caused g old new h r NotAnOffice passes memory cause = absurd (passes refl)
 
 module _ {S : Type 0} (g : Ghosts S) (old new : Held S) where
   -- judging changes nothing
@@ -325,4 +327,5 @@ module _ {S : Type 0} (g : Ghosts S) (old new : Held S) where
           (λ h office clean. passing h r fault (judged.told h office.lawful (office.tables (judged.clean clean)) clean))
           (λ h office clean.
           let shows = office.tables (judged.clean clean) in
-          caused g old new h r fault (judged.told h office.lawful shows clean) (inl (judged.cause h office.lawful shows clean)))
+          let leaves = left_all {A = Judgement} (Err (refusals.Fault fault)) (λ h. verdict h r) judged in
+          caused g old new h r fault (judged.told h office.lawful shows clean) (λ is. inl (leaves.kept clean, leaves.crash clean)) (inl (judged.cause h office.lawful shows clean)))

@@ -61,7 +61,7 @@ use Rattle.office_desk.specs.Meant.{meaning_over}
 use Rattle.office_desk.specs.Offices.{IsOffice}
 use Rattle.office_desk.specs.Replayed.{HasNoAsk, HasOtherText, IsAskOf, IsDeniedBy, IsReplayed, JudgesNamed, LeavesWith, has_text, unreplayed_of, verdict_for}
 use Rattle.office_desk.specs.Told.{told_of}
-use Rattle.office_desk.proofs.Carrying.{IsGranted, unwritten_cause, unwritten_kept, unwritten_office, written_crash, written_formed, written_stands, written_survives}
+use Rattle.office_desk.proofs.Carrying.{IsGranted, unwritten_cause, unwritten_kept, unwritten_memory, unwritten_office, written_crash, written_formed, written_stands, written_survives}
 use Rattle.office_desk.proofs.Handling.{allowed_is, caused_by, left_all}
 
 -- ---- what an event asks
@@ -281,7 +281,8 @@ module _ {S : Type 0} (g : Ghosts S) (old mid : Held S) (e : Event) (a : Ask) (a
         survives = leaves.survives;
         cause = λ h office clean.
             let shows = office.tables (judged.clean clean) in
-            caused_by g old mid (λ f. IsAllowed h e × (meaning_over g).refuses h e f) fault (judged.told h office.lawful shows clean) (inl (judged.cause h office.lawful shows clean));
+            caused_by g old mid (λ f. IsAllowed h e × (meaning_over g).refuses old h e f) fault (judged.told h office.lawful shows clean) (λ is. inl (leaves.kept clean, leaves.crash clean))
+            (inl (judged.cause h office.lawful shows clean));
         office = leaves.office;
         kept = leaves.kept;
         crash = λ h office clean left may. inl (leaves.crash clean left may);
@@ -382,11 +383,16 @@ module _ {S : Type 0} (g : Ghosts S) (old mid : Held S) (e : Event) (a : Ask) (a
           survives = written_survives g old mid new a allowed (λ h. verdict_of h (user_of h name) a) left_mid granted_again w is (Err fault) asked;
           cause = λ h office clean.
               let before = asked.written.leaves.clean clean in
-              caused_by g old new (λ f. IsAllowed h e × (meaning_over g).refuses h e f) fault
+              let still = judged.stays before (was_open before) in
+              caused_by g old new (λ f. IsAllowed h e × (meaning_over g).refuses old h e f) fault
               (λ same. written_formed g old mid new a allowed (λ h. verdict_of h (user_of h name) a) left_mid granted_again w is (Err fault) asked h office clean (ap Err same))
-              (elim (unwritten_cause g old mid new a allowed (λ h. verdict_of h (user_of h name) a) left_mid granted_again w is fault asked h office clean (judged.stays before (was_open before))) [
+              (λ same. elim (unwritten_memory g old mid new a allowed (λ h. verdict_of h (user_of h name) a) left_mid granted_again w is fault asked h office clean still same) [
+                | inl unwritten ↦ inl unwritten
+                | inr refused ↦ inr (lawful_again h office before, subst (λ v. RefusesEvent (meaning_over g) old h v faults.Memory) (verdict_again h office before) refused)
+              ])
+              (elim (unwritten_cause g old mid new a allowed (λ h. verdict_of h (user_of h name) a) left_mid granted_again w is fault asked h office clean still) [
                 | inl met ↦ inl met
-                | inr refused ↦ inr (lawful_again h office before, subst (λ v. RefusesEvent (meaning_over g) h v (told_of fault)) (verdict_again h office before) refused)
+                | inr refused ↦ inr (lawful_again h office before, subst (λ v. RefusesEvent (meaning_over g) old h v (told_of fault)) (verdict_again h office before) refused)
               ]);
           office = unwritten_office g old mid new a allowed (λ h. verdict_of h (user_of h name) a) left_mid granted_again w is fault asked;
           kept = unwritten_kept g old mid new a allowed (λ h. verdict_of h (user_of h name) a) left_mid granted_again w is fault asked;
@@ -398,7 +404,7 @@ module _ {S : Type 0} (g : Ghosts S) (old mid : Held S) (e : Event) (a : Ask) (a
       unasked_again new same =
           subst (λ x. IsReplayed (meaning_over g) old x e (Err (causes.Fault faults.Memory))) (sym same) (record {
             survives = left_mid.survives;
-            cause = λ h office clean. tt;
+            cause = λ h office clean. inl (left_mid.kept clean, left_mid.crash clean);
             office = left_mid.office;
             kept = left_mid.kept;
             crash = λ h office clean left may. inl (left_mid.crash clean left may);
@@ -440,7 +446,7 @@ module _ {S : Type 0} (g : Ghosts S) (x : Held S) (settled : IsSettled (state g 
   undone_at_once (causes.Fault fault) none =
       subst (λ f. IsReplayed (meaning_over g) x x e (Err (causes.Fault f))) (sym none) (record {
         survives = survives_none (meaning_over g) x;
-        cause = λ h office clean. tt;
+        cause = λ h office clean. inl ((meaning_over g).keeps_itself x, λ left may. may);
         office = λ h office. office;
         kept = λ clean. (meaning_over g).keeps_itself x;
         crash = λ h office clean left may. inl may;

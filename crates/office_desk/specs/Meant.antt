@@ -38,8 +38,8 @@ meaning_over g = record {
   is_clean = λ x. HasCleanDisk (state g x);
   is_open = λ x. IsTrue (state g x).is_open;
   faults = λ x. (state g x).faults;
-  refuses = λ h e fault. (f : StoreFault) × (fault ≡ told_of f)
-      × RefusesToMake g (tables_of h) (tables_of (e ∷ h)) f;
+  refuses = λ x h e fault. (f : StoreFault) × (fault ≡ told_of f)
+      × RefusesToMake g x (tables_of h) (tables_of (e ∷ h)) f;
   is_of = λ h x. IsOffice h (state g x);
   keeps = λ x y. Keeps (state g x) (state g y);
   Left = Trees;

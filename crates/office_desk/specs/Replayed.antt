@@ -18,7 +18,7 @@ use Rattle.office_policy.specs.declared.judge.Judgement.{Judgement}
 use Rattle.office_policy.specs.declared.judge.Judgement.TheVariants as judgements
 use Rattle.office_policy.specs.Callers.{caller_of}
 use Rattle.office_policy.specs.Facts.{is_text_of}
-use Rattle.office_policy.specs.Handled.{HasRisen, Stands, Survives, only_reads}
+use Rattle.office_policy.specs.Handled.{HasRisen, IsUnwritten, Stands, Survives, only_reads}
 use Rattle.office_policy.specs.History.{Event, founded, enrolled, submitted, voted, issued}
 use Rattle.office_policy.specs.History.{withdrawn, adopted, held, released, History}
 use Rattle.office_policy.specs.Judging.{LeavesAll}
@@ -111,9 +111,10 @@ module _ (e : Event) (h : History) where
 -- ---- what that leaves of an office
 
 module _ {X : Type 0} (m : Meaning X) where
-  -- a fault other than `memory` was met, or it is `disk` and a fault had shut the office before
+  -- a fault was met, or it is `disk` and a fault had shut the office before; there was no memory
+  -- before anything was written, or for what was to be written
   abbrev pub IsCaused : (old new : X) → (Refuses : TheFault → Type 0) → TheFault → Type 0
-  IsCaused old new Refuses faults.Memory = Unit {0}
+  IsCaused old new Refuses faults.Memory = IsUnwritten m old new ⊎ Refuses faults.Memory
   IsCaused old new Refuses faults.Disk =
       m.is_open old → HasRisen (m.faults old) (m.faults new) ⊎ Refuses faults.Disk
   IsCaused old new Refuses faults.Full =
@@ -148,7 +149,7 @@ module _ {X : Type 0} (m : Meaning X) where
     -- there was a fault, which has a cause, and the office is what it was
     pub record HasFailed (fault : TheFault) : Type 0 where
       pub survives : Survives m old new
-      pub cause : OfEach (λ h. IsCaused old new (λ f. IsAllowed h e × m.refuses h e f) fault)
+      pub cause : OfEach (λ h. IsCaused old new (λ f. IsAllowed h e × m.refuses old h e f) fault)
       pub office : (h : History) → m.is_of h old → m.is_of h new
       pub kept : m.is_clean new → m.keeps old new
       pub crash : LeavesWith

@@ -87,8 +87,9 @@ impl<S: Alter> Office<S> {
             → Stands (meaning_over S.Store)
             (founded name.now team.now digest.now listed ∷ []) office) }
         ensures empty { OnOk result ((state S.Store conn).now.schema ≡ no_schema) }
-        ensures cause { IsRefusedFor S.Store
-            (FailsToFound S.Store (first_user name.now team.now digest.now) listed conn) result }
+        ensures cause { IfErr result (λ refusal. HasCleanDisk (state S.Store refusal.1)
+            → FailsToFound S.Store (first_user name.now team.now digest.now) listed
+            conn refusal.1 refusal.0) }
         ensures already { IfErr result (λ refusal. refusal.0 ≡ FoundingFault.AlreadyFounded
             ↔ IsTrue (has_table (state S.Store conn).now.schema)) }
         ensures foreign { IsRefusedFor S.Store

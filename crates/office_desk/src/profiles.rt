@@ -287,5 +287,5 @@ pub(crate) fn profiles_of<S: Alter>(
         profiles.push(profile).map_err(|_| StoreFault::NoMemory)?;
         next = later;
     }
-    Err(StoreFault::NoMemory)
+    unreachable!()
 }

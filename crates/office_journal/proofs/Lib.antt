@@ -1,4 +1,4 @@
 pub mod Texts
 pub mod Offices
 pub mod Carried
-pub mod Cuts
+pub mod LogFacts

@@ -1,28 +1,31 @@
 -- What a crash may leave of the journal of an office.
-use Rattle.std.specs.Prelude.{◌≡◌, ◌⊎◌, ℕ, List, ◌++◌}
+use Rattle.std.specs.Prelude.{◌⊎◌, ℕ, List, [], ◌∷◌, ◌++◌}
 use Rattle.office_policy.specs.History.{Event, History}
 use Rattle.office_policy.specs.Lawful.{IsAllowed}
 use Rattle.journal_lines.specs.Forms.{HasForms}
-use Rattle.journal_lines.specs.Journal.{IsJournalOf}
-use Rattle.journal_lines.specs.Lines.{happened, strike, line_of}
-use Rattle.office_journal.specs.Writing.{IsBeginning}
+use Rattle.journal_lines.specs.Journal.{IsJournalOf, Says}
+use Rattle.journal_lines.specs.Lines.{happened, strike, text_of}
+use Rattle.office_journal.specs.Writing.{IsLeftIn}
 
--- the line of an event, and the line that strikes it out
-abbrev pub struck_line : Event → List ℕ
-struck_line e = line_of (happened e) ++ line_of strike
+-- these bodies, and that of an event
+abbrev pub with_event : List (List ℕ) → Event → List (List ℕ)
+with_event bodies e = bodies ++ text_of (happened e) ∷ []
 
--- the journal of the history, and behind it the beginning of the line of an event that the policy
--- allows then, or that line and the beginning of the one that strikes it out
-pub record IsBegun (h : History) (text : List ℕ) : Type 0 where
-  pub before : List ℕ
-  pub says : IsJournalOf before h
+-- and that of the line that strikes it out
+abbrev pub with_struck : List (List ℕ) → Event → List (List ℕ)
+with_struck bodies e = with_event bodies e ++ text_of strike ∷ []
+
+-- the journal of the history, and behind it what is left of the line of an event that the policy
+-- allows then; or that line too, and what is left of the one that strikes it out
+pub record IsBegun (h : History) (file : List ℕ) : Type 0 where
+  pub before : List (List ℕ)
+  pub says : Says before h
   pub event : Event
   pub allowed : IsAllowed h event
   pub forms : HasForms event
-  pub part : List ℕ
-  pub begins : IsBeginning part (struck_line event)
-  pub is : text ≡ before ++ part
+  pub left : IsLeftIn before (text_of (happened event)) file
+      ⊎ IsLeftIn (with_event before event) (text_of strike) file
 
--- the journal of the history, or it with the beginning of one event more
+-- the journal of the history, or it with one event more that was begun
 abbrev pub IsLeftOf : History → List ℕ → Type 0
-IsLeftOf h text = IsJournalOf text h ⊎ IsBegun h text
+IsLeftOf h file = IsJournalOf file h ⊎ IsBegun h file

@@ -7,7 +7,7 @@ use Rattle.office_policy.specs.declared.judge.Allowed.{Allowed}
 use Rattle.office_policy.specs.Formed.{IsWord}
 use Rattle.office_policy.specs.Judging.{event_in}
 use Rattle.office_policy.specs.History.{Event, voted, issued, withdrawn, adopted, held, released}
-use Rattle.journal_lines.specs.Lines.{happened, line_of}
+use Rattle.journal_lines.specs.Lines.{happened, text_of}
 
 -- what was asked by this caller, where it is about a profile or one of its revisions
 abbrev pub change_in : List ℕ → Ask → Option Event
@@ -24,9 +24,9 @@ pub record HasOwnForms (a : Allowed) : Type 0 where
   pub name : IsWord a.caller.name
   pub text : (row : RevisionRow) → a.revision ≡ Some row → IsUtf8 row.body
 
--- the text is the line of the event of what was allowed, which has its forms but for a number
-pub record IsLineOf (a : Ask) (allowed : Allowed) (text : List ℕ) : Type 0 where
+-- the text is that of the event of what was allowed, which has its forms but for a number
+pub record IsTextOf (a : Ask) (allowed : Allowed) (text : List ℕ) : Type 0 where
   pub event : Event
   pub asked : event_in a allowed ≡ Some event
-  pub says : text ≡ line_of (happened event)
+  pub says : text ≡ text_of (happened event)
   pub own : HasOwnForms allowed

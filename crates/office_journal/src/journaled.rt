@@ -2,14 +2,14 @@
 
 ghost use Rattle.std.specs.Prelude.{◌≡◌, IfOk, string_bytes};
 ghost use Rattle.office_policy.specs.Judging.{HasEvent};
-ghost use Rattle.office_journal.specs.Events.{IsLineOf};
+ghost use Rattle.office_journal.specs.Events.{IsTextOf};
 
 use crate::event::{event, own_forms};
 use crate::journal::Journal;
-use journal_lines::Line;
-use journal_lines::print::line;
+use journal_lines::{Line, text};
 use office_policy::{Allowed, Handler, Judge, Judgement};
 use review_policy::{Answer, Ask, Fault, Request};
+use sealed_log::is_body;
 use std::alloc::{AllocError, Global};
 
 /// An office whose events are written to a journal, each before it happens. The journal says just
@@ -22,17 +22,17 @@ pub struct Journaled<O: Judge, J: Journal> {
     has_stray: bool,
 }
 
-// The line that strikes out the one before it.
-const STRIKE: &str = "{\"event\":\"strike\"}\n";
+// The text of the line that strikes out the one before it.
+const STRIKE: &str = "{\"event\":\"strike\"}";
 
-// The line of the event of what was allowed.
-fn line_of_allowed(alloc: Global, ask: &Ask, allowed: &Allowed) -> Result<String, AllocError>
+// The text of the event of what was allowed.
+fn text_of_allowed(alloc: Global, ask: &Ask, allowed: &Allowed) -> Result<String, AllocError>
     requires { HasEvent ask.now allowed.now }
-    ensures { IfOk result (λ text. IsLineOf ask.now allowed.now (string_bytes text)) }
+    ensures { IfOk result (λ text. IsTextOf ask.now allowed.now (string_bytes text)) }
 {
     own_forms(allowed);
     match event(ask, allowed)? {
-        Some(event) => line(alloc, &Line::Event(event)),
+        Some(event) => text(alloc, &Line::Event(event)),
         None => unreachable!(),
     }
 }
@@ -70,18 +70,19 @@ impl<O: Judge, J: Journal> Journaled<O, J> {
     fn goes_on(&self) -> bool
         ensures { result ≡ goes_on O.Handler.meaning J.Journal.writing self.now }
     {
-        self.journal.is_open() && !self.has_stray
+        self.journal.takes_lines() && !self.has_stray
     }
 
     // Strikes out the event of the last line, where the office stands as it did before. Else that
     // event is a stray.
+    #[tactic(auto, using(crate::proofs::Texts::strike_body))]
     fn strike_out(&mut self, alloc: Global, request: &Request)
         ensures { IsTakenBack O.Handler.meaning J.Journal.writing self.old self.new }
     {
         self.has_stray = true;
         match self.office.judge(alloc, request) {
             Judgement::Answered(_) => {}
-            Judgement::Allowed(_) => match self.journal.append(STRIKE.as_bytes()) {
+            Judgement::Allowed(_) => match self.journal.append(alloc, STRIKE.as_bytes()) {
                 Ok(()) => self.has_stray = false,
                 Err(_) => {}
             },
@@ -95,16 +96,21 @@ impl<O: Judge, J: Journal> Journaled<O, J> {
         request: &Request,
         allowed: &Allowed,
     ) -> Result<(), Fault>
-        requires { HasEvent request.now.ask allowed.now }
+        requires { (before : O)
+            × IsPermitted O.Handler.meaning before self.old.office request.now allowed.now }
         ensures { (before : O) → IsTrue (goes_on O.Handler.meaning J.Journal.writing self.old)
             → IsPermitted O.Handler.meaning before self.old.office request.now allowed.now
             → IsHandled (journaled O.Handler.meaning J.Journal.writing)
             (with_office self.old before) self.new request.now (answer_in allowed.now result) }
     {
-        let Ok(line) = line_of_allowed(alloc, &request.ask, allowed) else {
+        let Ok(text) = text_of_allowed(alloc, &request.ask, allowed) else {
             return Err(Fault::Memory);
         };
-        match self.journal.append(line.as_str().as_bytes()) {
+        if !is_body(text.as_str().as_bytes()) {
+            // No event that the policy allows is too long for a line.
+            return Err(Fault::Disk);
+        }
+        match self.journal.append(alloc, text.as_str().as_bytes()) {
             Ok(()) => match self.office.carry_out(alloc, request, allowed) {
                 Ok(()) => Ok(()),
                 Err(fault) => {

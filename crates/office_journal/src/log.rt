@@ -1,35 +1,37 @@
-//! A file that is written at its end.
+//! A journal in a sealed log.
 
-ghost use Rattle.office_journal.specs.Logging.{IsAdded, IsCut, IsSynced, Logging};
+ghost use Rattle.std.specs.Prelude.{◌≡◌};
+ghost use Rattle.office_journal.specs.Logs.{told_meant};
 
-use std::io;
+use crate::journal::Journal;
+use review_policy::Fault;
+use sealed_log::{LogFault, SealedLog};
+use sqlite_disk::Disk;
+use std::alloc::Global;
 
-/// A file that is written at its end, as a journal needs one.
-pub trait Log {
-    /// What it has, and what a crash may leave of that.
-    ghost logging: { Logging Self };
+// What came of a line, as an office is told.
+fn told(done: Result<(), LogFault>) -> Result<(), Fault>
+    ensures { result ≡ told_meant done }
+{
+    match done {
+        Ok(()) => Ok(()),
+        Err(LogFault::Memory) => Err(Fault::Memory),
+        Err(LogFault::Disk) => Err(Fault::Disk),
+        Err(LogFault::Full) => Err(Fault::Full),
+    }
+}
 
-    /// Writes these bytes behind all that is there.
-    ///
-    /// # Errors
-    ///
-    /// The error that was met. A beginning of the bytes may have been written.
-    fn add(&mut self, bytes: &[u8]) -> io::Result<()>
-        ensures { IsAdded logging self.old self.new bytes.now result };
+impl<D: Disk> Journal for SealedLog<D> {
+    ghost use Rattle.office_journal.specs.Logs.{in_log};
 
-    /// Takes away all that stands behind so many bytes.
-    ///
-    /// # Errors
-    ///
-    /// The error that was met. A part of it may have been taken away.
-    fn cut(&mut self, end: u64) -> io::Result<()>
-        ensures { IsCut logging self.old self.new end result };
+    ghost writing = { in_log D.Disk };
 
-    /// Waits until a crash would leave all that is there.
-    ///
-    /// # Errors
-    ///
-    /// The error that was met. Then it isn't known what a crash would leave.
-    fn sync(&mut self) -> io::Result<()>
-        ensures { IsSynced logging self.old self.new result };
+    fn takes_lines(&self) -> bool {
+        self.is_open()
+    }
+
+    fn append(&mut self, alloc: Global, body: &[u8]) -> Result<(), Fault> {
+        let done = self.put(alloc, body);
+        told(done)
+    }
 }

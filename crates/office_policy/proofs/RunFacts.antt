@@ -10,7 +10,7 @@ use Rattle.office_policy.specs.Meaning.{Meaning}
 use Rattle.office_policy.specs.Handled.{UnlessChanged, UnlessFaulty, Stands, IsHandled}
 use Rattle.office_policy.specs.Left.{LeftAfter}
 use Rattle.office_policy.specs.Ran.{NoneChanged, UnlessLastFaulty, HaveRun}
-use Rattle.office_policy.proofs.CauseFacts.{causes_before, cause_after, causes_more}
+use Rattle.office_policy.proofs.CauseFacts.{each_more}
 use Rattle.office_policy.proofs.LeftFacts.{left_by_one, left_more}
 use Rattle.office_policy.proofs.SurvivalFacts.{survives_on}
 
@@ -65,11 +65,7 @@ module _ {X : Type 0} (m : Meaning X) where
     survives = survives_on m old mid new ran.survives step.survives;
     answers = λ h office clean.
         took_more h rs told r a (ran.answers h office (step.survives.clean clean)) (step.answer (history_after_all h rs told) (ran.office h office) clean);
-    causes = λ h office clean.
-        let before = step.survives.clean clean in
-        let last = step.cause (history_after_all h rs told) (ran.office h office) clean in
-        causes_more m old new h rs told r a ran.count (causes_before m old mid new h rs told step.survives.counts (ran.causes h office before))
-        (cause_after m old mid new (history_after_all h rs told) r a before ran.survives step.survives.counts last);
+    each = each_more m old mid new rs told r a ran.each step;
     office = λ h office.
         subst (λ (k : History). m.is_of k new) (sym (after_more h rs told r a ran.count)) (step.office (history_after_all h rs told) (ran.office h office));
     stands = λ h office clean.

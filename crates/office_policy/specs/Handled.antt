@@ -40,22 +40,32 @@ HasRisen old new = min (old + 1) (2 ^ 64 - 1) ≤ new
 
 module _ {X : Type 0} (m : Meaning X) where
   -- what it keeps its tables in refuses the event of the verdict with this fault
-  abbrev pub RefusesEvent : History → Verdict → TheFault → Type 0
-  RefusesEvent h (accepted reply (Some e)) fault = m.refuses h e fault
-  RefusesEvent h (accepted reply None) fault = ⊥
-  RefusesEvent h (denied denial told) fault = ⊥
+  abbrev pub RefusesEvent : X → History → Verdict → TheFault → Type 0
+  RefusesEvent x h (accepted reply (Some e)) fault = m.refuses x h e fault
+  RefusesEvent x h (accepted reply None) fault = ⊥
+  RefusesEvent x h (denied denial told) fault = ⊥
 
   -- it failed or refused a call between the two, or refuses what the request is to write
   abbrev pub IsMet : (old new : X) → History → Request → TheFault → Type 0
   IsMet old new h request fault =
-      HasRisen (m.faults old) (m.faults new) ⊎ RefusesEvent h (verdict h request) fault
+      HasRisen (m.faults old) (m.faults new) ⊎ RefusesEvent old h (verdict h request) fault
+
+  -- nothing was written: it has what it had, and a crash leaves nothing that it couldn't leave
+  abbrev pub IsUnwritten : (old new : X) → Type 0
+  IsUnwritten old new =
+      m.keeps old new × ((left : m.Left) → m.may_leave new left → m.may_leave old left)
+
+  -- there was no memory before anything was written, or for what the request is to write
+  abbrev pub LacksMemory : (old new : X) → History → Request → Type 0
+  LacksMemory old new h request =
+      IsUnwritten old new ⊎ RefusesEvent old h (verdict h request) faults.Memory
 
   -- a fault other than `memory` was met so, or it is `disk` and a fault had shut the office before;
   -- none is for the form of its tables
   abbrev pub HasCause : (old new : X) → History → Request → Answer → Type 0
   HasCause old new h request (Done reply) = Unit {0}
   HasCause old new h request (Denied denial fault) = Unit {0}
-  HasCause old new h request (Fault faults.Memory) = Unit {0}
+  HasCause old new h request (Fault faults.Memory) = LacksMemory old new h request
   HasCause old new h request (Fault faults.Disk) =
       m.is_open old → IsMet old new h request faults.Disk
   HasCause old new h request (Fault faults.Full) = IsMet old new h request faults.Full
@@ -94,7 +104,7 @@ module _ {X : Type 0} (m : Meaning X) where
     pub survives : Survives old new
     -- the answer is that of the verdict, or a fault of memory, of the disk or of room on it
     pub answer : (h : History) → m.is_of h old → m.is_clean new → IsAnswer h request told
-    -- and a fault other than `memory` has a cause
+    -- and a fault has a cause
     pub cause : (h : History) → m.is_of h old → m.is_clean new → HasCause old new h request told
     -- what it gives out was approved: bytewise, by others, and by as many as its widening asked for
     pub approved : (h : History) → m.is_of h old → m.is_clean new → GivesOutApproved h request told

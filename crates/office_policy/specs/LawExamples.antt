@@ -1,9 +1,15 @@
 -- What the examples of definitions speak of that laws alone cite.
-use Rattle.std.specs.Prelude.{List, [], ◌∷◌, true}
+use Rattle.std.specs.Prelude.{ℕ, List, [], ◌∷◌, true, codes}
+use Rattle.profile_text.specs.Digest.{digest_of}
+use Rattle.review_policy.specs.declared.answer.ListedProfile.{ListedProfile}
+use Rattle.review_policy.specs.declared.ask.Ask.TheVariants as ask
+use Rattle.review_policy.specs.declared.ask.Request.{Request}
+use Rattle.review_policy.specs.declared.revision.State.TheVariants.{Open}
 use Rattle.review_policy.specs.declared.ask.ProfileName.{ProfileName}
-use Rattle.office_policy.specs.History.{Event, founded, enrolled, submitted, voted, issued}
-use Rattle.office_policy.specs.History.{withdrawn, adopted, held, released}
-use Rattle.office_policy.specs.Examples.{red, desk, root, ann, rev, sue, iss, listed, text}
+use Rattle.office_policy.specs.History.{Event, History, founded, enrolled, submitted, voted}
+use Rattle.office_policy.specs.History.{issued, withdrawn, adopted, held, released}
+use Rattle.office_policy.specs.Examples.{red, desk, root, ann, ben, rev, ray, sue, iss, web}
+use Rattle.office_policy.specs.Examples.{listed, text, office, has_roles, submits, one_submitted}
 
 -- an event of each kind: the founding, an enrolment, and what happens to a profile
 abbrev pub each_event : ProfileName → List Event
@@ -18,3 +24,41 @@ each_event p =
     ∷ held sue p
     ∷ released sue p
     ∷ []
+
+-- ---- approvals by the digest of the text
+
+-- this name approves the first revision, and names the digest of its text
+abbrev pub names_text : List ℕ → Event
+names_text who = voted who web 1 (digest_of text) true
+
+-- a reviewer and one with security approve it
+abbrev pub text_approved : History
+text_approved = names_text sue ∷ names_text rev ∷ one_submitted
+
+-- one with security alone
+abbrev pub one_approves_text : History
+one_approves_text = names_text sue ∷ one_submitted
+
+-- two reviewers without security
+abbrev pub reviewers_approve_text : History
+reviewers_approve_text = names_text ray ∷ names_text rev ∷ one_submitted
+
+-- a reviewer who has become an author of the profile, and one with security
+abbrev pub author_approves_text : History
+author_approves_text = submits ben ∷ names_text sue ∷ names_text ben ∷ one_submitted
+
+-- ---- callers
+
+-- sue holds these roles, and shows this token
+abbrev pub sue_shows : (roles : ℕ) (token : List ℕ) → History
+sue_shows roles token = has_roles sue roles (digest_of token) ∷ office
+
+-- that the profile is held
+abbrev pub asks_hold : (token : List ℕ) → Request
+asks_hold token = record { token = token; ask = ask.Hold web }
+
+-- ---- lists
+
+-- what is listed of a profile with one revision, which is open
+abbrev pub open_profile : ListedProfile
+open_profile = record { profile = codes "web"; issued = 0; revisions = 1; state = Open }

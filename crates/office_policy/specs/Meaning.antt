@@ -12,8 +12,9 @@ pub record Meaning (X : Type 0) : Type 1 where
   pub is_open : X → Type 0
   -- how many times what it keeps its tables in has failed or refused, up to the greatest u64
   pub faults : X → ℕ
-  -- what it keeps its tables in may refuse, with this fault, to write the event after this history
-  pub refuses : History → Event → Fault → Type 0
+  -- over what it has, what it keeps its tables in refuses, with this fault, to write the event after
+  -- this history; with `memory`, it may have none to write that
+  pub refuses : X → History → Event → Fault → Type 0
   -- it is the office of this history, unless a fault has shut it
   pub is_of : History → X → Type 0
   -- the second has what the first had, unless a fault has shut it

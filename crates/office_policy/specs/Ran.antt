@@ -4,9 +4,9 @@ use Rattle.review_policy.specs.declared.ask.Request.{Request}
 use Rattle.review_policy.specs.declared.answer.Answer.{Answer}
 use Rattle.review_policy.specs.declared.answer.Answer.TheVariants.{Done, Denied, Fault}
 use Rattle.office_policy.specs.History.{History}
-use Rattle.office_policy.specs.Runs.{Took, history_after, history_after_all}
+use Rattle.office_policy.specs.Runs.{Took, history_after_all}
 use Rattle.office_policy.specs.Meaning.{Meaning}
-use Rattle.office_policy.specs.Handled.{only_reads, UnlessFaulty, Stands, Survives, HasCause}
+use Rattle.office_policy.specs.Handled.{only_reads, UnlessFaulty, Stands, Survives, IsHandled}
 use Rattle.office_policy.specs.Left.{LeftAfter}
 
 -- nothing was changed: each request was refused, met a fault, or only reads
@@ -23,13 +23,14 @@ UnlessLastFaulty [] P = Unit {0}
 UnlessLastFaulty (answer ∷ []) P = UnlessFaulty answer P
 UnlessLastFaulty (answer ∷ next ∷ answers) P = UnlessLastFaulty (next ∷ answers) P
 
--- each fault other than `memory` in the answers has a cause between the two
-abbrev pub HaveCauses : {X : Type 0} → Meaning X → (old new : X)
-    → History → List Request → List Answer → Type 0
-HaveCauses m old new h (r ∷ requests) (answer ∷ answers) =
-    HasCause m old new h r answer
-    × HaveCauses m old new (history_after h r answer) requests answers
-HaveCauses m old new h _ _ = Unit {0}
+-- each request was handled on what the one before it left, from the first to the last
+abbrev pub HandlesEach : {X : Type 0} → Meaning X → (old new : X) → List Request → List Answer
+    → Type 0
+HandlesEach m old new [] [] = new ≡ old
+HandlesEach {X} m old new (r ∷ requests) (answer ∷ answers) =
+    (mid : X) × IsHandled m old mid r answer × HandlesEach m mid new requests answers
+HandlesEach m old new [] (answer ∷ answers) = ⊥
+HandlesEach m old new (r ∷ requests) [] = ⊥
 
 -- the requests were handled one after the other, and answered by these
 pub record HaveRun
@@ -40,8 +41,8 @@ pub record HaveRun
   pub survives : Survives m old new
   -- each answer is that of the verdict on what was carried out before it, or a fault
   pub answers : (h : History) → m.is_of h old → m.is_clean new → Took h requests told
-  -- and each fault other than `memory` has a cause
-  pub causes : (h : History) → m.is_of h old → m.is_clean new → HaveCauses m old new h requests told
+  -- and each was handled as it is alone, so that each fault has a cause
+  pub each : HandlesEach m old new requests told
   -- the office is of the history with the events of all that was carried out
   pub office : (h : History) → m.is_of h old → m.is_of (history_after_all h requests told) new
   -- and stands so where the last answer is no fault

@@ -1,7 +1,7 @@
 //! Whoever judges requests before it carries them out.
 
 ghost use Rattle.office_policy.specs.Handled.{IsHandled, Survives};
-ghost use Rattle.office_policy.specs.Judging.{HasEvent, IsJudged, IsPermitted, answer_in};
+ghost use Rattle.office_policy.specs.Judging.{IsJudged, IsPermitted, answer_in};
 
 use crate::handler::Handler;
 use office_tables::{RevisionRow, UserRow};
@@ -46,7 +46,8 @@ pub trait Judge: Handler {
         request: &Request,
         allowed: &Allowed,
     ) -> Result<(), Fault>
-        requires { HasEvent request.now.ask allowed.now }
+        requires { (before : Self)
+            × IsPermitted Self.Handler.meaning before self.old request.now allowed.now }
         ensures handled { (before : Self)
             → IsPermitted Self.Handler.meaning before self.old request.now allowed.now
             → IsHandled Self.Handler.meaning before self.new request.now

@@ -1,17 +1,31 @@
 //! Worked examples of definitions that laws alone cite, each proved by computing.
 
 ghost use Rattle.std.specs.Prelude.{◌≡◌, ◌↔◌, [], ◌∷◌, ◌++◌, true, false, map, replicate, codes};
-ghost use Rattle.std.specs.Prelude.{Option, List, ℕ, Vec};
+ghost use Rattle.std.specs.Prelude.{Option, Some, List, ℕ, Vec};
 ghost use Rattle.std.specs.declared.alloc.Global.{Global};
+ghost use Rattle.profile_text.specs.Digest.{digest_of};
+ghost use Rattle.review_policy.specs.FirstRefusal.{IsFirstRefusal};
+ghost use Rattle.review_policy.specs.declared.ask.Ask.TheVariants as ask;
 ghost use Rattle.review_policy.specs.declared.ask.Request.{Request};
 ghost use Rattle.review_policy.specs.declared.answer.Answer.TheVariants.{Done, Denied, Fault};
 ghost use Rattle.review_policy.specs.declared.answer.Fault.TheVariants as faults;
 ghost use Rattle.review_policy.specs.declared.answer.Fault.{Fault as FaultWord};
 ghost use Rattle.review_policy.specs.declared.answer.Reply.{Reply};
+ghost use Rattle.review_policy.specs.declared.answer.Reply.TheVariants as reply;
 ghost use Rattle.review_policy.specs.declared.denial.Denial.{Denial};
+ghost use Rattle.review_policy.specs.declared.denial.Need.TheVariants.{TwoWithSecurity};
+ghost use Rattle.review_policy.specs.declared.denial.Rule.TheVariants as rules;
+ghost use Rattle.review_policy.specs.declared.revision.State.TheVariants as states;
+ghost use Rattle.widening.specs.Permits.{HoldsNoMore};
+ghost use Rattle.office_policy.specs.Asked.{IsSeen};
+ghost use Rattle.office_policy.specs.Callers.{IsForCaller};
 ghost use Rattle.office_policy.specs.Handled.{only_reads};
+ghost use Rattle.office_policy.specs.Headline.{IsApproved};
 ghost use Rattle.office_policy.specs.History.{Event, History, founded, enrolled, voted, issued};
+ghost use Rattle.office_policy.specs.History.{held};
 ghost use Rattle.office_policy.specs.Lawful.{IsAllowed};
+ghost use Rattle.office_policy.specs.Laws.{KeepsTeams};
+ghost use Rattle.office_policy.specs.Need.{need_at};
 ghost use Rattle.office_policy.specs.ShowsEvent.{Shows};
 ghost use Rattle.office_policy.specs.TablesOf.{tables_of};
 ghost use Rattle.office_policy.specs.Verdict.{verdict, accepted, denied};
@@ -19,14 +33,18 @@ ghost use Rattle.office_policy.specs.Runs.{IsAnswer, history_after, with_event};
 ghost use Rattle.office_policy.specs.Teams.{concerns, team_of};
 ghost use Rattle.office_policy.specs.Duty.{LacksTwo};
 ghost use Rattle.office_policy.specs.Examples.{blue, red, desk, root, ann, ben, rev, ray, sue, web};
-ghost use Rattle.office_policy.specs.Examples.{listed, office, founding, enrols_rob, has_roles};
+ghost use Rattle.office_policy.specs.Examples.{iss, listed, office, founding, enrols_rob, has_roles};
+ghost use Rattle.office_policy.specs.Examples.{text, caps_of, with_effective, with_ambient};
 ghost use Rattle.office_policy.specs.Examples.{submits, approves, rejects, issues, withdraws};
 ghost use Rattle.office_policy.specs.Examples.{adopts, holds, releases};
 ghost use Rattle.office_policy.specs.Examples.{one_submitted, both_submitted, both_approve};
+ghost use Rattle.office_policy.specs.Examples.{reviewers_approve};
 ghost use Rattle.office_policy.specs.Examples.{first_issued, second_approved, baseline_withdrawn};
 ghost use Rattle.office_policy.specs.Examples.{held_when_issued, released_then};
 ghost use Rattle.office_policy.specs.CallerTable.{each_kind};
-ghost use Rattle.office_policy.specs.LawExamples.{each_event};
+ghost use Rattle.office_policy.specs.LawExamples.{each_event, text_approved, one_approves_text};
+ghost use Rattle.office_policy.specs.LawExamples.{reviewers_approve_text, author_approves_text};
+ghost use Rattle.office_policy.specs.LawExamples.{sue_shows, asks_hold, open_profile};
 
 /// Of the twelve kinds four only read: to see a revision, its sheet, the profiles of a team, and to
 /// fetch.
@@ -97,6 +115,80 @@ pub fn examples_of_lacking_approvals()
     ensures one_of_two_rejects { LacksTwo (rejects rev 1 ∷ approves sue 1 ∷ one_submitted) web 1 }
     ensures none_secure { LacksTwo (approves ray 1 ∷ approves rev 1 ∷ one_submitted) web 1 }
     ensures two_with_security { LacksTwo both_approve web 1 → ⊥ }
+{}
+
+/// A text is approved by two, one of them with security. It isn't by nobody, by one or by two
+/// without security where two are needed and one of them with it, by votes that named another
+/// digest, by an author or where an author issues it, nor is another text or another revision.
+pub fn examples_of_approved_texts()
+    ensures approved { IsApproved text_approved iss web 1 text }
+    ensures none { IsApproved one_submitted iss web 1 text → ⊥ }
+    ensures too_few { need_at one_approves_text web 1 ≡ TwoWithSecurity
+        → IsApproved one_approves_text iss web 1 text → ⊥ }
+    ensures none_secure { need_at reviewers_approve_text web 1 ≡ TwoWithSecurity
+        → IsApproved reviewers_approve_text iss web 1 text → ⊥ }
+    ensures other_digest { IsApproved reviewers_approve iss web 1 text → ⊥ }
+    ensures author { IsApproved author_approves_text iss web 1 text → ⊥ }
+    ensures author_issues { IsApproved text_approved ann web 1 text → ⊥ }
+    ensures other_text { IsApproved text_approved iss web 1 (2 ∷ []) → ⊥ }
+    ensures other_revision { IsApproved text_approved iss web 2 text → ⊥ }
+{}
+
+/// A request is carried out for the user who shows the token and holds a role for it; not for one
+/// without such a role, for one who shows another token, or for one who didn't ask.
+pub fn examples_of_callers()
+    ensures security { (token : List ℕ) → IsForCaller (sue_shows 8 token) (asks_hold token)
+        (Some (held sue web)) }
+    ensures other_role { (token : List ℕ) → IsForCaller (sue_shows 4 token) (asks_hold token)
+        (Some (held sue web)) → ⊥ }
+    ensures other_token { (token : List ℕ) → IsForCaller office (asks_hold token)
+        (Some (held sue web)) → ⊥ }
+    ensures other_caller { (token : List ℕ) → IsForCaller (sue_shows 8 token) (asks_hold token)
+        (Some (held ann web)) → ⊥ }
+{}
+
+/// What is seen is all that there is of the team, and the revision as it stands.
+pub fn examples_of_what_is_seen()
+    ensures listed { IsSeen one_submitted (ask.List blue) (reply.Listed (open_profile ∷ [])) }
+    ensures not_listed { IsSeen one_submitted (ask.List blue) (reply.Listed []) → ⊥ }
+    ensures other_team { IsSeen one_submitted (ask.List red) (reply.Listed []) }
+    ensures other_profiles { IsSeen one_submitted (ask.List red)
+        (reply.Listed (open_profile ∷ [])) → ⊥ }
+    ensures revision { IsSeen one_submitted (ask.Show web 1)
+        (reply.Shown (digest_of text) text states.Open) }
+    ensures other_state { IsSeen one_submitted (ask.Show web 1)
+        (reply.Shown (digest_of text) text states.Issued) → ⊥ }
+    ensures no_revision { (told : Reply) → IsSeen one_submitted (ask.Show web 2) told → ⊥ }
+{}
+
+/// A user's team stays the same where something else happens, and doesn't where the user is enrolled
+/// with another.
+pub fn examples_of_kept_teams()
+    ensures kept { KeepsTeams office (held sue web) }
+    ensures other_roles { KeepsTeams founding (enrolled root root desk 3 (0 ∷ [])) }
+    ensures other_team { KeepsTeams office (enrolled root ann red 2 (1 ∷ [])) → ⊥ }
+{}
+
+/// The first rule that refuses is named with its place; not one behind it, nor by another place.
+pub fn examples_of_first_refusals()
+    ensures second { IsFirstRefusal 1
+        ((rules.CallerUnknown, false) ∷ (rules.RoleMissing, true) ∷ (rules.OtherTeam, true) ∷ [])
+        (record { number = 2; rule = rules.RoleMissing }) }
+    ensures behind_it { IsFirstRefusal 1
+        ((rules.CallerUnknown, true) ∷ (rules.RoleMissing, true) ∷ [])
+        (record { number = 2; rule = rules.RoleMissing }) → ⊥ }
+    ensures other_place { IsFirstRefusal 1 ((rules.CallerUnknown, true) ∷ [])
+        (record { number = 2; rule = rules.CallerUnknown }) → ⊥ }
+{}
+
+/// A state holds no more than another only where it doesn't in each of the five sets.
+pub fn examples_of_states_that_hold_more()
+    ensures same { HoldsNoMore (with_ambient 4) (with_ambient 4) }
+    ensures effective { HoldsNoMore (caps_of 4 0 0) (with_effective 4) → ⊥ }
+    ensures permitted { HoldsNoMore (caps_of 0 4 4) (caps_of 4 4 4) → ⊥ }
+    ensures inheritable { HoldsNoMore (caps_of 4 0 4) (caps_of 4 4 4) → ⊥ }
+    ensures bounding { HoldsNoMore (caps_of 4 4 0) (caps_of 4 4 4) → ⊥ }
+    ensures ambient { HoldsNoMore (caps_of 4 4 0) (with_ambient 4) → ⊥ }
 {}
 
 /// An answer that is no fault is the verdict's, and what is done happens; a fault of memory, of the

@@ -23,7 +23,7 @@ use Rattle.office_tables.specs.Tables.{Tables}
 use Rattle.office_tables.specs.Changes.{founded_tables}
 use Rattle.office_rows.specs.Entries.{Stores}
 use Rattle.office_rows.specs.Faults.{IsOfMachine}
-use Rattle.office_rows.specs.Statements.{begun, RanAll, FailedIn}
+use Rattle.office_rows.specs.Statements.{begun, RanAll, FailedIn, RefusedIn}
 use Rattle.office_rows.proofs.Plain.{Means}
 use Rattle.office_rows.proofs.Failing.{insert_failed}
 use Rattle.office_rows.proofs.Writing.{IsTableOf, WritesIn, inserts}
@@ -166,6 +166,12 @@ module _ {S : Type 0} (g : Ghosts S) where
       → FailedIn g (founding_office u listed) h e
   failed_given u listed h none office user e failed is_none is_office is_user =
       subst (λ (r : Row × Row × Row). FailedIn g (founding r.0 r.1 r.2) h e) (λ i. (is_none i, is_office i, is_user i)) failed
+
+  -- and what was refused
+  pub refused_given : (u : UserRow) (listed : ℕ) (h : Held S) (none office user : Row) (e : Error) → RefusedIn g (founding none office user) h e → none ≡ [] → office ≡ Int (pos listed) ∷ [] → user ≡ user_row u
+      → RefusedIn g (founding_office u listed) h e
+  refused_given u listed h none office user e refused is_none is_office is_user =
+      subst (λ (r : Row × Row × Row). RefusedIn g (founding r.0 r.1 r.2) h e) (λ i. (is_none i, is_office i, is_user i)) refused
 
   module _ (u : UserRow) (listed : ℕ) (below : listed < 2 ^ 41) (formed : IsUser u) (h : Held S) (empty : (state g h).now.schema ≡ no_schema) where
     given : (x y z : Row) → x ≡ [] → y ≡ Int (pos listed) ∷ [] → z ≡ user_row u → Leads g (founding x y z) (HasEmptyTables no_schema) (λ db. IsOffice db (founded_tables u listed))

@@ -12,7 +12,7 @@ use Rattle.office_tables.specs.declared.fault.StoreFault.TheVariants.{NotAnOffic
 use Rattle.office_tables.specs.Tables.{Tables}
 use Rattle.office_rows.specs.Faults.{FindsRow}
 use Rattle.office_rows.specs.Queries.{IsAsItWas}
-use Rattle.office_rows.specs.Statements.{Statement, begun, RanAll, FailedIn, HasMet}
+use Rattle.office_rows.specs.Statements.{Statement, begun, RanAll, FailedIn, FailsFor, HasMet}
 use Rattle.office_rows.specs.Told.{FindsRows, TellsRow, TellsRows}
 use Rattle.office_store.specs.Calls.{IsRead, IsWrite}
 use Rattle.office_store.specs.Shown.{Shows, AreOffice, LeavesOnly}
@@ -79,6 +79,12 @@ module _ {S : Type 0} (g : Ghosts S) where
   abbrev pub FailsWithin : (old new : Held S) → List Statement → Result (Unit {0}) Error → Type 0
   FailsWithin old new statements result =
       HasCleanDisk (state g new) → IfErr result (FailedIn g statements (begun old))
+
+  -- it fails for no memory, for the disk, over a connection that was shut, or since SQLite refuses
+  -- one of them
+  abbrev pub FailsBetween : (old new : Held S) → List Statement → Result (Unit {0}) Error → Type 0
+  FailsBetween old new statements result =
+      HasCleanDisk (state g new) → IfErr result (FailsFor g statements old new)
 
   -- a crash leaves nothing new but what all the statements make
   abbrev pub SurvivesAll : (old new : Held S) → List Statement → Type 0

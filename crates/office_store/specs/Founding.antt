@@ -12,7 +12,7 @@ use Rattle.office_tables.specs.declared.fault.StoreFault.TheVariants.{NotAnOffic
 use Rattle.office_tables.specs.declared.row.UserRow.{UserRow}
 use Rattle.office_tables.specs.Tables.{Tables}
 use Rattle.office_tables.specs.Changes.{founded_tables}
-use Rattle.office_rows.specs.Statements.{Statement, IsCause}
+use Rattle.office_rows.specs.Statements.{Statement, HasMet}
 use Rattle.office_store.specs.declared.fault.FoundingFault.{FoundingFault}
 use Rattle.office_store.specs.declared.fault.FoundingFault.TheVariants.{AlreadyFounded, Store}
 use Rattle.office_store.specs.declared.schema.TheConstants.{CREATE_OFFICE, CREATE_USERS}
@@ -63,10 +63,11 @@ founding none office user =
 abbrev pub founding_office : UserRow → ℕ → List Statement
 founding_office user listed = founding [] (Int (pos listed) ∷ []) (user_row user)
 
--- one of the six tables is there; something else is; or the store is empty, and one of the
--- statements failed or their commit
-abbrev pub FailsToFound : {S : Type 0} → Ghosts S → UserRow → ℕ → Held S → FoundingFault → Type 0
-FailsToFound g user listed old AlreadyFounded = IsTrue (has_table (state g old).now.schema)
-FailsToFound g user listed old (Store f) =
+-- one of the six tables is there; something else is; or the store is empty, and between the two
+-- connections the transaction of the statements met this fault
+abbrev pub FailsToFound : {S : Type 0} → Ghosts S → UserRow → ℕ → (old new : Held S)
+    → FoundingFault → Type 0
+FailsToFound g user listed old new AlreadyFounded = IsTrue (has_table (state g old).now.schema)
+FailsToFound g user listed old new (Store f) =
     (IsForeign (state g old).now.schema × (f ≡ NotAnOffice))
-    ⊎ (((state g old).now.schema ≡ no_schema) × IsCause g (founding_office user listed) old f)
+    ⊎ (((state g old).now.schema ≡ no_schema) × HasMet g (founding_office user listed) old new f)

@@ -1,5 +1,5 @@
 -- A store of schema 1, and the statements that make it one of schema 2.
-use Rattle.std.specs.Prelude.{◌≡◌, ◌⊎◌, ◌<◌, ◌^◌, true, false, ℕ, pos, List, [], ◌∷◌, find}
+use Rattle.std.specs.Prelude.{◌≡◌, ◌⊎◌, ◌<◌, ◌≤◌, ◌^◌, true, false, ℕ, pos, List, [], ◌∷◌, find}
 use Rattle.std.specs.Prelude.{IsTrue, Result, Err, OnOk, OnErr}
 use Rattle.sqlite.specs.declared.types.Value.TheVariants.{Null, Int}
 use Rattle.sqlite.specs.Order.{Row}
@@ -9,10 +9,11 @@ use Rattle.sqlite.specs.Held.{Held, state}
 use Rattle.sqlite.specs.State.{State, HasCleanDisk, Survives}
 use Rattle.sqlite_trees.specs.Tree.{Trees}
 use Rattle.review_policy.specs.declared.ask.ProfileName.{ProfileName}
+use Rattle.office_tables.specs.declared.fault.StoreFault.{StoreFault}
 use Rattle.office_tables.specs.declared.fault.StoreFault.TheVariants.{NotAnOffice}
 use Rattle.office_tables.specs.Tables.{Tables}
 use Rattle.office_rows.specs.Queries.{IsAsItWas}
-use Rattle.office_rows.specs.Statements.{Statement, IsCause}
+use Rattle.office_rows.specs.Statements.{Statement, HasMet}
 use Rattle.office_rows.specs.Told.{TellsRow}
 use Rattle.office_store.specs.declared.fault.MigrationFault.{MigrationFault}
 use Rattle.office_store.specs.declared.fault.MigrationFault.TheVariants.{AlreadyMigrated, Store}
@@ -106,14 +107,24 @@ abbrev pub WasOld : {S : Type 0} → Ghosts S → Held S → Type 0
 WasOld {S} g old =
     (mid : Held S) × (listed : ℕ) × FindsForm (state g old) (state g mid) (old_form listed)
 
+-- the row of the office was found, with schema 1, and then the transaction of the statements met
+-- this fault
+pub record MeetsInMigration {S : Type 0} (g : Ghosts S) (old new : Held S) (f : StoreFault)
+    : Type 0 where
+  pub mid : Held S
+  pub listed : ℕ
+  pub found : FindsForm (state g old) (state g mid) (old_form listed)
+  -- no fault was forgotten
+  pub counts : (state g old).faults ≤ (state g mid).faults
+  pub met : HasMet g (migration []) mid new f
+
 -- the schema is 2; one of the five tables isn't there; the row of the office isn't found or not of
--- its form; or the schema is 1, and one of the statements failed or their commit
-abbrev pub FailsToMigrate : {S : Type 0} → Ghosts S → Held S → MigrationFault → Type 0
-FailsToMigrate {S} g old AlreadyMigrated =
-    (mid : Held S) × (listed : ℕ) × FindsForm (state g old) (state g mid) (new_form listed)
-FailsToMigrate {S} g old (Store f) =
+-- its form; or the schema is 1, and the transaction of the statements met this fault
+abbrev pub FailsToMigrate : {S : Type 0} → Ghosts S → (old new : Held S) → MigrationFault → Type 0
+FailsToMigrate g old new AlreadyMigrated =
+    (listed : ℕ) × FindsForm (state g old) (state g new) (new_form listed)
+FailsToMigrate g old new (Store f) =
     ((has_old_tables (state g old).now.schema ≡ false) × (f ≡ NotAnOffice))
-    ⊎ (((has_old_tables (state g old).now.schema ≡ true) × (mid : Held S)
-    × TellsRow OFFICE_ROW.now [] (state g old) (state g mid) TellsNumber (Err f))
-    ⊎ ((mid : Held S) × (listed : ℕ) × FindsForm (state g old) (state g mid) (old_form listed)
-    × IsCause g (migration []) mid f))
+    ⊎ (((has_old_tables (state g old).now.schema ≡ true)
+    × TellsRow OFFICE_ROW.now [] (state g old) (state g new) TellsNumber (Err f))
+    ⊎ MeetsInMigration g old new f)

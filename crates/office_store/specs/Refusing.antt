@@ -1,16 +1,18 @@
 -- The writes of a store, and when SQLite refuses one.
-use Rattle.std.specs.Prelude.{ℕ, List}
+use Rattle.std.specs.Prelude.{◌≡◌, ℕ, List}
 use Rattle.sqlite.specs.Held.{Held, state}
 use Rattle.sqlite.specs.Store.{Ghosts}
 use Rattle.review_policy.specs.declared.ask.ProfileName.{ProfileName}
 use Rattle.office_tables.specs.declared.fault.StoreFault.{StoreFault}
+use Rattle.office_tables.specs.declared.fault.StoreFault.TheVariants.{NoMemory, Disk, Full}
+use Rattle.office_tables.specs.declared.fault.StoreFault.TheVariants.{NotAnOffice}
 use Rattle.office_tables.specs.declared.row.UserRow.{UserRow}
 use Rattle.office_tables.specs.declared.row.RevisionRow.{RevisionRow}
 use Rattle.office_tables.specs.Tables.{Tables}
 use Rattle.office_tables.specs.Changes.{with_user, with_issued, with_withdrawn, with_vote}
 use Rattle.office_tables.specs.Changes.{with_baseline, with_hold, without_hold}
 use Rattle.office_tables.specs.Reads.{Adds}
-use Rattle.office_rows.specs.Statements.{Statement, Refuses}
+use Rattle.office_rows.specs.Statements.{Statement, IsCause, Refuses}
 use Rattle.office_store.specs.Calls.{Into}
 use Rattle.office_store.specs.Entries.{VoteEntry}
 use Rattle.office_store.specs.Shown.{IsIdle, Shows}
@@ -48,12 +50,24 @@ Makes (puts_baseline p n) = Into (with_baseline p n)
 Makes (puts_hold p) = Into (with_hold p)
 Makes (deletes_hold p) = Into (without_hold p)
 
--- over a connection that shows the first tables SQLite refuses, with this fault, a write that makes
--- the second
-pub record RefusesToMake {S : Type 0} (g : Ghosts S) (t u : Tables) (f : StoreFault) : Type 0 where
+-- over a connection SQLite refuses one of the statements with this fault; that there is no memory,
+-- one of them or their commit may come to
+abbrev pub Stops : {S : Type 0} → Ghosts S → List Statement → Held S → StoreFault → Type 0
+Stops g statements h NoMemory = IsCause g statements h NoMemory
+Stops g statements h Disk = Refuses g statements h Disk
+Stops g statements h Full = Refuses g statements h Full
+Stops g statements h NotAnOffice = Refuses g statements h NotAnOffice
+
+-- over what a connection has, which is the first tables, SQLite refuses, with this fault, a write
+-- that makes the second, or has no memory for it
+pub record RefusesToMake {S : Type 0} (g : Ghosts S) (conn : Held S) (t u : Tables) (f : StoreFault)
+    : Type 0 where
   pub write : Write
   pub makes : Makes write t u
+  -- as reads leave that connection
   pub over : Held S
+  pub now : (state g over).now ≡ (state g conn).now
+  pub committed : (state g over).committed ≡ (state g conn).committed
   pub idle : IsIdle (state g over)
   pub shows : Shows (state g over) t
-  pub refused : Refuses g (statements_of write) over f
+  pub refused : Stops g (statements_of write) over f

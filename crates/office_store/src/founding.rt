@@ -6,9 +6,9 @@ ghost use Rattle.sqlite.specs.Held.{state};
 ghost use Rattle.sqlite.specs.State.{HasCleanDisk};
 ghost use Rattle.sqlite.specs.Values.{bound};
 ghost use Rattle.sqlite_schema.specs.Names.{table_named};
-ghost use Rattle.office_rows.specs.Statements.{IsCause};
-ghost use Rattle.office_store.specs.Connections.{CommitsAll, FailsWithin, KeepsOnOk, RollsBack};
-ghost use Rattle.office_store.specs.Connections.{SameOnErr, ShowsOnOk, SurvivesAll, SurvivesWith};
+ghost use Rattle.office_store.specs.Connections.{CommitsAll, FailsBetween, FailsWithin, KeepsOnOk};
+ghost use Rattle.office_store.specs.Connections.{MeetsOnErr, RollsBack, SameOnErr, ShowsOnOk};
+ghost use Rattle.office_store.specs.Connections.{SurvivesAll, SurvivesWith};
 ghost use Rattle.office_store.specs.Founding.{has_table, IsForeign, first_user, new_office};
 ghost use Rattle.office_store.specs.Founding.{founding, founding_office, FailsToFound};
 ghost use Rattle.office_store.specs.Schema.{no_schema};
@@ -81,6 +81,8 @@ fn run_founding<'a, S: Alter>(
     ensures none { RollsBack S.Store conn.old conn.new result }
     ensures cause { FailsWithin S.Store conn.old conn.new
         (founding (bound none.now) (bound office.now) (bound user.now)) result }
+    ensures met { FailsBetween S.Store conn.old conn.new
+        (founding (bound none.now) (bound office.now) (bound user.now)) result }
     ensures mode { conn.new.in_transaction ≡ false }
     ensures clean { HasCleanDisk (state S.Store conn.new) → HasCleanDisk (state S.Store conn.old) }
     ensures crash { SurvivesAll S.Store conn.old conn.new
@@ -148,9 +150,8 @@ fn make_office<S: Alter>(
     ensures kept { KeepsOnOk S.Store conn.new
         (new_office name.now team.now digest.now listed) result }
     ensures formed { HasCleanDisk (state S.Store conn.new) → result ≢ Err StoreFault.NotAnOffice }
-    ensures cause { HasCleanDisk (state S.Store conn.new)
-        → IfErr result (IsCause S.Store
-        (founding_office (first_user name.now team.now digest.now) listed) conn.old) }
+    ensures cause { MeetsOnErr S.Store conn.old conn.new
+        (founding_office (first_user name.now team.now digest.now) listed) result }
     ensures same { SameOnErr S.Store conn.old conn.new result }
     ensures idle { IsIdle (state S.Store conn.new) }
     ensures clean { HasCleanDisk (state S.Store conn.new) → HasCleanDisk (state S.Store conn.old) }
@@ -200,7 +201,7 @@ pub fn found<S: Alter>(
         ↔ IsForeign (state S.Store conn.old).now.schema }
     ensures cause { HasCleanDisk (state S.Store conn.new)
         → IfErr result (FailsToFound S.Store
-        (first_user name.now team.now digest.now) listed conn.old) }
+        (first_user name.now team.now digest.now) listed conn.old conn.new) }
     ensures empty { OnOk result ((state S.Store conn.old).now.schema ≡ no_schema) }
     ensures same { SameOnErr S.Store conn.old conn.new result }
     ensures idle { IsIdle (state S.Store conn.new) }

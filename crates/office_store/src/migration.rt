@@ -3,9 +3,9 @@
 ghost use Rattle.std.specs.Prelude.{◌≡◌, ◌≢◌, false, Err, IfErr, IsTrue, OnOk, []};
 ghost use Rattle.sqlite.specs.Held.{state};
 ghost use Rattle.sqlite.specs.State.{HasCleanDisk};
-ghost use Rattle.office_rows.specs.Statements.{IsCause};
 ghost use Rattle.office_tables.specs.Tables.{Tables};
-ghost use Rattle.office_store.specs.Connections.{CommitsAll, FailsWithin, RollsBack, SurvivesAll};
+ghost use Rattle.office_store.specs.Connections.{CommitsAll, FailsBetween, FailsWithin, MeetsOnErr};
+ghost use Rattle.office_store.specs.Connections.{RollsBack, SurvivesAll};
 ghost use Rattle.office_store.specs.Form.{has_old_tables};
 ghost use Rattle.office_store.specs.Shown.{IsIdle, Shows, ShowsIfOpen};
 ghost use Rattle.office_store.specs.Migration.{migration, ShowsOld, ShowsOldIfOpen, IsMigration};
@@ -26,6 +26,7 @@ fn run_migration<S: Alter>(conn: &mut Connection<S>) -> Result<(), Error>
     ensures all { CommitsAll S.Store conn.old conn.new (migration []) result }
     ensures none { RollsBack S.Store conn.old conn.new result }
     ensures cause { FailsWithin S.Store conn.old conn.new (migration []) result }
+    ensures met { FailsBetween S.Store conn.old conn.new (migration []) result }
     ensures was_open { HasCleanDisk (state S.Store conn.new)
         → IsTrue (state S.Store conn.new).is_open → IsTrue (state S.Store conn.old).is_open }
     ensures mode { conn.new.in_transaction ≡ false }
@@ -60,8 +61,7 @@ fn move_office<S: Alter>(conn: &mut Connection<S>) -> Result<(), StoreFault>
     ensures migration { IsMigration (state S.Store conn.old) (state S.Store conn.new) result }
     ensures formed { (t : Tables) → ShowsOldIfOpen (state S.Store conn.old) t
         → HasCleanDisk (state S.Store conn.new) → result ≢ Err StoreFault.NotAnOffice }
-    ensures cause { HasCleanDisk (state S.Store conn.new)
-        → IfErr result (IsCause S.Store (migration []) conn.old) }
+    ensures cause { MeetsOnErr S.Store conn.old conn.new (migration []) result }
 {
     match run_migration(conn) {
         Ok(()) => Ok(()),
@@ -95,7 +95,7 @@ pub fn migrate<S: Alter>(conn: &mut Connection<S>) -> Result<(), MigrationFault>
         → (result ≡ Err (MigrationFault.Store StoreFault.NotAnOffice)) × (conn.new ≡ conn.old) }
     ensures was { HasCleanDisk (state S.Store conn.new) → OnOk result (WasOld S.Store conn.old) }
     ensures cause { HasCleanDisk (state S.Store conn.new)
-        → IfErr result (FailsToMigrate S.Store conn.old) }
+        → IfErr result (FailsToMigrate S.Store conn.old conn.new) }
 {
     if !has_old_tables(conn.schema()) {
         return Err(MigrationFault::Store(StoreFault::NotAnOffice));

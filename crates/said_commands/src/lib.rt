@@ -1,7 +1,7 @@
 //! What the program says to a command line, as text.
 #![tactic(auto)]
 
-use office_commands::{Databases, Network, run_words};
+use office_commands::{Databases, HostJournals, Network, Unread, run_words};
 use sqlite::{Alter, Connection};
 use std::alloc::{AllocError, Global};
 use std::io::Write;
@@ -40,7 +40,7 @@ fn run_line<S: Alter + Drop, D: Databases<Database = Connection<S>>, N: Network,
     let status = run_words(
         rt,
         databases,
-        rt,
+        &HostJournals::new(rt, Unread),
         network,
         alloc,
         &words,

@@ -1,5 +1,6 @@
 //! Offices over two files with a journal in a third, of which one stops.
 #![tactic(auto)]
 
+mod left;
 pub mod runs;
-pub mod stopping_log;
+pub mod torn;

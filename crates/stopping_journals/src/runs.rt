@@ -1,31 +1,42 @@
 //! An office over two files with its journal in a third: each of the three stops in turn.
 
-use crate::stopping_log::{FOUNDING, StoppingLog};
-use journal_replay::rebuild;
-use journaled_office::mend;
+use crate::left::{AllTold, Kept, Remains};
+use journaled_office::reopen;
 use json_requests::{line, read_line};
 use office_desk::Office;
-use office_journal::{FileJournal, Journaled};
 use office_policy::Handler;
-use sqlite::{Connection, FileStore, Files};
-use sqlite_disk::{Disk, Fuse, Memory};
+use sealed_log::SealedLog;
+use sqlite::Files;
+use sqlite_disk::{Crash, Fuse, Memory};
 use std::alloc::Global;
 use std::test::Fail;
 use stopping_offices::asked::is_fault;
 use stopping_offices::begun::{Beginning, at_rest, begin};
 use stopping_offices::course::requests_of;
-use stopping_offices::files::{ENDLESS, File, Stop, crashed, empty_files, files_of, kept, opened};
+use stopping_offices::files::{
+    ENDLESS, File, Stop, crashed, empty_files, files_of, has_stopped, kept, opened, synced,
+};
 use stopping_offices::runs::closed;
-use test_offices::tables::tables_of;
 
-// An office over files, with its journal.
-type Kept<D> = Journaled<Office<FileStore<D>>, FileJournal<StoppingLog>>;
+/// The journal of the founding that tests begin with, with the seal that Python's hashlib makes.
+pub(crate) const FOUNDING: &str = concat!(
+    r#"{"line":{"digest":"ba7816bf8f01cfea414140de5dae2223b00361a396177a9cb410ff61f20015ad","event":"found","#,
+    r#""listed":["CAP_SYS_ADMIN"],"team":"office","user":"root"},"seal":"59dcfe6e4451871df38be188b58762b68dfff603fb898971e569464b471834e1"}
+"#
+);
+
+// An enrolment behind it that the tables haven't got, and a part of a line.
+const AHEAD: &str = concat!(
+    r#"{"line":{"by":"root","digest":"b9382ae65bf200e3350f913c9c98f85340bd0ffff6d864c5c9c6829d2c5b05dd","event":"enrol","#,
+    r#""roles":["author"],"team":"blue","user":"ann"},"seal":"315ed97d4db31268cc5679f7bbbed494795abfdfa506f367bb5a98f4eec727cb"}
+{"line":{"by":"root","digest":"b9382ae65bf200e3350f91"#
+);
 
 // What a run left: the two files of the office, and its journal.
 #[derive(Drop)]
 struct Left {
     files: Files<Fuse<Memory>>,
-    log: StoppingLog,
+    log: Fuse<Memory>,
     // How many requests were answered, and not by a fault, of those that change something.
     events: u64,
 }
@@ -41,11 +52,11 @@ pub enum Third {
     Journal,
 }
 
-// A file that stops after so many of its calls.
+/// A file that stops after so many of its calls.
 #[derive(Clone, Copy, Debug)]
-struct Stopping {
-    file: Third,
-    calls: u64,
+pub(crate) struct Stopping {
+    pub(crate) file: Third,
+    pub(crate) calls: u64,
 }
 
 impl Stopping {
@@ -78,14 +89,14 @@ impl Stopping {
     // Whether the file has stopped.
     fn is_reached(self, left: &mut Left) -> bool {
         match self.file {
-            Third::Journal => left.log.has_stopped(),
+            Third::Journal => has_stopped(&mut left.log),
             Third::Log | Third::Database => self.of_office().is_reached(&mut left.files),
         }
     }
 }
 
-// The files of an office that was founded.
-fn founded_files(alloc: Global) -> Result<Files<Memory>, Fail> {
+/// The files of an office that was founded, and its journal, with this text behind that.
+pub(crate) fn founded(alloc: Global, behind: &str) -> Result<Remains, Fail> {
     let Ok(conn) = opened(alloc, empty_files(alloc)) else {
         return Err(Fail::from("files that open"));
     };
@@ -94,22 +105,13 @@ fn founded_files(alloc: Global) -> Result<Files<Memory>, Fail> {
         Err(conn) => conn,
     };
     let files = closed(conn);
-    files_of(alloc, files.log.bytes(), files.db.bytes())
-}
-
-// The office of a store with its journal, mended; or both where that can't be done.
-fn with_journal<D: Disk + Drop>(
-    alloc: Global,
-    office: Office<FileStore<D>>,
-    log: StoppingLog,
-) -> Result<Result<Kept<D>, (Office<FileStore<D>>, StoppingLog)>, Fail> {
-    let (mut office, mut log) = (office, log);
-    let text = log.text(alloc)?;
-    let mut rest = text.as_slice();
-    match mend(alloc, &mut office, &mut rest, &mut log) {
-        Ok(end) => Ok(Ok(Journaled::new(office, FileJournal::new(log, end)))),
-        Err(_) => Ok(Err((office, log))),
-    }
+    let mut journal = Vec::from_slice(alloc, FOUNDING.as_bytes())?;
+    journal.extend_from_slice(behind.as_bytes())?;
+    Ok(Remains {
+        files: files_of(alloc, files.log.bytes(), files.db.bytes())?,
+        journal,
+        events: 0,
+    })
 }
 
 // What is answered where a request was carried out.
@@ -124,7 +126,11 @@ const READING: [&str; 4] = [
 ];
 
 // Asks an office the requests up to the first that is answered by a fault, where the process dies.
-fn converse(alloc: Global, office: Kept<Fuse<Memory>>, requests: &[&str]) -> Result<Left, Fail> {
+fn converse(
+    alloc: Global,
+    office: Kept<Fuse<Memory>, Fuse<Memory>>,
+    requests: &[&str],
+) -> Result<Left, Fail> {
     let mut office = office;
     let mut events = 0u64;
     for request in requests {
@@ -141,13 +147,13 @@ fn converse(alloc: Global, office: Kept<Fuse<Memory>>, requests: &[&str]) -> Res
     let (office, journal) = office.into_parts();
     Ok(Left {
         files: office.into_connection().into_store().close(),
-        log: journal.into_log(),
+        log: journal.into_disk(),
         events,
     })
 }
 
 // What is left where no office was opened with its journal.
-fn unopened(files: Files<Fuse<Memory>>, log: StoppingLog) -> Left {
+fn unopened(files: Files<Fuse<Memory>>, log: Fuse<Memory>) -> Left {
     Left {
         files,
         log,
@@ -158,13 +164,13 @@ fn unopened(files: Files<Fuse<Memory>>, log: StoppingLog) -> Left {
 // Opens a founded office with its journal, of which one file is to stop, and asks it the requests.
 fn run(
     alloc: Global,
-    founded: &Files<Memory>,
+    founded: &Remains,
     stopping: Stopping,
     requests: &[&str],
 ) -> Result<Left, Fail> {
-    let files = files_of(alloc, founded.log.bytes(), founded.db.bytes())?;
+    let files = files_of(alloc, founded.files.log.bytes(), founded.files.db.bytes())?;
     let files = stopping.of_office().of(files);
-    let log = StoppingLog::new(alloc, FOUNDING.as_bytes(), stopping.journal_calls())?;
+    let log = Fuse::new(synced(alloc, &founded.journal)?, stopping.journal_calls());
     let conn = match opened(alloc, files) {
         Ok(conn) => at_rest(conn)?,
         Err(files) => return Ok(unopened(files, log)),
@@ -173,115 +179,85 @@ fn run(
         Ok(office) => office,
         Err((_, conn)) => return Ok(unopened(conn.into_store().close(), log)),
     };
-    match with_journal(alloc, office, log)? {
+    match reopen(alloc, office, SealedLog::new(log)) {
         Ok(office) => converse(alloc, office, requests),
-        Err((office, log)) => Ok(unopened(office.into_connection().into_store().close(), log)),
+        Err((_, office, log)) => Ok(unopened(
+            office.into_connection().into_store().close(),
+            log.into_disk(),
+        )),
     }
 }
 
-// The office over what was left, opened with what was left of its journal.
-fn reopened<D: Disk + Drop>(
+/// The journal of an office that was founded and asked these requests, where nothing stops.
+pub(crate) fn whole_journal(
     alloc: Global,
-    files: Files<D>,
-    journal: &[u8],
-) -> Result<Kept<D>, Fail> {
-    let log = StoppingLog::new(alloc, journal, ENDLESS)?;
-    let Ok(conn) = opened(alloc, files) else {
-        return Err(Fail::from("files that open again"));
+    founded: &Remains,
+    requests: &[&str],
+) -> Result<Vec<u8>, Fail> {
+    let stopping = Stopping {
+        file: Third::Journal,
+        calls: ENDLESS,
     };
-    let Ok(office) = Office::over(at_rest(conn)?) else {
-        return Err(Fail::from("an office again"));
-    };
-    match with_journal(alloc, office, log)? {
-        Ok(office) => Ok(office),
-        Err(_) => Err(Fail::from("a journal again")),
-    }
+    let left = run(alloc, founded, stopping, requests)?;
+    Ok(Vec::from_slice(alloc, left.log.inner().bytes())?)
 }
 
-// What a journal tells: the tables, and how many events.
-#[derive(Drop)]
-struct Told {
-    text: Vec<u8>,
-    tables: String,
-    count: u64,
-}
-
-impl Told {
-    fn of(alloc: Global, text: &[u8]) -> Result<Told, Fail> {
-        let conn = at_rest(Connection::open_in_memory(alloc)?)?;
-        match rebuild(alloc, conn, text) {
-            Ok((office, count)) => Ok(Told {
-                text: Vec::from_slice(alloc, text)?,
-                tables: tables_of(alloc, &mut office.into_connection())?,
-                count,
-            }),
-            Err((refused, _)) => Err(Fail::from(refused)),
-        }
-    }
-}
-
-// The place of what a journal tells, which is worked out once for each.
-fn place_of(alloc: Global, all: &mut Vec<Told>, text: &[u8]) -> Result<usize, Fail> {
-    if let Some(at) = all.iter().position(|told| told.text.as_slice() == text) {
-        return Ok(at);
-    }
-    all.push(Told::of(alloc, text)?)?;
-    Ok(all.len().saturating_sub(1))
-}
-
-// That an office and its journal open again, with each event that was answered and at most one more,
-// and that the tables are those that the journal tells.
-fn expect_told<D: Disk + Drop>(
+/// Stops one of the files once. Gives what is left, all of it and what was synced of it, and whether
+/// the file has stopped.
+pub(crate) fn stop_once(
     alloc: Global,
-    all: &mut Vec<Told>,
-    files: Files<D>,
-    journal: &[u8],
-    events: u64,
-) -> Result<(), Fail> {
-    let (office, journal) = reopened(alloc, files, journal)?.into_parts();
-    let tables = tables_of(alloc, &mut office.into_connection())?;
-    let at = place_of(alloc, all, &journal.into_log().text(alloc)?)?;
-    let Some(told) = all.get(at) else {
-        return Err(Fail::from("what a journal tells"));
-    };
-    // the founding is an event too
-    let further = told.count.saturating_sub(1).saturating_sub(events);
-    let is_told = tables.as_str() == told.tables.as_str();
-    if !is_told || told.count <= events || further > 1 {
-        return Err(Fail::from((told.count, events, tables)));
-    }
-    Ok(())
-}
-
-// Stops one of the files once, and looks at what is left. Gives whether it has stopped.
-fn stop_once(
-    alloc: Global,
-    all: &mut Vec<Told>,
-    founded: &Files<Memory>,
+    founded: &Remains,
     stopping: Stopping,
     requests: &[&str],
-) -> Result<bool, Fail> {
+) -> Result<([Remains; 2], bool), Fail> {
     let mut left = run(alloc, founded, stopping, requests)?;
     let is_reached = stopping.is_reached(&mut left);
-    let written = left.log.text(alloc)?;
-    expect_told(alloc, all, kept(alloc, &left.files)?, &written, left.events)?;
-    let synced = left.log.synced(alloc)?;
-    expect_told(alloc, all, crashed(left.files), &synced, left.events)?;
-    Ok(is_reached)
+    let Left {
+        files,
+        mut log,
+        events,
+    } = left;
+    let all = Remains {
+        files: kept(alloc, &files)?,
+        journal: Vec::from_slice(alloc, log.inner().bytes())?,
+        events,
+    };
+    log.crash();
+    let synced = Remains {
+        files: kept(alloc, &crashed(files))?,
+        journal: Vec::from_slice(alloc, log.inner().bytes())?,
+        events,
+    };
+    Ok(([all, synced], is_reached))
 }
 
-/// Stops one of the three files before each of its calls in turn, while these lines are answered, and gives how many there are. It
-/// fails where the journal that is left doesn't tell the tables that are, or what it tells isn't what was answered.
-pub fn stops(alloc: Global, lines: &str, file: Third) -> Result<u64, Fail> {
-    let founded = founded_files(alloc)?;
-    let requests = requests_of(alloc, lines)?;
-    let mut all = Vec::new(alloc);
+// Stops one of the files of a founded office before each of its calls in turn, while it is asked this, and gives how many there are.
+fn stops_of(alloc: Global, founded: &Remains, file: Third, requests: &[&str]) -> Result<u64, Fail> {
+    let mut told = AllTold::new(alloc);
     for calls in 0..ENDLESS {
         let stopping = Stopping { file, calls };
-        if !stop_once(alloc, &mut all, &founded, stopping, &requests)? {
+        let (left, is_reached) = stop_once(alloc, founded, stopping, requests)?;
+        for remains in left {
+            remains.expect_told(alloc, &mut told, b"")?;
+        }
+        if !is_reached {
             // The run before had all its calls.
             return Ok(calls.saturating_sub(1));
         }
     }
     Err(Fail::from("a run without a stop"))
+}
+
+/// Stops one of the three files before each of its calls in turn, while these lines are answered, and gives how many there are. It
+/// fails where the journal that is left doesn't tell the tables that are, or what it tells isn't what was answered.
+pub fn stops(alloc: Global, lines: &str, file: Third) -> Result<u64, Fail> {
+    let founded = founded(alloc, "")?;
+    let requests = requests_of(alloc, lines)?;
+    stops_of(alloc, &founded, file, &requests)
+}
+
+/// Stops a journal before each of its calls in turn, while it is opened with its office: the event of its last line hasn't reached the
+/// tables, and a part of a line stands behind that. Gives how many calls there are. It fails as [`stops`] does.
+pub fn stops_while_opened(alloc: Global) -> Result<u64, Fail> {
+    stops_of(alloc, &founded(alloc, AHEAD)?, Third::Journal, &[])
 }

@@ -44,7 +44,8 @@ impl Stop {
     }
 }
 
-fn has_stopped(file: &mut Fuse<Memory>) -> bool {
+/// Whether a file has stopped.
+pub fn has_stopped(file: &mut Fuse<Memory>) -> bool {
     if !file.may_be_used() {
         return true;
     }
@@ -59,8 +60,8 @@ pub fn empty_files(alloc: Global) -> Files<Memory> {
     }
 }
 
-// A file that has these bytes, also after a crash.
-fn synced(alloc: Global, bytes: &[u8]) -> Result<Memory, Fail> {
+/// A file that has these bytes, also after a crash.
+pub fn synced(alloc: Global, bytes: &[u8]) -> Result<Memory, Fail> {
     let mut file = Memory::new(alloc);
     file.write_at(0, bytes)?;
     file.sync()?;

@@ -1,11 +1,11 @@
 //! An office in memory that promises nothing, so that what is tried of it is proved without its store.
 
-use crate::offices::found_office;
+use crate::offices::trial_office;
 use crate::tables::tables_of;
 use office_desk::Office;
 use office_policy::Handler;
 use review_policy::{Answer, Request};
-use sqlite::{Connection, MemStore};
+use sqlite::MemStore;
 use std::alloc::Global;
 use std::test::Fail;
 
@@ -18,10 +18,9 @@ pub struct TrialOffice {
 impl TrialOffice {
     /// One in which root may enrol users, by the token abc.
     pub fn new(alloc: Global) -> Result<TrialOffice, Fail> {
-        match found_office(alloc, Connection::open_in_memory(alloc)?)? {
-            Ok(office) => Ok(TrialOffice { office }),
-            Err((fault, _)) => Err(Fail::from(fault)),
-        }
+        Ok(TrialOffice {
+            office: trial_office(alloc)?,
+        })
     }
 
     /// Its tables as text.

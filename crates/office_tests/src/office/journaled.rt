@@ -1,64 +1,74 @@
 // An office in memory with a journal in memory.
 
-ghost use Rattle.std.specs.Prelude.{◌≡◌, true};
-
 use crate::office::openings::run;
 use json_requests::{line, read_line};
 use office_desk::Office;
-use office_journal::{Journal, Journaled};
+use office_journal::Journaled;
 use office_policy::{Handler, Judge};
-use review_policy::Fault;
+use sealed_log::{Reader, SealedLog};
 use sqlite::{Connection, MemStore};
+use sqlite_disk::{Disk, Memory};
 use std::alloc::Global;
 use std::test::Fail;
 use test_offices::offices::{found_office, trial_office};
 
-// A journal in memory.
-#[derive(Drop)]
-struct Kept {
-    text: Vec<u8>,
+// A reader of a disk.
+fn reader_of<D: Disk>(disk: &mut D) -> Result<Reader, Fail> {
+    if !disk.may_be_used() {
+        return Err(Fail::from("a disk that can be used"));
+    }
+    Ok(Reader::new(disk.len()?))
 }
 
-impl Journal for Kept {
-    ghost writing = { record {
-      known = Unit {0};
-      text = λ j. j.text.items;
-      is_open = λ j. true;
-      faults = λ j. 0;
-      may_leave = λ j left. left ≡ j.text.items;
-      settled = λ known j is_open left may. may;
-    } };
-
-    fn is_open(&self) -> bool {
-        true
+// The next body on a disk.
+fn next_of<D: Disk>(
+    alloc: Global,
+    reader: &mut Reader,
+    disk: &mut D,
+) -> Result<Option<Vec<u8>>, Fail> {
+    if !disk.may_be_used() {
+        return Err(Fail::from("a disk that can be used"));
     }
+    Ok(reader.next(alloc, disk)?)
+}
 
-    fn append(&mut self, line: &[u8]) -> Result<(), Fault> {
-        match self.text.extend_from_slice(line) {
-            Ok(()) => Ok(()),
-            Err(_) => Err(Fault::Memory),
+// The bodies of a log, each on a line, and then the digits of its seal.
+fn told_by<D: Disk + Drop>(alloc: Global, log: SealedLog<D>) -> Result<String, Fail> {
+    let seal = log.seal();
+    let mut disk = log.into_disk();
+    let mut reader = reader_of(&mut disk)?;
+    let mut text = Vec::new(alloc);
+    for _ in 0..99 {
+        match next_of(alloc, &mut reader, &mut disk)? {
+            Some(body) => text.extend_from_slice(&body)?,
+            None => {
+                text.extend_from_slice(&seal)?;
+                return Ok(String::from_utf8(text)?);
+            }
         }
+        text.push(b'\n')?;
     }
+    Err(Fail::from("a log of less than 99 lines"))
 }
 
-// What the requests of these lines are answered by an office with an empty journal, and its
-// journal then.
+// What the requests of these lines are answered by an office with an empty journal in memory, and
+// what its journal tells then.
 fn journaled<O: Judge + Drop>(
     alloc: Global,
     office: O,
     requests: &str,
 ) -> Result<(String, String), Fail> {
-    let journal = Kept {
-        text: Vec::new(alloc),
-    };
-    let mut office = Journaled::new(office, journal);
+    let mut log = SealedLog::new(Memory::new(alloc));
+    let found = log.read(alloc)?;
+    log.open_at(&found)?;
+    let mut office = Journaled::new(office, log);
     let mut told = String::new(alloc);
     for request in requests.lines() {
         let request = read_line(alloc, request.as_bytes())?;
         told.push_str(&line(alloc, &office.handle(alloc, &request))?)?;
     }
-    let (_, journal) = office.into_parts();
-    Ok((told, String::from_utf8(journal.text)?))
+    let (_, log) = office.into_parts();
+    Ok((told, told_by(alloc, log)?))
 }
 
 // Ann hands a profile in, and may not issue it; rev looks at it and approves it, so does sue, who
@@ -97,6 +107,7 @@ const ANSWERS: &str = concat!(
 "#
 );
 
+// The events, and the seal that Python's hashlib makes.
 const JOURNAL: &str = concat!(
     r#"{"by":"root","digest":"b9382ae65bf200e3350f913c9c98f85340bd0ffff6d864c5c9c6829d2c5b05dd","event":"enrol","roles":["author"],"team":"blue","user":"ann"}
 {"by":"root","digest":"c6be5267fea2eba314742579352918002962e8c076047877d111f95eb2bb6eae","event":"enrol","roles":["reviewer"],"team":"office","user":"rev"}
@@ -111,7 +122,7 @@ const JOURNAL: &str = concat!(
     r#""event":"vote","profile":"web","revision":1,"team":"blue","vote":"approve"}
 {"by":"iss","event":"issue","profile":"web","revision":1,"team":"blue"}
 {"by":"sue","event":"hold","profile":"web","team":"blue"}
-"#
+44b545162e628a592fbb93fe514661bda2bf1bf46290e09f98c7d83a86128b09"#
 );
 
 #[test]
@@ -148,7 +159,7 @@ const REFUSED: &str = r#"{"answer":"fault","word":"disk"}
 const STRUCK: &str =
     r#"{"by":"root","digest":"b9382ae65bf200e3350f913c9c98f85340bd0ffff6d864c5c9c6829d2c5b05dd","event":"enrol","roles":["author"],"team":"blue","user":"ann"}
 {"event":"strike"}
-"#;
+f61d9ee63f1c593ff7d2e0761ca1925345f68ab9ff6c6c1e39b977919b20601f"#;
 
 #[test]
 fn an_event_that_a_fault_keeps_from_happening_is_struck_out(rt: HostRuntime) -> Result<(), Fail> {

@@ -11,15 +11,21 @@ returns-clause-command c =
       record {
         database = text_is f (codes "database") _ c.in_ok-database.ensures;
         journal = text_is f (codes "journal") _ c.in_ok-journal.ensures;
+        seal = c.in_ok-seal.ensures.seal;
       },
     )
 
 pub returns-in_err-database-clause-lacking : goal.returns-in_err-database-clause-lacking
 returns-in_err-database-clause-lacking c =
     let f = found_of c.args.given.now in
-    lacks _ _ (no_verify (rows_of f) (λ database journal h. lacks_value _ database (text_is f (codes "database") None c.in_err-database.ensures) h.database))
+    lacks _ _ (no_verify (rows_of f) (λ words h. lacks_value _ _ (text_is f (codes "database") None c.in_err-database.ensures) h.database))
 
 pub returns-in_err-journal-clause-lacking : goal.returns-in_err-journal-clause-lacking
 returns-in_err-journal-clause-lacking c =
     let f = found_of c.args.given.now in
-    lacks _ _ (no_verify (rows_of f) (λ database journal h. lacks_value _ journal (text_is f (codes "journal") None c.in_err-journal.ensures) h.journal))
+    lacks _ _ (no_verify (rows_of f) (λ words h. lacks_value _ _ (text_is f (codes "journal") None c.in_err-journal.ensures) h.journal))
+
+pub returns-in_err-seal-clause-lacking : goal.returns-in_err-seal-clause-lacking
+returns-in_err-seal-clause-lacking c =
+    let f = found_of c.args.given.now in
+    lacks _ _ (no_verify (rows_of f) (λ words h. c.in_err-seal.ensures.lacking words.seal h.seal))

@@ -1,6 +1,6 @@
-use Rattle.std.proofs.Common.{◌∙◌, ◌∷◌, [], ℕ, sym, subst}
+use Rattle.std.proofs.Common.{◌∙◌, ◌∷◌, [], ℕ, List, sym, subst}
 use Rattle.office_desk.specs.Meant.{meaning_over}
-use Rattle.journal_lines.specs.Told.{placed_meant}
+use Rattle.journal_lines.specs.Told.{place, placed_meant}
 use Rattle.journal_replay.specs.Rebuilt.{IsRebuilt, IsRefused}
 use Rattle.journal_replay.proofs.Refusals.{none_behind}
 use Rattle.journal_replay.proofs.Unlawful.{refutes}
@@ -15,8 +15,11 @@ pub returns-in-Ok-replayed-clause-rebuilt : goal.returns-in-Ok-replayed-clause-r
 returns-in-Ok-replayed-clause-rebuilt g c =
     let bytes = g.R.Read.remaining c.args.journal in
     let rebuilt = c.in-Ok-replayed.ensures bytes (placed_meant c.in-Ok.begun.1 ∷ []) c.in-Ok.ensures.begun (sym c.in-Ok.ensures.count) in
-    subst (λ (n : ℕ). IsRebuilt bytes (meaning_over g.S.Store) n c.into_office-office.result) (sym c.count-count.ensures)
-    (subst (λ office. IsRebuilt bytes (meaning_over g.S.Store) c.replay_rest-replayed.new.replay.count office) (sym c.into_office-office.ensures) rebuilt)
+    let m = meaning_over g.S.Store in
+    let office = c.into_office-office.result in
+    subst (λ (n : ℕ). IsRebuilt bytes m n c.seal-seal.result office) (sym c.count-events.ensures)
+    (subst (λ (s : List ℕ). IsRebuilt bytes m c.replay_rest-replayed.new.replay.count s office) (sym c.seal-seal.ensures)
+    (subst (λ o. IsRebuilt bytes m c.replay_rest-replayed.new.replay.count (place g.R.Read.remaining c.replay_rest-replayed.new.replay.events).seal o) (sym c.into_office-office.ensures) rebuilt))
 
 pub returns-in-Err-replayed-clause-rebuilt : goal.returns-in-Err-replayed-clause-rebuilt
 returns-in-Err-replayed-clause-rebuilt g c =

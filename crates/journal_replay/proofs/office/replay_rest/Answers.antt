@@ -1,5 +1,4 @@
-use Rattle.std.proofs.Common.{arith, ◌≡◌, ◌∙◌, ◌+◌, ◌++◌, ◌∷◌, [], ℕ, List, Some, ap, sym, subst, length-append}
-use Rattle.office_policy.specs.History.{Event}
+use Rattle.std.proofs.Common.{arith, ◌≡◌, ◌∙◌, ◌+◌, ◌++◌, ◌∷◌, [], ℕ, Some, ap, sym, subst, length-append}
 use Rattle.office_desk.specs.Meant.{meaning_over}
 use Rattle.journal_lines.specs.Told.{place, placed_meant}
 use Rattle.journal_replay.specs.Rebuilt.{HasReplayed}
@@ -16,8 +15,8 @@ returns-in_err-placed g c = λ bytes es all one.
     let m = meaning_over g.S.Store in
     let before = c.events.invariant.replayed bytes es all one in
     let refused = c.in_err-placed.field-0.0 in
-    left_by m bytes _ _ c.from_residual.result refused c.from_residual.ensures.1
-    (left_behind m bytes (place g.R.Read.remaining c.events.replay.events) before.0 c.events.replay.office _ refused.line refused.why before.1
+    left_by m bytes _ _ _ c.from_residual.result refused c.from_residual.ensures.1
+    (left_behind m bytes (place g.R.Read.remaining c.events.replay.events) _ before.0 c.events.replay.office _ refused.line refused.why before.1
     (c.in_err-placed.ensures.next c.events.invariant.fault))
 
 pub returns-in_err-happen : goal.returns-in_err-happen
@@ -26,7 +25,7 @@ returns-in_err-happen g c = λ bytes es all one.
     let here = place g.R.Read.remaining c.events.replay.events in
     let before = c.events.invariant.replayed bytes es all one in
     let refused = c.in_err-happen.field-0.0 in
-    left_by m bytes _ _ c.from_residual-in_err-happen.result refused c.from_residual-in_err-happen.ensures.1
+    left_by m bytes _ _ _ c.from_residual-in_err-happen.result refused c.from_residual-in_err-happen.ensures.1
     (kept_out m bytes here (place g.R.Read.remaining c.next.new.self.events) before.0 (placed_meant c.in-Some.placed) c.next.new.self.office _ refused.line refused.why
     (subst (λ office. HasReplayed bytes m here before.0 office) (sym c.in_ok-placed.ensures.office) before.1)
     (rw c.in-Some.is at (c.in_ok-placed.ensures.next c.events.invariant.fault)) c.in_err-happen.ensures.happened)
@@ -61,6 +60,6 @@ returns g c = λ bytes es all one.
     let here = place g.R.Read.remaining c.events.replay.events in
     let before = c.events.invariant.replayed bytes es all one in
     let counted : c.next.new.self.count ≡ c.events.replay.count = rw c.in_default.is at c.in_ok-placed.ensures.count in
-    ended m bytes here before.0 c.next.new.self.count c.next.new.self.office
+    ended m bytes here (place g.R.Read.remaining c.next.new.self.events) before.0 c.next.new.self.count c.next.new.self.office
     (subst (λ office. HasReplayed bytes m here before.0 office) (sym c.in_ok-placed.ensures.office) before.1)
     (rw c.in_default.is at (c.in_ok-placed.ensures.next c.events.invariant.fault)) (counted ∙ sym before.2)

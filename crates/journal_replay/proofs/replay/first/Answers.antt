@@ -4,4 +4,4 @@ use Rattle.journal_replay.proofs.replay.first.Goals as goal
 
 pub returns-in-Err-clause-first : goal.returns-in-Err-clause-first
 returns-in-Err-clause-first g c =
-    left_first (place g.R.Read.remaining c.args.events.now) c.in-Err.refused.line c.in-Err.refused.why (c.in-Err.ensures.next c.requires)
+    left_first (place g.R.Read.remaining c.args.events.now) _ c.in-Err.refused.line c.in-Err.refused.why (c.in-Err.ensures.next c.requires)

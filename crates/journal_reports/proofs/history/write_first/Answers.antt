@@ -1,7 +1,5 @@
 use Rattle.std.proofs.Common.{refl}
 use Rattle.std.specs.Prelude.{string_bytes}
-use Rattle.journal_lines.specs.Told.{placed_meant}
-use Rattle.journal_reports.specs.History.{shown_of}
 use Rattle.journal_reports.proofs.Writing.{first_none, first_text}
 use Rattle.journal_reports.proofs.history.write_first.Goals as goal
 

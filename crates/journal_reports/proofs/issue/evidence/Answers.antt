@@ -1,4 +1,4 @@
-use Rattle.std.proofs.Common.{◌∙◌, ◌∷◌, [], refl, sym, subst}
+use Rattle.std.proofs.Common.{◌∙◌, ◌∷◌, [], sym, subst}
 use Rattle.office_desk.specs.Meant.{meaning_over}
 use Rattle.journal_lines.specs.Told.{placed_meant}
 use Rattle.journal_reports.specs.Evidence.{IsEvidence, IsNoEvidence}

@@ -1,4 +1,4 @@
-use Rattle.std.proofs.Common.{arith, ◌≡◌, ◌∙◌, ◌++◌, ◌∷◌, [], Some, ap, sym, subst}
+use Rattle.std.proofs.Common.{arith, ◌∙◌, ◌++◌, ◌∷◌, [], Some, ap, sym, subst}
 use Rattle.office_desk.specs.Meant.{meaning_over}
 use Rattle.journal_lines.specs.Told.{place, placed_meant}
 use Rattle.journal_replay.specs.Rebuilt.{HasReplayed}
@@ -16,7 +16,7 @@ returns-in_err-placed g c = λ bytes es all none.
     let before = c.events.invariant.replayed bytes es all none in
     let refused = c.in_err-placed.field-0.0 in
     left_with m bytes c.args.name.now c.args.number _ c.from_residual.result refused c.from_residual.ensures.1
-    (left_behind m bytes (place g.R.Read.remaining c.events.replay.events) before.0 c.events.replay.office _ refused.line refused.why before.1
+    (left_behind m bytes (place g.R.Read.remaining c.events.replay.events) _ before.0 c.events.replay.office _ refused.line refused.why before.1
     (c.in_err-placed.ensures.next c.events.invariant.fault))
 
 pub returns-in_err-text : goal.returns-in_err-text
@@ -67,7 +67,7 @@ returns g c = λ bytes es all none.
     let here = place g.R.Read.remaining c.events.replay.events in
     let before = c.events.invariant.replayed bytes es all none in
     let same = c.in_ok-placed.ensures.office in
-    never m bytes c.args.name.now c.args.number here before.0 c.next.new.self.office
+    never m bytes c.args.name.now c.args.number here (place g.R.Read.remaining c.next.new.self.events) before.0 c.next.new.self.office
     (subst (λ office. HasReplayed bytes m here before.0 office) (sym same) before.1)
     (rw c.in_default.is at (c.in_ok-placed.ensures.next c.events.invariant.fault))
     (λ clean. before.2 (subst (λ office. m.is_clean office) same clean))

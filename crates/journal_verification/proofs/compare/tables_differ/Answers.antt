@@ -1,12 +1,12 @@
-use Rattle.std.proofs.Common.{get_or, subst}
+use Rattle.std.proofs.Common.{Some, get_or, subst}
 use Rattle.std.specs.List.{AllByRecursion}
 use Rattle.std.proofs.lemmas.List.{take_all}
 use Rattle.sqlite.specs.Held.{state}
 use Rattle.sqlite.proofs.Callers.{unchanged_then}
-use Rattle.journal_verification.specs.Same.{HaveSame}
+use Rattle.journal_verification.specs.Same.{HaveSame, TellsTable}
 use Rattle.journal_verification.specs.declared.table.Table.TheVariants.{Office}
 use Rattle.journal_verification.specs.declared.table.TheConstants.{FURTHER}
-use Rattle.journal_verification.proofs.Looks.{all_six, looked_on, one_more, told_since}
+use Rattle.journal_verification.proofs.Looks.{all_six, first_further, first_of_all, looked_on, one_more, told_since}
 use Rattle.journal_verification.proofs.compare.tables_differ.Goals as goal
 
 pub returns-in_err-row-2-clause-built : goal.returns-in_err-row-2-clause-built
@@ -50,3 +50,23 @@ returns-clause-told g c = λ built office.
     let second = state g.T.Store c.args.office.now in
     all_six g.S.Store g.T.Store first.now second.now (c.loop-table.invariant.first built office)
     (subst (AllByRecursion (λ t. HaveSame g.S.Store g.T.Store t first.now second.now)) (take_all c.loop-table.table-index FURTHER c.loop-table-test.false) (c.loop-table.invariant.further built office))
+
+pub returns-in-Some-clause-told : goal.returns-in-Some-clause-told
+returns-in-Some-clause-told g c = λ built office.
+    let first = state g.S.Store c.args.built.now in
+    let second = state g.T.Store c.args.office.now in
+    first_of_all g.S.Store g.T.Store first.now second.now c.in-Some.row (rw c.in-Some.is at (c.in_ok-row.ensures.told built office))
+
+pub returns-in-Some-2-clause-told : goal.returns-in-Some-2-clause-told
+returns-in-Some-2-clause-told g c = λ built office.
+    let kept = c.loop-table.invariant in
+    let more = c.table_differs-in-loop-table.ensures in
+    let mid = more.built.clean built in
+    let middle = more.office.clean office in
+    let first = state g.S.Store c.args.built.now in
+    let second = state g.T.Store c.args.office.now in
+    let row = c.in-Some-2.row in
+    let new = rw c.in-Some-2.is at (c.in_ok-row-2.ensures.told built office) in
+    first_further g.S.Store g.T.Store first.now second.now c.loop-table.table-index Office row c.loop-table-test.true (kept.first mid middle) (kept.further mid middle)
+    (told_since g.S.Store g.T.Store (state g.S.Store c.loop-table.built).now (state g.T.Store c.loop-table.office).now first.now second.now (kept.unchanged mid).0.now_is (kept.same middle).0.now_is
+    (λ a b. TellsTable g.S.Store g.T.Store (get_or FURTHER c.loop-table.table-index Office) a b (Some row)) new)

@@ -5,38 +5,42 @@ use Rattle.sqlite_trees.specs.declared.memory.MemStore.{MemStore}
 use Rattle.office_policy.specs.TablesOf.{tables_of}
 use Rattle.journal_verification.specs.Compared.{Differs}
 use Rattle.journal_verification.proofs.Faults.{failed_office}
-use Rattle.journal_verification.proofs.Verifying.{memory_is_clean, other, refuted, still_shows, verified}
+use Rattle.journal_verification.proofs.Verifying.{memory_is_clean, not_rebuilt, other, still_shows, verified}
 use Rattle.journal_verification.proofs.verification.verify.Goals as goal
 
 pub returns-in-Ok-None-clause-verified : goal.returns-in-Ok-None-clause-verified
 returns-in-Ok-None-clause-verified g c clean =
     let bytes = g.R.Read.remaining c.args.journal in
-    let built = c.in-Ok-rebuild.built in
+    let anew = c.in-Ok-rebuild.rebuilt in
     let rebuilt = c.in-Ok-rebuild.ensures.rebuilt in
     let t = tables_of rebuilt.history in
-    let shows = still_shows bytes built c.in-Ok-rebuild.count rebuilt c.into_connection-built.result c.into_connection-built.ensures.connection in
-    verified bytes built c.in-Ok-rebuild.count rebuilt g.T.Store c.compare.new.office c.compare.ensures.office.idle (g.met.T.Store.settled c.compare.new.office.store)
+    let shows = still_shows bytes anew.office anew.events anew.seal rebuilt c.into_connection-built.result c.into_connection-built.ensures.connection in
+    verified bytes anew.office anew.events anew.seal rebuilt g.T.Store c.compare.new.office c.compare.ensures.office.idle (g.met.T.Store.settled c.compare.new.office.store)
     (rw c.in-Ok-None.field-0-is at (c.in-Ok-None.ensures.told t shows (memory_is_clean c.compare.new.built) clean))
 
 pub returns-in-Ok-Some-clause-unverified : goal.returns-in-Ok-Some-clause-unverified
 returns-in-Ok-Some-clause-unverified g c clean =
     let bytes = g.R.Read.remaining c.args.journal in
-    let built = c.in-Ok-rebuild.built in
+    let anew = c.in-Ok-rebuild.rebuilt in
     let rebuilt = c.in-Ok-rebuild.ensures.rebuilt in
     let t = tables_of rebuilt.history in
-    let shows = still_shows bytes built c.in-Ok-rebuild.count rebuilt c.into_connection-built.result c.into_connection-built.ensures.connection in
-    other bytes built c.in-Ok-rebuild.count rebuilt g.T.Store c.args.office.now c.in-Ok-Some.difference
+    let shows = still_shows bytes anew.office anew.events anew.seal rebuilt c.into_connection-built.result c.into_connection-built.ensures.connection in
+    other bytes anew.office anew.events anew.seal rebuilt g.T.Store c.args.office.now c.in-Ok-Some.difference
     (subst (λ (b : Held MemStore). Differs over_memory g.T.Store b c.args.office.now c.in-Ok-Some.difference) c.into_connection-built.ensures.connection
     (rw c.in-Ok-Some.field-0-is at (c.in-Ok-Some.ensures.told t shows (memory_is_clean c.compare.new.built) clean)))
 
 pub returns-clause-unverified : goal.returns-clause-unverified
-returns-clause-unverified g c clean = refuted (g.R.Read.remaining c.args.journal) _ (memory_is_clean c.in-Err.field-0-1) c.in-Err.refused.why c.in-Err.ensures.unlawful
+returns-clause-unverified g c clean =
+    let fresh = c.in-Ok.ensures.fresh in
+    not_rebuilt (g.R.Read.remaining c.args.journal) c.in-Ok.conn c.in-Err.field-0-1 c.in-Err.refused (record { autocommit = fresh.autocommit; unlimited = fresh.unlimited }) c.in-Ok.ensures.empty
+    c.in-Err.ensures.rebuilt c.in-Err.ensures.unlawful
 
 pub returns-in-Ok-rebuild-clause-unverified : goal.returns-in-Ok-rebuild-clause-unverified
 returns-in-Ok-rebuild-clause-unverified g c clean =
+    let anew = c.in-Ok-rebuild.rebuilt in
     let rebuilt = c.in-Ok-rebuild.ensures.rebuilt in
     let conn = c.into_connection-built.result in
-    let shows = still_shows (g.R.Read.remaining c.args.journal) c.in-Ok-rebuild.built c.in-Ok-rebuild.count rebuilt conn c.into_connection-built.ensures.connection in
+    let shows = still_shows (g.R.Read.remaining c.args.journal) anew.office anew.events anew.seal rebuilt conn c.into_connection-built.ensures.connection in
     let t = tables_of rebuilt.history in
     failed_office conn c.compare.new.built t shows (state g.T.Store c.args.office.now) (state g.T.Store c.compare.new.office) c.in-Err-compare.fault
     (c.in-Err-compare.ensures.cause t shows (memory_is_clean c.compare.new.built) clean)

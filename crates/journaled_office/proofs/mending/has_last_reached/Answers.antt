@@ -19,9 +19,9 @@ returns-clause-asks g c =
           (subst (λ (t : List ℕ). LooksFor m mid w.is_missing.new.office t (Ok w.in_ok-is_missing.field-0)) w.deref-then-not-reached.ensures.value w.in_ok-is_missing.ensures.looks) in
           subst (λ b. IsAskedLast m old c.else-not-reached.office last b) (sym no)
           (subst (λ x. IsAskedLast m old x last false) (sym w.office-is)
-          (is_last m old mid w.is_missing.new.office last c.has_reached.ensures.leaves (subst (IsAsked m old mid last.text.items) no asked) w.is_missing.ensures.leaves looks))
+          (is_last m old mid w.is_missing.new.office last c.has_reached.ensures.leaves (subst (IsAsked m old mid last.last.items) no asked) w.is_missing.ensures.leaves looks))
       | else-not-reached-via-else-not-reached w ↦
           let yes : c.in_ok-reached.reached ≡ true = w.if-not-reached.false in
           subst (λ b. IsAskedLast m old c.else-not-reached.office last b) (sym yes)
-          (subst (λ x. IsAskedLast m old x last true) (sym w.office-is) (is_reached m old mid last (subst (IsAsked m old mid last.text.items) yes asked)))
+          (subst (λ x. IsAskedLast m old x last true) (sym w.office-is) (is_reached m old mid last (subst (IsAsked m old mid last.last.items) yes asked)))
     ]

@@ -1,16 +1,17 @@
+use Rattle.std.proofs.Common.{Ok, subst, sym}
 use Rattle.office_commands.proofs.kept.opened_with.Goals as goal
 
-pub returns-in-Err-reopen-clause-none : goal.returns-in-Err-reopen-clause-none
-returns-in-Err-reopen-clause-none g c =
-    let it = c.in-Err-reopen.ensures in (
-      c.in-Ok.journal,
-      c.in-Ok.ensures.opened,
-      record {
-        leaves = it.back;
-        no_line = λ known same. it.no_line known same;
-        line = λ known h lawful left. it.line known h lawful left;
-        other = λ known h of clean same. it.other known h of clean same;
-        own = λ known h of left clean. it.own known h of left clean;
-        cause = λ h of clean. it.cause h of clean;
-      },
-    )
+pub returns-in-Ok-reopen-clause-opened : goal.returns-in-Ok-reopen-clause-opened
+returns-in-Ok-reopen-clause-opened g c = record {
+  log = c.new.result;
+  found = subst (λ d. g.J.Journals.opens c.args.journals.now c.args.path.now (Ok d)) (sym c.new.ensures.disk) c.in-Ok.ensures.opened;
+  again = c.in-Ok-reopen.ensures.opened;
+}
+
+pub returns-clause-none : goal.returns-clause-none
+returns-clause-none g c = (
+  c.new.result,
+  _,
+  subst (λ d. g.J.Journals.opens c.args.journals.now c.args.path.now (Ok d)) (sym c.new.ensures.disk) c.in-Ok.ensures.opened,
+  c.in-Err-reopen.ensures.back,
+)

@@ -23,7 +23,7 @@ returns-in-Err-default-clause-failed g c =
       old,
       c.migrate-migrated.new.conn,
       c.in-Ok.ensures.opened,
-      λ clean. subst (λ r. IfErr r (FailsToMigrate g.S.Store old)) c.in-Err-default.is-0 (c.migrate-migrated.ensures.cause clean),
+      λ clean. subst (λ r. IfErr r (FailsToMigrate g.S.Store old c.migrate-migrated.new.conn)) c.in-Err-default.is-0 (c.migrate-migrated.ensures.cause clean),
       (c.close-closed.result, c.close-closed.ensures.ended),
     )
 

@@ -1,4 +1,4 @@
-use Rattle.std.proofs.Common.{rules, refl, sym}
+use Rattle.std.proofs.Common.{rules, sym}
 use Rattle.office_commands.proofs.FailingFacts.{execve_cut, failed_by}
 use Rattle.office_commands.proofs.run.run_execve.Goals as goal
 

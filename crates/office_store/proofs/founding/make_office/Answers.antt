@@ -1,9 +1,10 @@
-use Rattle.std.proofs.Common.{SFits, w64, [], ◌∷◌, ◌≡◌, sym, ◌∙◌, ap, rules, arith}
+use Rattle.std.proofs.Common.{SFits, w64, inl, inr, [], ◌∷◌, ◌≡◌, sym, ◌∙◌, ap, subst, rules, arith}
 use Rattle.std.proofs.lemmas.Int.{to_z-of_z}
 use Rattle.sqlite.specs.Values.{bound_value}
 use Rattle.sqlite.specs.declared.types.Value.{Value}
 use Rattle.sqlite.specs.declared.types.Value.TheVariants.{Int}
 use Rattle.sqlite.specs.Held.{state}
+use Rattle.office_rows.specs.Causes.{HasFailed}
 use Rattle.office_rows.specs.Statements.{begun}
 use Rattle.sqlite.specs.Effect.{Database}
 use Rattle.sqlite.proofs.StateLemmas.{survives_weaker}
@@ -11,7 +12,7 @@ use Rattle.office_tables.specs.declared.fault.StoreFault.TheVariants.{NotAnOffic
 use Rattle.office_tables.specs.Changes.{founded_tables}
 use Rattle.office_store.proofs.Committed.{trees_of}
 use Rattle.office_store.specs.Founding.{first_user}
-use Rattle.office_store.proofs.FoundingSteps.{all_founded, none_founded, failed_given}
+use Rattle.office_store.proofs.FoundingSteps.{all_founded, none_founded, failed_given, refused_given}
 use Rattle.office_store.proofs.founding.make_office.Goals as goal
 
 pub returns-in-Ok-clause-founded : goal.returns-in-Ok-clause-founded
@@ -37,11 +38,26 @@ returns-in-Err-clause-formed g c clean same =
     (none_founded g.S.Store (record { name = c.args.name.now; team = c.args.team.now; roles = 1; digest = c.args.digest.now }) c.args.listed c.bits_of-bits.ensures.small (record { name = c.as_str-name.ensures.formed; team = c.as_str-team.ensures.formed; roles = omega arith; digest = c.bytes_of-digest.ensures.long }) c.args.conn.now c.requires.empty _ _ _ c.in-Err.error it (search rules) (let fits : SFits w64 c.bits_of-bits.result = search rules in ap (λ (v : Value). bound_value v ∷ []) (c.params-to_sql.ensures ∙ ap Int (to_z-of_z w64 c.bits_of-bits.result fits ∙ c.bits_of-bits.ensures.value))) (rw (c.params-to_sql-2.ensures, c.params-to_sql-3.ensures, c.params-to_sql-4.ensures, c.params-to_sql-5.ensures, c.as_str-name.ensures.text, c.as_str-team.ensures.text, c.bytes_of-digest.ensures.same))).0 (sym c.fault_of_error.ensures ∙ k)
 
 pub returns-in-Err-clause-cause : goal.returns-in-Err-clause-cause
-returns-in-Err-clause-cause g c clean = record {
-  error = c.in-Err.error;
-  failed = failed_given g.S.Store (first_user c.args.name.now c.args.team.now c.args.digest.now) c.args.listed (begun c.args.conn.now) _ _ _ c.in-Err.error (c.in-Err.ensures.cause clean) (search rules) (let fits : SFits w64 c.bits_of-bits.result = search rules in ap (λ (v : Value). bound_value v ∷ []) (c.params-to_sql.ensures ∙ ap Int (to_z-of_z w64 c.bits_of-bits.result fits ∙ c.bits_of-bits.ensures.value))) (rw (c.params-to_sql-2.ensures, c.params-to_sql-3.ensures, c.params-to_sql-4.ensures, c.params-to_sql-5.ensures, c.as_str-name.ensures.text, c.as_str-team.ensures.text, c.bytes_of-digest.ensures.same));
-  fault = c.fault_of_error.ensures;
-}
+returns-in-Err-clause-cause g c clean =
+    let old = c.args.conn.now in
+    let new = c.run_founding.new.conn in
+    let user = first_user c.args.name.now c.args.team.now c.args.digest.now in
+    let fault = c.fault_of_error.ensures in
+    record {
+      cause = record {
+        error = c.in-Err.error;
+        failed = failed_given g.S.Store user c.args.listed (begun old) _ _ _ c.in-Err.error (c.in-Err.ensures.cause clean) (search rules) (let fits : SFits w64 c.bits_of-bits.result = search rules in ap (λ (v : Value). bound_value v ∷ []) (c.params-to_sql.ensures ∙ ap Int (to_z-of_z w64 c.bits_of-bits.result fits ∙ c.bits_of-bits.ensures.value))) (rw (c.params-to_sql-2.ensures, c.params-to_sql-3.ensures, c.params-to_sql-4.ensures, c.params-to_sql-5.ensures, c.as_str-name.ensures.text, c.as_str-team.ensures.text, c.bytes_of-digest.ensures.same));
+        fault = fault;
+      };
+      met = elim (c.in-Err.ensures.met clean) [
+        | inl failed ↦ inl (subst (HasFailed (state g.S.Store old) (state g.S.Store new)) (sym fault) failed)
+        | inr refused ↦ inr (record {
+          error = c.in-Err.error;
+          refused = refused_given g.S.Store user c.args.listed (begun old) _ _ _ c.in-Err.error refused (search rules) (let fits : SFits w64 c.bits_of-bits.result = search rules in ap (λ (v : Value). bound_value v ∷ []) (c.params-to_sql.ensures ∙ ap Int (to_z-of_z w64 c.bits_of-bits.result fits ∙ c.bits_of-bits.ensures.value))) (rw (c.params-to_sql-2.ensures, c.params-to_sql-3.ensures, c.params-to_sql-4.ensures, c.params-to_sql-5.ensures, c.as_str-name.ensures.text, c.as_str-team.ensures.text, c.bytes_of-digest.ensures.same));
+          fault = fault;
+        })
+      ];
+    }
 
 pub returns-in-Err-clause-same : goal.returns-in-Err-clause-same
 returns-in-Err-clause-same g c settled clean is_open =

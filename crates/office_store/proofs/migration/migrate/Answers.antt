@@ -32,7 +32,7 @@ returns-in-Err-clause-already g c t shows clean = (
 pub returns-in-Err-clause-cause : goal.returns-in-Err-clause-cause
 returns-in-Err-clause-cause g c clean =
     let tables : has_old_tables (state g.S.Store c.args.conn.now).now.schema ≡ true = search rules in
-    inr (inl (tables, c.office_number.new.conn, c.in-Err.ensures.told clean))
+    inr (inl (tables, c.in-Err.ensures.told clean))
 
 pub returns-then-not-form-clause-already : goal.returns-then-not-form-clause-already
 returns-then-not-form-clause-already g c t shows clean = (tt, (λ e. cc), c.office_number.ensures.read.shown t (λ _. shows) clean)
@@ -41,7 +41,6 @@ pub returns-then-not-form-clause-cause : goal.returns-then-not-form-clause-cause
 returns-then-not-form-clause-cause g c clean =
     let tables : has_old_tables (state g.S.Store c.args.conn.now).now.schema ≡ true = search rules in
     let number : c.in-Ok.form.is_old ≡ false = search rules in (
-      c.office_number.new.conn,
       c.in-Ok.form.listed,
       finds_form (state g.S.Store c.args.conn.now) (state g.S.Store c.office_number.new.conn) c.in-Ok.form (new_form c.in-Ok.form.listed) tables c.in-Ok.ensures.caps (λ i. record { is_old = number i; listed = c.in-Ok.form.listed }) (c.in-Ok.ensures.told clean),
     )
@@ -72,12 +71,13 @@ returns-in-Err-move_office-clause-cause g c clean =
     let number : c.in-Ok.form.is_old ≡ true = search rules in
     let before = c.move_office.ensures.migration.clean clean in
     inr
-    (inr (
-      c.office_number.new.conn,
-      c.in-Ok.form.listed,
-      finds_form (state g.S.Store c.args.conn.now) (state g.S.Store c.office_number.new.conn) c.in-Ok.form (old_form c.in-Ok.form.listed) tables c.in-Ok.ensures.caps (λ i. record { is_old = number i; listed = c.in-Ok.form.listed }) (c.in-Ok.ensures.told before),
-      c.in-Err-move_office.ensures.cause clean,
-    ))
+    (inr (record {
+      mid = c.office_number.new.conn;
+      listed = c.in-Ok.form.listed;
+      found = finds_form (state g.S.Store c.args.conn.now) (state g.S.Store c.office_number.new.conn) c.in-Ok.form (old_form c.in-Ok.form.listed) tables c.in-Ok.ensures.caps (λ i. record { is_old = number i; listed = c.in-Ok.form.listed }) (c.in-Ok.ensures.told before);
+      counts = c.office_number.ensures.read.leaves.survives.counts;
+      met = c.in-Err-move_office.ensures.cause clean;
+    }))
 
 pub returns-in-Err-clause-old : goal.returns-in-Err-clause-old
 returns-in-Err-clause-old g c t shows clean = ((λ e. cc), (λ e. (c.in-Err.ensures.old t (λ _. shows) clean).1 (let k : c.in-Err.fault ≡ NotAnOffice = cc in ap Err k)))

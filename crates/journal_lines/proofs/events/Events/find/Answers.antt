@@ -1,5 +1,5 @@
 use Rattle.std.proofs.Common.{◌∙◌}
-use Rattle.journal_lines.proofs.ToldFacts.{goes_further, input_stops}
+use Rattle.journal_lines.proofs.ToldFacts.{goes_further, input_leaves, input_stops, leaves_further, left_further}
 use Rattle.journal_lines.proofs.events.Events.find.Goals as goal
 
 pub returns-in-Stands-clause-told : goal.returns-in-Stands-clause-told
@@ -11,4 +11,11 @@ loop-self-preserved g c =
     record { told = goes_further _ _ _ _ c.loop-self.invariant.told passed.0; fault = c.in_ok-placed.ensures.fault ∙ c.loop-self.invariant.fault }
 
 pub returns-clause-told : goal.returns-clause-told
-returns-clause-told g c = c.loop-self.invariant.told.stops _ _ (input_stops _ _ _)
+returns-clause-told g c = c.loop-self.invariant.told.stops _ _ (input_stops _ _ _ _)
+
+pub returns-in_err-placed-clause-leaves : goal.returns-in_err-placed-clause-leaves
+returns-in_err-placed-clause-leaves g c =
+    left_further _ _ _ _ _ c.from_residual.ensures.1 c.loop-self.invariant.told c.in_err-placed.ensures.leaves
+
+pub returns-clause-leaves : goal.returns-clause-leaves
+returns-clause-leaves g c = leaves_further _ _ _ _ c.loop-self.invariant.told (input_leaves _)

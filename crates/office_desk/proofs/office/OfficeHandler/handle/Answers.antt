@@ -8,3 +8,6 @@ returns-in-Ok g c = c.in-Ok.ensures.handled c.args.self.now c.in-Allowed.ensures
 
 pub returns-in-Err : goal.returns-in-Err
 returns-in-Err g c = c.in-Err.ensures.handled c.args.self.now c.in-Allowed.ensures
+
+pub carry_out-requires : goal.carry_out-requires
+carry_out-requires g c = (c.args.self.now, c.in-Allowed.ensures)

@@ -1,28 +1,40 @@
 use Rattle.std.proofs.Common.{◌∙◌, sym, subst}
-use Rattle.office_journal.specs.Events.{IsLineOf}
+use Rattle.office_journal.specs.Events.{IsTextOf}
 use Rattle.office_journal.specs.Journals.{with_office}
-use Rattle.office_journal.proofs.Carried.{done, no_line, not_appended, taken_back}
+use Rattle.office_journal.proofs.Carried.{done, never_both, no_body, no_line, not_appended, taken_back}
 use Rattle.office_journal.proofs.journaled.Journaled.do_allowed.Goals as goal
 
 pub returns-in_default : goal.returns-in_default
 returns-in_default g c = λ before goes permitted.
     no_line g.O.Handler.meaning g.J.Journal.writing (with_office c.args.self.now before) goes c.args.request.now c.args.allowed.now c.args.self.now.office permitted
 
+pub returns-then-not-is_body : goal.returns-then-not-is_body
+returns-then-not-is_body g c = λ before goes permitted.
+    no_body g.O.Handler.meaning g.J.Journal.writing (with_office c.args.self.now before) goes c.args.request.now c.args.allowed.now c.args.self.now.office permitted c.as_bytes.result.now
+    (subst (IsTextOf c.args.request.now.ask c.args.allowed.now) (sym (c.as_bytes.ensures.value ∙ c.as_str.ensures.value)) c.in-Ok.ensures)
+    (λ is. never_both c.is_body.result (c.is_body.ensures.1 is) c.if-not-is_body.true)
+
 pub returns-in-Ok-carry_out : goal.returns-in-Ok-carry_out
 returns-in-Ok-carry_out g c = λ before goes permitted.
-    done g.O.Handler.meaning g.J.Journal.writing (with_office c.args.self.now before) goes c.args.request.now c.args.allowed.now c.args.self.now.office permitted c.as_bytes.result.now
-    (subst (IsLineOf c.args.request.now.ask c.args.allowed.now) (sym (c.as_bytes.ensures.value ∙ c.as_str.ensures.value)) c.in-Ok.ensures)
+    done g.O.Handler.meaning g.J.Journal.writing (with_office c.args.self.now before) goes c.args.request.now c.args.allowed.now c.args.self.now.office permitted c.as_bytes-2.result.now
+    (subst (IsTextOf c.args.request.now.ask c.args.allowed.now) (sym (c.as_bytes-2.ensures.value ∙ c.as_str-2.ensures.value)) c.in-Ok.ensures)
     c.append.new.self c.in-Ok-append.ensures c.carry_out.new.self c.in-Ok-carry_out.ensures.survives.clean (c.in-Ok-carry_out.ensures.handled before permitted)
 
 pub returns-in-Ok-append : goal.returns-in-Ok-append
 returns-in-Ok-append g c = λ before goes permitted.
-    taken_back g.O.Handler.meaning g.J.Journal.writing (with_office c.args.self.now before) goes c.args.request.now c.args.allowed.now c.args.self.now.office permitted c.as_bytes.result.now
-    (subst (IsLineOf c.args.request.now.ask c.args.allowed.now) (sym (c.as_bytes.ensures.value ∙ c.as_str.ensures.value)) c.in-Ok.ensures)
+    taken_back g.O.Handler.meaning g.J.Journal.writing (with_office c.args.self.now before) goes c.args.request.now c.args.allowed.now c.args.self.now.office permitted c.as_bytes-2.result.now
+    (subst (IsTextOf c.args.request.now.ask c.args.allowed.now) (sym (c.as_bytes-2.ensures.value ∙ c.as_str-2.ensures.value)) c.in-Ok.ensures)
     c.append.new.self c.in-Ok-append.ensures c.carry_out.new.self c.in-Err-carry_out.ensures.survives.clean c.in-Err-carry_out.fault (c.in-Err-carry_out.ensures.handled before permitted)
     c.strike_out.new.self c.strike_out.ensures
 
 pub returns : goal.returns
 returns g c = λ before goes permitted.
-    not_appended g.O.Handler.meaning g.J.Journal.writing (with_office c.args.self.now before) goes c.args.request.now c.args.allowed.now c.args.self.now.office permitted c.as_bytes.result.now
-    (subst (IsLineOf c.args.request.now.ask c.args.allowed.now) (sym (c.as_bytes.ensures.value ∙ c.as_str.ensures.value)) c.in-Ok.ensures)
+    not_appended g.O.Handler.meaning g.J.Journal.writing (with_office c.args.self.now before) goes c.args.request.now c.args.allowed.now c.args.self.now.office permitted c.as_bytes-2.result.now
+    (subst (IsTextOf c.args.request.now.ask c.args.allowed.now) (sym (c.as_bytes-2.ensures.value ∙ c.as_str-2.ensures.value)) c.in-Ok.ensures)
     c.append.new.self c.in-Err.fault c.in-Err.ensures
+
+pub text_of_allowed-requires : goal.text_of_allowed-requires
+text_of_allowed-requires g c = c.requires.1.event
+
+pub carry_out-requires : goal.carry_out-requires
+carry_out-requires g c = c.requires

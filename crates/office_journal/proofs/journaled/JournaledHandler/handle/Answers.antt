@@ -14,3 +14,6 @@ returns-in-Ok g c =
 pub returns-in-Err : goal.returns-in-Err
 returns-in-Err g c =
     c.in-Err.ensures c.args.self.now.office (sym c.goes_on.ensures ∙ c.if-not-goes_on.false) c.in-Allowed.ensures
+
+pub do_allowed-requires : goal.do_allowed-requires
+do_allowed-requires g c = (c.args.self.now.office, c.in-Allowed.ensures)

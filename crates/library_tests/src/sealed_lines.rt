@@ -1,0 +1,130 @@
+//! Sealed lines of a stream: where they are as long as a line can be, where one never ends, and the
+//! seal at a line.
+
+use sealed_log::{NoBody, is_body, no_seal, read_body, seal, seal_at};
+use std::alloc::{AllocError, Global};
+use std::io;
+use std::io::{BufReader, Read};
+use std::process::Abort;
+use std::test::Fail;
+
+// How many bytes a line has at most, and the longest body, with its line feed and without.
+const LONGEST: usize = 2_097_152;
+
+const LONGEST_BODY: usize = 2_097_068;
+
+// A line that never ends, by a reader that counts what it gave.
+#[derive(Drop)]
+struct Endless {
+    given: usize,
+}
+
+impl Read for Endless {
+    fn read(&mut self, buf: &mut [u8]) -> io::Result<usize> {
+        buf.fill(b'x');
+        self.given = self.given.saturating_add(buf.len());
+        Ok(buf.len())
+    }
+}
+
+#[test]
+fn a_line_that_never_ends_is_read_no_further_than_a_line_can_be(
+    rt: HostRuntime,
+) -> Result<(), Fail> {
+    let alloc = rt.alloc();
+    let mut input = BufReader::with_capacity(alloc, 1000, Endless { given: 0 })?;
+    let mut last = no_seal();
+    let mut body = Vec::new(alloc);
+    let read = read_body(alloc, &mut input, &mut last, &mut body);
+    assert_eq!(rt; read, Err(NoBody::TooLong));
+    // So many, and what was read ahead.
+    assert_eq!(rt; input.get_ref().given, 2_098_000);
+    Ok(())
+}
+
+// A JSON text of so many bytes.
+fn text_of(alloc: Global, len: usize) -> Result<String, AllocError> {
+    let letters = "a".repeat(alloc, len.saturating_sub(2))?;
+    format!(in alloc; "\"{letters}\"")
+}
+
+// The line of a body with these digits for its seal.
+fn line_of(alloc: Global, body: &str, digits: &str) -> Result<String, AllocError> {
+    format!(in alloc; "{{\"line\":{body},\"seal\":\"{digits}\"}}\n")
+}
+
+// What is read of a line of a body of so many bytes, and its seal, which has these digits.
+fn assert_read(
+    rt: &impl Abort,
+    alloc: Global,
+    len: usize,
+    digits: &str,
+    wanted: Result<bool, NoBody>,
+) -> Result<(), Fail> {
+    let text = text_of(alloc, len)?;
+    let line = line_of(alloc, text.as_str(), digits)?;
+    let mut input = line.as_str().as_bytes();
+    let mut last = no_seal();
+    let mut body = Vec::new(alloc);
+    assert_eq!(rt;
+        seal(&last, text.as_str().as_bytes()).as_slice(),
+        digits.as_bytes()
+    );
+    assert_eq!(rt; is_body(text.as_str().as_bytes()), wanted.is_ok());
+    assert_eq!(rt; read_body(alloc, &mut input, &mut last, &mut body), wanted);
+    Ok(())
+}
+
+// The seals are those that Python's hashlib makes.
+#[test]
+fn a_line_of_2097152_bytes_is_read_and_none_longer(rt: HostRuntime) -> Result<(), Fail> {
+    let alloc = rt.alloc();
+    let fits = "ddfd97e0814e01cbda62c1f2474b4ab1340843a71d46d4d79a7a4f045ad79cec";
+    assert_eq!(rt; LONGEST_BODY + 84, LONGEST);
+    assert_read(&rt, alloc, LONGEST_BODY, fits, Ok(true))?;
+    let longer = "451360a20653d79cb3495aa06a9e6ab70621d22a818875bfde85146742f372ea";
+    assert_read(&rt, alloc, LONGEST_BODY + 1, longer, Err(NoBody::TooLong))
+}
+
+const ONE: &str = "1c22783921fcbb8eba8ed8d23f46ae0be13518bff5f204b0649aaa8e5e7bc49f";
+
+const TWO: &str = "fbce8a12d9cc5cab3fbf8ad5e07e177fdcb89764c23895aacd98f17001d23927";
+
+// What is found as the seal of so many lines: its digits, that there are fewer, or why not.
+fn found(alloc: Global, text: &str, lines: u64) -> Result<String, AllocError> {
+    let mut input = text.as_bytes();
+    match seal_at(alloc, &mut input, lines) {
+        Ok(Some(seal)) => String::from_utf8_lossy(alloc, &seal),
+        Ok(None) => String::from_str(alloc, "fewer"),
+        Err(why) => format!(in alloc; "{why}"),
+    }
+}
+
+#[test]
+fn the_seal_at_a_line_is_that_of_the_lines_down_to_it(rt: HostRuntime) -> Result<(), Fail> {
+    let alloc = rt.alloc();
+    let first = line_of(alloc, "\"one\"", ONE)?;
+    let second = line_of(alloc, "\"two\"", TWO)?;
+    let both = format!(in alloc; "{first}{second}")?;
+    let torn = format!(in alloc; "{both}{{\"line\":")?;
+    let other = format!(in alloc; "{first}{first}")?;
+    for (text, lines, wanted) in [
+        (both.as_str(), 1, ONE),
+        (both.as_str(), 2, TWO),
+        (both.as_str(), 3, "fewer"),
+        (both.as_str(), u64::MAX, "fewer"),
+        ("", 1, "fewer"),
+        (torn.as_str(), 2, TWO),
+        (torn.as_str(), 3, "torn-line"),
+        (other.as_str(), 1, ONE),
+        (other.as_str(), 2, "unsealed"),
+        (second.as_str(), 1, "unsealed"),
+    ] {
+        assert_eq!(rt;
+            found(alloc, text, lines)?.as_str(),
+            wanted,
+            "{lines}: {text}"
+        );
+    }
+    Ok(())
+}

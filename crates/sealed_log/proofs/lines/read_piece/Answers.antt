@@ -1,0 +1,26 @@
+use Rattle.std.proofs.Common.{List, ℕ, ◌≡◌, ◌+◌, sym, subst, arith, length}
+use Rattle.sqlite_disk.specs.Disk.{Holds}
+use Rattle.sealed_log.specs.Lines.{IsLine, IsPart}
+use Rattle.sealed_log.proofs.LineFacts.{part_more, part_whole}
+use Rattle.sealed_log.proofs.lines.read_piece.Goals as goal
+
+pub returns-in_ok-extend_from_slice-in-Some-clause-more :
+    goal.returns-in_ok-extend_from_slice-in-Some-clause-more
+returns-in_ok-extend_from_slice-in-Some-clause-more g c = λ clean part.
+    let seen = g.D.Disk.seen c.args.disk.now in
+    let line = c.args.line.now.items in
+    let there : c.args.at + c.len.result ≡ c.args.at + length line = omega arith in
+    let holds = subst (λ at. Holds seen at c.read_at.new.buf) there (c.in_ok-read_at.ensures.read clean c.requires.some) in
+    let found = c.in-Some.ensures in
+    subst (IsLine seen c.args.at) (sym {A = List ℕ} c.in_ok-extend_from_slice-in-Some.ensures.items)
+    (part_whole seen line c.read_at.new.buf c.args.at c.in-Some.n part holds found.0 found.1 found.2)
+
+pub returns-in_ok-extend_from_slice-in-None-clause-more :
+    goal.returns-in_ok-extend_from_slice-in-None-clause-more
+returns-in_ok-extend_from_slice-in-None-clause-more g c = λ clean part.
+    let seen = g.D.Disk.seen c.args.disk.now in
+    let line = c.args.line.now.items in
+    let there : c.args.at + c.len.result ≡ c.args.at + length line = omega arith in
+    let holds = subst (λ at. Holds seen at c.read_at.new.buf) there (c.in_ok-read_at.ensures.read clean c.requires.some) in
+    subst (IsPart seen c.args.at) (sym {A = List ℕ} c.in_ok-extend_from_slice-in-None.ensures.items)
+    (part_more seen line c.read_at.new.buf c.args.at part holds c.in-None.ensures)

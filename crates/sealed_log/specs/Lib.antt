@@ -1,0 +1,10 @@
+pub mod Sealed
+pub mod Told
+pub mod Whole
+pub mod Disks
+pub mod Lines
+pub mod Reading
+pub mod Log
+pub mod Names
+pub mod Input
+pub mod At

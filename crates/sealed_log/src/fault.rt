@@ -1,0 +1,40 @@
+ghost use Rattle.std.specs.Prelude.{◌≡◌};
+ghost use Rattle.sealed_log.specs.declared.fault.LogFault.TheVariants.{Memory};
+
+use std::alloc::{AllocError, AllocFailed};
+use std::io;
+use thiserror::Error;
+
+/// Why a log can't be read or written.
+#[derive(Clone, Copy, Debug, Drop, PartialEq, Eq, Error)]
+pub enum LogFault {
+    /// There was no memory. No contract can say when.
+    #[error("memory")]
+    Memory,
+    /// The disk failed, or an earlier failure shut the log.
+    #[error("disk")]
+    Disk,
+    /// The disk has no room.
+    #[error("full")]
+    Full,
+}
+
+impl From<AllocError> for LogFault {
+    ghost from_gives = { λ _ fault. fault ≡ Memory };
+
+    fn from(_error: AllocError) -> LogFault {
+        LogFault::Memory
+    }
+}
+
+impl From<io::Error> for LogFault {
+    fn from(error: io::Error) -> LogFault {
+        match error.kind() {
+            io::ErrorKind::OutOfMemory => LogFault::Memory,
+            io::ErrorKind::StorageFull
+            | io::ErrorKind::QuotaExceeded
+            | io::ErrorKind::FileTooLarge => LogFault::Full,
+            _ => LogFault::Disk,
+        }
+    }
+}

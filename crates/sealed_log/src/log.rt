@@ -1,0 +1,165 @@
+//! A log whose lines are sealed.
+
+ghost use Rattle.std.specs.Prelude.{◌≡◌, true, IsTrue};
+ghost use Rattle.sqlite_disk.specs.Disk.{Only};
+ghost use Rattle.sealed_log.specs.Whole.{IsWhole};
+
+use crate::fault::LogFault;
+use crate::read::read_through;
+use crate::seals::{self, Seal, line_of, seal};
+use crate::through::Through;
+use crate::written::{Written, add_line, cut};
+use sqlite_disk::Disk;
+use std::alloc::Global;
+
+/// A log in a file. It is open while the file has just the lines that were put into it, each sealed,
+/// and a crash leaves them.
+#[derive(Drop)]
+pub struct SealedLog<D: Disk> {
+    disk: D,
+    // How many bytes the file has, up to the greatest usize, and its seal.
+    end: usize,
+    seal: Seal,
+    is_open: bool,
+    ghost usable: { is_open ≡ true → IsTrue (D.is_usable disk) },
+    ghost settled: { is_open ≡ true → Only (D.seen disk) (D.may_leave disk) },
+    ghost whole: { is_open ≡ true → IsTrue (D.is_clean disk)
+        → IsWhole (D.seen disk) end seal },
+}
+
+impl<D: Disk> SealedLog<D> {
+    ghost use Rattle.std.specs.Prelude.{◌≡◌, ◌⊎◌, ◌≤◌, ◌+◌, ℕ, List, length, true, false};
+    ghost use Rattle.std.specs.Prelude.{IsTrue, IfErr, IfOk, OnErr, OnOk};
+    ghost use Rattle.sqlite_disk.specs.Disk.{Only, MoreFaults};
+    ghost use Rattle.sealed_log.specs.Sealed.{IsBody, sealed_text, sealed_line, seal_of};
+    ghost use Rattle.sealed_log.specs.Disks.{HasFailedTwice, LeavesTail};
+    ghost use Rattle.sealed_log.specs.Log.{IsAppended, IsMet, bodies_of};
+    ghost use Rattle.sealed_log.specs.Reading.{IsThrough};
+
+    /// A log in a file, still to be opened.
+    pub fn new(disk: D) -> SealedLog<D>
+        ensures disk { result.disk ≡ disk }
+        ensures shut { result.is_open ≡ false }
+    {
+        SealedLog {
+            disk,
+            end: 0,
+            seal: seals::no_seal(),
+            is_open: false,
+        }
+    }
+
+    /// The file.
+    pub fn into_disk(self) -> D
+        ensures { result ≡ self.disk }
+    {
+        let SealedLog { disk, .. } = self;
+        disk
+    }
+
+    /// Whether it can be written to.
+    pub fn is_open(&self) -> bool
+        ensures { result ≡ self.now.is_open }
+    {
+        self.is_open
+    }
+
+    /// The seal of its last line, which names all of it.
+    pub fn seal(&self) -> Seal
+        ensures { result ≡ self.now.seal }
+    {
+        self.seal
+    }
+
+    /// Reads what its file tells. The log is shut until it is opened.
+    ///
+    /// # Errors
+    ///
+    /// The fault that was met.
+    pub fn read(&mut self, alloc: Global) -> Result<Through, LogFault>
+        ensures through { IfOk result (λ through. IsTrue (D.is_clean self.new.disk)
+            → IsThrough (D.seen self.old.disk) through) }
+        ensures seen { D.seen self.new.disk ≡ D.seen self.old.disk }
+        ensures clean { IsTrue (D.is_clean self.new.disk) → IsTrue (D.is_clean self.old.disk) }
+        ensures crash { (left : List ℕ)
+            → D.may_leave self.new.disk left → D.may_leave self.old.disk left }
+    {
+        self.is_open = false;
+        if !self.disk.may_be_used() {
+            return Err(LogFault::Disk);
+        }
+        read_through(alloc, &mut self.disk)
+    }
+
+    /// Opens the log of what its file was found to tell, and cuts off what stands behind that. Of
+    /// what a crash left that is a line at most.
+    ///
+    /// # Errors
+    ///
+    /// The fault that was met. Then the log is shut.
+    pub fn open_at(&mut self, found: &Through) -> Result<(), LogFault>
+        requires { IsTrue (D.is_clean self.old.disk) → IsThrough (D.seen self.old.disk) found.now }
+        ensures opened { OnOk result (self.new.is_open ≡ true) }
+        ensures shut { OnErr result (self.new.is_open ≡ false) }
+        ensures has { OnOk result (IsTrue (D.is_clean self.new.disk)
+            → D.seen self.new.disk ≡ sealed_text (bodies_of D.Disk self.old)) }
+        ensures clean { IsTrue (D.is_clean self.new.disk) → IsTrue (D.is_clean self.old.disk) }
+        ensures crash { IsTrue (D.is_clean self.new.disk) → (most : ℕ)
+            → LeavesTail D.Disk self.old.disk (sealed_text (bodies_of D.Disk self.old)) most
+            → LeavesTail D.Disk self.new.disk (sealed_text (bodies_of D.Disk self.old)) most }
+        ensures counts { D.faults self.old.disk ≤ D.faults self.new.disk }
+    {
+        self.is_open = false;
+        if !self.disk.may_be_used() {
+            return Err(LogFault::Disk);
+        }
+        cut(&mut self.disk, found.at())?;
+        self.end = found.at();
+        self.seal = found.seal();
+        self.is_open = true;
+        Ok(())
+    }
+
+    /// Puts a body behind all that is there, so that a crash leaves it. A file whose length another
+    /// hand changed is not written to, and shuts the log.
+    ///
+    /// # Errors
+    ///
+    /// The fault that was met. A log that is still open has what it had.
+    pub fn put(&mut self, alloc: Global, body: &[u8]) -> Result<(), LogFault>
+        requires { IsBody body.now }
+        ensures clean { IsTrue (D.is_clean self.new.disk) → IsTrue (D.is_clean self.old.disk) }
+        ensures counts { D.faults self.old.disk ≤ D.faults self.new.disk }
+        ensures shut { self.old.is_open ≡ false → self.new ≡ self.old }
+        ensures closes { IsTrue (D.is_clean self.new.disk) → self.old.is_open ≡ true
+            → (self.new.is_open ≡ true)
+            ⊎ MoreFaults (D.faults self.old.disk) (D.faults self.new.disk) }
+        ensures lost { IsTrue (D.is_clean self.new.disk) → self.old.is_open ≡ true
+            → (self.new.is_open ≡ true) ⊎ HasFailedTwice D.Disk self.old.disk self.new.disk }
+        ensures met { IfErr result (IsMet D.Disk self.old self.new) }
+        ensures appended { IsAppended D.Disk self.old self.new body.now result }
+        ensures crash { self.old.is_open ≡ true → IsTrue (D.is_clean self.new.disk)
+            → LeavesTail D.Disk self.new.disk (sealed_text (bodies_of D.Disk self.old))
+            (length (sealed_line (seal_of (bodies_of D.Disk self.old)) body.now)) }
+    {
+        if !self.is_open {
+            return Err(LogFault::Disk);
+        }
+        let seal = seal(&self.seal, body);
+        let line = line_of(alloc, body, &seal)?;
+        self.is_open = false;
+        match add_line(&mut self.disk, self.end, &line) {
+            Written::Whole => {
+                self.end = self.end.saturating_add(line.len());
+                self.seal = seal;
+                self.is_open = true;
+                Ok(())
+            }
+            Written::Undone(fault) => {
+                self.is_open = true;
+                Err(fault)
+            }
+            Written::Lost(fault) => Err(fault),
+        }
+    }
+}
