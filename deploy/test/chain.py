@@ -119,19 +119,26 @@ class Chain:
             file.write(text)
         return f"{self.work}/{name}"
 
-    # An office whose first user is root of the team office, with the token abc, and CAP_SYS_ADMIN listed.
+    # An office with a journal, whose first user is root of the team office, with the token abc, and CAP_SYS_ADMIN listed.
     def found(self, name):
         words = [self.program, "init", f"{self.work}/{name}.db", "root", "office", digest_of("abc"), "CAP_SYS_ADMIN"]
+        words += ["--journal", f"{self.work}/{name}.journal"]
         subprocess.run(words, stdout=subprocess.DEVNULL, check=True)
 
     def serve(self, name, port, requests=1000000):
         words = [self.program, "serve", f"{self.work}/{name}.db", "--port", str(port), "--requests", str(requests)]
+        words += ["--journal", f"{self.work}/{name}.journal"]
         process = self.start(words, f"{name}.out")
         while not self.read(f"{name}.out").startswith("listening"):
             if process.poll() is not None:
                 sys.exit(f"{NAME}: the office isn't served: {self.read(f'{name}.out')}")
             time.sleep(0.02)
         return process
+
+    # Whether the closed office of this name is the one that its journal tells; else what `verify` says.
+    def verifies(self, name):
+        ran = subprocess.run([self.program, "verify", f"{self.work}/{name}.db", f"{self.work}/{name}.journal"], capture_output=True, text=True)
+        return ran.returncode == 0 or print(ran.stdout + ran.stderr)
 
     # HAProxy with a section of haproxy.cfg for each of these: the ports for people, for hosts, for deploy/keep, and of the office.
     def haproxy(self, sections):
