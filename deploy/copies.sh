@@ -70,11 +70,18 @@ settle() {
 # log is gone. Sets verified to what `verify` said. JOURNAL is empty where the office has none.
 opens() {
     verified=
+    lines=0
+    [ -z "$2" ] || lines=$(wc -l <"$2")
     if ! said=$(settle "$1" "$2" 2>&1); then
         echo "$tool: $1 doesn't open as an office${2:+ with the journal $2}: $said" >&2
         return 1
     fi
     if [ -n "$2" ]; then
+        # an opening cuts off what a crash leaves of a line: where whole lines went with it, they weren't sealed any more
+        if [ "$(wc -l <"$2")" -lt "$lines" ]; then
+            echo "$tool: of the $lines lines of $2 some weren't sealed: a hand or its disk changed it" >&2
+            return 1
+        fi
         if ! verified=$("$program" verify "$1" "$2" 2>&1); then
             echo "$tool: $1 opens, and isn't the office that $2 tells: $verified" >&2
             return 1
