@@ -2,17 +2,19 @@
 use Rattle.std.proofs.Common.{◌≡◌, ◌≢◌, inl, inr, List, Option, Some, None, true, false, sym, ◌∙◌, bytes_eq, refl}
 use Rattle.std.proofs.lemmas.Slice.Eq.{bytes_eq-Decides}
 use Rattle.std.specs.Prelude.{codes}
-use Rattle.clap.specs.Words.{HasKind, Kinds, Row, Text, kind_of}
+use Rattle.clap.specs.Words.{HasKind, Kinds, Row, Text, first_of, kind_of, one_of}
 use Rattle.clap.specs.declared.error.Error.{Error}
-use Rattle.command_line.specs.declared.command.Command.TheVariants.{Trial, Check, Execve, Init, Desk, Serve, Migrate, Compare, Verify, History, Evidence}
+use Rattle.command_line.specs.declared.command.Command.TheVariants.{Trial, Check, Execve, Init, Desk, Serve, Migrate, Compare, Verify, Rebuild, History, Evidence}
 use Rattle.command_line.specs.declared.fault.WordsFault.{WordsFault}
 use Rattle.command_line.specs.declared.fault.WordsFault.TheVariants.{Help, Version, Refused, NoMemory}
 use Rattle.command_line.specs.declared.command.EvidenceWords.{EvidenceWords}
+use Rattle.command_line.specs.declared.command.HistoryWords.{HistoryWords}
 use Rattle.command_line.specs.declared.command.InitWords.{InitWords}
+use Rattle.command_line.specs.declared.command.Requests.TheVariants.{Count, UntilStopped}
 use Rattle.command_line.specs.declared.command.ServeWords.{ServeWords}
 use Rattle.command_line.specs.declared.command.VerifyWords.{VerifyWords}
-use Rattle.command_line.specs.Meaning.{HasCompareValues, HasEvidenceValues, HasInitValues, HasServeValues, HasVerifyValues}
-use Rattle.command_line.specs.Refusals.{IsRefused, IsTold, NoKeptSeal, NoSealGiven, NoneAskedFor}
+use Rattle.command_line.specs.Meaning.{HasCompareValues, HasEvidenceValues, HasHistoryValues, HasInitValues, HasRebuildValues, HasServeValues, HasVerifyValues, is_until_stopped}
+use Rattle.command_line.specs.Refusals.{IsRefused, IsTold, NoKeptSeal, NoNumberIn, NoRequests, NoSealGiven, NoneAskedFor}
 
 -- two texts that don't compare equal are two
 apart : (a b : Text) → bytes_eq a b ≡ false → a ≢ b
@@ -34,6 +36,7 @@ no_init rows lacks (Serve words) asked = apart _ _ refl asked.0
 no_init rows lacks (Migrate database) asked = apart _ _ refl asked.0
 no_init rows lacks (Compare base new) asked = apart _ _ refl asked.0
 no_init rows lacks (Verify words) asked = apart _ _ refl asked.0
+no_init rows lacks (Rebuild database journal) asked = apart _ _ refl asked.0
 no_init rows lacks (History words) asked = apart _ _ refl asked.0
 no_init rows lacks (Evidence words) asked = apart _ _ refl asked.0
 
@@ -48,6 +51,7 @@ no_serve rows lacks (Serve words) asked = lacks words asked.1
 no_serve rows lacks (Migrate database) asked = apart _ _ refl asked.0
 no_serve rows lacks (Compare base new) asked = apart _ _ refl asked.0
 no_serve rows lacks (Verify words) asked = apart _ _ refl asked.0
+no_serve rows lacks (Rebuild database journal) asked = apart _ _ refl asked.0
 no_serve rows lacks (History words) asked = apart _ _ refl asked.0
 no_serve rows lacks (Evidence words) asked = apart _ _ refl asked.0
 
@@ -62,6 +66,7 @@ no_compare rows lacks (Serve words) asked = apart _ _ refl asked.0
 no_compare rows lacks (Migrate database) asked = apart _ _ refl asked.0
 no_compare rows lacks (Compare base new) asked = lacks base.now new.now asked.1
 no_compare rows lacks (Verify words) asked = apart _ _ refl asked.0
+no_compare rows lacks (Rebuild database journal) asked = apart _ _ refl asked.0
 no_compare rows lacks (History words) asked = apart _ _ refl asked.0
 no_compare rows lacks (Evidence words) asked = apart _ _ refl asked.0
 
@@ -76,8 +81,39 @@ no_verify rows lacks (Serve words) asked = apart _ _ refl asked.0
 no_verify rows lacks (Migrate database) asked = apart _ _ refl asked.0
 no_verify rows lacks (Compare base new) asked = apart _ _ refl asked.0
 no_verify rows lacks (Verify words) asked = lacks words asked.1
+no_verify rows lacks (Rebuild database journal) asked = apart _ _ refl asked.0
 no_verify rows lacks (History words) asked = apart _ _ refl asked.0
 no_verify rows lacks (Evidence words) asked = apart _ _ refl asked.0
+
+-- `rebuild` asks for nothing where a value that it needs isn't there
+pub no_rebuild : (rows : List Row) → ((database journal : Text) → ¬ HasRebuildValues rows database journal) → NoneAskedFor (codes "rebuild") rows
+no_rebuild rows lacks Trial asked = asked
+no_rebuild rows lacks (Check file) asked = apart _ _ refl asked.0
+no_rebuild rows lacks (Execve words) asked = apart _ _ refl asked.0
+no_rebuild rows lacks (Init words) asked = apart _ _ refl asked.0
+no_rebuild rows lacks (Desk database journal) asked = apart _ _ refl asked.0
+no_rebuild rows lacks (Serve words) asked = apart _ _ refl asked.0
+no_rebuild rows lacks (Migrate database) asked = apart _ _ refl asked.0
+no_rebuild rows lacks (Compare base new) asked = apart _ _ refl asked.0
+no_rebuild rows lacks (Verify words) asked = apart _ _ refl asked.0
+no_rebuild rows lacks (Rebuild database journal) asked = lacks database.now journal.now asked.1
+no_rebuild rows lacks (History words) asked = apart _ _ refl asked.0
+no_rebuild rows lacks (Evidence words) asked = apart _ _ refl asked.0
+
+-- `history` asks for nothing where a value that it needs isn't there
+pub no_history : (rows : List Row) → ((words : HistoryWords) → ¬ HasHistoryValues rows words) → NoneAskedFor (codes "history") rows
+no_history rows lacks Trial asked = asked
+no_history rows lacks (Check file) asked = apart _ _ refl asked.0
+no_history rows lacks (Execve words) asked = apart _ _ refl asked.0
+no_history rows lacks (Init words) asked = apart _ _ refl asked.0
+no_history rows lacks (Desk database journal) asked = apart _ _ refl asked.0
+no_history rows lacks (Serve words) asked = apart _ _ refl asked.0
+no_history rows lacks (Migrate database) asked = apart _ _ refl asked.0
+no_history rows lacks (Compare base new) asked = apart _ _ refl asked.0
+no_history rows lacks (Verify words) asked = apart _ _ refl asked.0
+no_history rows lacks (Rebuild database journal) asked = apart _ _ refl asked.0
+no_history rows lacks (History words) asked = lacks words asked.1
+no_history rows lacks (Evidence words) asked = apart _ _ refl asked.0
 
 -- `evidence` asks for nothing where a value that it needs isn't there
 pub no_evidence : (rows : List Row) → ((words : EvidenceWords) → ¬ HasEvidenceValues rows words) → NoneAskedFor (codes "evidence") rows
@@ -90,6 +126,7 @@ no_evidence rows lacks (Serve words) asked = apart _ _ refl asked.0
 no_evidence rows lacks (Migrate database) asked = apart _ _ refl asked.0
 no_evidence rows lacks (Compare base new) asked = apart _ _ refl asked.0
 no_evidence rows lacks (Verify words) asked = apart _ _ refl asked.0
+no_evidence rows lacks (Rebuild database journal) asked = apart _ _ refl asked.0
 no_evidence rows lacks (History words) asked = apart _ _ refl asked.0
 no_evidence rows lacks (Evidence words) asked = lacks words asked.1
 
@@ -112,3 +149,16 @@ refused_as_told kinds found error NoMemory has told = tt
 pub no_seal_given : (text : Text) → NoKeptSeal text → NoSealGiven (Some text)
 no_seal_given text none None given = given
 no_seal_given text none (Some kept) given = none kept given
+
+-- where both are given, or neither, the words ask for no exchanges
+pub both_given : (rows : List Row) (text : Text) → is_until_stopped rows ≡ true → first_of (codes "requests") rows ≡ Some text → NoRequests rows
+both_given rows text set given (Count n) h =
+    let bad : true ≡ false = sym set ∙ h.0 in
+    cc
+both_given rows text set given UntilStopped h = none≢some text (sym h.1 ∙ given)
+
+pub none_given : (rows : List Row) → is_until_stopped rows ≡ false → NoNumberIn 1 1000000 (one_of (codes "requests") rows) → NoRequests rows
+none_given rows unset none (Count n) h = none n h.1
+none_given rows unset none UntilStopped h =
+    let bad : false ≡ true = sym unset ∙ h.0 in
+    cc

@@ -32,11 +32,12 @@ abbrev pub desk_app : App
 desk_app = with_rules (new_app (codes "desk")) (needed_rule (codes "database")
     ∷ option_rule (codes "journal") ∷ [])
 
--- `serve DB [--port P] --requests N [--journal FILE]`: P is 0 where it isn't given
+-- `serve DB [--port P] (--requests N | --until-stopped) [--journal FILE]`: P is 0 where it isn't
+-- given. That one of the two is there, and not both, `AreRequests` demands.
 abbrev pub serve_app : App
 serve_app = with_rules (new_app (codes "serve")) (needed_rule (codes "database")
     ∷ record (number_rule (codes "port") 0 65535) { defaults = codes "0" ∷ [] }
-    ∷ record (number_rule (codes "requests") 1 1000000) { required = true }
+    ∷ number_rule (codes "requests") 1 1000000 ∷ flag_rule (codes "until-stopped")
     ∷ option_rule (codes "journal") ∷ [])
 
 -- `migrate DB`
@@ -48,10 +49,18 @@ abbrev pub verify_app : App
 verify_app = with_rules (new_app (codes "verify")) (needed_rule (codes "database")
     ∷ needed_rule (codes "journal") ∷ option_rule (codes "seal") ∷ [])
 
--- `history JOURNAL [--team T] [--profile P]`
+-- `rebuild DB JOURNAL`
+abbrev pub rebuild_app : App
+rebuild_app = with_rules (new_app (codes "rebuild")) (needed_rule (codes "database")
+    ∷ needed_rule (codes "journal") ∷ [])
+
+-- `history JOURNAL [--team T] [--profile P] [--user U] [--since N] [--json]`: N is 1 where it isn't
+-- given
 abbrev pub history_app : App
 history_app = with_rules (new_app (codes "history")) (needed_rule (codes "journal")
-    ∷ option_rule (codes "team") ∷ option_rule (codes "profile") ∷ [])
+    ∷ option_rule (codes "team") ∷ option_rule (codes "profile") ∷ option_rule (codes "user")
+    ∷ record (number_rule (codes "since") 1 18446744073709551615) { defaults = codes "1" ∷ [] }
+    ∷ flag_rule (codes "json") ∷ [])
 
 -- `evidence JOURNAL TEAM PROFILE N`
 abbrev pub evidence_app : App
@@ -62,8 +71,8 @@ evidence_app = with_rules (new_app (codes "evidence")) (needed_rule (codes "jour
 -- the commands, in the order of the help
 abbrev pub commands : List Shape
 commands = check_app.top ∷ execve_app.top ∷ compare_app.top ∷ init_app.top
-    ∷ desk_app.top ∷ serve_app.top ∷ migrate_app.top ∷ verify_app.top ∷ history_app.top
-    ∷ evidence_app.top ∷ []
+    ∷ desk_app.top ∷ serve_app.top ∷ migrate_app.top ∷ verify_app.top ∷ rebuild_app.top
+    ∷ history_app.top ∷ evidence_app.top ∷ []
 
 -- `office`, with its version and its commands
 unfoldable pub office_app : App

@@ -1,7 +1,7 @@
 -- What the words of a command line ask for, by the command that clap finds in them and the values
 -- that it gives.
-use Rattle.std.specs.Prelude.{◌≡◌, ◌==◌, ◌&&◌, ◌||◌, ℕ, Bool, true, false, Option, Some, None, List}
-use Rattle.std.specs.Prelude.{[], codes, length, map, nat_le, option_map, unwrap_or}
+use Rattle.std.specs.Prelude.{◌≡◌, ◌==◌, ◌&&◌, ◌||◌, ◌-◌, ◌^◌, ℕ, Bool, true, false, Option, Some}
+use Rattle.std.specs.Prelude.{None, List, bytes_eq, [], codes, length, map, nat_le, option_map, unwrap_or}
 use Rattle.std.specs.List.{after_first, before_first, list_all}
 use Rattle.std.specs.Str.Parse.{digits_value, without_leading_plus}
 use Rattle.clap.specs.Words.{IsUnsignedIn, Row, Text, all_of, first_of, found_of, one_of, rows_of}
@@ -9,12 +9,15 @@ use Rattle.clap.specs.declared.parser.matches.ArgMatches.{ArgMatches}
 use Rattle.command_line.specs.declared.command.Command.{Command}
 use Rattle.command_line.specs.declared.command.Command.TheVariants.{Trial, Check, Execve, Init}
 use Rattle.command_line.specs.declared.command.Command.TheVariants.{Desk, Serve, Migrate, Compare}
-use Rattle.command_line.specs.declared.command.Command.TheVariants.{Verify, History, Evidence}
+use Rattle.command_line.specs.declared.command.Command.TheVariants.{Verify, Rebuild, History}
+use Rattle.command_line.specs.declared.command.Command.TheVariants.{Evidence}
 use Rattle.command_line.specs.declared.command.EvidenceWords.{EvidenceWords}
 use Rattle.command_line.specs.declared.command.ExecveWords.{ExecveWords}
 use Rattle.command_line.specs.declared.command.HistoryWords.{HistoryWords}
 use Rattle.command_line.specs.declared.command.InitWords.{InitWords}
 use Rattle.command_line.specs.declared.command.KeptSeal.{KeptSeal}
+use Rattle.command_line.specs.declared.command.Requests.{Requests}
+use Rattle.command_line.specs.declared.command.Requests.TheVariants.{Count, UntilStopped}
 use Rattle.command_line.specs.declared.command.ServeWords.{ServeWords}
 use Rattle.command_line.specs.declared.command.VerifyWords.{VerifyWords}
 
@@ -61,11 +64,33 @@ IsNumberIn low high n None = ⊥
 IsNumberIn low high n (Some text) =
     IsUnsignedIn low high text × (n ≡ digits_value 10 (without_leading_plus text))
 
+-- how many exchanges that is; until it is stopped, 2^64 - 1, to which no run comes
+abbrev pub exchanges_of : Requests → ℕ
+exchanges_of (Count n) = n
+exchanges_of UntilStopped = 2 ^ 64 - 1
+
+-- the flag is set, if there is one
+abbrev pub is_set : Option Text → Bool
+is_set None = false
+is_set (Some text) = bytes_eq text (codes "true")
+
+-- `--until-stopped` is there
+abbrev pub is_until_stopped : List Row → Bool
+is_until_stopped rows = is_set (first_of (codes "until-stopped") rows)
+
+-- one of `--requests` and `--until-stopped` is there and the other isn't: a number within its
+-- limits, or the flag
+abbrev pub AreRequests : List Row → Requests → Type 0
+AreRequests rows (Count n) =
+    (is_until_stopped rows ≡ false) × IsNumberIn 1 1000000 n (one_of (codes "requests") rows)
+AreRequests rows UntilStopped =
+    (is_until_stopped rows ≡ true) × (first_of (codes "requests") rows ≡ None)
+
 -- each value of serve is the one that the rows give for it, the numbers within their limits
 pub record HasServeValues (rows : List Row) (words : ServeWords) : Type 0 where
   pub database : Gives rows (codes "database") words.database.now
   pub port : IsNumberIn 0 65535 words.port (one_of (codes "port") rows)
-  pub requests : IsNumberIn 1 1000000 words.requests (one_of (codes "requests") rows)
+  pub requests : AreRequests rows words.requests
   pub journal : first_of (codes "journal") rows ≡ option_map (λ s. s.now) words.journal
 
 -- each value of compare is the one that the rows give for it
@@ -101,11 +126,19 @@ pub record HasVerifyValues (rows : List Row) (words : VerifyWords) : Type 0 wher
   pub journal : Gives rows (codes "journal") words.journal.now
   pub seal : IsSealGiven (first_of (codes "seal") rows) words.seal
 
--- each value of history is the one that the rows give for it
+-- each value of rebuild is the one that the rows give for it
+pub record HasRebuildValues (rows : List Row) (new_file journal_file : Text) : Type 0 where
+  pub database : Gives rows (codes "database") new_file
+  pub journal : Gives rows (codes "journal") journal_file
+
+-- each value of history is the one that the rows give for it, the number within its limits
 pub record HasHistoryValues (rows : List Row) (words : HistoryWords) : Type 0 where
   pub journal : Gives rows (codes "journal") words.journal.now
   pub team : first_of (codes "team") rows ≡ option_map (λ s. s.now) words.team
   pub profile : first_of (codes "profile") rows ≡ option_map (λ s. s.now) words.profile
+  pub user : first_of (codes "user") rows ≡ option_map (λ s. s.now) words.user
+  pub since : IsNumberIn 1 18446744073709551615 words.since (one_of (codes "since") rows)
+  pub json : IsFlag (one_of (codes "json") rows) words.json
 
 -- each value of evidence is the one that the rows give for it, the number within its limits
 pub record HasEvidenceValues (rows : List Row) (words : EvidenceWords) : Type 0 where
@@ -129,6 +162,8 @@ AsksFor name rows (Migrate database) =
 AsksFor name rows (Compare base new) =
     (name ≡ codes "compare") × HasCompareValues rows base.now new.now
 AsksFor name rows (Verify words) = (name ≡ codes "verify") × HasVerifyValues rows words
+AsksFor name rows (Rebuild database journal) =
+    (name ≡ codes "rebuild") × HasRebuildValues rows database.now journal.now
 AsksFor name rows (History words) = (name ≡ codes "history") × HasHistoryValues rows words
 AsksFor name rows (Evidence words) = (name ≡ codes "evidence") × HasEvidenceValues rows words
 

@@ -57,7 +57,7 @@ rule_in id (NeededNumber shown low high) = needed_number_rule id low high
 rule_in id (Several shown) = several_rule id
 rule_in id Flag = flag_rule id
 rule_in id (Valued shown) = option_rule id
-rule_in id (Number shown low high) = record (number_rule id low high) { required = true }
+rule_in id (Number shown low high) = number_rule id low high
 rule_in id (NumberOr shown low high default) =
     record (number_rule id low high) { defaults = default.now ∷ [] }
 

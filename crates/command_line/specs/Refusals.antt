@@ -9,7 +9,9 @@ use Rattle.command_line.specs.declared.command.KeptSeal.{KeptSeal}
 use Rattle.command_line.specs.declared.fault.WordsFault.{WordsFault}
 use Rattle.command_line.specs.declared.fault.WordsFault.TheVariants.{Help, Version, Refused}
 use Rattle.command_line.specs.declared.fault.WordsFault.TheVariants.{NoMemory}
-use Rattle.command_line.specs.Meaning.{AsksFor, IsCommand, IsKeptSeal, IsNumberIn, IsSealGiven}
+use Rattle.command_line.specs.declared.command.Requests.{Requests}
+use Rattle.command_line.specs.Meaning.{AreRequests, AsksFor, IsCommand, IsKeptSeal, IsNumberIn}
+use Rattle.command_line.specs.Meaning.{IsSealGiven}
 
 -- what is reported of an error of clap's by its kind; out of memory may stand in place of its text
 abbrev pub IsTold : ErrorKind → WordsFault → Type 0
@@ -21,6 +23,10 @@ IsTold kind NoMemory = Unit {0}
 -- the text, if there is one, writes no number from low to high
 abbrev pub NoNumberIn : ℕ → ℕ → Option Text → Type 0
 NoNumberIn low high text = (n : ℕ) → ¬ IsNumberIn low high n text
+
+-- the rows give neither `--requests` with a number within its limits nor `--until-stopped`, or both
+abbrev pub NoRequests : List Row → Type 0
+NoRequests rows = (requests : Requests) → ¬ AreRequests rows requests
 
 -- the text names no line with a seal
 abbrev pub NoKeptSeal : Text → Type 0

@@ -22,7 +22,8 @@ pub enum Command<'w> {
     Migrate {
         database: &'w str,
     },
-    /// `serve DB [--port P] --requests N [--journal FILE]`: the office in a file, over HTTP.
+    /// `serve DB [--port P] (--requests N | --until-stopped) [--journal FILE]`: the office in a
+    /// file, over HTTP.
     Serve(ServeWords<'w>),
     /// `compare BASE NEW`: what the document in one file permits more than that in another.
     Compare {
@@ -32,7 +33,13 @@ pub enum Command<'w> {
     /// `verify DB JOURNAL [--seal N:HEX]`: whether the office in a file is the one that a journal
     /// tells.
     Verify(VerifyWords<'w>),
-    /// `history JOURNAL [--team T] [--profile P]`: what a journal tells, a line an event.
+    /// `rebuild DB JOURNAL`: a new office in a file, of what a journal tells.
+    Rebuild {
+        database: &'w str,
+        journal: &'w str,
+    },
+    /// `history JOURNAL [--team T] [--profile P] [--user U] [--since N] [--json]`: what a journal
+    /// tells, a line an event.
     History(HistoryWords<'w>),
     /// `evidence JOURNAL TEAM PROFILE N`: on what a revision was issued.
     Evidence(EvidenceWords<'w>),
@@ -82,6 +89,12 @@ pub struct HistoryWords<'w> {
     pub team: Option<&'w str>,
     /// The P of `--profile`.
     pub profile: Option<&'w str>,
+    /// The U of `--user`.
+    pub user: Option<&'w str>,
+    /// The N of `--since`, from 1; 1 is every line.
+    pub since: u64,
+    /// Whether there is `--json`.
+    pub json: bool,
 }
 
 /// The values of `evidence`.
@@ -97,6 +110,31 @@ pub struct EvidenceWords<'w> {
     pub revision: u32,
 }
 
+/// How many exchanges `serve` serves.
+#[derive(Clone, Copy, Debug)]
+pub enum Requests {
+    /// `--requests N`: N, from 1 to 1,000,000.
+    Count(u32),
+    /// `--until-stopped`: 2^64 - 1, to which no run comes. What ends it is a signal, or a line that
+    /// can't be written.
+    UntilStopped,
+}
+
+impl Requests {
+    ghost use Rattle.std.specs.Prelude.{◌≡◌};
+    ghost use Rattle.command_line.specs.Meaning.{exchanges_of};
+
+    /// The number of exchanges.
+    pub fn exchanges(self) -> u64
+        ensures { result ≡ exchanges_of self }
+    {
+        match self {
+            Requests::Count(count) => count as u64,
+            Requests::UntilStopped => u64::MAX,
+        }
+    }
+}
+
 /// The values of `serve`.
 #[derive(Clone, Copy, Debug)]
 pub struct ServeWords<'w> {
@@ -104,8 +142,8 @@ pub struct ServeWords<'w> {
     pub database: &'w str,
     /// P, the port; 0 is any free one.
     pub port: u16,
-    /// N, how many exchanges are served, from 1 to 1,000,000.
-    pub requests: u32,
+    /// How many exchanges are served.
+    pub requests: Requests,
     /// The FILE of `--journal`, which goes on.
     pub journal: Option<&'w str>,
 }

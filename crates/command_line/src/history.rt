@@ -1,10 +1,10 @@
 //! The command `history`.
 
-ghost use Rattle.std.specs.Prelude.{◌≡◌, IfOk, IfSome, IfNone, None, false, codes};
-ghost use Rattle.clap.specs.Words.{first_of};
+ghost use Rattle.std.specs.Prelude.{◌≡◌, ℕ, IfOk, IfSome, IfNone, false, codes};
 ghost use Rattle.command_line.specs.Commands.{history_app};
-ghost use Rattle.command_line.specs.Meaning.{AsksFor, values_of};
+ghost use Rattle.command_line.specs.Meaning.{AsksFor, IsNumberIn, value_of, values_of};
 ghost use Rattle.command_line.specs.Parts.{AddsCommand};
+ghost use Rattle.command_line.specs.Refusals.{NoNumberIn, NoneAskedFor};
 
 use crate::command::{Command, HistoryWords};
 use crate::parts::{Form, Parameter, add_command};
@@ -14,17 +14,19 @@ use std::alloc::{AllocError, Global};
 const ABOUT: &str = "Prints what a journal tells, a line an event";
 
 const EXAMPLES: &str =
-    "Each line has the number of the journal's line, who did it, and what. T is the team that an event names,
-and P the profile that it is about.
+    "Each line has the number of the journal's line, who did it, and what; or it says that the line's event
+was struck out, or that it struck one out. T is the team that an event names, P the profile that it is
+about, and U who did it. With `--json` a line is an object: `line` is the number, and digests are whole.
 
 Statuses: 0, it prints the lines; 1, it was refused or failed, which standard error says as
 `office: WORDS`. The lines before the one that it names are printed then.
 
 Examples:
   office history team.journal
-  office history team.journal --team blue --profile web";
+  office history team.journal --team blue --profile web
+  office history team.journal --since 1001 --json";
 
-/// Adds `history JOURNAL [--team T] [--profile P]`.
+/// Adds `history JOURNAL [--team T] [--profile P] [--user U] [--since N] [--json]`.
 pub(crate) fn add_history<'a>(
     alloc: Global,
     commands: &mut Vec<clap::Command<'a>>,
@@ -47,21 +49,59 @@ pub(crate) fn add_history<'a>(
             form: Form::Valued("P"),
             help: "Of profiles of this name alone",
         },
+        Parameter {
+            id: "user",
+            form: Form::Valued("U"),
+            help: "What this user did alone",
+        },
+        Parameter {
+            id: "since",
+            form: Form::NumberOr {
+                shown: "N",
+                low: 1,
+                high: u64::MAX,
+                default: "1",
+            },
+            help: "From this line on, from 1",
+        },
+        Parameter {
+            id: "json",
+            form: Form::Flag,
+            help: "A line of JSON for each event",
+        },
     ];
     add_command(alloc, commands, "history", ABOUT, EXAMPLES, &parameters)
 }
 
-/// What `history` asks for with these values; none without JOURNAL.
+// N, or its default. `clap` takes it from 1 only, and here the value itself is known to be.
+fn since_of(given: &ArgMatches<'_>) -> Option<u64>
+    ensures number { IfSome result (λ n.
+        IsNumberIn 1 18446744073709551615 n (value_of (codes "since") given.now)) }
+    ensures lacking { IfNone result
+        (NoNumberIn 1 18446744073709551615 (value_of (codes "since") given.now)) }
+{
+    let since = given.get_one::<u64>("since")?;
+    if 1 <= since { Some(since) } else { None }
+}
+
+/// What `history` asks for with these values; none without JOURNAL and N, which is within its
+/// limits.
 pub(crate) fn history_of<'w>(given: &ArgMatches<'w>) -> Option<Command<'w>>
     ensures command { IfSome result (AsksFor (codes "history") (values_of given.now)) }
-    ensures lacking { IfNone result (first_of (codes "journal") (values_of given.now) ≡ None) }
+    ensures lacking { IfNone result (NoneAskedFor (codes "history") (values_of given.now)) }
 {
     let journal = given.get_str("journal")?;
     let team = given.get_str("team");
     let profile = given.get_str("profile");
+    let user = given.get_str("user");
+    let since = since_of(given)?;
+    let json = given.get_flag("json");
     Some(Command::History(HistoryWords {
         journal,
         team,
         profile,
+        user,
+        since,
+        json,
     }))
 }

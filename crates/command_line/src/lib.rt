@@ -15,13 +15,15 @@ mod history;
 mod init;
 mod migrate;
 mod parts;
+mod rebuild;
 mod seal;
 mod serve;
 mod verify;
 mod words;
 
 pub use command::{
-    Command, EvidenceWords, ExecveWords, HistoryWords, InitWords, KeptSeal, ServeWords, VerifyWords,
+    Command, EvidenceWords, ExecveWords, HistoryWords, InitWords, KeptSeal, Requests, ServeWords,
+    VerifyWords,
 };
 pub use fault::WordsFault;
 pub use words::read_words;

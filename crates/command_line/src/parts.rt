@@ -24,13 +24,13 @@ pub(crate) enum Form<'a> {
     Flag,
     /// `--id VALUE`, at most once.
     Valued(&'a str),
-    /// `--id NUMBER`, once, of a number from `low` to `high`.
+    /// `--id NUMBER`, at most once, of a number from `low` to `high`.
     Number {
         shown: &'a str,
         low: u64,
         high: u64,
     },
-    /// The same, at most once: else it is `default`.
+    /// The same: where it isn't given it is `default`.
     NumberOr {
         shown: &'a str,
         low: u64,
@@ -68,8 +68,7 @@ fn arg_of<'a>(alloc: Global, parameter: Parameter<'a>) -> Arg<'a>
         Form::Number { shown, low, high } => arg
             .long(id)
             .value_name(shown)
-            .value_parser(ValueParser::unsigned(low, high))
-            .required(true),
+            .value_parser(ValueParser::unsigned(low, high)),
         Form::NumberOr {
             shown,
             low,

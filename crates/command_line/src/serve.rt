@@ -2,22 +2,25 @@
 
 ghost use Rattle.std.specs.Prelude.{◌≡◌, ℕ, IfOk, IfSome, IfNone, false, codes};
 ghost use Rattle.command_line.specs.Commands.{serve_app};
-ghost use Rattle.command_line.specs.Meaning.{AsksFor, IsNumberIn, value_of, values_of};
+ghost use Rattle.command_line.specs.Meaning.{AreRequests, AsksFor, IsNumberIn};
+ghost use Rattle.command_line.specs.Meaning.{is_until_stopped, value_of, values_of};
 ghost use Rattle.command_line.specs.Parts.{AddsCommand};
-ghost use Rattle.command_line.specs.Refusals.{NoNumberIn, NoneAskedFor};
+ghost use Rattle.command_line.specs.Refusals.{NoNumberIn, NoRequests, NoneAskedFor};
 
-use crate::command::{Command, ServeWords};
+use crate::command::{Command, Requests, ServeWords};
 use crate::parts::{Form, Parameter, add_command};
 use clap::ArgMatches;
 use std::alloc::{AllocError, Global};
 
-// The most exchanges that one run serves.
+// The most exchanges that `--requests` asks for.
 const MOST_REQUESTS: u32 = 1_000_000;
 
 const ABOUT: &str = "Answers HTTP requests with the office in a file";
 
 const EXAMPLES: &str =
-    "It listens on 127.0.0.1, serves N exchanges, and ends. At port 0 the system picks a free port.
+    "It listens on 127.0.0.1, serves N exchanges, and ends; or with `--until-stopped` it serves until a
+signal ends it, as systemd does. Just one of the two has to be there. At port 0 the system picks a free
+port.
 
 It prints `listening 127.0.0.1:PORT` first, and then a line for each exchange: the status of its answer,
 or `fault WORD` where it failed. With `--journal`, what happens is written to FILE first, which
@@ -28,9 +31,9 @@ Statuses: 0, N exchanges are over; 1, it was refused or failed, which standard e
 
 Example:
   office serve team.db --port 8080 --requests 1000
-  office serve team.db --port 8080 --requests 1000 --journal team.journal";
+  office serve team.db --port 8080 --until-stopped --journal team.journal";
 
-/// Adds `serve DB [--port P] --requests N [--journal FILE]`.
+/// Adds `serve DB [--port P] (--requests N | --until-stopped) [--journal FILE]`.
 pub(crate) fn add_serve<'a>(
     alloc: Global,
     commands: &mut Vec<clap::Command<'a>>,
@@ -63,6 +66,11 @@ pub(crate) fn add_serve<'a>(
             help: "How many exchanges, from 1 to 1000000",
         },
         Parameter {
+            id: "until-stopped",
+            form: Form::Flag,
+            help: "Exchanges without an end, in place of --requests",
+        },
+        Parameter {
             id: "journal",
             form: Form::Valued("FILE"),
             help: "The journal of the office, which goes on",
@@ -81,7 +89,7 @@ fn port_of(given: &ArgMatches<'_>) -> Option<u16>
 
 // N. `clap` takes it within these limits only, and here the value itself is known to lie within
 // them.
-fn requests_of(given: &ArgMatches<'_>) -> Option<u32>
+fn count_of(given: &ArgMatches<'_>) -> Option<u32>
     ensures number { IfSome result (λ n.
         IsNumberIn 1 1000000 n (value_of (codes "requests") given.now)) }
     ensures lacking { IfNone result (NoNumberIn 1 1000000 (value_of (codes "requests") given.now)) }
@@ -94,8 +102,36 @@ fn requests_of(given: &ArgMatches<'_>) -> Option<u32>
     }
 }
 
-/// What `serve` asks for with these values; none without DB, P and N, the numbers within their
-/// limits.
+// Whether `--until-stopped` is there.
+fn is_until_stopped(given: &ArgMatches<'_>) -> bool
+    ensures { result ≡ is_until_stopped (values_of given.now) }
+{
+    match given.get_str("until-stopped") {
+        Some(set) => set == "true",
+        None => false,
+    }
+}
+
+// One of the two; none where there is neither, or both.
+fn requests_of(given: &ArgMatches<'_>) -> Option<Requests>
+    ensures asked { IfSome result (AreRequests (values_of given.now)) }
+    ensures lacking { IfNone result (NoRequests (values_of given.now)) }
+{
+    if is_until_stopped(given) {
+        match given.get_str("requests") {
+            Some(_) => None,
+            None => Some(Requests::UntilStopped),
+        }
+    } else {
+        match count_of(given) {
+            Some(count) => Some(Requests::Count(count)),
+            None => None,
+        }
+    }
+}
+
+/// What `serve` asks for with these values; none without DB, P, and just one of N and
+/// `--until-stopped`, the numbers within their limits.
 pub(crate) fn serve_of<'w>(given: &ArgMatches<'w>) -> Option<Command<'w>>
     ensures command { IfSome result (AsksFor (codes "serve") (values_of given.now)) }
     ensures lacking { IfNone result (NoneAskedFor (codes "serve") (values_of given.now)) }

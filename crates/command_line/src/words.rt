@@ -18,6 +18,7 @@ use crate::fault::WordsFault;
 use crate::history::{add_history, history_of};
 use crate::init::{add_init, init_of};
 use crate::migrate::{add_migrate, migrate_of};
+use crate::rebuild::{add_rebuild, rebuild_of};
 use crate::serve::{add_serve, serve_of};
 use crate::verify::{add_verify, verify_of};
 use clap::ArgMatches;
@@ -57,6 +58,7 @@ fn commands_of<'a>(alloc: Global) -> Result<Vec<clap::Command<'a>>, AllocError>
     add_serve(alloc, &mut commands)?;
     add_migrate(alloc, &mut commands)?;
     add_verify(alloc, &mut commands)?;
+    add_rebuild(alloc, &mut commands)?;
     add_history(alloc, &mut commands)?;
     add_evidence(alloc, &mut commands)?;
     Ok(commands)
@@ -103,6 +105,7 @@ fn command_of<'w>(
         "serve" => Ok(serve_of(given)),
         "migrate" => Ok(migrate_of(given)),
         "verify" => Ok(verify_of(given)),
+        "rebuild" => Ok(rebuild_of(given)),
         "history" => Ok(history_of(given)),
         "evidence" => Ok(evidence_of(given)),
         _ => Ok(None),
@@ -110,13 +113,17 @@ fn command_of<'w>(
 }
 
 // What is said of values that ask for no command. `clap` has seen to all but that N:HEX is of its
-// form.
+// form, and that there is just one of `--requests` and `--until-stopped`.
 fn refusal_of(alloc: Global, given: &ArgMatches<'_>) -> Result<String, AllocError> {
     match given.get_str("seal") {
         Some(text) => format!(in alloc;
             "error: invalid value '{text}' for '--seal <N:HEX>'\n\nFor more information, try '--help'.\n"
         ),
-        None => String::from_str(alloc, "error: a value is missing\n"),
+        None => String::from_str(
+            alloc,
+            "error: just one of '--requests <N>' and '--until-stopped' has to be there\n\n\
+             For more information, try '--help'.\n",
+        ),
     }
 }
 

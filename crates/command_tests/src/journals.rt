@@ -1,7 +1,7 @@
 // Journals: what `verify` prints, a seal that was kept, and journals that can't be gone on with.
 
 use crate::said::{assert_begun, assert_said};
-use office_commands::{HostJournals, Journals, Unread};
+use command_host::{HostJournals, Journals, Unread};
 use said_commands::founding;
 use std::alloc::AllocError;
 use std::fs;
@@ -134,6 +134,9 @@ fn a_file_of_the_database_is_no_journal(rt: HostRuntime) -> Result<(), Fail> {
             let wanted = "1 office: same-file\n> ";
             assert_said(&rt, &rt, line.as_str(), "", Giving::Whole, wanted)?;
         }
+        let line = format!(in alloc; "office rebuild apart.db {journal}")?;
+        let wanted = "1 office: same-file\n> ";
+        assert_said(&rt, &rt, line.as_str(), "", Giving::Whole, wanted)?;
         assert!(rt; !fs::exists(&rt, journal)?);
     }
     Ok(())
@@ -164,4 +167,43 @@ fn no_more_than_a_line_is_cut_off_a_journal(rt: HostRuntime) -> Result<(), Fail>
     assert_mended(&rt, &rt, 1, "0 > ", false)?;
     assert_mended(&rt, &rt, 2_097_152, "0 > ", false)?;
     assert_mended(&rt, &rt, 2_097_153, "1 office: changed at 469\n> ", true)
+}
+
+// Takes away the database of an office.
+fn lose(host: &HostRuntime, database: &str) {
+    let _ = fs::remove_file(host, database);
+}
+
+#[test]
+fn a_lost_office_is_built_anew_of_its_journal(rt: HostRuntime) -> Result<(), Fail> {
+    keep(&rt, &rt, "lost")?;
+    lose(&rt, "lost.db");
+    let line = "office rebuild lost.db lost.journal";
+    let rebuilt =
+        "0 > rebuilt 2 events, seal b75eec39ff060a99e38f4c908c604af1f3a5e5e69da6833040090dad16a0783b\n";
+    assert_said(&rt, &rt, line, "", Giving::Whole, rebuilt)?;
+    let verify = "office verify lost.db lost.journal";
+    assert_said(&rt, &rt, verify, "", Giving::Whole, VERIFIED)?;
+    let founded = "1 office: already-founded\n> ";
+    assert_said(&rt, &rt, line, "", Giving::Whole, founded)?;
+    let desk = "office desk lost.db --journal lost.journal";
+    assert_said(&rt, &rt, desk, "", Giving::Whole, "0 > ")?;
+    assert_has(&rt, &rt, "lost.journal", JOURNAL)
+}
+
+// The opening cuts the torn bytes off, and would strike out an event that the tables don't show.
+#[test]
+fn a_torn_journal_keeps_the_event_of_its_last_line(rt: HostRuntime) -> Result<(), Fail> {
+    keep(&rt, &rt, "torn")?;
+    lose(&rt, "torn.db");
+    let torn = format!(in rt.alloc(); "{JOURNAL}{{\"line\":")?;
+    fs::write(&rt, "torn.journal", torn.as_str())?;
+    let line = "office rebuild torn.db torn.journal";
+    let wanted = "1 office: line 3: torn-line\n> ";
+    assert_said(&rt, &rt, line, "", Giving::Whole, wanted)?;
+    let desk = "office desk torn.db --journal torn.journal";
+    assert_said(&rt, &rt, desk, "", Giving::Whole, "0 > ")?;
+    assert_has(&rt, &rt, "torn.journal", JOURNAL)?;
+    let verify = "office verify torn.db torn.journal";
+    assert_said(&rt, &rt, verify, "", Giving::Whole, VERIFIED)
 }

@@ -1,13 +1,13 @@
 // Offices in files that a command finds in an odd state.
 
 use crate::said::assert_said;
-use office_commands::Databases;
+use command_host::Databases;
 use said_commands::{founding, said_on};
 use sqlite::{Connection, Error, ErrorCode, MemStore};
 use std::alloc::Global;
-use std::fs;
 use std::process::Abort;
 use std::test::Fail;
+use std::{fs, io};
 use test_doubles::fake_streams::{Giving, Source};
 
 // Enrols ann, who shows hello, as an author of blue.
@@ -87,6 +87,7 @@ fn no_file_is_made_where_none_is_but_by_init(rt: HostRuntime) -> Result<(), Fail
     for line in [
         "office desk none.db",
         "office serve none.db --requests 1",
+        "office serve none.db --until-stopped",
         "office migrate none.db",
     ] {
         assert_said(&rt, &rt, line, "", Giving::Whole, NO_OFFICE)?;
@@ -151,6 +152,10 @@ struct Unclosed {
 
 impl Databases for Unclosed {
     type Database = Connection<MemStore>;
+
+    fn is_there(&self, _path: &str) -> io::Result<bool> {
+        Ok(true)
+    }
 
     fn open(&self, _path: &str) -> Result<Connection<MemStore>, Error> {
         match Connection::open_in_memory(self.alloc) {

@@ -1,7 +1,7 @@
 // An office in a file, over HTTP.
 
 use crate::said::assert_said;
-use office_commands::Network;
+use command_host::Network;
 use said_commands::{founding, said_on};
 use std::io::Write;
 use std::net::{Ipv4Addr, Net, Shutdown, SocketAddr, TcpListener, TcpStream};

@@ -19,7 +19,12 @@ office serve team.db --requests 0
 office serve team.db --requests 1000001
 office serve team.db --requests many
 office serve team.db --port 65536 --requests 1
-office serve team.db";
+office serve team.db
+office serve team.db --requests 1 --until-stopped
+office serve team.db --until-stopped --requests 0
+office serve team.db --until-stopped --until-stopped
+office rebuild team.db
+office rebuild team.db team.journal team.journal";
 
 #[test]
 fn words_that_are_no_command_line_end_with_status_2(rt: HostRuntime) -> Result<(), Fail> {
@@ -125,5 +130,6 @@ fn an_output_that_fails_is_told_of_an_office_in_a_file(rt: HostRuntime) -> Resul
     let founded = "1 office: already-founded\n> ";
     assert_said(&rt, &rt, init.as_str(), "", Giving::Whole, founded)?;
     assert_unwritten(&rt, &rt, "office desk unwritten.db", SHOW)?;
-    assert_unwritten(&rt, &rt, "office serve unwritten.db --requests 1", "")
+    assert_unwritten(&rt, &rt, "office serve unwritten.db --requests 1", "")?;
+    assert_unwritten(&rt, &rt, "office serve unwritten.db --until-stopped", "")
 }

@@ -55,7 +55,7 @@ impl<'c, C: PassClock> Server<'c, C> {
         &self,
         office: &mut H,
         listener: &TcpListener,
-        exchanges: u32,
+        exchanges: u64,
         output: &mut Counted<O>,
     ) -> Result<(), WriteFailed>
         ensures { HasServedWithin C.shows O.contents self.now.clock.now listener.now

@@ -57,7 +57,7 @@ pub fn serve_exchanges<H: Handler, L: Listener, O: Write>(
     alloc: Global,
     router: &OfficeRouter,
     listener: &mut L,
-    exchanges: u32,
+    exchanges: u64,
     output: &mut Counted<O>,
 ) -> Result<(), WriteFailed>
     ensures { AreServedWith L.meaning L.Reader.remaining L.Writer.contents H.meaning

@@ -244,6 +244,13 @@ impl<S: Alter, R: BufRead> Replay<S, R> {
         self.count
     }
 
+    /// How many lines were taken of the journal. At its end that is how many it has.
+    pub fn taken(&self) -> u64
+        ensures { result ≡ (place R.remaining self.now.events).taken }
+    {
+        self.events.taken()
+    }
+
     /// The seal of the lines that were taken of the journal. At its end that is the seal of all of it.
     pub fn seal(&self) -> Seal
         ensures { result ≡ (place R.remaining self.now.events).seal }

@@ -1,5 +1,10 @@
 pub mod Adding
+pub mod JsonExamples
+pub mod JsonFacts
 pub mod LineExamples
 pub mod Looks
 pub mod Searching
+pub mod StruckExamples
+pub mod StruckFacts
+pub mod WholeFacts
 pub mod Writing

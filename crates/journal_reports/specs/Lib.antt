@@ -2,7 +2,10 @@ pub mod Evidence
 pub mod Examples
 pub mod FaultTexts
 pub mod History
+pub mod Json
 pub mod Lines
 pub mod Passing
 pub mod Steps
+pub mod Struck
+pub mod Whole
 pub mod Writing

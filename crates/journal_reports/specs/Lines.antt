@@ -11,6 +11,7 @@ use Rattle.office_policy.specs.History.{Event, History, founded, enrolled, submi
 use Rattle.office_policy.specs.History.{issued, withdrawn, adopted, held, released}
 use Rattle.office_policy.specs.Revisions.{last_revision, number_of, revision_of}
 use Rattle.journal_lines.specs.Lines.{role_words}
+use Rattle.journal_reports.specs.Json.{json_of}
 
 -- items, each behind a space, or `none`
 abbrev pub each_spaced : List (List ℕ) → List ℕ
@@ -73,6 +74,11 @@ deed (released caller p) found = on_profile caller (codes "released") p
 abbrev pub text_of : (line : ℕ) → Event → Option RevisionRow → List ℕ
 text_of line e found = ended ((decimal line ++ codes "  ") ++ deed e found)
 
+-- that, or the same as JSON
+abbrev pub text_in : (json : Bool) → (line : ℕ) → Event → Option RevisionRow → List ℕ
+text_in false line e found = text_of line e found
+text_in true line e found = json_of line e found
+
 -- the line of an event after this history
-abbrev pub line_of : History → (line : ℕ) → Event → List ℕ
-line_of h line e = text_of line e (looked_up e h)
+abbrev pub line_of : (json : Bool) → History → (line : ℕ) → Event → List ℕ
+line_of json h line e = text_in json line e (looked_up e h)

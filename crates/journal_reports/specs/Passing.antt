@@ -1,5 +1,5 @@
 -- Which events are shown.
-use Rattle.std.specs.Prelude.{ℕ, List, Bool, true, false, ◌&&◌, Option, Some, None}
+use Rattle.std.specs.Prelude.{ℕ, List, Bool, true, false, ◌&&◌, Option, Some, None, nat_le}
 use Rattle.std.specs.Str.{bytes_eq}
 use Rattle.review_policy.specs.declared.ask.ProfileName.{ProfileName}
 use Rattle.office_policy.specs.History.{Event, founded, enrolled, submitted, voted}
@@ -43,10 +43,36 @@ abbrev pub is_about : Option (List ℕ) → Event → Bool
 is_about None e = true
 is_about (Some profile) e = is_named profile (profile_of e)
 
--- which events are asked for: those of a team, and those about profiles of a name
+-- who did it: the caller, or who was founded
+abbrev pub doer_of : Event → List ℕ
+doer_of (founded name team digest listed) = name
+doer_of (enrolled caller name team roles digest) = caller
+doer_of (submitted caller p text) = caller
+doer_of (voted caller p n digest approves) = caller
+doer_of (issued caller p n) = caller
+doer_of (withdrawn caller p n) = caller
+doer_of (adopted caller p n) = caller
+doer_of (held caller p) = caller
+doer_of (released caller p) = caller
+
+-- this user did it, where one is asked for
+abbrev pub is_by : Option (List ℕ) → Event → Bool
+is_by None e = true
+is_by (Some user) e = bytes_eq user (doer_of e)
+
+-- which events are asked for: those of a team, those about profiles of a name, those that a user
+-- did, and those from a line on; and whether as JSON
 pub record Asked : Type 0 where
   pub team : Option (List ℕ)
   pub profile : Option (List ℕ)
+  pub user : Option (List ℕ)
+  pub since : ℕ
+  pub json : Bool
 
-abbrev pub passes : Asked → Event → Bool
-passes asked e = is_of_team asked.team e && is_about asked.profile e
+-- the event is asked for, on whatever line
+abbrev pub is_asked : Asked → Event → Bool
+is_asked asked e = is_of_team asked.team e && (is_about asked.profile e && is_by asked.user e)
+
+-- the event of a line is
+abbrev pub passes : Asked → (ℕ × Event) → Bool
+passes asked placed = nat_le asked.since placed.0 && is_asked asked placed.1

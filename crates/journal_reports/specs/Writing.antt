@@ -1,5 +1,5 @@
 -- What is done for the line of an event.
-use Rattle.std.specs.Prelude.{◌≡◌, ℕ, List, Option, Result, Ok, Err, String, ⊤}
+use Rattle.std.specs.Prelude.{◌≡◌, ◌⊎◌, ℕ, List, Option, Result, Ok, Err, String, ⊤}
 use Rattle.std.specs.Prelude.{string_bytes}
 use Rattle.std.specs.Io.KnownBytes.{Appends}
 use Rattle.std.specs.declared.alloc.Global.{Global}
@@ -15,8 +15,8 @@ use Rattle.journal_lines.specs.Told.{Place, history_told}
 use Rattle.journal_replay.specs.Rebuilt.{HasReplayed}
 use Rattle.journal_reports.specs.declared.fault.Unwritten.{Unwritten}
 use Rattle.journal_reports.specs.declared.fault.Unwritten.TheVariants as why
-use Rattle.journal_reports.specs.History.{IsBlind, IsCutIn, IsGivenUp, IsHalted}
-use Rattle.journal_reports.specs.History.{IsWritten, lines_told, shown_of}
+use Rattle.journal_reports.specs.History.{IsBlind, IsCutBehind, IsCutIn, IsGivenUp, IsHalted}
+use Rattle.journal_reports.specs.History.{IsWritten, last_line, lines_to, shown_of}
 use Rattle.journal_reports.specs.Lines.{looked_up}
 use Rattle.journal_reports.specs.Passing.{Asked}
 
@@ -78,14 +78,16 @@ module _ (bytes : Option (List ℕ)) {X : Type 0} (m : Meaning X) where
     IsStopped (why.Refused refused) =
         IsHalted bytes asked old new m left refused.line refused.why
     IsStopped (why.Unseen line fault) = IsBlind bytes asked old new m left line fault
-    IsStopped why.Write = IsCutIn bytes asked old new m left
+    IsStopped why.Write =
+        IsCutIn bytes asked old new m left ⊎ IsCutBehind bytes asked old new m left
     IsStopped why.NoMemory = IsGivenUp bytes asked old new m left
 
-    -- these events are a lawful history, of which the office stands, and their lines were written
+    -- these events are a lawful history, of which the office stands, and the lines up to that of the
+    -- last were written
     pub record AreWritten (all : List (ℕ × Event)) : Type 0 where
       pub lawful : m.is_clean left → IsLawfulHistory (history_told all)
       pub stands : m.is_clean left → Stands m (history_told all) left
-      pub written : m.is_clean left → Appends old new (lines_told asked all)
+      pub written : m.is_clean left → Appends old new (lines_to asked all (last_line all))
 
     -- the line of the last of them was written, which has happened again
     abbrev pub WritesNext : List (ℕ × Event) → Result ⊤ Unwritten → Type 0

@@ -2,21 +2,30 @@
 
 ghost use Rattle.std.specs.Prelude.{◌≡◌, option_map};
 ghost use Rattle.office_policy.specs.Happened.{event_meant};
-ghost use Rattle.journal_reports.specs.Passing.{is_about, is_named, is_of_team, passes};
-ghost use Rattle.journal_reports.specs.Passing.{profile_of, team_of};
+ghost use Rattle.journal_lines.specs.Told.{placed_meant};
+ghost use Rattle.journal_reports.specs.Passing.{doer_of, is_about, is_asked, is_by, is_named};
+ghost use Rattle.journal_reports.specs.Passing.{is_of_team, passes, profile_of, team_of};
+ghost use Rattle.journal_reports.specs.Struck.{asks_for_all, shows_struck};
 
+use journal_lines::Placed;
 use office_policy::Event;
 use review_policy::{ProfileName, Word};
 use std::marker::Model;
 
-/// Which events are shown: those of a team, where one is named, that are about a profile of a name,
-/// where one is named. A founding and an enrolment are about no profile.
+/// Which events are shown, and how: those of a team, about a profile of a name and by a user, where
+/// one is named, from a line on. A founding and an enrolment are about no profile.
 #[derive(Debug, Drop)]
 pub struct Filter<'a> {
     /// The team: of the user who is founded or enrolled, or of the profile.
     pub team: Option<&'a Word>,
     /// The profile's name within its team.
     pub profile: Option<&'a Word>,
+    /// Who did it: the caller, or who was founded.
+    pub user: Option<&'a Word>,
+    /// The number of the first line; 0 and 1 are each line.
+    pub since: u64,
+    /// Whether the lines are JSON.
+    pub json: bool,
 }
 
 impl<'a> Model for Filter<'a> {
@@ -28,6 +37,9 @@ impl<'a> Model for Filter<'a> {
     ghost view = { λ filter. record {
       team = option_map (λ team. team.now) filter.team;
       profile = option_map (λ profile. profile.now) filter.profile;
+      user = option_map (λ user. user.now) filter.user;
+      since = filter.since;
+      json = filter.json;
     } };
 }
 
@@ -93,11 +105,59 @@ fn is_about(profile: Option<&Word>, event: &Event) -> bool
     }
 }
 
+// Who did it.
+fn doer_of(event: &Event) -> &Word
+    ensures { result.now ≡ doer_of (event_meant event.now) }
+{
+    match event {
+        Event::Founded { user, .. } => user,
+        Event::Enrolled { caller, .. }
+        | Event::Submitted { caller, .. }
+        | Event::Voted { caller, .. }
+        | Event::Issued { caller, .. }
+        | Event::Withdrawn { caller, .. }
+        | Event::Adopted { caller, .. }
+        | Event::Held { caller, .. }
+        | Event::Released { caller, .. } => caller,
+    }
+}
+
+// Whether this user did it, where one is named.
+fn is_by(user: Option<&Word>, event: &Event) -> bool
+    ensures { result ≡ is_by (option_map (λ user. user.now) user.entry) (event_meant event.now) }
+{
+    match user {
+        Some(user) => user.is(doer_of(event)),
+        None => true,
+    }
+}
+
 impl<'a> Filter<'a> {
-    /// Whether an event is shown.
-    pub fn passes(&self, event: &Event) -> bool
-        ensures { result ≡ passes self.now (event_meant event.now) }
+    // Whether an event is shown, on whatever line.
+    fn is_asked(&self, event: &Event) -> bool
+        ensures { result ≡ is_asked self.now (event_meant event.now) }
     {
-        is_of_team(self.team, event) && is_about(self.profile, event)
+        is_of_team(self.team, event) && is_about(self.profile, event) && is_by(self.user, event)
+    }
+
+    // Whether no event is left out but for the number of its line.
+    fn asks_for_all(&self) -> bool
+        ensures { result ≡ asks_for_all self.now }
+    {
+        self.team.is_none() && self.profile.is_none() && self.user.is_none()
+    }
+
+    /// Whether a line is shown by which no event stands: it is struck out, or strikes one out.
+    pub fn shows_struck(&self, line: u64) -> bool
+        ensures { result ≡ shows_struck self.now line }
+    {
+        self.since <= line && self.asks_for_all()
+    }
+
+    /// Whether the event of a line is shown.
+    pub fn passes(&self, placed: &Placed) -> bool
+        ensures { result ≡ passes self.now (placed_meant placed.now) }
+    {
+        self.since <= placed.line && self.is_asked(&placed.event)
     }
 }

@@ -1,7 +1,7 @@
 //! The history that people read of a journal.
 
-ghost use Rattle.std.specs.Prelude.{◌≡◌, ◌∷◌, ◌++◌, [], ℕ, List, Option, None, Ok, IfErr, IfOk};
-ghost use Rattle.std.specs.Prelude.{string_bytes};
+ghost use Rattle.std.specs.Prelude.{◌≡◌, ◌-◌, ◌∷◌, ◌++◌, [], ℕ, List, Option, None, Ok};
+ghost use Rattle.std.specs.Prelude.{IfErr, IfOk, string_bytes};
 ghost use Rattle.sqlite.specs.Held.{state};
 ghost use Rattle.sqlite.specs.State.{HasCleanDisk};
 ghost use Rattle.office_store.specs.Shown.{IsIdle};
@@ -14,14 +14,18 @@ ghost use Rattle.journal_lines.specs.Told.{Gives, Place, place, placed_meant, st
 ghost use Rattle.journal_replay.specs.Rebuilt.{HasReplayed};
 ghost use Rattle.journal_replay.specs.Steps.{CountsNext, IsFirstRead, IsLeft};
 ghost use Rattle.journal_reports.specs.History.{ComesNext, HasWritten, IsUnwritten, IsWritten};
-ghost use Rattle.journal_reports.specs.History.{shown_of};
+ghost use Rattle.journal_reports.specs.History.{last_line, shown_of};
+ghost use Rattle.journal_reports.specs.Struck.{struck_lines};
+ghost use Rattle.journal_reports.specs.Lines.{text_in};
 ghost use Rattle.journal_reports.specs.Writing.{IsStopped, LooksUp, MakesLine, WritesAll};
 ghost use Rattle.journal_reports.specs.Writing.{WritesFirst};
 ghost use Rattle.journal_reports.specs.Writing.{WritesNext, WritesText};
 
 use crate::fault::Unwritten;
 use crate::filter::Filter;
+use crate::json_line::json_text;
 use crate::line::text;
+use crate::struck::struck;
 use journal_lines::Placed;
 use journal_replay::{Refused, Replay};
 use office_desk::Office;
@@ -29,7 +33,7 @@ use office_policy::Event;
 use office_tables::RevisionRow;
 use review_policy::Fault;
 use sqlite::{Alter, Connection};
-use std::alloc::Global;
+use std::alloc::{AllocError, Global};
 use std::io::{BufRead, Write};
 use streams::{Counted, write_whole};
 
@@ -57,6 +61,23 @@ fn look_up<S: Alter>(
     }
 }
 
+// The line of an event, by what was looked up, for people or as JSON.
+fn text_in(
+    alloc: Global,
+    filter: &Filter<'_>,
+    placed: &Placed,
+    found: &Option<RevisionRow>,
+) -> Result<String, AllocError>
+    ensures { IfOk result (λ text. string_bytes text
+        ≡ text_in filter.now.json placed.now.line (event_meant placed.now.event) found.now) }
+{
+    if filter.json {
+        json_text(alloc, placed, found)
+    } else {
+        text(alloc, placed, found)
+    }
+}
+
 // The line of an event, where it is asked for, and else no text. The office is that of the events
 // before it.
 fn line_of<S: Alter>(
@@ -70,12 +91,12 @@ fn line_of<S: Alter>(
         → MakesLine bytes (meaning_over S.Store) here es office.old office.new
         filter.now (placed_meant placed.now) result }
 {
-    if !filter.passes(&placed.event) {
+    if !filter.passes(placed) {
         return Ok(String::new(alloc));
     }
     match look_up(alloc, office, &placed.event) {
         Ok(found) => {
-            let made = text(alloc, placed, &found);
+            let made = text_in(alloc, filter, placed, &found);
             drop(found);
             match made {
                 Ok(text) => Ok(text),
@@ -100,8 +121,8 @@ fn write_line<W: Write>(output: &mut Counted<W>, line: String) -> Result<(), Unw
     }
 }
 
-// Has the next event happen again, and writes its line.
-fn write_next<S: Alter, R: BufRead, W: Write>(
+// Has the next event happen again, and writes its line. All before it were written.
+fn write_event<S: Alter, R: BufRead, W: Write>(
     alloc: Global,
     replay: &mut Replay<S, R>,
     placed: Placed,
@@ -112,7 +133,7 @@ fn write_next<S: Alter, R: BufRead, W: Write>(
     ensures count { replay.new.count ≡ replay.old.count }
     ensures written { (bytes from : Option (List ℕ)) (here : Place) (es : List (ℕ × TheEvent))
         → HasWritten bytes filter.now from (W.contents output.old.inner) (meaning_over S.Store)
-        replay.old.office here es replay.old.office
+        replay.old.office here es (placed.line - 1) replay.old.office
         → ComesNext here (placed_meant placed)
         → WritesNext bytes (meaning_over S.Store) filter.now from (W.contents output.new.inner)
         replay.new.office (es ++ placed_meant placed ∷ []) result }
@@ -133,36 +154,87 @@ fn write_next<S: Alter, R: BufRead, W: Write>(
     }
 }
 
+// Writes the lines for those of the journal behind one, up to the last: by none an event stands.
+fn write_struck<W: Write>(
+    alloc: Global,
+    filter: &Filter<'_>,
+    behind: u64,
+    last: u64,
+    output: &mut Counted<W>,
+) -> Result<(), Unwritten>
+    ensures { WritesFirst (W.contents output.old.inner) (W.contents output.new.inner)
+        (struck_lines filter.now behind (last - behind)) result }
+{
+    match struck(alloc, filter, behind, last) {
+        Ok(text) => write_line(output, text),
+        Err(why) => Err(why),
+    }
+}
+
+// Has the next event happen again, and writes the lines behind that of the last one, up to its own.
+fn write_next<S: Alter, R: BufRead, W: Write>(
+    alloc: Global,
+    replay: &mut Replay<S, R>,
+    behind: u64,
+    placed: Placed,
+    filter: &Filter<'_>,
+    output: &mut Counted<W>,
+) -> Result<(), Unwritten>
+    ensures events { replay.new.events ≡ replay.old.events }
+    ensures count { replay.new.count ≡ replay.old.count }
+    ensures written { (bytes from : Option (List ℕ)) (here : Place) (es : List (ℕ × TheEvent))
+        → HasWritten bytes filter.now from (W.contents output.old.inner) (meaning_over S.Store)
+        replay.old.office here es behind replay.old.office
+        → last_line es ≡ behind
+        → ComesNext here (placed_meant placed)
+        → WritesNext bytes (meaning_over S.Store) filter.now from (W.contents output.new.inner)
+        replay.new.office (es ++ placed_meant placed ∷ []) result }
+{
+    match write_struck(alloc, filter, behind, placed.line.saturating_sub(1), output) {
+        Ok(()) => write_event(alloc, replay, placed, filter, output),
+        Err(why) => {
+            drop(placed);
+            Err(why)
+        }
+    }
+}
+
 // Of a journal that can't be read on, has the event that is held back happen again, where one is, and
-// writes its line. Why no more is written.
+// writes the lines up to its own, or all that are left. Why no more is written.
 fn write_last<S: Alter, R: BufRead, W: Write>(
     alloc: Global,
     replay: &mut Replay<S, R>,
+    behind: u64,
     refused: Refused,
     filter: &Filter<'_>,
     output: &mut Counted<W>,
 ) -> Unwritten
     ensures { (bytes from : Option (List ℕ)) (here : Place) (es : List (ℕ × TheEvent))
         → HasWritten bytes filter.now from (W.contents output.old.inner) (meaning_over S.Store)
-        replay.old.office here es replay.old.office
+        replay.old.office here es behind replay.old.office
+        → last_line es ≡ behind
         → IsLeft here (place R.remaining replay.old.events) refused.line refused.why
         → IsStopped bytes (meaning_over S.Store) filter.now from (W.contents output.new.inner)
         replay.new.office result }
 {
     match replay.held_back() {
-        Some(placed) => match write_next(alloc, replay, placed, filter, output) {
+        Some(placed) => match write_next(alloc, replay, behind, placed, filter, output) {
             Ok(()) => Unwritten::Refused(refused),
             Err(why) => why,
         },
-        None => Unwritten::Refused(refused),
+        None => match write_struck(alloc, filter, behind, replay.taken(), output) {
+            Ok(()) => Unwritten::Refused(refused),
+            Err(other) => other,
+        },
     }
 }
 
-// The next event that stands. Where the journal can't be read on, the line of the one that is held
-// back is written first.
+// The next event that stands. Where the journal can't be read on, the lines behind that of the last
+// one are written first, with that of the one that is held back.
 fn next_event<S: Alter, R: BufRead, W: Write>(
     alloc: Global,
     replay: &mut Replay<S, R>,
+    behind: u64,
     filter: &Filter<'_>,
     output: &mut Counted<W>,
 ) -> Result<Option<Placed>, Unwritten>
@@ -175,34 +247,40 @@ fn next_event<S: Alter, R: BufRead, W: Write>(
     ensures count { IfOk result (CountsNext replay.old.count replay.new.count) }
     ensures stopped { IfErr result (λ why. (bytes from : Option (List ℕ)) (es : List (ℕ × TheEvent))
         → HasWritten bytes filter.now from (W.contents output.old.inner) (meaning_over S.Store)
-        replay.old.office (place R.remaining replay.old.events) es replay.old.office
+        replay.old.office (place R.remaining replay.old.events) es behind replay.old.office
+        → last_line es ≡ behind
         → IsStopped bytes (meaning_over S.Store) filter.now from (W.contents output.new.inner)
         replay.new.office why) }
 {
     match replay.next(alloc) {
         Ok(found) => Ok(found),
-        Err(refused) => Err(write_last(alloc, replay, refused, filter, output)),
+        Err(refused) => Err(write_last(alloc, replay, behind, refused, filter, output)),
     }
 }
 
-// Has each further event happen again, and writes its line.
+// Has each further event happen again, and writes the lines behind that of the first.
 fn write_rest<S: Alter, R: BufRead, W: Write>(
     alloc: Global,
     replay: &mut Replay<S, R>,
+    first: u64,
     filter: &Filter<'_>,
     output: &mut Counted<W>,
 ) -> Result<(), Unwritten>
     requires { replay.old.events.fault ≡ None }
     ensures { (bytes from : Option (List ℕ)) (es : List (ℕ × TheEvent))
         → HasWritten bytes filter.now from (W.contents output.old.inner) (meaning_over S.Store)
-        replay.old.office (place R.remaining replay.old.events) es replay.old.office
+        replay.old.office (place R.remaining replay.old.events) es first replay.old.office
+        → last_line es ≡ first
         → WritesAll bytes (meaning_over S.Store) filter.now from (W.contents output.new.inner)
         replay.new.office result }
 {
-    'events: while let Some(placed) = next_event(alloc, replay, filter, output)? {
-        write_next(alloc, replay, placed, filter, output)?;
+    let mut behind = first;
+    'events: while let Some(placed) = next_event(alloc, replay, behind, filter, output)? {
+        let line = placed.line;
+        write_next(alloc, replay, behind, placed, filter, output)?;
+        behind = line;
     }
-    Ok(())
+    write_struck(alloc, filter, behind, replay.taken(), output)
 }
 
 // The line of the founding, where it is asked for, and else no text.
@@ -212,10 +290,10 @@ fn first_line(alloc: Global, first: &Placed, filter: &Filter<'_>) -> Result<Stri
         string_bytes text ≡ shown_of filter.now [] (placed_meant first.now)) }
     ensures none { IfErr result (λ why. why ≡ Unwritten.NoMemory) }
 {
-    if !filter.passes(&first.event) {
+    if !filter.passes(first) {
         return Ok(String::new(alloc));
     }
-    match text(alloc, first, &None) {
+    match text_in(alloc, filter, first, &None) {
         Ok(text) => Ok(text),
         Err(_) => Err(Unwritten::NoMemory),
     }
@@ -259,22 +337,29 @@ fn write_all<S: Alter, R: BufRead, W: Write>(
         → WritesAll bytes (meaning_over S.Store) filter.now (W.contents output.old.inner)
         (W.contents output.new.inner) replay.new.office result }
 {
-    match write_first(alloc, first, filter, output) {
-        Ok(()) => match halt {
-            None => write_rest(alloc, replay, filter, output),
-            Some(refused) => Err(Unwritten::Refused(refused)),
+    let line = first.line;
+    match write_struck(alloc, filter, 0, line.saturating_sub(1), output) {
+        Ok(()) => match write_first(alloc, first, filter, output) {
+            Ok(()) => match halt {
+                None => write_rest(alloc, replay, line, filter, output),
+                Some(refused) => Err(Unwritten::Refused(refused)),
+            },
+            Err(why) => Err(why),
         },
-        Err(why) => Err(why),
+        Err(why) => {
+            drop(first);
+            Err(why)
+        }
     }
 }
 
 /// Writes the history of the journal that an office is built anew from over a connection to an
-/// empty store: a line for each event that is asked for, the oldest first. The connection is handed
-/// back in any case, as the last event left it.
+/// empty store: a line for each of its lines that is asked for, the oldest first. The connection is
+/// handed back in any case, as the last event left it.
 ///
 /// # Errors
 ///
-/// Why not each line was written. The lines of the events before were.
+/// Why not each line was written. Those before were.
 pub fn write_history<S: Alter, R: BufRead + Drop, W: Write>(
     alloc: Global,
     conn: Connection<S>,

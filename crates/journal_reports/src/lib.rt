@@ -5,8 +5,10 @@ mod fault;
 mod filter;
 mod history;
 mod issue;
+pub mod json_line;
 pub mod laws;
 pub mod line;
+mod struck;
 
 pub use fault::{NoEvidence, Unwritten};
 pub use filter::Filter;

@@ -219,8 +219,8 @@ fn push_enrolment(
     Ok(())
 }
 
-// The number of a revision, or 0.
-fn number_of(found: &Option<RevisionRow>) -> u32
+/// The number of a revision, or 0.
+pub(crate) fn number_of(found: &Option<RevisionRow>) -> u32
     ensures { result ≡ number_of found.now }
 {
     match found {

@@ -1,13 +1,9 @@
 -- Why an office can't be read.
 use Rattle.std.proofs.Common.{inl, inr, ◌≡◌, ℕ, List, [], Result, Ok, Err, IfErr, IsErrAnd, IsTrue, refl, sym, subst, arith}
 use Rattle.sqlite.specs.declared.error.Error.{Error}
-use Rattle.sqlite.specs.Held.{Held, state}
 use Rattle.sqlite.specs.Listing.{understood}
 use Rattle.sqlite.specs.State.{State, FailsToQuery}
-use Rattle.sqlite.specs.Steps.{over_memory}
 use Rattle.sqlite_tied.specs.Compute.{everything}
-use Rattle.sqlite_trees.specs.declared.memory.MemStore.{MemStore}
-use Rattle.office_tables.specs.Tables.{Tables}
 use Rattle.office_tables.specs.declared.fault.StoreFault.{StoreFault}
 use Rattle.office_tables.specs.declared.fault.StoreFault.TheVariants as fault
 use Rattle.office_rows.specs.Causes.{HasFailed}
@@ -16,11 +12,10 @@ use Rattle.office_rows.specs.Queries.{IsQuery}
 use Rattle.office_rows.specs.Rows.{IsFaultOf}
 use Rattle.office_rows.proofs.Sure.{IsSure, rows_fault, shut_failed, sure_failed}
 use Rattle.office_store.specs.Schema.{office_schema}
-use Rattle.office_store.specs.Shown.{IsIdle, Shows}
-use Rattle.office_store.proofs.Calls.{by_open, never_both}
+use Rattle.office_store.specs.Shown.{IsIdle}
+use Rattle.office_store.proofs.Calls.{by_open}
 use Rattle.journal_verification.specs.declared.table.Table.{Table}
 use Rattle.journal_verification.specs.declared.table.Table.TheVariants as table
-use Rattle.journal_verification.specs.Looked.{HasFailedIn}
 use Rattle.journal_verification.specs.Texts.{rowids_text, rows_text}
 use Rattle.journal_verification.proofs.Queries.{rows_are_asked, rowids_are_asked}
 
@@ -61,16 +56,3 @@ rowids_failed t sql is old new idle has f fault = failed (rowids_text t) (rowids
 pub passed_on : {A : Type 0} (P : StoreFault → Type 0) (r : Result A StoreFault) (f : StoreFault) → IsErrAnd r (λ e. e ≡ f) → P f → IfErr r P
 passed_on P (Ok a) f is p = absurd is
 passed_on P (Err e) f is p = subst P (sym is) p
-
--- memory has no faults
-memory_never_failed : (old new : Held MemStore) (f : StoreFault) → IsTrue (state over_memory old).is_open → HasFailed (state over_memory old) (state over_memory new) f → f ≡ fault.NoMemory
-memory_never_failed old new fault.NoMemory is_open h = refl
-memory_never_failed old new fault.Disk is_open (inl h) = absurd (omega (arith, h))
-memory_never_failed old new fault.Disk is_open (inr shut) = never_both (state over_memory old).is_open is_open shut
-memory_never_failed old new fault.Full is_open h = absurd (omega (arith, h))
-memory_never_failed old new fault.NotAnOffice is_open h = absurd h
-
--- so the office failed
-pub failed_office : (built left : Held MemStore) (t : Tables) → Shows (state over_memory built) t → (old new : State) (f : StoreFault) → HasFailedIn (state over_memory built) (state over_memory left) old new f → HasFailed old new f
-failed_office built left t shows old new f (inl h) = subst (HasFailed old new) (sym (memory_never_failed built left f shows.is_open h)) tt
-failed_office built left t shows old new f (inr h) = h

@@ -2,10 +2,10 @@
 use Rattle.std.proofs.Common.{◌≡◌, ℕ, List, [], ◌∷◌, Option, Some, None, IfSome, refl, sym, subst}
 use Rattle.sqlite.specs.Held.{Held, state}
 use Rattle.sqlite.specs.State.{State, HasCleanDisk}
-use Rattle.sqlite.specs.Steps.{IsEmpty, over_memory}
+use Rattle.sqlite.specs.Steps.{IsEmpty}
 use Rattle.sqlite.specs.Store.{Ghosts}
-use Rattle.sqlite_trees.specs.View.{doubt}
-use Rattle.sqlite_trees.specs.declared.memory.MemStore.{MemStore}
+use Rattle.memory_database.specs.MemoryStore.{MemoryStore, over_memory}
+use Rattle.memory_database.proofs.MemoryFacts.{memory_is_clean}
 use Rattle.office_store.specs.Shown.{IsIdle, Shows}
 use Rattle.office_store.proofs.Calls.{Settles, leaves_only}
 use Rattle.office_store.proofs.Committed.{survives_same}
@@ -30,11 +30,6 @@ use Rattle.journal_verification.specs.Looked.{HasLooked}
 use Rattle.journal_verification.specs.Refused.{IsFirstUnlawful, IsNotRebuilt, IsWrongAt}
 use Rattle.journal_verification.specs.Verified.{IsOther, IsVerified}
 use Rattle.journal_verification.proofs.Differences.{differ}
-
--- memory returns what was written
-pub memory_is_clean : (x : Held MemStore) → HasCleanDisk (state over_memory x)
-unfolding doubt
-memory_is_clean x = refl
 
 pub looked_itself : (s : State) → IsIdle s → HasLooked s s
 looked_itself s idle = record {
@@ -65,7 +60,7 @@ module _ (bytes : Option (List ℕ)) where
   refuted Clean clean (why.Unreplayed (causes.Fault fault)) h = h
 
   -- an event that is refused in memory is the first one that isn't allowed
-  first_unlawful : (left : Held MemStore) (line : ℕ) (cause : Unreplayed) (Because : Event → History → Type 0) (is : IsUnreplayed bytes (meaning_over over_memory) left line cause)
+  first_unlawful : (left : Held MemoryStore) (line : ℕ) (cause : Unreplayed) (Because : Event → History → Type 0) (is : IsUnreplayed bytes (meaning_over over_memory) left line cause)
       → IsDenied (meaning_over over_memory) is.old left is.event (Because is.event) → IsFirstUnlawful bytes line Because
   first_unlawful left line cause Because is denied =
       let clean = memory_is_clean is.old in
@@ -80,7 +75,7 @@ module _ (bytes : Option (List ℕ)) where
         because = denied.why (history_told is.before) here (memory_is_clean left);
       }
 
-  wrong_at : (conn left : Held MemStore) (line : ℕ) (w : Why) → IsRefused bytes over_memory conn left line w → IsWrongAt bytes line w
+  wrong_at : (conn left : Held MemoryStore) (line : ℕ) (w : Why) → IsRefused bytes over_memory conn left line w → IsWrongAt bytes line w
   wrong_at conn left line (why.Unread fault) is = is
   wrong_at conn left line why.NotFounded is = is
   wrong_at conn left line (why.Unfounded fault) is = tt
@@ -89,7 +84,7 @@ module _ (bytes : Option (List ℕ)) where
   wrong_at conn left line (why.Unreplayed causes.OtherText) is = first_unlawful left line causes.OtherText HasOtherText is is.refused
   wrong_at conn left line (why.Unreplayed (causes.Fault fault)) is = tt
 
-  pub not_rebuilt : (conn left : Held MemStore) (refused : Refused) → IsIdle (state over_memory conn) → IsEmpty (state over_memory conn)
+  pub not_rebuilt : (conn left : Held MemoryStore) (refused : Refused) → IsIdle (state over_memory conn) → IsEmpty (state over_memory conn)
       → IsRefused bytes over_memory conn left refused.line refused.why → Refutes bytes (HasCleanDisk (state over_memory left)) refused.why → IsNotRebuilt bytes refused
   not_rebuilt conn left refused idle empty is unlawful = record {
     conn = conn;
@@ -101,7 +96,7 @@ module _ (bytes : Option (List ℕ)) where
     unlawful = refuted (HasCleanDisk (state over_memory left)) (memory_is_clean left) refused.why unlawful;
   }
 
-  module _ (built : Held MemStore) (count : ℕ) (seal : List ℕ) (rebuilt : IsRebuilt bytes (meaning_over over_memory) count seal built) where
+  module _ (built : Held MemoryStore) (count : ℕ) (seal : List ℕ) (rebuilt : IsRebuilt bytes (meaning_over over_memory) count seal built) where
     built_shows : Shows (state over_memory built) (tables_of rebuilt.history)
     built_shows =
         let clean = memory_is_clean built in
@@ -109,8 +104,8 @@ module _ (bytes : Option (List ℕ)) where
         stands.is_of.tables clean stands.is_open
 
     -- so does the connection that was made of it
-    pub still_shows : (conn : Held MemStore) → conn ≡ built → Shows (state over_memory conn) (tables_of rebuilt.history)
-    still_shows conn is = subst (λ (b : Held MemStore). Shows (state over_memory b) (tables_of rebuilt.history)) (sym is) built_shows
+    pub still_shows : (conn : Held MemoryStore) → conn ≡ built → Shows (state over_memory conn) (tables_of rebuilt.history)
+    still_shows conn is = subst (λ (b : Held MemoryStore). Shows (state over_memory b) (tables_of rebuilt.history)) (sym is) built_shows
 
     module _ {T : Type 0} (f : Ghosts T) where
       pub verified : (office : Held T) → IsIdle (state f office) → Settles (state f office) → Shows (state f office) (tables_of rebuilt.history) → IsVerified bytes f office (record { events = count; seal = seal })

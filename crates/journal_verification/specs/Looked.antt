@@ -1,8 +1,6 @@
 -- What looking at a connection leaves of it.
-use Rattle.std.specs.Prelude.{◌≡◌, ◌⊎◌, false}
+use Rattle.std.specs.Prelude.{◌≡◌, false}
 use Rattle.sqlite.specs.State.{State, HasCleanDisk, Survives}
-use Rattle.office_tables.specs.declared.fault.StoreFault.{StoreFault}
-use Rattle.office_rows.specs.Causes.{HasFailed}
 use Rattle.office_rows.specs.Queries.{IsAsItWas}
 use Rattle.office_store.specs.Shown.{IsIdle}
 
@@ -17,7 +15,3 @@ pub record HasLooked (old new : State) : Type 0 where
   pub shut : HasCleanDisk new → old.is_open ≡ false → new.is_open ≡ false
   -- no fault is forgotten, and a crash leaves nothing that it couldn't leave before
   pub survives : Survives old new (λ _. ⊥)
-
--- one of two connections couldn't be read
-abbrev pub HasFailedIn : (first left second new : State) → StoreFault → Type 0
-HasFailedIn first left second new f = HasFailed first left f ⊎ HasFailed second new f

@@ -1,8 +1,8 @@
 -- The line by which no office is built anew of a journal, and why.
 use Rattle.std.specs.Prelude.{◌≡◌, ℕ, List, [], ◌∷◌, ◌++◌, Option, None}
 use Rattle.sqlite.specs.Held.{Held, state}
-use Rattle.sqlite.specs.Steps.{IsEmpty, over_memory}
-use Rattle.sqlite_trees.specs.declared.memory.MemStore.{MemStore}
+use Rattle.sqlite.specs.Steps.{IsEmpty}
+use Rattle.memory_database.specs.MemoryStore.{MemoryStore, over_memory}
 use Rattle.office_store.specs.Shown.{IsIdle}
 use Rattle.office_policy.specs.Callers.{caller_of}
 use Rattle.office_policy.specs.History.{Event, History}
@@ -45,10 +45,10 @@ module _ (bytes : Option (List ℕ)) where
   -- over a connection in memory that has nothing yet no office is built anew of it, from this line
   -- on and for this reason; and no lawful history has it, unless there is a fault
   pub record IsNotRebuilt (refusal : Refused) : Type 0 where
-    pub conn : Held MemStore
+    pub conn : Held MemoryStore
     pub idle : IsIdle (state over_memory conn)
     pub empty : IsEmpty (state over_memory conn)
-    pub left : Held MemStore
+    pub left : Held MemoryStore
     pub refused : IsRefused bytes over_memory conn left refusal.line refusal.why
     pub wrong : IsWrongAt refusal.line refusal.why
     pub unlawful : Refutes bytes (Unit {0}) refusal.why

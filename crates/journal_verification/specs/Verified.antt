@@ -1,9 +1,8 @@
 -- When an office is the one of a journal.
 use Rattle.std.specs.Prelude.{◌≡◌, ℕ, List, length, Option, IfSome}
 use Rattle.sqlite.specs.Held.{Held, state}
-use Rattle.sqlite.specs.Steps.{over_memory}
 use Rattle.sqlite.specs.Store.{Ghosts}
-use Rattle.sqlite_trees.specs.declared.memory.MemStore.{MemStore}
+use Rattle.memory_database.specs.MemoryStore.{MemoryStore, over_memory}
 use Rattle.office_tables.specs.Tables.{Tables}
 use Rattle.office_rows.specs.Causes.{HasFailed}
 use Rattle.office_store.specs.Shown.{Shows}
@@ -39,7 +38,7 @@ module _ (bytes : Option (List ℕ)) {T : Type 0} (f : Ghosts T) where
     pub history : History
     pub journal : IfSome bytes (λ text. IsJournalOf text history)
     pub lawful : IsLawfulHistory history
-    pub built : Held MemStore
+    pub built : Held MemoryStore
     pub shows : Shows (state over_memory built) (tables_of history)
     pub differs : Differs over_memory f built office d
     pub differ : (u : Tables) → Shows (state f office) u → DifferAt (tables_of history) u d

@@ -10,7 +10,7 @@ ghost use Rattle.office_store.specs.Schema.{office_schema};
 ghost use Rattle.office_store.specs.Shown.{IsIdle, Shows};
 ghost use Rattle.office_tables.specs.Tables.{Tables};
 ghost use Rattle.journal_verification.specs.Compared.{TellsOffice};
-ghost use Rattle.journal_verification.specs.Looked.{HasFailedIn, HasLooked};
+ghost use Rattle.journal_verification.specs.Looked.{HasLooked};
 ghost use Rattle.journal_verification.specs.Same.{FaultsRowids, IsAnsweredBy, TellsRowids};
 ghost use Rattle.journal_verification.specs.Same.{TellsRows, TellsTables};
 ghost use Rattle.journal_verification.specs.Same.{TellsTable};
@@ -72,7 +72,8 @@ fn have_rowids<S: Alter>(conn: &mut Connection<S>, table: Table) -> Result<bool,
     Ok(are_rising(rows.as_slice()))
 }
 
-// The row by which a table differs, where its rows do.
+// The row by which a table differs, where its rows do. What was built is in memory, so what fails
+// there fails for want of it.
 fn rows_differ<S: Alter, T: Alter>(
     alloc: Global,
     built: &mut Connection<S>,
@@ -90,13 +91,13 @@ fn rows_differ<S: Alter, T: Alter>(
         (IsUnchanged (state S.Store built.old) (state S.Store built.new)) }
     ensures same { HasCleanDisk (state T.Store office.new) → OnOk result
         (IsUnchanged (state T.Store office.old) (state T.Store office.new)) }
-    ensures cause { HasCleanDisk (state S.Store built.new) → HasCleanDisk (state T.Store office.new)
-        → (state S.Store built.old).now.schema ≡ office_schema
+    ensures cause { HasCleanDisk (state T.Store office.new)
         → (state T.Store office.old).now.schema ≡ office_schema → IfErr result
-        (HasFailedIn (state S.Store built.old) (state S.Store built.new)
-        (state T.Store office.old) (state T.Store office.new)) }
+        (HasFailed (state T.Store office.old) (state T.Store office.new)) }
 {
-    let left = rows_of(built, table)?;
+    let Ok(left) = rows_of(built, table) else {
+        return Err(StoreFault::NoMemory);
+    };
     let right = rows_of(office, table)?;
     match first_differing(left.as_slice(), right.as_slice(), table.key_width()) {
         Some(row) => Ok(Some(named(alloc, table, row)?)),
@@ -144,11 +145,9 @@ fn table_differs<S: Alter, T: Alter>(
         (IsUnchanged (state S.Store built.old) (state S.Store built.new)) }
     ensures same { HasCleanDisk (state T.Store office.new) → OnOk result
         (IsUnchanged (state T.Store office.old) (state T.Store office.new)) }
-    ensures cause { HasCleanDisk (state S.Store built.new) → HasCleanDisk (state T.Store office.new)
-        → (state S.Store built.old).now.schema ≡ office_schema
+    ensures cause { HasCleanDisk (state T.Store office.new)
         → (state T.Store office.old).now.schema ≡ office_schema → IfErr result
-        (HasFailedIn (state S.Store built.old) (state S.Store built.new)
-        (state T.Store office.old) (state T.Store office.new)) }
+        (HasFailed (state T.Store office.old) (state T.Store office.new)) }
 {
     let difference = rows_differ(alloc, built, office, table)?;
     match difference {
@@ -174,11 +173,9 @@ fn tables_differ<S: Alter, T: Alter>(
         (IsUnchanged (state S.Store built.old) (state S.Store built.new)) }
     ensures same { HasCleanDisk (state T.Store office.new) → OnOk result
         (IsUnchanged (state T.Store office.old) (state T.Store office.new)) }
-    ensures cause { HasCleanDisk (state S.Store built.new) → HasCleanDisk (state T.Store office.new)
-        → (state S.Store built.old).now.schema ≡ office_schema
+    ensures cause { HasCleanDisk (state T.Store office.new)
         → (state T.Store office.old).now.schema ≡ office_schema → IfErr result
-        (HasFailedIn (state S.Store built.old) (state S.Store built.new)
-        (state T.Store office.old) (state T.Store office.new)) }
+        (HasFailed (state T.Store office.old) (state T.Store office.new)) }
 {
     if let Some(row) = table_differs(alloc, built, office, Table::Office)? {
         return Ok(Some(row));
@@ -203,8 +200,8 @@ fn has_schema<S: Alter, T: Alter>(built: &Connection<S>, office: &Connection<T>)
     office.is_autocommit() && is_same_schema(office.schema(), built.schema())
 }
 
-/// The first difference of an office from one that was built anew, which shows tables. Where there
-/// is none it shows them too. Nothing is changed.
+/// The first difference of an office from one that was built anew in memory, which shows tables.
+/// Where there is none it shows them too. Nothing is changed.
 pub(crate) fn compare<S: Alter, T: Alter>(
     alloc: Global,
     built: &mut Connection<S>,
@@ -218,9 +215,8 @@ pub(crate) fn compare<S: Alter, T: Alter>(
         → HasCleanDisk (state S.Store built.new) → HasCleanDisk (state T.Store office.new)
         → IfOk result (TellsOffice S.Store T.Store t built.old office.old office.new) }
     ensures cause { (t : Tables) → Shows (state S.Store built.old) t
-        → HasCleanDisk (state S.Store built.new) → HasCleanDisk (state T.Store office.new)
-        → IfErr result (HasFailedIn (state S.Store built.old) (state S.Store built.new)
-        (state T.Store office.old) (state T.Store office.new)) }
+        → HasCleanDisk (state T.Store office.new)
+        → IfErr result (HasFailed (state T.Store office.old) (state T.Store office.new)) }
 {
     if !has_schema(built, office) {
         return Ok(Some(Difference::Schema));

@@ -10,6 +10,7 @@ ghost use Rattle.journal_verification.specs.Verified.{IsUnverified, IsVerified};
 use crate::compare::compare;
 use crate::difference::Difference;
 use journal_replay::{Refused, rebuild};
+use memory_database::open_in_memory;
 use office_tables::StoreFault;
 use sealed_log::Seal;
 use sqlite::{Alter, Connection};
@@ -56,7 +57,7 @@ pub fn verify<T: Alter, R: BufRead + Drop>(
     ensures unverified { HasCleanDisk (state T.Store office.new) → IfErr result
         (IsUnverified (R.remaining journal) T.Store office.old office.new) }
 {
-    let Ok(conn) = Connection::open_in_memory(alloc) else {
+    let Ok(conn) = open_in_memory(alloc) else {
         return Err(Unverified::Fault(StoreFault::NoMemory));
     };
     match rebuild(alloc, conn, journal) {

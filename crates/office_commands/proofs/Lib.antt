@@ -1,10 +1,2 @@
-pub mod ServingFacts
-pub mod OpeningFacts
-pub mod KeptFacts
-pub mod LeftFacts
-pub mod KeptLeftFacts
 pub mod RunFacts
-pub mod SaidFacts
-pub mod TrialFacts
-pub mod FailingFacts
 pub mod SameFacts

@@ -1,6 +1,6 @@
 -- What each command has done, by the outcome: what it printed of which bytes, what it said on
 -- standard error, and the status that it ended with.
-use Rattle.std.specs.Prelude.{◌≡◌, ◌⊎◌, ℕ, List, [], ◌∷◌, Option, None, Result, Ok, Err, IfSome}
+use Rattle.std.specs.Prelude.{◌≡◌, ◌⊎◌, ℕ, List, Option, Result}
 use Rattle.std.specs.Prelude.{String, codes, string_bytes, option_copied}
 use Rattle.std.specs.declared.alloc.Global.{Global}
 use Rattle.std.specs.declared.io.Error.{Error}
@@ -8,7 +8,6 @@ use Rattle.std.specs.declared.net.socket_addr.SocketAddr.{SocketAddr}
 use Rattle.std.specs.declared.net.tcp.TcpListener.{TcpListener}
 use Rattle.std.specs.declared.time.Duration.{Duration}
 use Rattle.sqlite.specs.Held.{Held}
-use Rattle.sqlite.specs.Steps.{over_memory}
 use Rattle.sqlite.specs.Store.{Ghosts}
 use Rattle.command_line.specs.Words.{AskFor, AskForNone}
 use Rattle.command_line.specs.declared.fault.WordsFault.{WordsFault}
@@ -16,95 +15,28 @@ use Rattle.command_line.specs.declared.fault.WordsFault.TheVariants.{Help, Versi
 use Rattle.command_line.specs.declared.fault.WordsFault.TheVariants.{NoMemory}
 use Rattle.command_line.specs.declared.command.Command.{Command}
 use Rattle.command_line.specs.declared.command.Command.TheVariants as command
-use Rattle.command_line.specs.declared.command.ExecveWords.{ExecveWords}
 use Rattle.desk_http.specs.Lines.{IsCut, IsWhole}
 use Rattle.office_desk.specs.Meant.{meaning_over}
 use Rattle.sqlite_disk.specs.declared.Disk.{Ghosts as DiskGhosts}
+use Rattle.memory_database.specs.MemoryStore.{over_memory}
 use Rattle.streams.specs.declared.counted.Counted.{Counted}
-use Rattle.profile_commands.specs.Comparing.{IsCompared}
-use Rattle.profile_commands.specs.Executions.{execution_of, IsExecuted}
-use Rattle.profile_commands.specs.Refusal.{IsChecked}
-use Rattle.profile_commands.specs.declared.execution.Execution.{Execution}
-use Rattle.profile_commands.specs.declared.execve.Outcome.{Outcome}
-use Rattle.profile_commands.specs.declared.execve.Outcome.TheVariants.{Done, Denied}
-use Rattle.office_commands.specs.declared.compare.Source.{Source}
-use Rattle.office_commands.specs.declared.compare.Source.TheVariants.{Opened, Unopened}
-use Rattle.office_commands.specs.declared.fault.CommandFault.{CommandFault}
-use Rattle.office_commands.specs.declared.fault.CommandFault.TheVariants as fault
-use Rattle.office_commands.specs.declared.no_file.NoFile.{NoFile}
-use Rattle.office_commands.specs.Foundings.{founding_of_words, WasFounded}
-use Rattle.office_commands.specs.Journals.{journaled_over, IfJournaled, WasFoundedWith}
-use Rattle.office_commands.specs.Journals.{WasKept}
-use Rattle.office_commands.specs.Lines.{HasAnswered}
-use Rattle.office_commands.specs.Migrations.{WasMigrated}
-use Rattle.office_commands.specs.Openings.{WasServed}
-use Rattle.office_commands.specs.Reports.{HasProved, WasToldAt}
-use Rattle.office_commands.specs.Said.{IsRefusal, IsSaid}
-use Rattle.office_commands.specs.Serving.{HasServed}
-use Rattle.office_commands.specs.Trials.{WasTried}
-use Rattle.office_commands.specs.Verifications.{HasVerified}
-
--- what is printed of an execve: the lines of the state after it, or EPERM
-abbrev pub outcome_text : Outcome → List ℕ
-outcome_text (Done text) = string_bytes text
-outcome_text Denied = codes "EPERM\n"
-
--- and the status with it
-abbrev pub outcome_status : Outcome → ℕ
-outcome_status (Done text) = 0
-outcome_status Denied = 1
-
--- the status of a comparison: whether it printed findings
-abbrev pub findings_status : List ℕ → ℕ
-findings_status [] = 0
-findings_status (byte ∷ text) = 1
-
--- a file that was opened so, or that couldn't be
-abbrev pub IsSource : {F : Type 0} → (Result F Error → Type 0) → Source F → Type 0
-IsSource Opens (Opened file) = Opens (Ok file)
-IsSource Opens Unopened = (e : Error) × Opens (Err e)
-
--- the bytes of a file, where it was opened
-abbrev pub source_bytes : {F : Type 0} → (F → Option (List ℕ)) → Source F → Option (List ℕ)
-source_bytes bytes_of (Opened file) = bytes_of file
-source_bytes bytes_of Unopened = None
-
--- What an output has after what it had, of files of which this is known as they are opened at a
--- path, and whose bytes are these.
-module _ {F O : Type 0} (Opens : List ℕ → Result F Error → Type 0)
-    (bytes_of : F → Option (List ℕ)) (contents : O → Option (List ℕ))
-    (output wrote : Counted O) where
-  -- `check`: the canonical text of the document in the file at a path, and a line feed
-  pub record HasChecked (path : List ℕ) : Type 0 where
-    pub file : F
-    pub opened : Opens path (Ok file)
-    pub text : String Global
-    pub checked : IfSome (bytes_of file) (λ bytes. IsChecked bytes (Ok text))
-    pub printed : IsWhole contents output wrote (string_bytes text)
-
-  -- `execve`: what comes of the execution that the words describe, for the document in the file
-  -- that they name
-  pub record HasExecuted (words : ExecveWords) (status : ℕ) : Type 0 where
-    pub file : F
-    pub opened : Opens words.file.now (Ok file)
-    pub execution : Execution
-    pub outcome : Outcome
-    pub described : execution_of words ≡ Ok execution
-    pub executed : IfSome (bytes_of file) (λ bytes. IsExecuted execution bytes (Ok outcome))
-    pub printed : IsWhole contents output wrote (outcome_text outcome)
-    pub ended : status ≡ outcome_status outcome
-
-  -- `compare`: the findings between the documents in the files at two paths, BASE and NEW
-  pub record HasCompared (base_path new_path : List ℕ) (status : ℕ) : Type 0 where
-    pub base : Source F
-    pub base_opened : IsSource (Opens base_path) base
-    pub shown : Source F
-    pub shown_opened : IsSource (Opens new_path) shown
-    pub text : String Global
-    pub compared : IfSome (source_bytes bytes_of base)
-        (λ b. IfSome (source_bytes bytes_of shown) (λ s. IsCompared b s text))
-    pub printed : IsWhole contents output wrote (string_bytes text)
-    pub ended : status ≡ findings_status (string_bytes text)
+use Rattle.command_host.specs.declared.fault.CommandFault.{CommandFault}
+use Rattle.command_host.specs.declared.fault.CommandFault.TheVariants as fault
+use Rattle.command_host.specs.declared.databases.Databases as databases
+use Rattle.command_host.specs.declared.no_file.NoFile.{NoFile}
+use Rattle.changing_commands.specs.Foundings.{founding_of_words, WasFounded}
+use Rattle.changing_commands.specs.Journals.{journaled_over, IfJournaled, WasFoundedWith}
+use Rattle.changing_commands.specs.Journals.{WasKept}
+use Rattle.changing_commands.specs.Lines.{HasAnswered}
+use Rattle.changing_commands.specs.Migrations.{WasMigrated}
+use Rattle.command_host.specs.Openings.{WasServed}
+use Rattle.rebuild_command.specs.Rebuildings.{HasRebuilt}
+use Rattle.reading_commands.specs.Reports.{HasProved, WasToldAt}
+use Rattle.command_host.specs.Said.{IsRefusal, IsSaid}
+use Rattle.changing_commands.specs.Serving.{HasServed}
+use Rattle.changing_commands.specs.Trials.{WasTried}
+use Rattle.reading_commands.specs.Verifications.{HasVerified}
+use Rattle.reading_commands.specs.Documents.{HasChecked, HasCompared, HasExecuted}
 
 -- the status of a command that was refused or failed
 abbrev pub failed_status : Command → ℕ
@@ -112,11 +44,11 @@ failed_status (command.Compare base shown) = 2
 failed_status _ = 1
 
 -- What a command did that ended well with this status, over input that was to come, databases of
--- which this is known as they are opened and closed, journals of which this is known as they are
+-- which this is known, journals of which this is known as they are
 -- made and opened, a network of which this is known as its clock is read, as it binds and as it
 -- tells where it listens, and files of which this is known as they are opened.
-module _ {S L N F O : Type 0} (g : Ghosts S) (Opened-at : List ℕ → Held S → Type 0)
-    (Closed : Held S → Type 0) (f : DiskGhosts L) (Creates : List ℕ → Result L NoFile → Type 0)
+module _ {S D L N F O : Type 0} (g : Ghosts S) (d : databases.Ghosts D (Held S))
+    (f : DiskGhosts L) (Creates : List ℕ → Result L NoFile → Type 0)
     (Finds : List ℕ → Result L NoFile → Type 0)
     (Shows : N → Result Duration Error → Type 0)
     (Binds : N → SocketAddr → Result TcpListener Error → Type 0)
@@ -133,31 +65,34 @@ module _ {S L N F O : Type 0} (g : Ghosts S) (Opened-at : List ℕ → Held S �
       HasExecuted Opens bytes_of contents output wrote words status
   HasRun (command.Init words) came output wrote status =
       IfJournaled (option_copied words.journal)
-      (WasFounded g (Opened-at words.database.now) Closed (founding_of_words words))
-      (λ file. WasFoundedWith g f (Creates file) (Opened-at words.database.now)
-      Closed (founding_of_words words))
+      (WasFounded g (d.opened words.database.now) d.closed (founding_of_words words))
+      (λ file. WasFoundedWith g f (Creates file) (d.opened words.database.now)
+      d.closed (founding_of_words words))
       × IsWhole contents output wrote (codes "founded\n") × (status ≡ 0)
   HasRun (command.Desk database journal) came output wrote status =
       IfJournaled (option_copied journal)
-      (WasServed g (Opened-at database.now)
-      (HasAnswered contents (meaning_over g) came output wrote) Closed)
-      (λ file. WasKept g f (Finds file) (Opened-at database.now)
-      (HasAnswered contents (journaled_over g f) came output wrote) Closed)
+      (WasServed g (d.opened database.now)
+      (HasAnswered contents (meaning_over g) came output wrote) d.closed)
+      (λ file. WasKept g f (Finds file) (d.opened database.now)
+      (HasAnswered contents (journaled_over g f) came output wrote) d.closed)
       × (status ≡ 0)
   HasRun (command.Serve words) came output wrote status =
       IfJournaled (option_copied words.journal)
-      (WasServed g (Opened-at words.database.now) (λ old new. HasServed Shows Binds Tells contents
-      (meaning_over g) words old new output wrote) Closed)
-      (λ file. WasKept g f (Finds file) (Opened-at words.database.now)
+      (WasServed g (d.opened words.database.now) (λ old new. HasServed Shows Binds Tells contents
+      (meaning_over g) words old new output wrote) d.closed)
+      (λ file. WasKept g f (Finds file) (d.opened words.database.now)
       (λ old new. HasServed Shows Binds Tells contents (journaled_over g f) words old new
-      output wrote) Closed)
+      output wrote) d.closed)
       × (status ≡ 0)
   HasRun (command.Migrate database) came output wrote status =
-      WasMigrated g (Opened-at database.now) Closed
+      WasMigrated g (d.opened database.now) d.closed
       × IsWhole contents output wrote (codes "migrated\n") × (status ≡ 0)
   HasRun (command.Verify words) came output wrote status =
-      HasVerified g (Opens words.journal.now) bytes_of (Opened-at words.database.now) words.seal
-      contents output wrote Closed × (status ≡ 0)
+      HasVerified Opens bytes_of words.journal.now words.database.now words.seal
+      contents output wrote × (status ≡ 0)
+  HasRun (command.Rebuild database journal) came output wrote status =
+      HasRebuilt g d database.now (Opens journal.now) bytes_of contents output wrote
+      × (status ≡ 0)
   HasRun (command.History words) came output wrote status =
       WasToldAt Opens bytes_of contents output wrote words × (status ≡ 0)
   HasRun (command.Evidence words) came output wrote status =

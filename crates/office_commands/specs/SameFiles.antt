@@ -3,8 +3,8 @@ use Rattle.std.specs.Prelude.{◌≡◌, ◌||◌, ℕ, List, ◌++◌, Bool, tr
 use Rattle.std.specs.Prelude.{bytes_eq, codes, option_copied}
 use Rattle.command_line.specs.declared.command.Command.{Command}
 use Rattle.command_line.specs.declared.command.Command.TheVariants as command
-use Rattle.office_commands.specs.declared.fault.CommandFault.{CommandFault}
-use Rattle.office_commands.specs.declared.fault.CommandFault.TheVariants as fault
+use Rattle.command_host.specs.declared.fault.CommandFault.{CommandFault}
+use Rattle.command_host.specs.declared.fault.CommandFault.TheVariants as fault
 
 -- a path is that of a database, of its log, or of the journal that SQLite may leave of it
 abbrev pub is_of_database : (path database : List ℕ) → Bool
@@ -25,6 +25,7 @@ names_one_file (command.Desk database journal) =
     is_one_of_database (option_copied journal) database.now
 names_one_file (command.Serve words) =
     is_one_of_database (option_copied words.journal) words.database.now
+names_one_file (command.Rebuild database journal) = is_of_database journal.now database.now
 names_one_file _ = false
 
 -- a command that ended well named none, and this was done

@@ -1,8 +1,7 @@
 //! The commands over the host: its files, its databases, its journals and its network.
 
-use crate::host_files::{HostFiles, Unread};
-use crate::host_journals::HostJournals;
 use crate::run::run_words;
+use command_host::{HostFiles, HostJournals, Unread};
 use sqlite::Start;
 use std::io::{Read, Write};
 use streams::Counted;

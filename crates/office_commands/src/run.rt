@@ -1,196 +1,22 @@
 //! The commands of the program.
 
-ghost use Rattle.std.specs.Prelude.{◌≡◌, ◌^◌, ◌≤◌, IfErr, IfOk, MatchResult, string_bytes};
-ghost use Rattle.std.specs.declared.io.Error.{Error};
-ghost use Rattle.office_commands.specs.Commands.{failed_status, findings_status, HasChecked};
-ghost use Rattle.office_commands.specs.Commands.{HasCompared, HasExecuted, HasRun, HasRunWords};
-ghost use Rattle.office_commands.specs.Commands.{HasTold, IsPrinted};
-ghost use Rattle.office_commands.specs.Failing.{FailsToCheck, FailsToCompare, FailsToExecute};
+ghost use Rattle.std.specs.Prelude.{◌≡◌, ◌^◌, ◌≤◌, IfErr, IfOk, MatchResult};
+ghost use Rattle.command_host.specs.Said.{IsRefusal};
+ghost use Rattle.office_commands.specs.Commands.{failed_status, HasRun, HasRunWords, HasTold};
+ghost use Rattle.office_commands.specs.Commands.{IsPrinted};
 ghost use Rattle.office_commands.specs.Failing.{HasFailed};
-ghost use Rattle.office_commands.specs.Reports.{FailsToProve, HasProved, IsUntoldAt, WasToldAt};
-ghost use Rattle.office_commands.specs.Said.{IsRefusal};
 ghost use Rattle.office_commands.specs.SameFiles.{FailsApart, WasApart};
-ghost use Rattle.office_commands.specs.Verifications.{FailsToVerify, HasVerified};
 
-use crate::compare::compare_files;
-use crate::databases::Databases;
-use crate::evidence::evidence_at;
-use crate::fault::CommandFault;
-use crate::files::PassFiles;
-use crate::history::history_at;
-use crate::init::found_at;
-use crate::journals::Journals;
-use crate::migrate::migrate_at;
-use crate::network::Network;
 use crate::same_file::names_one_file;
-use crate::serve::serve_http;
-use crate::stored::serve_stored;
-use crate::trial::serve_trial;
-use crate::verify::{verified_line, verify_with};
-use crate::written::{print, print_bytes, refuse, say};
-use command_line::{
-    Command, EvidenceWords, ExecveWords, HistoryWords, VerifyWords, WordsFault, read_words,
-};
-use profile_commands::{Outcome, check_document, execution_of, execve_document};
+use changing_commands::{found_at, migrate_at, serve_http, serve_stored, serve_trial};
+use command_host::{CommandFault, Databases, Journals, Network, PassFiles, print, refuse, say};
+use command_line::{Command, WordsFault, read_words};
+use reading_commands::{run_check, run_compare, run_evidence, run_execve, run_history, run_verify};
+use rebuild_command::run_rebuild;
 use sqlite::{Alter, Connection};
 use std::alloc::Global;
 use std::io::{Read, Write};
 use streams::Counted;
-
-// The file at this path, for reading.
-fn open<F: PassFiles>(files: &F, path: &str) -> Result<Counted<F::File>, CommandFault>
-    ensures opened { IfOk result (λ reader. F.opens files.now path.now (Ok reader.inner)) }
-    ensures calls { IfOk result (λ reader. reader.calls ≡ 0) }
-    ensures faults { IfOk result (λ reader. reader.faults ≡ 0) }
-    ensures fault { IfErr result (λ fault. (fault ≡ CommandFault.Open)
-        × ((e : Error) × F.opens files.now path.now (Err e))) }
-{
-    match files.open_at(path) {
-        Ok(file) => Ok(Counted::new(file)),
-        Err(_) => Err(CommandFault::Open),
-    }
-}
-
-// `check`.
-fn run_check<F: PassFiles, O: Write>(
-    files: &F,
-    alloc: Global,
-    file: &str,
-    output: &mut Counted<O>,
-) -> Result<u8, CommandFault>
-    ensures done { IfOk result (λ status.
-        HasChecked (F.opens files.now) F.File.remaining O.contents output.old output.new file.now
-        × (status ≡ 0)) }
-    ensures failed { IfErr result (FailsToCheck (F.opens files.now) F.File.remaining O.contents
-        output.old output.new file.now) }
-{
-    let mut reader = open(files, file)?;
-    let text = check_document(alloc, &mut reader)?;
-    print(output, text.as_str())?;
-    Ok(0)
-}
-
-// `execve`.
-fn run_execve<F: PassFiles, O: Write>(
-    files: &F,
-    alloc: Global,
-    words: &ExecveWords<'_>,
-    output: &mut Counted<O>,
-) -> Result<u8, CommandFault>
-    ensures done { IfOk result
-        (HasExecuted (F.opens files.now) F.File.remaining O.contents output.old output.new
-        words.now) }
-    ensures failed { IfErr result (FailsToExecute (F.opens files.now) F.File.remaining O.contents
-        output.old output.new words.now) }
-{
-    let execution = execution_of(words)?;
-    let mut reader = open(files, words.file)?;
-    match execve_document(alloc, &execution, &mut reader)? {
-        Outcome::Done(text) => {
-            print(output, text.as_str())?;
-            Ok(0)
-        }
-        Outcome::Denied => {
-            print(output, "EPERM\n")?;
-            Ok(1)
-        }
-    }
-}
-
-// The status where these findings were printed.
-fn findings_status(text: &String) -> u8
-    ensures { result ≡ findings_status (string_bytes text.now) }
-{
-    if text.is_empty() { 0 } else { 1 }
-}
-
-// `compare`.
-fn run_compare<F: PassFiles, O: Write>(
-    files: &F,
-    alloc: Global,
-    base: &str,
-    new: &str,
-    output: &mut Counted<O>,
-) -> Result<u8, CommandFault>
-    ensures done { IfOk result (HasCompared (F.opens files.now) F.File.remaining O.contents
-        output.old output.new base.now new.now) }
-    ensures failed { IfErr result (FailsToCompare (F.opens files.now) F.File.remaining O.contents
-        output.old output.new base.now new.now) }
-{
-    let text = compare_files(files, alloc, base, new)?;
-    print(output, text.as_str())?;
-    Ok(findings_status(&text))
-}
-
-// `verify`.
-fn run_verify<F: PassFiles, S: Alter + Drop, D: Databases<Database = Connection<S>>, O: Write>(
-    files: &F,
-    databases: &D,
-    alloc: Global,
-    words: &VerifyWords<'_>,
-    output: &mut Counted<O>,
-) -> Result<u8, CommandFault>
-    ensures done { IfOk result (λ status. HasVerified S.Store
-        (F.opens files.now words.now.journal.now) F.File.remaining
-        (D.opened words.now.database.now) words.now.seal O.contents output.old output.new D.closed
-        × (status ≡ 0)) }
-    ensures failed { IfErr result (FailsToVerify S.Store
-        (F.opens files.now words.now.journal.now) F.File.remaining
-        (D.opened words.now.database.now) words.now.seal O.contents output.old output.new D.closed
-        D.ended) }
-{
-    let verified = match verify_with(files, databases, alloc, words) {
-        Ok(verified) => verified,
-        Err(fault) => return Err(fault),
-    };
-    let Ok(line) = verified_line(alloc, &verified) else {
-        return Err(CommandFault::NoMemory);
-    };
-    match print_bytes(output, &line) {
-        Ok(()) => Ok(0),
-        Err(fault) => Err(fault),
-    }
-}
-
-// `history`.
-fn run_history<F: PassFiles, O: Write>(
-    files: &F,
-    alloc: Global,
-    words: &HistoryWords<'_>,
-    output: &mut Counted<O>,
-) -> Result<u8, CommandFault>
-    ensures done { IfOk result (λ status. WasToldAt (F.opens files.now) F.File.remaining
-        O.contents output.old output.new words.now × (status ≡ 0)) }
-    ensures failed { IfErr result (IsUntoldAt (F.opens files.now) F.File.remaining O.contents
-        output.old output.new words.now) }
-{
-    match history_at(files, alloc, words, output) {
-        Ok(()) => Ok(0),
-        Err(fault) => Err(fault),
-    }
-}
-
-// `evidence`.
-fn run_evidence<F: PassFiles, O: Write>(
-    files: &F,
-    alloc: Global,
-    words: &EvidenceWords<'_>,
-    output: &mut Counted<O>,
-) -> Result<u8, CommandFault>
-    ensures done { IfOk result (λ status. HasProved (F.opens files.now) F.File.remaining
-        O.contents output.old output.new words.now × (status ≡ 0)) }
-    ensures failed { IfErr result (FailsToProve (F.opens files.now) F.File.remaining O.contents
-        output.old output.new words.now) }
-{
-    let text = match evidence_at(files, alloc, words) {
-        Ok(text) => text,
-        Err(fault) => return Err(fault),
-    };
-    match print(output, text.as_str()) {
-        Ok(()) => Ok(0),
-        Err(fault) => Err(fault),
-    }
-}
 
 // The status that the program ends with where the command is refused or fails.
 fn failed_status(command: &Command<'_>) -> u8
@@ -224,11 +50,11 @@ fn run<
     requires reads { input.old.calls ≤ 2 ^ 62 }
     requires read_faults { input.old.faults ≤ 2 ^ 62 }
     requires write_faults { output.old.faults ≤ 2 ^ 62 }
-    ensures done { IfOk result (HasRun S.Store D.opened D.closed J.File.Disk
+    ensures done { IfOk result (HasRun S.Store D.Databases J.File.Disk
         (J.creates journals.now) (J.opens journals.now) N.shows N.binds N.tells
         (F.opens files.now) F.File.remaining O.contents command.entry
         (I.remaining input.old.inner) output.old output.new) }
-    ensures failed { IfErr result (HasFailed S.Store D.opened D.closed D.ended J.File.Disk
+    ensures failed { IfErr result (HasFailed S.Store D.Databases J.File.Disk
         (J.creates journals.now) (J.opens journals.now) (J.removes journals.now)
         N.shows N.binds N.tells (F.opens files.now) F.File.remaining O.contents command.entry
         (I.remaining input.old.inner) (I.remaining input.new.inner) output.old output.new) }
@@ -246,22 +72,23 @@ fn run<
             Ok(0)
         }
         Command::Serve(words) => {
-            serve_http(files, databases, journals, network, alloc, &words, output)?;
+            serve_http(databases, journals, network, alloc, &words, output)?;
             Ok(0)
         }
         Command::Migrate { database } => {
-            migrate_at(files, databases, database)?;
+            migrate_at(databases, database)?;
             print(output, "migrated\n")?;
             Ok(0)
         }
         Command::Desk { database, journal } => {
-            serve_stored(
-                files, databases, journals, alloc, database, journal, input, output,
-            )?;
+            serve_stored(databases, journals, alloc, database, journal, input, output)?;
             Ok(0)
         }
         Command::Compare { base, new } => run_compare(files, alloc, base, new, output),
-        Command::Verify(words) => run_verify(files, databases, alloc, &words, output),
+        Command::Verify(words) => run_verify(files, alloc, &words, output),
+        Command::Rebuild { database, journal } => {
+            run_rebuild(files, databases, alloc, database, journal, output)
+        }
         Command::History(words) => run_history(files, alloc, &words, output),
         Command::Evidence(words) => run_evidence(files, alloc, &words, output),
     }
@@ -291,12 +118,12 @@ fn run_apart<
     requires read_faults { input.old.faults ≤ 2 ^ 62 }
     requires write_faults { output.old.faults ≤ 2 ^ 62 }
     ensures done { IfOk result (λ status. WasApart command.entry
-        (HasRun S.Store D.opened D.closed J.File.Disk
+        (HasRun S.Store D.Databases J.File.Disk
         (J.creates journals.now) (J.opens journals.now) N.shows N.binds N.tells
         (F.opens files.now) F.File.remaining O.contents command.entry
         (I.remaining input.old.inner) output.old output.new status)) }
     ensures failed { IfErr result (FailsApart command.entry
-        (HasFailed S.Store D.opened D.closed D.ended J.File.Disk
+        (HasFailed S.Store D.Databases J.File.Disk
         (J.creates journals.now) (J.opens journals.now) (J.removes journals.now)
         N.shows N.binds N.tells (F.opens files.now) F.File.remaining O.contents command.entry
         (I.remaining input.old.inner) (I.remaining input.new.inner) output.old output.new)) }
@@ -402,11 +229,11 @@ pub fn run_words<
     requires read_faults { input.old.faults ≤ 2 ^ 62 }
     requires write_faults { output.old.faults ≤ 2 ^ 62 }
     ensures { HasRunWords E.contents errors.old errors.new O.contents output.old output.new
-        (λ command status. WasApart command (HasRun S.Store D.opened D.closed J.File.Disk
+        (λ command status. WasApart command (HasRun S.Store D.Databases J.File.Disk
         (J.creates journals.now) (J.opens journals.now) N.shows N.binds N.tells
         (F.opens files.now) F.File.remaining O.contents command
         (I.remaining input.old.inner) output.old output.new status))
-        (λ command. FailsApart command (HasFailed S.Store D.opened D.closed D.ended J.File.Disk
+        (λ command. FailsApart command (HasFailed S.Store D.Databases J.File.Disk
         (J.creates journals.now) (J.opens journals.now) (J.removes journals.now)
         N.shows N.binds N.tells
         (F.opens files.now) F.File.remaining O.contents command

@@ -41,6 +41,7 @@ pub(crate) fn names_one_file(command: &Command<'_>) -> bool
         Command::Init(words) => is_one_of_database(words.journal, words.database),
         Command::Desk { database, journal } => is_one_of_database(*journal, database),
         Command::Serve(words) => is_one_of_database(words.journal, words.database),
+        Command::Rebuild { database, journal } => is_of_database(journal, database),
         _ => false,
     }
 }

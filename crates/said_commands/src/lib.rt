@@ -1,7 +1,8 @@
 //! What the program says to a command line, as text.
 #![tactic(auto)]
 
-use office_commands::{Databases, HostJournals, Network, Unread, run_words};
+use command_host::{Databases, HostJournals, Network, Unread};
+use office_commands::run_words;
 use sqlite::{Alter, Connection};
 use std::alloc::{AllocError, Global};
 use std::io::Write;

@@ -1,5 +1,5 @@
 //! The tables over `sqlite`, tried by the public calls of the store: over memory, over a file that is closed and opened again, and with
-//! memory refused.
+//! memory refused. Beside them a database in memory of many rows.
 #![tactic(auto)]
 
 #[cfg(test)]
@@ -8,6 +8,8 @@ mod call;
 mod files;
 #[cfg(test)]
 mod memory;
+#[cfg(test)]
+mod pages;
 #[cfg(test)]
 mod stores;
 #[cfg(test)]

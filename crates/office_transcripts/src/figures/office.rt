@@ -10,6 +10,7 @@ use crate::figures::fill::fill;
 use crate::figures::request::time_requests;
 use crate::figures::sample::{Profiles, Sizes};
 use anyhow::{Result, bail};
+use memory_database::open_in_memory;
 use office_desk::Office;
 use sqlite::{Alter, Connection};
 use std::time::Instant;
@@ -105,7 +106,7 @@ fn take_in_file(rt: &HostRuntime, path: &str, step: Step, sizes: &Sizes) -> Resu
 pub fn time_office(rt: &HostRuntime, path: &str, step: Step, sizes: &Sizes) -> Result<()> {
     if path == ":memory:" {
         println!(rt; "{} users, in memory", sizes.count)?;
-        let conn = Connection::open_in_memory(rt.alloc())?;
+        let conn = open_in_memory(rt.alloc())?;
         return take_filled(rt, conn, step, sizes);
     }
     println!(rt; "{} users, in a file", sizes.count)?;

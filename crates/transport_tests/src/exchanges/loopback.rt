@@ -57,7 +57,7 @@ impl<'a> Server<'a> {
         rt: &impl Abort,
         clock: &C,
         longest: u64,
-        exchanges: u32,
+        exchanges: u64,
         taking: Taking,
         is_whole: bool,
         lines: &str,

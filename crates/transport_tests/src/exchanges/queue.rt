@@ -87,7 +87,7 @@ fn assert_answered(
     rt: &impl Abort,
     alloc: Global,
     clients: &[Client],
-    exchanges: u32,
+    exchanges: u64,
     lines: &str,
 ) -> Result<(), Fail> {
     let mut office = TrialOffice::new(alloc)?;

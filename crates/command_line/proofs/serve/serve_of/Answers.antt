@@ -11,7 +11,7 @@ returns-clause-command c =
       record {
         database = text_is f (codes "database") _ c.in_ok-database.ensures;
         port = c.in_ok-port.ensures.number;
-        requests = c.in_ok-requests.ensures.number;
+        requests = c.in_ok-requests.ensures.asked;
         journal = text_is f (codes "journal") _ c.get_str-journal.ensures;
       },
     )

@@ -1,11 +1,10 @@
 use Rattle.std.proofs.Common.{subst}
 use Rattle.sqlite.specs.Held.{Held, state}
-use Rattle.sqlite.specs.Steps.{over_memory}
-use Rattle.sqlite_trees.specs.declared.memory.MemStore.{MemStore}
+use Rattle.memory_database.specs.MemoryStore.{MemoryStore, over_memory}
+use Rattle.memory_database.proofs.MemoryFacts.{memory_is_clean}
 use Rattle.office_policy.specs.TablesOf.{tables_of}
 use Rattle.journal_verification.specs.Compared.{Differs}
-use Rattle.journal_verification.proofs.Faults.{failed_office}
-use Rattle.journal_verification.proofs.Verifying.{memory_is_clean, not_rebuilt, other, still_shows, verified}
+use Rattle.journal_verification.proofs.Verifying.{looked_itself, not_rebuilt, other, still_shows, verified}
 use Rattle.journal_verification.proofs.verification.verify.Goals as goal
 
 pub returns-in-Ok-None-clause-verified : goal.returns-in-Ok-None-clause-verified
@@ -26,7 +25,7 @@ returns-in-Ok-Some-clause-unverified g c clean =
     let t = tables_of rebuilt.history in
     let shows = still_shows bytes anew.office anew.events anew.seal rebuilt c.into_connection-built.result c.into_connection-built.ensures.connection in
     other bytes anew.office anew.events anew.seal rebuilt g.T.Store c.args.office.now c.in-Ok-Some.difference
-    (subst (λ (b : Held MemStore). Differs over_memory g.T.Store b c.args.office.now c.in-Ok-Some.difference) c.into_connection-built.ensures.connection
+    (subst (λ (b : Held MemoryStore). Differs over_memory g.T.Store b c.args.office.now c.in-Ok-Some.difference) c.into_connection-built.ensures.connection
     (rw c.in-Ok-Some.field-0-is at (c.in-Ok-Some.ensures.told t shows (memory_is_clean c.compare.new.built) clean)))
 
 pub returns-clause-unverified : goal.returns-clause-unverified
@@ -42,5 +41,7 @@ returns-in-Ok-rebuild-clause-unverified g c clean =
     let conn = c.into_connection-built.result in
     let shows = still_shows (g.R.Read.remaining c.args.journal) anew.office anew.events anew.seal rebuilt conn c.into_connection-built.ensures.connection in
     let t = tables_of rebuilt.history in
-    failed_office conn c.compare.new.built t shows (state g.T.Store c.args.office.now) (state g.T.Store c.compare.new.office) c.in-Err-compare.fault
-    (c.in-Err-compare.ensures.cause t shows (memory_is_clean c.compare.new.built) clean)
+    c.in-Err-compare.ensures.cause t shows clean
+
+pub returns-clause-looked : goal.returns-clause-looked
+returns-clause-looked g c = looked_itself (state g.T.Store c.args.office.now) c.requires

@@ -1,0 +1,130 @@
+-- An office that is kept with a journal: what is known of it as it is founded, opened, served and closed.
+use Rattle.std.proofs.Common.{◌≡◌, ◌∙◌, ℕ, List, [], ◌∷◌, ◌++◌, arith, length, length-append, take, Option, Some, None, Result, Ok, Err, IsTrue, true, inl, inr, refl, subst, sym, ap}
+use Rattle.std.specs.Prelude.{IfErr, OnOk, ⊤}
+use Rattle.std.proofs.lemmas.List.Elements.{All-cons, All-nil}
+use Rattle.std.specs.declared.io.Error.{Error}
+use Rattle.sqlite.specs.Held.{Held}
+use Rattle.sqlite.specs.Store.{Ghosts}
+use Rattle.sqlite_disk.specs.declared.Disk.{Ghosts as DiskGhosts}
+use Rattle.sealed_log.specs.Log.{bodies_of}
+use Rattle.sealed_log.specs.Reading.{IsThrough}
+use Rattle.sealed_log.specs.Sealed.{no_seal, seal_on, sealed_line, sealed_lines, sealed_text}
+use Rattle.sealed_log.specs.Told.{told}
+use Rattle.sealed_log.specs.declared.log.SealedLog.{SealedLog}
+use Rattle.sealed_log.specs.declared.through.Through.{Through}
+use Rattle.sealed_log.proofs.SealFacts.{length-sealed_line}
+use Rattle.sealed_log.proofs.ToldFacts.{told_nothing}
+use Rattle.journal_lines.specs.Forms.{HasForms}
+use Rattle.journal_lines.specs.Journal.{IsEntry, Says}
+use Rattle.journal_lines.specs.Lines.{happened, text_of}
+use Rattle.journal_lines.proofs.Lengths.{founding_entry}
+use Rattle.office_policy.specs.History.{Event}
+use Rattle.office_journal.specs.declared.journaled.Journaled.{Journaled}
+use Rattle.command_host.specs.declared.fault.CommandFault.{CommandFault}
+use Rattle.command_host.specs.declared.fault.CommandFault.TheVariants as fault
+use Rattle.changing_commands.specs.declared.founding.Founding.{Founding}
+use Rattle.command_host.specs.declared.no_file.NoFile.{NoFile}
+use Rattle.changing_commands.specs.Foundings.{founding_event, Described, IsFoundedIn}
+use Rattle.changing_commands.specs.Journals.{IfJournaled, IsBegunBy, IsKeptOffice, IsServedWith}
+use Rattle.changing_commands.specs.Journals.{IsUnfoundedBehind, IsUnfoundedWith, WasFoundedBehind}
+use Rattle.changing_commands.specs.Journals.{WasFoundedWith}
+use Rattle.command_host.specs.declared.databases.Databases as databases
+use Rattle.command_host.specs.Openings.{IsEnded, IsFirstOf}
+
+-- nothing is sealed in a file where what is sealed ends at its beginning
+pub none_sealed : (file : List ℕ) (found : Through) → IsThrough file found → found.at ≡ 0 → told file ≡ []
+none_sealed file found through at = go (told file) (through.text ∙ ap (λ n. take n file) at)
+  where
+    go : (bodies : List (List ℕ)) → sealed_text bodies ≡ [] → bodies ≡ []
+    go [] is = refl
+    go (body ∷ more) is =
+        absurd (omega (
+          arith,
+          ap length is,
+          length-append (sealed_line no_seal body) (sealed_lines (seal_on no_seal body) more),
+          length-sealed_line no_seal body,
+        ))
+
+-- what is put there is then all that is sealed
+pub only_body : (before opened after body : List ℕ) → told before ≡ [] → opened ≡ sealed_text (told before)
+    → told after ≡ told opened ++ body ∷ [] → told after ≡ body ∷ []
+only_body before opened after body none has put =
+    put ∙ ap (λ (bodies : List (List ℕ)). bodies ++ body ∷ [])
+    (ap told has ∙ ap (λ (bodies : List (List ℕ)). told (sealed_text bodies)) none ∙ told_nothing)
+
+-- the text of an event is the journal of the history that is just this event
+pub says_one : (e : Event) (bodies : List (List ℕ)) → IsEntry (happened e) → bodies ≡ text_of (happened e) ∷ [] → Says bodies (e ∷ [])
+says_one e bodies entry is = record {
+  lines = happened e ∷ [];
+  entries = All-cons IsEntry (happened e) [] entry (All-nil IsEntry);
+  are = is;
+  history = refl;
+}
+
+-- the founding of a founding is one
+pub founding_is : (founding : Founding) → HasForms (founding_event founding) → IsEntry (happened (founding_event founding))
+founding_is founding forms = founding_entry (founding_event founding) forms forms
+
+-- a file that was made has just the line of a founding
+pub begun_by : {L : Type 0} (f : DiskGhosts L) (Created : Result L NoFile → Type 0) (founding : Founding) (made : L) (log : SealedLog L f) (text : List ℕ) → Created (Ok made)
+    → HasForms (founding_event founding) → text ≡ text_of (happened (founding_event founding)) → log.is_open ≡ true
+    → (IsTrue (f.is_clean log.disk) → bodies_of f log ≡ text ∷ []) → IsBegunBy f Created founding log
+begun_by f Created founding made log text created forms is is_open has = record {
+  made = made;
+  created = created;
+  is_open = is_open;
+  line = λ clean. has clean ∙ ap (λ (t : List ℕ). t ∷ []) is;
+  says = λ clean. says_one (founding_event founding) (bodies_of f log) (founding_is founding forms) (has clean ∙ ap (λ (t : List ℕ). t ∷ []) is);
+}
+
+-- why a command failed without a journal
+pub failed_without : (given : Option (List ℕ)) (Without : CommandFault → Type 0) (With : List ℕ → CommandFault → Type 0) (r : Result (Unit {0}) CommandFault) → given ≡ None
+    → IfErr r Without → IfErr r (λ why. IfJournaled given (Without why) (λ file. With file why))
+failed_without given Without With (Ok done) is failed = tt
+failed_without given Without With (Err why) is failed = subst (λ (o : Option (List ℕ)). IfJournaled o (Without why) (λ file. With file why)) (sym is) failed
+
+module _ {S D L : Type 0} (g : Ghosts S) (f : DiskGhosts L) (Found : Result L NoFile → Type 0) (d : databases.Ghosts D (Held S)) (path : List ℕ)
+    (Done : (old new : Journaled (Held S) (SealedLog L f)) → Type 0) (Stops : CommandFault → (old new : Journaled (Held S) (SealedLog L f)) → Type 0) where
+  pub was_kept : (old new : Journaled (Held S) (SealedLog L f)) → IsKeptOffice g f Found (d.opened path) old → (served closed result : Result (Unit {0}) CommandFault)
+      → OnOk served (Done old new) → IfErr served (λ why. Stops why old new) → OnOk closed (d.closed new.office) → IsEnded d new.office
+      → IfErr closed (λ why. why ≡ fault.Close) → IsFirstOf served closed result → IsServedWith g f Found d path Done Stops result
+  was_kept old new office (Ok a) (Ok b) result done stops closed ended why is =
+      subst (λ r. IsServedWith g f Found d path Done Stops r) (sym is) (record { old = old; new = new; office = office; done = done; closed = closed })
+  was_kept old new office (Ok a) (Err w) result done stops closed ended why is =
+      subst (λ r. IsServedWith g f Found d path Done Stops r) (sym is)
+      (inr (inr (why, record { old = old; new = new; office = office; done = done; closed = ended })))
+  was_kept old new office (Err w) closed result done stops _ ended why is =
+      subst (λ r. IsServedWith g f Found d path Done Stops r) (sym is)
+      (inr (inl (record { old = old; new = new; office = office; done = stops; closed = ended })))
+
+-- what holds by a path that an option gives, or without one
+pub with_journal : (given : Option (List ℕ)) (path : List ℕ) (Without : Type 0) (With : List ℕ → Type 0) → given ≡ Some path → With path → IfJournaled given Without With
+with_journal given path Without With is it = subst (λ (o : Option (List ℕ)). IfJournaled o Without With) (sym is) it
+
+pub without_journal : (given : Option (List ℕ)) (Without : Type 0) (With : List ℕ → Type 0) → given ≡ None → Without → IfJournaled given Without With
+without_journal given Without With is it = subst (λ (o : Option (List ℕ)). IfJournaled o Without With) (sym is) it
+
+module _ {S D L : Type 0} (g : Ghosts S) (f : DiskGhosts L) (Created : Result L NoFile → Type 0) (d : databases.Ghosts D (Held S)) (path : List ℕ) where
+  pub founded_behind : (founding : Founding) (log : SealedLog L f) (office : Held S) (r : Result (Unit {0}) CommandFault) → IsBegunBy f Created founding log
+      → IsFoundedIn g (d.opened path) (Ok founding) office → OnOk r (d.closed office) → OnOk r (WasFoundedBehind g f Created (d.opened path) d.closed founding)
+  founded_behind founding log office (Ok done) begun founded closed =
+      record { log = log; journal = begun; office = record { office = office; founded = founded; closed = closed } }
+  founded_behind founding log office (Err why) begun founded closed = tt
+
+  pub behind_open : (Removed : Result ⊤ Error → Type 0) (founding : Founding) (log : SealedLog L f) (office : Held S) (r : Result (Unit {0}) CommandFault)
+      → IsBegunBy f Created founding log → IsFoundedIn g (d.opened path) (Ok founding) office → IsEnded d office → IfErr r (λ why. why ≡ fault.Close)
+      → IfErr r (IsUnfoundedBehind g f Created Removed d path founding)
+  behind_open Removed founding log office (Ok done) begun founded ended closed = tt
+  behind_open Removed founding log office (Err why) begun founded ended closed = inr (record { log = log; journal = begun; office = inr (closed, (office, founded, ended)) })
+
+  -- what was founded by a founding was founded as words describe it
+  pub founded_with : (described : Described) (founding : Founding) (r : Result (Unit {0}) CommandFault) → described ≡ Ok founding
+      → OnOk r (WasFoundedBehind g f Created (d.opened path) d.closed founding) → OnOk r (WasFoundedWith g f Created (d.opened path) d.closed described)
+  founded_with described founding (Ok done) is founded = record { founding = founding; is = is; founded = founded }
+  founded_with described founding (Err why) is founded = tt
+
+  pub unfounded_with : (Removed : Result ⊤ Error → Type 0) (described : Described) (founding : Founding)
+      (r : Result (Unit {0}) CommandFault) → described ≡ Ok founding → IfErr r (IsUnfoundedBehind g f Created Removed d path founding)
+      → IfErr r (IsUnfoundedWith g f Created Removed d path described)
+  unfounded_with Removed described founding (Ok done) is unfounded = tt
+  unfounded_with Removed described founding (Err why) is unfounded = inr (founding, is, unfounded)

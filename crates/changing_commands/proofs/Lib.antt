@@ -1,0 +1,6 @@
+pub mod ServingFacts
+pub mod OpeningFacts
+pub mod KeptFacts
+pub mod LeftFacts
+pub mod KeptLeftFacts
+pub mod TrialFacts

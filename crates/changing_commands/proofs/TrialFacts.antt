@@ -1,0 +1,26 @@
+-- The office in which requests are tried.
+use Rattle.std.proofs.Common.{◌≡◌, Result, Ok, Err, inr, subst, sym}
+use Rattle.std.specs.Prelude.{IfErr, IfOk, OnOk}
+use Rattle.sqlite.specs.Held.{Held}
+use Rattle.sqlite.specs.Store.{Ghosts}
+use Rattle.memory_database.specs.MemoryStore.{MemoryStore, over_memory}
+use Rattle.changing_commands.specs.Foundings.{Described, Gives, IsFoundedAs, IsFoundedBy}
+use Rattle.changing_commands.specs.Trials.{trial_founding, HasTried}
+use Rattle.command_host.specs.declared.fault.CommandFault.{CommandFault}
+use Rattle.changing_commands.specs.declared.founding.Founding.{Founding}
+
+-- what is answered is what is described
+pub gives_described : (answered described : Described) → Gives answered described → IfOk answered (λ founding. described ≡ Ok founding)
+gives_described (Ok founding) described is = is
+gives_described (Err why) described is = tt
+
+-- what is founded by a founding is founded as it is described
+pub founded_as : {S : Type 0} (g : Ghosts S) (described : Described) (founding : Founding) (office : Held S) → described ≡ Ok founding → IsFoundedBy g founding office
+    → IsFoundedAs g described office
+founded_as g described founding office is by = subst (λ (d : Described). IsFoundedAs g d office) (sym is) by
+
+module _ (Done : (old new : Held MemoryStore) → Type 0) (Stops : CommandFault → (old new : Held MemoryStore) → Type 0) (old new : Held MemoryStore) where
+  pub tried : IsFoundedAs over_memory trial_founding old → (result : Result (Unit {0}) CommandFault) → OnOk result (Done old new)
+      → IfErr result (λ why. Stops why old new) → HasTried Done Stops result
+  tried founded (Ok done) all stops = record { old = old; new = new; founded = founded; done = all }
+  tried founded (Err why) all stops = inr (record { old = old; new = new; founded = founded; done = stops })

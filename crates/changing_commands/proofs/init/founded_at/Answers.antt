@@ -1,0 +1,16 @@
+use Rattle.std.proofs.Common.{ap, sym, ◌∙◌}
+use Rattle.sqlite.specs.Held.{Held}
+use Rattle.changing_commands.proofs.init.founded_at.Goals as goal
+
+pub returns-in-Ok-found_in-clause-founded : goal.returns-in-Ok-found_in-clause-founded
+returns-in-Ok-found_in-clause-founded g c =
+    let unlimited = c.in-Ok.ensures.opened in
+    record {
+      was = unlimited.0;
+      opened = unlimited.1;
+      empty = sym (ap (λ (x : Held _). x.schema) unlimited.2) ∙ c.in-Ok-found_in.ensures.empty;
+      founded = c.in-Ok-found_in.ensures.founded;
+    }
+
+pub returns-in-Err-found_in-clause-refused : goal.returns-in-Err-found_in-clause-refused
+returns-in-Err-found_in-clause-refused g c = (tt {0}, (c.in-Err-found_in.conn, (c.close.result, c.close.ensures.ended)))

@@ -1,0 +1,119 @@
+-- The founding that words describe, or why they describe none.
+use Rattle.std.specs.Prelude.{◌≡◌, ◌⊎◌, ℕ, ◌&&◌, List, [], ◌∷◌, map, Option, Some, None, Result, Ok}
+use Rattle.std.specs.Prelude.{Err, if◌then◌else◌}
+use Rattle.sqlite.specs.Held.{Held, state}
+use Rattle.sqlite.specs.Store.{Ghosts}
+use Rattle.sqlite.specs.State.{HasCleanDisk}
+use Rattle.command_line.specs.declared.command.InitWords.{InitWords}
+use Rattle.office_store.specs.Schema.{no_schema}
+use Rattle.office_policy.specs.History.{Event, History, founded}
+use Rattle.office_policy.specs.Handled.{Stands}
+use Rattle.office_desk.specs.Offices.{IsOffice}
+use Rattle.office_desk.specs.Meant.{meaning_over}
+use Rattle.cap_sets.specs.Capability.{set_named}
+use Rattle.review_policy.specs.Digests.{digest_from_hex}
+use Rattle.review_policy.specs.Words.{is_word}
+use Rattle.review_policy.specs.declared.word.WordFault.TheVariants as words
+use Rattle.command_host.specs.declared.founding_fault.FoundingWordsFault.{FoundingWordsFault}
+use Rattle.command_host.specs.declared.founding_fault.FoundingWordsFault.TheVariants as refusal
+use Rattle.command_host.specs.Openings.{IsEnded, IsUnopened}
+use Rattle.command_host.specs.declared.databases.Databases as databases
+use Rattle.changing_commands.specs.declared.founding.Founding.{Founding}
+use Rattle.command_host.specs.declared.fault.CommandFault.{CommandFault}
+use Rattle.command_host.specs.declared.fault.CommandFault.TheVariants as fault
+
+-- what words describe: a founding, or why it is none
+abbrev pub Described : Type 0
+Described = Result Founding FoundingWordsFault
+
+-- the founding by these two words, where DIGEST is one and each CAP is a capability's name
+abbrev pub founding_by : List ℕ → List ℕ → Option (List ℕ) → Option ℕ → Described
+founding_by name team None listed = Err refusal.BadWord
+founding_by name team (Some digest) None = Err refusal.UnknownCapability
+founding_by name team (Some digest) (Some listed) =
+    Ok (record { name = name; team = team; digest = digest; listed = listed })
+
+-- the founding that NAME, TEAM, DIGEST and the CAPs describe, or the first refusal: of one of the
+-- three, and then of a CAP
+abbrev pub founding_of : (name team digest : List ℕ) → List (List ℕ) → Described
+founding_of name team digest capabilities =
+    if is_word name && is_word team
+    then founding_by name team (digest_from_hex digest) (set_named capabilities)
+    else Err refusal.BadWord
+
+-- what is answered is what the words describe; memory may have been refused in place of it
+abbrev pub Gives : Described → Described → Type 0
+Gives (Ok founding) described = described ≡ Ok founding
+Gives (Err refusal.BadWord) described = described ≡ Err refusal.BadWord
+Gives (Err refusal.UnknownCapability) described = described ≡ Err refusal.UnknownCapability
+Gives (Err refusal.NoMemory) described = Unit {0}
+
+-- the founding that the words of `init` describe
+abbrev pub founding_of_words : InitWords → Described
+founding_of_words words =
+    founding_of words.name.now words.team.now words.digest.now
+    (map (λ capability. capability.now) words.capabilities.items)
+
+-- the event that a founding is
+abbrev pub founding_event : Founding → Event
+founding_event founding = founded founding.name founding.team founding.digest founding.listed
+
+-- a history that is just this founding
+abbrev pub history_of : Founding → History
+history_of founding = founding_event founding ∷ []
+
+-- what was founded is the office of just this founding, and stands
+abbrev pub IsFoundedBy : {S : Type 0} → Ghosts S → Founding → Held S → Type 0
+IsFoundedBy g founding office =
+    IsOffice (history_of founding) (state g office)
+    × (HasCleanDisk (state g office) → Stands (meaning_over g) (history_of founding) office)
+
+-- the same, of the founding that words describe; where they describe none, nothing is founded
+abbrev pub IsFoundedAs : {S : Type 0} → Ghosts S → Described → Held S → Type 0
+IsFoundedAs g (Ok founding) office = IsFoundedBy g founding office
+IsFoundedAs g (Err fault) office = ⊥
+
+-- it was founded so in an empty database that was opened, of which this is known
+pub record IsFoundedIn {S : Type 0} (g : Ghosts S) (Opened : Held S → Type 0)
+    (described : Described) (office : Held S) : Type 0 where
+  pub was : Held S
+  pub opened : Opened was
+  pub empty : (state g was).now.schema ≡ no_schema
+  pub founded : IsFoundedAs g described office
+
+-- and closed, of which this is known
+pub record WasFounded {S : Type 0} (g : Ghosts S) (Opened Closed : Held S → Type 0)
+    (described : Described) : Type 0 where
+  pub office : Held S
+  pub founded : IsFoundedIn g Opened described office
+  pub closed : Closed office
+
+-- words describe a founding
+abbrev pub IsDescribed : Described → Type 0
+IsDescribed (Ok founding) = Unit {0}
+IsDescribed (Err fault) = ⊥
+
+-- why words describe none; memory may have been refused in place of that
+abbrev pub IsUndescribed : Described → CommandFault → Type 0
+IsUndescribed described (fault.FoundingWords why) = Gives (Err why) described
+IsUndescribed described _ = ⊥
+
+-- Why nothing is founded: by the words where they describe no founding; and where they describe one,
+-- since no database was opened at the path, or by the store, whose database was then closed. Memory
+-- may have been refused in place of either.
+abbrev pub IsUnfoundedAs : {S D : Type 0} → databases.Ghosts D (Held S) → (path : List ℕ)
+    → Described → CommandFault → Type 0
+IsUnfoundedAs d path described (fault.FoundingWords why) = Gives (Err why) described
+IsUnfoundedAs {S} d path described (fault.Founding why) =
+    IsDescribed described × ((conn : Held S) × IsEnded d conn)
+IsUnfoundedAs d path described (fault.Store why) = IsDescribed described × IsUnopened d path why
+IsUnfoundedAs d path described _ = ⊥
+
+-- the same, or it was founded in a database that was opened, of which this is known, and couldn't
+-- be closed
+abbrev pub IsUnfounded : {S D : Type 0} → Ghosts S → databases.Ghosts D (Held S)
+    → (path : List ℕ) → Described → CommandFault → Type 0
+IsUnfounded {S} g d path described why =
+    IsUnfoundedAs d path described why
+    ⊎ ((why ≡ fault.Close) × (office : Held S) × IsFoundedIn g (d.opened path) described office
+    × IsEnded d office)

@@ -1,0 +1,159 @@
+-- An office that is kept with a journal: how that is begun, and how the office is opened with it.
+use Rattle.std.specs.Prelude.{◌≡◌, ◌⊎◌, ℕ, List, [], ◌∷◌, Option, Some, None, Result, Ok, Err, ⊤}
+use Rattle.std.specs.Prelude.{IsTrue, true}
+use Rattle.std.specs.declared.io.Error.{Error}
+use Rattle.sqlite.specs.Held.{Held}
+use Rattle.sqlite.specs.Store.{Ghosts}
+use Rattle.sqlite.specs.declared.error.Error.{Error as SqliteError}
+use Rattle.sqlite_disk.specs.declared.Disk.{Ghosts as DiskGhosts}
+use Rattle.sealed_log.specs.Log.{bodies_of}
+use Rattle.sealed_log.specs.declared.log.SealedLog.{SealedLog}
+use Rattle.journal_lines.specs.Journal.{Says}
+use Rattle.journal_lines.specs.Lines.{happened, text_of}
+use Rattle.office_policy.specs.Meaning.{Meaning}
+use Rattle.office_desk.specs.Meant.{meaning_over}
+use Rattle.office_journal.specs.Journals.{journaled}
+use Rattle.office_journal.specs.Logs.{in_log}
+use Rattle.office_journal.specs.declared.journaled.Journaled.{Journaled}
+use Rattle.journaled_office.specs.Opening.{IsHandedBack, IsReopened}
+use Rattle.command_host.specs.declared.fault.CommandFault.{CommandFault}
+use Rattle.command_host.specs.declared.fault.CommandFault.TheVariants as fault
+use Rattle.changing_commands.specs.declared.founding.Founding.{Founding}
+use Rattle.command_host.specs.declared.no_file.NoFile.{NoFile}
+use Rattle.changing_commands.specs.Foundings.{founding_event, history_of, Described}
+use Rattle.changing_commands.specs.Foundings.{IsFoundedIn, IsUndescribed, IsUnfoundedAs}
+use Rattle.changing_commands.specs.Foundings.{WasFounded}
+use Rattle.command_host.specs.NoFiles.{file_fault}
+use Rattle.command_host.specs.Openings.{IsEnded, IsOfOpening, IsOpenedOffice}
+use Rattle.command_host.specs.declared.databases.Databases as databases
+
+-- the one holds without a journal, the other with a journal at a path
+abbrev pub IfJournaled : Option (List ℕ) → (Without : Type 0) → (With : List ℕ → Type 0) → Type 0
+IfJournaled None Without With = Without
+IfJournaled (Some path) Without With = With path
+
+-- what is meant by an office over a store that has a journal in a file
+abbrev pub journaled_over : {S L : Type 0} (g : Ghosts S) (f : DiskGhosts L)
+    → Meaning (Journaled (Held S) (SealedLog L f))
+journaled_over g f = journaled (meaning_over g) (in_log f)
+
+-- a file was removed, of which this is known, whatever came of that
+abbrev pub IsRemoved : (Result ⊤ Error → Type 0) → Type 0
+IsRemoved Removed = (told : Result ⊤ Error) × Removed told
+
+-- a log has just the line of a founding
+abbrev pub HasLine : {L : Type 0} (f : DiskGhosts L) → Founding → SealedLog L f → Type 0
+HasLine f founding log = IsTrue (f.is_clean log.disk)
+    → bodies_of f log ≡ text_of (happened (founding_event founding)) ∷ []
+
+-- A file was made, of which this is known, and then has just the line of a founding, which a crash
+-- leaves, since the log is open. It is the journal of the history that is just this founding.
+pub record IsBegunBy {L : Type 0} (f : DiskGhosts L) (Created : Result L NoFile → Type 0)
+    (founding : Founding) (log : SealedLog L f) : Type 0 where
+  pub made : L
+  pub created : Created (Ok made)
+  pub is_open : log.is_open ≡ true
+  pub line : HasLine f founding log
+  pub says : IsTrue (f.is_clean log.disk) → Says (bodies_of f log) (history_of founding)
+
+-- no file was made; or one was, and was removed since the line couldn't be written; or there was no
+-- memory for the line
+abbrev pub IsUnbegun : {L : Type 0} (Created : Result L NoFile → Type 0)
+    (Removed : Result ⊤ Error → Type 0) → CommandFault → Type 0
+IsUnbegun {L} Created Removed why =
+    ((e : NoFile) × Created (Err e) × (why ≡ file_fault e))
+    ⊎ ((why ≡ fault.Journal) × ((made : L) × Created (Ok made)) × IsRemoved Removed)
+    ⊎ (why ≡ fault.NoMemory)
+
+module _ {S L : Type 0} (g : Ghosts S) (f : DiskGhosts L) (Created : Result L NoFile → Type 0) where
+  -- a journal was begun by a founding, and then its office was founded and closed
+  pub record WasFoundedBehind (Opened Closed : Held S → Type 0) (founding : Founding) : Type 0 where
+    pub log : SealedLog L f
+    pub journal : IsBegunBy f Created founding log
+    pub office : WasFounded g Opened Closed (Ok founding)
+
+  -- the same of the founding that words describe
+  pub record WasFoundedWith (Opened Closed : Held S → Type 0) (described : Described)
+      : Type 0 where
+    pub founding : Founding
+    pub is : described ≡ Ok founding
+    pub founded : WasFoundedBehind Opened Closed founding
+
+  module _ {D : Type 0} (Removed : Result ⊤ Error → Type 0) (d : databases.Ghosts D (Held S))
+      (path : List ℕ) where
+    -- a journal was begun by a founding, and then nothing was founded for this, and the file was
+    -- removed; or its office was founded, and couldn't be closed
+    pub record IsUnfoundedThen (founding : Founding) (why : CommandFault) : Type 0 where
+      pub log : SealedLog L f
+      pub journal : IsBegunBy f Created founding log
+      pub office : (IsUnfoundedAs d path (Ok founding) why × IsRemoved Removed)
+          ⊎ ((why ≡ fault.Close) × ((office : Held S)
+          × IsFoundedIn g (d.opened path) (Ok founding) office × IsEnded d office))
+
+    -- or the journal wasn't begun
+    abbrev pub IsUnfoundedBehind : Founding → CommandFault → Type 0
+    IsUnfoundedBehind founding why = IsUnbegun Created Removed why ⊎ IsUnfoundedThen founding why
+
+    -- or words describe no founding
+    abbrev pub IsUnfoundedWith : Described → CommandFault → Type 0
+    IsUnfoundedWith described why =
+        IsUndescribed described why
+        ⊎ ((founding : Founding) × (described ≡ Ok founding) × IsUnfoundedBehind founding why)
+
+module _ {S L : Type 0} (g : Ghosts S) (f : DiskGhosts L)
+    (Found : Result L NoFile → Type 0) where
+  -- a file was opened, of which this is known, and an office was opened again with the log in it
+  pub record IsOpenedWith (old : Held S) (x : Journaled (Held S) (SealedLog L f)) : Type 0 where
+    pub log : SealedLog L f
+    pub found : Found (Ok log.disk)
+    pub again : IsReopened g f old log x
+
+  -- why an office has no journal: none can be opened, or the office wasn't opened again with it
+  abbrev pub IsOfJournal : (old new : Held S) → CommandFault → Type 0
+  IsOfJournal old new (fault.Reopening why) =
+      (log after : SealedLog L f) × Found (Ok log.disk) × IsHandedBack g f old log why new after
+  IsOfJournal old new why =
+      (e : NoFile) × Found (Err e) × (why ≡ file_fault e) × (new ≡ old)
+
+  module _ (Opened : Held S → Type 0) where
+    -- the office over a database that was opened, of which this is known, was opened again so
+    pub record IsKeptOffice (x : Journaled (Held S) (SealedLog L f)) : Type 0 where
+      pub was : Held S
+      pub office : IsOpenedOffice g Opened was
+      pub journal : IsOpenedWith was x
+
+    -- such an office was opened, this was done with it, and it was closed, of which this is known
+    pub record WasKept (Done : (old new : Journaled (Held S) (SealedLog L f)) → Type 0)
+        (Closed : Held S → Type 0) : Type 0 where
+      pub old : Journaled (Held S) (SealedLog L f)
+      pub new : Journaled (Held S) (SealedLog L f)
+      pub office : IsKeptOffice old
+      pub done : Done old new
+      pub closed : Closed new.office
+
+    -- an office was opened, has no journal for this, and was closed, of which this is known
+    pub record WasNotKept (Closed : Held S → Type 0) (why : CommandFault) : Type 0 where
+      pub old : Held S
+      pub new : Held S
+      pub office : IsOpenedOffice g Opened old
+      pub none : IsOfJournal old new why
+      pub closed : Closed new
+
+  -- of databases of which this is known, at a path
+  module _ {D : Type 0} (d : databases.Ghosts D (Held S)) (path : List ℕ) where
+    -- there is no office with its journal: no office, or one without, which was closed, whatever
+    -- came of that
+    abbrev pub IsUnkept : CommandFault → Type 0
+    IsUnkept why = IsOfOpening d path g why ⊎ WasNotKept (d.opened path) (IsEnded d) why
+
+    -- The same of a command that serves an office with its journal. Where it failed, there was no
+    -- such office; or it stopped for this, and the office was closed, whatever came of that; or all
+    -- was done and the office couldn't be closed.
+    abbrev pub IsServedWith :
+        (Done : (old new : Journaled (Held S) (SealedLog L f)) → Type 0)
+        → (Stops : CommandFault → (old new : Journaled (Held S) (SealedLog L f)) → Type 0)
+        → Result (Unit {0}) CommandFault → Type 0
+    IsServedWith Done Stops (Ok done) = WasKept (d.opened path) Done d.closed
+    IsServedWith Done Stops (Err why) =
+        IsUnkept why ⊎ WasKept (d.opened path) (Stops why) (IsEnded d)
+        ⊎ ((why ≡ fault.Close) × WasKept (d.opened path) Done (IsEnded d))

@@ -1,0 +1,29 @@
+-- The office in which requests are tried.
+use Rattle.std.specs.Prelude.{◌≡◌, ◌⊎◌, [], ◌∷◌, codes, Result, Ok, Err}
+use Rattle.sqlite.specs.Held.{Held}
+use Rattle.memory_database.specs.MemoryStore.{MemoryStore, over_memory}
+use Rattle.changing_commands.specs.Foundings.{founding_of, Described, IsFoundedAs}
+use Rattle.command_host.specs.declared.fault.CommandFault.{CommandFault}
+use Rattle.command_host.specs.declared.fault.CommandFault.TheVariants as fault
+
+-- what it is founded with: root of the team office, who shows the token abc, and CAP_SYS_ADMIN
+unfoldable pub trial_founding : Described
+trial_founding =
+    founding_of (codes "root") (codes "office")
+    (codes "ba7816bf8f01cfea414140de5dae2223b00361a396177a9cb410ff61f20015ad")
+    (codes "CAP_SYS_ADMIN" ∷ [])
+
+-- in memory an office was founded with just that, and this was done with it
+pub record WasTried (Done : (old new : Held MemoryStore) → Type 0) : Type 0 where
+  pub old : Held MemoryStore
+  pub new : Held MemoryStore
+  pub founded : IsFoundedAs over_memory trial_founding old
+  pub done : Done old new
+
+-- the same of a trial desk that ends so: where it fails, there was no memory for the office, or it
+-- stopped for this
+abbrev pub HasTried : (Done : (old new : Held MemoryStore) → Type 0)
+    → (Stops : CommandFault → (old new : Held MemoryStore) → Type 0)
+    → Result (Unit {0}) CommandFault → Type 0
+HasTried Done Stops (Ok done) = WasTried Done
+HasTried Done Stops (Err why) = (why ≡ fault.NoMemory) ⊎ WasTried (Stops why)

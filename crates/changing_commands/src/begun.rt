@@ -1,0 +1,118 @@
+//! A journal is begun.
+
+ghost use Rattle.std.specs.Prelude.{◌≡◌, ◌<◌, ◌^◌, [], ◌∷◌, true, IfErr, IfOk, IsTrue};
+ghost use Rattle.std.specs.Prelude.{string_bytes};
+ghost use Rattle.sealed_log.specs.Log.{bodies_of};
+ghost use Rattle.sealed_log.specs.Sealed.{IsBody};
+ghost use Rattle.journal_lines.specs.Forms.{HasForms};
+ghost use Rattle.journal_lines.specs.Lines.{happened, text_of};
+ghost use Rattle.office_policy.specs.Formed.{IsDigest, IsWord};
+ghost use Rattle.changing_commands.specs.Foundings.{founding_event};
+ghost use Rattle.changing_commands.specs.Journals.{IsBegunBy, IsUnbegun};
+
+use crate::founding::Founding;
+use cap_sets::Caps;
+use command_host::{CommandFault, Journals, fault_of};
+use journal_lines::{Line, text};
+use office_policy::Event;
+use review_policy::Word;
+use sealed_log::{LogFault, SealedLog};
+use sqlite_disk::Disk;
+use std::alloc::{AllocError, Global};
+
+// A word is of its form. Nothing is done here but to read it.
+fn read_word(word: &Word)
+    ensures { IsWord word.now }
+{
+    let _text = word.as_str();
+}
+
+// A digest has 32 bytes.
+fn read_digest(digest: &[u8; 32])
+    ensures { IsDigest digest.now }
+{
+    let _bytes = digest.as_slice();
+}
+
+// A set of capabilities has the 41 at most.
+fn read_caps(caps: Caps)
+    ensures { caps < 2 ^ 41 }
+{
+    let _bits = caps.bits();
+}
+
+// A founding has the forms of an event.
+fn read_forms(founding: &Founding)
+    ensures { HasForms (founding_event founding.now) }
+{
+    read_word(&founding.name);
+    read_word(&founding.team);
+    read_digest(&founding.digest);
+    read_caps(founding.listed);
+}
+
+// The text of a founding.
+fn founding_text(alloc: Global, founding: &Founding) -> Result<String, AllocError>
+    ensures { IfOk result (λ text. string_bytes text
+        ≡ text_of (happened (founding_event founding.now))) }
+{
+    let event = Event::Founded {
+        user: founding.name.clone()?,
+        team: founding.team.clone()?,
+        digest: founding.digest,
+        listed: founding.listed,
+    };
+    text(alloc, &Line::Event(event))
+}
+
+// Puts a body into a file in which nothing is sealed.
+fn put_first<D: Disk + Drop>(alloc: Global, file: D, body: &[u8]) -> Result<SealedLog<D>, LogFault>
+    requires { IsBody body.now }
+    ensures opened { IfOk result (λ log. log.is_open ≡ true) }
+    ensures has { IfOk result (λ log. IsTrue (D.is_clean log.disk)
+        → bodies_of D.Disk log ≡ body.now ∷ []) }
+{
+    let mut log = SealedLog::new(file);
+    let found = log.read(alloc)?;
+    if found.at() > 0 {
+        return Err(LogFault::Disk);
+    }
+    log.open_at(&found)?;
+    log.put(alloc, body)?;
+    Ok(log)
+}
+
+/// Begins a journal at a path by the line of a founding, which a crash then leaves.
+///
+/// # Errors
+///
+/// `JournalThere` where something is at the path, and that is left as it is; `Journal` where no
+/// file can be made or written, and `NoMemory`. A file that was made is then removed.
+pub(crate) fn begin_journal<J: Journals>(
+    journals: &J,
+    alloc: Global,
+    path: &str,
+    founding: &Founding,
+) -> Result<SealedLog<J::File>, CommandFault>
+    ensures begun { IfOk result (IsBegunBy J.File.Disk (J.creates journals.now path.now)
+        founding.now) }
+    ensures unbegun { IfErr result (IsUnbegun (J.creates journals.now path.now)
+        (J.removes journals.now path.now)) }
+{
+    read_forms(founding);
+    let Ok(text) = founding_text(alloc, founding) else {
+        return Err(CommandFault::NoMemory);
+    };
+    let file = match journals.create(path) {
+        Ok(file) => file,
+        Err(why) => return Err(fault_of(why)),
+    };
+    match put_first(alloc, file, text.as_str().as_bytes()) {
+        Ok(log) => Ok(log),
+        Err(_) => {
+            // That it wasn't written is reported, and not whether it was removed.
+            let _ = journals.remove(path);
+            Err(CommandFault::Journal)
+        }
+    }
+}

@@ -1,0 +1,182 @@
+//! `init`: an office is founded in a file.
+
+ghost use Rattle.std.specs.Prelude.{◌≡◌, IfErr, IfOk, Ok, OnOk, option_copied};
+ghost use Rattle.sqlite.specs.Held.{state};
+ghost use Rattle.sqlite.specs.State.{HasCleanDisk};
+ghost use Rattle.office_store.specs.Founding.{first_user, FailsToFound};
+ghost use Rattle.office_store.specs.Schema.{no_schema};
+ghost use Rattle.office_store.specs.Shown.{IsIdle};
+ghost use Rattle.changing_commands.specs.Foundings.{founding_of_words, IsFoundedBy, IsFoundedIn};
+ghost use Rattle.changing_commands.specs.Foundings.{IsUndescribed, IsUnfounded, IsUnfoundedAs};
+ghost use Rattle.changing_commands.specs.Foundings.{WasFounded};
+ghost use Rattle.changing_commands.specs.Journals.{HasLine, IfJournaled, IsUnfoundedBehind};
+ghost use Rattle.changing_commands.specs.Journals.{IsUnfoundedWith, WasFoundedBehind};
+ghost use Rattle.changing_commands.specs.Journals.{WasFoundedWith};
+
+use crate::begun::begin_journal;
+use crate::founding::{Founding, founding_of};
+use command_host::{CommandFault, Databases, Journals, close, open};
+use command_line::InitWords;
+use office_desk::Office;
+use office_store::FoundingFault;
+use sealed_log::SealedLog;
+use sqlite::{Alter, Connection};
+use sqlite_disk::Disk;
+use std::alloc::Global;
+
+/// Founds the office of a founding in a store.
+pub(crate) fn found_in<S: Alter>(
+    conn: Connection<S>,
+    founding: &Founding,
+) -> Result<Office<S>, (FoundingFault, Connection<S>)>
+    requires { IsIdle (state S.Store conn) }
+    ensures founded { IfOk result (IsFoundedBy S.Store founding.now) }
+    ensures empty { OnOk result ((state S.Store conn).now.schema ≡ no_schema) }
+    ensures cause { IfErr result (λ refusal. HasCleanDisk (state S.Store refusal.1)
+        → FailsToFound S.Store
+        (first_user founding.now.name founding.now.team founding.now.digest)
+        founding.now.listed conn refusal.1 refusal.0) }
+{
+    Office::found(
+        conn,
+        &founding.name,
+        &founding.team,
+        &founding.digest,
+        founding.listed,
+    )
+}
+
+// The founding that the words describe.
+fn founding_in(alloc: Global, words: &InitWords<'_>) -> Result<Founding, CommandFault>
+    ensures described { IfOk result (λ founding. founding_of_words words.now ≡ Ok founding) }
+    ensures refused { IfErr result (IsUndescribed (founding_of_words words.now)) }
+{
+    match founding_of(
+        alloc,
+        words.name,
+        words.team,
+        words.digest,
+        words.capabilities.as_slice(),
+    ) {
+        Ok(founding) => Ok(founding),
+        Err(fault) => Err(CommandFault::FoundingWords(fault)),
+    }
+}
+
+// The office of a founding, founded in the database at a path.
+fn founded_at<S: Alter + Drop, D: Databases<Database = Connection<S>>>(
+    databases: &D,
+    path: &str,
+    founding: &Founding,
+) -> Result<Office<S>, CommandFault>
+    ensures founded { IfOk result
+        (IsFoundedIn S.Store (D.opened path.now) (Ok founding.now)) }
+    ensures refused { IfErr result (IsUnfoundedAs D.Databases path.now (Ok founding.now)) }
+{
+    let conn = match open(databases, path) {
+        Ok(conn) => conn,
+        Err(fault) => return Err(CommandFault::Store(fault)),
+    };
+    match found_in(conn, founding) {
+        Ok(office) => Ok(office),
+        Err((fault, conn)) => {
+            // Why no office is founded is reported, and not whether this closed.
+            let _ = databases.close(conn);
+            Err(CommandFault::Founding(fault))
+        }
+    }
+}
+
+// The same, once the line of the founding stands in the file of a journal, which is then let go.
+fn founded_behind<S: Alter + Drop, D: Databases<Database = Connection<S>>, J: Disk + Drop>(
+    databases: &D,
+    path: &str,
+    founding: &Founding,
+    log: SealedLog<J>,
+) -> Result<Office<S>, CommandFault>
+    requires { HasLine J.Disk founding.now log }
+    ensures founded { IfOk result
+        (IsFoundedIn S.Store (D.opened path.now) (Ok founding.now)) }
+    ensures refused { IfErr result (IsUnfoundedAs D.Databases path.now (Ok founding.now)) }
+{
+    let founded = founded_at(databases, path, founding);
+    drop(log);
+    founded
+}
+
+// Founds the office of a founding in the database at a path, and closes it.
+fn found_and_close<S: Alter + Drop, D: Databases<Database = Connection<S>>>(
+    databases: &D,
+    path: &str,
+    founding: &Founding,
+) -> Result<(), CommandFault>
+    ensures founded { OnOk result (WasFounded S.Store (D.opened path.now) D.closed
+        (Ok founding.now)) }
+    ensures failed { IfErr result (IsUnfounded S.Store D.Databases path.now (Ok founding.now)) }
+{
+    let office = founded_at(databases, path, founding)?;
+    close(databases, office)
+}
+
+// Founds the office of a founding in the database at a path, and closes it. A journal is begun
+// before by the line of the founding, and removed again where nothing is founded.
+fn found_behind<S: Alter + Drop, D: Databases<Database = Connection<S>>, J: Journals>(
+    databases: &D,
+    journals: &J,
+    alloc: Global,
+    path: &str,
+    journal: &str,
+    founding: &Founding,
+) -> Result<(), CommandFault>
+    ensures founded { OnOk result (WasFoundedBehind S.Store J.File.Disk
+        (J.creates journals.now journal.now) (D.opened path.now) D.closed founding.now) }
+    ensures failed { IfErr result (IsUnfoundedBehind S.Store J.File.Disk
+        (J.creates journals.now journal.now) (J.removes journals.now journal.now)
+        D.Databases path.now founding.now) }
+{
+    let log = match begin_journal(journals, alloc, journal, founding) {
+        Ok(log) => log,
+        Err(fault) => return Err(fault),
+    };
+    match founded_behind(databases, path, founding, log) {
+        Ok(office) => close(databases, office),
+        Err(fault) => {
+            // Why no office is founded is reported, and not whether the file was removed.
+            let _ = journals.remove(journal);
+            Err(fault)
+        }
+    }
+}
+
+/// Founds the office that the words describe in the database that they name, and closes it. Where
+/// the words give a journal, that is begun before.
+///
+/// The words are looked at before the paths, so that words which describe no founding make no file.
+pub fn found_at<S: Alter + Drop, D: Databases<Database = Connection<S>>, J: Journals>(
+    databases: &D,
+    journals: &J,
+    alloc: Global,
+    words: &InitWords<'_>,
+) -> Result<(), CommandFault>
+    ensures founded { OnOk result (IfJournaled (option_copied words.now.journal)
+        (WasFounded S.Store (D.opened words.now.database.now) D.closed
+        (founding_of_words words.now))
+        (λ file. WasFoundedWith S.Store J.File.Disk (J.creates journals.now file)
+        (D.opened words.now.database.now) D.closed (founding_of_words words.now))) }
+    ensures failed { IfErr result (λ why.
+        IfJournaled (option_copied words.now.journal)
+        (IsUnfounded S.Store D.Databases words.now.database.now
+        (founding_of_words words.now) why)
+        (λ file. IsUnfoundedWith S.Store J.File.Disk (J.creates journals.now file)
+        (J.removes journals.now file) D.Databases words.now.database.now
+        (founding_of_words words.now) why)) }
+{
+    let founding = match founding_in(alloc, words) {
+        Ok(founding) => founding,
+        Err(fault) => return Err(fault),
+    };
+    match words.journal {
+        Some(file) => found_behind(databases, journals, alloc, words.database, file, &founding),
+        None => found_and_close(databases, words.database, &founding),
+    }
+}

@@ -1,0 +1,187 @@
+//! `serve`: an office in a file, over HTTP on loopback.
+
+ghost use Rattle.std.specs.Prelude.{◌≡◌, IfErr, IfOk, option_copied, string_bytes};
+ghost use Rattle.std.specs.Duration.{as_nanos};
+ghost use Rattle.std.specs.Net.Socket.{socket_ip, socket_port};
+ghost use Rattle.office_desk.specs.Meant.{meaning_over};
+ghost use Rattle.changing_commands.specs.Journals.{IfJournaled, IsServedWith, journaled_over};
+ghost use Rattle.command_host.specs.Openings.{IsServed};
+ghost use Rattle.changing_commands.specs.Serving.{HasBegun, HasServed, IsAt, IsServing};
+ghost use Rattle.command_host.specs.Networks.{IsLoopback};
+ghost use Rattle.changing_commands.specs.Serving.{IsTellingPort, IsUnbound, listening_line};
+ghost use Rattle.changing_commands.specs.Serving.{longest_exchange};
+
+use crate::kept::{close_kept, kept_office_at};
+use command_host::{
+    CommandFault, Databases, Journals, Network, close, first_fault, office_at, print,
+};
+use command_line::ServeWords;
+use desk_http::Server;
+use office_policy::Handler;
+use sqlite::{Alter, Connection};
+use std::alloc::{AllocError, Global};
+use std::io::Write;
+use std::net::{IpAddr, Ipv4Addr, SocketAddr, TcpListener};
+use std::time::Duration;
+use streams::{Counted, WriteFailed};
+
+// How long an exchange may last.
+fn longest() -> Duration
+    ensures { as_nanos result ≡ longest_exchange }
+{
+    Duration::from_secs(10)
+}
+
+// A port of loopback.
+fn loopback(port: u16) -> SocketAddr
+    ensures ip { IsLoopback (socket_ip result) }
+    ensures port { socket_port result ≡ port }
+{
+    SocketAddr::new(IpAddr::V4(Ipv4Addr::new(127, 0, 0, 1)), port)
+}
+
+// The line that says at which port it listens.
+fn listening_line(alloc: Global, port: u16) -> Result<String, AllocError>
+    ensures { IfOk result (λ line. string_bytes line ≡ listening_line port) }
+{
+    format!(in alloc; "listening 127.0.0.1:{port}\n")
+}
+
+// What listens at a port of loopback, and at which one, where that is any free one.
+fn bind<N: Network>(network: &N, port: u16) -> Result<(TcpListener, u16), CommandFault>
+    ensures at { IfOk result (λ bound. IsAt N.binds port network.now bound.0) }
+    ensures told { IfOk result (λ bound. IsTellingPort N.tells network.now bound.0 bound.1) }
+    ensures fault { IfErr result IsUnbound }
+{
+    let listener = match network.listen(loopback(port)) {
+        Ok(listener) => listener,
+        Err(_) => return Err(CommandFault::Bind),
+    };
+    match network.address_of(&listener) {
+        Ok(bound) => Ok((listener, bound.port())),
+        Err(_) => Err(CommandFault::Bind),
+    }
+}
+
+// Says at which port it listens, and serves the exchanges.
+fn serve_bound<N: Network, H: Handler, O: Write>(
+    network: &N,
+    office: &mut H,
+    alloc: Global,
+    words: &ServeWords<'_>,
+    output: &mut Counted<O>,
+) -> Result<(), CommandFault>
+    ensures { IsServing N.shows N.binds N.tells O.contents H.meaning words.now
+        office.old office.new output.old output.new result }
+{
+    let Ok(server) = Server::new(network, alloc, longest()) else {
+        return Err(CommandFault::NoMemory);
+    };
+    let (listener, port) = match bind(network, words.port) {
+        Ok(bound) => bound,
+        Err(fault) => return Err(fault),
+    };
+    let Ok(line) = listening_line(alloc, port) else {
+        return Err(CommandFault::NoMemory);
+    };
+    match print(output, line.as_str()) {
+        Ok(()) => {}
+        Err(fault) => return Err(fault),
+    }
+    let exchanges = words.requests.exchanges();
+    match server.serve_all(office, &listener, exchanges, output) {
+        Ok(()) => Ok(()),
+        Err(WriteFailed) => Err(CommandFault::Write),
+    }
+}
+
+// The same without a journal.
+fn serve_alone<S: Alter + Drop, D: Databases<Database = Connection<S>>, N: Network, O: Write>(
+    databases: &D,
+    network: &N,
+    alloc: Global,
+    words: &ServeWords<'_>,
+    output: &mut Counted<O>,
+) -> Result<(), CommandFault>
+    ensures { IsServed S.Store D.Databases words.now.database.now
+        (λ old new. HasServed N.shows N.binds N.tells O.contents (meaning_over S.Store) words.now
+        old new output.old output.new)
+        (λ why old new. HasBegun N.shows N.binds N.tells O.contents (meaning_over S.Store) words.now
+        old new output.old output.new why) result }
+{
+    let mut office = match office_at(databases, words.database) {
+        Ok(office) => office,
+        Err(fault) => return Err(fault),
+    };
+    let served = serve_bound(network, &mut office, alloc, words, output);
+    let closed = close(databases, office);
+    first_fault(served, closed)
+}
+
+// The same with the journal at this path.
+fn serve_kept<
+    S: Alter + Drop,
+    D: Databases<Database = Connection<S>>,
+    J: Journals,
+    N: Network,
+    O: Write,
+>(
+    databases: &D,
+    journals: &J,
+    network: &N,
+    alloc: Global,
+    words: &ServeWords<'_>,
+    journal: &str,
+    output: &mut Counted<O>,
+) -> Result<(), CommandFault>
+    ensures { IsServedWith S.Store J.File.Disk (J.opens journals.now journal.now)
+        D.Databases words.now.database.now
+        (λ old new. HasServed N.shows N.binds N.tells O.contents
+        (journaled_over S.Store J.File.Disk) words.now old new output.old output.new)
+        (λ why old new. HasBegun N.shows N.binds N.tells O.contents
+        (journaled_over S.Store J.File.Disk) words.now old new output.old output.new why) result }
+{
+    let mut kept = match kept_office_at(databases, journals, alloc, words.database, journal) {
+        Ok(kept) => kept,
+        Err(fault) => return Err(fault),
+    };
+    let served = serve_bound(network, &mut kept, alloc, words, output);
+    let closed = close_kept(databases, kept);
+    first_fault(served, closed)
+}
+
+/// Serves exchanges with the office at a path, with its journal where the words give one, and
+/// closes it, also where that failed. Where closing fails too, the first fault is told. The port is
+/// bound last, so that nothing is heard where there is no office.
+pub fn serve_http<
+    S: Alter + Drop,
+    D: Databases<Database = Connection<S>>,
+    J: Journals,
+    N: Network,
+    O: Write,
+>(
+    databases: &D,
+    journals: &J,
+    network: &N,
+    alloc: Global,
+    words: &ServeWords<'_>,
+    output: &mut Counted<O>,
+) -> Result<(), CommandFault>
+    ensures { IfJournaled (option_copied words.now.journal)
+        (IsServed S.Store D.Databases words.now.database.now
+        (λ old new. HasServed N.shows N.binds N.tells O.contents (meaning_over S.Store) words.now
+        old new output.old output.new)
+        (λ why old new. HasBegun N.shows N.binds N.tells O.contents (meaning_over S.Store) words.now
+        old new output.old output.new why) result)
+        (λ file. IsServedWith S.Store J.File.Disk (J.opens journals.now file)
+        D.Databases words.now.database.now
+        (λ old new. HasServed N.shows N.binds N.tells O.contents
+        (journaled_over S.Store J.File.Disk) words.now old new output.old output.new)
+        (λ why old new. HasBegun N.shows N.binds N.tells O.contents
+        (journaled_over S.Store J.File.Disk) words.now old new output.old output.new why) result) }
+{
+    match words.journal {
+        Some(file) => serve_kept(databases, journals, network, alloc, words, file, output),
+        None => serve_alone(databases, network, alloc, words, output),
+    }
+}

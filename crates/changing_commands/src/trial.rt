@@ -1,0 +1,69 @@
+//! The trial desk.
+
+ghost use Rattle.std.specs.Prelude.{◌≡◌, ◌^◌, ◌≤◌, IfErr, IfOk};
+ghost use Rattle.memory_database.specs.MemoryStore.{over_memory};
+ghost use Rattle.office_desk.specs.Meant.{meaning_over};
+ghost use Rattle.changing_commands.specs.Foundings.{IsFoundedAs};
+ghost use Rattle.changing_commands.specs.Lines.{HasAnswered, HasStopped};
+ghost use Rattle.changing_commands.specs.Trials.{trial_founding, HasTried};
+
+use crate::founding::{Founding, founding_of};
+use crate::init::found_in;
+use crate::lines::answer_lines;
+use command_host::{CommandFault, FoundingWordsFault};
+use memory_database::{MemoryStore, open_in_memory};
+use office_desk::Office;
+use std::alloc::Global;
+use std::io::{Read, Write};
+use streams::Counted;
+
+// The SHA-256 of the token abc.
+const DIGEST: &str = "ba7816bf8f01cfea414140de5dae2223b00361a396177a9cb410ff61f20015ad";
+
+// The founding of the office that the trial desk begins with: its first user is root of the team
+// office, a registrar with the token abc, and its one listed capability is CAP_SYS_ADMIN.
+#[tactic(auto, unfolding(crate::specs::Trials::trial_founding))]
+fn trial_founding(alloc: Global) -> Result<Founding, FoundingWordsFault>
+    ensures { IfOk result (λ founding. trial_founding ≡ Ok founding) }
+{
+    founding_of(alloc, "root", "office", DIGEST, &["CAP_SYS_ADMIN"])
+}
+
+// The office of that founding, in memory.
+fn trial_office(alloc: Global) -> Result<Office<MemoryStore>, CommandFault>
+    ensures founded { IfOk result (IsFoundedAs over_memory trial_founding) }
+    ensures fault { IfErr result (λ fault. fault ≡ CommandFault.NoMemory) }
+{
+    let Ok(founding) = trial_founding(alloc) else {
+        return Err(CommandFault::NoMemory);
+    };
+    let Ok(conn) = open_in_memory(alloc) else {
+        return Err(CommandFault::NoMemory);
+    };
+    match found_in(conn, &founding) {
+        Ok(office) => Ok(office),
+        Err(_) => Err(CommandFault::NoMemory),
+    }
+}
+
+/// Answers the lines of a reader at the trial desk.
+pub fn serve_trial<R: Read, W: Write>(
+    alloc: Global,
+    input: &mut Counted<R>,
+    output: &mut Counted<W>,
+) -> Result<(), CommandFault>
+    requires reads { input.old.calls ≤ 2 ^ 62 }
+    requires read_faults { input.old.faults ≤ 2 ^ 62 }
+    requires write_faults { output.old.faults ≤ 2 ^ 62 }
+    ensures { HasTried (HasAnswered W.contents (meaning_over over_memory)
+        (R.remaining input.old.inner) output.old output.new)
+        (HasStopped W.contents (meaning_over over_memory)
+        (R.remaining input.old.inner) (R.remaining input.new.inner) output.old output.new)
+        result }
+{
+    let mut office = match trial_office(alloc) {
+        Ok(office) => office,
+        Err(fault) => return Err(fault),
+    };
+    answer_lines(&mut office, alloc, input, output)
+}

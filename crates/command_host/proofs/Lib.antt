@@ -1,0 +1,2 @@
+pub mod SaidFacts
+pub mod OpenedFacts

@@ -1,0 +1,98 @@
+-- The words of why a command is refused or failed.
+use Rattle.std.specs.Prelude.{ℕ, List, ◌++◌, codes, decimal}
+use Rattle.desk.specs.Faults.{desk_fault_word}
+use Rattle.journaled_office.specs.declared.fault.NotReopened.{NotReopened}
+use Rattle.journaled_office.specs.declared.fault.NotReopened.TheVariants as reopening
+use Rattle.journal_replay.specs.FaultTexts.{refused_text}
+use Rattle.journal_reports.specs.FaultTexts.{no_evidence_text, unwritten_text}
+use Rattle.journal_verification.specs.DifferenceTexts.{difference_text}
+use Rattle.journal_verification.specs.declared.verification.Unverified.{Unverified}
+use Rattle.journal_verification.specs.declared.verification.Unverified.TheVariants as unverified
+use Rattle.office_store.specs.Faults.{founding_fault_word, migration_fault_word, opening_fault_word}
+use Rattle.office_tables.specs.Faults.{store_fault_word}
+use Rattle.profile_commands.specs.declared.compare.ComparedFault.{ComparedFault}
+use Rattle.profile_commands.specs.declared.compare.ComparedFault.TheVariants as compared
+use Rattle.profile_commands.specs.declared.execution.ExecutionFault.{ExecutionFault}
+use Rattle.profile_commands.specs.declared.execution.ExecutionFault.TheVariants as execution
+use Rattle.profile_commands.specs.declared.fault.FileFault.{FileFault}
+use Rattle.profile_commands.specs.declared.fault.FileFault.TheVariants as file
+use Rattle.profile_text.specs.FaultText.{fault_text_of}
+use Rattle.review_policy.specs.WordTables.{fault_word}
+use Rattle.streams.specs.declared.up_to.Unread.{Unread}
+use Rattle.streams.specs.declared.up_to.Unread.TheVariants as unread
+use Rattle.command_host.specs.declared.fault.CommandFault.{CommandFault}
+use Rattle.command_host.specs.declared.fault.CommandFault.TheVariants as fault
+use Rattle.command_host.specs.declared.founding_fault.FoundingWordsFault.{FoundingWordsFault}
+use Rattle.command_host.specs.declared.founding_fault.FoundingWordsFault.TheVariants as words
+
+-- why the words of `init` describe no founding
+abbrev pub founding_words_fault_word : FoundingWordsFault → List ℕ
+founding_words_fault_word words.BadWord = codes "bad-word"
+founding_words_fault_word words.UnknownCapability = codes "unknown-capability"
+founding_words_fault_word words.NoMemory = codes "memory"
+
+-- why those of `execve` describe no execution
+abbrev pub execution_fault_word : ExecutionFault → List ℕ
+execution_fault_word execution.RootTakesNoFile = codes "root-takes-no-file"
+execution_fault_word execution.UnknownCapability = codes "unknown-capability"
+
+-- why a file wasn't read
+abbrev pub unread_word : Unread → List ℕ
+unread_word unread.Failed = codes "read"
+unread_word unread.TooManyReads = codes "too-many-reads"
+unread_word unread.NoMemory = codes "memory"
+
+-- why a file gave nothing
+abbrev pub file_fault_text : FileFault → List ℕ
+file_fault_text (file.Unread why) = unread_word why
+file_fault_text (file.Document why) = fault_text_of why
+
+-- why two documents weren't compared
+abbrev pub compared_fault_text : ComparedFault → List ℕ
+compared_fault_text (compared.Base why) = codes "base: " ++ file_fault_text why
+compared_fault_text (compared.New why) = codes "new: " ++ file_fault_text why
+compared_fault_text compared.NoMemory = codes "memory"
+
+-- why an office wasn't opened again with its journal
+abbrev pub reopening_fault_text : NotReopened → List ℕ
+reopening_fault_text reopening.Unsealed = codes "unsealed"
+reopening_fault_text reopening.NotALine = codes "not-a-journal"
+reopening_fault_text (reopening.Changed at) = codes "changed at " ++ decimal at
+reopening_fault_text reopening.OtherJournal = codes "other-journal"
+reopening_fault_text (reopening.Office why) = fault_word why
+reopening_fault_text reopening.Log = codes "journal"
+reopening_fault_text reopening.NoMemory = codes "memory"
+
+-- why an office isn't the one of its journal
+abbrev pub unverified_text : Unverified → List ℕ
+unverified_text (unverified.Refused refused) = refused_text refused
+unverified_text (unverified.Differs row) = codes "differs: " ++ difference_text row
+unverified_text (unverified.Fault why) = store_fault_word why
+
+-- why a command was refused or failed
+abbrev pub command_fault_text : CommandFault → List ℕ
+command_fault_text (fault.Execution why) = execution_fault_word why
+command_fault_text fault.Open = codes "read"
+command_fault_text (fault.File why) = file_fault_text why
+command_fault_text (fault.Compared why) = compared_fault_text why
+command_fault_text (fault.FoundingWords why) = founding_words_fault_word why
+command_fault_text (fault.Founding why) = founding_fault_word why
+command_fault_text (fault.Migration why) = migration_fault_word why
+command_fault_text (fault.Store why) = store_fault_word why
+command_fault_text (fault.Opening why) = opening_fault_word why
+command_fault_text fault.Close = codes "disk"
+command_fault_text fault.JournalThere = codes "journal-there"
+command_fault_text fault.JournalBusy = codes "busy"
+command_fault_text fault.Journal = codes "journal"
+command_fault_text (fault.Reopening why) = reopening_fault_text why
+command_fault_text fault.SameFile = codes "same-file"
+command_fault_text (fault.Unverified why) = unverified_text why
+command_fault_text (fault.Unbuilt refused) = refused_text refused
+command_fault_text fault.OtherSeal = codes "other-seal"
+command_fault_text (fault.Unwritten why) = unwritten_text why
+command_fault_text (fault.NoEvidence why) = no_evidence_text why
+command_fault_text fault.NotAWord = codes "bad-word"
+command_fault_text (fault.Desk why) = desk_fault_word why
+command_fault_text fault.Bind = codes "bind"
+command_fault_text fault.Write = codes "write"
+command_fault_text fault.NoMemory = codes "memory"

@@ -1,0 +1,21 @@
+-- What the databases in the files of a host are known by.
+use Rattle.sqlite_disk.specs.declared.Disk as disk
+use Rattle.sqlite_disk.specs.declared.Files.{Files}
+use Rattle.sqlite_wal.specs.Reads.{AreClean}
+use Rattle.sqlite_wal.specs.Recovery.{Image}
+use Rattle.sqlite_store.specs.declared.store.FileStore.{FileStore}
+use Rattle.sqlite.specs.Closing.{IsCopied}
+use Rattle.sqlite.specs.Files.{file_state, IsOpened}
+use Rattle.sqlite.specs.Held.{Held}
+use Rattle.sqlite.specs.Start.{FindsIn}
+use Rattle.sqlite.specs.State.{HasCleanDisk}
+
+-- a database was opened in files that held this
+abbrev pub IsFoundIn : {D : Type 0} {g : disk.Ghosts D} → Image → Held (FileStore D g) → Type 0
+IsFoundIn image conn =
+    HasCleanDisk (file_state conn) → IsOpened conn × FindsIn image (file_state conn)
+
+-- it was closed, and its files have all of it
+abbrev pub IsClosedInto : {D : Type 0} {g : disk.Ghosts D} → Held (FileStore D g) → Type 0
+IsClosedInto {D} {g} conn =
+    (files : Files D) × (AreClean g files.log files.db → IsCopied conn files)

@@ -1,0 +1,100 @@
+-- What is opened at a path, and why it isn't.
+use Rattle.std.specs.Prelude.{◌≡◌, ◌⊎◌, ℕ, List, true, false, None, Result, Ok, Err}
+use Rattle.std.specs.declared.io.Error.{Error as IoError}
+use Rattle.sqlite.specs.Held.{Held, state}
+use Rattle.sqlite.specs.State.{HasCleanDisk}
+use Rattle.sqlite.specs.Store.{Ghosts}
+use Rattle.sqlite.specs.declared.error.Error.{Error}
+use Rattle.sqlite.specs.declared.error.Error.TheVariants as error
+use Rattle.sqlite.specs.declared.error.ErrorCode.TheVariants as code
+use Rattle.office_rows.specs.Faults.{fault_of_error}
+use Rattle.office_store.specs.Form.{has_old_tables, TellsOpening}
+use Rattle.office_store.specs.declared.fault.OpeningFault.{OpeningFault}
+use Rattle.office_store.specs.declared.fault.OpeningFault.TheVariants as opening
+use Rattle.office_desk.specs.Opened.{IsOver}
+use Rattle.command_host.specs.declared.fault.CommandFault.{CommandFault}
+use Rattle.command_host.specs.declared.fault.CommandFault.TheVariants as fault
+use Rattle.office_tables.specs.declared.fault.StoreFault.{StoreFault}
+use Rattle.office_tables.specs.declared.fault.StoreFault.TheVariants.{Disk, NotAnOffice}
+use Rattle.command_host.specs.declared.databases.Databases as databases
+
+-- what is no database is no office
+abbrev pub fault_of_opening : Error → StoreFault
+fault_of_opening (error.SqliteFailure code.NotADatabase) = NotAnOffice
+fault_of_opening e = fault_of_error e
+
+-- a database was opened, of which this is known, and then its limit on steps was taken away
+abbrev pub IsUnlimited : {S : Type 0} → (Held S → Type 0) → Held S → Type 0
+IsUnlimited {S} Opened conn =
+    (was : Held S) × Opened was × (conn ≡ record was { step_limit = None })
+
+-- Over a connection there is no office, for this: it has not the tables of one, or it has, and this is
+-- what reading them tells.
+pub record IsNoOffice {S : Type 0} (g : Ghosts S) (was new : Held S) (why : OpeningFault)
+    : Type 0 where
+  pub foreign : has_old_tables (state g was).now.schema ≡ false → why ≡ opening.Store NotAnOffice
+  pub told : has_old_tables (state g was).now.schema ≡ true → HasCleanDisk (state g new)
+      → TellsOpening (state g was) (state g new) (Err why)
+
+-- of databases of which this is known
+module _ {S D : Type 0} (d : databases.Ghosts D (Held S)) where
+  -- a database was closed, whatever came of that
+  abbrev pub IsEnded : Held S → Type 0
+  IsEnded conn = (told : Result (Unit {0}) Error) × d.ended conn told
+
+  module _ (path : List ℕ) where
+    -- No database was opened at a path, for this: that failed so, or it has a transaction open as it
+    -- is opened.
+    abbrev pub IsUnopened : StoreFault → Type 0
+    IsUnopened why =
+        ((error : Error) × d.refused path error × (why ≡ fault_of_opening error))
+        ⊎ ((why ≡ Disk) × ((conn : Held S) × d.opened path conn × (conn.in_transaction ≡ true)))
+
+    -- there is none at a path, for this: it couldn't be seen whether something is there, nothing is,
+    -- or what is there wasn't opened
+    abbrev pub IsNotThere : StoreFault → Type 0
+    IsNotThere why =
+        ((why ≡ Disk) × ((error : IoError) × d.sees path (Err error)))
+        ⊎ ((why ≡ NotAnOffice) × d.sees path (Ok false)) ⊎ IsUnopened why
+
+    -- there is no database at a path; or one was opened there, and is no office of this schema, for
+    -- this, and was closed
+    abbrev pub IsOfOpening : Ghosts S → CommandFault → Type 0
+    IsOfOpening g (fault.Store why) = IsNotThere why
+    IsOfOpening g (fault.Opening why) =
+        (was new : Held S) × IsUnlimited (d.opened path) was × IsNoOffice g was new why
+        × IsEnded new
+    IsOfOpening g _ = ⊥
+
+module _ {S : Type 0} (g : Ghosts S) (Opened : Held S → Type 0) where
+  -- the office over a database that was opened, of which this is known
+  pub record IsOpenedOffice (office : Held S) : Type 0 where
+    pub was : Held S
+    pub opened : Opened was
+    pub over : IsOver g was office
+
+  -- such an office was opened, this was done with it, and it was closed, of which this is known
+  pub record WasServed
+      (Done : (old new : Held S) → Type 0) (Closed : Held S → Type 0) : Type 0 where
+    pub old : Held S
+    pub new : Held S
+    pub office : IsOpenedOffice old
+    pub done : Done old new
+    pub closed : Closed new
+
+-- The same of a command that serves the office at a path. Where it failed, there was no office; or
+-- it stopped for this, and the office was closed, whatever came of that; or all was done and the
+-- office couldn't be closed.
+abbrev pub IsServed : {S D : Type 0} → Ghosts S → (d : databases.Ghosts D (Held S))
+    → (path : List ℕ) → (Done : (old new : Held S) → Type 0)
+    → (Stops : CommandFault → (old new : Held S) → Type 0)
+    → Result (Unit {0}) CommandFault → Type 0
+IsServed g d path Done Stops (Ok done) = WasServed g (d.opened path) Done d.closed
+IsServed g d path Done Stops (Err why) =
+    IsOfOpening d path g why ⊎ WasServed g (d.opened path) (Stops why) (IsEnded d)
+    ⊎ ((why ≡ fault.Close) × WasServed g (d.opened path) Done (IsEnded d))
+
+-- of serving and then closing the first fault is reported
+abbrev pub IsFirstOf : (served closed result : Result (Unit {0}) CommandFault) → Type 0
+IsFirstOf (Ok done) closed result = result ≡ closed
+IsFirstOf (Err why) closed result = result ≡ Err why

@@ -1,0 +1,46 @@
+//! Databases at paths.
+
+ghost use Rattle.std.specs.Prelude.{ℕ, List, Result, Bool, ⊤, IfErr, IfOk, OnOk};
+ghost use Rattle.std.specs.declared.io.Error.{Error as IoError};
+ghost use Rattle.sqlite.specs.declared.error.Error.{Error};
+
+use sqlite::Error;
+use std::io;
+
+/// The databases of SQLite at paths, so that a test can stand in for files. Of `sees`, `refused` and
+/// `ended` nothing is known but that a call meets them, so that who promises them has called with
+/// just this path or database, and has what came of that.
+pub trait Databases {
+    /// A connection to one.
+    type Database: Drop;
+
+    /// What came of looking whether something is at a path.
+    ghost sees: { List ℕ → Result Bool IoError → Type 0 } = { λ _ _. ⊤ };
+
+    /// Whether something is at a path.
+    fn is_there(&self, path: &str) -> io::Result<bool>
+        ensures { sees path.now result };
+
+    /// What is known of the database that was opened at a path.
+    ghost opened: { List ℕ → Self.Database → Type 0 } = { λ _ _. ⊤ };
+
+    /// Why none was opened at a path.
+    ghost refused: { List ℕ → Error → Type 0 } = { λ _ _. ⊤ };
+
+    /// Opens the database at a path. Where nothing is there, an empty one is made, which its owner
+    /// alone may read and write.
+    fn open(&self, path: &str) -> Result<Self::Database, Error>
+        ensures opened { IfOk result (λ database. opened path.now database) }
+        ensures refused { IfErr result (λ error. refused path.now error) };
+
+    /// What is known of the database that was closed.
+    ghost closed: { Self.Database → Type 0 } = { λ _. ⊤ };
+
+    /// What came of closing a database.
+    ghost ended: { Self.Database → Result ⊤ Error → Type 0 } = { λ _ _. ⊤ };
+
+    /// Closes a database, so that all of it stands in the one file at its path.
+    fn close(&self, database: Self::Database) -> Result<(), Error>
+        ensures closed { OnOk result (closed database) }
+        ensures ended { ended database result };
+}

@@ -1,0 +1,184 @@
+//! Why a command is refused or failed.
+
+ghost use Rattle.std.specs.Prelude.{◌≡◌};
+ghost use Rattle.command_host.specs.FaultTexts.{execution_fault_word, unread_word};
+
+use crate::founding_fault::FoundingWordsFault;
+use desk::DeskFault;
+use journal_replay::Refused;
+use journal_reports::{NoEvidence, Unwritten};
+use journal_verification::Unverified;
+use journaled_office::NotReopened;
+use office_store::{FoundingFault, MigrationFault, OpeningFault};
+use office_tables::StoreFault;
+use profile_commands::{ComparedFault, ExecutionFault, FileFault};
+use std::fmt;
+use streams::Unread;
+
+/// Why a command is refused or failed, with the words that the program says on standard error.
+#[derive(Debug, Drop)]
+pub enum CommandFault {
+    /// The words of `execve` describe no execution.
+    Execution(ExecutionFault),
+    /// A file can't be opened.
+    Open,
+    /// The document in a file gave nothing.
+    File(FileFault),
+    /// Two documents weren't compared.
+    Compared(ComparedFault),
+    /// The words of `init` describe no founding.
+    FoundingWords(FoundingWordsFault),
+    /// No office was founded.
+    Founding(FoundingFault),
+    /// An office wasn't migrated.
+    Migration(MigrationFault),
+    /// What stands at a path can't be opened.
+    Store(StoreFault),
+    /// What was opened at a path is no office of this schema.
+    Opening(OpeningFault),
+    /// An office can't be closed.
+    Close,
+    /// Something is where a journal is to be begun.
+    JournalThere,
+    /// Another command has the journal open.
+    JournalBusy,
+    /// A journal can't be begun, or can't be opened.
+    Journal,
+    /// An office isn't opened again with its journal.
+    Reopening(NotReopened),
+    /// A journal is the file of its database, or one of the files beside that, by its name.
+    SameFile,
+    /// An office isn't the one of its journal.
+    Unverified(Unverified),
+    /// A journal isn't built on, at a line.
+    Unbuilt(Refused),
+    /// A line of a journal hasn't the seal that was kept.
+    OtherSeal,
+    /// The history of a journal wasn't written to its end.
+    Unwritten(Unwritten),
+    /// A journal has no evidence of the issue of a revision.
+    NoEvidence(NoEvidence),
+    /// The name of a team or of a profile is none.
+    NotAWord,
+    /// The desk stopped.
+    Desk(DeskFault),
+    /// Nothing listens at the port.
+    Bind,
+    /// Standard output can't be written.
+    Write,
+    /// Memory was refused. No contract can say when: it may stand in place of any answer.
+    NoMemory,
+}
+
+// The word of why words describe no execution.
+fn execution_word(fault: ExecutionFault) -> &'static str
+    ensures { result.now ≡ execution_fault_word fault }
+{
+    match fault {
+        ExecutionFault::RootTakesNoFile => "root-takes-no-file",
+        ExecutionFault::UnknownCapability => "unknown-capability",
+    }
+}
+
+// The word of why a file wasn't read.
+fn unread_word(unread: Unread) -> &'static str
+    ensures { result.now ≡ unread_word unread }
+{
+    match unread {
+        Unread::Failed => "read",
+        Unread::TooManyReads => "too-many-reads",
+        Unread::NoMemory => "memory",
+    }
+}
+
+impl fmt::Display for CommandFault {
+    ghost use Rattle.std.specs.Prelude.{Some};
+    ghost use Rattle.command_host.specs.FaultTexts.{command_fault_text};
+
+    ghost output = { λ fault. Some (command_fault_text fault) };
+
+    fn fmt<W: fmt::Write>(&self, f: &mut fmt::Formatter<W>) -> fmt::Result {
+        match self {
+            CommandFault::Execution(fault) => f.write_str(execution_word(*fault)),
+            CommandFault::File(FileFault::Unread(why)) => f.write_str(unread_word(*why)),
+            CommandFault::File(FileFault::Document(why)) => write!(f, "{why}"),
+            CommandFault::Compared(ComparedFault::Base(FileFault::Unread(why))) => {
+                write!(f, "base: {}", unread_word(*why))
+            }
+            CommandFault::Compared(ComparedFault::Base(FileFault::Document(why))) => {
+                write!(f, "base: {why}")
+            }
+            CommandFault::Compared(ComparedFault::New(FileFault::Unread(why))) => {
+                write!(f, "new: {}", unread_word(*why))
+            }
+            CommandFault::Compared(ComparedFault::New(FileFault::Document(why))) => {
+                write!(f, "new: {why}")
+            }
+            CommandFault::FoundingWords(fault) => write!(f, "{fault}"),
+            CommandFault::Founding(fault) => write!(f, "{fault}"),
+            CommandFault::Migration(fault) => write!(f, "{fault}"),
+            CommandFault::Store(fault) => write!(f, "{fault}"),
+            CommandFault::Opening(fault) => write!(f, "{fault}"),
+            CommandFault::Unverified(Unverified::Refused(refused)) => write!(f, "{refused}"),
+            CommandFault::Unverified(Unverified::Differs(row)) => write!(f, "differs: {row}"),
+            CommandFault::Unverified(Unverified::Fault(fault)) => write!(f, "{fault}"),
+            CommandFault::Unbuilt(refused) => write!(f, "{refused}"),
+            CommandFault::Unwritten(why) => write!(f, "{why}"),
+            CommandFault::NoEvidence(why) => write!(f, "{why}"),
+            CommandFault::NotAWord => f.write_str("bad-word"),
+            CommandFault::Desk(fault) => write!(f, "{fault}"),
+            CommandFault::Open => f.write_str("read"),
+            CommandFault::Close => f.write_str("disk"),
+            CommandFault::JournalThere => f.write_str("journal-there"),
+            CommandFault::Journal => f.write_str("journal"),
+            CommandFault::JournalBusy => f.write_str("busy"),
+            CommandFault::SameFile => f.write_str("same-file"),
+            CommandFault::OtherSeal => f.write_str("other-seal"),
+            CommandFault::Reopening(NotReopened::Unsealed) => f.write_str("unsealed"),
+            CommandFault::Reopening(NotReopened::NotALine) => f.write_str("not-a-journal"),
+            CommandFault::Reopening(NotReopened::Changed { at }) => write!(f, "changed at {at}"),
+            CommandFault::Reopening(NotReopened::OtherJournal) => f.write_str("other-journal"),
+            CommandFault::Reopening(NotReopened::Office(fault)) => f.write_str(fault.word()),
+            CommandFault::Reopening(NotReopened::Log) => f.write_str("journal"),
+            CommandFault::Reopening(NotReopened::NoMemory) => f.write_str("memory"),
+            CommandFault::Bind => f.write_str("bind"),
+            CommandFault::Write => f.write_str("write"),
+            CommandFault::NoMemory | CommandFault::Compared(ComparedFault::NoMemory) => {
+                f.write_str("memory")
+            }
+        }
+    }
+}
+
+impl From<ExecutionFault> for CommandFault {
+    ghost use Rattle.std.specs.Prelude.{◌≡◌};
+    ghost use Rattle.command_host.specs.declared.fault.CommandFault.TheVariants.{Execution};
+
+    ghost from_gives = { λ why fault. fault ≡ Execution why };
+
+    fn from(why: ExecutionFault) -> CommandFault {
+        CommandFault::Execution(why)
+    }
+}
+
+impl From<FileFault> for CommandFault {
+    ghost use Rattle.std.specs.Prelude.{◌≡◌};
+    ghost use Rattle.command_host.specs.declared.fault.CommandFault.TheVariants.{File};
+
+    ghost from_gives = { λ why fault. fault ≡ File why };
+
+    fn from(why: FileFault) -> CommandFault {
+        CommandFault::File(why)
+    }
+}
+
+impl From<ComparedFault> for CommandFault {
+    ghost use Rattle.std.specs.Prelude.{◌≡◌};
+    ghost use Rattle.command_host.specs.declared.fault.CommandFault.TheVariants.{Compared};
+
+    ghost from_gives = { λ why fault. fault ≡ Compared why };
+
+    fn from(why: ComparedFault) -> CommandFault {
+        CommandFault::Compared(why)
+    }
+}

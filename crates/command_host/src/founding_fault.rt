@@ -1,0 +1,46 @@
+//! Why words describe no founding.
+
+use review_policy::WordFault;
+use std::error::Error;
+use std::fmt;
+
+/// Why words describe no founding, with the word that the program says on standard error.
+#[derive(Clone, Copy, Debug, Drop, PartialEq, Eq)]
+pub enum FoundingWordsFault {
+    /// NAME or TEAM is no word, or DIGEST isn't 64 lower-case hexadecimal digits.
+    BadWord,
+    /// A CAP is no name of a capability.
+    UnknownCapability,
+    /// Memory was refused. No contract can say when: it may stand in place of any answer.
+    NoMemory,
+}
+
+impl fmt::Display for FoundingWordsFault {
+    ghost use Rattle.std.specs.Prelude.{Some};
+    ghost use Rattle.command_host.specs.FaultTexts.{founding_words_fault_word};
+
+    ghost output = { λ fault. Some (founding_words_fault_word fault) };
+
+    fn fmt<W: fmt::Write>(&self, f: &mut fmt::Formatter<W>) -> fmt::Result {
+        f.write_str(match self {
+            FoundingWordsFault::BadWord => "bad-word",
+            FoundingWordsFault::UnknownCapability => "unknown-capability",
+            FoundingWordsFault::NoMemory => "memory",
+        })
+    }
+}
+
+impl Error for FoundingWordsFault {}
+
+impl From<WordFault> for FoundingWordsFault {
+    ghost use Rattle.command_host.specs.FoundingFaults.{IsFaultOfWord};
+
+    ghost from_gives = { IsFaultOfWord };
+
+    fn from(fault: WordFault) -> FoundingWordsFault {
+        match fault {
+            WordFault::NotAWord => FoundingWordsFault::BadWord,
+            WordFault::NoMemory => FoundingWordsFault::NoMemory,
+        }
+    }
+}

@@ -1,0 +1,124 @@
+//! The databases in the files of the host.
+
+ghost use Rattle.std.specs.Prelude.{[], true};
+ghost use Rattle.sqlite_wal.specs.Files.{image_at};
+ghost use Rattle.command_host.specs.HostFiles.{IsClosedInto, IsFoundIn};
+
+use crate::databases::Databases;
+use sqlite::{Connection, Error, ErrorCode, FileFrom, FileStore, Start};
+use std::fs::{OpenOptions, Permissions};
+use std::io::ErrorKind;
+use std::os::unix::fs::{OpenOptionsExt, PermissionsExt};
+use std::{fs, io};
+
+// What the owner of a file may do with it, and nobody else anything.
+const OWNER_ALONE: u32 = 0o600;
+
+// Whether SQLite takes a path for a file's, and not for a name in memory or a URI.
+fn names_file(path: &str) -> bool {
+    path != ":memory:" && !path.starts_with("file:")
+}
+
+// Makes an empty file where nothing is. The mode is given to the call that makes it, so that nobody
+// else can ever have it open, and set again since the umask took from it.
+fn make_file(rt: &HostRuntime, path: &str) -> io::Result<()> {
+    let file = OpenOptions::new()
+        .write(true)
+        .create_new(true)
+        .mode(OWNER_ALONE)
+        .open(rt, path)?;
+    file.set_permissions(Permissions::from_mode(OWNER_ALONE))
+}
+
+// Sees to it that there is a file for a database at a path, an empty one where nothing was.
+fn have_file(rt: &HostRuntime, path: &str) -> Result<(), Error> {
+    if !names_file(path) {
+        return Ok(());
+    }
+    match make_file(rt, path) {
+        Ok(()) => Ok(()),
+        Err(error) if error.kind() == ErrorKind::AlreadyExists => Ok(()),
+        Err(error) if error.kind() == ErrorKind::OutOfMemory => {
+            Err(Error::SqliteFailure(ErrorCode::OutOfMemory))
+        }
+        Err(_) => Err(Error::SqliteFailure(ErrorCode::CannotOpen)),
+    }
+}
+
+/// The databases in the files of the host. `T` stands for what the files hold as they are opened:
+/// what is proved of a command over them is proved for all contents.
+#[derive(Drop)]
+pub struct HostFiles<'r, T: Start + Copy> {
+    rt: &'r HostRuntime,
+    start: T,
+}
+
+impl<'r, T: Start + Copy> HostFiles<'r, T> {
+    /// The databases in the files of this host.
+    pub fn new(rt: &'r HostRuntime, start: T) -> HostFiles<'r, T> {
+        HostFiles { rt, start }
+    }
+}
+
+impl<T: Start + Copy> Databases for HostFiles<'_, T> {
+    type Database = Connection<FileStore<FileFrom<T>>>;
+
+    ghost opened = { λ path. IsFoundIn (image_at T.Start) };
+
+    ghost closed = { IsClosedInto };
+
+    fn is_there(&self, path: &str) -> io::Result<bool> {
+        fs::exists(self.rt, path)
+    }
+
+    fn open(&self, path: &str) -> Result<Connection<FileStore<FileFrom<T>>>, Error> {
+        have_file(self.rt, path)?;
+        match Connection::open_from(self.rt, path, false, self.start) {
+            Ok(conn) => Ok(conn),
+            Err((error, _)) => Err(error),
+        }
+    }
+
+    fn close(&self, database: Connection<FileStore<FileFrom<T>>>) -> Result<(), Error> {
+        match database.close_files() {
+            Ok(_) => Ok(()),
+            Err((error, store)) => {
+                drop(store.close());
+                Err(error)
+            }
+        }
+    }
+}
+
+/// Files whose contents the program doesn't know, and of which a torn write leaves each byte old or
+/// new.
+#[derive(Clone, Copy)]
+pub struct Unread;
+
+impl Start for Unread {
+    ghost log = { [] };
+
+    ghost db = { [] };
+
+    ghost is_mixing = { true };
+
+    fn mixes() -> bool {
+        true
+    }
+}
+
+impl Databases for HostRuntime {
+    type Database = Connection<FileStore<FileFrom<Unread>>>;
+
+    fn is_there(&self, path: &str) -> io::Result<bool> {
+        fs::exists(self, path)
+    }
+
+    fn open(&self, path: &str) -> Result<Connection<FileStore<FileFrom<Unread>>>, Error> {
+        HostFiles::new(self, Unread).open(path)
+    }
+
+    fn close(&self, database: Connection<FileStore<FileFrom<Unread>>>) -> Result<(), Error> {
+        HostFiles::new(self, Unread).close(database)
+    }
+}

@@ -1,0 +1,49 @@
+//! Journals at paths.
+
+ghost use Rattle.std.specs.Prelude.{ℕ, List, Result, ⊤, IfOk};
+ghost use Rattle.std.specs.declared.io.Error.{Error};
+ghost use Rattle.sqlite_disk.specs.Disk.{Only};
+ghost use Rattle.command_host.specs.declared.no_file.NoFile.{NoFile};
+
+use crate::no_file::NoFile;
+use sqlite_disk::Disk;
+use std::io;
+
+/// The files of journals at paths, so that a test can stand in for those of the host. Of `creates`,
+/// `opens` and `removes` nothing is known but that a call meets them, so that who promises them has
+/// called with just this path, and has what came of that.
+pub trait Journals {
+    /// A file, as a disk.
+    type File: Disk + Drop;
+
+    /// What came of making the file at a path.
+    ghost creates: { Self → List ℕ → Result Self.File NoFile → Type 0 };
+
+    /// Makes an empty file at a path, which its owner alone may read and write.
+    ///
+    /// # Errors
+    ///
+    /// `There` where something is there, and that is left as it is.
+    fn create(&self, path: &str) -> Result<Self::File, NoFile>
+        ensures { creates self.now path.now result };
+
+    /// What came of opening the file at a path.
+    ghost opens: { Self → List ℕ → Result Self.File NoFile → Type 0 };
+
+    /// Opens the file at a path, which nobody else can open then. A crash leaves what it has.
+    ///
+    /// # Errors
+    ///
+    /// `Busy` where another has it open.
+    fn open(&self, path: &str) -> Result<Self::File, NoFile>
+        ensures opened { opens self.now path.now result }
+        ensures settled { IfOk result (λ file.
+            Only (Self.File.seen file) (Self.File.may_leave file)) };
+
+    /// What came of removing the file at a path.
+    ghost removes: { Self → List ℕ → Result ⊤ Error → Type 0 };
+
+    /// Removes the file at a path.
+    fn remove(&self, path: &str) -> io::Result<()>
+        ensures { removes self.now path.now result };
+}

@@ -1,0 +1,48 @@
+//! What is printed on standard output, and said on standard error.
+
+ghost use Rattle.std.specs.Prelude.{◌≡◌, IfErr, OnOk};
+ghost use Rattle.desk_http.specs.Lines.{IsCut, IsWhole};
+ghost use Rattle.command_host.specs.Said.{IsRefusal, IsSaid};
+
+use crate::fault::CommandFault;
+use std::alloc::Global;
+use std::io::Write;
+use streams::{Counted, write_whole};
+
+/// Writes all bytes of what a command prints.
+pub fn print_bytes<W: Write>(output: &mut Counted<W>, bytes: &[u8]) -> Result<(), CommandFault>
+    ensures whole { OnOk result (IsWhole W.contents output.old output.new bytes.now) }
+    ensures fault { IfErr result (λ fault. (fault ≡ CommandFault.Write)
+        × IsCut W.contents output.old output.new bytes.now) }
+{
+    match write_whole(output, bytes) {
+        Ok(()) => Ok(()),
+        Err(_) => Err(CommandFault::Write),
+    }
+}
+
+/// Writes all of a text that a command prints.
+pub fn print<W: Write>(output: &mut Counted<W>, text: &str) -> Result<(), CommandFault>
+    ensures whole { OnOk result (IsWhole W.contents output.old output.new text.now) }
+    ensures fault { IfErr result (λ fault. (fault ≡ CommandFault.Write)
+        × IsCut W.contents output.old output.new text.now) }
+{
+    print_bytes(output, text.as_bytes())
+}
+
+/// Says a text. Where that fails there is no more to say.
+pub fn say<E: Write>(errors: &mut Counted<E>, text: &str)
+    ensures { IsSaid E.contents errors.old errors.new text.now }
+{
+    let _ = write_whole(errors, text.as_bytes());
+}
+
+/// Says why a command was refused or failed.
+pub fn refuse<E: Write>(alloc: Global, errors: &mut Counted<E>, fault: &CommandFault)
+    ensures { IsRefusal E.contents errors.old errors.new fault.now }
+{
+    match format!(in alloc; "office: {fault}\n") {
+        Ok(text) => say(errors, text.as_str()),
+        Err(_) => say(errors, "office: memory\n"),
+    }
+}

@@ -1,0 +1,11 @@
+use Rattle.std.proofs.Common.{subst, sym}
+use Rattle.office_desk.specs.Meant.{meaning_over}
+use Rattle.journal_lines.specs.Told.{place}
+use Rattle.journal_replay.specs.Rebuilt.{HasReplayed}
+use Rattle.journal_rebuilding.proofs.rebuilding.next_event.Goals as goal
+
+pub returns-in-Err-clause-halted : goal.returns-in-Err-clause-halted
+returns-in-Err-clause-halted g c = λ bytes es before.
+    let m = meaning_over g.S.Store in
+    let here = place g.R.Read.remaining c.args.replay.now.events in
+    c.rebuild_last.ensures bytes here es (subst (λ office. HasReplayed bytes m here es office) (sym c.in-Err.ensures.office) before) (c.in-Err.ensures.next c.requires)

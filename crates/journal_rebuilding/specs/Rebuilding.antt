@@ -1,0 +1,90 @@
+-- An office that is built anew as far as its journal can be read.
+use Rattle.std.specs.Prelude.{◌≡◌, ◌⊎◌, ◌+◌, ◌-◌, ◌^◌, ◌++◌, ◌∷◌, [], ℕ, min, Bool, true, false}
+use Rattle.std.specs.Prelude.{List, Option, Some, Result, Ok, Err, ⊤}
+use Rattle.sqlite.specs.Held.{Held, state}
+use Rattle.sqlite.specs.Store.{Ghosts}
+use Rattle.office_store.specs.Schema.{no_schema}
+use Rattle.office_policy.specs.Handled.{Stands}
+use Rattle.office_policy.specs.History.{Event}
+use Rattle.office_policy.specs.Lawful.{IsLawfulHistory}
+use Rattle.office_policy.specs.Meaning.{Meaning}
+use Rattle.office_desk.specs.declared.replay.Unreplayed.{Unreplayed}
+use Rattle.office_desk.specs.Meant.{meaning_over}
+use Rattle.office_desk.specs.Replayed.{IsReplayed}
+use Rattle.journal_lines.specs.declared.events.Unreadable.{Unreadable}
+use Rattle.journal_lines.specs.declared.events.Unreadable.TheVariants as unreadable
+use Rattle.journal_lines.specs.Told.{CannotGoOn, GoesOn, IsOutside, Place, held_at, history_told}
+use Rattle.journal_lines.specs.Told.{standing, start}
+use Rattle.journal_replay.specs.declared.fault.Refused.{Refused}
+use Rattle.journal_replay.specs.declared.fault.Why.{Why}
+use Rattle.journal_replay.specs.declared.fault.Why.TheVariants as halt
+use Rattle.journal_replay.specs.Rebuilt.{HasReplayed, IsRebuilt, line_behind}
+use Rattle.journal_replay.specs.Steps.{IsUnbegun}
+
+-- the journal ends before a line that can't be: it isn't that the input or memory failed, of which
+-- the line may be one that strikes out
+abbrev pub ends_there : Why → Bool
+ends_there (halt.Unread unreadable.Read) = false
+ends_there (halt.Unread unreadable.NoMemory) = false
+ends_there _ = true
+
+-- the event is the next one behind the place: it stands, or it is held back where the journal can't
+-- be read on
+abbrev pub ComesNext : Place → (ℕ × Event) → Type 0
+ComesNext here placed =
+    ((behind : Place) × GoesOn here behind (placed ∷ []))
+    ⊎ ((last : Place) × GoesOn here last [] × (held_at last ≡ Some placed))
+
+-- of a journal with these bytes, where they are known, and the office that is left
+module _ (bytes : Option (List ℕ)) {X : Type 0} (m : Meaning X) (left : X) where
+  -- The office is of the history that the journal is of, as in `IsRebuilt`; it has so many events,
+  -- up to the greatest u64.
+  pub record IsBuilt (events : ℕ) (seal : List ℕ) : Type 0 where
+    pub count : ℕ
+    pub rebuilt : IsRebuilt bytes m count seal left
+    pub shown : events ≡ min count (2 ^ 64 - 1)
+
+  -- The line of this number can't be read, for this fault. The office stands of the events of all
+  -- lines before it that aren't struck out: with that of the last of them, which no line behind it
+  -- can strike out any more; or without, where the input or memory failed.
+  pub record IsBuiltTo (line : ℕ) (fault : Unreadable) : Type 0 where
+    pub last : Place
+    pub before : List (ℕ × Event)
+    pub told : GoesOn (start bytes) last before
+    pub cannot : CannotGoOn fault last
+    pub counted : line ≡ line_behind last.taken
+    pub kept : List (ℕ × Event)
+    pub held : (kept ≡ standing last.taken last.held) ⊎ (IsOutside fault × (kept ≡ []))
+    pub lawful : m.is_clean left → IsLawfulHistory (history_told (before ++ kept))
+    pub stands : m.is_clean left → Stands m (history_told (before ++ kept)) left
+
+  -- the office was of the events before that of this line, which doesn't happen again in it
+  pub record IsKeptOut (line : ℕ) (cause : Unreplayed) : Type 0 where
+    pub here : Place
+    pub before : List (ℕ × Event)
+    pub office : X
+    pub replayed : HasReplayed bytes m here before office
+    pub event : Event
+    pub comes : ComesNext here (line, event)
+    pub refused : IsReplayed m office left event (Err cause)
+
+  -- why no more of it happens again
+  abbrev pub IsHalted : ℕ → Why → Type 0
+  IsHalted line (halt.Unread fault) = IsBuiltTo line fault
+  IsHalted line halt.NotFounded = ⊥
+  IsHalted line (halt.Unfounded fault) = ⊥
+  IsHalted line (halt.Unreplayed cause) = IsKeptOut line cause
+
+  -- all of it does, one event and as many as were counted from before to after; or not
+  abbrev pub BuildsOn : (before after : ℕ) → List ℕ → Result ⊤ Refused → Type 0
+  BuildsOn before after seal (Ok done) = IsRebuilt bytes m ((after - before) + 1) seal left
+  BuildsOn before after seal (Err refused) = IsHalted refused.line refused.why
+
+-- why the office isn't of all that the journal tells: none is founded over the connection; or one is
+-- over an empty store, and no more happens again in it
+abbrev pub IsUnbuilt : {S : Type 0} → (bytes : Option (List ℕ)) → Ghosts S → (conn left : Held S)
+    → Refused → Type 0
+IsUnbuilt bytes g conn left refused =
+    IsUnbegun bytes g conn left refused.line refused.why
+    ⊎ (((state g conn).now.schema ≡ no_schema)
+    × IsHalted bytes (meaning_over g) left refused.line refused.why)

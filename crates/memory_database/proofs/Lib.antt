@@ -1,0 +1,2 @@
+pub mod EmptyFacts
+pub mod MemoryFacts

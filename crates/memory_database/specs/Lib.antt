@@ -1,0 +1,4 @@
+pub mod Copies
+pub mod Errors
+pub mod MemoryStore
+pub mod VolatileFile

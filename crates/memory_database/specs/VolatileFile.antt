@@ -1,0 +1,12 @@
+-- What a `VolatileFile` shows.
+use Rattle.std.specs.Prelude.{◌≡◌, ℕ, true, List, false}
+use Rattle.sqlite_disk.specs.declared.Disk.{Ghosts}
+use Rattle.memory_database.specs.declared.file.VolatileFile.{VolatileFile}
+
+-- its member `seen`
+abbrev pub bytes_of : VolatileFile → List ℕ
+bytes_of file = file.bytes.items
+
+-- its member `faults`
+abbrev pub faults_of : VolatileFile → ℕ
+faults_of file = file.faults

@@ -1,0 +1,15 @@
+//! A database in memory, in pages: a write costs by the depth of a tree, and not by the number of
+//! its rows.
+#![tactic(auto)]
+
+mod copy;
+mod file;
+mod laws;
+mod open;
+mod store;
+
+pub use copy::{CopyStore, open_copy};
+pub use file::VolatileFile;
+pub use laws::{a_copy_is_clean, memory_is_clean, no_disk_fails};
+pub use open::{MemoryStore, open_in_memory};
+pub use store::InMemory;

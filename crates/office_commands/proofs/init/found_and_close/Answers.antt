@@ -1,8 +1,0 @@
-use Rattle.office_commands.proofs.OpeningFacts.{founded_closed, founded_open}
-use Rattle.office_commands.proofs.init.found_and_close.Goals as goal
-
-pub returns-clause-founded : goal.returns-clause-founded
-returns-clause-founded g c = founded_closed g.S.Store _ _ _ c.in_ok-office.office c.close.result c.in_ok-office.ensures.founded c.close.ensures.closed
-
-pub returns-clause-failed : goal.returns-clause-failed
-returns-clause-failed g c = founded_open g.S.Store _ _ _ _ c.close.result c.in_ok-office.ensures.founded c.close.ensures.ended c.close.ensures.fault

@@ -1,0 +1,84 @@
+-- Why a command failed, by what its parts say of it.
+use Rattle.std.proofs.Common.{◌≡◌, ℕ, List, Option, Result, Ok, Err, subst, sym}
+use Rattle.std.specs.Prelude.{IfErr, IfSome, IsErrAnd, String, string_bytes}
+use Rattle.std.specs.declared.alloc.Global.{Global}
+use Rattle.std.specs.declared.io.Error.{Error}
+use Rattle.command_line.specs.declared.command.ExecveWords.{ExecveWords}
+use Rattle.desk_http.specs.Lines.{IsCut}
+use Rattle.profile_commands.specs.Comparing.{IsCompared}
+use Rattle.profile_commands.specs.Executions.{execution_of, IsExecuted}
+use Rattle.profile_commands.specs.Refusal.{IsChecked}
+use Rattle.profile_commands.specs.declared.compare.ComparedFault.{ComparedFault}
+use Rattle.profile_commands.specs.declared.execution.Execution.{Execution}
+use Rattle.profile_commands.specs.declared.execution.ExecutionFault.{ExecutionFault}
+use Rattle.profile_commands.specs.declared.execve.Outcome.{Outcome}
+use Rattle.profile_commands.specs.declared.fault.FileFault.{FileFault}
+use Rattle.streams.specs.declared.counted.Counted.{Counted}
+use Rattle.reading_commands.specs.Documents.{outcome_text, source_bytes, IsSource}
+use Rattle.reading_commands.specs.DocumentFailures.{FailsToCheck, FailsToCompare, FailsToExecute}
+use Rattle.reading_commands.specs.DocumentFailures.{IsUncompared}
+use Rattle.reading_commands.specs.declared.compare.Source.{Source}
+use Rattle.command_host.specs.declared.fault.CommandFault.{CommandFault}
+use Rattle.command_host.specs.declared.fault.CommandFault.TheVariants as fault
+
+-- a result that is this error fails as it does
+pub failed_by : {A : Type 0} (Fails : CommandFault → Type 0) (result : Result A CommandFault) (why : CommandFault) → IsErrAnd result (λ r. r ≡ why) → Fails why
+    → IfErr result Fails
+failed_by Fails (Ok a) why is fails = tt
+failed_by Fails (Err e) why is fails = subst Fails (sym is) fails
+
+module _ {F O : Type 0} (Opens : List ℕ → Result F Error → Type 0) (bytes_of : F → Option (List ℕ)) (contents : O → Option (List ℕ))
+    (output wrote : Counted O) (why : CommandFault) where
+  module _ (path : List ℕ) where
+    pub check_unopened : (why ≡ fault.Open) × ((e : Error) × Opens path (Err e)) → wrote ≡ output → FailsToCheck Opens bytes_of contents output wrote path why
+    check_unopened it same = subst (λ (w : CommandFault). FailsToCheck Opens bytes_of contents output wrote path w) (sym it.0) (it.1, same)
+
+    pub check_refused : (told : FileFault) (file : F) → why ≡ fault.File told → Opens path (Ok file)
+        → IfSome (bytes_of file) (λ bytes. IsChecked bytes (Err told)) → wrote ≡ output → FailsToCheck Opens bytes_of contents output wrote path why
+    check_refused told file is opened refused same =
+        subst (λ (w : CommandFault). FailsToCheck Opens bytes_of contents output wrote path w) (sym is) (file, opened, refused, same)
+
+    pub check_cut : (file : F) (text : String Global) (printed : List ℕ) → Opens path (Ok file) → IfSome (bytes_of file) (λ bytes. IsChecked bytes (Ok text))
+        → printed ≡ string_bytes text → (why ≡ fault.Write) × IsCut contents output wrote printed → FailsToCheck Opens bytes_of contents output wrote path why
+    check_cut file text printed opened checked is it =
+        subst (λ (w : CommandFault). FailsToCheck Opens bytes_of contents output wrote path w) (sym it.0)
+        (file, text, opened, checked, subst (λ (t : List ℕ). IsCut contents output wrote t) is it.1)
+
+  module _ (words : ExecveWords) where
+    pub execve_undescribed : (told : ExecutionFault) → why ≡ fault.Execution told → execution_of words ≡ Err told → wrote ≡ output
+        → FailsToExecute Opens bytes_of contents output wrote words why
+    execve_undescribed told is described same =
+        subst (λ (w : CommandFault). FailsToExecute Opens bytes_of contents output wrote words w) (sym is) (described, same)
+
+    module _ (execution : Execution) (described : execution_of words ≡ Ok execution) where
+      pub execve_unopened : (why ≡ fault.Open) × ((e : Error) × Opens words.file.now (Err e)) → wrote ≡ output
+          → FailsToExecute Opens bytes_of contents output wrote words why
+      execve_unopened it same =
+          subst (λ (w : CommandFault). FailsToExecute Opens bytes_of contents output wrote words w) (sym it.0) ((execution, described), (it.1, same))
+
+      pub execve_refused : (told : FileFault) (file : F) → why ≡ fault.File told → Opens words.file.now (Ok file)
+          → IfSome (bytes_of file) (λ bytes. IsExecuted execution bytes (Err told)) → wrote ≡ output
+          → FailsToExecute Opens bytes_of contents output wrote words why
+      execve_refused told file is opened refused same =
+          subst (λ (w : CommandFault). FailsToExecute Opens bytes_of contents output wrote words w) (sym is)
+          ((execution, described), (file, opened, refused, same))
+
+      pub execve_cut : (file : F) (outcome : Outcome) (printed : List ℕ) → Opens words.file.now (Ok file)
+          → IfSome (bytes_of file) (λ bytes. IsExecuted execution bytes (Ok outcome)) → printed ≡ outcome_text outcome
+          → (why ≡ fault.Write) × IsCut contents output wrote printed → FailsToExecute Opens bytes_of contents output wrote words why
+      execve_cut file outcome printed opened executed is it =
+          subst (λ (w : CommandFault). FailsToExecute Opens bytes_of contents output wrote words w) (sym it.0)
+          (file, execution, outcome, described, opened, executed, subst (λ (t : List ℕ). IsCut contents output wrote t) is it.1)
+
+  module _ (base_path new_path : List ℕ) where
+    pub uncompared : (told : ComparedFault) → why ≡ fault.Compared told → IsUncompared Opens bytes_of base_path new_path told → wrote ≡ output
+        → FailsToCompare Opens bytes_of contents output wrote base_path new_path why
+    uncompared told is it same =
+        subst (λ (w : CommandFault). FailsToCompare Opens bytes_of contents output wrote base_path new_path w) (sym is) (it, same)
+
+    pub compare_cut : (base shown : Source F) (text : String Global) (printed : List ℕ) → IsSource (Opens base_path) base → IsSource (Opens new_path) shown
+        → IfSome (source_bytes bytes_of base) (λ b. IfSome (source_bytes bytes_of shown) (λ s. IsCompared b s text)) → printed ≡ string_bytes text
+        → (why ≡ fault.Write) × IsCut contents output wrote printed → FailsToCompare Opens bytes_of contents output wrote base_path new_path why
+    compare_cut base shown text printed base_opened shown_opened compared is it =
+        subst (λ (w : CommandFault). FailsToCompare Opens bytes_of contents output wrote base_path new_path w) (sym it.0)
+        (base, shown, text, base_opened, shown_opened, compared, subst (λ (t : List ℕ). IsCut contents output wrote t) is it.1)

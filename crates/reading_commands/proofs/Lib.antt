@@ -1,0 +1,2 @@
+pub mod FailingFacts
+pub mod HistoryFacts

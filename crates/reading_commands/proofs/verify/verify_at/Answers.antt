@@ -1,0 +1,32 @@
+use Rattle.std.specs.Io.Buffered.{reader_remaining}
+use Rattle.memory_database.proofs.MemoryFacts.{copy_is_clean}
+use Rattle.reading_commands.proofs.verify.verify_at.Goals as goal
+
+pub verify-requires : goal.verify-requires
+verify-requires g c = c.in-Ok-office_in_copy.ensures.idle
+
+pub returns-in-Ok-verify-clause-verified : goal.returns-in-Ok-verify-clause-verified
+returns-in-Ok-verify-clause-verified g c =
+    let new = c.verify.new.office in
+    record {
+      text = reader_remaining g.F.File.Read.remaining c.in-Ok.text;
+      from_journal = c.in-Ok.ensures.text;
+      old = c.in-Ok-office_in_copy.conn;
+      new = new;
+      office = c.in-Ok-office_in_copy.ensures.office;
+      looked = c.verify.ensures.looked;
+      verified = c.in-Ok-verify.ensures.verified (copy_is_clean new);
+    }
+
+pub returns-clause-failed : goal.returns-clause-failed
+returns-clause-failed g c =
+    let new = c.verify.new.office in
+    record {
+      text = reader_remaining g.F.File.Read.remaining c.in-Ok.text;
+      from_journal = c.in-Ok.ensures.text;
+      old = c.in-Ok-office_in_copy.conn;
+      new = new;
+      office = c.in-Ok-office_in_copy.ensures.office;
+      looked = c.verify.ensures.looked;
+      unverified = c.in-Err-verify.ensures.unverified (copy_is_clean new);
+    }

@@ -1,0 +1,88 @@
+-- Why `check`, `execve` and `compare` fail, and what they then have done.
+use Rattle.std.specs.Prelude.{◌≡◌, ℕ, List, Option, Result, Ok, Err, IfSome, String}
+use Rattle.std.specs.Prelude.{string_bytes}
+use Rattle.std.specs.declared.alloc.Global.{Global}
+use Rattle.std.specs.declared.io.Error.{Error}
+use Rattle.command_line.specs.declared.command.ExecveWords.{ExecveWords}
+use Rattle.desk_http.specs.Lines.{IsCut}
+use Rattle.profile_commands.specs.Comparing.{IsBase, IsCompared, IsNew}
+use Rattle.profile_commands.specs.Executions.{execution_of, IsExecuted}
+use Rattle.profile_commands.specs.Refusal.{IsChecked, RefusesAs}
+use Rattle.profile_commands.specs.declared.compare.ComparedFault.{ComparedFault}
+use Rattle.profile_commands.specs.declared.execution.Execution.{Execution}
+use Rattle.profile_commands.specs.declared.execve.Outcome.{Outcome}
+use Rattle.profile_commands.specs.declared.fault.FileFault.{FileFault}
+use Rattle.streams.specs.declared.counted.Counted.{Counted}
+use Rattle.reading_commands.specs.declared.compare.Source.{Source}
+use Rattle.command_host.specs.declared.fault.CommandFault.{CommandFault}
+use Rattle.command_host.specs.declared.fault.CommandFault.TheVariants as fault
+use Rattle.reading_commands.specs.Documents.{outcome_text, source_bytes, IsSource}
+
+-- Files of which this is known as they are opened at a path, and whose bytes are these.
+module _ {F : Type 0} (Opens : List ℕ → Result F Error → Type 0)
+    (bytes_of : F → Option (List ℕ)) where
+  -- two documents weren't compared, by a fault that is of the bytes of the one or the other where
+  -- it is of a document
+  pub record IsUncompared (base_path new_path : List ℕ) (why : ComparedFault) : Type 0 where
+    pub base : Source F
+    pub base_opened : IsSource (Opens base_path) base
+    pub shown : Source F
+    pub shown_opened : IsSource (Opens new_path) shown
+    pub of_base : IfSome (source_bytes bytes_of base)
+        (λ bytes. IsBase {X = String Global} bytes (Err why))
+    pub of_new : IfSome (source_bytes bytes_of shown)
+        (λ bytes. IsNew {X = String Global} bytes (Err why))
+
+-- What an output has after what it had, of files of which this is known as they are opened at a
+-- path, and whose bytes are these.
+module _ {F O : Type 0} (Opens : List ℕ → Result F Error → Type 0)
+    (bytes_of : F → Option (List ℕ)) (contents : O → Option (List ℕ))
+    (output wrote : Counted O) where
+  -- no file could be opened at a path, and nothing was printed
+  abbrev pub IsUnopened : (path : List ℕ) → Type 0
+  IsUnopened path = ((e : Error) × Opens path (Err e)) × (wrote ≡ output)
+
+  -- the file at a path gave nothing, by a fault that is of its bytes where it is of a document, and
+  -- nothing was printed
+  abbrev pub GaveNothing : (path : List ℕ) → FileFault → Type 0
+  GaveNothing path why =
+      (file : F) × Opens path (Ok file) × IfSome (bytes_of file) (λ bytes. RefusesAs bytes why)
+      × (wrote ≡ output)
+
+  -- `check` fails: no file can be opened, it gives nothing, or its text was cut
+  abbrev pub FailsToCheck : (path : List ℕ) → CommandFault → Type 0
+  FailsToCheck path fault.Open = IsUnopened path
+  FailsToCheck path (fault.File why) = GaveNothing path why
+  FailsToCheck path fault.Write =
+      (file : F) × (text : String Global) × Opens path (Ok file)
+      × IfSome (bytes_of file) (λ bytes. IsChecked bytes (Ok text))
+      × IsCut contents output wrote (string_bytes text)
+  FailsToCheck path _ = ⊥
+
+  -- `execve` fails: its words describe no execution; or they do, and the same of the file
+  abbrev pub FailsToExecute : ExecveWords → CommandFault → Type 0
+  FailsToExecute words (fault.Execution why) =
+      (execution_of words ≡ Err why) × (wrote ≡ output)
+  FailsToExecute words fault.Open =
+      ((execution : Execution) × (execution_of words ≡ Ok execution)) × IsUnopened words.file.now
+  FailsToExecute words (fault.File why) =
+      ((execution : Execution) × (execution_of words ≡ Ok execution))
+      × GaveNothing words.file.now why
+  FailsToExecute words fault.Write =
+      (file : F) × (execution : Execution) × (outcome : Outcome)
+      × (execution_of words ≡ Ok execution) × Opens words.file.now (Ok file)
+      × IfSome (bytes_of file) (λ bytes. IsExecuted execution bytes (Ok outcome))
+      × IsCut contents output wrote (outcome_text outcome)
+  FailsToExecute words _ = ⊥
+
+  -- `compare` fails: the documents weren't compared, or the text of the findings was cut
+  abbrev pub FailsToCompare : (base_path new_path : List ℕ) → CommandFault → Type 0
+  FailsToCompare base_path new_path (fault.Compared why) =
+      IsUncompared Opens bytes_of base_path new_path why × (wrote ≡ output)
+  FailsToCompare base_path new_path fault.Write =
+      (base shown : Source F) × (text : String Global)
+      × IsSource (Opens base_path) base × IsSource (Opens new_path) shown
+      × IfSome (source_bytes bytes_of base)
+      (λ b. IfSome (source_bytes bytes_of shown) (λ s. IsCompared b s text))
+      × IsCut contents output wrote (string_bytes text)
+  FailsToCompare base_path new_path _ = ⊥

@@ -1,0 +1,78 @@
+-- What `check`, `execve` and `compare` print of which bytes, and their status.
+use Rattle.std.specs.Prelude.{◌≡◌, ℕ, List, [], ◌∷◌, Option, None, Result, Ok, Err, IfSome}
+use Rattle.std.specs.Prelude.{String, codes, string_bytes}
+use Rattle.std.specs.declared.alloc.Global.{Global}
+use Rattle.std.specs.declared.io.Error.{Error}
+use Rattle.command_line.specs.declared.command.ExecveWords.{ExecveWords}
+use Rattle.desk_http.specs.Lines.{IsWhole}
+use Rattle.streams.specs.declared.counted.Counted.{Counted}
+use Rattle.profile_commands.specs.Comparing.{IsCompared}
+use Rattle.profile_commands.specs.Executions.{execution_of, IsExecuted}
+use Rattle.profile_commands.specs.Refusal.{IsChecked}
+use Rattle.profile_commands.specs.declared.execution.Execution.{Execution}
+use Rattle.profile_commands.specs.declared.execve.Outcome.{Outcome}
+use Rattle.profile_commands.specs.declared.execve.Outcome.TheVariants.{Done, Denied}
+use Rattle.reading_commands.specs.declared.compare.Source.{Source}
+use Rattle.reading_commands.specs.declared.compare.Source.TheVariants.{Opened, Unopened}
+
+-- what is printed of an execve: the lines of the state after it, or EPERM
+abbrev pub outcome_text : Outcome → List ℕ
+outcome_text (Done text) = string_bytes text
+outcome_text Denied = codes "EPERM\n"
+
+-- and the status with it
+abbrev pub outcome_status : Outcome → ℕ
+outcome_status (Done text) = 0
+outcome_status Denied = 1
+
+-- the status of a comparison: whether it printed findings
+abbrev pub findings_status : List ℕ → ℕ
+findings_status [] = 0
+findings_status (byte ∷ text) = 1
+
+-- a file that was opened so, or that couldn't be
+abbrev pub IsSource : {F : Type 0} → (Result F Error → Type 0) → Source F → Type 0
+IsSource Opens (Opened file) = Opens (Ok file)
+IsSource Opens Unopened = (e : Error) × Opens (Err e)
+
+-- the bytes of a file, where it was opened
+abbrev pub source_bytes : {F : Type 0} → (F → Option (List ℕ)) → Source F → Option (List ℕ)
+source_bytes bytes_of (Opened file) = bytes_of file
+source_bytes bytes_of Unopened = None
+
+-- What an output has after what it had, of files of which this is known as they are opened at a
+-- path, and whose bytes are these.
+module _ {F O : Type 0} (Opens : List ℕ → Result F Error → Type 0)
+    (bytes_of : F → Option (List ℕ)) (contents : O → Option (List ℕ))
+    (output wrote : Counted O) where
+  -- `check`: the canonical text of the document in the file at a path, and a line feed
+  pub record HasChecked (path : List ℕ) : Type 0 where
+    pub file : F
+    pub opened : Opens path (Ok file)
+    pub text : String Global
+    pub checked : IfSome (bytes_of file) (λ bytes. IsChecked bytes (Ok text))
+    pub printed : IsWhole contents output wrote (string_bytes text)
+
+  -- `execve`: what comes of the execution that the words describe, for the document in the file
+  -- that they name
+  pub record HasExecuted (words : ExecveWords) (status : ℕ) : Type 0 where
+    pub file : F
+    pub opened : Opens words.file.now (Ok file)
+    pub execution : Execution
+    pub outcome : Outcome
+    pub described : execution_of words ≡ Ok execution
+    pub executed : IfSome (bytes_of file) (λ bytes. IsExecuted execution bytes (Ok outcome))
+    pub printed : IsWhole contents output wrote (outcome_text outcome)
+    pub ended : status ≡ outcome_status outcome
+
+  -- `compare`: the findings between the documents in the files at two paths, BASE and NEW
+  pub record HasCompared (base_path new_path : List ℕ) (status : ℕ) : Type 0 where
+    pub base : Source F
+    pub base_opened : IsSource (Opens base_path) base
+    pub shown : Source F
+    pub shown_opened : IsSource (Opens new_path) shown
+    pub text : String Global
+    pub compared : IfSome (source_bytes bytes_of base)
+        (λ b. IfSome (source_bytes bytes_of shown) (λ s. IsCompared b s text))
+    pub printed : IsWhole contents output wrote (string_bytes text)
+    pub ended : status ≡ findings_status (string_bytes text)

@@ -1,0 +1,88 @@
+//! `evidence`: on what a revision was issued.
+
+ghost use Rattle.std.specs.Prelude.{◌≡◌, IfErr, IfOk};
+ghost use Rattle.reading_commands.specs.Reports.{FailsToProve, HasProved, IsEvidenceAt};
+ghost use Rattle.reading_commands.specs.Reports.{IsNoEvidenceAt, IsNoProfile};
+ghost use Rattle.reading_commands.specs.Reports.{profile_of};
+
+use crate::name::word_of;
+use command_host::{CommandFault, PassFiles, print, text_at};
+use command_line::EvidenceWords;
+use journal_reports::evidence;
+use memory_database::open_in_memory;
+use review_policy::{ProfileName, Text};
+use std::alloc::Global;
+use std::io::Write;
+use streams::Counted;
+
+// The profile that words name.
+fn profile_of(alloc: Global, words: &EvidenceWords<'_>) -> Result<ProfileName, CommandFault>
+    ensures name { IfOk result (λ name. name ≡ profile_of words.now) }
+    ensures none { IfErr result (IsNoProfile words.now) }
+{
+    let team = match word_of(alloc, words.team) {
+        Ok(team) => team,
+        Err(fault) => return Err(fault),
+    };
+    match word_of(alloc, words.profile) {
+        Ok(profile) => Ok(ProfileName { team, profile }),
+        Err(fault) => Err(fault),
+    }
+}
+
+/// The evidence of the issue that words name, of the journal that they name.
+///
+/// # Errors
+///
+/// `NotAWord` where TEAM or PROFILE is none, before the journal is opened; and why there is no
+/// evidence.
+pub(crate) fn evidence_at<F: PassFiles>(
+    files: &F,
+    alloc: Global,
+    words: &EvidenceWords<'_>,
+) -> Result<Text, CommandFault>
+    ensures evidence { IfOk result (IsEvidenceAt (F.opens files.now) F.File.remaining words.now) }
+    ensures none { IfErr result (IsNoEvidenceAt (F.opens files.now) F.File.remaining words.now) }
+{
+    let name = match profile_of(alloc, words) {
+        Ok(name) => name,
+        Err(fault) => return Err(fault),
+    };
+    let text = match text_at(files, alloc, words.journal) {
+        Ok(text) => text,
+        Err(fault) => return Err(fault),
+    };
+    let Ok(conn) = open_in_memory(alloc) else {
+        return Err(CommandFault::NoMemory);
+    };
+    match evidence(alloc, conn, text, &name, words.revision) {
+        Ok((text, _)) => Ok(text),
+        Err((why, _)) => Err(CommandFault::NoEvidence(why)),
+    }
+}
+
+/// `evidence`: prints the evidence of an issue.
+///
+/// # Errors
+///
+/// As of `evidence_at`; and `Write` where it was cut.
+pub fn run_evidence<F: PassFiles, O: Write>(
+    files: &F,
+    alloc: Global,
+    words: &EvidenceWords<'_>,
+    output: &mut Counted<O>,
+) -> Result<u8, CommandFault>
+    ensures done { IfOk result (λ status. HasProved (F.opens files.now) F.File.remaining
+        O.contents output.old output.new words.now × (status ≡ 0)) }
+    ensures failed { IfErr result (FailsToProve (F.opens files.now) F.File.remaining O.contents
+        output.old output.new words.now) }
+{
+    let text = match evidence_at(files, alloc, words) {
+        Ok(text) => text,
+        Err(fault) => return Err(fault),
+    };
+    match print(output, text.as_str()) {
+        Ok(()) => Ok(0),
+        Err(fault) => Err(fault),
+    }
+}

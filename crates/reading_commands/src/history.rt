@@ -1,0 +1,117 @@
+//! `history`: what a journal tells, a line an event.
+
+ghost use Rattle.std.specs.Prelude.{◌≡◌, IfErr, IfOk, OnOk};
+ghost use Rattle.reading_commands.specs.Reports.{HasNames, IsUntoldAt, NamesNone, WasToldAt};
+ghost use Rattle.reading_commands.specs.Reports.{asked_of};
+
+use crate::name::name_of;
+use command_host::{CommandFault, PassFiles, text_at};
+use command_line::HistoryWords;
+use journal_reports::{Filter, write_history};
+use memory_database::open_in_memory;
+use review_policy::Word;
+use std::alloc::Global;
+use std::io::Write;
+use streams::Counted;
+
+// The names that words give.
+#[derive(Drop)]
+struct Names {
+    team: Option<Word>,
+    profile: Option<Word>,
+    user: Option<Word>,
+}
+
+// The names of a team, a profile and a user that words give; `NotAWord` where one is none.
+fn names_of(alloc: Global, words: &HistoryWords<'_>) -> Result<Names, CommandFault>
+    ensures names { IfOk result (HasNames words.now) }
+    ensures none { IfErr result (NamesNone words.now) }
+{
+    let team = match name_of(alloc, words.team) {
+        Ok(team) => team,
+        Err(fault) => return Err(fault),
+    };
+    let profile = match name_of(alloc, words.profile) {
+        Ok(profile) => profile,
+        Err(fault) => return Err(fault),
+    };
+    match name_of(alloc, words.user) {
+        Ok(user) => Ok(Names {
+            team,
+            profile,
+            user,
+        }),
+        Err(fault) => Err(fault),
+    }
+}
+
+// Which events words ask for, by the names that they give.
+fn filter_of<'n>(names: &'n Names, words: &HistoryWords<'_>) -> Filter<'n>
+    requires { HasNames words.now names.now }
+    ensures { result ≡ asked_of words.now }
+{
+    Filter {
+        team: names.team.as_ref(),
+        profile: names.profile.as_ref(),
+        user: names.user.as_ref(),
+        since: words.since,
+        json: words.json,
+    }
+}
+
+/// Writes the history of the journal that words name: a line for each event that they ask for.
+///
+/// # Errors
+///
+/// `NotAWord` where T, P or U is none, before the journal is opened; and why not each line was
+/// written. The lines of the events before were.
+pub(crate) fn history_at<F: PassFiles, O: Write>(
+    files: &F,
+    alloc: Global,
+    words: &HistoryWords<'_>,
+    output: &mut Counted<O>,
+) -> Result<(), CommandFault>
+    ensures told { OnOk result (WasToldAt (F.opens files.now) F.File.remaining O.contents
+        output.old output.new words.now) }
+    ensures untold { IfErr result (IsUntoldAt (F.opens files.now) F.File.remaining O.contents
+        output.old output.new words.now) }
+{
+    let names = match names_of(alloc, words) {
+        Ok(names) => names,
+        Err(fault) => return Err(fault),
+    };
+    let text = match text_at(files, alloc, words.journal) {
+        Ok(text) => text,
+        Err(fault) => return Err(fault),
+    };
+    let Ok(conn) = open_in_memory(alloc) else {
+        return Err(CommandFault::NoMemory);
+    };
+    let filter = filter_of(&names, words);
+    match write_history(alloc, conn, text, &filter, output) {
+        Ok(_) => Ok(()),
+        Err((why, _)) => Err(CommandFault::Unwritten(why)),
+    }
+}
+
+/// `history`: prints a line for each event of a journal that the words ask for.
+///
+/// # Errors
+///
+/// As of `history_at`.
+pub fn run_history<F: PassFiles, O: Write>(
+    files: &F,
+    alloc: Global,
+    words: &HistoryWords<'_>,
+    output: &mut Counted<O>,
+) -> Result<u8, CommandFault>
+    ensures done { IfOk result (λ status. WasToldAt (F.opens files.now) F.File.remaining
+        O.contents output.old output.new words.now × (status ≡ 0)) }
+    ensures failed { IfErr result (IsUntoldAt (F.opens files.now) F.File.remaining O.contents
+        output.old output.new words.now) }
+{
+    match history_at(files, alloc, words, output) {
+        Ok(()) => Ok(0),
+        Err(fault) => Err(fault),
+    }
+}

@@ -1,0 +1,17 @@
+//! The commands that change nothing: what documents and journals in files say, and whether an office
+//! is the one that its journal tells.
+#![tactic(auto)]
+
+mod compare;
+mod copied;
+mod documents;
+mod evidence;
+mod history;
+mod kept_seal;
+mod name;
+mod verify;
+
+pub use documents::{run_check, run_compare, run_execve};
+pub use evidence::run_evidence;
+pub use history::run_history;
+pub use verify::run_verify;

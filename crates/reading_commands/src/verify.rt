@@ -1,0 +1,117 @@
+//! `verify`: whether an office in files is the one that a journal tells.
+
+ghost use Rattle.std.specs.Prelude.{◌≡◌, IfErr, IfOk};
+ghost use Rattle.reading_commands.specs.Verifications.{FailsToVerify, HasVerified};
+ghost use Rattle.reading_commands.specs.Verifications.{IsUnverifiedAt, IsUnverifiedWith};
+ghost use Rattle.reading_commands.specs.Verifications.{WasVerified, WasVerifiedWith, verified_line};
+
+use crate::copied::office_in_copy;
+use crate::kept_seal::{Line, line_at};
+use command_host::{CommandFault, PassFiles, print_bytes, text_at};
+use command_line::VerifyWords;
+use journal_verification::{Verified, verify};
+use std::alloc::{AllocError, Global};
+use std::io::Write;
+use streams::Counted;
+
+// The line that says how many events an office has, and the seal of its journal.
+fn verified_line(alloc: Global, verified: &Verified) -> Result<Vec<u8>, AllocError>
+    ensures { IfOk result (λ line. line.items ≡ verified_line verified.now) }
+{
+    let events = format!(in alloc; "verified {} events, seal ", verified.events)?;
+    let mut line = Vec::from_slice(alloc, events.as_str().as_bytes())?;
+    line.extend_from_slice(&verified.seal)?;
+    line.push(b'\n')?;
+    Ok(line)
+}
+
+// Compares the office in a copy of a database with the one that a journal tells.
+fn verify_at<F: PassFiles>(
+    files: &F,
+    alloc: Global,
+    database: &str,
+    journal: &str,
+) -> Result<Verified, CommandFault>
+    ensures verified { IfOk result (WasVerified (F.opens files.now) F.File.remaining
+        journal.now database.now) }
+    ensures failed { IfErr result (IsUnverifiedAt (F.opens files.now) F.File.remaining
+        journal.now database.now) }
+{
+    let text = match text_at(files, alloc, journal) {
+        Ok(text) => text,
+        Err(fault) => return Err(fault),
+    };
+    let mut conn = match office_in_copy(files, alloc, database) {
+        Ok(conn) => conn,
+        Err(fault) => return Err(fault),
+    };
+    match verify(alloc, text, &mut conn) {
+        Ok(verified) => Ok(verified),
+        Err(why) => Err(CommandFault::Unverified(why)),
+    }
+}
+
+// Compares the office in a copy of the database that words name with the one that a journal tells,
+// once the journal is seen to have the seal that they give: how many events it has, and the seal of
+// its journal.
+//
+// `OtherSeal` where the journal hasn't that seal. Where a line before it can't be read, that is what
+// the comparison tells.
+fn verify_with<F: PassFiles>(
+    files: &F,
+    alloc: Global,
+    words: &VerifyWords<'_>,
+) -> Result<Verified, CommandFault>
+    ensures verified { IfOk result (WasVerifiedWith (F.opens files.now) F.File.remaining
+        words.now.journal.now words.now.database.now words.now.seal) }
+    ensures failed { IfErr result (IsUnverifiedWith (F.opens files.now) F.File.remaining
+        words.now.journal.now words.now.database.now words.now.seal) }
+{
+    match line_at(files, alloc, words.journal, words.seal) {
+        Ok(Line::Same) => match verify_at(files, alloc, words.database, words.journal) {
+            Ok(verified) => Ok(verified),
+            Err(fault) => Err(fault),
+        },
+        Ok(Line::Other) => Err(CommandFault::OtherSeal),
+        Ok(Line::Unread) => match verify_at(files, alloc, words.database, words.journal) {
+            Ok(_) => Err(CommandFault::Open),
+            Err(fault) => Err(fault),
+        },
+        Err(fault) => Err(fault),
+    }
+}
+
+/// `verify`: compares the office in a database with the one that a journal tells, and prints the
+/// number of its events and the last seal. The files are read, and the office is looked at in a copy
+/// of them in memory: nothing is written to them.
+///
+/// # Errors
+///
+/// `Open` where the journal can't be opened; `Store` or `Opening` where there is no office at the
+/// path; `OtherSeal` where the journal hasn't the seal that the words give; `Unverified` why the
+/// office isn't that of the journal; `NoMemory` or `Write` where the line wasn't printed.
+pub fn run_verify<F: PassFiles, O: Write>(
+    files: &F,
+    alloc: Global,
+    words: &VerifyWords<'_>,
+    output: &mut Counted<O>,
+) -> Result<u8, CommandFault>
+    ensures done { IfOk result (λ status. HasVerified (F.opens files.now) F.File.remaining
+        words.now.journal.now words.now.database.now words.now.seal
+        O.contents output.old output.new × (status ≡ 0)) }
+    ensures failed { IfErr result (FailsToVerify (F.opens files.now) F.File.remaining
+        words.now.journal.now words.now.database.now words.now.seal
+        O.contents output.old output.new) }
+{
+    let verified = match verify_with(files, alloc, words) {
+        Ok(verified) => verified,
+        Err(fault) => return Err(fault),
+    };
+    let Ok(line) = verified_line(alloc, &verified) else {
+        return Err(CommandFault::NoMemory);
+    };
+    match print_bytes(output, &line) {
+        Ok(()) => Ok(0),
+        Err(fault) => Err(fault),
+    }
+}
