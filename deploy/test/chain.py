@@ -2,6 +2,7 @@
 
 import os
 import re
+import resource
 import shutil
 import signal
 import socket
@@ -45,6 +46,15 @@ def program_of(words):
         print(f"{NAME}: there is no program {program}: ./office builds it", file=sys.stderr)
         sys.exit(77)
     return os.path.abspath(program)
+
+
+# Lets this and what it starts open as many files as this machine allows. Ends with 77 where those are fewer.
+def need_files(least):
+    most = resource.getrlimit(resource.RLIMIT_NOFILE)[1]
+    if most < least:
+        print(f"{NAME}: a process may open {most} files here, and has to open {least}", file=sys.stderr)
+        sys.exit(77)
+    resource.setrlimit(resource.RLIMIT_NOFILE, (most, most))
 
 
 def free_ports(count):
@@ -144,8 +154,8 @@ class Chain:
     def haproxy(self, sections):
         text = open(f"{DEPLOY}/haproxy.cfg").read()
         text = replaced(text, r"^    (user|group) haproxy$", "")
-        # not every machine lets a test open as many files as haproxy.cfg asks for
-        text = replaced(text, r"^    maxconn \d+$", "    maxconn 4096")
+        # it asks for two files for each connection, and not every machine lets a test open so many
+        text = replaced(text, r"^global$", "global\n    no strict-limits")
         head, section = re.split(r"^# An office: .*\n(?:#.*\n)*", text, flags=re.M)
         section = section.split("\n#")[0]
         for number, (front, hosts, keep, office) in enumerate(sections, 1):
@@ -164,8 +174,9 @@ class Chain:
         sys.exit(f"{NAME}: HAProxy doesn't listen: {self.read('haproxy.out')}")
 
     # nginx after nginx.conf at this port, with upstreams for each of these pairs of ports, for people and for hosts; the teams of the map
-    # are with these offices. With `authority` hosts show certificates of that file.
-    def nginx(self, port, upstreams, teams=None, unlimited=True, authority=None):
+    # are with these offices. With `authority` hosts show certificates of that file. `connections` are those of a worker, and
+    # `kept` is how long one is kept that asks nothing.
+    def nginx(self, port, upstreams, teams=None, unlimited=True, authority=None, connections=8000, kept="30s"):
         key, certificate = f"{self.work}/office.key", f"{self.work}/office.crt"
         words = ["openssl", "req", "-x509", "-newkey", "ec", "-pkeyopt", "ec_paramgen_curve:prime256v1", "-nodes", "-days", "2"]
         words += ["-subj", "/CN=localhost", "-addext", "subjectAltName=DNS:localhost", "-keyout", key, "-out", certificate]
@@ -187,6 +198,7 @@ class Chain:
         text = replaced(replaced(text, r"^upstream office_1 .*$", servers), r"^upstream office_1_hosts { server 127\.0\.0\.1:5081; }$", "")
         if len(upstreams) > 1:
             text = replaced(text, r"proxy_pass http://office_1;", "return 403;")
+        text = replaced(text, r"keepalive_timeout +30s;", f"keepalive_timeout {kept};")
         if unlimited:
             text = replaced(text, r"rate=\d+r/s", "rate=1000000r/s")
             text = replaced(text, r"burst=\d+", "burst=100000")
@@ -195,7 +207,7 @@ class Chain:
         places = "".join(f"{kind}_temp_path {self.work}/{kind};\n" for kind in ("client_body", "proxy", "fastcgi", "uwsgi", "scgi"))
         user = "user root;\n" if os.geteuid() == 0 else ""
         main = f"{user}worker_processes 2;\nerror_log {self.work}/nginx.log;\npid {self.work}/nginx.pid;\ndaemon off;\n"
-        main += "worker_rlimit_nofile 16384;\nevents { worker_connections 8000; }\n"
+        main += f"worker_rlimit_nofile 32768;\nevents {{ worker_connections {connections}; }}\n"
         main += f"http {{\ninclude /etc/nginx/mime.types;\n{places}access_log off;\ninclude {self.work}/office.conf;\n}}\n"
         process = self.start(["nginx", "-e", f"{self.work}/nginx.log", "-c", self.write("nginx.conf", main)], "nginx.out")
         await_port(port, process, f"nginx ({self.read('nginx.out')})")

@@ -14,12 +14,12 @@ use Rattle.sealed_log.specs.declared.log.SealedLog.{SealedLog}
 use Rattle.sealed_log.specs.declared.through.Through.{Through}
 use Rattle.sealed_log.proofs.SealFacts.{length-sealed_line}
 use Rattle.sealed_log.proofs.ToldFacts.{told_nothing}
-use Rattle.journal_lines.specs.Forms.{HasForms}
-use Rattle.journal_lines.specs.Journal.{IsEntry, Says}
-use Rattle.journal_lines.specs.Lines.{happened, text_of}
-use Rattle.journal_lines.proofs.Lengths.{founding_entry}
+use Rattle.journal.specs.Forms.{HasForms}
+use Rattle.journal.specs.Journal.{IsEntry, Says}
+use Rattle.journal.specs.Lines.{happened, text_of}
+use Rattle.journal.proofs.Lengths.{founding_entry}
 use Rattle.office_policy.specs.History.{Event}
-use Rattle.office_journal.specs.declared.journaled.Journaled.{Journaled}
+use Rattle.journal.specs.declared.journaled.Journaled.{Journaled}
 use Rattle.command_host.specs.declared.fault.CommandFault.{CommandFault}
 use Rattle.command_host.specs.declared.fault.CommandFault.TheVariants as fault
 use Rattle.changing_commands.specs.declared.founding.Founding.{Founding}

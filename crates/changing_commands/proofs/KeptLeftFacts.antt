@@ -8,13 +8,13 @@ use Rattle.sqlite.specs.Held.{Held}
 use Rattle.sqlite.specs.State.{HasCleanDisk}
 use Rattle.sealed_log.specs.Log.{bodies_of}
 use Rattle.sealed_log.specs.declared.log.SealedLog.{SealedLog}
-use Rattle.journaled_office.specs.Mending.{TellsOf}
-use Rattle.journaled_office.specs.Opening.{IsOfNow}
+use Rattle.journal_office.specs.Mending.{TellsOf}
+use Rattle.journal_office.specs.Opening.{IsOfNow}
 use Rattle.office_store.specs.Reopening.{HoldsOffice}
 use Rattle.office_policy.specs.History.{History}
 use Rattle.office_policy.specs.Lawful.{IsLawfulHistory}
 use Rattle.office_policy.specs.TablesOf.{tables_of}
-use Rattle.office_journal.specs.declared.journaled.Journaled.{Journaled}
+use Rattle.journal.specs.declared.journaled.Journaled.{Journaled}
 use Rattle.command_host.specs.declared.no_file.NoFile.{NoFile}
 use Rattle.command_host.specs.HostFiles.{IsFoundIn}
 use Rattle.changing_commands.specs.Journals.{IsKeptOffice}

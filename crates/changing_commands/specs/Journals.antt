@@ -8,14 +8,14 @@ use Rattle.sqlite.specs.declared.error.Error.{Error as SqliteError}
 use Rattle.sqlite_disk.specs.declared.Disk.{Ghosts as DiskGhosts}
 use Rattle.sealed_log.specs.Log.{bodies_of}
 use Rattle.sealed_log.specs.declared.log.SealedLog.{SealedLog}
-use Rattle.journal_lines.specs.Journal.{Says}
-use Rattle.journal_lines.specs.Lines.{happened, text_of}
+use Rattle.journal.specs.Journal.{Says}
+use Rattle.journal.specs.Lines.{happened, text_of}
 use Rattle.office_policy.specs.Meaning.{Meaning}
 use Rattle.office_desk.specs.Meant.{meaning_over}
-use Rattle.office_journal.specs.Journals.{journaled}
-use Rattle.office_journal.specs.Logs.{in_log}
-use Rattle.office_journal.specs.declared.journaled.Journaled.{Journaled}
-use Rattle.journaled_office.specs.Opening.{IsHandedBack, IsReopened}
+use Rattle.journal.specs.Journals.{journaled}
+use Rattle.journal.specs.Logs.{in_log}
+use Rattle.journal.specs.declared.journaled.Journaled.{Journaled}
+use Rattle.journal_office.specs.Opening.{IsHandedBack, IsReopened}
 use Rattle.command_host.specs.declared.fault.CommandFault.{CommandFault}
 use Rattle.command_host.specs.declared.fault.CommandFault.TheVariants as fault
 use Rattle.changing_commands.specs.declared.founding.Founding.{Founding}

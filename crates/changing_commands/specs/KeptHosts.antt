@@ -12,12 +12,12 @@ use Rattle.desk.specs.Stands.{HasHandled}
 use Rattle.desk_http.specs.Exchanged.{requests_in, answers_in}
 use Rattle.sealed_log.specs.Log.{bodies_of}
 use Rattle.sealed_log.specs.declared.log.SealedLog.{SealedLog}
-use Rattle.journal_lines.specs.Journal.{Says}
-use Rattle.journaled_office.specs.Mending.{HasTablesOf, TellsOf}
+use Rattle.journal.specs.Journal.{Says}
+use Rattle.journal_office.specs.Mending.{HasTablesOf, TellsOf}
 use Rattle.office_store.specs.Reopening.{HoldsOffice}
-use Rattle.office_journal.specs.Logs.{in_log}
-use Rattle.office_journal.specs.Journals.{goes_on}
-use Rattle.office_journal.specs.declared.journaled.Journaled.{Journaled}
+use Rattle.journal.specs.Logs.{in_log}
+use Rattle.journal.specs.Journals.{goes_on}
+use Rattle.journal.specs.declared.journaled.Journaled.{Journaled}
 use Rattle.office_policy.specs.History.{History}
 use Rattle.office_policy.specs.Lawful.{IsLawfulHistory}
 use Rattle.office_policy.specs.Runs.{history_after_all}

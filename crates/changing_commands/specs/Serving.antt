@@ -16,6 +16,7 @@ use Rattle.desk_http.specs.Exchanged.{HaveExchanged}
 use Rattle.desk_http.specs.Lasting.{HasServedWithin}
 use Rattle.desk_http.specs.Lines.{IsCut, IsWhole}
 use Rattle.desk_http.specs.declared.fault.HttpFault.{HttpFault}
+use Rattle.desk_http.specs.declared.served.Served.{Served}
 use Rattle.command_host.specs.declared.fault.CommandFault.{CommandFault}
 use Rattle.command_host.specs.declared.fault.CommandFault.TheVariants as fault
 use Rattle.command_host.specs.Networks.{IsLoopback}
@@ -31,7 +32,7 @@ listening_line port = codes "listening 127.0.0.1:" ++ decimal port ++ codes "\n"
 -- there were at most so many exchanges one after the other
 abbrev pub HasServedUpTo : {X : Type 0} → Meaning X → X → X → ℕ → Type 0
 HasServedUpTo m old new most =
-    (results : List (Result ℕ HttpFault)) × HaveExchanged m old new results
+    (results : List (Result Served HttpFault)) × HaveExchanged m old new results
     × (length results ≤ most)
 
 -- a network listens at this port of loopback

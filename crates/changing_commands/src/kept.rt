@@ -6,9 +6,9 @@ ghost use Rattle.changing_commands.specs.Journals.{IsKeptOffice, IsOfJournal, Is
 ghost use Rattle.changing_commands.specs.Journals.{IsUnkept};
 
 use command_host::{CommandFault, Databases, Journals, close, fault_of, office_at};
-use journaled_office::reopen;
+use journal::Journaled;
+use journal_office::reopen;
 use office_desk::Office;
-use office_journal::Journaled;
 use sealed_log::SealedLog;
 use sqlite::{Alter, Connection};
 use sqlite_disk::Disk;

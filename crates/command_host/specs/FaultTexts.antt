@@ -1,15 +1,15 @@
 -- The words of why a command is refused or failed.
 use Rattle.std.specs.Prelude.{ℕ, List, ◌++◌, codes, decimal}
 use Rattle.desk.specs.Faults.{desk_fault_word}
-use Rattle.journaled_office.specs.declared.fault.NotReopened.{NotReopened}
-use Rattle.journaled_office.specs.declared.fault.NotReopened.TheVariants as reopening
-use Rattle.journal_replay.specs.FaultTexts.{refused_text}
+use Rattle.journal_office.specs.declared.not_reopened.NotReopened.{NotReopened}
+use Rattle.journal_office.specs.declared.not_reopened.NotReopened.TheVariants as reopening
+use Rattle.journal_office.specs.FaultTexts.{refused_text}
 use Rattle.journal_reports.specs.FaultTexts.{no_evidence_text, unwritten_text}
 use Rattle.journal_verification.specs.DifferenceTexts.{difference_text}
 use Rattle.journal_verification.specs.declared.verification.Unverified.{Unverified}
 use Rattle.journal_verification.specs.declared.verification.Unverified.TheVariants as unverified
 use Rattle.office_store.specs.Faults.{founding_fault_word, migration_fault_word, opening_fault_word}
-use Rattle.office_tables.specs.Faults.{store_fault_word}
+use Rattle.review_policy.specs.WordTables.{fault_word}
 use Rattle.profile_commands.specs.declared.compare.ComparedFault.{ComparedFault}
 use Rattle.profile_commands.specs.declared.compare.ComparedFault.TheVariants as compared
 use Rattle.profile_commands.specs.declared.execution.ExecutionFault.{ExecutionFault}
@@ -17,7 +17,6 @@ use Rattle.profile_commands.specs.declared.execution.ExecutionFault.TheVariants 
 use Rattle.profile_commands.specs.declared.fault.FileFault.{FileFault}
 use Rattle.profile_commands.specs.declared.fault.FileFault.TheVariants as file
 use Rattle.profile_text.specs.FaultText.{fault_text_of}
-use Rattle.review_policy.specs.WordTables.{fault_word}
 use Rattle.streams.specs.declared.up_to.Unread.{Unread}
 use Rattle.streams.specs.declared.up_to.Unread.TheVariants as unread
 use Rattle.command_host.specs.declared.fault.CommandFault.{CommandFault}
@@ -67,7 +66,7 @@ reopening_fault_text reopening.NoMemory = codes "memory"
 abbrev pub unverified_text : Unverified → List ℕ
 unverified_text (unverified.Refused refused) = refused_text refused
 unverified_text (unverified.Differs row) = codes "differs: " ++ difference_text row
-unverified_text (unverified.Fault why) = store_fault_word why
+unverified_text (unverified.Fault why) = fault_word why
 
 -- why a command was refused or failed
 abbrev pub command_fault_text : CommandFault → List ℕ
@@ -78,7 +77,7 @@ command_fault_text (fault.Compared why) = compared_fault_text why
 command_fault_text (fault.FoundingWords why) = founding_words_fault_word why
 command_fault_text (fault.Founding why) = founding_fault_word why
 command_fault_text (fault.Migration why) = migration_fault_word why
-command_fault_text (fault.Store why) = store_fault_word why
+command_fault_text (fault.Store why) = fault_word why
 command_fault_text (fault.Opening why) = opening_fault_word why
 command_fault_text fault.Close = codes "disk"
 command_fault_text fault.JournalThere = codes "journal-there"

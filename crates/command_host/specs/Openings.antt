@@ -14,12 +14,12 @@ use Rattle.office_store.specs.declared.fault.OpeningFault.TheVariants as opening
 use Rattle.office_desk.specs.Opened.{IsOver}
 use Rattle.command_host.specs.declared.fault.CommandFault.{CommandFault}
 use Rattle.command_host.specs.declared.fault.CommandFault.TheVariants as fault
-use Rattle.office_tables.specs.declared.fault.StoreFault.{StoreFault}
-use Rattle.office_tables.specs.declared.fault.StoreFault.TheVariants.{Disk, NotAnOffice}
+use Rattle.review_policy.specs.declared.fault.Fault.{Fault}
+use Rattle.review_policy.specs.declared.fault.Fault.TheVariants.{Disk, NotAnOffice}
 use Rattle.command_host.specs.declared.databases.Databases as databases
 
 -- what is no database is no office
-abbrev pub fault_of_opening : Error → StoreFault
+abbrev pub fault_of_opening : Error → Fault
 fault_of_opening (error.SqliteFailure code.NotADatabase) = NotAnOffice
 fault_of_opening e = fault_of_error e
 
@@ -45,14 +45,14 @@ module _ {S D : Type 0} (d : databases.Ghosts D (Held S)) where
   module _ (path : List ℕ) where
     -- No database was opened at a path, for this: that failed so, or it has a transaction open as it
     -- is opened.
-    abbrev pub IsUnopened : StoreFault → Type 0
+    abbrev pub IsUnopened : Fault → Type 0
     IsUnopened why =
         ((error : Error) × d.refused path error × (why ≡ fault_of_opening error))
         ⊎ ((why ≡ Disk) × ((conn : Held S) × d.opened path conn × (conn.in_transaction ≡ true)))
 
     -- there is none at a path, for this: it couldn't be seen whether something is there, nothing is,
     -- or what is there wasn't opened
-    abbrev pub IsNotThere : StoreFault → Type 0
+    abbrev pub IsNotThere : Fault → Type 0
     IsNotThere why =
         ((why ≡ Disk) × ((error : IoError) × d.sees path (Err error)))
         ⊎ ((why ≡ NotAnOffice) × d.sees path (Ok false)) ⊎ IsUnopened why

@@ -5,13 +5,12 @@ ghost use Rattle.command_host.specs.FaultTexts.{execution_fault_word, unread_wor
 
 use crate::founding_fault::FoundingWordsFault;
 use desk::DeskFault;
-use journal_replay::Refused;
+use journal_office::{NotReopened, Refused};
 use journal_reports::{NoEvidence, Unwritten};
 use journal_verification::Unverified;
-use journaled_office::NotReopened;
 use office_store::{FoundingFault, MigrationFault, OpeningFault};
-use office_tables::StoreFault;
 use profile_commands::{ComparedFault, ExecutionFault, FileFault};
+use review_policy::Fault;
 use std::fmt;
 use streams::Unread;
 
@@ -33,7 +32,7 @@ pub enum CommandFault {
     /// An office wasn't migrated.
     Migration(MigrationFault),
     /// What stands at a path can't be opened.
-    Store(StoreFault),
+    Store(Fault),
     /// What was opened at a path is no office of this schema.
     Opening(OpeningFault),
     /// An office can't be closed.

@@ -93,9 +93,9 @@ impl<T: Start + Copy> Databases for HostFiles<'_, T> {
 /// Files whose contents the program doesn't know, and of which a torn write leaves each byte old or
 /// new.
 #[derive(Clone, Copy)]
-pub struct Unread;
+pub struct UnknownFiles;
 
-impl Start for Unread {
+impl Start for UnknownFiles {
     ghost log = { [] };
 
     ghost db = { [] };
@@ -108,17 +108,17 @@ impl Start for Unread {
 }
 
 impl Databases for HostRuntime {
-    type Database = Connection<FileStore<FileFrom<Unread>>>;
+    type Database = Connection<FileStore<FileFrom<UnknownFiles>>>;
 
     fn is_there(&self, path: &str) -> io::Result<bool> {
         fs::exists(self, path)
     }
 
-    fn open(&self, path: &str) -> Result<Connection<FileStore<FileFrom<Unread>>>, Error> {
-        HostFiles::new(self, Unread).open(path)
+    fn open(&self, path: &str) -> Result<Connection<FileStore<FileFrom<UnknownFiles>>>, Error> {
+        HostFiles::new(self, UnknownFiles).open(path)
     }
 
-    fn close(&self, database: Connection<FileStore<FileFrom<Unread>>>) -> Result<(), Error> {
-        HostFiles::new(self, Unread).close(database)
+    fn close(&self, database: Connection<FileStore<FileFrom<UnknownFiles>>>) -> Result<(), Error> {
+        HostFiles::new(self, UnknownFiles).close(database)
     }
 }

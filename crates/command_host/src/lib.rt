@@ -19,7 +19,7 @@ pub use databases::Databases;
 pub use fault::CommandFault;
 pub use files::PassFiles;
 pub use founding_fault::FoundingWordsFault;
-pub use host_files::{HostFiles, Unread};
+pub use host_files::{HostFiles, UnknownFiles};
 pub use host_journals::HostJournals;
 pub use journal_text::text_at;
 pub use journals::Journals;

@@ -10,15 +10,15 @@ use crate::databases::Databases;
 use crate::fault::CommandFault;
 use office_desk::Office;
 use office_rows::fault_of_error;
-use office_tables::StoreFault;
+use review_policy::Fault;
 use sqlite::{Alter, Connection, Error, ErrorCode};
 
 /// Why what stands at a path isn't opened: `NotAnOffice` where it is no database.
-pub fn fault_of_opening(error: Error) -> StoreFault
+pub fn fault_of_opening(error: Error) -> Fault
     ensures { result ≡ fault_of_opening error }
 {
     match error {
-        Error::SqliteFailure(ErrorCode::NotADatabase) => StoreFault::NotAnOffice,
+        Error::SqliteFailure(ErrorCode::NotADatabase) => Fault::NotAnOffice,
         error => fault_of_error(error),
     }
 }
@@ -32,7 +32,7 @@ pub fn fault_of_opening(error: Error) -> StoreFault
 pub fn open<S: Alter + Drop, D: Databases<Database = Connection<S>>>(
     databases: &D,
     path: &str,
-) -> Result<Connection<S>, StoreFault>
+) -> Result<Connection<S>, Fault>
     ensures idle { IfOk result (λ conn. IsIdle (state S.Store conn)) }
     ensures opened { IfOk result (IsUnlimited (D.opened path.now)) }
     ensures fault { IfErr result (IsUnopened D.Databases path.now) }
@@ -40,7 +40,7 @@ pub fn open<S: Alter + Drop, D: Databases<Database = Connection<S>>>(
     match databases.open(path) {
         Ok(mut conn) => {
             if !conn.is_autocommit() {
-                return Err(StoreFault::Disk);
+                return Err(Fault::Disk);
             }
             conn.set_step_limit(None);
             Ok(conn)
@@ -58,7 +58,7 @@ pub fn open<S: Alter + Drop, D: Databases<Database = Connection<S>>>(
 pub fn database_at<S: Alter + Drop, D: Databases<Database = Connection<S>>>(
     databases: &D,
     path: &str,
-) -> Result<Connection<S>, StoreFault>
+) -> Result<Connection<S>, Fault>
     ensures idle { IfOk result (λ conn. IsIdle (state S.Store conn)) }
     ensures opened { IfOk result (IsUnlimited (D.opened path.now)) }
     ensures fault { IfErr result (IsNotThere D.Databases path.now) }
@@ -66,8 +66,8 @@ pub fn database_at<S: Alter + Drop, D: Databases<Database = Connection<S>>>(
     // Opening would make an empty database.
     match databases.is_there(path) {
         Ok(true) => open(databases, path),
-        Ok(false) => Err(StoreFault::NotAnOffice),
-        Err(_) => Err(StoreFault::Disk),
+        Ok(false) => Err(Fault::NotAnOffice),
+        Err(_) => Err(Fault::Disk),
     }
 }
 

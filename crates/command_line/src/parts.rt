@@ -83,7 +83,7 @@ fn arg_of<'a>(alloc: Global, parameter: Parameter<'a>) -> Arg<'a>
 }
 
 // The arguments, as `clap` takes them.
-fn args_of<'a>(alloc: Global, parameters: &[Parameter<'a>]) -> Result<Vec<Arg<'a>>, AllocError>
+fn clap_args<'a>(alloc: Global, parameters: &[Parameter<'a>]) -> Result<Vec<Arg<'a>>, AllocError>
     ensures { IfOk result (λ args. map part_of args.items ≡ map part_for parameters.now) }
 {
     let mut args = Vec::new(alloc);
@@ -105,7 +105,7 @@ pub(crate) fn add_command<'a>(
     ensures { IfOk result (λ _. AddsCommand (app_of_parts name.now parameters.now)
         commands.old.items commands.new.items) }
 {
-    let args = args_of(alloc, parameters)?;
+    let args = clap_args(alloc, parameters)?;
     let command = Command::new(alloc, name).about(about).after_help(examples);
     commands.push(command.args(args)?)?;
     Ok(())

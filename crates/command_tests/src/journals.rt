@@ -1,7 +1,7 @@
 // Journals: what `verify` prints, a seal that was kept, and journals that can't be gone on with.
 
-use crate::said::{assert_begun, assert_said};
-use command_host::{HostJournals, Journals, Unread};
+use crate::said::{assert_said, assert_said_begins};
+use command_host::{HostJournals, Journals, UnknownFiles};
 use said_commands::founding;
 use std::alloc::AllocError;
 use std::fs;
@@ -94,9 +94,9 @@ fn what_is_no_seal_of_a_line_is_refused(rt: HostRuntime) -> Result<(), Fail> {
     for words in NO_SEALS.lines() {
         let line = format!(in alloc; "office verify none.db none.journal --seal {words}")?;
         let wanted = format!(in alloc; "2 error: invalid value '{words}' for '--seal <N:HEX>'\n")?;
-        assert_begun(&rt, &rt, line.as_str(), wanted.as_str())?;
+        assert_said_begins(&rt, &rt, line.as_str(), wanted.as_str())?;
     }
-    assert_begun(
+    assert_said_begins(
         &rt,
         &rt,
         "office verify none.db none.journal --seal",
@@ -107,7 +107,7 @@ fn what_is_no_seal_of_a_line_is_refused(rt: HostRuntime) -> Result<(), Fail> {
 #[test]
 fn a_journal_that_is_open_is_busy(rt: HostRuntime) -> Result<(), Fail> {
     keep(&rt, &rt, "busy")?;
-    let journals = HostJournals::new(&rt, Unread);
+    let journals = HostJournals::new(&rt, UnknownFiles);
     let Ok(file) = journals.open("busy.journal") else {
         return Err(Fail::from("a journal"));
     };

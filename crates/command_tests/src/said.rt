@@ -20,7 +20,7 @@ pub(crate) fn assert_said(
 }
 
 // What is said to a command line begins so, and where that is no output there is none.
-pub(crate) fn assert_begun(
+pub(crate) fn assert_said_begins(
     rt: &impl Abort,
     host: &HostRuntime,
     line: &str,

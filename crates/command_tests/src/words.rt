@@ -1,6 +1,6 @@
 // Words that are no command line, help, the stream that each text goes to, and an output that fails.
 
-use crate::said::{assert_begun, assert_said};
+use crate::said::{assert_said, assert_said_begins};
 use said_commands::{founding, run_here, said};
 use std::io::{ErrorKind, Write};
 use std::process::Abort;
@@ -29,7 +29,7 @@ office rebuild team.db team.journal team.journal";
 #[test]
 fn words_that_are_no_command_line_end_with_status_2(rt: HostRuntime) -> Result<(), Fail> {
     for line in REFUSED.lines() {
-        assert_begun(&rt, &rt, line, "2 error: ")?;
+        assert_said_begins(&rt, &rt, line, "2 error: ")?;
     }
     Ok(())
 }
@@ -57,7 +57,7 @@ fn each_text_goes_to_its_stream(rt: HostRuntime) -> Result<(), Fail> {
     fs::write(&rt, "closed.json", closed)?;
     for row in TOLD.lines() {
         let (line, wanted) = row.split_once(" = ").unwrap_or((row, ""));
-        assert_begun(&rt, &rt, line, wanted)?;
+        assert_said_begins(&rt, &rt, line, wanted)?;
     }
     Ok(())
 }

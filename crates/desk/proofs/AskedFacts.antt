@@ -11,8 +11,8 @@ use Rattle.json_requests.specs.declared.fault.LineFault.{LineFault}
 use Rattle.json_requests.specs.Faults.{Tells}
 use Rattle.json_requests.specs.Plain.{PlainRequest}
 use Rattle.json_requests.specs.Requests.{request_in, asked, Asks}
-use Rattle.desk.specs.declared.outcome.Outcome.{Outcome}
-use Rattle.desk.specs.declared.outcome.Outcome.TheVariants.{Bad, NoMemory, Answered}
+use Rattle.desk.specs.declared.outcome.LineOutcome.{LineOutcome}
+use Rattle.desk.specs.declared.outcome.LineOutcome.TheVariants.{Bad, NoMemory, Answered}
 use Rattle.desk.specs.Stands.{IsHandled}
 use Rattle.office_policy.proofs.LeftFacts.{left_by_one}
 use Rattle.office_policy.proofs.SurvivalFacts.{survives_none}
@@ -40,7 +40,7 @@ module _ {X : Type 0} (m : Meaning X) where
   }
 
   -- it is the same line
-  pub handled_as : (old new : X) (line same : List ℕ) (outcome : Outcome) → line ≡ same → IsHandled m old new line outcome → IsHandled m old new same outcome
+  pub handled_as : (old new : X) (line same : List ℕ) (outcome : LineOutcome) → line ≡ same → IsHandled m old new line outcome → IsHandled m old new same outcome
   handled_as old new line same outcome is handled = subst (λ (l : List ℕ). IsHandled m old new l outcome) is handled
 
   -- it was not read

@@ -7,28 +7,28 @@ use Rattle.office_policy.specs.Meaning.{Meaning}
 use Rattle.office_policy.specs.Handled.{LeavesOnly}
 use Rattle.office_policy.specs.Left.{LeftAfterOne, LeftAfter, AreLeft}
 use Rattle.office_policy.proofs.LeftFacts.{left_of_one}
-use Rattle.desk.specs.declared.outcome.Outcome.{Outcome}
-use Rattle.desk.specs.declared.outcome.Outcome.TheVariants.{Bad, NoMemory, Answered}
+use Rattle.desk.specs.declared.outcome.LineOutcome.{LineOutcome}
+use Rattle.desk.specs.declared.outcome.LineOutcome.TheVariants.{Bad, NoMemory, Answered}
 use Rattle.desk.specs.Outcomes.{history_after_line, history_after_lines, requests_of, answers_of}
 use Rattle.desk.specs.Parts.{AreFirstOf}
 use Rattle.desk.specs.Left.{LeftAfterLine, LeftAfterLines}
 use Rattle.desk.specs.Stands.{AreHandled, LeavesLast}
 
 -- lines leave the history that the requests among them leave
-after_requests : (h : History) (os : List Outcome) → history_after_lines h os ≡ history_after_all h (requests_of os) (answers_of os)
+after_requests : (h : History) (os : List LineOutcome) → history_after_lines h os ≡ history_after_all h (requests_of os) (answers_of os)
 after_requests h [] = refl
 after_requests h (Bad fault ∷ os) = after_requests h os
 after_requests h (NoMemory ∷ os) = after_requests h os
 after_requests h (Answered r a ∷ os) = after_requests (history_after h r a) os
 
 module _ {X : Type 0} (m : Meaning X) where
-  pub left_more_lines : (Before : m.Left → Type 0) (h : History) (os : List Outcome) (o : Outcome) (rest : m.Left)
+  pub left_more_lines : (Before : m.Left → Type 0) (h : History) (os : List LineOutcome) (o : LineOutcome) (rest : m.Left)
       → LeftAfterLine m (LeftAfterLines m Before h os) (history_after_lines h os) o rest → LeftAfterLines m Before h (os ++ o ∷ []) rest
   left_more_lines Before h [] o rest left = left
   left_more_lines Before h (x ∷ os) o rest left = left_more_lines (LeftAfterLine m Before h x) (history_after_line h x) os o rest left
 
   -- what may be left before a line may be more
-  pub left_by_more : (Before More : m.Left → Type 0) (h : History) (o : Outcome) → ((rest : m.Left) → Before rest → More rest)
+  pub left_by_more : (Before More : m.Left → Type 0) (h : History) (o : LineOutcome) → ((rest : m.Left) → Before rest → More rest)
       → (rest : m.Left) → LeftAfterLine m Before h o rest → LeftAfterLine m More h o rest
   left_by_more Before More h (Bad fault) more rest left = more rest left
   left_by_more Before More h NoMemory more rest left = more rest left
@@ -43,14 +43,14 @@ module _ {X : Type 0} (m : Meaning X) where
   -- ---- where a crash could leave only the office before
 
   -- lines leave what the requests among them leave
-  left_requests : (Before : m.Left → Type 0) (h : History) (os : List Outcome) (rest : m.Left)
+  left_requests : (Before : m.Left → Type 0) (h : History) (os : List LineOutcome) (rest : m.Left)
       → LeftAfterLines m Before h os rest → LeftAfter m Before h (requests_of os) (answers_of os) rest
   left_requests Before h [] rest left = left
   left_requests Before h (Bad fault ∷ os) rest left = left_requests Before h os rest left
   left_requests Before h (NoMemory ∷ os) rest left = left_requests Before h os rest left
   left_requests Before h (Answered r a ∷ os) rest left = left_requests (LeftAfterOne m Before h r a) (history_after h r a) os rest left
 
-  pub leaves_last : (old new : X) (unread : Option (List ℕ)) (lines : List (List ℕ)) (os : List Outcome) → AreHandled m old new lines os → AreFirstOf unread lines
+  pub leaves_last : (old new : X) (unread : Option (List ℕ)) (lines : List (List ℕ)) (os : List LineOutcome) → AreHandled m old new lines os → AreFirstOf unread lines
       → (h : History) → m.is_of h old → LeavesOnly m h old → m.is_clean new → LeavesLast m h old new unread
   leaves_last old new unread lines os handled first h office only clean = record {
     lines = lines;

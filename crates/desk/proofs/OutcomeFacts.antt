@@ -15,49 +15,49 @@ use Rattle.review_policy.specs.declared.answer.Answer.TheVariants.{Done, Denied,
 use Rattle.json_requests.specs.declared.bad.BadLine.{BadLine}
 use Rattle.json_requests.specs.Answers.{line_of}
 use Rattle.json_requests.specs.Bad.{bad_line}
-use Rattle.desk.specs.declared.outcome.Outcome.{Outcome}
-use Rattle.desk.specs.declared.outcome.Outcome.TheVariants.{Bad, NoMemory, Answered}
+use Rattle.desk.specs.declared.outcome.LineOutcome.{LineOutcome}
+use Rattle.desk.specs.declared.outcome.LineOutcome.TheVariants.{Bad, NoMemory, Answered}
 use Rattle.desk.specs.Outcomes.{IsOutcome, history_after_line, told, AreOutcomes, history_after_lines, requests_of, answers_of, transcript}
 use Rattle.desk.specs.Left.{LeftAfterLines}
 use Rattle.desk.specs.Stands.{StandsAfterLine, HandlesLine, IsHandled, AreHandled, AreAnswered, AreCutShort}
 use Rattle.desk.proofs.LeftFacts.{left_more_lines, left_by_more}
 
-outcomes_more : (h : History) (lines : List (List ℕ)) (os : List Outcome) (line : List ℕ) (o : Outcome) → AreOutcomes h lines os
+outcomes_more : (h : History) (lines : List (List ℕ)) (os : List LineOutcome) (line : List ℕ) (o : LineOutcome) → AreOutcomes h lines os
     → IsOutcome (history_after_lines h os) line o → AreOutcomes h (lines ++ line ∷ []) (os ++ o ∷ [])
 outcomes_more h [] [] line o all is = (is, tt)
 outcomes_more h (l ∷ lines) (x ∷ os) line o all is = (all.0, outcomes_more (history_after_line h x) lines os line o all.1 is)
 outcomes_more h [] (x ∷ os) line o all is = absurd all
 outcomes_more h (l ∷ lines) [] line o all is = absurd all
 
-after_more : (h : History) (os : List Outcome) (o : Outcome) → history_after_lines h (os ++ o ∷ []) ≡ history_after_line (history_after_lines h os) o
+after_more : (h : History) (os : List LineOutcome) (o : LineOutcome) → history_after_lines h (os ++ o ∷ []) ≡ history_after_line (history_after_lines h os) o
 after_more h [] o = refl
 after_more h (x ∷ os) o = after_more (history_after_line h x) os o
 
-transcript_more : (os : List Outcome) (o : Outcome) → transcript (os ++ o ∷ []) ≡ transcript os ++ told o
+transcript_more : (os : List LineOutcome) (o : LineOutcome) → transcript (os ++ o ∷ []) ≡ transcript os ++ told o
 transcript_more [] o = append-nil (told o)
 transcript_more (x ∷ os) o = ap (λ t. told x ++ t) (transcript_more os o) ∙ sym (append_assoc (told x) (transcript os) (told o))
 
 -- every answer has its line feed
-told_some : (o : Outcome) → 0 < length (told o)
+told_some : (o : LineOutcome) → 0 < length (told o)
 unfolding line_of bad_line
 told_some (Bad fault) = omega (arith, length-append {A = ℕ})
 told_some NoMemory = omega (arith, length-append {A = ℕ})
 told_some (Answered request answer) = omega (arith, length-append {A = ℕ})
 
 -- a line that asks nothing adds no answer
-answers_bad : (os : List Outcome) (fault : BadLine) → answers_of (os ++ Bad fault ∷ []) ≡ answers_of os
+answers_bad : (os : List LineOutcome) (fault : BadLine) → answers_of (os ++ Bad fault ∷ []) ≡ answers_of os
 answers_bad [] fault = refl
 answers_bad (Bad other ∷ os) fault = answers_bad os fault
 answers_bad (NoMemory ∷ os) fault = answers_bad os fault
 answers_bad (Answered r a ∷ os) fault = ap (λ answers. a ∷ answers) (answers_bad os fault)
 
-answers_unread : (os : List Outcome) → answers_of (os ++ NoMemory ∷ []) ≡ answers_of os
+answers_unread : (os : List LineOutcome) → answers_of (os ++ NoMemory ∷ []) ≡ answers_of os
 answers_unread [] = refl
 answers_unread (Bad fault ∷ os) = answers_unread os
 answers_unread (NoMemory ∷ os) = answers_unread os
 answers_unread (Answered r a ∷ os) = ap (λ answers. a ∷ answers) (answers_unread os)
 
-answers_more : (os : List Outcome) (r : Request) (a : Answer) → answers_of (os ++ Answered r a ∷ []) ≡ answers_of os ++ a ∷ []
+answers_more : (os : List LineOutcome) (r : Request) (a : Answer) → answers_of (os ++ Answered r a ∷ []) ≡ answers_of os ++ a ∷ []
 answers_more [] r a = refl
 answers_more (Bad fault ∷ os) r a = answers_more os r a
 answers_more (NoMemory ∷ os) r a = answers_more os r a
@@ -78,7 +78,7 @@ unless_weaker (a ∷ b ∷ answers) P Q then p = unless_weaker (b ∷ answers) P
 
 module _ {X : Type 0} (m : Meaning X) where
   -- the last request was answered by no fault
-  stands_more : (mid new : X) (h : History) (os : List Outcome) (o : Outcome)
+  stands_more : (mid new : X) (h : History) (os : List LineOutcome) (o : LineOutcome)
       → UnlessLastFaulty (answers_of os) (Stands m (history_after_lines h os) mid)
       → StandsAfterLine m (history_after_lines h os) mid new o
       → UnlessLastFaulty (answers_of (os ++ o ∷ [])) (Stands m (history_after_lines h (os ++ o ∷ [])) new)
@@ -93,7 +93,7 @@ module _ {X : Type 0} (m : Meaning X) where
       (unless_last (answers_of os) a (Stands m (history_after (history_after_lines h os) r a) new) last)
 
   -- and one more line is handled
-  each_more : (old mid new : X) (os : List Outcome) (o : Outcome) → HandlesEach m old mid (requests_of os) (answers_of os) → HandlesLine m mid new o
+  each_more : (old mid new : X) (os : List LineOutcome) (o : LineOutcome) → HandlesEach m old mid (requests_of os) (answers_of os) → HandlesLine m mid new o
       → HandlesEach m old new (requests_of (os ++ o ∷ [])) (answers_of (os ++ o ∷ []))
   each_more old mid new [] (Bad fault) each line = line ∙ each
   each_more old mid new [] NoMemory each line = line ∙ each
@@ -102,7 +102,7 @@ module _ {X : Type 0} (m : Meaning X) where
   each_more old mid new (NoMemory ∷ os) o each line = each_more old mid new os o each line
   each_more old mid new (Answered r a ∷ os) o each line = (each.0, each.1, each_more each.0 mid new os o each.2 line)
 
-  pub handled_more : (old mid new : X) (lines : List (List ℕ)) (os : List Outcome) (line : List ℕ) (o : Outcome)
+  pub handled_more : (old mid new : X) (lines : List (List ℕ)) (os : List LineOutcome) (line : List ℕ) (o : LineOutcome)
       → AreHandled m old mid lines os → IsHandled m mid new line o → AreHandled m old new (lines ++ line ∷ []) (os ++ o ∷ [])
   handled_more old mid new lines os line o s more = record {
     survives = survives_on m old mid new s.survives more.survives;
@@ -133,7 +133,7 @@ module _ {X : Type 0} (m : Meaning X) where
   pub answered_none : (s : X) (w : Option (List ℕ)) → AreAnswered m s s w w []
   answered_none s w = record { outcomes = []; handled = none_handled s; written = Appends-nil w }
 
-  module _ (old mid new : X) (before between after : Option (List ℕ)) (lines : List (List ℕ)) (line : List ℕ) (o : Outcome)
+  module _ (old mid new : X) (before between after : Option (List ℕ)) (lines : List (List ℕ)) (line : List ℕ) (o : LineOutcome)
       (so_far : AreAnswered m old mid before between lines) (more : IsHandled m mid new line o) where
     pub answered_more : Appends between after (told o) → AreAnswered m old new before after (lines ++ line ∷ [])
     answered_more writes = record {

@@ -12,7 +12,7 @@ use Rattle.streams.proofs.HandedFacts.{all_handed, front_handed, last_held, next
 use Rattle.streams.proofs.HeldFacts.{holds_no_feed}
 use Rattle.desk.specs.declared.fault.DeskFault.{DeskFault}
 use Rattle.desk.specs.declared.fault.DeskFault.TheVariants.{Read, Write, TooManyReads, NoMemory}
-use Rattle.desk.specs.declared.outcome.Outcome.{Outcome}
+use Rattle.desk.specs.declared.outcome.LineOutcome.{LineOutcome}
 use Rattle.desk.specs.Outcomes.{told}
 use Rattle.desk.specs.Stands.{IsHandled, HasHandled, AreAnswered, AreCutShort, LeavesLast, StopsWriting, StandsAfter, IsUnfinished}
 use Rattle.desk.specs.Parts.{AreFirstOf}
@@ -71,7 +71,7 @@ module _ {X : Type 0} (m : Meaning X) where
   -- the first line that is held is handled, and this is written for it
   abbrev pub ServesFirst : (mid new : X) → Held → (between after : Option (List ℕ)) → ℕ → Result ⊤ DeskFault → Type 0
   ServesFirst mid new held between after number result =
-      (bytes : List ℕ) → Holds held bytes → (o : Outcome) × IsHandled m mid new (first_line bytes) o × IsServed between after (told o) number result
+      (bytes : List ℕ) → Holds held bytes → (o : LineOutcome) × IsHandled m mid new (first_line bytes) o × IsServed between after (told o) number result
 
   -- ---- where the reading stops
 
@@ -181,7 +181,7 @@ module _ {X : Type 0} (m : Meaning X) where
           ap (λ n. take n (lines_of input)) (add-one number ∙ ap suc p.count) ∙ ap (λ ls. take (suc (length p.lines)) ls) all
           ∙ front p.lines more (first_line p.handed.rest)
 
-      stops : (e : DeskFault) (o : Outcome) → IsHandled m mid new line o → IsServed between after (told o) (number + 1) (Err e)
+      stops : (e : DeskFault) (o : LineOutcome) → IsHandled m mid new line o → IsServed between after (told o) (number + 1) (Err e)
           → StopsWriting m old new before after (lines_of input) e
       stops (Write n) o handled served =
           let cut : (count : ℕ) × AreCutShort m old new before after (p.lines ++ line ∷ []) count =
@@ -193,7 +193,7 @@ module _ {X : Type 0} (m : Meaning X) where
       stops (TooManyReads n) o handled served = absurd served
 
     stops_in : (u : Option (List ℕ)) → IfSome u (λ input. (more : List (List ℕ)) × (lines_of input ≡ p.lines ++ first_line p.handed.rest ∷ more))
-        → (e : DeskFault) (o : Outcome) → IsHandled m mid new line o → IsServed between after (told o) (number + 1) (Err e)
+        → (e : DeskFault) (o : LineOutcome) → IsHandled m mid new line o → IsServed between after (told o) (number + 1) (Err e)
         → IfSome u (λ input. StopsWriting m old new before after (lines_of input) e)
     stops_in None next e o handled served = tt
     stops_in (Some input) next e o handled served = stops input next.0 next.1 e o handled served
@@ -203,7 +203,7 @@ module _ {X : Type 0} (m : Meaning X) where
         → ServesFirst mid new held between after (number + 1) (Err e) → StandsAfter m old new unread rest before after e
     stands_served next e serves = let so = serves p.handed.rest p.handed.holds in stands e so.0 so.1 so.2
       where
-        stands : (e : DeskFault) (o : Outcome) → IsHandled m mid new line o → IsServed between after (told o) (number + 1) (Err e)
+        stands : (e : DeskFault) (o : LineOutcome) → IsHandled m mid new line o → IsServed between after (told o) (number + 1) (Err e)
             → StandsAfter m old new unread rest before after e
         stands (Write n) o handled served = stops_in unread next (Write n) o handled served
         stands (NoMemory zero) o handled served = absurd (omega (arith, served.0))

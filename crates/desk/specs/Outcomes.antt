@@ -3,50 +3,50 @@ use Rattle.std.specs.Prelude.{◌≡◌, ℕ, List, [], ◌∷◌, ◌++◌, Err
 use Rattle.review_policy.specs.declared.ask.Request.{Request}
 use Rattle.review_policy.specs.declared.answer.Answer.{Answer}
 use Rattle.review_policy.specs.declared.answer.Answer.TheVariants.{Fault}
-use Rattle.review_policy.specs.declared.answer.Fault.TheVariants.{Memory}
+use Rattle.review_policy.specs.declared.fault.Fault.TheVariants as faults
 use Rattle.office_policy.specs.History.{History}
 use Rattle.office_policy.specs.Runs.{IsAnswer, history_after}
 use Rattle.json_requests.specs.Answers.{line_of}
 use Rattle.json_requests.specs.Bad.{bad_line}
 use Rattle.json_requests.specs.Requests.{asked, Asks}
-use Rattle.desk.specs.declared.outcome.Outcome.{Outcome}
-use Rattle.desk.specs.declared.outcome.Outcome.TheVariants.{Bad, NoMemory, Answered}
+use Rattle.desk.specs.declared.outcome.LineOutcome.{LineOutcome}
+use Rattle.desk.specs.declared.outcome.LineOutcome.TheVariants.{Bad, NoMemory, Answered}
 
 -- this may come of the line: it is no request, there was no memory to read it, or the request that
 -- it asks has this answer
-abbrev pub IsOutcome : History → List ℕ → Outcome → Type 0
+abbrev pub IsOutcome : History → List ℕ → LineOutcome → Type 0
 IsOutcome h line (Bad fault) = asked line ≡ Err fault
 IsOutcome h line NoMemory = Unit {0}
 IsOutcome h line (Answered request answer) = Asks line request × IsAnswer h request answer
 
 -- the history after it: only a request that is carried out adds an event
-abbrev pub history_after_line : History → Outcome → History
+abbrev pub history_after_line : History → LineOutcome → History
 history_after_line h (Bad fault) = h
 history_after_line h NoMemory = h
 history_after_line h (Answered request answer) = history_after h request answer
 
 -- the line that answers it
-abbrev pub told : Outcome → List ℕ
+abbrev pub told : LineOutcome → List ℕ
 told (Bad fault) = bad_line fault
-told NoMemory = line_of (Fault Memory)
+told NoMemory = line_of (Fault faults.NoMemory)
 told (Answered request answer) = line_of answer
 
 -- the requests that were asked, in their order
-abbrev pub requests_of : List Outcome → List Request
+abbrev pub requests_of : List LineOutcome → List Request
 requests_of [] = []
 requests_of (Bad fault ∷ outcomes) = requests_of outcomes
 requests_of (NoMemory ∷ outcomes) = requests_of outcomes
 requests_of (Answered request answer ∷ outcomes) = request ∷ requests_of outcomes
 
 -- and the answer to each
-abbrev pub answers_of : List Outcome → List Answer
+abbrev pub answers_of : List LineOutcome → List Answer
 answers_of [] = []
 answers_of (Bad fault ∷ outcomes) = answers_of outcomes
 answers_of (NoMemory ∷ outcomes) = answers_of outcomes
 answers_of (Answered request answer ∷ outcomes) = answer ∷ answers_of outcomes
 
 -- there is one outcome to each line, on the history that the lines before it left
-abbrev pub AreOutcomes : History → List (List ℕ) → List Outcome → Type 0
+abbrev pub AreOutcomes : History → List (List ℕ) → List LineOutcome → Type 0
 AreOutcomes h [] [] = Unit {0}
 AreOutcomes h (line ∷ lines) (outcome ∷ outcomes) =
     IsOutcome h line outcome × AreOutcomes (history_after_line h outcome) lines outcomes
@@ -54,12 +54,12 @@ AreOutcomes h [] (outcome ∷ outcomes) = ⊥
 AreOutcomes h (line ∷ lines) [] = ⊥
 
 -- the history after all of them
-abbrev pub history_after_lines : History → List Outcome → History
+abbrev pub history_after_lines : History → List LineOutcome → History
 history_after_lines h [] = h
 history_after_lines h (outcome ∷ outcomes) =
     history_after_lines (history_after_line h outcome) outcomes
 
 -- the transcript: the lines that answer them, one after the other
-abbrev pub transcript : List Outcome → List ℕ
+abbrev pub transcript : List LineOutcome → List ℕ
 transcript [] = []
 transcript (outcome ∷ outcomes) = told outcome ++ transcript outcomes

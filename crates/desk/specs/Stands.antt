@@ -10,8 +10,8 @@ use Rattle.office_policy.specs.Handled.{IsHandled as IsRequestHandled}
 use Rattle.office_policy.specs.Handled.{UnlessFaulty, Stands, Survives}
 use Rattle.office_policy.specs.Ran.{HandlesEach, UnlessLastFaulty}
 use Rattle.streams.specs.Lines.{lines_of}
-use Rattle.desk.specs.declared.outcome.Outcome.{Outcome}
-use Rattle.desk.specs.declared.outcome.Outcome.TheVariants as came
+use Rattle.desk.specs.declared.outcome.LineOutcome.{LineOutcome}
+use Rattle.desk.specs.declared.outcome.LineOutcome.TheVariants as came
 use Rattle.desk.specs.Left.{LeavesWithin, LeftAfterLine, LeftAfterLines}
 use Rattle.desk.specs.Outcomes.{IsOutcome, history_after_line, AreOutcomes, history_after_lines}
 use Rattle.desk.specs.Outcomes.{requests_of, answers_of, told, transcript}
@@ -28,7 +28,7 @@ Known = Option Bytes
 
 module _ {X : Type 0} (m : Meaning X) where
   -- it stands where the request was answered by no fault; a line that asks nothing leaves it so
-  abbrev pub StandsAfterLine : History → (old new : X) → Outcome → Type 0
+  abbrev pub StandsAfterLine : History → (old new : X) → LineOutcome → Type 0
   StandsAfterLine h old new (came.Bad fault) = Stands m h old → Stands m h new
   StandsAfterLine h old new came.NoMemory = Stands m h old → Stands m h new
   StandsAfterLine h old new (came.Answered request answer) =
@@ -36,13 +36,13 @@ module _ {X : Type 0} (m : Meaning X) where
 
   -- its request was handled as it is alone, so that a fault in the answer has a cause; a line that
   -- asks nothing leaves the office as it is
-  abbrev pub HandlesLine : (old new : X) → Outcome → Type 0
+  abbrev pub HandlesLine : (old new : X) → LineOutcome → Type 0
   HandlesLine old new (came.Bad fault) = new ≡ old
   HandlesLine old new came.NoMemory = new ≡ old
   HandlesLine old new (came.Answered request answer) = IsRequestHandled m old new request answer
 
   -- the line was handled, and this is what came of it
-  pub record IsHandled (old new : X) (line : List ℕ) (outcome : Outcome) : Type 0 where
+  pub record IsHandled (old new : X) (line : List ℕ) (outcome : LineOutcome) : Type 0 where
     pub survives : Survives m old new
     pub policy : (h : History) → m.is_of h old → m.is_clean new → IsOutcome h line outcome
     pub each : HandlesLine old new outcome
@@ -53,7 +53,7 @@ module _ {X : Type 0} (m : Meaning X) where
         → LeavesWithin m new (LeftAfterLine m (m.may_leave old) h outcome)
 
   -- the lines were handled one after the other, and these are what came of them
-  pub record AreHandled (old new : X) (lines : List Bytes) (outcomes : List Outcome) : Type 0 where
+  pub record AreHandled (old new : X) (lines : List Bytes) (outcomes : List LineOutcome) : Type 0 where
     pub survives : Survives m old new
     pub policy : (h : History) → m.is_of h old → m.is_clean new → AreOutcomes h lines outcomes
     -- and each request was handled as it is alone, on what the one before it left
@@ -68,7 +68,7 @@ module _ {X : Type 0} (m : Meaning X) where
   -- some lines were handled, whatever was reported of the stream that they are of
   pub record HasHandled (old new : X) : Type 0 where
     pub lines : List (List ℕ)
-    pub outcomes : List Outcome
+    pub outcomes : List LineOutcome
     pub handled : AreHandled old new lines outcomes
 
   -- the first lines of a stream were handled, and a crash leaves the office of the history after
@@ -77,7 +77,7 @@ module _ {X : Type 0} (m : Meaning X) where
   pub record LeavesLast (h : History) (old new : X) (unread : Known) : Type 0 where
     pub lines : List Bytes
     pub first : AreFirstOf unread lines
-    pub outcomes : List Outcome
+    pub outcomes : List LineOutcome
     pub handled : AreHandled old new lines outcomes
     pub policy : AreOutcomes h lines outcomes
     pub office : m.is_of (history_after_lines h outcomes) new
@@ -86,7 +86,7 @@ module _ {X : Type 0} (m : Meaning X) where
 
   -- the lines were handled, and just their transcript was written
   pub record AreAnswered (old new : X) (before after : Known) (lines : List Bytes) : Type 0 where
-    pub outcomes : List Outcome
+    pub outcomes : List LineOutcome
     pub handled : AreHandled old new lines outcomes
     pub written : Appends before after (transcript outcomes)
 
@@ -94,8 +94,8 @@ module _ {X : Type 0} (m : Meaning X) where
   -- `count` bytes of the line that answers the last, and not all of them
   pub record AreCutShort (old new : X) (before after : Known) (lines : List Bytes) (count : ℕ)
       : Type 0 where
-    pub outcomes : List Outcome
-    pub last : Outcome
+    pub outcomes : List LineOutcome
+    pub last : LineOutcome
     pub handled : AreHandled old new lines (outcomes ++ last ∷ [])
     pub count_below : count < length (told last)
     pub written : Appends before after (transcript outcomes ++ take count (told last))

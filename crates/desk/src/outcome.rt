@@ -12,7 +12,7 @@ use streams::{Lines, MAX_LINE};
 
 /// What came of a line.
 #[derive(Debug, Drop)]
-pub enum Outcome {
+pub enum LineOutcome {
     /// It is no request.
     Bad(BadLine),
     /// There was no memory to read it. No contract can say when.
@@ -21,34 +21,34 @@ pub enum Outcome {
     Answered { request: Request, answer: Answer },
 }
 
-impl Outcome {
+impl LineOutcome {
     ghost use Rattle.desk.specs.Stands.{IsHandled};
 
     /// Handles a line, given without its line feed.
-    pub fn of_line<H: Handler>(office: &mut H, alloc: Global, line: &[u8]) -> Outcome
+    pub fn of_line<H: Handler>(office: &mut H, alloc: Global, line: &[u8]) -> LineOutcome
         ensures { IsHandled H.meaning office.old office.new line.now result }
     {
         if line.len() > MAX_LINE {
-            return Outcome::Bad(BadLine::TooLong);
+            return LineOutcome::Bad(BadLine::TooLong);
         }
         match read_line(alloc, line) {
             Ok(request) => {
                 let answer = office.handle(alloc, &request);
-                Outcome::Answered { request, answer }
+                LineOutcome::Answered { request, answer }
             }
-            Err(LineFault::NotJson) => Outcome::Bad(BadLine::NotJson),
-            Err(LineFault::NotARequest) => Outcome::Bad(BadLine::NotARequest),
-            Err(LineFault::NoMemory) => Outcome::NoMemory,
+            Err(LineFault::NotJson) => LineOutcome::Bad(BadLine::NotJson),
+            Err(LineFault::NotARequest) => LineOutcome::Bad(BadLine::NotARequest),
+            Err(LineFault::NoMemory) => LineOutcome::NoMemory,
         }
     }
     // Handles the first line that is held.
-    pub(crate) fn of_first<H: Handler>(office: &mut H, alloc: Global, lines: &Lines) -> Outcome
+    pub(crate) fn of_first<H: Handler>(office: &mut H, alloc: Global, lines: &Lines) -> LineOutcome
         ensures { (bytes : List ℕ) → Holds lines.now bytes →
             IsHandled H.meaning office.old office.new (first_line bytes) result }
     {
         match lines.line() {
-            Ok(line) => Outcome::of_line(office, alloc, line),
-            Err(_) => Outcome::Bad(BadLine::TooLong),
+            Ok(line) => LineOutcome::of_line(office, alloc, line),
+            Err(_) => LineOutcome::Bad(BadLine::TooLong),
         }
     }
 }

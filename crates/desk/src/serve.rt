@@ -7,12 +7,12 @@ ghost use Rattle.streams.specs.Held.{Holds};
 ghost use Rattle.streams.specs.Lines.{first_line, lines_of};
 ghost use Rattle.json_requests.specs.Answers.{line_of};
 ghost use Rattle.desk.specs.Outcomes.{told};
-ghost use Rattle.desk.specs.declared.outcome.Outcome.{Outcome};
+ghost use Rattle.desk.specs.declared.outcome.LineOutcome.{LineOutcome};
 ghost use Rattle.desk.specs.Stands.{IsHandled, HasHandled, AreAnswered, LeavesLast, StandsAfter};
 ghost use Rattle.desk.specs.Written.{IsServed, CountsServed};
 
 use crate::fault::DeskFault;
-use crate::outcome::Outcome;
+use crate::outcome::LineOutcome;
 use json_requests::line;
 use office_policy::Handler;
 use review_policy::{Answer, Fault};
@@ -26,7 +26,7 @@ pub const MAX_READS: u64 = 4_194_304;
 // The line that says that it is out of memory.
 #[tactic(auto, unfolding(json_requests::specs::Answers::line_of, json_requests::specs::Answers::answer_text, serde_json::proofs::OnLiterals::serde_json_on_literals))]
 fn memory_line() -> &'static str
-    ensures { result.now ≡ line_of (Answer.Fault Fault.Memory) }
+    ensures { result.now ≡ line_of (Answer.Fault Fault.NoMemory) }
 {
     "{\"answer\":\"fault\",\"word\":\"memory\"}\n"
 }
@@ -34,7 +34,7 @@ fn memory_line() -> &'static str
 // Writes the line that reports what came of the line of this number.
 fn tell<W: Write>(
     alloc: Global,
-    outcome: &Outcome,
+    outcome: &LineOutcome,
     writer: &mut Counted<W>,
     number: u64,
 ) -> Result<(), DeskFault>
@@ -43,9 +43,9 @@ fn tell<W: Write>(
     ensures faults { CountsServed writer.old.faults writer.new.faults result }
 {
     let written = match outcome {
-        Outcome::Bad(bad) => write_whole(writer, bad.line().as_bytes()),
-        Outcome::NoMemory => write_whole(writer, memory_line().as_bytes()),
-        Outcome::Answered { request: _, answer } => match line(alloc, answer) {
+        LineOutcome::Bad(bad) => write_whole(writer, bad.line().as_bytes()),
+        LineOutcome::NoMemory => write_whole(writer, memory_line().as_bytes()),
+        LineOutcome::Answered { request: _, answer } => match line(alloc, answer) {
             Ok(text) => write_whole(writer, text.as_bytes()),
             Err(_) => return Err(DeskFault::NoMemory { line: number }),
         },
@@ -61,13 +61,13 @@ fn serve_first<H: Handler, W: Write>(
     writer: &mut Counted<W>,
     number: u64,
 ) -> Result<(), DeskFault>
-    ensures told { (bytes : List ℕ) → Holds lines.now bytes → (outcome : Outcome)
+    ensures told { (bytes : List ℕ) → Holds lines.now bytes → (outcome : LineOutcome)
         × IsHandled H.meaning office.old office.new (first_line bytes) outcome
         × IsServed (W.contents writer.old.inner) (W.contents writer.new.inner)
         (told outcome) number result }
     ensures faults { CountsServed writer.old.faults writer.new.faults result }
 {
-    let outcome = Outcome::of_first(office, alloc, lines);
+    let outcome = LineOutcome::of_first(office, alloc, lines);
     tell(alloc, &outcome, writer, number)
 }
 

@@ -10,14 +10,15 @@ use Rattle.office_policy.proofs.SurvivalFacts.{survives_none}
 use Rattle.desk_http.specs.Served.{HasOutcome, IsServed, IsTold}
 use Rattle.desk_http.specs.declared.fault.HttpFault.{HttpFault}
 use Rattle.desk_http.specs.declared.fault.HttpFault.TheVariants as fault
-use Rattle.desk_http.specs.declared.outcome.Outcome.{Outcome}
-use Rattle.desk_http.specs.declared.outcome.Outcome.TheVariants.{Refused, NoMemory, Answered}
+use Rattle.desk_http.specs.declared.outcome.ExchangeOutcome.{ExchangeOutcome}
+use Rattle.desk_http.specs.declared.outcome.ExchangeOutcome.TheVariants.{Refused, NoMemory, Answered}
+use Rattle.desk_http.specs.declared.served.Served.{Served}
 use Rattle.desk_http.specs.Exchanged.{Tells, Leaves, IsExchanged, requests_in, answers_in, AreTold, HaveExchanged}
 
 -- ---- one exchange
 
 module _ (Same : Type 0) (Handled : Request → Answer → Type 0) (unread rest : Option (List ℕ)) where
-  leaves_come : (outcome : Outcome) → HasOutcome Same Handled unread rest (Ok outcome) → Leaves Same Handled (Some outcome)
+  leaves_come : (outcome : ExchangeOutcome) → HasOutcome Same Handled unread rest (Ok outcome) → Leaves Same Handled (Some outcome)
   leaves_come (Refused why) has = has.1
   leaves_come NoMemory has = has
   leaves_come (Answered request answer) has = has.1
@@ -29,7 +30,7 @@ module _ (Same : Type 0) (Handled : Request → Answer → Type 0) (unread rest 
   untold (fault.Write status) has = absurd has
   untold (fault.NoMemory status) has = absurd has
 
-  told_so : (before after : Option (List ℕ)) (outcome : Outcome) (result : Result ℕ HttpFault) → HasOutcome Same Handled unread rest (Ok outcome)
+  told_so : (before after : Option (List ℕ)) (outcome : ExchangeOutcome) (result : Result Served HttpFault) → HasOutcome Same Handled unread rest (Ok outcome)
       → IsTold before after outcome result → IsExchanged Same Handled result
   told_so before after outcome (Ok status) has told = (Some outcome, leaves_come outcome has, told.0)
   told_so before after outcome (Err (fault.Write status)) has told = (Some outcome, leaves_come outcome has, told.0)
@@ -38,9 +39,9 @@ module _ (Same : Type 0) (Handled : Request → Answer → Type 0) (unread rest 
   told_so before after outcome (Err fault.Read) has told = absurd told
   told_so before after outcome (Err fault.TooManyReads) has told = absurd told
 
-  pub exchanged : (before after : Option (List ℕ)) (result : Result ℕ HttpFault) → IsServed Same Handled unread rest before after result
+  pub exchanged : (before after : Option (List ℕ)) (result : Result Served HttpFault) → IsServed Same Handled unread rest before after result
       → IsExchanged Same Handled result
-  exchanged before after result (inl (e, is, has, kept)) = subst (λ (r : Result ℕ HttpFault). IsExchanged Same Handled r) (sym is) (untold e has)
+  exchanged before after result (inl (e, is, has, kept)) = subst (λ (r : Result Served HttpFault). IsExchanged Same Handled r) (sym is) (untold e has)
   exchanged before after result (inr (outcome, has, told)) = told_so before after outcome result has told
 
 -- it could not begin
@@ -49,21 +50,21 @@ not_begun Same Handled same = (None, same, tt)
 
 -- ---- one more
 
-requests_more : (came : List (Option Outcome)) (c : Option Outcome) → requests_in (came ++ c ∷ []) ≡ requests_in came ++ requests_in (c ∷ [])
+requests_more : (came : List (Option ExchangeOutcome)) (c : Option ExchangeOutcome) → requests_in (came ++ c ∷ []) ≡ requests_in came ++ requests_in (c ∷ [])
 requests_more [] c = refl
 requests_more (Some (Answered request answer) ∷ came) c = ap (λ rs. request ∷ rs) (requests_more came c)
 requests_more (Some (Refused why) ∷ came) c = requests_more came c
 requests_more (Some NoMemory ∷ came) c = requests_more came c
 requests_more (None ∷ came) c = requests_more came c
 
-answers_more : (came : List (Option Outcome)) (c : Option Outcome) → answers_in (came ++ c ∷ []) ≡ answers_in came ++ answers_in (c ∷ [])
+answers_more : (came : List (Option ExchangeOutcome)) (c : Option ExchangeOutcome) → answers_in (came ++ c ∷ []) ≡ answers_in came ++ answers_in (c ∷ [])
 answers_more [] c = refl
 answers_more (Some (Answered request answer) ∷ came) c = ap (λ answers. answer ∷ answers) (answers_more came c)
 answers_more (Some (Refused why) ∷ came) c = answers_more came c
 answers_more (Some NoMemory ∷ came) c = answers_more came c
 answers_more (None ∷ came) c = answers_more came c
 
-told_more : (came : List (Option Outcome)) (results : List (Result ℕ HttpFault)) (c : Option Outcome) (r : Result ℕ HttpFault) → AreTold came results
+told_more : (came : List (Option ExchangeOutcome)) (results : List (Result Served HttpFault)) (c : Option ExchangeOutcome) (r : Result Served HttpFault) → AreTold came results
     → Tells c r → AreTold (came ++ c ∷ []) (results ++ r ∷ [])
 told_more [] [] c r told tells = (tells, tt)
 told_more (x ∷ came) (y ∷ results) c r told tells = (told.0, told_more came results c r told.1 tells)
@@ -89,13 +90,13 @@ module _ {X : Type 0} (m : Meaning X) where
     kept requests answers same ran = subst (λ (a : X). HaveRun m old a requests answers) (sym same) ran
 
     -- an exchange that handled nothing adds nothing
-    by_none : (came : List (Option Outcome)) (c : Option Outcome) → requests_in (c ∷ []) ≡ [] → answers_in (c ∷ []) ≡ [] → now ≡ was
+    by_none : (came : List (Option ExchangeOutcome)) (c : Option ExchangeOutcome) → requests_in (c ∷ []) ≡ [] → answers_in (c ∷ []) ≡ [] → now ≡ was
         → HaveRun m old was (requests_in came) (answers_in came) → HaveRun m old now (requests_in (came ++ c ∷ [])) (answers_in (came ++ c ∷ []))
     by_none came c no_request no_answer same ran =
         rw (requests_more came c, answers_more came c, no_request, no_answer, append-nil (requests_in came), append-nil (answers_in came))
         (kept (requests_in came) (answers_in came) same ran)
 
-    ran_more : (came : List (Option Outcome)) (c : Option Outcome) → HaveRun m old was (requests_in came) (answers_in came)
+    ran_more : (came : List (Option ExchangeOutcome)) (c : Option ExchangeOutcome) → HaveRun m old was (requests_in came) (answers_in came)
         → Leaves (now ≡ was) (IsHandled m was now) c → HaveRun m old now (requests_in (came ++ c ∷ [])) (answers_in (came ++ c ∷ []))
     ran_more came (Some (Answered request answer)) ran handled =
         rw (requests_more came (Some (Answered request answer)), answers_more came (Some (Answered request answer)))
@@ -105,7 +106,7 @@ module _ {X : Type 0} (m : Meaning X) where
     ran_more came None ran same = by_none came None refl refl same ran
 
   -- one more
-  module _ (old was now : X) (results : List (Result ℕ HttpFault)) (r : Result ℕ HttpFault)
+  module _ (old was now : X) (results : List (Result Served HttpFault)) (r : Result Served HttpFault)
       (so_far : HaveExchanged m old was results) (step : IsExchanged (now ≡ was) (IsHandled m was now) r) where
     pub next_exchanged : HaveExchanged m old now (results ++ r ∷ [])
     next_exchanged = record {

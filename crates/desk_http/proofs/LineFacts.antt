@@ -10,6 +10,7 @@ use Rattle.streams.specs.declared.counted.Counted.{Counted}
 use Rattle.streams.specs.declared.whole.WriteFailed.{WriteFailed}
 use Rattle.desk_http.specs.Lines.{line_of, lines_of, IsCut, IsPut, IsWhole}
 use Rattle.desk_http.specs.declared.fault.HttpFault.{HttpFault}
+use Rattle.desk_http.specs.declared.served.Served.{Served}
 
 -- the first items of two lists, where these are all of the first list and some of the second
 take_both : (xs ys : List ℕ) (n : ℕ) → take (length xs + n) (xs ++ ys) ≡ xs ++ take n ys
@@ -61,6 +62,6 @@ module _ {O : Type 0} (contents : O → Option (List ℕ)) where
   cut_of_more old new xs ys cut = (part_of_more (contents old.inner) (contents new.inner) xs ys cut.0, cut.1)
 
 -- the lines of one exchange more
-pub lines_more : (results : List (Result ℕ HttpFault)) (r : Result ℕ HttpFault) → lines_of (results ++ r ∷ []) ≡ lines_of results ++ line_of r
+pub lines_more : (results : List (Result Served HttpFault)) (r : Result Served HttpFault) → lines_of (results ++ r ∷ []) ≡ lines_of results ++ line_of r
 lines_more [] r = append-nil (line_of r)
 lines_more (x ∷ results) r = ap (λ t. line_of x ++ t) (lines_more results r) ∙ sym (append_assoc (line_of x) (lines_of results) (line_of r))

@@ -8,6 +8,7 @@ use Rattle.desk_http.specs.Lines.{line_of, lines_of, IsCut, IsWhole}
 use Rattle.desk_http.specs.Listening.{Listening, AreServedOver, AreServedWith, HaveServed, IsNext, IsOver}
 use Rattle.desk_http.specs.Served.{IsServed, ReadCounts, TellCounts}
 use Rattle.desk_http.specs.declared.listener.Stream.{Stream}
+use Rattle.desk_http.specs.declared.served.Served.{Served}
 use Rattle.streams.specs.declared.whole.WriteFailed.{WriteFailed}
 use Rattle.streams.specs.declared.counted.Counted.{Counted}
 use Rattle.desk_http.proofs.ExchangedFacts.{exchanged, not_begun, none_exchanged, next_exchanged}
@@ -16,7 +17,7 @@ use Rattle.desk_http.proofs.LineFacts.{lines_more, put_none, whole_then}
 module _ {N Reader Writer X : Type 0} (l : Listening N Reader Writer)
     (remaining : Reader → Option (List ℕ)) (contents : Writer → Option (List ℕ)) (m : Meaning X) where
   -- an exchange by a reader and a writer that were new
-  module _ (before after : N) (old new : X) (result : Result ℕ HttpFault) (stream : Stream Reader Writer)
+  module _ (before after : N) (old new : X) (result : Result Served HttpFault) (stream : Stream Reader Writer)
       (first reader : Counted Reader) (blank writer : Counted Writer) where
     pub is_over : first.inner ≡ stream.reader → first.calls ≡ 0 → first.faults ≡ 0 → blank.inner ≡ stream.writer → blank.faults ≡ 0
         → IsServed (new ≡ old) (IsHandled m old new) (remaining first.inner) (remaining reader.inner) (contents blank.inner) (contents writer.inner) result
@@ -35,16 +36,16 @@ module _ {N Reader Writer X : Type 0} (l : Listening N Reader Writer)
     }
 
   -- what came of the next exchange
-  next_came : (before after : N) (old new : X) (r : Result ℕ HttpFault) → IsNext l remaining contents m before after old new r
+  next_came : (before after : N) (old new : X) (r : Result Served HttpFault) → IsNext l remaining contents m before after old new r
       → IsExchanged (new ≡ old) (IsHandled m old new) r
   next_came before after old new r (inl (between, stream, handed, over)) =
       exchanged (new ≡ old) (IsHandled m old new) _ _ _ _ r over.served
   next_came before after old new r (inr (e, handed, is, same)) =
-      subst (λ (x : Result ℕ HttpFault). IsExchanged (new ≡ old) (IsHandled m old new) x) (sym is)
+      subst (λ (x : Result Served HttpFault). IsExchanged (new ≡ old) (IsHandled m old new) x) (sym is)
       (not_begun (new ≡ old) (IsHandled m old new) same)
 
   -- one more
-  over_more : (results : List (Result ℕ HttpFault)) (before between after : N) (old was new : X) (r : Result ℕ HttpFault)
+  over_more : (results : List (Result Served HttpFault)) (before between after : N) (old was new : X) (r : Result Served HttpFault)
       → AreServedOver l remaining contents m before between old was results → IsNext l remaining contents m between after was new r
       → AreServedOver l remaining contents m before after old new (results ++ r ∷ [])
   over_more [] before between after old was new r over next = (
@@ -60,7 +61,7 @@ module _ {N Reader Writer X : Type 0} (l : Listening N Reader Writer)
   -- so many exchanges, with a line for each
   module _ {O : Type 0} (holds : O → Option (List ℕ)) where
     pub record Lined (before now : N) (old current : X) (output wrote : Counted O) (count : ℕ) : Type 0 where
-      pub results : List (Result ℕ HttpFault)
+      pub results : List (Result Served HttpFault)
       pub served : HaveServed l remaining contents m before now old current results
       pub count_is : length results ≡ count
       pub lined : IsWhole holds output wrote (lines_of results)
@@ -73,7 +74,7 @@ module _ {N Reader Writer X : Type 0} (l : Listening N Reader Writer)
       lined = put_none holds o;
     }
 
-    module _ (before between after : N) (old was new : X) (output wrote : Counted O) (count : ℕ) (r : Result ℕ HttpFault)
+    module _ (before between after : N) (old was new : X) (output wrote : Counted O) (count : ℕ) (r : Result Served HttpFault)
         (p : Lined before between old was output wrote count) (next : IsNext l remaining contents m between after was new r) where
       next_served : HaveServed l remaining contents m before after old new (p.results ++ r ∷ [])
       next_served = record {

@@ -13,11 +13,12 @@ use Rattle.http_requests.proofs.ExchangeFacts.{exchange_stays}
 use Rattle.desk_http.specs.Served.{HasOutcome, HasOutcomeOf, IsServed, IsServedAs, IsServedOf, LeftByOne, StaysWhole}
 use Rattle.desk_http.specs.declared.fault.HttpFault.{HttpFault}
 use Rattle.desk_http.specs.declared.fault.HttpFault.TheVariants as fault
-use Rattle.desk_http.specs.declared.outcome.Outcome.{Outcome}
-use Rattle.desk_http.specs.declared.outcome.Outcome.TheVariants.{Refused, NoMemory, Answered}
+use Rattle.desk_http.specs.declared.outcome.ExchangeOutcome.{ExchangeOutcome}
+use Rattle.desk_http.specs.declared.outcome.ExchangeOutcome.TheVariants.{Refused, NoMemory, Answered}
+use Rattle.desk_http.specs.declared.served.Served.{Served}
 
 -- by what follows from an outcome
-served_as : (Has Then : Result Outcome HttpFault → Type 0) → ((r : Result Outcome HttpFault) → Has r → Then r) → (before after : Option (List ℕ)) (result : Result ℕ HttpFault)
+served_as : (Has Then : Result ExchangeOutcome HttpFault → Type 0) → ((r : Result ExchangeOutcome HttpFault) → Has r → Then r) → (before after : Option (List ℕ)) (result : Result Served HttpFault)
     → IsServedAs Has before after result → IsServedAs Then before after result
 served_as Has Then on before after result (inl (e, is, has, same)) = inl (e, is, on (Err e) has, same)
 served_as Has Then on before after result (inr (outcome, has, told)) = inr (outcome, on (Ok outcome) has, told)
@@ -33,7 +34,7 @@ ends_whole input left (bytes, is, come) none =
     subst (λ (all : List ℕ). IsExchange all ended) (sym (is ∙ ap (λ more. bytes ++ more) none ∙ append-nil bytes)) come
 
 module _ (Same : Type 0) (Handled : Request → Answer → Type 0) where
-  outcome_whole : (input : List ℕ) (rest : Option (List ℕ)) (r : Result Outcome HttpFault) → HasOutcome Same Handled (Some input) rest r → HasOutcomeOf Same Handled input r
+  outcome_whole : (input : List ℕ) (rest : Option (List ℕ)) (r : Result ExchangeOutcome HttpFault) → HasOutcome Same Handled (Some input) rest r → HasOutcomeOf Same Handled input r
   outcome_whole input (Some left) (Ok (Refused why)) has = (comes_whole input left (refused why) has.0 (λ e. cc), has.1)
   outcome_whole input (Some left) (Ok (Answered request answer)) has = (comes_whole input left (asks (plain request)) has.0 (λ e. cc), has.1)
   outcome_whole input (Some left) (Err fault.Ended) has = (ends_whole input left has.0 has.1, has.2)
@@ -51,7 +52,7 @@ module _ (Same : Type 0) (Handled : Request → Answer → Type 0) where
   outcome_whole input None (Err (fault.Write status)) has = has
   outcome_whole input None (Err (fault.NoMemory status)) has = has
 
-  pub served_whole : (unread rest before after : Option (List ℕ)) (result : Result ℕ HttpFault) → IsServed Same Handled unread rest before after result
+  pub served_whole : (unread rest before after : Option (List ℕ)) (result : Result Served HttpFault) → IsServed Same Handled unread rest before after result
       → IsServedOf Same Handled unread before after result
   served_whole None rest before after result served = tt
   served_whole (Some input) rest before after result served =
@@ -75,7 +76,7 @@ module _ {X : Type 0} (m : Meaning X) (old new : X) (h : History) (office : m.is
   }
 
   module _ (unread rest : Option (List ℕ)) where
-    outcome_left : (r : Result Outcome HttpFault) → HasOutcome (new ≡ old) (IsHandled m old new) unread rest r
+    outcome_left : (r : Result ExchangeOutcome HttpFault) → HasOutcome (new ≡ old) (IsHandled m old new) unread rest r
         → HasOutcome (StaysWhole m h old new) (LeftByOne m h old new) unread rest r
     outcome_left (Ok (Refused why)) has = (has.0, stays_whole has.1)
     outcome_left (Ok (Answered request answer)) has = (has.0, left_by request answer has.1)
@@ -86,7 +87,7 @@ module _ {X : Type 0} (m : Meaning X) (old new : X) (h : History) (office : m.is
     outcome_left (Err (fault.Write status)) has = has
     outcome_left (Err (fault.NoMemory status)) has = has
 
-    pub served_left : (before after : Option (List ℕ)) (result : Result ℕ HttpFault) → IsServed (new ≡ old) (IsHandled m old new) unread rest before after result
+    pub served_left : (before after : Option (List ℕ)) (result : Result Served HttpFault) → IsServed (new ≡ old) (IsHandled m old new) unread rest before after result
         → IsServed (StaysWhole m h old new) (LeftByOne m h old new) unread rest before after result
     served_left before after result served =
         served_as (HasOutcome (new ≡ old) (IsHandled m old new) unread rest) (HasOutcome (StaysWhole m h old new) (LeftByOne m h old new) unread rest)

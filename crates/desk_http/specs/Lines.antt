@@ -7,14 +7,15 @@ use Rattle.streams.specs.declared.counted.Counted.{Counted}
 use Rattle.streams.specs.declared.whole.WriteFailed.{WriteFailed}
 use Rattle.desk_http.specs.Faults.{fault_word}
 use Rattle.desk_http.specs.declared.fault.HttpFault.{HttpFault}
+use Rattle.desk_http.specs.declared.served.Served.{Served}
 
 -- the line that tells an exchange: its status, or its fault
-abbrev pub line_of : Result ℕ HttpFault → List ℕ
-line_of (Ok status) = decimal status ++ codes "\n"
+abbrev pub line_of : Result Served HttpFault → List ℕ
+line_of (Ok served) = decimal served.status ++ codes "\n"
 line_of (Err e) = codes "fault " ++ fault_word e ++ codes "\n"
 
 -- the lines that tell some
-abbrev pub lines_of : List (Result ℕ HttpFault) → List ℕ
+abbrev pub lines_of : List (Result Served HttpFault) → List ℕ
 lines_of [] = []
 lines_of (r ∷ results) = line_of r ++ lines_of results
 
@@ -36,10 +37,10 @@ module _ {O : Type 0} (contents : O → Option (List ℕ)) where
 
   -- just the lines of these exchanges were written; or those before the last, and of the last a
   -- front part
-  abbrev pub AreLined : (old new : Counted O) → List (Result ℕ HttpFault)
+  abbrev pub AreLined : (old new : Counted O) → List (Result Served HttpFault)
       → Result (Unit {0}) WriteFailed → Type 0
   AreLined old new results (Ok done) = IsWhole old new (lines_of results)
   AreLined old new results (Err failed) =
-      (told : List (Result ℕ HttpFault)) × (last : Result ℕ HttpFault) × (between : Counted O)
+      (told : List (Result Served HttpFault)) × (last : Result Served HttpFault) × (between : Counted O)
       × (results ≡ told ++ last ∷ []) × IsWhole old between (lines_of told)
       × IsCut between new (line_of last)

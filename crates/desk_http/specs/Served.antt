@@ -13,26 +13,28 @@ use Rattle.streams.specs.Steps.{AppendsPart}
 use Rattle.json_requests.specs.Plain.{plain}
 use Rattle.http_requests.specs.Exchanges.{asks, refused, ended, IsExchange}
 use Rattle.http_requests.specs.Heard.{HasCome}
-use Rattle.desk_http.specs.Outcomes.{told, told_code}
+use Rattle.desk_http.specs.Outcomes.{told, told_as}
 use Rattle.desk_http.specs.declared.fault.HttpFault.{HttpFault}
 use Rattle.desk_http.specs.declared.fault.HttpFault.TheVariants as fault
-use Rattle.desk_http.specs.declared.outcome.Outcome.{Outcome}
-use Rattle.desk_http.specs.declared.outcome.Outcome.TheVariants.{Refused, NoMemory, Answered}
+use Rattle.desk_http.specs.declared.outcome.ExchangeOutcome.{ExchangeOutcome}
+use Rattle.desk_http.specs.declared.outcome.ExchangeOutcome.TheVariants.{Refused, NoMemory, Answered}
+use Rattle.desk_http.specs.declared.served.Served.{Served}
 
 -- the response is written whole; or the writer failed, and a part of it is; or there was no memory
 -- for it, and nothing is
-abbrev pub IsWritten : Option (List ℕ) → Option (List ℕ) → List ℕ → ℕ → Result ℕ HttpFault → Type 0
-IsWritten before after response code (Ok status) = (status ≡ code) × Appends before after response
-IsWritten before after response code (Err (fault.Write status)) =
-    (status ≡ code) × AppendsPart before after response
-IsWritten before after response code (Err (fault.NoMemory status)) =
-    (status ≡ code) × (after ≡ before)
-IsWritten before after response code (Err _) = ⊥
+abbrev pub IsWritten : Option (List ℕ) → Option (List ℕ) → List ℕ → Served → Result Served HttpFault
+    → Type 0
+IsWritten before after response meant (Ok served) = (served ≡ meant) × Appends before after response
+IsWritten before after response meant (Err (fault.Write status)) =
+    (status ≡ meant.status) × AppendsPart before after response
+IsWritten before after response meant (Err (fault.NoMemory status)) =
+    (status ≡ meant.status) × (after ≡ before)
+IsWritten before after response meant (Err _) = ⊥
 
--- so is the response to it, with its status
-abbrev pub IsTold : Option (List ℕ) → Option (List ℕ) → Outcome → Result ℕ HttpFault → Type 0
+-- so is the response to it, with its status and whether bytes of the request may still come
+abbrev pub IsTold : Option (List ℕ) → Option (List ℕ) → ExchangeOutcome → Result Served HttpFault → Type 0
 IsTold before after outcome result =
-    IsWritten before after (told outcome) (told_code outcome) result
+    IsWritten before after (told outcome) (told_as outcome) result
 
 -- where nothing was handled this is `Same`, and where a request was handled with an answer it is
 -- `Handled` of these two
@@ -40,7 +42,7 @@ module _ (Same : Type 0) (Handled : Request → Answer → Type 0) where
   -- what was read of the stream is refused so; or it asks this request, which was handled with this
   -- answer; or it is too little, and the stream ended, or couldn't be read on; where it is out of
   -- memory, it is only said that nothing was handled
-  abbrev pub HasOutcome : Option (List ℕ) → Option (List ℕ) → Result Outcome HttpFault → Type 0
+  abbrev pub HasOutcome : Option (List ℕ) → Option (List ℕ) → Result ExchangeOutcome HttpFault → Type 0
   HasOutcome unread rest (Ok (Refused why)) = HasCome unread rest IsExchange (refused why) × Same
   HasOutcome unread rest (Ok (Answered request answer)) =
       HasCome unread rest IsExchange (asks (plain request)) × Handled request answer
@@ -53,7 +55,7 @@ module _ (Same : Type 0) (Handled : Request → Answer → Type 0) where
 
   -- the same by the whole stream: it is refused so, or asks this request, or ends too soon,
   -- whatever was read of it
-  abbrev pub HasOutcomeOf : List ℕ → Result Outcome HttpFault → Type 0
+  abbrev pub HasOutcomeOf : List ℕ → Result ExchangeOutcome HttpFault → Type 0
   HasOutcomeOf input (Ok (Refused why)) = IsExchange input (refused why) × Same
   HasOutcomeOf input (Ok (Answered request answer)) =
       IsExchange input (asks (plain request)) × Handled request answer
@@ -64,20 +66,20 @@ module _ (Same : Type 0) (Handled : Request → Answer → Type 0) where
   HasOutcomeOf input (Err _) = ⊥
 
 -- there is no outcome, and nothing was written; or there is one, and it is answered
-abbrev pub IsServedAs : (Has : Result Outcome HttpFault → Type 0)
-    → (before after : Option (List ℕ)) → Result ℕ HttpFault → Type 0
+abbrev pub IsServedAs : (Has : Result ExchangeOutcome HttpFault → Type 0)
+    → (before after : Option (List ℕ)) → Result Served HttpFault → Type 0
 IsServedAs Has before after result =
     ((e : HttpFault) × (result ≡ Err e) × Has (Err e) × (after ≡ before))
-    ⊎ ((outcome : Outcome) × Has (Ok outcome) × IsTold before after outcome result)
+    ⊎ ((outcome : ExchangeOutcome) × Has (Ok outcome) × IsTold before after outcome result)
 
 module _ (Same : Type 0) (Handled : Request → Answer → Type 0) where
   -- so by what was read of a stream
-  abbrev pub IsServed : (unread rest before after : Option (List ℕ)) → Result ℕ HttpFault → Type 0
+  abbrev pub IsServed : (unread rest before after : Option (List ℕ)) → Result Served HttpFault → Type 0
   IsServed unread rest before after result =
       IsServedAs (HasOutcome Same Handled unread rest) before after result
 
   -- and so by the whole stream, where that is known
-  abbrev pub IsServedOf : (unread before after : Option (List ℕ)) → Result ℕ HttpFault → Type 0
+  abbrev pub IsServedOf : (unread before after : Option (List ℕ)) → Result Served HttpFault → Type 0
   IsServedOf unread before after result =
       IfSome unread (λ input. IsServedAs (HasOutcomeOf Same Handled input) before after result)
 
@@ -98,7 +100,7 @@ module _ {X : Type 0} (m : Meaning X) (h : History) (old new : X) where
         → AreLeft m (history_after h request answer) (request ∷ []) (answer ∷ []) left
 
 -- only where the writer failed is there one fault more
-abbrev pub TellCounts : ℕ → ℕ → Result ℕ HttpFault → Type 0
+abbrev pub TellCounts : ℕ → ℕ → Result Served HttpFault → Type 0
 TellCounts old new (Err (fault.Write status)) = new ≡ one_more old
 TellCounts old new _ = new ≡ old
 

@@ -3,6 +3,7 @@
 use crate::clock::PassClock;
 use crate::deadline::Deadline;
 use crate::fault::HttpFault;
+use crate::served::Served;
 use crate::timed::Timed;
 use std::io::Read;
 use std::net::{Shutdown, TcpStream};
@@ -13,11 +14,6 @@ const LONGEST: u64 = 1;
 
 // How often.
 const MOST_READS: u32 = 10_000;
-
-// Whether a request was refused before its body was read.
-fn is_refused_unread(served: Result<u16, HttpFault>) -> bool {
-    matches!(served, Ok(400 | 404 | 405 | 413))
-}
 
 // Says that the response has ended, and takes what the client still sends.
 fn take_rest<C: PassClock>(clock: &C, stream: TcpStream) {
@@ -37,14 +33,17 @@ fn take_rest<C: PassClock>(clock: &C, stream: TcpStream) {
     }
 }
 
-/// Ends an exchange whose request was refused unread. Were the connection closed over unread bytes,
-/// it would be reset, and the client might lose the response (RFC 9112, section 9.6).
+/// Ends an exchange of whose request bytes may still come. Were the connection closed over unread
+/// bytes, it would be reset, and the client might lose the response (RFC 9112, section 9.6).
 pub(crate) fn end_exchange<C: PassClock>(
     clock: &C,
     stream: TcpStream,
-    served: Result<u16, HttpFault>,
+    served: Result<Served, HttpFault>,
 ) {
-    if is_refused_unread(served) {
+    let Ok(served) = served else {
+        return;
+    };
+    if served.is_unread {
         take_rest(clock, stream);
     }
 }

@@ -3,6 +3,7 @@
 ghost use Rattle.desk_http.specs.Listening.{Listening};
 
 use crate::fault::HttpFault;
+use crate::served::Served;
 use std::io;
 use std::io::{Read, Write};
 use streams::Counted;
@@ -40,7 +41,7 @@ pub trait Listener {
         &mut self,
         reader: Counted<Self::Reader>,
         writer: Counted<Self::Writer>,
-        served: Result<u16, HttpFault>,
+        served: Result<Served, HttpFault>,
     )
         ensures { meaning.takes_back self.old self.new reader writer served };
 }

@@ -4,6 +4,7 @@ ghost use Rattle.std.specs.Prelude.{◌≡◌, ◌≤◌, ◌<◌, ◌-◌, ◌^
 ghost use Rattle.office_policy.specs.Handled.{IsHandled};
 
 use crate::fault::HttpFault;
+use crate::served::Served;
 use http_requests::{OfficeRouter, Refusal, Status, Unheard, answer_status, hear};
 use office_policy::Handler;
 use review_policy::{Answer, Request};
@@ -13,7 +14,7 @@ use streams::{Counted, Unread};
 
 /// What came of an exchange.
 #[derive(Debug, Drop)]
-pub enum Outcome {
+pub enum ExchangeOutcome {
     /// What came is no request.
     Refused(Refusal),
     /// There was no memory to read it. No contract can say when.
@@ -22,8 +23,8 @@ pub enum Outcome {
     Answered { request: Request, answer: Answer },
 }
 
-impl Outcome {
-    ghost use Rattle.desk_http.specs.Outcomes.{told_status};
+impl ExchangeOutcome {
+    ghost use Rattle.desk_http.specs.Outcomes.{is_unread, told_as, told_status};
     ghost use Rattle.desk_http.specs.Served.{HasOutcome, ReadCounts};
 
     // Hears the request that a stream begins with, and handles it.
@@ -33,7 +34,7 @@ impl Outcome {
         router: &OfficeRouter,
         reader: &mut Counted<R>,
         most_calls: u64,
-    ) -> Result<Outcome, HttpFault>
+    ) -> Result<ExchangeOutcome, HttpFault>
         requires countable { most_calls < 2 ^ 64 - 1 }
         requires calls { reader.old.calls ≤ most_calls }
         ensures outcome { HasOutcome (office.new ≡ office.old)
@@ -46,13 +47,13 @@ impl Outcome {
         match hear(alloc, router, reader, most_calls) {
             Ok(request) => {
                 let answer = office.handle(alloc, &request);
-                Ok(Outcome::Answered { request, answer })
+                Ok(ExchangeOutcome::Answered { request, answer })
             }
-            Err(Unheard::Refused(refusal)) => Ok(Outcome::Refused(refusal)),
+            Err(Unheard::Refused(refusal)) => Ok(ExchangeOutcome::Refused(refusal)),
             Err(Unheard::Ended) => Err(HttpFault::Ended),
             Err(Unheard::Unread(Unread::Failed)) => Err(HttpFault::Read),
             Err(Unheard::Unread(Unread::TooManyReads)) => Err(HttpFault::TooManyReads),
-            Err(Unheard::Unread(Unread::NoMemory)) => Ok(Outcome::NoMemory),
+            Err(Unheard::Unread(Unread::NoMemory)) => Ok(ExchangeOutcome::NoMemory),
         }
     }
 
@@ -61,9 +62,30 @@ impl Outcome {
         ensures { result ≡ told_status self.now }
     {
         match self {
-            Outcome::Refused(refusal) => refusal.status(),
-            Outcome::NoMemory => Status::ServiceUnavailable,
-            Outcome::Answered { request: _, answer } => answer_status(answer),
+            ExchangeOutcome::Refused(refusal) => refusal.status(),
+            ExchangeOutcome::NoMemory => Status::ServiceUnavailable,
+            ExchangeOutcome::Answered { request: _, answer } => answer_status(answer),
+        }
+    }
+    // Whether bytes of the request may still come. Of one that was refused by its head nothing more
+    // is read, and nobody knows how far one was read for which there was no memory.
+    fn is_unread(&self) -> bool
+        ensures { result ≡ is_unread self.now }
+    {
+        match self {
+            ExchangeOutcome::Refused(Refusal::NotARequest) | ExchangeOutcome::Answered { .. } =>
+                false,
+            ExchangeOutcome::Refused(_) | ExchangeOutcome::NoMemory => true,
+        }
+    }
+
+    // What an exchange comes to in which it is reported.
+    pub(crate) fn served(&self) -> Served
+        ensures { result ≡ told_as self.now }
+    {
+        Served {
+            status: self.status().code(),
+            is_unread: self.is_unread(),
         }
     }
 }

@@ -7,7 +7,8 @@ ghost use Rattle.desk_http.specs.Served.{IsServed, IsServedOf, IsTold, IsWritten
 ghost use Rattle.desk_http.specs.Served.{ReadCounts, StaysWhole, TellCounts};
 
 use crate::fault::HttpFault;
-use crate::outcome::Outcome;
+use crate::outcome::ExchangeOutcome;
+use crate::served::Served;
 use http_requests::{OfficeRouter, answer_response, memory_response, refusal_response};
 use office_policy::Handler;
 use std::alloc::Global;
@@ -17,41 +18,43 @@ use streams::{Counted, write_whole};
 /// How often the reader of an exchange may be called.
 pub const MAX_READS: u64 = 600_000;
 
-// Writes a response, and gives its status.
+// Writes a response, which is to come to this.
 fn write_response<W: Write>(
     writer: &mut Counted<W>,
     text: &str,
-    status: u16,
-) -> Result<u16, HttpFault>
+    served: Served,
+) -> Result<Served, HttpFault>
     ensures written { IsWritten (W.contents writer.old.inner) (W.contents writer.new.inner)
-        text.now status result }
+        text.now served result }
     ensures faults { TellCounts writer.old.faults writer.new.faults result }
 {
+    let status = served.status;
     match write_whole(writer, text.as_bytes()) {
-        Ok(()) => Ok(status),
+        Ok(()) => Ok(served),
         Err(_) => Err(HttpFault::Write { status }),
     }
 }
 
-// Writes the response that reports an outcome, and gives its status.
+// Writes the response that reports an outcome.
 fn tell<W: Write>(
     alloc: Global,
-    outcome: &Outcome,
+    outcome: &ExchangeOutcome,
     writer: &mut Counted<W>,
-) -> Result<u16, HttpFault>
+) -> Result<Served, HttpFault>
     ensures told { IsTold (W.contents writer.old.inner) (W.contents writer.new.inner)
         outcome.now result }
     ensures faults { TellCounts writer.old.faults writer.new.faults result }
 {
     let status = outcome.status();
-    let code = status.code();
+    let served = outcome.served();
+    let code = served.status;
     let text = match outcome {
-        Outcome::NoMemory => return write_response(writer, memory_response(), code),
-        Outcome::Refused(why) => refusal_response(alloc, status, why.word()),
-        Outcome::Answered { request: _, answer } => answer_response(alloc, status, answer),
+        ExchangeOutcome::NoMemory => return write_response(writer, memory_response(), served),
+        ExchangeOutcome::Refused(why) => refusal_response(alloc, status, why.word()),
+        ExchangeOutcome::Answered { request: _, answer } => answer_response(alloc, status, answer),
     };
     match text {
-        Ok(text) => write_response(writer, &text, code),
+        Ok(text) => write_response(writer, &text, served),
         Err(_) => Err(HttpFault::NoMemory { status: code }),
     }
 }
@@ -63,7 +66,7 @@ fn exchange<H: Handler, R: Read, W: Write>(
     router: &OfficeRouter,
     reader: &mut Counted<R>,
     writer: &mut Counted<W>,
-) -> Result<u16, HttpFault>
+) -> Result<Served, HttpFault>
     requires reads { reader.old.calls ≤ 2 ^ 62 }
     ensures served { IsServed (office.new ≡ office.old)
         (IsHandled H.meaning office.old office.new)
@@ -75,12 +78,13 @@ fn exchange<H: Handler, R: Read, W: Write>(
     ensures write { TellCounts writer.old.faults writer.new.faults result }
 {
     let most_calls = reader.calls() + MAX_READS;
-    let outcome = Outcome::of_stream(office, alloc, router, reader, most_calls)?;
+    let outcome = ExchangeOutcome::of_stream(office, alloc, router, reader, most_calls)?;
     tell(alloc, &outcome, writer)
 }
 
 /// Hears the request that a stream begins with, handles it and writes the response, of which the
-/// status is given. The connection is closed afterwards.
+/// status is given, and whether bytes of the request may still come. The connection is closed
+/// afterwards.
 ///
 /// A head that is refused, is so whatever follows it. Out of memory before the request is handled
 /// is answered by that fault and changes nothing.
@@ -98,7 +102,7 @@ pub fn serve_one<H: Handler, R: Read, W: Write>(
     router: &OfficeRouter,
     reader: &mut Counted<R>,
     writer: &mut Counted<W>,
-) -> Result<u16, HttpFault>
+) -> Result<Served, HttpFault>
     requires reads { reader.old.calls ≤ 2 ^ 62 }
     requires read_faults { reader.old.faults ≤ 2 ^ 62 }
     requires write_faults { writer.old.faults ≤ 2 ^ 62 }

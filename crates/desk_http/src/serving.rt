@@ -5,6 +5,7 @@ ghost use Rattle.desk_http.specs.Listening.{AreServedWith, IsNext, IsOver};
 use crate::fault::HttpFault;
 use crate::listener::{Listener, Stream};
 use crate::serve::serve_one;
+use crate::served::Served;
 use crate::tell::tell;
 use http_requests::OfficeRouter;
 use office_policy::Handler;
@@ -19,7 +20,7 @@ fn serve_stream<H: Handler, L: Listener>(
     router: &OfficeRouter,
     listener: &mut L,
     stream: Stream<L::Reader, L::Writer>,
-) -> Result<u16, HttpFault>
+) -> Result<Served, HttpFault>
     ensures { IsOver L.meaning L.Reader.remaining L.Writer.contents H.meaning
         listener.old listener.new office.old office.new result stream }
 {
@@ -36,7 +37,7 @@ fn serve_next<H: Handler, L: Listener>(
     alloc: Global,
     router: &OfficeRouter,
     listener: &mut L,
-) -> Result<u16, HttpFault>
+) -> Result<Served, HttpFault>
     ensures { IsNext L.meaning L.Reader.remaining L.Writer.contents H.meaning
         listener.old listener.new office.old office.new result }
 {

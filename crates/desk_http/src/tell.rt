@@ -4,6 +4,7 @@ ghost use Rattle.std.specs.Prelude.{◌++◌, codes};
 ghost use Rattle.desk_http.specs.Lines.{line_of, IsPut};
 
 use crate::fault::HttpFault;
+use crate::served::Served;
 use itoa::Buffer;
 use std::io::Write;
 use streams::{Counted, WriteFailed, write_whole};
@@ -39,14 +40,14 @@ fn put_fault<O: Write>(output: &mut Counted<O>, word: &str) -> Result<(), WriteF
 /// Writes the line that reports an exchange.
 pub(crate) fn tell<O: Write>(
     output: &mut Counted<O>,
-    served: Result<u16, HttpFault>,
+    served: Result<Served, HttpFault>,
 ) -> Result<(), WriteFailed>
     ensures { IsPut O.contents output.old output.new (line_of served) result }
 {
     match served {
-        Ok(status) => {
+        Ok(served) => {
             let mut digits = Buffer::new();
-            put_line(output, digits.format(status))
+            put_line(output, digits.format(served.status))
         }
         Err(fault) => put_fault(output, fault.word()),
     }

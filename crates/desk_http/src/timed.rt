@@ -88,10 +88,7 @@ impl<C: PassClock, T: PassRead + Timeouts> Read for Timed<'_, C, T> {
             (T.read_waits self.old.stream)
             (λ read. T.gives self.old.stream self.new.stream read buf.new) result }
     {
-        let left = match self.deadline.left() {
-            Ok(left) => left,
-            Err(error) => return Err(error),
-        };
+        let left = self.deadline.left()?;
         match self.stream.set_read_timeout(left) {
             Ok(()) => self.stream.pass_read(buf),
             Err(error) => Err(error),
@@ -110,10 +107,7 @@ impl<C: PassClock, T: PassWrite + Timeouts> Write for Timed<'_, C, T> {
             (T.write_waits self.old.stream)
             (λ wrote. T.takes self.old.stream self.new.stream wrote buf.now) result }
     {
-        let left = match self.deadline.left() {
-            Ok(left) => left,
-            Err(error) => return Err(error),
-        };
+        let left = self.deadline.left()?;
         match self.stream.set_write_timeout(left) {
             Ok(()) => self.stream.pass_write(buf),
             Err(error) => Err(error),

@@ -7,6 +7,7 @@ use crate::deadline::Deadline;
 use crate::ending::end_exchange;
 use crate::fault::HttpFault;
 use crate::listener::{Listener, Stream};
+use crate::served::Served;
 use crate::timed::Timed;
 use std::io;
 use std::net::{TcpListener, TcpStream};
@@ -46,18 +47,9 @@ impl<'c, C: PassClock> Listener for TimedListener<'c, C> {
     ghost meaning = { lasting C.shows };
 
     fn accept(&mut self) -> io::Result<Stream<Timed<'c, C, TcpStream>, Timed<'c, C, TcpStream>>> {
-        let (stream, _) = match self.listener.accept() {
-            Ok(accepted) => accepted,
-            Err(error) => return Err(error),
-        };
-        let deadline = match Deadline::after(self.clock, self.longest) {
-            Ok(deadline) => deadline,
-            Err(error) => return Err(error),
-        };
-        let again = match stream.try_clone() {
-            Ok(again) => again,
-            Err(error) => return Err(error),
-        };
+        let (stream, _) = self.listener.accept()?;
+        let deadline = Deadline::after(self.clock, self.longest)?;
+        let again = stream.try_clone()?;
         Ok(Stream {
             reader: Timed::new(stream, &deadline),
             writer: Timed::new(again, &deadline),
@@ -68,7 +60,7 @@ impl<'c, C: PassClock> Listener for TimedListener<'c, C> {
         &mut self,
         reader: Counted<Timed<'c, C, TcpStream>>,
         writer: Counted<Timed<'c, C, TcpStream>>,
-        served: Result<u16, HttpFault>,
+        served: Result<Served, HttpFault>,
     )
         ensures { self.new ≡ self.old }
     {

@@ -60,7 +60,7 @@ pub fn refusal_response(alloc: Global, status: Status, word: &str) -> Result<Str
 /// be no memory to make it.
 #[tactic(auto, unfolding(crate::proofs::OnLiterals::response_on_literals))]
 pub fn memory_response() -> &'static str
-    ensures { result.now ≡ response_to (Answer.Fault Fault.Memory) }
+    ensures { result.now ≡ response_to (Answer.Fault Fault.NoMemory) }
 {
     "HTTP/1.1 503 Service Unavailable\r\n\
      Content-Type: application/json\r\n\

@@ -27,14 +27,15 @@ pub(crate) fn range_implies(first: u64, last: u64, other: Compare) -> bool
 {
     match other.op {
         Op::NotEqual => other.value < first || last < other.value,
-        Op::MaskedEqual => other.admits(first) && agree_under(other.value, first, last),
+        Op::MaskedEqual => other.admits(first)
+            && interval_agrees_under_mask(other.value, first, last),
         _ => other.admits(first) && other.admits(last),
     }
 }
 
 // Whether all words from one to another are alike in the bits of a mask: in its lowest bit and all
 // bits above that.
-fn agree_under(mask: u64, first: u64, last: u64) -> bool
+fn interval_agrees_under_mask(mask: u64, first: u64, last: u64) -> bool
     requires { first ≤ last }
     ensures { MatchBool result (AllAgree mask first last) (SomeDiffers mask first last) }
 {

@@ -1,47 +1,25 @@
 -- An office that is built anew, event by event.
 use Rattle.std.proofs.Common.{◌≡◌, ◌∙◌, ◌⊎◌, inl, inr, ℕ, List, [], ◌∷◌, ◌++◌, Option, Some, None, Result, Ok, Err, false, refl, sym, ap, ap₂, subst, append-nil}
-use Rattle.std.specs.Prelude.{IsErrAnd, ⊤, option_map}
+use Rattle.std.specs.Prelude.{IsErrAnd, ⊤}
 use Rattle.office_policy.specs.History.{Event}
 use Rattle.office_policy.specs.Handled.{Stands}
 use Rattle.office_policy.specs.Lawful.{IsFounding, IsLawfulHistory}
 use Rattle.office_policy.specs.Meaning.{Meaning}
 use Rattle.office_desk.specs.Replayed.{HasHappened}
-use Rattle.journal_lines.specs.declared.events.Unreadable.{Unreadable}
-use Rattle.journal_lines.specs.declared.events.Unreadable.TheVariants as unreadable
-use Rattle.journal_lines.specs.Told.{GoesOn, IsOutside, Place, held_at, history_told, standing, start}
-use Rattle.journal_replay.specs.declared.fault.Refused.{Refused}
-use Rattle.journal_replay.specs.declared.fault.Why.{Why}
-use Rattle.journal_replay.specs.declared.fault.Why.TheVariants as halt
-use Rattle.journal_replay.specs.Rebuilt.{HasReplayed, line_behind}
-use Rattle.journal_replay.specs.Steps.{IsKeptOut as IsOut, IsLeft, IsLeftHeld, LeavesAt}
-use Rattle.journal_replay.proofs.Refusals.{held_there}
-use Rattle.journal_replay.proofs.Replays.{goes_then, more_lawful, more_stands}
-use Rattle.journal_rebuilding.specs.Rebuilding.{BuildsOn, ComesNext, IsBuiltTo, IsHalted, ends_there}
+use Rattle.journal.specs.declared.events.Unreadable.{Unreadable}
+use Rattle.journal.specs.declared.events.Unreadable.TheVariants as unreadable
+use Rattle.journal.specs.Told.{GoesOn, IsOutside, Place, held_at, history_told, standing, start}
+use Rattle.journal_office.specs.declared.refused.Refused.{Refused}
+use Rattle.journal_office.specs.declared.refused.Why.{Why}
+use Rattle.journal_office.specs.declared.refused.Why.TheVariants as halt
+use Rattle.journal_office.specs.Rebuilt.{HasReplayed, line_behind}
+use Rattle.journal_office.specs.Steps.{ComesNext, IsKeptOut as IsOut, IsLeft, IsLeftHeld, LeavesAt}
+use Rattle.journal_office.proofs.Comes.{held_stands, none_stands}
+use Rattle.journal_office.proofs.Replays.{goes_then, more_lawful, more_stands}
+use Rattle.journal_rebuilding.specs.Rebuilding.{BuildsOn, IsBuiltTo, IsHalted, ends_there}
 
 abbrev no_event : List (ℕ × Event)
 no_event = []
-
-abbrev numbered : ℕ → Event → ℕ × Event
-numbered number e = (number, e)
-
--- the event that is held back at a place stands there
-held_stands : (number : ℕ) (kept : Option Event) (placed : ℕ × Event) → Some placed ≡ option_map (numbered number) kept → standing number kept ≡ placed ∷ []
-held_stands number None placed is = absurd cc
-held_stands number (Some e) placed is =
-    let same : placed ≡ (number, e) = cc in
-    ap (λ (p : ℕ × Event). p ∷ []) (sym same)
-
-none_stands : (number : ℕ) (kept : Option Event) → None ≡ option_map (numbered number) kept → standing number kept ≡ []
-none_stands number None is = refl
-none_stands number (Some e) is = absurd cc
-
--- where the journal can't be read on, it comes next
-pub last_comes : (here after : Place) (line : ℕ) (w : Why) (placed : ℕ × Event) → IsLeft here after line w → Some placed ≡ held_at after → ComesNext here placed
-last_comes here after line (halt.Unread fault) placed at is =
-    inr (at.leaves.last, at.leaves.on, sym (is ∙ held_there after at.leaves.last at.leaves.taken at.leaves.held))
-last_comes here after line halt.NotFounded placed at is = absurd at
-last_comes here after line (halt.Unfounded fault) placed at is = absurd at
-last_comes here after line (halt.Unreplayed cause) placed at is = absurd at
 
 module _ {X : Type 0} (m : Meaning X) (bytes : Option (List ℕ)) where
   -- the next event doesn't happen again

@@ -1,5 +1,5 @@
 -- An office that is built anew as far as its journal can be read.
-use Rattle.std.specs.Prelude.{◌≡◌, ◌⊎◌, ◌+◌, ◌-◌, ◌^◌, ◌++◌, ◌∷◌, [], ℕ, min, Bool, true, false}
+use Rattle.std.specs.Prelude.{◌≡◌, ◌⊎◌, ◌+◌, ◌-◌, ◌^◌, ◌++◌, [], ℕ, min, Bool, true, false}
 use Rattle.std.specs.Prelude.{List, Option, Some, Result, Ok, Err, ⊤}
 use Rattle.sqlite.specs.Held.{Held, state}
 use Rattle.sqlite.specs.Store.{Ghosts}
@@ -11,15 +11,15 @@ use Rattle.office_policy.specs.Meaning.{Meaning}
 use Rattle.office_desk.specs.declared.replay.Unreplayed.{Unreplayed}
 use Rattle.office_desk.specs.Meant.{meaning_over}
 use Rattle.office_desk.specs.Replayed.{IsReplayed}
-use Rattle.journal_lines.specs.declared.events.Unreadable.{Unreadable}
-use Rattle.journal_lines.specs.declared.events.Unreadable.TheVariants as unreadable
-use Rattle.journal_lines.specs.Told.{CannotGoOn, GoesOn, IsOutside, Place, held_at, history_told}
-use Rattle.journal_lines.specs.Told.{standing, start}
-use Rattle.journal_replay.specs.declared.fault.Refused.{Refused}
-use Rattle.journal_replay.specs.declared.fault.Why.{Why}
-use Rattle.journal_replay.specs.declared.fault.Why.TheVariants as halt
-use Rattle.journal_replay.specs.Rebuilt.{HasReplayed, IsRebuilt, line_behind}
-use Rattle.journal_replay.specs.Steps.{IsUnbegun}
+use Rattle.journal.specs.declared.events.Unreadable.{Unreadable}
+use Rattle.journal.specs.declared.events.Unreadable.TheVariants as unreadable
+use Rattle.journal.specs.Told.{CannotGoOn, GoesOn, IsOutside, Place, history_told}
+use Rattle.journal.specs.Told.{standing, start}
+use Rattle.journal_office.specs.declared.refused.Refused.{Refused}
+use Rattle.journal_office.specs.declared.refused.Why.{Why}
+use Rattle.journal_office.specs.declared.refused.Why.TheVariants as halt
+use Rattle.journal_office.specs.Rebuilt.{HasReplayed, IsRebuilt, line_behind}
+use Rattle.journal_office.specs.Steps.{ComesNext, IsUnbegun}
 
 -- the journal ends before a line that can't be: it isn't that the input or memory failed, of which
 -- the line may be one that strikes out
@@ -27,13 +27,6 @@ abbrev pub ends_there : Why → Bool
 ends_there (halt.Unread unreadable.Read) = false
 ends_there (halt.Unread unreadable.NoMemory) = false
 ends_there _ = true
-
--- the event is the next one behind the place: it stands, or it is held back where the journal can't
--- be read on
-abbrev pub ComesNext : Place → (ℕ × Event) → Type 0
-ComesNext here placed =
-    ((behind : Place) × GoesOn here behind (placed ∷ []))
-    ⊎ ((last : Place) × GoesOn here last [] × (held_at last ≡ Some placed))
 
 -- of a journal with these bytes, where they are known, and the office that is left
 module _ (bytes : Option (List ℕ)) {X : Type 0} (m : Meaning X) (left : X) where

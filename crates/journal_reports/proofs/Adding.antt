@@ -7,7 +7,7 @@ use Rattle.review_policy.specs.Role.{has_role}
 use Rattle.review_policy.specs.WordTables.{role_word}
 use Rattle.review_policy.specs.declared.role.Role.{Role}
 use Rattle.review_sheet.specs.Layout.{spaced}
-use Rattle.journal_lines.specs.Lines.{words_among}
+use Rattle.journal.specs.Lines.{words_among}
 use Rattle.journal_reports.specs.Lines.{each_spaced}
 
 -- a part, and then another

@@ -9,7 +9,7 @@ use Rattle.profile_text.specs.Text.{put_if}
 use Rattle.review_policy.specs.declared.ask.ProfileName.{ProfileName}
 use Rattle.office_tables.specs.declared.row.RevisionRow.{RevisionRow}
 use Rattle.office_policy.specs.History.{Event, founded, enrolled, submitted, voted, issued, withdrawn, adopted, held, released}
-use Rattle.journal_lines.specs.Lines.{role_words}
+use Rattle.journal.specs.Lines.{role_words}
 use Rattle.journal_reports.specs.Json.{data_of, digest_found, json_of, profile_data, revision_data}
 
 no_float_texts : (texts : List (List ℕ)) → items_have_float (items_of (map string texts)) ≡ false

@@ -11,8 +11,8 @@ use Rattle.office_policy.specs.Revisions.{issues, revision_of, state_in}
 use Rattle.office_policy.proofs.LawFacts.{allowed_follows}
 use Rattle.office_policy.proofs.StateFacts.{both, same_profile}
 use Rattle.office_desk.specs.Looking.{HasLooked, sheet_at, sheet_text_of}
-use Rattle.journal_lines.specs.Told.{Place, history_told}
-use Rattle.journal_replay.specs.Rebuilt.{HasReplayed}
+use Rattle.journal.specs.Told.{Place, history_told}
+use Rattle.journal_office.specs.Rebuilt.{HasReplayed}
 use Rattle.journal_reports.specs.Evidence.{evidence_of, evidence_text, issuer_of}
 
 -- what has happened again has so still

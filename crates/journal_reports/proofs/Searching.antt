@@ -4,7 +4,7 @@ use Rattle.std.specs.Prelude.{IfSome, IsErrAnd, ◌||◌, option_and_then}
 use Rattle.std.specs.List.{list_any}
 use Rattle.sqlite.specs.Held.{Held}
 use Rattle.sqlite.specs.Store.{Ghosts}
-use Rattle.review_policy.specs.declared.answer.Fault.{Fault}
+use Rattle.review_policy.specs.declared.fault.Fault.{Fault}
 use Rattle.review_policy.specs.declared.ask.ProfileName.{ProfileName}
 use Rattle.office_policy.specs.History.{Event, founded, enrolled, submitted, voted, issued, withdrawn, adopted, held, released}
 use Rattle.office_policy.specs.Lawful.{IsAllowed, IsFounding}
@@ -13,14 +13,14 @@ use Rattle.office_policy.specs.Revisions.{issues}
 use Rattle.office_desk.specs.Looking.{HasLookedBack, sheet_at}
 use Rattle.office_desk.specs.Meant.{meaning_over}
 use Rattle.office_desk.specs.Replayed.{HasHappened}
-use Rattle.journal_lines.specs.Journal.{IsJournalOf}
-use Rattle.journal_lines.specs.Told.{Ends, GoesOn, Place, Tells, history_told, start}
-use Rattle.journal_lines.proofs.HistoryFacts.{journal_told}
-use Rattle.journal_replay.specs.declared.fault.Refused.{Refused}
-use Rattle.journal_replay.specs.Rebuilt.{HasReplayed}
-use Rattle.journal_replay.specs.Steps.{IsKeptOut, IsLeftBehind}
-use Rattle.journal_replay.proofs.Refusals.{kept_out, none_behind}
-use Rattle.journal_replay.proofs.Replays.{more, told_more}
+use Rattle.journal.specs.Journal.{IsJournalOf}
+use Rattle.journal.specs.Told.{Ends, GoesOn, Place, Tells, history_told, start}
+use Rattle.journal.proofs.HistoryFacts.{journal_told}
+use Rattle.journal_office.specs.declared.refused.Refused.{Refused}
+use Rattle.journal_office.specs.Rebuilt.{HasReplayed}
+use Rattle.journal_office.specs.Steps.{IsKeptOut, IsLeftBehind}
+use Rattle.journal_office.proofs.Refusals.{kept_out, none_behind}
+use Rattle.journal_office.proofs.Replays.{more, told_more}
 use Rattle.journal_reports.specs.declared.fault.NoEvidence.{NoEvidence}
 use Rattle.journal_reports.specs.declared.fault.NoEvidence.TheVariants as why
 use Rattle.journal_reports.specs.Evidence.{IsEvidence, IsNeverIssued, IsNoEvidence, evidence_of, evidence_text, issuer_of}

@@ -3,7 +3,7 @@ use Rattle.std.proofs.Common.{◌≡◌, [], ◌∷◌, ◌++◌, true, codes, r
 use Rattle.std.specs.Fmt.{digits}
 use Rattle.hex.specs.Hex.{encode_with}
 use Rattle.cap_sets.specs.Capability.{names_from}
-use Rattle.journal_lines.specs.Lines.{happened, strike}
+use Rattle.journal.specs.Lines.{happened, strike}
 use Rattle.journal_reports.specs.Examples.{each, enrolment, founding}
 use Rattle.journal_reports.specs.Struck.{struck_lines}
 use Rattle.journal_reports.specs.Whole.{lines_for}

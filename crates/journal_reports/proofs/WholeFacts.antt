@@ -2,9 +2,9 @@
 use Rattle.std.proofs.Common.{◌≡◌, ◌∙◌, ◌<◌, ◌≤◌, ◌+◌, ◌-◌, ℕ, zero, suc, List, [], ◌∷◌, ◌++◌, length, Option, Some, None, refl, sym, ap, ap₂, subst, arith, append_assoc, append-nil}
 use Rattle.std.specs.Prelude.{option_map}
 use Rattle.office_policy.specs.History.{Event, History}
-use Rattle.journal_lines.specs.Lines.{Line, happened, strike}
-use Rattle.journal_lines.specs.Told.{standing, told}
-use Rattle.journal_lines.proofs.FirstFacts.{first_told}
+use Rattle.journal.specs.Lines.{Line, happened, strike}
+use Rattle.journal.specs.Told.{standing, told}
+use Rattle.journal.proofs.FirstFacts.{first_told}
 use Rattle.journal_reports.specs.History.{lines_to, last_behind, lines_after, shown_behind, shown_of}
 use Rattle.journal_reports.specs.Passing.{Asked}
 use Rattle.journal_reports.specs.Struck.{strike_of, struck_lines, struck_of}

@@ -1,12 +1,12 @@
 -- The lines of events, written one after the other.
 use Rattle.std.proofs.Common.{◌≡◌, ◌∙◌, ◌<◌, ◌-◌, arith, inl, inr, ℕ, List, [], ◌∷◌, ◌++◌, length, take, true, false, Option, Some, None, Result, Ok, Err, refl, sym, ap, ap₂, subst, append_assoc, append-nil}
-use Rattle.std.specs.Prelude.{IsErrAnd, ⊤, if◌then◌else◌, option_map}
+use Rattle.std.specs.Prelude.{IsErrAnd, ⊤, if◌then◌else◌}
 use Rattle.std.specs.Io.KnownBytes.{Appends}
 use Rattle.std.proofs.KnownBytes.{Appends-nil, Appends-trans}
 use Rattle.streams.specs.Steps.{AppendsPart}
 use Rattle.sqlite.specs.Held.{Held}
 use Rattle.sqlite.specs.Store.{Ghosts}
-use Rattle.review_policy.specs.declared.answer.Fault.{Fault}
+use Rattle.review_policy.specs.declared.fault.Fault.{Fault}
 use Rattle.office_tables.specs.declared.row.RevisionRow.{RevisionRow}
 use Rattle.office_policy.specs.History.{Event, History, founded, enrolled, submitted, voted, issued, withdrawn, adopted, held, released}
 use Rattle.office_policy.specs.Handled.{Stands, Survives}
@@ -15,19 +15,19 @@ use Rattle.office_policy.specs.Meaning.{Meaning}
 use Rattle.office_desk.specs.Looking.{HasLookedBack}
 use Rattle.office_desk.specs.Meant.{meaning_over}
 use Rattle.office_desk.specs.Replayed.{HasHappened}
-use Rattle.journal_lines.specs.declared.events.Unreadable.{Unreadable}
-use Rattle.journal_lines.specs.Told.{Begins, Ends, GoesOn, Place, Tells, held_at, history_told, standing, start}
-use Rattle.journal_lines.proofs.ToldFacts.{begins_first, stays, still_known}
-use Rattle.journal_replay.specs.declared.fault.Refused.{Refused}
-use Rattle.journal_replay.specs.declared.fault.Why.{Why}
-use Rattle.journal_replay.specs.declared.fault.Why.TheVariants as halt
-use Rattle.journal_replay.specs.Rebuilt.{HasReplayed, line_behind}
-use Rattle.journal_replay.specs.Steps.{IsFirstRead, IsKeptOut as IsOut, IsLeft, IsLeftHeld, LeavesAt}
-use Rattle.journal_replay.proofs.Refusals.{held_there}
-use Rattle.journal_replay.proofs.Replays.{goes_then, more_lawful, more_stands, told_on}
+use Rattle.journal.specs.declared.events.Unreadable.{Unreadable}
+use Rattle.journal.specs.Told.{Begins, Ends, GoesOn, Place, Tells, held_at, history_told, standing, start}
+use Rattle.journal.proofs.ToldFacts.{begins_first, stays, still_known}
+use Rattle.journal_office.specs.declared.refused.Refused.{Refused}
+use Rattle.journal_office.specs.declared.refused.Why.{Why}
+use Rattle.journal_office.specs.declared.refused.Why.TheVariants as halt
+use Rattle.journal_office.specs.Rebuilt.{HasReplayed, line_behind}
+use Rattle.journal_office.specs.Steps.{ComesNext, IsKeptOut as IsOut, IsLeft, IsLeftHeld, LeavesAt}
+use Rattle.journal_office.proofs.Comes.{held_number, held_stands, none_stands}
+use Rattle.journal_office.proofs.Replays.{goes_then, more_lawful, more_stands, told_on}
 use Rattle.journal_reports.specs.declared.fault.Unwritten.{Unwritten}
 use Rattle.journal_reports.specs.declared.fault.Unwritten.TheVariants as why
-use Rattle.journal_reports.specs.History.{ComesNext, HasWritten, IsCutOff, IsHalted, IsUnwritten, NoneTo, last_behind, last_line, lines_after, lines_to, lines_told, shown_behind, shown_of}
+use Rattle.journal_reports.specs.History.{HasWritten, IsCutOff, IsHalted, IsUnwritten, NoneTo, last_behind, last_line, lines_after, lines_to, lines_told, shown_behind, shown_of}
 use Rattle.journal_reports.specs.Lines.{line_of, looked_up, text_in}
 use Rattle.journal_reports.specs.Passing.{Asked, passes}
 use Rattle.journal_reports.specs.Struck.{struck_lines}
@@ -98,47 +98,6 @@ pub is_shown : (asked : Asked) (h : History) (line : ℕ) (e : Event) (found : O
     → found ≡ looked_up e h → text ≡ shown_of asked h (line, e)
 is_shown asked h line e found text asked_for is looked =
     is ∙ ap (text_in asked.json line e) looked ∙ ap (λ b. if b then line_of asked.json h line e else []) (sym asked_for)
-
--- the event that is held back at a place stands there
-held_stands : (number : ℕ) (kept : Option Event) (placed : ℕ × Event) → Some placed ≡ option_map (λ e. (number, e)) kept → standing number kept ≡ placed ∷ []
-held_stands number None placed is = absurd cc
-held_stands number (Some e) placed is = let same : placed ≡ (number, e) = cc in ap (λ (p : ℕ × Event). p ∷ []) (sym same)
-
-abbrev numbered : ℕ → Event → ℕ × Event
-numbered number e = (number, e)
-
-held_number : (number : ℕ) (kept : Option Event) (placed : ℕ × Event) → Some placed ≡ option_map (numbered number) kept → placed.0 ≡ number
-held_number number None placed is = absurd cc
-held_number number (Some e) placed is = let same : placed ≡ (number, e) = cc in ap (λ (p : ℕ × Event). p.0) same
-
-none_stands : (number : ℕ) (kept : Option Event) → None ≡ option_map (numbered number) kept → standing number kept ≡ []
-none_stands number None is = refl
-none_stands number (Some e) is = absurd cc
-
--- where the journal can't be read on, it comes next
-pub last_comes : (here after : Place) (line : ℕ) (w : Why) (placed : ℕ × Event) → IsLeft here after line w → Some placed ≡ held_at after → ComesNext here placed
-last_comes here after line (halt.Unread fault) placed at is =
-    inr (record {
-      fault = fault;
-      last = at.leaves.last;
-      on = at.leaves.on;
-      cannot = at.leaves.cannot;
-      held = sym (is ∙ held_there after at.leaves.last at.leaves.taken at.leaves.held);
-    })
-last_comes here after line halt.NotFounded placed at is = absurd at
-last_comes here after line (halt.Unfounded fault) placed at is = absurd at
-last_comes here after line (halt.Unreplayed cause) placed at is = absurd at
-
--- what is read first comes first
-held_comes : (from : Place) (placed : ℕ × Event) (line : ℕ) (w : Why) → IsLeftHeld from (Some placed) line w → ComesNext from placed
-held_comes from placed line (halt.Unread fault) at = inr (record { fault = fault; last = at.last; on = at.on; cannot = at.cannot; held = at.held })
-held_comes from placed line halt.NotFounded at = absurd at
-held_comes from placed line (halt.Unfounded fault) at = absurd at
-held_comes from placed line (halt.Unreplayed cause) at = absurd at
-
-pub first_comes : (from here : Place) (placed : ℕ × Event) (halted : Option Refused) → IsFirstRead from here placed halted → ComesNext from placed
-first_comes from here placed None first = inl (here, first)
-first_comes from here placed (Some refused) first = held_comes from placed refused.line refused.why first
 
 module _ {X : Type 0} (m : Meaning X) (bytes : Option (List ℕ)) where
   -- ---- one event

@@ -5,7 +5,7 @@ use Rattle.std.specs.Prelude.{option_map}
 use Rattle.std.specs.List.{list_any}
 use Rattle.sqlite.specs.Held.{Held}
 use Rattle.sqlite.specs.Store.{Ghosts}
-use Rattle.review_policy.specs.declared.answer.Fault.{Fault}
+use Rattle.review_policy.specs.declared.fault.Fault.{Fault}
 use Rattle.review_policy.specs.declared.ask.ProfileName.{ProfileName}
 use Rattle.office_tables.specs.Tables.{is_profile}
 use Rattle.office_policy.specs.History.{Event, History, issued}
@@ -14,9 +14,9 @@ use Rattle.office_policy.specs.Meaning.{Meaning}
 use Rattle.office_policy.specs.Revisions.{issues}
 use Rattle.office_desk.specs.Looking.{IsMetBetween, sheet_at}
 use Rattle.office_desk.specs.Meant.{meaning_over}
-use Rattle.journal_lines.specs.Journal.{IsJournalOf}
-use Rattle.journal_lines.specs.Told.{GoesOn, Place, history_told}
-use Rattle.journal_replay.specs.Rebuilt.{HasReplayed, IsRefused}
+use Rattle.journal.specs.Journal.{IsJournalOf}
+use Rattle.journal.specs.Told.{GoesOn, Place, history_told}
+use Rattle.journal_office.specs.Rebuilt.{HasReplayed, IsRefused}
 use Rattle.journal_reports.specs.declared.fault.NoEvidence.{NoEvidence}
 use Rattle.journal_reports.specs.declared.fault.NoEvidence.TheVariants as why
 

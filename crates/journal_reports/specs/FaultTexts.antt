@@ -1,7 +1,7 @@
 -- The texts of why there is no evidence of an issue, and why not the whole history was written.
 use Rattle.std.specs.Prelude.{ℕ, List, ◌++◌, codes, decimal}
 use Rattle.review_policy.specs.WordTables.{fault_word}
-use Rattle.journal_replay.specs.FaultTexts.{refused_text}
+use Rattle.journal_office.specs.FaultTexts.{refused_text}
 use Rattle.journal_reports.specs.declared.fault.NoEvidence.{NoEvidence}
 use Rattle.journal_reports.specs.declared.fault.NoEvidence.TheVariants as why
 use Rattle.journal_reports.specs.declared.fault.Unwritten.{Unwritten}

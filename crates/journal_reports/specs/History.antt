@@ -4,7 +4,7 @@ use Rattle.std.specs.Prelude.{Some, None, Err, IfSome, if◌then◌else◌}
 use Rattle.std.specs.Io.KnownBytes.{Appends}
 use Rattle.sqlite.specs.Held.{Held}
 use Rattle.sqlite.specs.Store.{Ghosts}
-use Rattle.review_policy.specs.declared.answer.Fault.{Fault}
+use Rattle.review_policy.specs.declared.fault.Fault.{Fault}
 use Rattle.office_policy.specs.Handled.{Stands}
 use Rattle.office_policy.specs.History.{Event, History}
 use Rattle.office_policy.specs.Lawful.{IsLawfulHistory}
@@ -13,13 +13,13 @@ use Rattle.office_desk.specs.declared.replay.Unreplayed.{Unreplayed}
 use Rattle.office_desk.specs.Looking.{IsMetBetween}
 use Rattle.office_desk.specs.Meant.{meaning_over}
 use Rattle.office_desk.specs.Replayed.{IsReplayed}
-use Rattle.journal_lines.specs.declared.events.Unreadable.{Unreadable}
-use Rattle.journal_lines.specs.Told.{Begins, CannotGoOn, GoesOn, Place, Tells, held_at}
-use Rattle.journal_lines.specs.Told.{history_told, standing, start}
-use Rattle.journal_replay.specs.declared.fault.Why.{Why}
-use Rattle.journal_replay.specs.declared.fault.Why.TheVariants as halt
-use Rattle.journal_replay.specs.Rebuilt.{HasReplayed, line_behind}
-use Rattle.journal_replay.specs.Steps.{IsUnbegun}
+use Rattle.journal.specs.declared.events.Unreadable.{Unreadable}
+use Rattle.journal.specs.Told.{Begins, CannotGoOn, GoesOn, Place, Tells, history_told}
+use Rattle.journal.specs.Told.{standing, start}
+use Rattle.journal_office.specs.declared.refused.Why.{Why}
+use Rattle.journal_office.specs.declared.refused.Why.TheVariants as halt
+use Rattle.journal_office.specs.Rebuilt.{HasReplayed, line_behind}
+use Rattle.journal_office.specs.Steps.{ComesNext, IsUnbegun}
 use Rattle.journal_reports.specs.declared.fault.Unwritten.{Unwritten}
 use Rattle.journal_reports.specs.declared.fault.Unwritten.TheVariants as why
 use Rattle.journal_reports.specs.Lines.{line_of}
@@ -58,19 +58,6 @@ last_line es = last_behind 0 es
 abbrev pub lines_to : Asked → List (ℕ × Event) → (count : ℕ) → List ℕ
 lines_to asked es count =
     lines_told asked es ++ struck_lines asked (last_line es) (count - last_line es)
-
--- the event is that of the last line that can be read behind the place, and the only one that stands
--- there: the line behind it can't be read, for this fault
-pub record IsLast (here : Place) (placed : ℕ × Event) : Type 0 where
-  pub fault : Unreadable
-  pub last : Place
-  pub on : GoesOn here last []
-  pub cannot : CannotGoOn fault last
-  pub held : held_at last ≡ Some placed
-
--- the event is the next one behind the place: it stands, or it does as far as the journal can be read
-abbrev pub ComesNext : Place → (ℕ × Event) → Type 0
-ComesNext here placed = ((behind : Place) × GoesOn here behind (placed ∷ [])) ⊎ IsLast here placed
 
 -- no event stands behind the place up to the line of this number: the next one stands on the line
 -- behind that, or the journal can be read so far

@@ -9,12 +9,13 @@ use Rattle.profile_text.specs.Digest.{digest_of}
 use Rattle.profile_text.specs.Text.{member_if, set_data, texts_data}
 use Rattle.review_policy.specs.declared.ask.ProfileName.{ProfileName}
 use Rattle.review_sheet.specs.Layout.{ended}
+use Rattle.review_sheet.specs.Review.{vote_word}
 use Rattle.json_requests.specs.Answers.{digest_member, number_member, text_member}
 use Rattle.office_tables.specs.declared.row.RevisionRow.{RevisionRow}
 use Rattle.office_policy.specs.History.{Event, founded, enrolled, submitted, voted, issued}
 use Rattle.office_policy.specs.History.{withdrawn, adopted, held, released}
 use Rattle.office_policy.specs.Revisions.{number_of}
-use Rattle.journal_lines.specs.Lines.{role_words, vote_word}
+use Rattle.journal.specs.Lines.{role_words}
 
 -- the members that each line has: the kind of what happened, and the number of the journal's line
 abbrev pub kind_members : (kind : List ℕ) → (line : ℕ) → Members → Members

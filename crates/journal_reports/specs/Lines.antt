@@ -10,7 +10,7 @@ use Rattle.office_tables.specs.declared.row.RevisionRow.{RevisionRow}
 use Rattle.office_policy.specs.History.{Event, History, founded, enrolled, submitted, voted}
 use Rattle.office_policy.specs.History.{issued, withdrawn, adopted, held, released}
 use Rattle.office_policy.specs.Revisions.{last_revision, number_of, revision_of}
-use Rattle.journal_lines.specs.Lines.{role_words}
+use Rattle.journal.specs.Lines.{role_words}
 use Rattle.journal_reports.specs.Json.{json_of}
 
 -- items, each behind a space, or `none`

@@ -3,15 +3,15 @@ use Rattle.std.specs.Prelude.{◌≡◌, ◌++◌, ◌∷◌, [], ℕ, List, fal
 use Rattle.std.specs.Prelude.{Result, Ok, Err}
 use Rattle.std.specs.Prelude.{option_and_then}
 use Rattle.std.specs.List.{list_any}
-use Rattle.review_policy.specs.declared.answer.Fault.{Fault}
+use Rattle.review_policy.specs.declared.fault.Fault.{Fault}
 use Rattle.review_policy.specs.declared.ask.ProfileName.{ProfileName}
 use Rattle.office_policy.specs.History.{Event, issued}
 use Rattle.office_policy.specs.Meaning.{Meaning}
 use Rattle.office_policy.specs.Revisions.{issues}
 use Rattle.office_desk.specs.Looking.{IsMetBetween}
-use Rattle.journal_lines.specs.Told.{Place, history_told}
-use Rattle.journal_replay.specs.Rebuilt.{HasReplayed}
-use Rattle.journal_replay.specs.Steps.{IsLeftBehind}
+use Rattle.journal.specs.Told.{Place, history_told}
+use Rattle.journal_office.specs.Rebuilt.{HasReplayed}
+use Rattle.journal_office.specs.Steps.{IsLeftBehind}
 use Rattle.journal_reports.specs.declared.fault.NoEvidence.{NoEvidence}
 use Rattle.journal_reports.specs.declared.fault.NoEvidence.TheVariants as why
 use Rattle.journal_reports.specs.Evidence.{IsEvidence, IsNeverIssued, IsUnseen, evidence_of}

@@ -2,7 +2,7 @@
 -- to be struck.
 use Rattle.std.specs.Prelude.{ℕ, ◌+◌, List, [], ◌∷◌, ◌++◌}
 use Rattle.office_policy.specs.History.{History}
-use Rattle.journal_lines.specs.Lines.{Line, happened, strike}
+use Rattle.journal.specs.Lines.{Line, happened, strike}
 use Rattle.journal_reports.specs.History.{shown_of}
 use Rattle.journal_reports.specs.Passing.{Asked}
 use Rattle.journal_reports.specs.Struck.{strike_of, struck_of}

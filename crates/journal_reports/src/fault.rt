@@ -1,6 +1,6 @@
 //! Why there is no evidence of an issue, and why not the whole history was written.
 
-use journal_replay::Refused;
+use journal_office::Refused;
 use review_policy::Fault;
 use std::alloc::AllocError;
 use std::error::Error;

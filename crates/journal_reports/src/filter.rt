@@ -2,12 +2,12 @@
 
 ghost use Rattle.std.specs.Prelude.{◌≡◌, option_map};
 ghost use Rattle.office_policy.specs.Happened.{event_meant};
-ghost use Rattle.journal_lines.specs.Told.{placed_meant};
+ghost use Rattle.journal.specs.Told.{placed_meant};
 ghost use Rattle.journal_reports.specs.Passing.{doer_of, is_about, is_asked, is_by, is_named};
 ghost use Rattle.journal_reports.specs.Passing.{is_of_team, passes, profile_of, team_of};
 ghost use Rattle.journal_reports.specs.Struck.{asks_for_all, shows_struck};
 
-use journal_lines::Placed;
+use journal::Placed;
 use office_policy::Event;
 use review_policy::{ProfileName, Word};
 use std::marker::Model;

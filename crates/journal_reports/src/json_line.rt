@@ -1,92 +1,28 @@
 //! The line by which programs read what happened.
 
-ghost use Rattle.std.specs.Prelude.{◌≡◌, ◌∷◌, [], ◌++◌, IfOk, None, OnOk, codes, map};
-ghost use Rattle.std.specs.Prelude.{option_map, string_bytes};
+ghost use Rattle.std.specs.Prelude.{◌≡◌, IfOk, None, codes, option_map, string_bytes};
 ghost use Rattle.hex.specs.Hex.{encode_lower};
-ghost use Rattle.serde_json.specs.Data.{no_members, object, put as with_member, string};
+ghost use Rattle.serde_json.specs.Data.{no_members, object, string};
 ghost use Rattle.serde_json.specs.View.{view, members_view};
-ghost use Rattle.profile_text.specs.Text.{put_if, set_data, texts_data};
+ghost use Rattle.profile_text.specs.Text.{put_if};
 ghost use Rattle.json_requests.specs.Answers.{text_member};
 ghost use Rattle.office_policy.specs.Happened.{event_meant};
 ghost use Rattle.office_policy.specs.History.{enrolled, founded, submitted, voted};
-ghost use Rattle.journal_lines.specs.Lines.{role_data, role_words, vote_word, words_among};
 ghost use Rattle.journal_reports.specs.Json.{data_of, digest_found, json_of, kind_members};
 ghost use Rattle.journal_reports.specs.Json.{profile_data, revision_data};
 
-use crate::line::number_of;
 use cap_sets::Caps;
-use journal_lines::Placed;
+use journal::Placed;
+use journal::members::{names_value, roles_value, with_profile, with_user};
 use json_requests::object::{with_digest, with_number, with_text, with_value};
+use office_desk::number_of;
 use office_policy::Event;
 use office_tables::RevisionRow;
 use profile_text::digest;
-use review_policy::{ProfileName, Role, Roles, Text, Word};
-use serde_json::{Map, ToValue, Value};
+use review_policy::{ProfileName, Roles, Text, Word};
+use review_sheet::vote_word;
+use serde_json::{Map, Value};
 use std::alloc::{AllocError, Global};
-
-// One text more.
-fn push_text(alloc: Global, texts: &mut Vec<Value>, text: &str) -> Result<(), AllocError>
-    ensures { OnOk result (map view texts.new.items
-        ≡ map view texts.old.items ++ string text.now ∷ []) }
-{
-    let value = text.to_value(alloc)?;
-    texts.push(value)?;
-    Ok(())
-}
-
-// The names of capabilities.
-fn names_value(alloc: Global, caps: Caps) -> Result<Value, AllocError>
-    ensures { IfOk result (λ v. view v ≡ set_data caps) }
-{
-    let mut texts = Vec::new(alloc);
-    for name in caps.names() {
-        push_text(alloc, &mut texts, name)?;
-    }
-    Ok(Value::Array(texts))
-}
-
-// The word of a role, where it is one of these.
-fn push_role(
-    alloc: Global,
-    texts: &mut Vec<Value>,
-    roles: Roles,
-    role: &Role,
-) -> Result<(), AllocError>
-    ensures { OnOk result (map view texts.new.items
-        ≡ map view texts.old.items ++ role_data roles role.now) }
-{
-    if roles.has(*role) {
-        push_text(alloc, texts, role.word())
-    } else {
-        Ok(())
-    }
-}
-
-// The words of those of these roles that are in the set.
-fn roles_among(alloc: Global, roles: Roles, among: &[Role]) -> Result<Value, AllocError>
-    ensures { IfOk result (λ v. view v ≡ texts_data (words_among roles among.now)) }
-{
-    let mut texts = Vec::new(alloc);
-    for role in among {
-        push_role(alloc, &mut texts, roles, role)?;
-    }
-    Ok(Value::Array(texts))
-}
-
-// The words of roles.
-fn roles_value(alloc: Global, roles: Roles) -> Result<Value, AllocError>
-    ensures { IfOk result (λ v. view v ≡ texts_data (role_words roles)) }
-{
-    let all = [
-        Role::Registrar,
-        Role::Author,
-        Role::Reviewer,
-        Role::Security,
-        Role::Issuer,
-        Role::Machine,
-    ];
-    roles_among(alloc, roles, all.as_slice())
-}
 
 // An object with just the kind and the number of the line.
 fn of_kind(alloc: Global, kind: &str, line: u64) -> Result<Map<String, Value>, AllocError>
@@ -110,21 +46,6 @@ fn of_caller(
     with_text(alloc, object, "by", caller.as_str())
 }
 
-// An object with two more members, a user and the team.
-fn with_user(
-    alloc: Global,
-    object: Map<String, Value>,
-    user: &Word,
-    team: &Word,
-) -> Result<Map<String, Value>, AllocError>
-    ensures { IfOk result (λ m. members_view m.entries
-        ≡ with_member (codes "user") (string user.now)
-        (with_member (codes "team") (string team.now) (members_view object.entries))) }
-{
-    let object = with_text(alloc, object, "team", team.as_str())?;
-    with_text(alloc, object, "user", user.as_str())
-}
-
 // What was done to a profile.
 fn profile_object(
     alloc: Global,
@@ -137,8 +58,7 @@ fn profile_object(
         ≡ profile_data kind.now caller.now line name.now) }
 {
     let object = of_caller(alloc, kind, line, caller)?;
-    let object = with_text(alloc, object, "profile", name.profile.as_str())?;
-    with_text(alloc, object, "team", name.team.as_str())
+    with_profile(alloc, object, name)
 }
 
 // The object with a digest, where there is one.
@@ -200,13 +120,6 @@ fn found_object(
 {
     let digest = digest_found(found);
     revision_object(alloc, kind, line, caller, name, number as u64, digest)
-}
-
-// The word of a vote.
-fn vote_word(approves: bool) -> &'static str
-    ensures { result.now ≡ vote_word approves }
-{
-    if approves { "approve" } else { "reject" }
 }
 
 // A founding.

@@ -7,8 +7,8 @@ ghost use Rattle.journal_reports.specs.Examples.{adoption_json, digest, each, en
 ghost use Rattle.journal_reports.specs.Examples.{enrolment_json, founding, founding_json};
 ghost use Rattle.journal_reports.specs.Examples.{hold_json, issue_json, release_json, row};
 ghost use Rattle.journal_reports.specs.Examples.{vote_json, web, withdrawal_json};
-ghost use Rattle.journal_lines.specs.Lines.{Line, happened, strike};
-ghost use Rattle.journal_lines.specs.Told.{told};
+ghost use Rattle.journal.specs.Lines.{Line, happened, strike};
+ghost use Rattle.journal.specs.Told.{told};
 ghost use Rattle.journal_reports.specs.History.{lines_to, shown_of};
 ghost use Rattle.journal_reports.specs.Json.{json_of};
 ghost use Rattle.journal_reports.specs.Lines.{text_of};

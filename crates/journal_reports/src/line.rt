@@ -8,12 +8,13 @@ ghost use Rattle.profile_text.specs.Digest.{digest_of};
 ghost use Rattle.review_sheet.specs.Layout.{Adds, spaced};
 ghost use Rattle.office_policy.specs.Happened.{event_meant};
 ghost use Rattle.office_policy.specs.Revisions.{number_of};
-ghost use Rattle.journal_lines.specs.Lines.{role_words, words_among};
+ghost use Rattle.journal.specs.Lines.{role_words, words_among};
 ghost use Rattle.journal_reports.specs.Lines.{deed, digest_in, each_spaced, on_profile};
 ghost use Rattle.journal_reports.specs.Lines.{on_revision, short_digest, text_of, voted_word};
 
 use cap_sets::{Caps, Names};
-use journal_lines::Placed;
+use journal::Placed;
+use office_desk::number_of;
 use office_policy::Event;
 use office_tables::RevisionRow;
 use profile_text::digest;
@@ -85,15 +86,7 @@ fn push_among(text: &mut String, roles: Roles, among: &[Role]) -> Result<(), All
 fn push_each_role(text: &mut String, roles: Roles) -> Result<(), AllocError>
     ensures { OnOk result (Adds text.old text.new (spaced (role_words roles))) }
 {
-    let all = [
-        Role::Registrar,
-        Role::Author,
-        Role::Reviewer,
-        Role::Security,
-        Role::Issuer,
-        Role::Machine,
-    ];
-    push_among(text, roles, all.as_slice())
+    push_among(text, roles, Role::ALL.as_slice())
 }
 
 // Adds the words of roles, each behind a space, or `none`.
@@ -217,16 +210,6 @@ fn push_enrolment(
     push_roles(text, roles)?;
     push_digest(alloc, text, digest)?;
     Ok(())
-}
-
-/// The number of a revision, or 0.
-pub(crate) fn number_of(found: &Option<RevisionRow>) -> u32
-    ensures { result ≡ number_of found.now }
-{
-    match found {
-        Some(row) => row.number,
-        None => 0,
-    }
 }
 
 // Adds a submission.

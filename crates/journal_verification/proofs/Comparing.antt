@@ -6,7 +6,7 @@ use Rattle.sqlite.specs.Held.{Held, state}
 use Rattle.sqlite.specs.State.{IsLive, IsUnchanged}
 use Rattle.sqlite.specs.Store.{Ghosts}
 use Rattle.office_tables.specs.Tables.{Tables}
-use Rattle.office_tables.specs.declared.fault.StoreFault.{StoreFault}
+use Rattle.review_policy.specs.declared.fault.Fault.{Fault}
 use Rattle.office_store.specs.Schema.{office_schema}
 use Rattle.office_store.specs.Shown.{IsOffice, Shows}
 use Rattle.journal_verification.specs.declared.difference.Difference.{Difference}
@@ -14,7 +14,7 @@ use Rattle.journal_verification.specs.Compared.{TellsOffice}
 use Rattle.journal_verification.specs.Same.{TellsTables}
 use Rattle.journal_verification.proofs.Offices.{office_again}
 
-pub told : {S T : Type 0} (g : Ghosts S) (f : Ghosts T) (t : Tables) (built : Held S) (old new : Held T) (r : Result (Option Difference) StoreFault) → Shows (state g built) t → (state f old).now.schema ≡ office_schema
+pub told : {S T : Type 0} (g : Ghosts S) (f : Ghosts T) (t : Tables) (built : Held S) (old new : Held T) (r : Result (Option Difference) Fault) → Shows (state g built) t → (state f old).now.schema ≡ office_schema
     → IsLive (state f old) → (IsTrue (state f old).is_open → (state f old).now ≡ (state f old).committed) → OnOk r (IsUnchanged (state f old) (state f new))
     → IfOk r (TellsTables g f (state g built).now (state f old).now) → IfOk r (TellsOffice g f t built old new)
 told g f t built old new (Err fault) shows has live settled same tells = tt

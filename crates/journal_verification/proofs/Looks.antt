@@ -11,7 +11,7 @@ use Rattle.sqlite.specs.Held.{Held, state}
 use Rattle.sqlite.specs.Order.{Row}
 use Rattle.sqlite.specs.State.{State, HasCleanDisk, Survives, CommitsShowing, IsUnchanged, Shown}
 use Rattle.sqlite.specs.Store.{Ghosts}
-use Rattle.office_tables.specs.declared.fault.StoreFault.{StoreFault}
+use Rattle.review_policy.specs.declared.fault.Fault.{Fault}
 use Rattle.office_rows.specs.Queries.{IsQuery}
 use Rattle.office_rows.specs.Rows.{IsFaultOf}
 use Rattle.office_rows.proofs.Queries.{rows_asked, shown_left}
@@ -24,7 +24,7 @@ use Rattle.journal_verification.specs.declared.table.TheConstants.{FURTHER}
 use Rattle.journal_verification.specs.Looked.{HasLooked}
 use Rattle.journal_verification.specs.Same.{IsAnsweredBy, DiffersFirst, HaveSame, HaveSameTables, TellsTable}
 
-pub has_looked : (sql : List ℕ) → IsQuery sql → (params : Row) (old new : State) {X : Type 0} (items : X → List Row) (r : Result X StoreFault) → IsIdle old → (old.in_transaction ≡ false → new.in_transaction ≡ false)
+pub has_looked : (sql : List ℕ) → IsQuery sql → (params : Row) (old new : State) {X : Type 0} (items : X → List Row) (r : Result X Fault) → IsIdle old → (old.in_transaction ≡ false → new.in_transaction ≡ false)
     → (HasCleanDisk new → IfOk r (λ x. Shown sql params old new (items x))) → (HasCleanDisk new → IfErr r (IsFaultOf sql params old new)) → Survives old new (CommitsShowing sql params old) → HasLooked old new
 has_looked sql query params old new items r idle mode rows fault survives =
     let asked = rows_asked sql query params old new items r rows fault survives in
@@ -36,12 +36,12 @@ has_looked sql query params old new items r idle mode rows fault survives =
       survives = asked.crash;
     }
 
-pub answered : {S : Type 0} (g : Ghosts S) (sql : List ℕ) (old new : Held S) {X : Type 0} (items : X → List Row) (r : Result X StoreFault) → IfOk r (λ x. Shown sql [] (state g old) (state g new) (items x))
+pub answered : {S : Type 0} (g : Ghosts S) (sql : List ℕ) (old new : Held S) {X : Type 0} (items : X → List Row) (r : Result X Fault) → IfOk r (λ x. Shown sql [] (state g old) (state g new) (items x))
     → IfOk r (λ x. IsAnsweredBy g sql (state g old).now (items x))
 answered g sql old new items (Ok x) shown = record { old = old; new = new; now = refl; shown = shown }
 answered g sql old new items (Err f) shown = tt
 
-pub unchanged : (sql : List ℕ) → IsQuery sql → (params : Row) (old new : State) {X : Type 0} (items : X → List Row) (r : Result X StoreFault) → IfOk r (λ x. Shown sql params old new (items x)) → OnOk r (IsUnchanged old new)
+pub unchanged : (sql : List ℕ) → IsQuery sql → (params : Row) (old new : State) {X : Type 0} (items : X → List Row) (r : Result X Fault) → IfOk r (λ x. Shown sql params old new (items x)) → OnOk r (IsUnchanged old new)
 unchanged sql query params old new items (Ok x) shown = shown_left sql query params old new (items x) shown
 unchanged sql query params old new items (Err f) shown = tt
 

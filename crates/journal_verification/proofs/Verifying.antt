@@ -16,14 +16,14 @@ use Rattle.office_desk.specs.declared.replay.Unreplayed.{Unreplayed}
 use Rattle.office_desk.specs.declared.replay.Unreplayed.TheVariants as causes
 use Rattle.office_desk.specs.Meant.{meaning_over}
 use Rattle.office_desk.specs.Replayed.{HasOtherText, IsDeniedBy, IsRefused as IsDenied}
-use Rattle.journal_lines.specs.declared.events.Unreadable.TheVariants as unreadable
-use Rattle.journal_lines.specs.Journal.{IsJournalOf, IsSealedJournal}
-use Rattle.journal_lines.specs.Told.{history_told, start}
-use Rattle.journal_replay.specs.declared.fault.Refused.{Refused}
-use Rattle.journal_replay.specs.declared.fault.Why.{Why}
-use Rattle.journal_replay.specs.declared.fault.Why.TheVariants as why
-use Rattle.journal_replay.specs.Rebuilt.{IsRebuilt, IsRefused, IsUnreplayed, Refutes}
-use Rattle.journal_replay.proofs.Replays.{goes_then}
+use Rattle.journal.specs.declared.events.Unreadable.TheVariants as unreadable
+use Rattle.journal.specs.Journal.{IsJournalOf, IsSealedJournal}
+use Rattle.journal.specs.Told.{history_told, start}
+use Rattle.journal_office.specs.declared.refused.Refused.{Refused}
+use Rattle.journal_office.specs.declared.refused.Why.{Why}
+use Rattle.journal_office.specs.declared.refused.Why.TheVariants as why
+use Rattle.journal_office.specs.Rebuilt.{IsRebuilt, IsRefused, IsUnreplayed, Refutes}
+use Rattle.journal_office.proofs.Replays.{goes_then}
 use Rattle.journal_verification.specs.declared.difference.Difference.{Difference}
 use Rattle.journal_verification.specs.Compared.{Differs}
 use Rattle.journal_verification.specs.Looked.{HasLooked}
@@ -76,7 +76,14 @@ module _ (bytes : Option (List ℕ)) where
       }
 
   wrong_at : (conn left : Held MemoryStore) (line : ℕ) (w : Why) → IsRefused bytes over_memory conn left line w → IsWrongAt bytes line w
-  wrong_at conn left line (why.Unread fault) is = is
+  wrong_at conn left line (why.Unread fault) is = record {
+    last = is.last;
+    before = is.before;
+    told = is.told;
+    cannot = is.cannot;
+    counted = is.counted;
+    lawful = λ _. is.lawful (memory_is_clean left);
+  }
   wrong_at conn left line why.NotFounded is = is
   wrong_at conn left line (why.Unfounded fault) is = tt
   wrong_at conn left line (why.Unreplayed (causes.Denied denial)) is = first_unlawful left line (causes.Denied denial) (λ e h. IsDeniedBy e h denial) is is.refused

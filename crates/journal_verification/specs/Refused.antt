@@ -9,11 +9,11 @@ use Rattle.office_policy.specs.History.{Event, History}
 use Rattle.office_policy.specs.Lawful.{IsAllowed, IsLawfulHistory}
 use Rattle.office_desk.specs.declared.replay.Unreplayed.TheVariants as causes
 use Rattle.office_desk.specs.Replayed.{HasOtherText, IsDeniedBy}
-use Rattle.journal_lines.specs.Told.{GoesOn, Place, history_told, start}
-use Rattle.journal_replay.specs.declared.fault.Refused.{Refused}
-use Rattle.journal_replay.specs.declared.fault.Why.{Why}
-use Rattle.journal_replay.specs.declared.fault.Why.TheVariants as why
-use Rattle.journal_replay.specs.Rebuilt.{IsNotFounded, IsRefused, IsUnread, Refutes}
+use Rattle.journal.specs.Told.{GoesOn, Place, history_told, start}
+use Rattle.journal_office.specs.declared.refused.Refused.{Refused}
+use Rattle.journal_office.specs.declared.refused.Why.{Why}
+use Rattle.journal_office.specs.declared.refused.Why.TheVariants as why
+use Rattle.journal_office.specs.Rebuilt.{IsNotFounded, IsRefused, IsUnread, Refutes}
 
 -- of a journal with these bytes, where they are known
 module _ (bytes : Option (List ℕ)) where
@@ -28,11 +28,11 @@ module _ (bytes : Option (List ℕ)) where
     pub never : IsAllowed (history_told before) event → ⊥
     pub because : Because event (history_told before)
 
-  -- The line can't be read behind those before it; no event stands, or the first one, of this line,
-  -- is no founding; or the event of the line isn't allowed, by this rule first. Of a fault nothing
-  -- is said.
+  -- The line can't be read behind those before it, whose events are lawful; no event stands, or the
+  -- first one, of this line, is no founding; or the event of the line isn't allowed, by this rule
+  -- first. Of a fault nothing is said.
   abbrev pub IsWrongAt : ℕ → Why → Type 0
-  IsWrongAt line (why.Unread fault) = IsUnread bytes line fault
+  IsWrongAt line (why.Unread fault) = IsUnread bytes (Unit {0}) line fault
   IsWrongAt line why.NotFounded = IsNotFounded bytes line
   IsWrongAt line (why.Unfounded fault) = Unit {0}
   IsWrongAt line (why.Unreplayed (causes.Denied denial)) =

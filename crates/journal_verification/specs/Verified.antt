@@ -11,7 +11,7 @@ use Rattle.office_policy.specs.History.{History}
 use Rattle.office_policy.specs.Lawful.{IsLawfulHistory}
 use Rattle.office_policy.specs.TablesOf.{tables_of}
 use Rattle.office_desk.specs.Meant.{meaning_over}
-use Rattle.journal_lines.specs.Journal.{IsJournalOf, IsSealedJournal}
+use Rattle.journal.specs.Journal.{IsJournalOf, IsSealedJournal}
 use Rattle.journal_verification.specs.declared.difference.Difference.{Difference}
 use Rattle.journal_verification.specs.declared.verification.Unverified.{Unverified}
 use Rattle.journal_verification.specs.declared.verification.Unverified.TheVariants as unverified

@@ -22,12 +22,12 @@ use crate::rows::{are_rising, first_differing};
 use crate::schema::is_same_schema;
 use crate::table::{FURTHER, Table};
 use office_rows::all_rows;
-use office_tables::StoreFault;
+use review_policy::Fault;
 use sqlite::{Alter, Connection, Row};
 use std::alloc::Global;
 
 // All rows that a query answers. Nothing is changed.
-fn read<S: Alter>(conn: &mut Connection<S>, sql: &str) -> Result<Vec<Row>, StoreFault>
+fn read<S: Alter>(conn: &mut Connection<S>, sql: &str) -> Result<Vec<Row>, Fault>
     requires idle { IsIdle (state S.Store conn.old) }
     requires query { IsQuery sql.now }
     ensures looked { HasLooked (state S.Store conn.old) (state S.Store conn.new) }
@@ -42,7 +42,7 @@ fn read<S: Alter>(conn: &mut Connection<S>, sql: &str) -> Result<Vec<Row>, Store
 }
 
 // The rows of a table, by their key.
-fn rows_of<S: Alter>(conn: &mut Connection<S>, table: Table) -> Result<Vec<Row>, StoreFault>
+fn rows_of<S: Alter>(conn: &mut Connection<S>, table: Table) -> Result<Vec<Row>, Fault>
     requires { IsIdle (state S.Store conn.old) }
     ensures looked { HasLooked (state S.Store conn.old) (state S.Store conn.new) }
     ensures answered { HasCleanDisk (state S.Store conn.new) → IfOk result (λ rows.
@@ -57,7 +57,7 @@ fn rows_of<S: Alter>(conn: &mut Connection<S>, table: Table) -> Result<Vec<Row>,
 }
 
 // Whether the rowids of a table rise.
-fn have_rowids<S: Alter>(conn: &mut Connection<S>, table: Table) -> Result<bool, StoreFault>
+fn have_rowids<S: Alter>(conn: &mut Connection<S>, table: Table) -> Result<bool, Fault>
     requires { IsIdle (state S.Store conn.old) }
     ensures looked { HasLooked (state S.Store conn.old) (state S.Store conn.new) }
     ensures rowids { HasCleanDisk (state S.Store conn.new) → IfOk result (TellsRowids S.Store
@@ -79,7 +79,7 @@ fn rows_differ<S: Alter, T: Alter>(
     built: &mut Connection<S>,
     office: &mut Connection<T>,
     table: Table,
-) -> Result<Option<Difference>, StoreFault>
+) -> Result<Option<Difference>, Fault>
     requires built { IsIdle (state S.Store built.old) }
     requires office { IsIdle (state T.Store office.old) }
     ensures built { HasLooked (state S.Store built.old) (state S.Store built.new) }
@@ -96,7 +96,7 @@ fn rows_differ<S: Alter, T: Alter>(
         (HasFailed (state T.Store office.old) (state T.Store office.new)) }
 {
     let Ok(left) = rows_of(built, table) else {
-        return Err(StoreFault::NoMemory);
+        return Err(Fault::NoMemory);
     };
     let right = rows_of(office, table)?;
     match first_differing(left.as_slice(), right.as_slice(), table.key_width()) {
@@ -109,7 +109,7 @@ fn rows_differ<S: Alter, T: Alter>(
 fn rowids_differ<S: Alter>(
     conn: &mut Connection<S>,
     table: Table,
-) -> Result<Option<Difference>, StoreFault>
+) -> Result<Option<Difference>, Fault>
     requires { IsIdle (state S.Store conn.old) }
     ensures looked { HasLooked (state S.Store conn.old) (state S.Store conn.new) }
     ensures rowids { HasCleanDisk (state S.Store conn.new) → IfOk result (FaultsRowids S.Store
@@ -133,7 +133,7 @@ fn table_differs<S: Alter, T: Alter>(
     built: &mut Connection<S>,
     office: &mut Connection<T>,
     table: Table,
-) -> Result<Option<Difference>, StoreFault>
+) -> Result<Option<Difference>, Fault>
     requires built { IsIdle (state S.Store built.old) }
     requires office { IsIdle (state T.Store office.old) }
     ensures built { HasLooked (state S.Store built.old) (state S.Store built.new) }
@@ -161,7 +161,7 @@ fn tables_differ<S: Alter, T: Alter>(
     alloc: Global,
     built: &mut Connection<S>,
     office: &mut Connection<T>,
-) -> Result<Option<Difference>, StoreFault>
+) -> Result<Option<Difference>, Fault>
     requires built { IsIdle (state S.Store built.old) }
     requires office { IsIdle (state T.Store office.old) }
     ensures built { HasLooked (state S.Store built.old) (state S.Store built.new) }
@@ -206,7 +206,7 @@ pub(crate) fn compare<S: Alter, T: Alter>(
     alloc: Global,
     built: &mut Connection<S>,
     office: &mut Connection<T>,
-) -> Result<Option<Difference>, StoreFault>
+) -> Result<Option<Difference>, Fault>
     requires built { IsIdle (state S.Store built.old) }
     requires office { IsIdle (state T.Store office.old) }
     ensures built { HasCleanDisk (state S.Store built.new) → HasCleanDisk (state S.Store built.old) }

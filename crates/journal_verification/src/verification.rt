@@ -9,9 +9,9 @@ ghost use Rattle.journal_verification.specs.Verified.{IsUnverified, IsVerified};
 
 use crate::compare::compare;
 use crate::difference::Difference;
-use journal_replay::{Refused, rebuild};
+use journal_office::{Refused, rebuild};
 use memory_database::open_in_memory;
-use office_tables::StoreFault;
+use review_policy::Fault;
 use sealed_log::Seal;
 use sqlite::{Alter, Connection};
 use std::alloc::Global;
@@ -34,7 +34,7 @@ pub enum Unverified {
     /// The office differs from the one of the journal.
     Differs(Difference),
     /// One of the two can't be read, or there is no memory.
-    Fault(StoreFault),
+    Fault(Fault),
 }
 
 /// Whether an office is the one of a journal: built anew from it in memory and compared with it
@@ -58,7 +58,7 @@ pub fn verify<T: Alter, R: BufRead + Drop>(
         (IsUnverified (R.remaining journal) T.Store office.old office.new) }
 {
     let Ok(conn) = open_in_memory(alloc) else {
-        return Err(Unverified::Fault(StoreFault::NoMemory));
+        return Err(Unverified::Fault(Fault::NoMemory));
     };
     match rebuild(alloc, conn, journal) {
         Ok(rebuilt) => {

@@ -7,7 +7,7 @@ use Rattle.serde_json.specs.View.{items_of}
 use Rattle.serde_json.specs.Written.{compact_text}
 use Rattle.review_policy.specs.declared.answer.Answer.{Answer}
 use Rattle.review_policy.specs.declared.answer.Answer.TheVariants.{Done, Denied, Fault}
-use Rattle.review_policy.specs.declared.answer.Fault as faults
+use Rattle.review_policy.specs.declared.fault.Fault as faults
 use Rattle.review_policy.specs.declared.answer.ListedProfile.{ListedProfile}
 use Rattle.review_policy.specs.declared.answer.Reply.{Reply}
 use Rattle.review_policy.specs.declared.answer.Reply.TheVariants as reply

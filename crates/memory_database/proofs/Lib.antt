@@ -1,2 +1,3 @@
+pub mod CopyFacts
 pub mod EmptyFacts
 pub mod MemoryFacts

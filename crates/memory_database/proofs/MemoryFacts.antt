@@ -8,7 +8,7 @@ use Rattle.sqlite_trees.specs.View.{Tells, doubt}
 use Rattle.sqlite_trees.specs.declared.error.StoreError.{StoreError}
 use Rattle.sqlite_trees.specs.declared.error.StoreError.TheVariants as stored
 use Rattle.sqlite.specs.Held.{Held, state}
-use Rattle.sqlite.specs.State.{Fails, HasCleanDisk, State, is_disk_error, store_error}
+use Rattle.sqlite.specs.State.{Fails, HasCleanDisk, is_disk_error, store_error}
 use Rattle.sqlite.specs.declared.error.Error.{Error}
 use Rattle.memory_database.specs.Copies.{CopyStore, over_copy}
 use Rattle.memory_database.specs.MemoryStore.{HasNoTable, MemoryStore, over_memory}

@@ -1,6 +1,5 @@
 -- What a `VolatileFile` shows.
-use Rattle.std.specs.Prelude.{◌≡◌, ℕ, true, List, false}
-use Rattle.sqlite_disk.specs.declared.Disk.{Ghosts}
+use Rattle.std.specs.Prelude.{ℕ, List}
 use Rattle.memory_database.specs.declared.file.VolatileFile.{VolatileFile}
 
 -- its member `seen`

@@ -1,30 +1,42 @@
 //! A database in a copy, in memory, of its two files.
 
-ghost use Rattle.std.specs.Prelude.{IfErr, IfOk, IsTrue};
-ghost use Rattle.sqlite.specs.Opening.{is_open_error};
-ghost use Rattle.memory_database.specs.Copies.{IsCopyOf};
+ghost use Rattle.std.specs.Prelude.{◌≡◌, IfErr, IfOk};
+ghost use Rattle.memory_database.specs.Copies.{FailsToCopy, IsCopyOf};
+ghost use Rattle.memory_database.specs.Errors.{opening_error};
 
 use crate::file::VolatileFile;
 use crate::open::options;
-use sqlite::{Connection, Error, FileStore, Files};
+use sqlite::{Connection, Error, ErrorCode, FileStore, Files};
 use std::alloc::Global;
 
 /// The store of a database in a copy of its files.
 pub type CopyStore = FileStore<VolatileFile>;
+
+// What a failed opening is told as: what memory fails, it fails for want of room.
+fn opening_error(error: Error) -> Error
+    ensures { result ≡ opening_error error }
+{
+    match error {
+        Error::SqliteFailure(ErrorCode::SystemIoFailure | ErrorCode::DiskFull) => {
+            Error::SqliteFailure(ErrorCode::OutOfMemory)
+        }
+        other => other,
+    }
+}
 
 /// The database in a copy of two files: that of a database, and its log, which may be empty. The log
 /// is recovered in the copy. Where both are empty this is an empty database.
 ///
 /// # Errors
 ///
-/// As of the kit's `Connection::open_files`: `NotADatabase` where the bytes are none.
+/// `NotADatabase` or `DatabaseCorrupt` where the bytes hold none; else `OutOfMemory`.
 pub fn open_copy(
     alloc: Global,
     log: Vec<u8>,
     database: Vec<u8>,
 ) -> Result<Connection<CopyStore>, Error>
     ensures copy { IfOk result (IsCopyOf log.items database.items) }
-    ensures named { IfErr result (λ error. IsTrue (is_open_error error)) }
+    ensures cause { IfErr result (FailsToCopy log.items database.items) }
 {
     let files = Files {
         log: VolatileFile::of(log),
@@ -32,6 +44,6 @@ pub fn open_copy(
     };
     match Connection::open_files(alloc, files, options()) {
         Ok(conn) => Ok(conn),
-        Err((error, _)) => Err(error),
+        Err((error, _)) => Err(opening_error(error)),
     }
 }

@@ -1,25 +1,27 @@
 //! The commands over the host: its files, its databases, its journals and its network.
 
 use crate::run::run_words;
-use command_host::{HostFiles, HostJournals, Unread};
+use command_host::{HostFiles, HostJournals, PassFiles, UnknownFiles};
+use progress::{KeptApart, MeasuredFiles, Meter};
 use sqlite::Start;
-use std::io::{Read, Write};
+use std::io::{IsTerminal, Read, Write};
 use streams::Counted;
 
-// The same, whatever the files of databases and of journals hold as they are opened.
-fn run_from<T: Start + Copy, U: Start + Copy>(
+// The same over these files, whatever the files of databases and of journals hold as they are opened.
+fn run_over<F: PassFiles, T: Start + Copy, U: Start + Copy, O: Write + Drop>(
     rt: &HostRuntime,
+    files: &F,
     start: T,
     journal: U,
     words: &[String],
     input: &mut dyn Read,
-    output: &mut dyn Write,
+    output: O,
     errors: &mut dyn Write,
 ) -> u8 {
     let databases = HostFiles::new(rt, start);
     let journals = HostJournals::new(rt, journal);
     run_words(
-        rt,
+        files,
         &databases,
         &journals,
         rt,
@@ -31,7 +33,24 @@ fn run_from<T: Start + Copy, U: Start + Copy>(
     )
 }
 
-/// [`run_words`] over the files, the databases, the journals and the network of the host.
+// The same over the files of the host, whose reading a terminal is told of.
+fn run_from<T: Start + Copy, U: Start + Copy>(
+    rt: &HostRuntime,
+    start: T,
+    journal: U,
+    words: &[String],
+    input: &mut dyn Read,
+    output: &mut dyn Write,
+    errors: &mut dyn Write,
+) -> u8 {
+    let meter = Meter::new(rt, rt.stderr().is_terminal());
+    let files = MeasuredFiles::new(rt, &meter);
+    let output = KeptApart::new(output, &meter, rt.stdout().is_terminal());
+    run_over(rt, &files, start, journal, words, input, output, errors)
+}
+
+/// [`run_words`] over the files, the databases, the journals and the network of the host. How far long
+/// reading of a file is shows on its standard error, where that is a terminal, apart from `errors`.
 pub fn run_here(
     rt: &HostRuntime,
     words: &[String],
@@ -39,5 +58,5 @@ pub fn run_here(
     output: &mut dyn Write,
     errors: &mut dyn Write,
 ) -> u8 {
-    run_from(rt, Unread, Unread, words, input, output, errors)
+    run_from(rt, UnknownFiles, UnknownFiles, words, input, output, errors)
 }

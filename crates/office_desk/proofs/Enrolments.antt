@@ -11,13 +11,12 @@ use Rattle.office_tables.specs.declared.row.UserRow.{UserRow}
 use Rattle.office_tables.specs.Tables.{Tables}
 use Rattle.office_tables.specs.Reads.{IsUserShowing}
 use Rattle.office_tables.specs.Lists.{holds_role}
-use Rattle.office_policy.specs.History.{History}
+use Rattle.office_policy.specs.History.{enrolled, History}
 use Rattle.office_policy.specs.Users.{user_of, user_showing, is_named}
 use Rattle.office_policy.specs.Facts.{enrol_facts, is_elsewhere, is_another}
-use Rattle.office_policy.specs.Verdict.{denied, verdict_of}
+use Rattle.office_policy.specs.Verdict.{accepted, denied, verdict_of}
 use Rattle.office_policy.specs.LooksBack.{LooksBack}
 use Rattle.office_policy.proofs.LookUps.{shower_is}
-use Rattle.office_desk.specs.Judged.{Accepts}
 use Rattle.office_desk.proofs.Handling.{denied_is, allowed_is}
 
 by_caller : (missing own fixed taken : Bool) (d : Denial)
@@ -59,5 +58,6 @@ module _ (h : History) (caller : UserRow) (user team : List ℕ) (roles : ℕ) (
     refused d e = denied_is h (Some caller) (ask.Enrol user team roles digest) d (subst (λ f. Decides caller user team f (Err d)) is e)
 
     -- none refuses it
-    pub accepts : Decides caller user team found (Ok tt) → Accepts caller (ask.Enrol user team roles digest) h Enrolled
+    pub accepts : Decides caller user team found (Ok tt)
+        → verdict_of h (Some caller) (ask.Enrol user team roles digest) ≡ accepted Enrolled (Some (enrolled caller.name user team roles digest))
     accepts e = allowed_is h (Some caller) (ask.Enrol user team roles digest) (subst (λ f. Decides caller user team f (Ok tt)) is e)

@@ -1,5 +1,5 @@
 -- How a request meets its verdict, and what judging it leaves of an office.
-use Rattle.std.proofs.Common.{inl, inr, ◌⊎◌, ◌≡◌, ◌≢◌, ◌∙◌, List, ℕ, Bool, true, false, Option, Some, None, Result, Ok, Err, IsTrue, refl, sym, ap, subst}
+use Rattle.std.proofs.Common.{inl, inr, ◌⊎◌, ◌≡◌, ◌≢◌, ◌∙◌, List, ℕ, Bool, true, false, Option, Some, None, Result, Ok, Err, IsTrue, IfOk, refl, sym, ap, subst}
 use Rattle.sqlite.specs.Held.{Held, state}
 use Rattle.sqlite.specs.State.{State, HasCleanDisk}
 use Rattle.sqlite.specs.Store.{Ghosts}
@@ -9,14 +9,11 @@ use Rattle.review_policy.specs.declared.ask.Ask.{Ask}
 use Rattle.review_policy.specs.declared.ask.Ask.TheVariants as ask
 use Rattle.review_policy.specs.declared.ask.Request.{Request}
 use Rattle.review_policy.specs.declared.answer.Answer.TheVariants.{Done, Denied, Fault}
-use Rattle.review_policy.specs.declared.answer.Fault.{Fault as TheFault}
-use Rattle.review_policy.specs.declared.answer.Fault.TheVariants as faults
+use Rattle.review_policy.specs.declared.fault.Fault.{Fault as TheFault}
 use Rattle.review_policy.specs.declared.answer.Reply.{Reply}
 use Rattle.review_policy.specs.declared.denial.Denial.{Denial}
 use Rattle.review_policy.specs.declared.denial.Rule.TheVariants.{CallerUnknown}
-use Rattle.office_tables.specs.declared.fault.StoreFault.{StoreFault}
-use Rattle.office_tables.specs.declared.fault.StoreFault.TheVariants.{NoMemory, Disk, Full, NotAnOffice}
-use Rattle.office_tables.specs.declared.row.RevisionRow.{RevisionRow}
+use Rattle.review_policy.specs.declared.fault.Fault.TheVariants.{NoMemory, Disk, Full, NotAnOffice}
 use Rattle.office_tables.specs.declared.row.UserRow.{UserRow}
 use Rattle.office_tables.specs.Reads.{IsUserShowing}
 use Rattle.profile_text.specs.Digest.{digest_of}
@@ -26,27 +23,27 @@ use Rattle.office_policy.specs.declared.judge.Judgement.TheVariants as judgement
 use Rattle.office_policy.specs.Users.{user_showing}
 use Rattle.office_policy.proofs.LookUps.{shower_is}
 use Rattle.office_rows.specs.Causes.{HasFailed}
-use Rattle.office_store.specs.Shown.{ShowsIfOpen}
-use Rattle.office_policy.specs.History.{Event, History}
+use Rattle.office_store.specs.Shown.{IsIdle, ShowsIfOpen}
+use Rattle.office_policy.specs.History.{History}
 use Rattle.office_policy.specs.Verdict.{Verdict, accepted, denied, rules_of, done_of, fault_beside, judged, verdict_of, verdict}
 use Rattle.office_policy.specs.Formed.{HasForms, IsFormed}
 use Rattle.office_policy.specs.Lawful.{IsLawfulHistory}
 use Rattle.office_policy.specs.TablesOf.{tables_of}
 use Rattle.office_policy.specs.Runs.{answer_of, event_of, with_event, IsAnswer}
 use Rattle.office_policy.specs.Handled.{HasCause, IsUnwritten, LacksMemory, RefusesEvent, Stands, Survives, only_reads}
-use Rattle.office_policy.specs.Judging.{HasEvent, IsAnswered, IsJudged, IsNextRevision, IsPermitted, LeavesAll, event_in}
+use Rattle.office_policy.specs.Judging.{IsAnswered, IsJudged, IsPermitted, LeavesAll, event_for}
 use Rattle.office_policy.proofs.HeadlineFacts.{given_out_approved}
 use Rattle.office_policy.proofs.LawFacts.{lawful_more, requested_allowed}
 use Rattle.office_policy.proofs.Numbered.{numbered}
 use Rattle.office_desk.specs.declared.refusal.Refusal.{Refusal}
 use Rattle.office_desk.specs.declared.refusal.Refusal.TheVariants as refusals
 use Rattle.office_desk.specs.Offices.{IsOffice}
-use Rattle.office_desk.specs.Told.{told_of, judgement_of}
-use Rattle.office_desk.specs.Judged.{ComesTo, HasEventIn, IsSettled, Judges, JudgesAsk, JudgesFor, JudgesRequest, JudgesSubmission, UnlessFault, plainly, submission_of}
-use Rattle.office_desk.specs.Steps.{allowed_of, answered_of, submitted_of}
+use Rattle.office_desk.specs.Told.{judgement_of}
+use Rattle.office_desk.specs.Judged.{ComesTo, IsAskedBy, IsAskedIfAllowed, IsSettled, Judges, JudgesChange, JudgesFor, JudgesRead, JudgesRequest, UnlessFault}
+use Rattle.office_desk.specs.Steps.{allowed_of, answered_of}
 use Rattle.office_desk.specs.Meant.{meaning_over}
 use Rattle.office_desk.specs.Replayed.{IsCaused, ReadsIfAnswered}
-use Rattle.office_desk.proofs.Judging.{judged_as, never_both, refused_as}
+use Rattle.office_desk.proofs.Judging.{judged_as, never_both, refused_as, refused_at_once}
 
 -- ---- verdicts
 
@@ -86,41 +83,37 @@ shows h lawful r digest user is showing = sym (shower_is h lawful digest user sh
 -- ---- what a request comes to, by its kind
 
 module _ (old new : State) (caller : UserRow) (a b : Ask) (is : b ≡ a) where
-  for_same : (told : Result Judgement Refusal) → JudgesFor old new told caller a → JudgesFor old new told caller b
-  for_same told judged = subst (JudgesFor old new told caller) (sym is) judged
+  for_same : (told : Result Judgement Refusal) → JudgesFor old new told (Some caller) a → JudgesFor old new told (Some caller) b
+  for_same told judged = subst (JudgesFor old new told (Some caller)) (sym is) judged
 
   -- what only reads is answered
-  pub reads : ((reply : Reply) → event_in a (plainly caller reply) ≡ None) → (read : Result Reply Refusal) → JudgesAsk old new read caller a
-      → (told : Result Judgement Refusal) → told ≡ answered_of read → JudgesFor old new told caller b
-  reads none (Ok reply) judged told same =
-      for_same told (subst (λ t. JudgesFor old new t caller a) (sym same) (record {
-        judged = judged_as (λ h. verdict_of h (Some caller) a) old new reply (judgements.Answered (Done reply)) (λ h found. found ∙ ap (accepted reply) (none reply)) judged;
-        event = tt;
+  pub reads : (read : Result Reply Refusal) → JudgesRead old new read caller a → (told : Result Judgement Refusal) → told ≡ answered_of read → JudgesFor old new told (Some caller) b
+  reads (Ok reply) judged told same =
+      for_same told (subst (λ t. JudgesFor old new t (Some caller) a) (sym same) (record {
+        judged = judged_as (λ h. verdict_of h (Some caller) a) old new reply (judgements.Answered (Done reply)) (λ h found. found) judged;
+        asked = tt;
       }))
-  reads none (Err refusal) judged told same =
-      for_same told (subst (λ t. JudgesFor old new t caller a) (sym same) (record { judged = refused_as (λ h. verdict_of h (Some caller) a) old new refusal judged; event = tt }))
+  reads (Err refusal) judged told same =
+      for_same told (subst (λ t. JudgesFor old new t (Some caller) a) (sym same) (record { judged = refused_as (λ h. verdict_of h (Some caller) a) old new refusal judged; asked = tt }))
 
   -- what changes something is allowed
-  pub changes : (e : Event) → ((reply : Reply) → event_in a (plainly caller reply) ≡ Some e) → ((h : History) (allowed : Allowed) → IsNextRevision h a allowed)
-      → (decided : Result Reply Refusal) → JudgesAsk old new decided caller a → (told : Result Judgement Refusal) → told ≡ allowed_of decided caller → JudgesFor old new told caller b
-  changes e has next (Ok reply) judged told same =
-      for_same told (subst (λ t. JudgesFor old new t caller a) (sym same) (record {
-        judged = judged_as (λ h. verdict_of h (Some caller) a) old new reply (judgements.Allowed (plainly caller reply)) (λ h found. (refl, found, next h (plainly caller reply))) judged;
-        event = record { event = e; asked = has reply };
+  pub changes : (decided : Result Allowed Refusal) → JudgesChange old new decided caller a → IfOk decided (IsAskedBy a)
+      → (told : Result Judgement Refusal) → told ≡ allowed_of decided → JudgesFor old new told (Some caller) b
+  changes (Ok allowed) judged asked told same =
+      for_same told (subst (λ t. JudgesFor old new t (Some caller) a) (sym same) (record {
+        judged = judged_as (λ h. verdict_of h (Some caller) a) old new allowed (judgements.Allowed allowed) (λ h found. found) judged;
+        asked = asked;
       }))
-  changes e has next (Err refusal) judged told same =
-      for_same told (subst (λ t. JudgesFor old new t caller a) (sym same) (record { judged = refused_as (λ h. verdict_of h (Some caller) a) old new refusal judged; event = tt }))
+  changes (Err refusal) judged asked told same =
+      for_same told (subst (λ t. JudgesFor old new t (Some caller) a) (sym same) (record { judged = refused_as (λ h. verdict_of h (Some caller) a) old new refusal judged; asked = tt }))
 
-  -- and so is a submission
-  pub adds : ((row : RevisionRow) → (e : Event) × (event_in a (submission_of caller row) ≡ Some e))
-      → (decided : Result RevisionRow Refusal) → JudgesSubmission old new decided caller a → (told : Result Judgement Refusal) → told ≡ submitted_of decided caller → JudgesFor old new told caller b
-  adds has (Ok row) judged told same =
-      for_same told (subst (λ t. JudgesFor old new t caller a) (sym same) (record {
-        judged = judged_as (λ h. verdict_of h (Some caller) a) old new row (judgements.Allowed (submission_of caller row)) (λ h found. (refl, found.0, found.1)) judged;
-        event = record { event = (has row).0; asked = (has row).1 };
-      }))
-  adds has (Err refusal) judged told same =
-      for_same told (subst (λ t. JudgesFor old new t caller a) (sym same) (record { judged = refused_as (λ h. verdict_of h (Some caller) a) old new refusal judged; event = tt }))
+-- a stranger is refused by the first rule
+pub judged_stranger : (s : State) (a : Ask) (refusal : Refusal) → refusal ≡ refusals.Denied (record { number = 1; rule = CallerUnknown }) None → IsIdle s
+    → JudgesFor s s (Err refusal) None a
+judged_stranger s a refusal is idle = subst (λ r. JudgesFor s s (Err r) None a) (sym is) (record {
+  judged = refused_at_once (λ h. verdict_of h None a) s (record { number = 1; rule = CallerUnknown }) None idle (λ h lawful. stranger h a);
+  asked = tt;
+})
 
 module _ (a : Ask) where
   -- what only reads is answered
@@ -129,22 +122,21 @@ module _ (a : Ask) where
   answers_reads only (Err refusal) told is = subst (ReadsIfAnswered a) (sym is) tt
 
   -- and what is allowed isn't
-  pub answers_none : (decided : Result Reply Refusal) (caller : UserRow) (told : Result Judgement Refusal) → told ≡ allowed_of decided caller → ReadsIfAnswered a told
-  answers_none (Ok reply) caller told is = subst (ReadsIfAnswered a) (sym is) tt
-  answers_none (Err refusal) caller told is = subst (ReadsIfAnswered a) (sym is) tt
-
-  -- nor a submission
-  pub answers_no_submission : (decided : Result RevisionRow Refusal) (caller : UserRow) (told : Result Judgement Refusal) → told ≡ submitted_of decided caller → ReadsIfAnswered a told
-  answers_no_submission (Ok row) caller told is = subst (ReadsIfAnswered a) (sym is) tt
-  answers_no_submission (Err refusal) caller told is = subst (ReadsIfAnswered a) (sym is) tt
+  pub answers_none : (decided : Result Allowed Refusal) (told : Result Judgement Refusal) → told ≡ allowed_of decided → ReadsIfAnswered a told
+  answers_none (Ok allowed) told is = subst (ReadsIfAnswered a) (sym is) tt
+  answers_none (Err refusal) told is = subst (ReadsIfAnswered a) (sym is) tt
 
 -- the caller who was found is the one who shows the token
-pub comes_as : (a : Ask) (first judge : History → Verdict) (h : History) (IsFirst IsCaller : History → UserRow → Type 0) → first h ≡ judge h → ((user : UserRow) → IsFirst h user → IsCaller h user)
-    → (told : Judgement) → ComesTo a first IsFirst h told → ComesTo a judge IsCaller h told
-comes_as a first judge h IsFirst IsCaller is shows (judgements.Answered (Done reply)) comes = sym is ∙ comes
-comes_as a first judge h IsFirst IsCaller is shows (judgements.Answered (Denied d fault)) comes = absurd comes
-comes_as a first judge h IsFirst IsCaller is shows (judgements.Answered (Fault fault)) comes = absurd comes
-comes_as a first judge h IsFirst IsCaller is shows (judgements.Allowed allowed) comes = (shows allowed.caller comes.0, sym is ∙ comes.1, comes.2)
+pub comes_as : (first judge : History → Verdict) (h : History) (IsFirst IsCaller : History → UserRow → Type 0) → first h ≡ judge h → ((user : UserRow) → IsFirst h user → IsCaller h user)
+    → (told : Judgement) → ComesTo first IsFirst h told → ComesTo judge IsCaller h told
+comes_as first judge h IsFirst IsCaller is shows (judgements.Answered (Done reply)) comes = sym is ∙ comes
+comes_as first judge h IsFirst IsCaller is shows (judgements.Answered (Denied d fault)) comes = absurd comes
+comes_as first judge h IsFirst IsCaller is shows (judgements.Answered (Fault fault)) comes = absurd comes
+comes_as first judge h IsFirst IsCaller is shows (judgements.Allowed allowed) comes = record {
+  caller = shows allowed.caller comes.caller;
+  verdict = sym is ∙ comes.verdict;
+  next = comes.next;
+}
 
 -- ---- the office after a request
 
@@ -158,16 +150,16 @@ lawful_after h r (accepted reply (Some e)) token forms is lawful =
     lawful_more h e lawful (record { request = r; formed = record { token = token; forms = forms; number = numbered h lawful r reply e is }; reply = reply; allowed = is })
 lawful_after h r (denied denial fault) token forms is lawful = lawful
 
-pub passing : (h : History) (r : Request) (fault : StoreFault) → fault ≢ NotAnOffice → IsAnswer h r (Fault (told_of fault))
+pub passing : (h : History) (r : Request) (fault : TheFault) → fault ≢ NotAnOffice → IsAnswer h r (Fault fault)
 passing h r NoMemory passes = tt
 passing h r Disk passes = tt
 passing h r Full passes = tt
 passing h r NotAnOffice passes = absurd (passes refl)
 
 -- a fault over the connection is one of the office, which may refuse what was to be written
-pub caused_by : {S : Type 0} (g : Ghosts S) (old new : Held S) (Refuses : TheFault → Type 0) (fault : StoreFault) → fault ≢ NotAnOffice
-    → (fault ≡ NoMemory → IsUnwritten (meaning_over g) old new ⊎ Refuses faults.Memory)
-    → HasFailed (state g old) (state g new) fault ⊎ Refuses (told_of fault) → IsCaused (meaning_over g) old new Refuses (told_of fault)
+pub caused_by : {S : Type 0} (g : Ghosts S) (old new : Held S) (Refuses : TheFault → Type 0) (fault : TheFault) → fault ≢ NotAnOffice
+    → (fault ≡ NoMemory → IsUnwritten (meaning_over g) old new ⊎ Refuses NoMemory)
+    → HasFailed (state g old) (state g new) fault ⊎ Refuses fault → IsCaused (meaning_over g) old new Refuses fault
 caused_by g old new Refuses NoMemory passes memory cause = memory refl
 caused_by g old new Refuses Disk passes memory (inl (inl risen)) = λ is_open. inl risen
 caused_by g old new Refuses Disk passes memory (inl (inr shut)) = λ is_open. never_both (state g old).is_open is_open shut
@@ -176,8 +168,8 @@ caused_by g old new Refuses Full passes memory cause = cause
 caused_by g old new Refuses NotAnOffice passes memory cause = absurd (passes refl)
 
 -- and so is that of a request
-pub caused : {S : Type 0} (g : Ghosts S) (old new : Held S) (h : History) (r : Request) (fault : StoreFault) → fault ≢ NotAnOffice → (fault ≡ NoMemory → LacksMemory (meaning_over g) old new h r)
-    → HasFailed (state g old) (state g new) fault ⊎ RefusesEvent (meaning_over g) old h (verdict h r) (told_of fault) → HasCause (meaning_over g) old new h r (Fault (told_of fault))
+pub caused : {S : Type 0} (g : Ghosts S) (old new : Held S) (h : History) (r : Request) (fault : TheFault) → fault ≢ NotAnOffice → (fault ≡ NoMemory → LacksMemory (meaning_over g) old new h r)
+    → HasFailed (state g old) (state g new) fault ⊎ RefusesEvent (meaning_over g) old h (verdict h r) fault → HasCause (meaning_over g) old new h r (Fault fault)
 caused g old new h r NoMemory passes memory cause = memory refl
 caused g old new h r Disk passes memory cause = caused_by g old new (RefusesEvent (meaning_over g) old h (verdict h r)) Disk passes memory cause
 caused g old new h r Full passes memory cause = cause
@@ -261,23 +253,22 @@ module _ {S : Type 0} (g : Ghosts S) (old new : Held S) where
             }
 
         -- it is allowed, and has an event
-        permitted : (allowed : Allowed) → HasEvent r.ask allowed → Always (λ h. ComesTo r.ask (λ h. verdict h r) (λ h user. user_showing h (digest_of r.token) ≡ Some user) h (judgements.Allowed allowed))
+        permitted : (allowed : Allowed) → IsAskedBy r.ask allowed → Always (λ h. ComesTo (λ h. verdict h r) (λ h user. user_showing h (digest_of r.token) ≡ Some user) h (judgements.Allowed allowed))
             → IsPermitted (meaning_over g) old new r allowed
-        permitted allowed has comes = record {
+        permitted allowed asked comes = record {
           leaves = leaves;
-          event = has;
+          token = token;
+          forms = forms;
+          asked = asked;
           allowed = λ h office clean.
               let told = comes h office clean in
-              let verdict_is : verdict h r ≡ accepted allowed.reply (Some has.event) = told.1 ∙ ap (accepted allowed.reply) has.asked in
-              let formed : IsFormed r = record { token = token; forms = forms; number = numbered h office.lawful r allowed.reply has.event verdict_is } in
+              let formed : IsFormed r = record { token = token; forms = forms; number = numbered h office.lawful r allowed.reply (event_for allowed) told.verdict } in
               record {
                 formed = formed;
-                caller = told.0;
-                event = has.event;
-                asked = has.asked;
-                verdict = verdict_is;
-                revision = told.2;
-                lawful = requested_allowed h has.event (record { request = r; formed = formed; reply = allowed.reply; allowed = verdict_is });
+                caller = told.caller;
+                verdict = told.verdict;
+                next = told.next;
+                lawful = requested_allowed h (event_for allowed) (record { request = r; formed = formed; reply = allowed.reply; allowed = told.verdict });
               };
           stands = λ h office clean. stands h (leaves.office h office) clean (is_open clean);
         }
@@ -300,11 +291,11 @@ module _ {S : Type 0} (g : Ghosts S) (old new : Held S) where
       }
 
   -- whatever it came to
-  pub judged_is : (r : Request) → is_token r.token ≡ true → HasForms r.ask → (result : Result Judgement Refusal) → JudgesRequest (state g old) (state g new) result r → HasEventIn r.ask result
+  pub judged_is : (r : Request) → is_token r.token ≡ true → HasForms r.ask → (result : Result Judgement Refusal) → JudgesRequest (state g old) (state g new) result r → IsAskedIfAllowed r.ask result
       → (HasCleanDisk (state g new) → UnlessFault result (IsTrue (state g old).is_open)) → IsSettled (state g new) → (told : Judgement) → told ≡ judgement_of result → IsJudged (meaning_over g) old new r told
   judged_is r token forms result judged has was_open settled told is = subst (IsJudged (meaning_over g) old new r) (sym is) (by_result result judged has was_open)
     where
-      by_result : (result : Result Judgement Refusal) → JudgesRequest (state g old) (state g new) result r → HasEventIn r.ask result
+      by_result : (result : Result Judgement Refusal) → JudgesRequest (state g old) (state g new) result r → IsAskedIfAllowed r.ask result
           → (HasCleanDisk (state g new) → UnlessFault result (IsTrue (state g old).is_open)) → IsJudged (meaning_over g) old new r (judgement_of result)
       by_result (Ok (judgements.Answered (Done reply))) judged has was_open =
           answered_done (left_all (Ok (judgements.Answered (Done reply))) (λ h. verdict h r) judged) settled r token forms (λ clean. judged.stays clean (was_open clean)) reply
@@ -323,7 +314,7 @@ module _ {S : Type 0} (g : Ghosts S) (old new : Held S) where
           answered_denied (left_all {A = Judgement} (Err (refusals.Denied d fault)) (λ h. verdict h r) judged) settled r token forms (λ clean. judged.stays clean (was_open clean)) d fault
           (λ h office clean. judged.told h office.lawful (office.tables (judged.clean clean)) clean)
       by_result (Err (refusals.Fault fault)) judged has was_open =
-          answered_fault (left_all {A = Judgement} (Err (refusals.Fault fault)) (λ h. verdict h r) judged) settled r token forms (told_of fault)
+          answered_fault (left_all {A = Judgement} (Err (refusals.Fault fault)) (λ h. verdict h r) judged) settled r token forms fault
           (λ h office clean. passing h r fault (judged.told h office.lawful (office.tables (judged.clean clean)) clean))
           (λ h office clean.
           let shows = office.tables (judged.clean clean) in

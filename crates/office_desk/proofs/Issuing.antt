@@ -31,7 +31,6 @@ use Rattle.office_policy.proofs.LookUps.{author_is}
 use Rattle.office_desk.specs.declared.baseline.Comparison.{Comparison}
 use Rattle.office_desk.specs.declared.issue.Looked.{Looked}
 use Rattle.office_desk.specs.Compared.{compared_at}
-use Rattle.office_desk.specs.Judged.{Accepts}
 use Rattle.office_desk.specs.Issuing.{deciding_need, is_enough_for_any, looked_at, one_approval}
 use Rattle.office_desk.proofs.Early.{alike_behind, refused_early}
 use Rattle.office_desk.proofs.Handling.{denied_is, allowed_is}
@@ -140,7 +139,8 @@ module _ (h : History) (caller : UserRow) (p : ProfileName) (n : ℕ) where
       refused_by_need d e = denied_by d (decides ∙ e)
 
       -- none refuses it
-      pub accepts : first_denial (issue_rules (facts_by caller l asked)) ≡ Ok tt → Accepts caller (ask.Issue p n) h (reply.Issued r.digest)
+      pub accepts : first_denial (issue_rules (facts_by caller l asked)) ≡ Ok tt
+          → verdict_of h (Some caller) (ask.Issue p n) ≡ accepted (reply.Issued r.digest) (Some (issued caller.name p n))
       accepts e =
           allowed_is h (Some caller) (ask.Issue p n)
           (subst (λ k. first_denial (issue_rules (facts_by caller k (need_at h p n))) ≡ Ok tt) is (decides ∙ e))

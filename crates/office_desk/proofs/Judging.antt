@@ -3,8 +3,8 @@ use Rattle.std.proofs.Common.{arith, ◌≤◌, ◌≡◌, ◌∙◌, Bool, true
 use Rattle.sqlite.specs.State.{State}
 use Rattle.sqlite.proofs.StateLemmas.{survives_then}
 use Rattle.review_policy.specs.declared.denial.Denial.{Denial}
-use Rattle.office_tables.specs.declared.fault.StoreFault.{StoreFault}
-use Rattle.office_tables.specs.declared.fault.StoreFault.TheVariants.{NoMemory, NotAnOffice}
+use Rattle.review_policy.specs.declared.fault.Fault.{Fault}
+use Rattle.review_policy.specs.declared.fault.Fault.TheVariants.{NoMemory, NotAnOffice}
 use Rattle.office_tables.specs.Tables.{Tables}
 use Rattle.office_rows.specs.Causes.{HasFailed}
 use Rattle.office_rows.proofs.Sure.{met_between}
@@ -24,10 +24,10 @@ pub never_both : {P : Type 0} (b : Bool) → IsTrue b → b ≡ false → P
 never_both true is_open shut = absurd cc
 never_both false is_open shut = absurd cc
 
-never_memory : {P : Type 0} (f : StoreFault) → f ≡ NoMemory → f ≡ NotAnOffice → P
+never_memory : {P : Type 0} (f : Fault) → f ≡ NoMemory → f ≡ NotAnOffice → P
 never_memory f memory same = absurd (let k : NoMemory ≡ NotAnOffice = sym memory ∙ same in cc)
 
-of_memory : (old new : State) (f : StoreFault) → f ≡ NoMemory → HasFailed old new f
+of_memory : (old new : State) (f : Fault) → f ≡ NoMemory → HasFailed old new f
 of_memory old new f memory = subst (HasFailed old new) (sym memory) tt
 
 -- a `?` that leaves with this refusal
@@ -37,7 +37,7 @@ left judge old new (Ok a) refusal is judged = absurd is
 left {Found = Found} judge old new (Err r) refusal is judged = subst (λ e. Judges old new (Err e) judge Found) (sym is) judged
 
 -- the same of a read
-pub read_left : {A : Type 0} (old new : State) (F : Tables → A → Type 0) (result : Result A StoreFault) (f : StoreFault) → IsErrAnd result (λ e. e ≡ f)
+pub read_left : {A : Type 0} (old new : State) (F : Tables → A → Type 0) (result : Result A Fault) (f : Fault) → IsErrAnd result (λ e. e ≡ f)
     → IsRead {A = A} old new (Err f) F → IsRead old new result F
 read_left old new F (Ok a) f is read = absurd is
 read_left old new F (Err e) f is read = subst (λ x. IsRead old new (Err x) F) (sym is) read
@@ -64,7 +64,7 @@ read_as old new F H a b again read = record {
 }
 
 -- what failed, whatever was to be found
-pub read_fails_as : {A B : Type 0} (old new : State) (F : Tables → A → Type 0) (H : Tables → B → Type 0) (f : StoreFault) → IsRead {A = A} old new (Err f) F → IsRead {A = B} old new (Err f) H
+pub read_fails_as : {A B : Type 0} (old new : State) (F : Tables → A → Type 0) (H : Tables → B → Type 0) (f : Fault) → IsRead {A = A} old new (Err f) F → IsRead {A = B} old new (Err f) H
 read_fails_as old new F H f read = record {
   leaves = record {
     idle = read.leaves.idle;
@@ -82,7 +82,7 @@ read_fails_as old new F H f read = record {
 }
 
 -- a fault of memory after a read
-pub read_in_vain : {A B : Type 0} (old new : State) (F : Tables → A → Type 0) (H : Tables → B → Type 0) (a : A) (f : StoreFault) → f ≡ NoMemory → IsRead old new (Ok a) F → IsRead {A = B} old new (Err f) H
+pub read_in_vain : {A B : Type 0} (old new : State) (F : Tables → A → Type 0) (H : Tables → B → Type 0) (a : A) (f : Fault) → f ≡ NoMemory → IsRead old new (Ok a) F → IsRead {A = B} old new (Err f) H
 read_in_vain old new F H a f memory read = record {
   leaves = record {
     idle = read.leaves.idle;
@@ -126,7 +126,7 @@ module _ {A B : Type 0} (old mid new : State) (F : Tables → A → Type 0) (G :
   }
 
   -- the second failed
-  pub second_fails : {C : Type 0} (H : Tables → C → Type 0) (f : StoreFault) → IsRead {A = B} mid new (Err f) G → IsRead {A = C} old new (Err f) H
+  pub second_fails : {C : Type 0} (H : Tables → C → Type 0) (f : Fault) → IsRead {A = B} mid new (Err f) G → IsRead {A = C} old new (Err f) H
   second_fails H f second = record {
     leaves = record {
       idle = second.leaves.idle;
@@ -172,7 +172,7 @@ module _ {A : Type 0} {Found : History → A → Type 0} (judge : History → Ve
   }
 
   -- nothing is done for no memory
-  pub failed_at_once : (s : State) (f : StoreFault) → IsIdle s → f ≡ NoMemory → Judges {A = A} s s (Err (refusals.Fault f)) judge Found
+  pub failed_at_once : (s : State) (f : Fault) → IsIdle s → f ≡ NoMemory → Judges {A = A} s s (Err (refusals.Fault f)) judge Found
   failed_at_once s f idle memory = record {
     idle = idle;
     clean = λ clean. clean;
@@ -189,7 +189,7 @@ module _ {A : Type 0} {Found : History → A → Type 0} (judge : History → Ve
 
   module _ {B : Type 0} (old new : State) (F : Tables → B → Type 0) where
     -- a read failed
-    pub read_fails : (f : StoreFault) → IsRead {A = B} old new (Err f) F → Judges {A = A} old new (Err (refusals.Fault f)) judge Found
+    pub read_fails : (f : Fault) → IsRead {A = B} old new (Err f) F → Judges {A = A} old new (Err (refusals.Fault f)) judge Found
     read_fails f read = record {
       idle = read.leaves.idle;
       clean = read.leaves.clean;
@@ -206,7 +206,7 @@ module _ {A : Type 0} {Found : History → A → Type 0} (judge : History → Ve
 
     module _ (b : B) (read : IsRead old new (Ok b) F) where
       -- memory was wanted after it
-      pub fails_after : (f : StoreFault) → f ≡ NoMemory → Judges {A = A} old new (Err (refusals.Fault f)) judge Found
+      pub fails_after : (f : Fault) → f ≡ NoMemory → Judges {A = A} old new (Err (refusals.Fault f)) judge Found
       fails_after f memory = record {
         idle = read.leaves.idle;
         clean = read.leaves.clean;

@@ -4,10 +4,9 @@ use Rattle.std.specs.Prelude.{◌↔◌, option_map}
 use Rattle.sqlite.specs.Held.{Held, state}
 use Rattle.sqlite.specs.Store.{Ghosts}
 use Rattle.review_policy.specs.declared.ask.ProfileName.{ProfileName}
-use Rattle.review_policy.specs.declared.answer.Fault.{Fault}
+use Rattle.review_policy.specs.declared.fault.Fault.{Fault}
 use Rattle.review_policy.specs.declared.role.Role.TheVariants.{Security}
-use Rattle.office_tables.specs.declared.fault.StoreFault.{StoreFault}
-use Rattle.office_tables.specs.declared.fault.StoreFault.TheVariants.{NoMemory, Disk, Full, NotAnOffice}
+use Rattle.review_policy.specs.declared.fault.Fault.TheVariants.{NoMemory, Disk, Full, NotAnOffice}
 use Rattle.office_tables.specs.declared.row.UserRow.{UserRow}
 use Rattle.office_tables.specs.Lists.{holds_role}
 use Rattle.office_tables.specs.Tables.{Tables, Vote}
@@ -24,7 +23,6 @@ use Rattle.office_policy.specs.TablesOf.{tables_of}
 use Rattle.office_policy.specs.Users.{registrar_alone}
 use Rattle.office_desk.specs.Looking.{HasLooked, IsMetBetween}
 use Rattle.office_desk.specs.Meant.{meaning_over}
-use Rattle.office_desk.specs.Told.{told_of, outcome_of}
 use Rattle.office_desk.proofs.Handling.{was_open_by}
 use Rattle.office_desk.proofs.Judging.{never_both}
 
@@ -52,7 +50,7 @@ vote_shown t p n voter approves shown found user is who shows =
 
 module _ {S : Type 0} (g : Ghosts S) (old new : Held S) where
   -- a read changes nothing
-  read_leaves : {A : Type 0} (r : Result A StoreFault) (F : Tables → A → Type 0) → IsRead (state g old) (state g new) r F → LeavesAll (meaning_over g) old new
+  read_leaves : {A : Type 0} (r : Result A Fault) (F : Tables → A → Type 0) → IsRead (state g old) (state g new) r F → LeavesAll (meaning_over g) old new
   read_leaves r F read =
       let survives : Survives (meaning_over g) old new = record {
         clean = read.leaves.clean;
@@ -72,7 +70,7 @@ module _ {S : Type 0} (g : Ghosts S) (old new : Held S) where
       }
 
   -- a fault over the connection is one of the office
-  met : (fault : StoreFault) → HasFailed (state g old) (state g new) fault → IsMetBetween (meaning_over g) old new (told_of fault)
+  met : (fault : Fault) → HasFailed (state g old) (state g new) fault → IsMetBetween (meaning_over g) old new fault
   met NoMemory failed = tt
   met Disk (inl risen) = λ is_open. risen
   met Disk (inr shut) = λ is_open. never_both (state g old).is_open is_open shut
@@ -81,8 +79,8 @@ module _ {S : Type 0} (g : Ghosts S) (old new : Held S) where
 
   -- what the read found is so found of each history
   module _ {A : Type 0} (F : Tables → A → Type 0) (Found : History → A → Type 0) (finds : (h : History) (a : A) → IsLawfulHistory h → F (tables_of h) a → Found h a) where
-    by_result : (r : Result A StoreFault) → IsRead (state g old) (state g new) r F → HasLooked (meaning_over g) old new Found (outcome_of r)
-    by_result (Ok a) read =
+    pub looked : (r : Result A Fault) → IsRead (state g old) (state g new) r F → HasLooked (meaning_over g) old new Found r
+    looked (Ok a) read =
         let leaves = read_leaves (Ok a) F read in
         record {
           leaves = leaves;
@@ -93,12 +91,9 @@ module _ {S : Type 0} (g : Ghosts S) (old new : Held S) where
               let still = leaves.office h office in
               record { is_of = still; is_open = is_open; leaves = read.leaves.settled (tables_of h) (still.tables clean is_open) };
         }
-    by_result (Err fault) read = record {
+    looked (Err fault) read = record {
       leaves = read_leaves {A = A} (Err fault) F read;
       found = λ h office clean. tt;
       cause = λ h office clean. met fault (read.cause (tables_of h) (office.tables (read.leaves.clean clean)) clean);
       stands = λ h office clean. tt;
     }
-
-    pub looked : (r : Result A StoreFault) → IsRead (state g old) (state g new) r F → (told : Result A Fault) → told ≡ outcome_of r → HasLooked (meaning_over g) old new Found told
-    looked r read told is = subst (HasLooked (meaning_over g) old new Found) (sym is) (by_result r read)

@@ -1,6 +1,6 @@
 -- How an event happens again, and what that leaves of an office.
-use Rattle.std.proofs.Common.{inl, inr, ◌≡◌, ◌∙◌, ◌∷◌, [], ℕ, List, true, false, Option, Some, None, Result, Ok, Err, IsErrAnd, IsTrue, refl, sym, ap, subst}
-use Rattle.std.specs.Prelude.{⊤, Vec, option_map, option_and_then}
+use Rattle.std.proofs.Common.{inl, inr, ◌≡◌, ◌∙◌, ℕ, List, true, false, Option, Some, None, Result, Ok, Err, IsErrAnd, IsTrue, refl, sym, ap, subst}
+use Rattle.std.specs.Prelude.{⊤, Vec, bytes_eq, option_and_then}
 use Rattle.std.specs.declared.alloc.Global.{Global}
 use Rattle.sqlite.specs.Held.{Held, state}
 use Rattle.sqlite.specs.State.{HasCleanDisk}
@@ -13,18 +13,16 @@ use Rattle.profile_text.proofs.ReadBack.{read_again}
 use Rattle.review_policy.specs.declared.ask.Ask.{Ask}
 use Rattle.review_policy.specs.declared.ask.Ask.TheVariants as ask
 use Rattle.review_policy.specs.declared.ask.ProfileName.{ProfileName}
-use Rattle.review_policy.specs.declared.answer.Fault.TheVariants as faults
+use Rattle.review_policy.specs.declared.fault.Fault.TheVariants as faults
 use Rattle.review_policy.specs.declared.answer.Reply.{Reply}
 use Rattle.review_policy.specs.declared.answer.Reply.TheVariants as reply
 use Rattle.review_policy.specs.declared.denial.Denial.{Denial}
 use Rattle.review_policy.specs.Rules.{first_denial, vote_rules, issue_rules, withdraw_rules, adopt_rules, submit_rules}
 use Rattle.review_sheet.specs.Sheet.{sheet_text}
-use Rattle.office_tables.specs.declared.fault.StoreFault.{StoreFault}
-use Rattle.office_tables.specs.declared.fault.StoreFault.TheVariants.{NoMemory}
-use Rattle.office_tables.specs.declared.row.RevisionRow.{RevisionRow}
+use Rattle.review_policy.specs.declared.fault.Fault.{Fault}
 use Rattle.office_tables.specs.declared.row.UserRow.{UserRow}
-use Rattle.office_store.specs.Refusing.{Write}
-use Rattle.office_store.specs.Shown.{IsIdle}
+use Rattle.office_policy.specs.declared.change.Change.{Change}
+use Rattle.office_policy.specs.declared.change.Change.TheVariants as changes
 use Rattle.office_policy.specs.declared.judge.Allowed.{Allowed}
 use Rattle.office_policy.specs.declared.judge.Judgement.{Judgement}
 use Rattle.office_policy.specs.declared.judge.Judgement.TheVariants as judgements
@@ -34,7 +32,8 @@ use Rattle.office_policy.specs.Formed.{HasForms, HasNumber}
 use Rattle.office_policy.specs.Handled.{AreWithEvent, RefusesEvent, Stands, Survives, only_reads}
 use Rattle.office_policy.specs.History.{Event, founded, enrolled, submitted, voted, issued, withdrawn, adopted, held, released, History}
 use Rattle.office_policy.specs.Holds.{is_held}
-use Rattle.office_policy.specs.Judging.{IsNextRevision, LeavesAll, event_in}
+use Rattle.office_policy.specs.Happened.{event_by}
+use Rattle.office_policy.specs.Judging.{IsNext, LeavesAll, event_for}
 use Rattle.office_policy.specs.Lawful.{IsAllowed, IsLawfulHistory}
 use Rattle.office_policy.specs.Need.{need_at}
 use Rattle.office_policy.specs.Revisions.{revision_of, revision_count, last_revision, issued_revision, is_author}
@@ -55,13 +54,12 @@ use Rattle.office_desk.specs.declared.refusal.Refusal.{Refusal}
 use Rattle.office_desk.specs.declared.refusal.Refusal.TheVariants as refusals
 use Rattle.office_desk.specs.declared.replay.Unreplayed.{Unreplayed}
 use Rattle.office_desk.specs.declared.replay.Unreplayed.TheVariants as causes
-use Rattle.office_desk.specs.Carries.{Asks, CarriesOut, write_of}
-use Rattle.office_desk.specs.Judged.{IsSettled}
+use Rattle.office_desk.specs.Carries.{Asks, write_of}
+use Rattle.office_desk.specs.Judged.{IsAskedBy, IsAskedIfAllowed, IsSettled}
 use Rattle.office_desk.specs.Meant.{meaning_over}
 use Rattle.office_desk.specs.Offices.{IsOffice}
-use Rattle.office_desk.specs.Replayed.{HasNoAsk, HasOtherText, IsAskOf, IsDeniedBy, IsReplayed, JudgesNamed, LeavesWith, has_text, unreplayed_of, verdict_for}
-use Rattle.office_desk.specs.Told.{told_of}
-use Rattle.office_desk.proofs.Carrying.{IsGranted, unwritten_cause, unwritten_kept, unwritten_memory, unwritten_office, written_crash, written_formed, written_stands, written_survives}
+use Rattle.office_desk.specs.Replayed.{HasNoAsk, HasOtherText, IsAskOf, IsDeniedBy, IsReplayed, JudgesNamed, LeavesWith, added, has_text, unreplayed_of, verdict_for}
+use Rattle.office_desk.proofs.Carrying.{IsGranted, lawful_with, unwritten_cause, unwritten_kept, unwritten_memory, unwritten_office, written_crash, written_formed, written_stands, written_survives}
 use Rattle.office_desk.proofs.Handling.{allowed_is, caused_by, left_all}
 
 -- ---- what an event asks
@@ -107,24 +105,43 @@ module _ (h : History) (lawful : IsLawfulHistory h) (caller : Option UserRow) wh
 some_same : {A : Type 0} (x y : A) → Some x ≡ Some y → x ≡ y
 some_same x y is = cc
 
+submitted_text : (b c : List ℕ) (p q : ProfileName) (text other : List ℕ) → submitted b p text ≡ submitted c q other → text ≡ other
+submitted_text b c p q text other is = cc
+
+-- the text of the revision that is added, where its event is a submission
+added_text : (who c : List ℕ) (q : ProfileName) (text other : List ℕ) (change : Change) → event_by who change ≡ submitted c q text
+    → is_text_of (Some other) (added change) ≡ bytes_eq other text
+added_text who c q text other (changes.Enrol user) is = absurd cc
+added_text who c q text other (changes.AddRevision p row) is = ap (bytes_eq other) (submitted_text who c p q row.body text is)
+added_text who c q text other (changes.Vote p n d approves) is = absurd cc
+added_text who c q text other (changes.Issue p n) is = absurd cc
+added_text who c q text other (changes.Withdraw p n) is = absurd cc
+added_text who c q text other (changes.Adopt p n) is = absurd cc
+added_text who c q text other (changes.Hold p) is = absurd cc
+added_text who c q text other (changes.Release p) is = absurd cc
+
 -- where it is allowed to the caller of the event, and has its text, it happens again
-pub happens_again : (e : Event) (a : Ask) (allowed : Allowed) → IsAskOf e a → caller_of e ≡ Some allowed.caller.name → has_text e allowed ≡ true → event_in a allowed ≡ Some e
-happens_again (founded n t d l) a allowed is caller text = absurd is
-happens_again (enrolled c n t r d) a allowed is caller text =
-    ap (λ b. event_in b allowed) is ∙ ap (λ who. Some (enrolled who n t r d)) (sym (some_same c allowed.caller.name caller))
-happens_again (submitted c p text) a allowed is caller same = ap (λ b. event_in b allowed) is.2 ∙ by_revision allowed.revision same
-  where
-    by_revision : (r : Option RevisionRow) → is_text_of (Some text) r ≡ true → option_map (λ row. submitted allowed.caller.name p row.body) r ≡ Some (submitted c p text)
-    by_revision None same = absurd cc
-    by_revision (Some row) same =
-        ap (λ who. Some (submitted who p row.body)) (sym (some_same c allowed.caller.name caller)) ∙ ap (λ body. Some (submitted c p body)) (sym (same_bytes text row.body same))
-happens_again (voted c p n d approves) a allowed is caller text =
-    ap (λ b. event_in b allowed) is ∙ ap (λ who. Some (voted who p n d approves)) (sym (some_same c allowed.caller.name caller))
-happens_again (issued c p n) a allowed is caller text = ap (λ b. event_in b allowed) is ∙ ap (λ who. Some (issued who p n)) (sym (some_same c allowed.caller.name caller))
-happens_again (withdrawn c p n) a allowed is caller text = ap (λ b. event_in b allowed) is ∙ ap (λ who. Some (withdrawn who p n)) (sym (some_same c allowed.caller.name caller))
-happens_again (adopted c p n) a allowed is caller text = ap (λ b. event_in b allowed) is ∙ ap (λ who. Some (adopted who p n)) (sym (some_same c allowed.caller.name caller))
-happens_again (held c p) a allowed is caller text = ap (λ b. event_in b allowed) is ∙ ap (λ who. Some (held who p)) (sym (some_same c allowed.caller.name caller))
-happens_again (released c p) a allowed is caller text = ap (λ b. event_in b allowed) is ∙ ap (λ who. Some (released who p)) (sym (some_same c allowed.caller.name caller))
+pub happens_again : (e : Event) (a : Ask) (allowed : Allowed) → IsAskOf e a → caller_of e ≡ Some allowed.caller.name → has_text e allowed.change ≡ true → IsAskedBy a allowed → event_for allowed ≡ e
+happens_again (founded n t d l) a allowed is caller text asked = absurd is
+happens_again (enrolled c n t r d) a allowed is caller text asked =
+    some_same _ _ (subst (λ b. IsAskedBy b allowed) is asked) ∙ ap (λ who. enrolled who n t r d) (sym (some_same c allowed.caller.name caller))
+happens_again (submitted c p text) a allowed is caller same asked =
+    let handed = subst (λ b. IsAskedBy b allowed) is.2 asked in
+    let happened = some_same _ _ handed.happened in
+    let body : text ≡ text_of handed.read = same_bytes text (text_of handed.read) (sym (added_text allowed.caller.name allowed.caller.name p (text_of handed.read) text allowed.change happened) ∙ same) in
+    happened ∙ ap (λ who. submitted who p (text_of handed.read)) (sym (some_same c allowed.caller.name caller)) ∙ ap (submitted c p) (sym body)
+happens_again (voted c p n d approves) a allowed is caller text asked =
+    some_same _ _ (subst (λ b. IsAskedBy b allowed) is asked) ∙ ap (λ who. voted who p n d approves) (sym (some_same c allowed.caller.name caller))
+happens_again (issued c p n) a allowed is caller text asked =
+    some_same _ _ (subst (λ b. IsAskedBy b allowed) is asked) ∙ ap (λ who. issued who p n) (sym (some_same c allowed.caller.name caller))
+happens_again (withdrawn c p n) a allowed is caller text asked =
+    some_same _ _ (subst (λ b. IsAskedBy b allowed) is asked) ∙ ap (λ who. withdrawn who p n) (sym (some_same c allowed.caller.name caller))
+happens_again (adopted c p n) a allowed is caller text asked =
+    some_same _ _ (subst (λ b. IsAskedBy b allowed) is asked) ∙ ap (λ who. adopted who p n) (sym (some_same c allowed.caller.name caller))
+happens_again (held c p) a allowed is caller text asked =
+    some_same _ _ (subst (λ b. IsAskedBy b allowed) is asked) ∙ ap (λ who. held who p) (sym (some_same c allowed.caller.name caller))
+happens_again (released c p) a allowed is caller text asked =
+    some_same _ _ (subst (λ b. IsAskedBy b allowed) is asked) ∙ ap (λ who. released who p) (sym (some_same c allowed.caller.name caller))
 
 -- ---- an event that is allowed is allowed as what it asks
 
@@ -173,9 +190,6 @@ allowed_again h e is a asks =
 accepted_event : (r s : Reply) (e f : Event) → accepted r (Some e) ≡ accepted s (Some f) → e ≡ f
 accepted_event r s e f is = cc
 
-submitted_text : (b c : List ℕ) (p q : ProfileName) (text other : List ℕ) → submitted b p text ≡ submitted c q other → text ≡ other
-submitted_text b c p q text other is = cc
-
 never_denied : (h : History) (e : Event) (d : Denial) → IsDeniedBy e h d → IsAllowed h e → ⊥
 never_denied h e d denies is =
     let clash : accepted is.reply (Some e) ≡ denied d denies.fault = sym (allowed_again h e is denies.ask denies.asks) ∙ denies.verdict in
@@ -193,62 +207,38 @@ never_other h e other is =
     (sym other.is ∙ accepted_event is.reply other.reply e (submitted other.caller other.name (text_of other.profile)) (sym (allowed_again h e is other.ask other.asks) ∙ other.verdict)))
 
 -- a submission with another text
-other_text : (h : History) (e : Event) (a : Ask) (allowed : Allowed) → IsAskOf e a → caller_of e ≡ Some allowed.caller.name → has_text e allowed ≡ false
-    → verdict_for e a h ≡ accepted allowed.reply (event_in a allowed) → HasOtherText e h
-other_text h (submitted c p text) a allowed is caller other verdict =
-    by_reading (reading_of is.0.items) refl (sym (ap (done_of h (user_of h c)) is.2) ∙ (carried_out_of h (user_of h c) a allowed.reply (event_in a allowed) verdict).done ∙ ap (λ b. accepted allowed.reply (event_in b allowed)) is.2)
-  where
-    name_is : allowed.caller.name ≡ c
-    name_is = sym (some_same c allowed.caller.name caller)
-
-    by_revision : (profile : Profile) → reading_of is.0.items ≡ Ok profile → (who : List ℕ) (r : Option RevisionRow) → allowed.revision ≡ r → is_text_of (Some text) r ≡ false
-        → Some (submitted who p (text_of profile)) ≡ option_map (λ row. submitted allowed.caller.name p row.body) r → HasOtherText (submitted c p text) h
-    by_revision profile reads who None at other happened = absurd cc
-    by_revision profile reads who (Some row) at other happened =
-        let body : text_of profile ≡ row.body =
-        submitted_text who allowed.caller.name p p (text_of profile) row.body (some_same (submitted who p (text_of profile)) (submitted allowed.caller.name p row.body) happened) in
-        record {
-          ask = a;
-          asks = is;
-          caller = c;
-          name = p;
-          text = text;
-          is = refl;
-          profile = profile;
-          reads = sym (ap reading_of is.1) ∙ reads;
-          other = λ same. let clash : true ≡ false = sym (bytes_same text row.body (same ∙ body)) ∙ other in cc;
-          reply = allowed.reply;
-          verdict = verdict
-              ∙ ap (λ b. accepted allowed.reply (event_in b allowed)) is.2
-              ∙ ap (λ r. accepted allowed.reply (option_map (λ row. submitted allowed.caller.name p row.body) r)) at
-              ∙ ap (λ who. accepted allowed.reply (Some (submitted who p row.body))) name_is
-              ∙ ap (λ body. accepted allowed.reply (Some (submitted c p body))) (sym body);
-        }
-
-    event_same : (r s : Reply) (e f : Option Event) → accepted r e ≡ accepted s f → e ≡ f
-    event_same r s e f is = cc
-
-    by_reading : (reading : Result Profile DocFault) → reading_of is.0.items ≡ reading
-        → new_revision h (user_of h c) p reading ≡ accepted allowed.reply (option_map (λ row. submitted allowed.caller.name p row.body) allowed.revision) → HasOtherText (submitted c p text) h
-    by_reading (Err f) reads done = absurd cc
-    by_reading (Ok profile) reads done = by_revision profile reads (name_of (user_of h c)) allowed.revision refl other (event_same _ _ _ _ done)
-other_text h (founded n t d l) a allowed is caller other verdict = absurd is
-other_text h (enrolled c n t r d) a allowed is caller other verdict = absurd cc
-other_text h (voted c p n d approves) a allowed is caller other verdict = absurd cc
-other_text h (issued c p n) a allowed is caller other verdict = absurd cc
-other_text h (withdrawn c p n) a allowed is caller other verdict = absurd cc
-other_text h (adopted c p n) a allowed is caller other verdict = absurd cc
-other_text h (held c p) a allowed is caller other verdict = absurd cc
-other_text h (released c p) a allowed is caller other verdict = absurd cc
-
--- a lawful history goes on by what is allowed
-lawful_with : (h : History) (e : Event) → IsLawfulHistory h → IsAllowed h e → IsLawfulHistory (e ∷ h)
-lawful_with [] e lawful may = absurd lawful
-lawful_with (f ∷ h) e lawful may = (may, lawful)
+other_text : (h : History) (e : Event) (a : Ask) (allowed : Allowed) → IsAskOf e a → caller_of e ≡ Some allowed.caller.name → has_text e allowed.change ≡ false → IsAskedBy a allowed
+    → verdict_for e a h ≡ accepted allowed.reply (Some (event_for allowed)) → HasOtherText e h
+other_text h (submitted c p text) a allowed is caller other asked verdict =
+    let handed = subst (λ b. IsAskedBy b allowed) is.2 asked in
+    let happened = some_same _ _ handed.happened in
+    let differs : bytes_eq text (text_of handed.read) ≡ false = sym (added_text allowed.caller.name allowed.caller.name p (text_of handed.read) text allowed.change happened) ∙ other in
+    record {
+      ask = a;
+      asks = is;
+      caller = c;
+      name = p;
+      text = text;
+      is = refl;
+      profile = handed.read;
+      reads = sym (ap reading_of is.1) ∙ handed.reads;
+      other = λ same. let clash : true ≡ false = sym (bytes_same text (text_of handed.read) same) ∙ differs in cc;
+      reply = allowed.reply;
+      verdict = verdict ∙ ap (λ f. accepted allowed.reply (Some f)) happened
+          ∙ ap (λ who. accepted allowed.reply (Some (submitted who p (text_of handed.read)))) (sym (some_same c allowed.caller.name caller));
+    }
+other_text h (founded n t d l) a allowed is caller other asked verdict = absurd is
+other_text h (enrolled c n t r d) a allowed is caller other asked verdict = absurd cc
+other_text h (voted c p n d approves) a allowed is caller other asked verdict = absurd cc
+other_text h (issued c p n) a allowed is caller other asked verdict = absurd cc
+other_text h (withdrawn c p n) a allowed is caller other asked verdict = absurd cc
+other_text h (adopted c p n) a allowed is caller other asked verdict = absurd cc
+other_text h (held c p) a allowed is caller other asked verdict = absurd cc
+other_text h (released c p) a allowed is caller other asked verdict = absurd cc
 
 -- ---- what that leaves
 
-err_same : (f k : StoreFault) → (let r : Result ⊤ StoreFault = Err f in r ≡ Err k) → f ≡ k
+err_same : (f k : Fault) → (let r : Result ⊤ Fault = Err f in r ≡ Err k) → f ≡ k
 err_same f k is = cc
 
 module _ {S : Type 0} (g : Ghosts S) (old mid : Held S) (e : Event) (a : Ask) (asks : IsAskOf e a) (name : List ℕ) (called : caller_of e ≡ Some name) where
@@ -288,14 +278,14 @@ module _ {S : Type 0} (g : Ghosts S) (old mid : Held S) (e : Event) (a : Ask) (a
         crash = λ h office clean left may. inl (leaves.crash clean left may);
       }
 
-  module _ (forms : HasForms a) (allowed : Allowed) (judged : JudgesNamed (state g old) (state g mid) (Ok (judgements.Allowed allowed)) name a) where
+  module _ (forms : HasForms a) (allowed : Allowed) (judged : JudgesNamed (state g old) (state g mid) (Ok (judgements.Allowed allowed)) name a) (asked : IsAskedBy a allowed) where
     left_mid : LeavesAll (meaning_over g) old mid
     left_mid = left_all g old mid (Ok (judgements.Allowed allowed)) (λ h. verdict_of h (user_of h name) a) judged
 
     module _ (h : History) (office : IsOffice h (state g old)) (clean : HasCleanDisk (state g mid)) where
       -- the user of that name is the caller
       enrolled_as : user_of h name ≡ Some allowed.caller
-      enrolled_as = (judged.told h office.lawful (office.tables (judged.clean clean)) clean).0
+      enrolled_as = (judged.told h office.lawful (office.tables (judged.clean clean)) clean).caller
 
       named_as : allowed.caller.name ≡ name
       named_as = user_named h name allowed.caller enrolled_as
@@ -306,17 +296,17 @@ module _ {S : Type 0} (g : Ghosts S) (old mid : Held S) (e : Event) (a : Ask) (a
       called_as : caller_of e ≡ Some allowed.caller.name
       called_as = called ∙ ap Some (sym named_as)
 
-      accepted_as : verdict_of h (user_of h name) a ≡ accepted allowed.reply (event_in a allowed)
-      accepted_as = (judged.told h office.lawful (office.tables (judged.clean clean)) clean).1
+      accepted_as : verdict_of h (user_of h name) a ≡ accepted allowed.reply (Some (event_for allowed))
+      accepted_as = (judged.told h office.lawful (office.tables (judged.clean clean)) clean).verdict
 
-      next_as : IsNextRevision h a allowed
-      next_as = (judged.told h office.lawful (office.tables (judged.clean clean)) clean).2
+      next_as : IsNext h allowed.caller.name allowed.change
+      next_as = (judged.told h office.lawful (office.tables (judged.clean clean)) clean).next
 
     -- its text is another
-    pub other_again : has_text e allowed ≡ false → IsSettled (state g mid) → IsReplayed (meaning_over g) old mid e (Err causes.OtherText)
+    pub other_again : has_text e allowed.change ≡ false → IsSettled (state g mid) → IsReplayed (meaning_over g) old mid e (Err causes.OtherText)
     other_again text settled =
         let other : (h : History) → IsOffice h (state g old) → HasCleanDisk (state g mid) → HasOtherText e h = λ h office clean.
-        other_text h e a allowed asks (called_as h office clean) text (told_for h (accepted allowed.reply (event_in a allowed)) (accepted_as h office clean)) in
+        other_text h e a allowed asks (called_as h office clean) text asked (told_for h (accepted allowed.reply (Some (event_for allowed))) (accepted_as h office clean)) in
         record {
           leaves = left_mid;
           why = other;
@@ -327,9 +317,12 @@ module _ {S : Type 0} (g : Ghosts S) (old mid : Held S) (e : Event) (a : Ask) (a
               record { is_of = of; is_open = still; leaves = settled (tables_of h) (of.tables clean still) };
         }
 
-    module _ (text : has_text e allowed ≡ true) (was_open : HasCleanDisk (state g mid) → IsTrue (state g old).is_open) where
+    module _ (text : has_text e allowed.change ≡ true) (was_open : HasCleanDisk (state g mid) → IsTrue (state g old).is_open) where
+      event_again : (h : History) → IsOffice h (state g old) → HasCleanDisk (state g mid) → event_for allowed ≡ e
+      event_again h office clean = happens_again e a allowed asks (called_as h office clean) text asked
+
       verdict_again : (h : History) → IsOffice h (state g old) → HasCleanDisk (state g mid) → verdict_of h (user_of h name) a ≡ accepted allowed.reply (Some e)
-      verdict_again h office clean = accepted_as h office clean ∙ ap (accepted allowed.reply) (happens_again e a allowed asks (called_as h office clean) text)
+      verdict_again h office clean = accepted_as h office clean ∙ ap (λ f. accepted allowed.reply (Some f)) (event_again h office clean)
 
       -- and it is allowed
       lawful_again : (h : History) → IsOffice h (state g old) → HasCleanDisk (state g mid) → IsAllowed h e
@@ -345,90 +338,66 @@ module _ {S : Type 0} (g : Ghosts S) (old mid : Held S) (e : Event) (a : Ask) (a
             allowed = verdict;
           }
 
-      granted_again : (h : History) → IsOffice h (state g old) → HasCleanDisk (state g mid) → IsGranted h a allowed (verdict_of h (user_of h name) a)
+      granted_again : (h : History) → IsOffice h (state g old) → HasCleanDisk (state g mid) → IsGranted h allowed (verdict_of h (user_of h name) a)
       granted_again h office clean = record {
         known = known_as h office clean;
-        event = e;
-        asked = happens_again e a allowed asks (called_as h office clean) text;
-        verdict = verdict_again h office clean;
-        revision = next_as h office clean;
-        lawful = lawful_again h office clean;
+        verdict = accepted_as h office clean;
+        next = next_as h office clean;
+        lawful = subst (IsAllowed h) (sym (event_again h office clean)) (lawful_again h office clean);
       }
 
-      module _ (new : Held S) (w : Write) (is : write_of a allowed ≡ Some w) where
-        crash_again : (result : Result ⊤ StoreFault) → Asks g w mid new result → LeavesWith (meaning_over g) old new e
+      module _ (new : Held S) where
+        crash_again : (result : Result ⊤ Fault) → Asks g (write_of allowed) mid new result → LeavesWith (meaning_over g) old new e
         crash_again result asked = λ h office clean left may.
             let before = asked.written.leaves.clean clean in
-            elim (written_crash g old mid new a allowed (λ h. verdict_of h (user_of h name) a) left_mid granted_again w is result asked h office clean left may) [
+            elim (written_crash g old mid new allowed (λ h. verdict_of h (user_of h name) a) left_mid granted_again result asked h office clean left may) [
               | inl earlier ↦ inl earlier
               | inr with ↦ inr (lawful_again h office before, subst (λ v. AreWithEvent (meaning_over g) h v left) (verdict_again h office before) with)
             ]
 
-        done_again : Asks g w mid new (Ok tt) → IsReplayed (meaning_over g) old new e (Ok tt)
+        pub done_again : Asks g (write_of allowed) mid new (Ok tt) → IsReplayed (meaning_over g) old new e (Ok tt)
         done_again asked = record {
-          survives = written_survives g old mid new a allowed (λ h. verdict_of h (user_of h name) a) left_mid granted_again w is (Ok tt) asked;
+          survives = written_survives g old mid new allowed (λ h. verdict_of h (user_of h name) a) left_mid granted_again (Ok tt) asked;
           allowed = λ h office clean. lawful_again h office (asked.written.leaves.clean clean);
           stands = λ h office clean.
               let before = asked.written.leaves.clean clean in
               let verdict = verdict_again h office before in
               let lawful = lawful_with h e office.lawful (lawful_again h office before) in
               subst (λ v. Stands (meaning_over g) (with_event (event_of v) h) new) verdict
-              (written_stands g old mid new a allowed (λ h. verdict_of h (user_of h name) a) left_mid granted_again w is asked h office clean
+              (written_stands g old mid new allowed (λ h. verdict_of h (user_of h name) a) left_mid granted_again asked h office clean
               (subst (λ v. IsLawfulHistory (with_event (event_of v) h)) (sym verdict) lawful));
           crash = crash_again (Ok tt) asked;
         }
 
-        failed_again : (fault : StoreFault) → Asks g w mid new (Err fault) → IsReplayed (meaning_over g) old new e (Err (causes.Fault (told_of fault)))
+        pub failed_again : (fault : Fault) → Asks g (write_of allowed) mid new (Err fault) → IsReplayed (meaning_over g) old new e (Err (causes.Fault fault))
         failed_again fault asked = record {
-          survives = written_survives g old mid new a allowed (λ h. verdict_of h (user_of h name) a) left_mid granted_again w is (Err fault) asked;
+          survives = written_survives g old mid new allowed (λ h. verdict_of h (user_of h name) a) left_mid granted_again (Err fault) asked;
           cause = λ h office clean.
               let before = asked.written.leaves.clean clean in
               let still = judged.stays before (was_open before) in
               caused_by g old new (λ f. IsAllowed h e × (meaning_over g).refuses old h e f) fault
-              (λ same. written_formed g old mid new a allowed (λ h. verdict_of h (user_of h name) a) left_mid granted_again w is (Err fault) asked h office clean (ap Err same))
-              (λ same. elim (unwritten_memory g old mid new a allowed (λ h. verdict_of h (user_of h name) a) left_mid granted_again w is fault asked h office clean still same) [
-                | inl unwritten ↦ inl unwritten
-                | inr refused ↦ inr (lawful_again h office before, subst (λ v. RefusesEvent (meaning_over g) old h v faults.Memory) (verdict_again h office before) refused)
-              ])
-              (elim (unwritten_cause g old mid new a allowed (λ h. verdict_of h (user_of h name) a) left_mid granted_again w is fault asked h office clean still) [
+              (λ same. written_formed g old mid new allowed (λ h. verdict_of h (user_of h name) a) left_mid granted_again (Err fault) asked h office clean (ap Err same))
+              (λ same. inr (
+                lawful_again h office before,
+                subst (λ v. RefusesEvent (meaning_over g) old h v faults.NoMemory) (verdict_again h office before)
+                    (unwritten_memory g old mid new allowed (λ h. verdict_of h (user_of h name) a) left_mid granted_again fault asked h office clean still same),
+              ))
+              (elim (unwritten_cause g old mid new allowed (λ h. verdict_of h (user_of h name) a) left_mid granted_again fault asked h office clean still) [
                 | inl met ↦ inl met
-                | inr refused ↦ inr (lawful_again h office before, subst (λ v. RefusesEvent (meaning_over g) old h v (told_of fault)) (verdict_again h office before) refused)
+                | inr refused ↦ inr (lawful_again h office before, subst (λ v. RefusesEvent (meaning_over g) old h v fault) (verdict_again h office before) refused)
               ]);
-          office = unwritten_office g old mid new a allowed (λ h. verdict_of h (user_of h name) a) left_mid granted_again w is fault asked;
-          kept = unwritten_kept g old mid new a allowed (λ h. verdict_of h (user_of h name) a) left_mid granted_again w is fault asked;
+          office = unwritten_office g old mid new allowed (λ h. verdict_of h (user_of h name) a) left_mid granted_again fault asked;
+          kept = unwritten_kept g old mid new allowed (λ h. verdict_of h (user_of h name) a) left_mid granted_again fault asked;
           crash = crash_again (Err fault) asked;
         }
 
-      -- there was no memory for the write
-      unasked_again : (new : Held S) → new ≡ mid → IsReplayed (meaning_over g) old new e (Err (causes.Fault faults.Memory))
-      unasked_again new same =
-          subst (λ x. IsReplayed (meaning_over g) old x e (Err (causes.Fault faults.Memory))) (sym same) (record {
-            survives = left_mid.survives;
-            cause = λ h office clean. inl (left_mid.kept clean, left_mid.crash clean);
-            office = left_mid.office;
-            kept = left_mid.kept;
-            crash = λ h office clean left may. inl (left_mid.crash clean left may);
-          })
-
-      -- it was carried out
-      pub carried_again : (new : Held S) → CarriesOut g a allowed mid new (Ok tt) → IsReplayed (meaning_over g) old new e (Ok tt)
-      carried_again new carried = elim carried.tried [
-        | inl asked ↦ done_again new carried.write carried.is asked
-        | inr unasked ↦ absurd (let never : Ok tt ≡ Err NoMemory = unasked.memory in cc)
-      ]
-
-      -- or wasn't
-      pub uncarried_again : (new : Held S) (fault : StoreFault) → CarriesOut g a allowed mid new (Err fault) → IsReplayed (meaning_over g) old new e (Err (causes.Fault (told_of fault)))
-      uncarried_again new fault carried = elim carried.tried [
-        | inl asked ↦ failed_again new carried.write carried.is fault asked
-        | inr unasked ↦ let same : fault ≡ NoMemory = err_same fault NoMemory unasked.memory in
-            subst (λ f. IsReplayed (meaning_over g) old new e (Err (causes.Fault (told_of f)))) (sym same) (unasked_again new unasked.same)
-      ]
-
 -- what it came to, by another name
-pub judged_same : {S : Type 0} (g : Ghosts S) (old mid : Held S) (name : List ℕ) (a : Ask) (j : Judgement) (allowed : Allowed) → j ≡ judgements.Allowed allowed
-    → JudgesNamed (state g old) (state g mid) (Ok j) name a → JudgesNamed (state g old) (state g mid) (Ok (judgements.Allowed allowed)) name a
-judged_same g old mid name a j allowed is judged = subst (λ x. JudgesNamed (state g old) (state g mid) (Ok x) name a) is judged
+module _ {S : Type 0} (g : Ghosts S) (old mid : Held S) (name : List ℕ) (a : Ask) (j : Judgement) (allowed : Allowed) (is : j ≡ judgements.Allowed allowed) where
+  pub judged_same : JudgesNamed (state g old) (state g mid) (Ok j) name a → JudgesNamed (state g old) (state g mid) (Ok (judgements.Allowed allowed)) name a
+  judged_same judged = subst (λ x. JudgesNamed (state g old) (state g mid) (Ok x) name a) is judged
+
+  pub asked_same : IsAskedIfAllowed a (Ok j) → IsAskedBy a allowed
+  asked_same asked = subst (λ x. IsAskedIfAllowed a (Ok x)) is asked
 
 -- ---- before anything is asked of the store
 
@@ -465,10 +434,3 @@ replayed_survives g old new e (Err (causes.Denied d)) replayed = replayed.leaves
 replayed_survives g old new e (Err causes.Founding) replayed = replayed.leaves.survives
 replayed_survives g old new e (Err causes.OtherText) replayed = replayed.leaves.survives
 replayed_survives g old new e (Err (causes.Fault fault)) replayed = replayed.survives
-
--- no transaction is open after a write of what was allowed
-pub carried_idle : {S : Type 0} (g : Ghosts S) (a : Ask) (allowed : Allowed) (mid new : Held S) (result : Result ⊤ StoreFault) → IsIdle (state g mid) → CarriesOut g a allowed mid new result → IsIdle (state g new)
-carried_idle g a allowed mid new result idle carried = elim carried.tried [
-  | inl asked ↦ asked.written.leaves.idle
-  | inr unasked ↦ subst (λ x. IsIdle (state g x)) (sym unasked.same) idle
-]

@@ -7,7 +7,7 @@ use Rattle.review_policy.specs.declared.revision.State.{State}
 use Rattle.review_policy.specs.declared.revision.State.TheVariants.{Open, Issued}
 use Rattle.review_policy.specs.Rules.{is_issued}
 use Rattle.sqlite.specs.State.{State as State_}
-use Rattle.office_tables.specs.declared.fault.StoreFault.{StoreFault}
+use Rattle.review_policy.specs.declared.fault.Fault.{Fault}
 use Rattle.office_tables.specs.declared.row.RevisionRow.{RevisionRow}
 use Rattle.office_tables.specs.declared.listed.ListedRevision.{ListedRevision}
 use Rattle.office_tables.specs.Tables.{Tables}
@@ -36,12 +36,12 @@ use Rattle.office_desk.specs.Summarized.{as_asked}
 
 -- ---- one read, and one after another, whatever comes of the last
 
-pub read_weaker : {A : Type 0} (old new : State_) (G H : Tables → A → Type 0) (r : Result A StoreFault) → ((t : Tables) (a : A) → G t a → H t a)
+pub read_weaker : {A : Type 0} (old new : State_) (G H : Tables → A → Type 0) (r : Result A Fault) → ((t : Tables) (a : A) → G t a → H t a)
     → IsRead old new r G → IsRead old new r H
 read_weaker old new G H (Ok a) says read = read_as old new G H a a (λ t. says t a) read
 read_weaker old new G H (Err f) says read = read_fails_as old new G H f read
 
-pub read_then : {A B : Type 0} (old mid new : State_) (F : Tables → A → Type 0) (G H : Tables → B → Type 0) (a : A) (r : Result B StoreFault)
+pub read_then : {A B : Type 0} (old mid new : State_) (F : Tables → A → Type 0) (G H : Tables → B → Type 0) (a : A) (r : Result B Fault)
     → IsRead old mid (Ok a) F → ((t : Tables) (b : B) → F t a → G t b → H t b) → IsRead mid new r G → IsRead old new r H
 read_then old mid new F G H a (Ok b) first both second = read_both old mid new F G a first H b b (λ t. both t b) second
 read_then old mid new F G H a (Err f) first both second = second_fails old mid new F G a first H f second

@@ -1,5 +1,5 @@
 -- How a document that is handed in meets its verdict.
-use Rattle.std.proofs.Common.{◌≡◌, ◌∙◌, ℕ, suc, List, Bool, not, Option, Some, None, Err, Ok, refl, sym, ap, subst, Vec, Global}
+use Rattle.std.proofs.Common.{◌≡◌, ◌∙◌, ℕ, suc, List, Bool, not, Option, Some, None, Err, Ok, refl, sym, ap, Vec, Global}
 use Rattle.std.specs.Prelude.{Result, ⊤}
 use Rattle.sqlite.specs.State.{State}
 use Rattle.review_policy.specs.declared.ask.ProfileName.{ProfileName}
@@ -27,13 +27,12 @@ use Rattle.office_policy.specs.Users.{is_of_team}
 use Rattle.office_policy.specs.Revisions.{revision_count, last_revision, if_open, number_of}
 use Rattle.office_policy.specs.Facts.{canonical, is_text_of, submit_facts}
 use Rattle.office_policy.specs.Verdict.{Verdict, accepted, denied, fault_told, new_revision, verdict_of}
-use Rattle.office_policy.specs.Judging.{IsNextRevision}
 use Rattle.office_policy.specs.TablesOf.{tables_of}
 use Rattle.office_policy.proofs.Submissions.{last_found, last_number}
 use Rattle.office_desk.specs.declared.refusal.Refusal.{Refusal}
 use Rattle.office_desk.specs.declared.refusal.Refusal.TheVariants as refusals
 use Rattle.office_desk.specs.AtOnce.{IsRefusedAtOnce}
-use Rattle.office_desk.specs.Judged.{AcceptsRevision, Judges, submission_of}
+use Rattle.office_desk.specs.Judged.{IsAllowedBy, IsAskedBy, Judges, added_by}
 use Rattle.office_desk.proofs.Judging.{refused_at_once, failed_at_once}
 use Rattle.office_desk.proofs.Handling.{denied_is, allowed_is}
 
@@ -68,12 +67,12 @@ pub turned_away : {A : Type 0} {Found : History → A → Type 0} (judge : Histo
 turned_away judge s (refusals.Denied denial fault) idle is = refused_at_once judge s denial fault idle (λ h lawful. is h)
 turned_away judge s (refusals.Fault fault) idle is = failed_at_once judge s fault idle is
 
--- a revision that is the next one of its profile is so by what is asked
-next_is : (h : History) (caller : UserRow) (p : ProfileName) (document : Vec ℕ Global) (row : RevisionRow) → row ≡ new_row (suc (revision_count h p)) caller.name row.body (digest_of row.body)
-    → IsNextRevision h (ask.Submit p document) (submission_of caller row)
-next_is h caller p document row is other same =
-    let k : row ≡ other = cc in
-    subst (λ r. r ≡ new_row (suc (revision_count h p)) caller.name r.body (digest_of r.body)) k is
+-- the text of a revision that is added is that of the document
+pub asked_of : (caller : UserRow) (p : ProfileName) (document : Vec ℕ Global) (text : List ℕ) → canonical (reading_of document.items) ≡ Some text → (row : RevisionRow) → row.body ≡ text
+    → IsAskedBy (ask.Submit p document) (added_by caller p row)
+asked_of caller p document text is_text row is =
+    let read = reads (reading_of document.items) text is_text in
+    record { read = read.0; reads = read.1; happened = ap (λ t. Some (submitted caller.name p t)) (is ∙ sym read.2) }
 
 module _ (h : History) (caller : UserRow) (p : ProfileName) (document : Vec ℕ Global) where
   -- the rules, by what the document reads as
@@ -107,13 +106,15 @@ module _ (h : History) (caller : UserRow) (p : ProfileName) (document : Vec ℕ 
     -- none refuses it
     pub accepts : (row : RevisionRow) → row ≡ new_row (suc (number_of last)) caller.name text (digest_of text)
         → decision_on caller p.team text last ≡ Ok tt
-        → AcceptsRevision caller (ask.Submit p document) h row
+        → IsAllowedBy (verdict_of h (Some caller) (ask.Submit p document)) (λ user. Some caller ≡ Some user) h (added_by caller p row)
     accepts row is_row e =
         let is_next : row ≡ new_row (suc (revision_count h p)) caller.name text (digest_of text) =
         is_row ∙ ap (λ n. new_row (suc n) caller.name text (digest_of text)) (last_number h p last is_last) in
-        let is_text : text ≡ row.body = sym (ap (λ r. r.body) is_next) in (
-          allowed_is h (Some caller) (ask.Submit p document) (decided_on ∙ e) ∙ ap (new_revision h (Some caller) p) is_read
+        let is_text : text ≡ row.body = sym (ap (λ r. r.body) is_next) in
+        record {
+          caller = refl;
+          verdict = allowed_is h (Some caller) (ask.Submit p document) (decided_on ∙ e) ∙ ap (new_revision h (Some caller) p) is_read
               ∙ ap (λ (t : List ℕ). accepted (Submitted (digest_of t) (suc (revision_count h p))) (Some (submitted caller.name p t))) is_its
-              ∙ ap (λ (r : RevisionRow). accepted (Submitted r.digest r.number) (Some (submitted caller.name p r.body))) (sym is_next),
-          next_is h caller p document row (is_next ∙ ap (λ t. new_row (suc (revision_count h p)) caller.name t (digest_of t)) is_text),
-        )
+              ∙ ap (λ (r : RevisionRow). accepted (Submitted r.digest r.number) (Some (submitted caller.name p r.body))) (sym is_next);
+          next = is_next ∙ ap (λ t. new_row (suc (revision_count h p)) caller.name t (digest_of t)) is_text;
+        }

@@ -1,19 +1,21 @@
 -- What judging a request comes to, and what it leaves of a connection.
-use Rattle.std.specs.Prelude.{◌≡◌, ◌≢◌, false, Some, None, Result, Ok, Err, IsTrue}
+use Rattle.std.specs.Prelude.{◌≡◌, ◌≢◌, false, Option, Some, None, Result, Ok, Err, IsTrue}
 use Rattle.sqlite.specs.State.{State, HasCleanDisk, Survives}
 use Rattle.profile_text.specs.Digest.{digest_of}
 use Rattle.review_policy.specs.declared.ask.Ask.{Ask}
+use Rattle.review_policy.specs.declared.ask.ProfileName.{ProfileName}
 use Rattle.review_policy.specs.declared.ask.Request.{Request}
 use Rattle.review_policy.specs.declared.answer.Answer.TheVariants.{Done}
 use Rattle.review_policy.specs.declared.answer.Reply.{Reply}
 use Rattle.review_policy.specs.declared.answer.Reply.TheVariants.{Submitted}
-use Rattle.office_tables.specs.declared.fault.StoreFault.TheVariants.{NotAnOffice}
+use Rattle.review_policy.specs.declared.fault.Fault.TheVariants.{NotAnOffice}
 use Rattle.office_tables.specs.declared.row.RevisionRow.{RevisionRow}
 use Rattle.office_tables.specs.declared.row.UserRow.{UserRow}
 use Rattle.office_tables.specs.Tables.{Tables}
 use Rattle.office_rows.specs.Causes.{HasFailed}
 use Rattle.office_rows.specs.Queries.{IsAsItWas}
 use Rattle.office_store.specs.Shown.{IsIdle, Shows, ShowsIfOpen, LeavesNoMore, LeavesOnly}
+use Rattle.office_policy.specs.declared.change.Change.TheVariants as changes
 use Rattle.office_policy.specs.declared.judge.Allowed.{Allowed}
 use Rattle.office_policy.specs.declared.judge.Judgement.{Judgement}
 use Rattle.office_policy.specs.declared.judge.Judgement.TheVariants as judgements
@@ -22,7 +24,8 @@ use Rattle.office_policy.specs.Users.{user_showing}
 use Rattle.office_policy.specs.Verdict.{Verdict, accepted, denied, verdict, verdict_of}
 use Rattle.office_policy.specs.Lawful.{IsLawfulHistory}
 use Rattle.office_policy.specs.TablesOf.{tables_of}
-use Rattle.office_policy.specs.Judging.{HasEvent, IsNextRevision, event_in}
+use Rattle.office_policy.specs.Asked.{IsAsked}
+use Rattle.office_policy.specs.Judging.{IsNext, event_for}
 use Rattle.office_desk.specs.declared.refusal.Refusal.{Refusal}
 use Rattle.office_desk.specs.declared.refusal.Refusal.TheVariants as refusals
 
@@ -86,68 +89,62 @@ pub record Judges {A : Type 0} (old new : State) (result : Result A Refusal)
 
 -- ---- what it comes to
 
--- what is allowed to this caller and adds no revision
-abbrev pub plainly : UserRow → Reply → Allowed
-plainly caller reply = record { caller = caller; reply = reply; revision = None }
+-- this is allowed to its caller by the verdict, with its reply and the event of its change, and a
+-- revision that it adds is the next one
+pub record IsAllowedBy (v : Verdict) (IsCaller : UserRow → Type 0) (h : History) (a : Allowed)
+    : Type 0 where
+  pub caller : IsCaller a.caller
+  pub verdict : v ≡ accepted a.reply (Some (event_for a))
+  pub next : IsNext h a.caller.name a.change
 
--- a submission that is allowed to this caller and adds this revision
-abbrev pub submission_of : UserRow → RevisionRow → Allowed
-submission_of caller row = record {
+-- a revision that this caller adds to a profile, and what is answered of it
+abbrev pub added_by : UserRow → ProfileName → RevisionRow → Allowed
+added_by caller p row = record {
   caller = caller;
+  change = changes.AddRevision p row;
   reply = Submitted row.digest row.number;
-  revision = Some row;
 }
 
--- the verdict accepts what this caller asks, with this reply and the event of what is asked
-abbrev pub Accepts : UserRow → Ask → History → Reply → Type 0
-Accepts caller a h reply =
-    verdict_of h (Some caller) a ≡ accepted reply (event_in a (plainly caller reply))
+-- what happens is just what its caller asks
+abbrev pub IsAskedBy : Ask → Allowed → Type 0
+IsAskedBy a allowed = IsAsked allowed.caller.name a (Some (event_for allowed))
 
--- and a submission with this revision, which is the next one
-abbrev pub AcceptsRevision : UserRow → Ask → History → RevisionRow → Type 0
-AcceptsRevision caller a h row =
-    (verdict_of h (Some caller) a
-    ≡ accepted (Submitted row.digest row.number) (event_in a (submission_of caller row)))
-    × IsNextRevision h a (submission_of caller row)
+-- what this caller asks is judged, and only reads
+abbrev pub JudgesRead : (old new : State) → Result Reply Refusal → UserRow → Ask → Type 0
+JudgesRead old new result caller a =
+    Judges old new result (λ h. verdict_of h (Some caller) a)
+    (λ h reply. verdict_of h (Some caller) a ≡ accepted reply None)
 
--- what this caller asks, but for a submission, is judged
-abbrev pub JudgesAsk : (old new : State) → Result Reply Refusal → UserRow → Ask → Type 0
-JudgesAsk old new result caller a =
-    Judges old new result (λ h. verdict_of h (Some caller) a) (Accepts caller a)
-
--- and a submission
-abbrev pub JudgesSubmission : (old new : State) → Result RevisionRow Refusal → UserRow → Ask
-    → Type 0
-JudgesSubmission old new result caller a =
-    Judges old new result (λ h. verdict_of h (Some caller) a) (AcceptsRevision caller a)
+-- or changes something
+abbrev pub JudgesChange : (old new : State) → Result Allowed Refusal → UserRow → Ask → Type 0
+JudgesChange old new result caller a =
+    Judges old new result (λ h. verdict_of h (Some caller) a)
+    (λ h. IsAllowedBy (verdict_of h (Some caller) a) (λ user. Some caller ≡ Some user) h)
 
 -- what was asked only reads, and was answered so; or it is allowed to its caller, and changes
 -- something
-abbrev pub ComesTo : Ask → (History → Verdict) → (History → UserRow → Type 0)
-    → History → Judgement → Type 0
-ComesTo a judge IsCaller h (judgements.Answered (Done reply)) = judge h ≡ accepted reply None
-ComesTo a judge IsCaller h (judgements.Answered told) = ⊥
-ComesTo a judge IsCaller h (judgements.Allowed allowed) =
-    IsCaller h allowed.caller
-    × (judge h ≡ accepted allowed.reply (event_in a allowed))
-    × IsNextRevision h a allowed
+abbrev pub ComesTo : (History → Verdict) → (History → UserRow → Type 0) → History → Judgement
+    → Type 0
+ComesTo judge IsCaller h (judgements.Answered (Done reply)) = judge h ≡ accepted reply None
+ComesTo judge IsCaller h (judgements.Answered told) = ⊥
+ComesTo judge IsCaller h (judgements.Allowed allowed) =
+    IsAllowedBy (judge h) (IsCaller h) h allowed
 
--- what is allowed has an event
-abbrev pub HasEventIn : Ask → Result Judgement Refusal → Type 0
-HasEventIn a (Ok (judgements.Allowed allowed)) = HasEvent a allowed
-HasEventIn a (Ok (judgements.Answered told)) = Unit {0}
-HasEventIn a (Err refusal) = Unit {0}
+-- what happens is just what its caller asks, where it is allowed
+abbrev pub IsAskedIfAllowed : Ask → Result Judgement Refusal → Type 0
+IsAskedIfAllowed a (Ok (judgements.Allowed allowed)) = IsAskedBy a allowed
+IsAskedIfAllowed a (Ok (judgements.Answered told)) = Unit {0}
+IsAskedIfAllowed a (Err refusal) = Unit {0}
 
--- what this caller asks is judged, of whatever kind
-pub record JudgesFor (old new : State) (result : Result Judgement Refusal) (caller : UserRow)
-    (a : Ask) : Type 0 where
-  pub judged : Judges old new result (λ h. verdict_of h (Some caller) a)
-      (ComesTo a (λ h. verdict_of h (Some caller) a) (λ h user. user ≡ caller))
-  pub event : HasEventIn a result
+-- what this caller asks is judged, of whatever kind; nobody is a caller whom no one knows
+pub record JudgesFor (old new : State) (result : Result Judgement Refusal)
+    (caller : Option UserRow) (a : Ask) : Type 0 where
+  pub judged : Judges old new result (λ h. verdict_of h caller a)
+      (ComesTo (λ h. verdict_of h caller a) (λ h user. caller ≡ Some user))
+  pub asked : IsAskedIfAllowed a result
 
 -- a request is judged
 abbrev pub JudgesRequest : (old new : State) → Result Judgement Refusal → Request → Type 0
 JudgesRequest old new result r =
     Judges old new result (λ h. verdict h r)
-    (ComesTo r.ask (λ h. verdict h r)
-    (λ h user. user_showing h (digest_of r.token) ≡ Some user))
+    (ComesTo (λ h. verdict h r) (λ h user. user_showing h (digest_of r.token) ≡ Some user))

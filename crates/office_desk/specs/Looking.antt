@@ -1,8 +1,8 @@
 -- What looking at an office comes to.
 use Rattle.std.specs.Prelude.{◌≡◌, ◌↔◌, Bool, true, List, ℕ, Option, Some, Result, IfOk, IfErr}
 use Rattle.std.specs.Prelude.{OnOk, option_map}
-use Rattle.review_policy.specs.declared.answer.Fault.{Fault}
-use Rattle.review_policy.specs.declared.answer.Fault.TheVariants as faults
+use Rattle.review_policy.specs.declared.fault.Fault.{Fault}
+use Rattle.review_policy.specs.declared.fault.Fault.TheVariants as faults
 use Rattle.review_policy.specs.declared.ask.ProfileName.{ProfileName}
 use Rattle.review_policy.specs.declared.revision.State.TheVariants.{Open}
 use Rattle.review_sheet.specs.Sheet.{sheet_text}
@@ -44,7 +44,7 @@ module _ {X : Type 0} (m : Meaning X) where
   -- a fault other than `memory` was met by a call between the two, or it is `disk` and a fault had
   -- shut the office before; none is for the form of its tables
   abbrev pub IsMetBetween : (old new : X) → Fault → Type 0
-  IsMetBetween old new faults.Memory = Unit {0}
+  IsMetBetween old new faults.NoMemory = Unit {0}
   IsMetBetween old new faults.Disk = m.is_open old → HasRisen (m.faults old) (m.faults new)
   IsMetBetween old new faults.Full = HasRisen (m.faults old) (m.faults new)
   IsMetBetween old new faults.NotAnOffice = ⊥

@@ -6,13 +6,12 @@ use Rattle.sqlite.specs.Store.{Ghosts}
 use Rattle.sqlite.specs.State.{State, HasCleanDisk}
 use Rattle.sqlite_trees.specs.Tree.{Trees}
 use Rattle.office_rows.specs.Queries.{IsAsItWas}
-use Rattle.office_tables.specs.declared.fault.StoreFault.{StoreFault}
+use Rattle.review_policy.specs.declared.fault.Fault.{Fault}
 use Rattle.office_store.specs.Refusing.{RefusesToMake}
 use Rattle.office_store.specs.Shown.{AreOffice}
 use Rattle.office_policy.specs.Meaning.{Meaning}
 use Rattle.office_policy.specs.TablesOf.{tables_of}
 use Rattle.office_desk.specs.Offices.{IsOffice}
-use Rattle.office_desk.specs.Told.{told_of}
 
 -- a connection that is open was open, and has what it had
 pub record Keeps (old new : State) : Type 0 where
@@ -38,8 +37,7 @@ meaning_over g = record {
   is_clean = λ x. HasCleanDisk (state g x);
   is_open = λ x. IsTrue (state g x).is_open;
   faults = λ x. (state g x).faults;
-  refuses = λ x h e fault. (f : StoreFault) × (fault ≡ told_of f)
-      × RefusesToMake g x (tables_of h) (tables_of (e ∷ h)) f;
+  refuses = λ x h e fault. RefusesToMake g x (tables_of h) (tables_of (e ∷ h)) fault;
   is_of = λ h x. IsOffice h (state g x);
   keeps = λ x y. Keeps (state g x) (state g y);
   Left = Trees;

@@ -9,11 +9,13 @@ use Rattle.profile_text.specs.declared.profile.Profile.{Profile}
 use Rattle.review_policy.specs.declared.ask.Ask.{Ask}
 use Rattle.review_policy.specs.declared.ask.Ask.TheVariants as ask
 use Rattle.review_policy.specs.declared.ask.ProfileName.{ProfileName}
-use Rattle.review_policy.specs.declared.answer.Fault.{Fault as TheFault}
-use Rattle.review_policy.specs.declared.answer.Fault.TheVariants as faults
+use Rattle.review_policy.specs.declared.fault.Fault.{Fault as TheFault}
+use Rattle.review_policy.specs.declared.fault.Fault.TheVariants as faults
 use Rattle.review_policy.specs.declared.answer.Reply.{Reply}
 use Rattle.review_policy.specs.declared.denial.Denial.{Denial}
-use Rattle.office_policy.specs.declared.judge.Allowed.{Allowed}
+use Rattle.office_tables.specs.declared.row.RevisionRow.{RevisionRow}
+use Rattle.office_policy.specs.declared.change.Change.{Change}
+use Rattle.office_policy.specs.declared.change.Change.TheVariants as changes
 use Rattle.office_policy.specs.declared.judge.Judgement.{Judgement}
 use Rattle.office_policy.specs.declared.judge.Judgement.TheVariants as judgements
 use Rattle.office_policy.specs.Callers.{caller_of}
@@ -31,7 +33,6 @@ use Rattle.office_desk.specs.declared.refusal.Refusal.TheVariants as refusals
 use Rattle.office_desk.specs.declared.replay.Unreplayed.{Unreplayed}
 use Rattle.office_desk.specs.declared.replay.Unreplayed.TheVariants as causes
 use Rattle.office_desk.specs.Judged.{ComesTo, Judges}
-use Rattle.office_desk.specs.Told.{told_of}
 
 -- ---- what an event asks
 
@@ -52,10 +53,15 @@ IsAskOf (released caller p) a = a ≡ ask.Release p
 abbrev pub verdict_for : Event → Ask → History → Verdict
 verdict_for e a h = verdict_of h (option_and_then (user_of h) (caller_of e)) a
 
--- the text of a submission is that of the revision that was allowed
-abbrev pub has_text : Event → Allowed → Bool
-has_text (submitted caller p text) allowed = is_text_of (Some text) allowed.revision
-has_text _ allowed = true
+-- the revision that is added, where one is
+abbrev pub added : Change → Option RevisionRow
+added (changes.AddRevision p row) = Some row
+added _ = None
+
+-- the text of a submission is that of the revision that is added
+abbrev pub has_text : Event → Change → Bool
+has_text (submitted caller p text) change = is_text_of (Some text) (added change)
+has_text _ change = true
 
 -- what only reads is asked, where it was answered
 abbrev pub ReadsIfAnswered : Ask → Result Judgement Refusal → Type 0
@@ -68,21 +74,21 @@ abbrev pub JudgesNamed : (old new : State) → Result Judgement Refusal → (nam
     → Type 0
 JudgesNamed old new result name a =
     Judges old new result (λ h. verdict_of h (user_of h name) a)
-    (ComesTo a (λ h. verdict_of h (user_of h name) a) (λ h user. user_of h name ≡ Some user))
+    (ComesTo (λ h. verdict_of h (user_of h name) a) (λ h user. user_of h name ≡ Some user))
 
 -- there is no ask of a founding; or memory was wanted to make one
 abbrev pub HasNoAsk : Event → Unreplayed → Type 0
 HasNoAsk e (causes.Denied denial) = ⊥
 HasNoAsk e causes.Founding = caller_of e ≡ None
 HasNoAsk e causes.OtherText = ⊥
-HasNoAsk e (causes.Fault fault) = fault ≡ faults.Memory
+HasNoAsk e (causes.Fault fault) = fault ≡ faults.NoMemory
 
 -- ---- why it doesn't happen again
 
 -- what a refusal is told as
 abbrev pub unreplayed_of : Refusal → Unreplayed
 unreplayed_of (refusals.Denied denial fault) = causes.Denied denial
-unreplayed_of (refusals.Fault fault) = causes.Fault (told_of fault)
+unreplayed_of (refusals.Fault fault) = causes.Fault fault
 
 module _ (e : Event) (h : History) where
   -- a rule refuses what it asks, this one first
@@ -114,7 +120,7 @@ module _ {X : Type 0} (m : Meaning X) where
   -- a fault was met, or it is `disk` and a fault had shut the office before; there was no memory
   -- before anything was written, or for what was to be written
   abbrev pub IsCaused : (old new : X) → (Refuses : TheFault → Type 0) → TheFault → Type 0
-  IsCaused old new Refuses faults.Memory = IsUnwritten m old new ⊎ Refuses faults.Memory
+  IsCaused old new Refuses faults.NoMemory = IsUnwritten m old new ⊎ Refuses faults.NoMemory
   IsCaused old new Refuses faults.Disk =
       m.is_open old → HasRisen (m.faults old) (m.faults new) ⊎ Refuses faults.Disk
   IsCaused old new Refuses faults.Full =

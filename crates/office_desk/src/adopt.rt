@@ -1,6 +1,6 @@
 // Baselines of teams.
 
-ghost use Rattle.std.specs.Prelude.{◌≡◌, Some, not};
+ghost use Rattle.std.specs.Prelude.{◌≡◌, IfOk, Some, not};
 ghost use Rattle.sqlite.specs.Held.{state};
 ghost use Rattle.review_policy.specs.declared.ask.Ask.TheVariants as ask;
 ghost use Rattle.review_policy.specs.declared.facts.TheConstants.AdoptFacts.{PASSING};
@@ -9,14 +9,16 @@ ghost use Rattle.office_store.specs.Shown.{IsIdle};
 ghost use Rattle.office_tables.specs.Lists.{holds_role};
 ghost use Rattle.office_policy.specs.Facts.{adopt_facts};
 ghost use Rattle.office_desk.specs.Carries.{Asks};
-ghost use Rattle.office_desk.specs.Judged.{JudgesAsk};
+ghost use Rattle.office_desk.specs.Judged.{IsAskedBy, JudgesChange};
 ghost use Rattle.office_desk.specs.Summarized.{as_asked};
 
+use crate::names::same_name;
 use crate::refusal::Refusal;
 use crate::revisions::{authored, state_of};
+use office_policy::{Allowed, Change};
 use office_store::{Summary, put_baseline};
-use office_tables::{StoreFault, UserRow};
-use review_policy::{AdoptFacts, ProfileName, Reply, Role, decide_adopt};
+use office_tables::UserRow;
+use review_policy::{AdoptFacts, Fault, ProfileName, Reply, Role, decide_adopt};
 use sqlite::{Alter, Connection};
 
 // What the rules ask of a caller.
@@ -45,18 +47,27 @@ fn all_facts(caller: &UserRow, found: &Option<Summary>, is_author: bool) -> Adop
 // Judges an adoption.
 pub(crate) fn judge_adoption<S: Alter>(
     conn: &mut Connection<S>,
-    caller: &UserRow,
+    caller: UserRow,
     name: &ProfileName,
     number: u32,
-) -> Result<Reply, Refusal>
+) -> Result<Allowed, Refusal>
     requires { IsIdle (state S.Store conn.old) }
-    ensures { JudgesAsk (state S.Store conn.old) (state S.Store conn.new) result
-        caller.now (ask.Adopt name.now number) }
+    ensures judged { JudgesChange (state S.Store conn.old) (state S.Store conn.new) result
+        caller (ask.Adopt name.now number) }
+    ensures asked { IfOk result (IsAskedBy (ask.Adopt name.now number)) }
 {
-    decide_adopt(&facts_of_caller(caller))?;
+    decide_adopt(&facts_of_caller(&caller))?;
     let (found, is_author) = authored(conn, name, number, &caller.name)?;
-    decide_adopt(&all_facts(caller, &found, is_author))?;
-    Ok(Reply::Adopted)
+    decide_adopt(&all_facts(&caller, &found, is_author))?;
+    let change = Change::Adopt {
+        name: same_name(name)?,
+        revision: number,
+    };
+    Ok(Allowed {
+        caller,
+        change,
+        reply: Reply::Adopted,
+    })
 }
 
 // Makes a revision the baseline of its team.
@@ -64,7 +75,7 @@ pub(crate) fn write_adoption<S: Alter>(
     conn: &mut Connection<S>,
     name: &ProfileName,
     number: u32,
-) -> Result<(), StoreFault>
+) -> Result<(), Fault>
     requires { IsIdle (state S.Store conn.old) }
     ensures { Asks S.Store (puts_baseline name.now number) conn.old conn.new result }
 {

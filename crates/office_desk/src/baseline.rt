@@ -12,9 +12,9 @@ ghost use Rattle.office_desk.specs.Compared.{compared_at, need_of};
 use crate::need::{document, need_against};
 use cap_sets::Caps;
 use office_store::{baseline, listed, revision};
-use office_tables::{RevisionRow, StoreFault};
+use office_tables::RevisionRow;
 use profile_text::Profile;
-use review_policy::{Need, ProfileName, State, Text, Word};
+use review_policy::{Fault, Need, ProfileName, State, Text, Word};
 use sqlite::{Alter, Connection};
 use std::alloc::{AllocError, Global};
 
@@ -44,7 +44,7 @@ fn adopted_revision<S: Alter>(
     alloc: Global,
     conn: &mut Connection<S>,
     team: &Word,
-) -> Result<Option<(Word, RevisionRow)>, StoreFault>
+) -> Result<Option<(Word, RevisionRow)>, Fault>
     requires { IsIdle (state S.Store conn.old) }
     ensures { Reads S.Store conn.old conn.new result
         (LooksBack (λ h. adopted_revision h team.now)) }
@@ -65,7 +65,7 @@ pub(crate) fn compared_with<S: Alter>(
     alloc: Global,
     conn: &mut Connection<S>,
     team: &Word,
-) -> Result<Comparison, StoreFault>
+) -> Result<Comparison, Fault>
     requires { IsIdle (state S.Store conn.old) }
     ensures { Reads S.Store conn.old conn.new result (LooksBack (λ h. compared_at h team.now)) }
 {

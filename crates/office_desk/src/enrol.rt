@@ -1,6 +1,6 @@
 // Enrolments.
 
-ghost use Rattle.std.specs.Prelude.{◌≡◌, ℕ, Some, IfOk, not};
+ghost use Rattle.std.specs.Prelude.{◌≡◌, Some, IfOk, not};
 ghost use Rattle.sqlite.specs.Held.{state};
 ghost use Rattle.review_policy.specs.declared.ask.Ask.TheVariants as ask;
 ghost use Rattle.review_policy.specs.declared.facts.TheConstants.EnrolFacts.{PASSING};
@@ -11,13 +11,14 @@ ghost use Rattle.office_store.specs.Shown.{IsIdle};
 ghost use Rattle.office_policy.specs.Users.{user_of, user_showing, is_named};
 ghost use Rattle.office_policy.specs.Facts.{enrol_facts, is_elsewhere, is_another};
 ghost use Rattle.office_policy.specs.LooksBack.{LooksBack};
-ghost use Rattle.office_desk.specs.Carries.{Tries};
-ghost use Rattle.office_desk.specs.Judged.{JudgesAsk};
+ghost use Rattle.office_desk.specs.Carries.{Asks};
+ghost use Rattle.office_desk.specs.Judged.{IsAskedBy, JudgesChange};
 
 use crate::refusal::Refusal;
+use office_policy::{Allowed, Change};
 use office_store::{put_user, user_by_name, user_by_token};
-use office_tables::{StoreFault, UserRow};
-use review_policy::{EnrolFacts, Reply, Role, Roles, Word, decide_enrol};
+use office_tables::UserRow;
+use review_policy::{EnrolFacts, Fault, Reply, Role, Roles, Word, decide_enrol};
 use sqlite::{Alter, Connection};
 use std::alloc::{AllocError, Global};
 
@@ -78,7 +79,7 @@ fn users_of<S: Alter>(
     conn: &mut Connection<S>,
     user: &Word,
     digest: &[u8; 32],
-) -> Result<(Option<UserRow>, Option<UserRow>), StoreFault>
+) -> Result<(Option<UserRow>, Option<UserRow>), Fault>
     requires { IsIdle (state S.Store conn.old) }
     ensures { IsRead (state S.Store conn.old) (state S.Store conn.new) result
         (LooksBack (λ h. (user_of h user.now, user_showing h digest.now))) }
@@ -86,26 +87,6 @@ fn users_of<S: Alter>(
     let known = user_by_name(alloc, conn, user)?;
     let shower = user_by_token(alloc, conn, digest)?;
     Ok((known, shower))
-}
-
-// Judges an enrolment.
-pub(crate) fn judge_enrolment<S: Alter>(
-    alloc: Global,
-    conn: &mut Connection<S>,
-    caller: &UserRow,
-    user: &Word,
-    team: &Word,
-    digest: &[u8; 32],
-) -> Result<Reply, Refusal>
-    requires { IsIdle (state S.Store conn.old) }
-    ensures { (roles : ℕ)
-        → JudgesAsk (state S.Store conn.old) (state S.Store conn.new) result
-        caller.now (ask.Enrol user.now team.now roles digest.now) }
-{
-    decide_enrol(&facts_of_caller(caller, user))?;
-    let (known, shower) = users_of(alloc, conn, user, digest)?;
-    decide_enrol(&all_facts(caller, &known, &shower, user, team))?;
-    Ok(Reply::Enrolled)
 }
 
 // The row of a user who is enrolled.
@@ -121,20 +102,41 @@ fn row_of(user: &Word, team: &Word, roles: Roles, digest: &[u8; 32]) -> Result<U
     })
 }
 
-// Enrols a user, or gives an enrolled one these roles and this token.
-pub(crate) fn write_enrolment<S: Alter>(
+// Judges an enrolment.
+pub(crate) fn judge_enrolment<S: Alter>(
+    alloc: Global,
     conn: &mut Connection<S>,
+    caller: UserRow,
     user: &Word,
     team: &Word,
     roles: Roles,
     digest: &[u8; 32],
-) -> Result<(), StoreFault>
+) -> Result<Allowed, Refusal>
     requires { IsIdle (state S.Store conn.old) }
-    ensures { Tries S.Store
-        (puts_user
-        (record { name = user.now; team = team.now; roles = roles; digest = digest.now }))
-        conn.old conn.new result }
+    ensures judged { JudgesChange (state S.Store conn.old) (state S.Store conn.new) result
+        caller (ask.Enrol user.now team.now roles digest.now) }
+    ensures asked { IfOk result (IsAskedBy (ask.Enrol user.now team.now roles digest.now)) }
 {
-    let row = row_of(user, team, roles, digest)?;
-    put_user(conn, &row)
+    decide_enrol(&facts_of_caller(&caller, user))?;
+    let (known, shower) = users_of(alloc, conn, user, digest)?;
+    decide_enrol(&all_facts(&caller, &known, &shower, user, team))?;
+    let change = Change::Enrol {
+        user: row_of(user, team, roles, digest)?,
+    };
+    Ok(Allowed {
+        caller,
+        change,
+        reply: Reply::Enrolled,
+    })
+}
+
+// Enrols a user, or gives an enrolled one these roles and this token.
+pub(crate) fn write_enrolment<S: Alter>(
+    conn: &mut Connection<S>,
+    user: &UserRow,
+) -> Result<(), Fault>
+    requires { IsIdle (state S.Store conn.old) }
+    ensures { Asks S.Store (puts_user user.now) conn.old conn.new result }
+{
+    put_user(conn, user)
 }

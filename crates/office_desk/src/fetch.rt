@@ -11,12 +11,12 @@ ghost use Rattle.office_policy.specs.Users.{is_of_team};
 ghost use Rattle.office_policy.specs.Facts.{fetch_facts};
 ghost use Rattle.office_policy.specs.LooksBack.{LooksBack};
 ghost use Rattle.office_desk.specs.Looked.{issued_at};
-ghost use Rattle.office_desk.specs.Judged.{JudgesAsk};
+ghost use Rattle.office_desk.specs.Judged.{JudgesRead};
 
 use crate::refusal::Refusal;
 use office_store::{held, issued};
-use office_tables::{RevisionRow, StoreFault, UserRow};
-use review_policy::{FetchFacts, ProfileName, Reply, Role, Word, decide_fetch};
+use office_tables::{RevisionRow, UserRow};
+use review_policy::{Fault, FetchFacts, ProfileName, Reply, Role, Word, decide_fetch};
 use sqlite::{Alter, Connection};
 use std::alloc::Global;
 
@@ -55,7 +55,7 @@ fn look_at<S: Alter>(
     alloc: Global,
     conn: &mut Connection<S>,
     name: &ProfileName,
-) -> Result<(Option<RevisionRow>, bool), StoreFault>
+) -> Result<(Option<RevisionRow>, bool), Fault>
     requires { IsIdle (state S.Store conn.old) }
     ensures { IsRead (state S.Store conn.old) (state S.Store conn.new) result
         (λ t found. LooksBack (issued_at name.now) t found) }
@@ -73,7 +73,7 @@ pub(crate) fn fetch<S: Alter>(
     name: &ProfileName,
 ) -> Result<Reply, Refusal>
     requires { IsIdle (state S.Store conn.old) }
-    ensures { JudgesAsk (state S.Store conn.old) (state S.Store conn.new) result
+    ensures { JudgesRead (state S.Store conn.old) (state S.Store conn.new) result
         caller.now (ask.Fetch name.now) }
 {
     decide_fetch(&facts_of_caller(caller, &name.team))?;

@@ -1,5 +1,6 @@
 // Holds of profiles, and their release.
 
+ghost use Rattle.std.specs.Prelude.{IfOk};
 ghost use Rattle.sqlite.specs.Held.{state};
 ghost use Rattle.review_policy.specs.declared.ask.Ask.TheVariants as ask;
 ghost use Rattle.office_store.specs.Calls.{IsRead};
@@ -8,21 +9,20 @@ ghost use Rattle.office_store.specs.Shown.{IsIdle};
 ghost use Rattle.office_policy.specs.LooksBack.{LooksBack};
 ghost use Rattle.office_desk.specs.Looked.{hold_at};
 ghost use Rattle.office_desk.specs.Carries.{Asks};
-ghost use Rattle.office_desk.specs.Judged.{JudgesAsk};
+ghost use Rattle.office_desk.specs.Judged.{IsAskedBy, JudgesChange};
 
+use crate::names::same_name;
 use crate::refusal::Refusal;
+use office_policy::{Allowed, Change};
 use office_store::{delete_hold, has_revision, held, put_hold};
-use office_tables::{StoreFault, UserRow};
+use office_tables::UserRow;
 use review_policy::{
-    HoldFacts, ProfileName, ReleaseFacts, Reply, Role, decide_hold, decide_release,
+    Fault, HoldFacts, ProfileName, ReleaseFacts, Reply, Role, decide_hold, decide_release,
 };
 use sqlite::{Alter, Connection};
 
 // Whether a profile has no revision, and whether it is held.
-fn look_at<S: Alter>(
-    conn: &mut Connection<S>,
-    name: &ProfileName,
-) -> Result<(bool, bool), StoreFault>
+fn look_at<S: Alter>(conn: &mut Connection<S>, name: &ProfileName) -> Result<(bool, bool), Fault>
     requires { IsIdle (state S.Store conn.old) }
     ensures { IsRead (state S.Store conn.old) (state S.Store conn.new) result
         (λ t found. LooksBack (hold_at name.now) t found) }
@@ -35,12 +35,13 @@ fn look_at<S: Alter>(
 // Judges a hold.
 pub(crate) fn judge_hold<S: Alter>(
     conn: &mut Connection<S>,
-    caller: &UserRow,
+    caller: UserRow,
     name: &ProfileName,
-) -> Result<Reply, Refusal>
+) -> Result<Allowed, Refusal>
     requires { IsIdle (state S.Store conn.old) }
-    ensures { JudgesAsk (state S.Store conn.old) (state S.Store conn.new) result
-        caller.now (ask.Hold name.now) }
+    ensures judged { JudgesChange (state S.Store conn.old) (state S.Store conn.new) result
+        caller (ask.Hold name.now) }
+    ensures asked { IfOk result (IsAskedBy (ask.Hold name.now)) }
 {
     let asked = HoldFacts {
         role_missing: !caller.roles.has(Role::Security),
@@ -53,14 +54,21 @@ pub(crate) fn judge_hold<S: Alter>(
         already_held,
         ..asked
     })?;
-    Ok(Reply::Held)
+    let change = Change::Hold {
+        name: same_name(name)?,
+    };
+    Ok(Allowed {
+        caller,
+        change,
+        reply: Reply::Held,
+    })
 }
 
 // Holds a profile.
 pub(crate) fn write_hold<S: Alter>(
     conn: &mut Connection<S>,
     name: &ProfileName,
-) -> Result<(), StoreFault>
+) -> Result<(), Fault>
     requires { IsIdle (state S.Store conn.old) }
     ensures { Asks S.Store (puts_hold name.now) conn.old conn.new result }
 {
@@ -70,12 +78,13 @@ pub(crate) fn write_hold<S: Alter>(
 // Judges a release.
 pub(crate) fn judge_release<S: Alter>(
     conn: &mut Connection<S>,
-    caller: &UserRow,
+    caller: UserRow,
     name: &ProfileName,
-) -> Result<Reply, Refusal>
+) -> Result<Allowed, Refusal>
     requires { IsIdle (state S.Store conn.old) }
-    ensures { JudgesAsk (state S.Store conn.old) (state S.Store conn.new) result
-        caller.now (ask.Release name.now) }
+    ensures judged { JudgesChange (state S.Store conn.old) (state S.Store conn.new) result
+        caller (ask.Release name.now) }
+    ensures asked { IfOk result (IsAskedBy (ask.Release name.now)) }
 {
     let asked = ReleaseFacts {
         role_missing: !caller.roles.has(Role::Security),
@@ -88,14 +97,21 @@ pub(crate) fn judge_release<S: Alter>(
         not_held: !is_held,
         ..asked
     })?;
-    Ok(Reply::Released)
+    let change = Change::Release {
+        name: same_name(name)?,
+    };
+    Ok(Allowed {
+        caller,
+        change,
+        reply: Reply::Released,
+    })
 }
 
 // Ends the hold of a profile.
 pub(crate) fn write_release<S: Alter>(
     conn: &mut Connection<S>,
     name: &ProfileName,
-) -> Result<(), StoreFault>
+) -> Result<(), Fault>
     requires { IsIdle (state S.Store conn.old) }
     ensures { Asks S.Store (deletes_hold name.now) conn.old conn.new result }
 {

@@ -15,16 +15,18 @@ ghost use Rattle.office_policy.specs.Facts.{issue_facts};
 ghost use Rattle.office_policy.specs.Need.{need_against};
 ghost use Rattle.office_policy.specs.LooksBack.{LooksBack};
 ghost use Rattle.office_desk.specs.Carries.{Asks};
-ghost use Rattle.office_desk.specs.Judged.{JudgesAsk};
+ghost use Rattle.office_desk.specs.Judged.{IsAskedBy, JudgesChange};
 ghost use Rattle.office_desk.specs.Issuing.{deciding_need, is_enough_for_any, looked_at};
 ghost use Rattle.office_desk.specs.Issuing.{one_approval};
 
 use crate::baseline::{Comparison, compared_with, need_of};
+use crate::names::same_name;
 use crate::refusal::Refusal;
 use crate::revisions::state_in;
+use office_policy::{Allowed, Change};
 use office_store::{held, is_author, revision, set_issued, tally};
-use office_tables::{RevisionRow, StoreFault, Tally, UserRow};
-use review_policy::{IssueFacts, Need, ProfileName, Reply, Role, Text, decide_issue};
+use office_tables::{RevisionRow, Tally, UserRow};
+use review_policy::{Fault, IssueFacts, Need, ProfileName, Reply, Role, Text, decide_issue};
 use sqlite::{Alter, Connection};
 use std::alloc::{AllocError, Global};
 
@@ -44,7 +46,7 @@ fn look_up<S: Alter>(
     caller: &UserRow,
     name: &ProfileName,
     number: u32,
-) -> Result<Looked, StoreFault>
+) -> Result<Looked, Fault>
     requires { IsIdle (state S.Store conn.old) }
     ensures { IsRead (state S.Store conn.old) (state S.Store conn.new) result
         (LooksBack (λ h. looked_at h name.now number caller.now.name)) }
@@ -129,24 +131,33 @@ fn deciding_need(
 pub(crate) fn judge_issue<S: Alter>(
     alloc: Global,
     conn: &mut Connection<S>,
-    caller: &UserRow,
+    caller: UserRow,
     name: &ProfileName,
     number: u32,
-) -> Result<Reply, Refusal>
+) -> Result<Allowed, Refusal>
     requires { IsIdle (state S.Store conn.old) }
-    ensures { JudgesAsk (state S.Store conn.old) (state S.Store conn.new) result
-        caller.now (ask.Issue name.now number) }
+    ensures judged { JudgesChange (state S.Store conn.old) (state S.Store conn.new) result
+        caller (ask.Issue name.now number) }
+    ensures asked { IfOk result (IsAskedBy (ask.Issue name.now number)) }
 {
-    decide_issue(&facts_of_caller(caller))?;
-    let looked = look_up(alloc, conn, caller, name, number)?;
-    decide_issue(&facts_before_need(caller, &looked))?;
+    decide_issue(&facts_of_caller(&caller))?;
+    let looked = look_up(alloc, conn, &caller, name, number)?;
+    decide_issue(&facts_before_need(&caller, &looked))?;
     let Some(row) = &looked.revision else {
         unreachable!()
     };
     let compared = compared_with(alloc, conn, &name.team)?;
     let need = deciding_need(alloc, &looked.tally, &compared, &row.body)?;
-    decide_issue(&all_facts(caller, &looked, need))?;
-    Ok(Reply::Issued { digest: row.digest })
+    decide_issue(&all_facts(&caller, &looked, need))?;
+    let change = Change::Issue {
+        name: same_name(name)?,
+        revision: number,
+    };
+    Ok(Allowed {
+        caller,
+        change,
+        reply: Reply::Issued { digest: row.digest },
+    })
 }
 
 // Issues a revision.
@@ -154,7 +165,7 @@ pub(crate) fn write_issue<S: Alter>(
     conn: &mut Connection<S>,
     name: &ProfileName,
     number: u32,
-) -> Result<(), StoreFault>
+) -> Result<(), Fault>
     requires { IsIdle (state S.Store conn.old) }
     ensures { Asks S.Store (issues name.now number) conn.old conn.new result }
 {

@@ -1,13 +1,13 @@
 // What each kind of request comes to, before anything is changed.
 
-ghost use Rattle.std.specs.Prelude.{◌≡◌, IsTrue};
+ghost use Rattle.std.specs.Prelude.{◌≡◌, Some, IsTrue};
 ghost use Rattle.sqlite.specs.Held.{state};
 ghost use Rattle.sqlite.specs.State.{HasCleanDisk};
 ghost use Rattle.office_store.specs.Shown.{IsIdle};
-ghost use Rattle.office_desk.specs.Judged.{HasEventIn, IsSettled, JudgesFor, JudgesRequest};
+ghost use Rattle.office_desk.specs.Judged.{IsAskedIfAllowed, IsSettled, JudgesFor, JudgesRequest};
 ghost use Rattle.office_desk.specs.Judged.{UnlessFault};
 ghost use Rattle.office_desk.specs.Replayed.{JudgesNamed, ReadsIfAnswered};
-ghost use Rattle.office_desk.specs.Steps.{allowed_of, answered_of, submitted_of};
+ghost use Rattle.office_desk.specs.Steps.{allowed_of, answered_of};
 
 use crate::adopt::judge_adoption;
 use crate::enrol::judge_enrolment;
@@ -23,7 +23,7 @@ use crate::vote::judge_vote;
 use crate::withdraw::judge_withdrawal;
 use office_policy::{Allowed, Judgement};
 use office_store::{user_by_name, user_by_token};
-use office_tables::{RevisionRow, UserRow};
+use office_tables::UserRow;
 use profile_text::digest;
 use review_policy::{Answer, Ask, Denial, Reply, Request, Rule, Word};
 use sqlite::{Alter, Connection};
@@ -39,36 +39,12 @@ fn answered(read: Result<Reply, Refusal>) -> Result<Judgement, Refusal>
     }
 }
 
-// What changes something is allowed to its caller.
-fn allowed(judged: Result<Reply, Refusal>, caller: UserRow) -> Result<Judgement, Refusal>
-    ensures { result ≡ allowed_of judged caller }
+// What changes something is allowed.
+fn allowed(judged: Result<Allowed, Refusal>) -> Result<Judgement, Refusal>
+    ensures { result ≡ allowed_of judged }
 {
     match judged {
-        Ok(reply) => Ok(Judgement::Allowed(Allowed {
-            caller,
-            reply,
-            revision: None,
-        })),
-        Err(refusal) => Err(refusal),
-    }
-}
-
-// So is a submission, with the revision that it adds.
-fn submitted(judged: Result<RevisionRow, Refusal>, caller: UserRow) -> Result<Judgement, Refusal>
-    ensures { result ≡ submitted_of judged caller }
-{
-    match judged {
-        Ok(revision) => {
-            let digest = revision.digest;
-            Ok(Judgement::Allowed(Allowed {
-                caller,
-                reply: Reply::Submitted {
-                    digest,
-                    revision: revision.number,
-                },
-                revision: Some(revision),
-            }))
-        }
+        Ok(allowed) => Ok(Judgement::Allowed(allowed)),
         Err(refusal) => Err(refusal),
     }
 }
@@ -82,44 +58,59 @@ fn judge_for<S: Alter>(
 ) -> Result<Judgement, Refusal>
     requires { IsIdle (state S.Store conn.old) }
     ensures judged { JudgesFor
-        (state S.Store conn.old) (state S.Store conn.new) result caller ask.now }
+        (state S.Store conn.old) (state S.Store conn.new) result (Some caller) ask.now }
     ensures reads { ReadsIfAnswered ask.now result }
 {
     match ask {
         Ask::Enrol {
             user,
             team,
+            roles,
             digest,
-            ..
-        } => allowed(
-            judge_enrolment(alloc, conn, &caller, user, team, digest),
-            caller,
-        ),
-        Ask::Submit { name, document } => submitted(
-            judge_submission(alloc, conn, &caller, name, document),
-            caller,
-        ),
+        } => allowed(judge_enrolment(alloc, conn, caller, user, team, *roles, digest)),
+        Ask::Submit { name, document } => {
+            allowed(judge_submission(alloc, conn, caller, name, document))
+        }
         Ask::Vote {
             name,
             revision,
             digest,
-            ..
-        } => allowed(judge_vote(conn, &caller, name, *revision, digest), caller),
+            approve,
+        } => allowed(judge_vote(conn, caller, name, *revision, digest, *approve)),
         Ask::Issue { name, revision } => {
-            allowed(judge_issue(alloc, conn, &caller, name, *revision), caller)
+            allowed(judge_issue(alloc, conn, caller, name, *revision))
         }
         Ask::Withdraw { name, revision } => {
-            allowed(judge_withdrawal(conn, &caller, name, *revision), caller)
+            allowed(judge_withdrawal(conn, caller, name, *revision))
         }
-        Ask::Adopt { name, revision } => {
-            allowed(judge_adoption(conn, &caller, name, *revision), caller)
-        }
+        Ask::Adopt { name, revision } => allowed(judge_adoption(conn, caller, name, *revision)),
         Ask::Show { name, revision } => answered(show(alloc, conn, &caller, name, *revision)),
         Ask::Sheet { name, revision } => answered(sheet(alloc, conn, &caller, name, *revision)),
         Ask::List { team } => answered(list(alloc, conn, &caller, team)),
         Ask::Fetch { name } => answered(fetch(alloc, conn, &caller, name)),
-        Ask::Hold { name } => allowed(judge_hold(conn, &caller, name), caller),
-        Ask::Release { name } => allowed(judge_release(conn, &caller, name), caller),
+        Ask::Hold { name } => allowed(judge_hold(conn, caller, name)),
+        Ask::Release { name } => allowed(judge_release(conn, caller, name)),
+    }
+}
+
+// Judges what is asked by a caller, whom the first rule refuses where nobody knows that one.
+fn judge_caller<S: Alter>(
+    alloc: Global,
+    conn: &mut Connection<S>,
+    caller: Option<UserRow>,
+    ask: &Ask,
+) -> Result<Judgement, Refusal>
+    requires { IsIdle (state S.Store conn.old) }
+    ensures judged { JudgesFor
+        (state S.Store conn.old) (state S.Store conn.new) result caller ask.now }
+    ensures reads { ReadsIfAnswered ask.now result }
+{
+    match caller {
+        Some(caller) => judge_for(alloc, conn, caller, ask),
+        None => Err(Refusal::from(Denial {
+            number: 1,
+            rule: Rule::CallerUnknown,
+        })),
     }
 }
 
@@ -132,23 +123,14 @@ pub(crate) fn judge<S: Alter>(
     requires { IsIdle (state S.Store conn.old) }
     ensures judged { JudgesRequest
         (state S.Store conn.old) (state S.Store conn.new) result request.now }
-    ensures event { HasEventIn request.now.ask result }
+    ensures asked { IsAskedIfAllowed request.now.ask result }
     ensures open { HasCleanDisk (state S.Store conn.new)
         → UnlessFault result (IsTrue (state S.Store conn.old).is_open) }
     ensures settled { IsSettled (state S.Store conn.new) }
 {
     let token = digest(request.token.as_str().as_bytes());
-    let Some(caller) = user_by_token(alloc, conn, &token)? else {
-        let denial = Denial {
-            number: 1,
-            rule: Rule::CallerUnknown,
-        };
-        return Err(Refusal::Denied {
-            denial,
-            fault: None,
-        });
-    };
-    judge_for(alloc, conn, caller, &request.ask)
+    let caller = user_by_token(alloc, conn, &token)?;
+    judge_caller(alloc, conn, caller, &request.ask)
 }
 
 // Judges what the user of this name asks.
@@ -161,21 +143,12 @@ pub(crate) fn judge_named<S: Alter>(
     requires { IsIdle (state S.Store conn.old) }
     ensures judged { JudgesNamed
         (state S.Store conn.old) (state S.Store conn.new) result name.now ask.now }
-    ensures event { HasEventIn ask.now result }
+    ensures asked { IsAskedIfAllowed ask.now result }
     ensures reads { ReadsIfAnswered ask.now result }
     ensures open { HasCleanDisk (state S.Store conn.new)
         → UnlessFault result (IsTrue (state S.Store conn.old).is_open) }
     ensures settled { IsSettled (state S.Store conn.new) }
 {
-    let Some(caller) = user_by_name(alloc, conn, name)? else {
-        let denial = Denial {
-            number: 1,
-            rule: Rule::CallerUnknown,
-        };
-        return Err(Refusal::Denied {
-            denial,
-            fault: None,
-        });
-    };
-    judge_for(alloc, conn, caller, ask)
+    let caller = user_by_name(alloc, conn, name)?;
+    judge_caller(alloc, conn, caller, ask)
 }

@@ -15,6 +15,7 @@ mod issue;
 mod judge;
 mod list;
 pub mod migrated;
+mod names;
 mod need;
 mod office;
 mod profiles;
@@ -30,6 +31,6 @@ mod submit;
 mod vote;
 mod withdraw;
 
-pub use answer::each_fault_is_told_by_its_word;
 pub use office::Office;
 pub use replay::Unreplayed;
+pub use submit::number_of;

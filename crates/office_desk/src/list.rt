@@ -4,7 +4,7 @@ ghost use Rattle.std.specs.Prelude.{◌≡◌, Some};
 ghost use Rattle.sqlite.specs.Held.{state};
 ghost use Rattle.review_policy.specs.declared.ask.Ask.TheVariants as ask;
 ghost use Rattle.office_store.specs.Shown.{IsIdle};
-ghost use Rattle.office_desk.specs.Judged.{JudgesAsk};
+ghost use Rattle.office_desk.specs.Judged.{JudgesRead};
 
 use crate::profiles::profiles_of;
 use crate::reading::read_facts;
@@ -22,7 +22,7 @@ pub(crate) fn list<S: Alter>(
     team: &Word,
 ) -> Result<Reply, Refusal>
     requires { IsIdle (state S.Store conn.old) }
-    ensures { JudgesAsk (state S.Store conn.old) (state S.Store conn.new) result
+    ensures { JudgesRead (state S.Store conn.old) (state S.Store conn.new) result
         caller.now (ask.List team.now) }
 {
     decide_read(&read_facts(caller, team, false))?;

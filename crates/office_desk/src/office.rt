@@ -1,8 +1,10 @@
-//! The office: it carries out what the policy allows, and nothing else.
+//! The office over a connection. A request is answered as the policy answers it on the office's
+//! history, or by a fault. What is answered as done is the next event of the history, and nothing
+//! that is answered otherwise is in it.
 
 ghost use Rattle.std.specs.Prelude.{◌≡◌};
 
-use crate::answer::{judgement, outcome};
+use crate::answer::judgement;
 use crate::carry_out::carry_out;
 use crate::forms::{founding_forms, request_forms};
 use crate::judge::judge;
@@ -12,7 +14,7 @@ use crate::shown::shows;
 use cap_sets::Caps;
 use office_policy::{Allowed, Event, Handler, Judge, Judgement};
 use office_store::{FoundingFault, OpeningFault, check_office, found, last, revision};
-use office_tables::{RevisionRow, StoreFault};
+use office_tables::RevisionRow;
 use review_policy::{Answer, Fault, ProfileName, Request, Text, Word};
 use sqlite::{Alter, Connection};
 use std::alloc::Global;
@@ -93,7 +95,7 @@ impl<S: Alter> Office<S> {
         ensures already { IfErr result (λ refusal. refusal.0 ≡ FoundingFault.AlreadyFounded
             ↔ IsTrue (has_table (state S.Store conn).now.schema)) }
         ensures foreign { IsRefusedFor S.Store
-            (λ why. why ≡ FoundingFault.Store StoreFault.NotAnOffice
+            (λ why. why ≡ FoundingFault.Store Fault.NotAnOffice
             ↔ IsForeign (state S.Store conn).now.schema) result }
         ensures same { IsHandedBack S.Store conn result }
         ensures idle { IfErr result (λ refusal. IsIdle (state S.Store refusal.1)) }
@@ -127,7 +129,7 @@ impl<S: Alter> Office<S> {
             → IfOk result (λ office. IsOffice h (state S.Store office)) }
         ensures over { IfOk result (IsOver S.Store conn) }
         ensures foreign { has_old_tables (state S.Store conn).now.schema ≡ false
-            → IfErr result (λ refusal. refusal.0 ≡ OpeningFault.Store StoreFault.NotAnOffice) }
+            → IfErr result (λ refusal. refusal.0 ≡ OpeningFault.Store Fault.NotAnOffice) }
         ensures told { has_old_tables (state S.Store conn).now.schema ≡ true
             → IfErr result (λ refusal. HasCleanDisk (state S.Store refusal.1)
             → TellsOpening (state S.Store conn) (state S.Store refusal.1) (Err refusal.0)) }
@@ -162,7 +164,7 @@ impl<S: Alter> Office<S> {
         ensures { HasLooked (meaning_over S.Store)
             self.old self.new (TellsWhether (event_meant event.now)) result }
     {
-        outcome(shows(alloc, &mut self.conn, event))
+        shows(alloc, &mut self.conn, event)
     }
 
     /// A revision of a profile by its number, where it is there. Nothing is changed.
@@ -179,7 +181,7 @@ impl<S: Alter> Office<S> {
         ensures { HasLookedBack (meaning_over S.Store)
             self.old self.new (λ h. revision_of h name.now number) result }
     {
-        outcome(revision(alloc, &mut self.conn, name, number))
+        revision(alloc, &mut self.conn, name, number)
     }
 
     /// The last revision of a profile, where it has one. Nothing is changed.
@@ -195,7 +197,7 @@ impl<S: Alter> Office<S> {
         ensures { HasLookedBack (meaning_over S.Store)
             self.old self.new (λ h. last_revision h name.now) result }
     {
-        outcome(last(alloc, &mut self.conn, name))
+        last(alloc, &mut self.conn, name)
     }
 
     /// The review sheet of a revision, where that is there, as any caller is shown it who may see
@@ -213,7 +215,7 @@ impl<S: Alter> Office<S> {
         ensures { HasLookedBack (meaning_over S.Store)
             self.old self.new (sheet_at name.now number) result }
     {
-        outcome(sheet_at(alloc, &mut self.conn, name, number))
+        sheet_at(alloc, &mut self.conn, name, number)
     }
 
     /// Has an event happen again, where the policy allows it to the caller that it names: the
@@ -250,7 +252,7 @@ impl<S: Alter> Handler for Office<S> {
     fn handle(&mut self, alloc: Global, request: &Request) -> Answer {
         match self.judge(alloc, request) {
             Judgement::Answered(answer) => answer,
-            Judgement::Allowed(allowed) => match self.carry_out(alloc, request, &allowed) {
+            Judgement::Allowed(allowed) => match self.carry_out(alloc, &allowed) {
                 Ok(()) => Answer::Done(allowed.reply),
                 Err(fault) => Answer::Fault(fault),
             },
@@ -264,13 +266,7 @@ impl<S: Alter> Judge for Office<S> {
         judgement(judge(alloc, &mut self.conn, request))
     }
 
-    fn carry_out(
-        &mut self,
-        _alloc: Global,
-        request: &Request,
-        allowed: &Allowed,
-    ) -> Result<(), Fault> {
-        request_forms(request);
-        outcome(carry_out(&mut self.conn, &request.ask, allowed))
+    fn carry_out(&mut self, _alloc: Global, allowed: &Allowed) -> Result<(), Fault> {
+        carry_out(&mut self.conn, allowed)
     }
 }

@@ -17,8 +17,8 @@ ghost use Rattle.office_desk.specs.Listed.{IsOneOf, StandsWhere, IsStep, issued_
 
 use crate::revisions::state_of;
 use office_store::{first_listed, issued_number, last_number, next_listed, summary_at};
-use office_tables::{ListedRevision, StoreFault};
-use review_policy::{ListedProfile, Listing, ProfileName, State, Word};
+use office_tables::ListedRevision;
+use review_policy::{Fault, ListedProfile, Listing, ProfileName, State, Word};
 use sqlite::{Alter, Connection};
 use std::alloc::Global;
 
@@ -32,7 +32,7 @@ pub(crate) struct Standing {
 }
 
 // How many revisions a profile has.
-fn count<S: Alter>(conn: &mut Connection<S>, name: &ProfileName) -> Result<u32, StoreFault>
+fn count<S: Alter>(conn: &mut Connection<S>, name: &ProfileName) -> Result<u32, Fault>
     requires { IsIdle (state S.Store conn.old) }
     ensures { IsRead (state S.Store conn.old) (state S.Store conn.new) result
         (LooksBack (λ h. revision_count h name.now)) }
@@ -44,7 +44,7 @@ fn count<S: Alter>(conn: &mut Connection<S>, name: &ProfileName) -> Result<u32, 
 }
 
 // The number of the revision of a profile that is issued, or 0.
-fn issue<S: Alter>(conn: &mut Connection<S>, name: &ProfileName) -> Result<u32, StoreFault>
+fn issue<S: Alter>(conn: &mut Connection<S>, name: &ProfileName) -> Result<u32, Fault>
     requires { IsIdle (state S.Store conn.old) }
     ensures { IsRead (state S.Store conn.old) (state S.Store conn.new) result
         (LooksBack (λ h. number_of (issued_revision h name.now))) }
@@ -60,7 +60,7 @@ fn state_at<S: Alter>(
     conn: &mut Connection<S>,
     name: &ProfileName,
     number: u32,
-) -> Result<Option<State>, StoreFault>
+) -> Result<Option<State>, Fault>
     requires { IsIdle (state S.Store conn.old) }
     ensures { IsRead (state S.Store conn.old) (state S.Store conn.new) result
         (LooksBack (λ h. state_in (revision_of h name.now number))) }
@@ -133,7 +133,7 @@ fn looked_up<S: Alter>(
     last: u32,
     number: u32,
     in_state: State,
-) -> Result<Standing, StoreFault>
+) -> Result<Standing, Fault>
     requires { IsIdle (state S.Store conn.old) }
     ensures { IsRead (state S.Store conn.old) (state S.Store conn.new) result
         (StandsWhere (λ h. (last ≡ revision_count h name.now)
@@ -167,7 +167,7 @@ fn with_open<S: Alter>(
     conn: &mut Connection<S>,
     name: &ProfileName,
     number: u32,
-) -> Result<Standing, StoreFault>
+) -> Result<Standing, Fault>
     requires { IsIdle (state S.Store conn.old) }
     ensures { IsRead (state S.Store conn.old) (state S.Store conn.new) result
         (StandsWhere (λ h. IsOneOf h name.now number State.Open) name.now) }
@@ -186,7 +186,7 @@ fn without_open<S: Alter>(
     name: &ProfileName,
     number: u32,
     in_state: State,
-) -> Result<Standing, StoreFault>
+) -> Result<Standing, Fault>
     requires { IsIdle (state S.Store conn.old) }
     ensures { IsRead (state S.Store conn.old) (state S.Store conn.new) result
         (StandsWhere (λ h. IsOneOf h name.now number in_state) name.now) }
@@ -204,7 +204,7 @@ fn stands<S: Alter>(
     name: &ProfileName,
     number: u32,
     in_state: State,
-) -> Result<Standing, StoreFault>
+) -> Result<Standing, Fault>
     requires { IsIdle (state S.Store conn.old) }
     ensures { IsRead (state S.Store conn.old) (state S.Store conn.new) result
         (StandsWhere (λ h. IsOneOf h name.now number in_state) name.now) }
@@ -220,7 +220,7 @@ fn standing_in<S: Alter>(
     conn: &mut Connection<S>,
     team: &Word,
     first: &ListedRevision,
-) -> Result<Standing, StoreFault>
+) -> Result<Standing, Fault>
     requires { IsIdle (state S.Store conn.old) }
     ensures { IsRead (state S.Store conn.old) (state S.Store conn.new) result
         (StandsWhere (λ h. IsListed (tables_of h) team.now first.now)
@@ -252,7 +252,7 @@ fn listed<S: Alter>(
     conn: &mut Connection<S>,
     team: &Word,
     first: ListedRevision,
-) -> Result<(ListedProfile, Option<ListedRevision>), StoreFault>
+) -> Result<(ListedProfile, Option<ListedRevision>), Fault>
     requires { IsIdle (state S.Store conn.old) }
     ensures { IsRead (state S.Store conn.old) (state S.Store conn.new) result
         (IsStep team.now first) }
@@ -272,7 +272,7 @@ pub(crate) fn profiles_of<S: Alter>(
     alloc: Global,
     conn: &mut Connection<S>,
     team: &Word,
-) -> Result<Listing, StoreFault>
+) -> Result<Listing, Fault>
     requires { IsIdle (state S.Store conn.old) }
     ensures { IsRead (state S.Store conn.old) (state S.Store conn.new) result
         (LooksBack (λ h. listing_of h team.now)) }
@@ -284,7 +284,7 @@ pub(crate) fn profiles_of<S: Alter>(
             return Ok(Listing::new(profiles));
         };
         let (profile, later) = listed(alloc, conn, team, first)?;
-        profiles.push(profile).map_err(|_| StoreFault::NoMemory)?;
+        profiles.push(profile).map_err(|_| Fault::NoMemory)?;
         next = later;
     }
     unreachable!()

@@ -2,8 +2,7 @@
 
 ghost use Rattle.std.specs.Prelude.{◌≡◌};
 
-use office_tables::StoreFault;
-use review_policy::{Denial, Text};
+use review_policy::{Denial, Fault, Text};
 use std::alloc::AllocError;
 
 // Why a request isn't carried out: the first rule that refuses it, for a document that doesn't read
@@ -11,7 +10,7 @@ use std::alloc::AllocError;
 #[derive(Debug, Drop)]
 pub(crate) enum Refusal {
     Denied { denial: Denial, fault: Option<Text> },
-    Fault(StoreFault),
+    Fault(Fault),
 }
 
 impl From<Denial> for Refusal {
@@ -28,25 +27,25 @@ impl From<Denial> for Refusal {
     }
 }
 
-impl From<StoreFault> for Refusal {
+impl From<Fault> for Refusal {
     ghost use Rattle.std.specs.Prelude.{◌≡◌};
     ghost use Rattle.office_desk.specs.declared.refusal.Refusal.TheVariants.{Fault};
 
     ghost from_gives = { λ fault refusal. refusal ≡ Fault fault };
 
-    fn from(fault: StoreFault) -> Refusal {
+    fn from(fault: Fault) -> Refusal {
         Refusal::Fault(fault)
     }
 }
 
 impl From<AllocError> for Refusal {
     ghost use Rattle.std.specs.Prelude.{◌≡◌};
-    ghost use Rattle.office_tables.specs.declared.fault.StoreFault.TheVariants.{NoMemory};
+    ghost use Rattle.review_policy.specs.declared.fault.Fault.TheVariants.{NoMemory};
     ghost use Rattle.office_desk.specs.declared.refusal.Refusal.TheVariants.{Fault};
 
     ghost from_gives = { λ _ refusal. refusal ≡ Fault NoMemory };
 
     fn from(_error: AllocError) -> Refusal {
-        Refusal::Fault(StoreFault::NoMemory)
+        Refusal::Fault(Fault::NoMemory)
     }
 }

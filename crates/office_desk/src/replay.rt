@@ -8,16 +8,15 @@ ghost use Rattle.office_policy.specs.Facts.{is_text_of};
 ghost use Rattle.office_policy.specs.Formed.{HasForms};
 ghost use Rattle.office_policy.specs.Happened.{event_meant};
 ghost use Rattle.office_desk.specs.Meant.{meaning_over};
-ghost use Rattle.office_desk.specs.Replayed.{HasNoAsk, IsAskOf, IsReplayed, has_text};
+ghost use Rattle.office_desk.specs.Replayed.{HasNoAsk, IsAskOf, IsReplayed, added, has_text};
 
-use crate::answer::told;
 use crate::carry_out::carry_out;
 use crate::forms::ask_forms;
 use crate::judge::judge_named;
+use crate::names::same_name;
 use crate::refusal::Refusal;
-use office_policy::{Allowed, Event, Judgement};
-use office_tables::{RevisionRow, StoreFault};
-use review_policy::{Ask, Denial, Fault, ProfileName, Text, Word};
+use office_policy::{Change, Event, Judgement};
+use review_policy::{Ask, Denial, Fault, Text, Word};
 use sqlite::{Alter, Connection};
 use std::alloc::{AllocError, Global};
 use thiserror::Error;
@@ -48,32 +47,31 @@ impl From<Refusal> for Unreplayed {
     fn from(refusal: Refusal) -> Unreplayed {
         match refusal {
             Refusal::Denied { denial, .. } => Unreplayed::Denied(denial),
-            Refusal::Fault(fault) => Unreplayed::Fault(told(fault)),
+            Refusal::Fault(fault) => Unreplayed::Fault(fault),
         }
     }
 }
 
-impl From<StoreFault> for Unreplayed {
+impl From<Fault> for Unreplayed {
     ghost use Rattle.std.specs.Prelude.{◌≡◌};
-    ghost use Rattle.office_desk.specs.Told.{told_of};
     ghost use Rattle.office_desk.specs.declared.replay.Unreplayed.TheVariants.{Fault};
 
-    ghost from_gives = { λ fault unreplayed. unreplayed ≡ Fault (told_of fault) };
+    ghost from_gives = { λ fault unreplayed. unreplayed ≡ Fault fault };
 
-    fn from(fault: StoreFault) -> Unreplayed {
-        Unreplayed::Fault(told(fault))
+    fn from(fault: Fault) -> Unreplayed {
+        Unreplayed::Fault(fault)
     }
 }
 
 impl From<AllocError> for Unreplayed {
     ghost use Rattle.std.specs.Prelude.{◌≡◌};
-    ghost use Rattle.review_policy.specs.declared.answer.Fault.TheVariants.{Memory};
+    ghost use Rattle.review_policy.specs.declared.fault.Fault.TheVariants.{NoMemory};
     ghost use Rattle.office_desk.specs.declared.replay.Unreplayed.TheVariants.{Fault};
 
-    ghost from_gives = { λ _ unreplayed. unreplayed ≡ Fault Memory };
+    ghost from_gives = { λ _ unreplayed. unreplayed ≡ Fault NoMemory };
 
     fn from(_error: AllocError) -> Unreplayed {
-        Unreplayed::Fault(Fault::Memory)
+        Unreplayed::Fault(Fault::NoMemory)
     }
 }
 
@@ -92,16 +90,6 @@ fn caller_of(event: &Event) -> Option<&Word>
         | Event::Held { caller, .. }
         | Event::Released { caller, .. } => Some(caller),
     }
-}
-
-// The same name.
-fn same_name(name: &ProfileName) -> Result<ProfileName, AllocError>
-    ensures { IfOk result (λ same. same ≡ name.now) }
-{
-    Ok(ProfileName {
-        team: name.team.clone()?,
-        profile: name.profile.clone()?,
-    })
 }
 
 // What the event asks, which is the text itself where it is a submission.
@@ -160,22 +148,22 @@ fn ask_of(alloc: Global, event: &Event) -> Result<Ask, Unreplayed>
     }
 }
 
-// Whether the text is that of a revision.
-fn is_text_of(text: &Text, revision: &Option<RevisionRow>) -> bool
-    ensures { result ≡ is_text_of (Some text.now) revision.now }
+// Whether the text is that of a revision that is added.
+fn is_text_of(text: &Text, change: &Change) -> bool
+    ensures { result ≡ is_text_of (Some text.now) (added change.now) }
 {
-    match revision {
-        Some(row) => text.is(&row.body),
-        None => false,
+    match change {
+        Change::AddRevision { row, .. } => text.is(&row.body),
+        _ => false,
     }
 }
 
-// Whether what was allowed has the text of the event, where that is a submission.
-fn has_text(event: &Event, allowed: &Allowed) -> bool
-    ensures { result ≡ has_text (event_meant event.now) allowed.now }
+// Whether a change has the text of the event, where that is a submission.
+fn has_text(event: &Event, change: &Change) -> bool
+    ensures { result ≡ has_text (event_meant event.now) change.now }
 {
     match event {
-        Event::Submitted { text, .. } => is_text_of(text, &allowed.revision),
+        Event::Submitted { text, .. } => is_text_of(text, change),
         _ => true,
     }
 }
@@ -200,10 +188,10 @@ fn replay_ask<S: Alter>(
         Judgement::Allowed(allowed) => allowed,
         Judgement::Answered(_) => unreachable!(),
     };
-    if !has_text(event, &allowed) {
+    if !has_text(event, &allowed.change) {
         return Err(Unreplayed::OtherText);
     }
-    carry_out(conn, ask, &allowed)?;
+    carry_out(conn, &allowed)?;
     Ok(())
 }
 

@@ -10,8 +10,8 @@ ghost use Rattle.office_desk.specs.Looked.{authored_at};
 ghost use Rattle.office_desk.specs.Summarized.{as_asked};
 
 use office_store::{Summary, is_author, summary_at};
-use office_tables::{RevisionRow, StoreFault};
-use review_policy::{ProfileName, State, Word};
+use office_tables::RevisionRow;
+use review_policy::{Fault, ProfileName, State, Word};
 use sqlite::{Alter, Connection};
 
 // The state of a revision that is there.
@@ -41,7 +41,7 @@ pub(crate) fn authored<S: Alter>(
     name: &ProfileName,
     number: u32,
     user: &Word,
-) -> Result<(Option<Summary>, bool), StoreFault>
+) -> Result<(Option<Summary>, bool), Fault>
     requires { IsIdle (state S.Store conn.old) }
     ensures { Reads S.Store conn.old conn.new result
         (λ t found. LooksBack (authored_at name.now number user.now) t found) }

@@ -7,7 +7,7 @@ ghost use Rattle.review_sheet.specs.Sheet.{sheet_text};
 ghost use Rattle.office_store.specs.Connections.{Reads};
 ghost use Rattle.office_store.specs.Shown.{IsIdle};
 ghost use Rattle.office_policy.specs.LooksBack.{LooksBack};
-ghost use Rattle.office_desk.specs.Judged.{JudgesAsk};
+ghost use Rattle.office_desk.specs.Judged.{JudgesRead};
 ghost use Rattle.office_desk.specs.Compared.{sheet_against};
 ghost use Rattle.office_desk.specs.Looking.{sheet_at, sheet_text_of};
 
@@ -16,8 +16,8 @@ use crate::need::document;
 use crate::reading::read_facts;
 use crate::refusal::Refusal;
 use office_store::{revision, standing};
-use office_tables::{RevisionRow, StoreFault, UserRow};
-use review_policy::{ProfileName, Reply, Text, VoteRow, Word, decide_read};
+use office_tables::{RevisionRow, UserRow};
+use review_policy::{Fault, ProfileName, Reply, Text, VoteRow, Word, decide_read};
 use review_sheet::SheetFacts;
 use sqlite::{Alter, Connection};
 use std::alloc::{AllocError, Global};
@@ -66,7 +66,7 @@ fn sheet_now<S: Alter>(
     conn: &mut Connection<S>,
     name: &ProfileName,
     row: &RevisionRow,
-) -> Result<Text, StoreFault>
+) -> Result<Text, Fault>
     requires { IsIdle (state S.Store conn.old) }
     ensures { Reads S.Store conn.old conn.new result
         (LooksBack (sheet_text_of name.now row.now)) }
@@ -82,7 +82,7 @@ pub(crate) fn sheet_at<S: Alter>(
     conn: &mut Connection<S>,
     name: &ProfileName,
     number: u32,
-) -> Result<Option<Text>, StoreFault>
+) -> Result<Option<Text>, Fault>
     requires { IsIdle (state S.Store conn.old) }
     ensures { Reads S.Store conn.old conn.new result (LooksBack (sheet_at name.now number)) }
 {
@@ -102,7 +102,7 @@ pub(crate) fn sheet<S: Alter>(
     number: u32,
 ) -> Result<Reply, Refusal>
     requires { IsIdle (state S.Store conn.old) }
-    ensures { JudgesAsk (state S.Store conn.old) (state S.Store conn.new) result
+    ensures { JudgesRead (state S.Store conn.old) (state S.Store conn.new) result
         caller.now (ask.Sheet name.now number) }
 {
     decide_read(&read_facts(caller, &name.team, false))?;

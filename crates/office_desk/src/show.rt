@@ -4,7 +4,7 @@ ghost use Rattle.std.specs.Prelude.{◌≡◌, Some};
 ghost use Rattle.sqlite.specs.Held.{state};
 ghost use Rattle.review_policy.specs.declared.ask.Ask.TheVariants as ask;
 ghost use Rattle.office_store.specs.Shown.{IsIdle};
-ghost use Rattle.office_desk.specs.Judged.{JudgesAsk};
+ghost use Rattle.office_desk.specs.Judged.{JudgesRead};
 
 use crate::reading::read_facts;
 use crate::refusal::Refusal;
@@ -23,7 +23,7 @@ pub(crate) fn show<S: Alter>(
     number: u32,
 ) -> Result<Reply, Refusal>
     requires { IsIdle (state S.Store conn.old) }
-    ensures { JudgesAsk (state S.Store conn.old) (state S.Store conn.new) result
+    ensures { JudgesRead (state S.Store conn.old) (state S.Store conn.new) result
         caller.now (ask.Show name.now number) }
 {
     decide_read(&read_facts(caller, &name.team, false))?;

@@ -22,8 +22,8 @@ use office_policy::Event;
 use office_store::{
     Adopted, Ballot, Summary, ballot_of, baseline, held, last, listed, summary_at, user_by_name,
 };
-use office_tables::{RevisionRow, StoreFault, UserRow};
-use review_policy::{ProfileName, Role, Roles, State, Text, Word};
+use office_tables::{RevisionRow, UserRow};
+use review_policy::{Fault, ProfileName, Role, Roles, State, Text, Word};
 use sqlite::{Alter, Connection};
 use std::alloc::Global;
 
@@ -126,7 +126,7 @@ fn shows_user<S: Alter>(
     team: &Word,
     roles: Roles,
     digest: &[u8; 32],
-) -> Result<bool, StoreFault>
+) -> Result<bool, Fault>
     requires { IsIdle (state S.Store conn.old) }
     ensures { Reads S.Store conn.old conn.new result (λ t shown.
         shown ≡ true ↔ HasUser t user.now team.now roles digest.now) }
@@ -143,7 +143,7 @@ fn shows_founding<S: Alter>(
     team: &Word,
     digest: &[u8; 32],
     caps: Caps,
-) -> Result<bool, StoreFault>
+) -> Result<bool, Fault>
     requires { IsIdle (state S.Store conn.old) }
     ensures { Reads S.Store conn.old conn.new result (λ t shown.
         shown ≡ true ↔ Shows t (founded user.now team.now digest.now caps)) }
@@ -160,7 +160,7 @@ fn shows_submission<S: Alter>(
     caller: &Word,
     name: &ProfileName,
     text: &Text,
-) -> Result<bool, StoreFault>
+) -> Result<bool, Fault>
     requires { IsIdle (state S.Store conn.old) }
     ensures { Reads S.Store conn.old conn.new result (λ t shown.
         shown ≡ true ↔ LastIsOpen t name.now caller.now text.now) }
@@ -177,7 +177,7 @@ fn shows_vote<S: Alter>(
     name: &ProfileName,
     number: u32,
     approves: bool,
-) -> Result<bool, StoreFault>
+) -> Result<bool, Fault>
     requires { IsIdle (state S.Store conn.old) }
     ensures { Reads S.Store conn.old conn.new result (λ t shown.
         shown ≡ true ↔ (t.votes name.now number caller.now ≡ Some (record {
@@ -196,7 +196,7 @@ fn shows_state<S: Alter>(
     name: &ProfileName,
     number: u32,
     in_state: State,
-) -> Result<bool, StoreFault>
+) -> Result<bool, Fault>
     requires { IsIdle (state S.Store conn.old) }
     ensures { Reads S.Store conn.old conn.new result (λ t shown.
         shown ≡ true ↔ (state_in (t.revisions name.now number) ≡ Some in_state)) }
@@ -211,7 +211,7 @@ fn shows_baseline<S: Alter>(
     conn: &mut Connection<S>,
     name: &ProfileName,
     number: u32,
-) -> Result<bool, StoreFault>
+) -> Result<bool, Fault>
     requires { IsIdle (state S.Store conn.old) }
     ensures { Reads S.Store conn.old conn.new result (λ t shown.
         shown ≡ true ↔ (t.baselines name.now.team
@@ -226,7 +226,7 @@ fn shows_hold<S: Alter>(
     conn: &mut Connection<S>,
     name: &ProfileName,
     is_held: bool,
-) -> Result<bool, StoreFault>
+) -> Result<bool, Fault>
     requires { IsIdle (state S.Store conn.old) }
     ensures { Reads S.Store conn.old conn.new result (λ t shown.
         shown ≡ true ↔ (t.holds name.now ≡ is_held)) }
@@ -239,7 +239,7 @@ pub(crate) fn shows<S: Alter>(
     alloc: Global,
     conn: &mut Connection<S>,
     event: &Event,
-) -> Result<bool, StoreFault>
+) -> Result<bool, Fault>
     requires { IsIdle (state S.Store conn.old) }
     ensures { Reads S.Store conn.old conn.new result (λ t shown.
         shown ≡ true ↔ Shows t (event_meant event.now)) }

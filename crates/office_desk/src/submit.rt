@@ -17,13 +17,17 @@ ghost use Rattle.office_policy.specs.Facts.{canonical, is_text_of};
 ghost use Rattle.office_policy.specs.Verdict.{verdict_of};
 ghost use Rattle.office_desk.specs.AtOnce.{IsRefusedAtOnce};
 ghost use Rattle.office_desk.specs.Carries.{Asks};
-ghost use Rattle.office_desk.specs.Judged.{JudgesSubmission};
+ghost use Rattle.office_desk.specs.Judged.{IsAskedBy, JudgesChange, added_by};
 
+use crate::names::same_name;
 use crate::refusal::Refusal;
+use office_policy::{Allowed, Change};
 use office_store::{add_revision, last};
-use office_tables::{RevisionRow, StoreFault, UserRow};
+use office_tables::{RevisionRow, UserRow};
 use profile_text::{DocFault, digest, fault_text, read_with_text};
-use review_policy::{ProfileName, Role, State, SubmitFacts, Text, Word, decide_submit};
+use review_policy::{
+    Fault, ProfileName, Reply, Role, State, SubmitFacts, Text, Word, decide_submit,
+};
 use sqlite::{Alter, Connection};
 use std::alloc::{AllocError, Global};
 
@@ -51,8 +55,8 @@ fn is_open_text(text: &Text, last: &Option<RevisionRow>) -> bool
     }
 }
 
-// The number of a revision, or 0.
-fn number_of(revision: &Option<RevisionRow>) -> u32
+/// The number of a revision, from 1, or 0 where there is none.
+pub fn number_of(revision: &Option<RevisionRow>) -> u32
     ensures { result ≡ number_of revision.now }
 {
     match revision {
@@ -96,6 +100,25 @@ fn next_revision(
     })
 }
 
+// What is allowed where the caller adds a revision.
+fn addition(caller: UserRow, name: &ProfileName, row: RevisionRow) -> Result<Allowed, AllocError>
+    ensures { IfOk result (λ allowed. allowed ≡ added_by caller name.now row) }
+{
+    let reply = Reply::Submitted {
+        digest: row.digest,
+        revision: row.number,
+    };
+    let change = Change::AddRevision {
+        name: same_name(name)?,
+        row,
+    };
+    Ok(Allowed {
+        caller,
+        change,
+        reply,
+    })
+}
+
 // The canonical text of the document, where the caller may hand in one of this team, and it reads;
 // else the refusal, which says of a document that doesn't read why.
 fn handed_in(
@@ -112,7 +135,7 @@ fn handed_in(
     decide_submit(&asked)?;
     match read_with_text(alloc, document.as_slice()) {
         Ok(document) => Ok(Text::new(document.text)),
-        Err(DocFault::NoMemory) => Err(Refusal::Fault(StoreFault::NoMemory)),
+        Err(DocFault::NoMemory) => Err(Refusal::Fault(Fault::NoMemory)),
         Err(fault) => {
             let text = Text::new(fault_text(alloc, &fault)?);
             match decide_submit(&SubmitFacts {
@@ -133,18 +156,20 @@ fn handed_in(
 pub(crate) fn judge_submission<S: Alter>(
     alloc: Global,
     conn: &mut Connection<S>,
-    caller: &UserRow,
+    caller: UserRow,
     name: &ProfileName,
     document: &Vec<u8>,
-) -> Result<RevisionRow, Refusal>
+) -> Result<Allowed, Refusal>
     requires { IsIdle (state S.Store conn.old) }
-    ensures { JudgesSubmission (state S.Store conn.old) (state S.Store conn.new) result
-        caller.now (ask.Submit name.now document.now) }
+    ensures judged { JudgesChange (state S.Store conn.old) (state S.Store conn.new) result
+        caller (ask.Submit name.now document.now) }
+    ensures asked { IfOk result (IsAskedBy (ask.Submit name.now document.now)) }
 {
-    let text = handed_in(alloc, caller, name, document)?;
+    let text = handed_in(alloc, &caller, name, document)?;
     let last = last(alloc, conn, name)?;
-    decide_submit(&all_facts(caller, &name.team, &text, &last))?;
-    Ok(next_revision(caller, &last, text)?)
+    decide_submit(&all_facts(&caller, &name.team, &text, &last))?;
+    let row = next_revision(&caller, &last, text)?;
+    Ok(addition(caller, name, row)?)
 }
 
 // Adds the next revision of a profile.
@@ -152,7 +177,7 @@ pub(crate) fn write_submission<S: Alter>(
     conn: &mut Connection<S>,
     name: &ProfileName,
     revision: &RevisionRow,
-) -> Result<(), StoreFault>
+) -> Result<(), Fault>
     requires { IsIdle (state S.Store conn.old) }
     ensures { Asks S.Store (adds_revision name.now revision.now) conn.old conn.new result }
 {

@@ -1,6 +1,6 @@
 // Votes on revisions.
 
-ghost use Rattle.std.specs.Prelude.{◌≡◌, Bool, Some, not};
+ghost use Rattle.std.specs.Prelude.{◌≡◌, IfOk, Some, not};
 ghost use Rattle.sqlite.specs.Held.{state};
 ghost use Rattle.review_policy.specs.declared.ask.Ask.TheVariants as ask;
 ghost use Rattle.review_policy.specs.declared.facts.TheConstants.VoteFacts.{PASSING};
@@ -11,14 +11,16 @@ ghost use Rattle.office_store.specs.Shown.{IsIdle};
 ghost use Rattle.office_tables.specs.Lists.{holds_role};
 ghost use Rattle.office_policy.specs.Facts.{vote_facts, has_digest};
 ghost use Rattle.office_desk.specs.Carries.{Asks};
-ghost use Rattle.office_desk.specs.Judged.{JudgesAsk};
+ghost use Rattle.office_desk.specs.Judged.{IsAskedBy, JudgesChange};
 ghost use Rattle.office_desk.specs.Summarized.{as_asked};
 
+use crate::names::same_name;
 use crate::refusal::Refusal;
 use crate::revisions::{authored, state_of};
+use office_policy::{Allowed, Change};
 use office_store::{Ballot, Summary, put_vote};
-use office_tables::{StoreFault, UserRow};
-use review_policy::{ProfileName, Reply, Role, VoteFacts, decide_vote};
+use office_tables::UserRow;
+use review_policy::{Fault, ProfileName, Reply, Role, VoteFacts, decide_vote};
 use sqlite::{Alter, Connection};
 
 // What the rules ask of a caller.
@@ -63,20 +65,31 @@ fn all_facts(
 // Judges a vote on a revision.
 pub(crate) fn judge_vote<S: Alter>(
     conn: &mut Connection<S>,
-    caller: &UserRow,
+    caller: UserRow,
     name: &ProfileName,
     number: u32,
     digest: &[u8; 32],
-) -> Result<Reply, Refusal>
+    approves: bool,
+) -> Result<Allowed, Refusal>
     requires { IsIdle (state S.Store conn.old) }
-    ensures { (approves : Bool)
-        → JudgesAsk (state S.Store conn.old) (state S.Store conn.new) result
-        caller.now (ask.Vote name.now number digest.now approves) }
+    ensures judged { JudgesChange (state S.Store conn.old) (state S.Store conn.new) result
+        caller (ask.Vote name.now number digest.now approves) }
+    ensures asked { IfOk result (IsAskedBy (ask.Vote name.now number digest.now approves)) }
 {
-    decide_vote(&facts_of_caller(caller))?;
+    decide_vote(&facts_of_caller(&caller))?;
     let (found, is_author) = authored(conn, name, number, &caller.name)?;
-    decide_vote(&all_facts(caller, &found, is_author, digest))?;
-    Ok(Reply::Voted)
+    decide_vote(&all_facts(&caller, &found, is_author, digest))?;
+    let change = Change::Vote {
+        name: same_name(name)?,
+        revision: number,
+        digest: *digest,
+        approves,
+    };
+    Ok(Allowed {
+        caller,
+        change,
+        reply: Reply::Voted,
+    })
 }
 
 // Writes a vote, in the place of any earlier vote of the caller there.
@@ -86,7 +99,7 @@ pub(crate) fn write_vote<S: Alter>(
     name: &ProfileName,
     number: u32,
     approves: bool,
-) -> Result<(), StoreFault>
+) -> Result<(), Fault>
     requires { IsIdle (state S.Store conn.old) }
     ensures { Asks S.Store
         (puts_vote (vote_entry name.now number caller.now.name approves

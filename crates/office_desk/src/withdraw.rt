@@ -1,6 +1,6 @@
 // Revisions that are taken back.
 
-ghost use Rattle.std.specs.Prelude.{◌≡◌, Some, not, ◌||◌};
+ghost use Rattle.std.specs.Prelude.{◌≡◌, IfOk, Some, not, ◌||◌};
 ghost use Rattle.sqlite.specs.Held.{state};
 ghost use Rattle.review_policy.specs.declared.ask.Ask.TheVariants as ask;
 ghost use Rattle.review_policy.specs.declared.facts.TheConstants.WithdrawFacts.{PASSING};
@@ -10,14 +10,16 @@ ghost use Rattle.office_tables.specs.Lists.{holds_role};
 ghost use Rattle.office_policy.specs.Users.{is_of_team};
 ghost use Rattle.office_policy.specs.Facts.{withdraw_facts};
 ghost use Rattle.office_desk.specs.Carries.{Asks};
-ghost use Rattle.office_desk.specs.Judged.{JudgesAsk};
+ghost use Rattle.office_desk.specs.Judged.{IsAskedBy, JudgesChange};
 ghost use Rattle.office_desk.specs.Summarized.{as_asked};
 
+use crate::names::same_name;
 use crate::refusal::Refusal;
 use crate::revisions::state_of;
+use office_policy::{Allowed, Change};
 use office_store::{Summary, set_withdrawn, summary_at};
-use office_tables::{StoreFault, UserRow};
-use review_policy::{ProfileName, Reply, Role, WithdrawFacts, Word, decide_withdraw};
+use office_tables::UserRow;
+use review_policy::{Fault, ProfileName, Reply, Role, WithdrawFacts, Word, decide_withdraw};
 use sqlite::{Alter, Connection};
 
 // What the rules ask of a caller and a team.
@@ -49,18 +51,27 @@ fn all_facts(caller: &UserRow, team: &Word, found: &Option<Summary>) -> Withdraw
 // Judges a withdrawal.
 pub(crate) fn judge_withdrawal<S: Alter>(
     conn: &mut Connection<S>,
-    caller: &UserRow,
+    caller: UserRow,
     name: &ProfileName,
     number: u32,
-) -> Result<Reply, Refusal>
+) -> Result<Allowed, Refusal>
     requires { IsIdle (state S.Store conn.old) }
-    ensures { JudgesAsk (state S.Store conn.old) (state S.Store conn.new) result
-        caller.now (ask.Withdraw name.now number) }
+    ensures judged { JudgesChange (state S.Store conn.old) (state S.Store conn.new) result
+        caller (ask.Withdraw name.now number) }
+    ensures asked { IfOk result (IsAskedBy (ask.Withdraw name.now number)) }
 {
-    decide_withdraw(&facts_of_caller(caller, &name.team))?;
+    decide_withdraw(&facts_of_caller(&caller, &name.team))?;
     let found = summary_at(conn, name, number)?;
-    decide_withdraw(&all_facts(caller, &name.team, &found))?;
-    Ok(Reply::Withdrawn)
+    decide_withdraw(&all_facts(&caller, &name.team, &found))?;
+    let change = Change::Withdraw {
+        name: same_name(name)?,
+        revision: number,
+    };
+    Ok(Allowed {
+        caller,
+        change,
+        reply: Reply::Withdrawn,
+    })
 }
 
 // Takes a revision back.
@@ -68,7 +79,7 @@ pub(crate) fn write_withdrawal<S: Alter>(
     conn: &mut Connection<S>,
     name: &ProfileName,
     number: u32,
-) -> Result<(), StoreFault>
+) -> Result<(), Fault>
     requires { IsIdle (state S.Store conn.old) }
     ensures { Asks S.Store (withdraws name.now number) conn.old conn.new result }
 {

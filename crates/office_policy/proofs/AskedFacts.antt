@@ -1,5 +1,5 @@
 -- What is carried out is what was asked.
-use Rattle.std.proofs.Common.{◌≡◌, ℕ, List, Some, None, Option, Ok, Err, refl, subst, Vec, Global}
+use Rattle.std.proofs.Common.{◌≡◌, ℕ, List, false, Some, None, Option, Ok, Err, refl, subst, Vec, Global}
 use Rattle.std.specs.Prelude.{Result}
 use Rattle.profile_text.specs.Digest.{digest_of}
 use Rattle.profile_text.specs.Reading.{reading_of}
@@ -20,6 +20,7 @@ use Rattle.office_policy.specs.Revisions.{revision_of, issued_revision}
 use Rattle.office_policy.specs.Sheets.{sheet_of}
 use Rattle.office_policy.specs.Verdict.{Verdict, accepted, denied, new_revision, of_revision, done_of, verdict}
 use Rattle.office_policy.specs.Asked.{IsAsked, IsSeen, OfRevision}
+use Rattle.office_policy.specs.Handled.{only_reads}
 use Rattle.office_policy.proofs.LawFacts.{of_revision_by}
 use Rattle.office_policy.proofs.GivenOut.{carried_out}
 use Rattle.office_policy.proofs.ReplyFacts.{caller_in}
@@ -55,6 +56,21 @@ done_asked h caller (ask.Release p) = refl
 pub asked_by : (h : History) (r : Request) (reply : Reply) (e : Option Event) → verdict h r ≡ accepted reply e → IsAsked (caller_in h r) r.ask e
 asked_by h r reply e is =
     subst (DoesAsked (caller_in h r) r.ask) (carried_out h r r.ask reply e refl is).done (done_asked h (user_showing h (digest_of r.token)) r.ask)
+
+-- what has an event doesn't only read
+pub changing : (caller : List ℕ) (a : Ask) (e : Event) → IsAsked caller a (Some e) → only_reads a ≡ false
+changing caller (ask.Enrol user team roles digest) e is = refl
+changing caller (ask.Submit p document) e is = refl
+changing caller (ask.Vote p n digest approve) e is = refl
+changing caller (ask.Issue p n) e is = refl
+changing caller (ask.Withdraw p n) e is = refl
+changing caller (ask.Adopt p n) e is = refl
+changing caller (ask.Hold p) e is = refl
+changing caller (ask.Release p) e is = refl
+changing caller (ask.Show p n) e is = absurd cc
+changing caller (ask.Sheet p n) e is = absurd cc
+changing caller (ask.List team) e is = absurd cc
+changing caller (ask.Fetch p) e is = absurd cc
 
 -- what is answered of a revision that is there
 told_of : (h : History) (p : ProfileName) (n : ℕ) (tell : RevisionRow → Reply) (told : Reply) (e : Option Event)

@@ -3,8 +3,8 @@ use Rattle.std.proofs.Common.{inl, inr, ◌≤◌, ℕ, List, [], ◌∷◌, ◌
 use Rattle.review_policy.specs.declared.ask.Request.{Request}
 use Rattle.review_policy.specs.declared.answer.Answer.{Answer}
 use Rattle.review_policy.specs.declared.answer.Answer.TheVariants.{Done, Denied, Fault}
-use Rattle.review_policy.specs.declared.answer.Fault.{Fault as TheFault}
-use Rattle.review_policy.specs.declared.answer.Fault.TheVariants as faults
+use Rattle.review_policy.specs.declared.fault.Fault.{Fault as TheFault}
+use Rattle.review_policy.specs.declared.fault.Fault.TheVariants as faults
 use Rattle.office_policy.specs.History.{History}
 use Rattle.office_policy.specs.Meaning.{Meaning}
 use Rattle.office_policy.specs.Handled.{HasRisen, IsMet, IsUnwritten, HasCause, IsHandled}
@@ -25,8 +25,8 @@ module _ {X : Type 0} (m : Meaning X) where
   pub cause_before : (old mid new : X) (h : History) (r : Request) (a : Answer) → IsUnwritten m mid new → m.faults mid ≤ m.faults new → HasCause m old mid h r a → HasCause m old new h r a
   cause_before old mid new h r (Done reply) then after cause = tt
   cause_before old mid new h r (Denied denial fault) then after cause = tt
-  cause_before old mid new h r (Fault faults.Memory) then after (inl unwritten) = inl (unwritten_on old mid new unwritten then)
-  cause_before old mid new h r (Fault faults.Memory) then after (inr refused) = inr refused
+  cause_before old mid new h r (Fault faults.NoMemory) then after (inl unwritten) = inl (unwritten_on old mid new unwritten then)
+  cause_before old mid new h r (Fault faults.NoMemory) then after (inr refused) = inr refused
   cause_before old mid new h r (Fault faults.Disk) then after cause = λ is_open. met_before old mid new h r faults.Disk after (cause is_open)
   cause_before old mid new h r (Fault faults.Full) then after cause = met_before old mid new h r faults.Full after cause
   cause_before old mid new h r (Fault faults.NotAnOffice) then after cause = cause

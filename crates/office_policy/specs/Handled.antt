@@ -6,8 +6,8 @@ use Rattle.review_policy.specs.declared.ask.Ask.TheVariants as ask
 use Rattle.review_policy.specs.declared.ask.Request.{Request}
 use Rattle.review_policy.specs.declared.answer.Answer.{Answer}
 use Rattle.review_policy.specs.declared.answer.Answer.TheVariants.{Done, Denied, Fault}
-use Rattle.review_policy.specs.declared.answer.Fault.{Fault as TheFault}
-use Rattle.review_policy.specs.declared.answer.Fault.TheVariants as faults
+use Rattle.review_policy.specs.declared.fault.Fault.{Fault as TheFault}
+use Rattle.review_policy.specs.declared.fault.Fault.TheVariants as faults
 use Rattle.office_policy.specs.History.{History}
 use Rattle.office_policy.specs.Verdict.{Verdict, accepted, denied, verdict}
 use Rattle.office_policy.specs.Runs.{IsAnswer, history_after}
@@ -58,14 +58,14 @@ module _ {X : Type 0} (m : Meaning X) where
   -- there was no memory before anything was written, or for what the request is to write
   abbrev pub LacksMemory : (old new : X) → History → Request → Type 0
   LacksMemory old new h request =
-      IsUnwritten old new ⊎ RefusesEvent old h (verdict h request) faults.Memory
+      IsUnwritten old new ⊎ RefusesEvent old h (verdict h request) faults.NoMemory
 
   -- a fault other than `memory` was met so, or it is `disk` and a fault had shut the office before;
   -- none is for the form of its tables
   abbrev pub HasCause : (old new : X) → History → Request → Answer → Type 0
   HasCause old new h request (Done reply) = Unit {0}
   HasCause old new h request (Denied denial fault) = Unit {0}
-  HasCause old new h request (Fault faults.Memory) = LacksMemory old new h request
+  HasCause old new h request (Fault faults.NoMemory) = LacksMemory old new h request
   HasCause old new h request (Fault faults.Disk) =
       m.is_open old → IsMet old new h request faults.Disk
   HasCause old new h request (Fault faults.Full) = IsMet old new h request faults.Full

@@ -1,69 +1,52 @@
 -- What a request comes to before anything is changed.
-use Rattle.std.specs.Prelude.{◌≡◌, suc, Option, Some, None, Result, Ok, Err, ⊤, option_map}
+use Rattle.std.specs.Prelude.{◌≡◌, ℕ, suc, List, true, Some, Result, Ok, Err, ⊤}
 use Rattle.profile_text.specs.Digest.{digest_of}
-use Rattle.review_policy.specs.declared.ask.Ask.{Ask}
-use Rattle.review_policy.specs.declared.ask.Ask.TheVariants as ask
+use Rattle.review_policy.specs.Words.{is_token}
 use Rattle.review_policy.specs.declared.ask.Request.{Request}
 use Rattle.review_policy.specs.declared.answer.Answer.{Answer}
 use Rattle.review_policy.specs.declared.answer.Answer.TheVariants as answers
-use Rattle.review_policy.specs.declared.answer.Fault.{Fault}
+use Rattle.review_policy.specs.declared.fault.Fault.{Fault}
 use Rattle.review_policy.specs.declared.revision.State.TheVariants.{Open}
-use Rattle.office_tables.specs.declared.row.RevisionRow.{RevisionRow}
+use Rattle.office_policy.specs.declared.change.Change.{Change}
+use Rattle.office_policy.specs.declared.change.Change.TheVariants as changes
 use Rattle.office_policy.specs.declared.judge.Allowed.{Allowed}
 use Rattle.office_policy.specs.declared.judge.Judgement.{Judgement}
 use Rattle.office_policy.specs.declared.judge.Judgement.TheVariants as judgements
-use Rattle.office_policy.specs.History.{Event, enrolled, submitted, voted, issued, withdrawn}
-use Rattle.office_policy.specs.History.{adopted, held, released, History}
+use Rattle.office_policy.specs.History.{Event, History}
+use Rattle.office_policy.specs.Happened.{event_by}
 use Rattle.office_policy.specs.Users.{user_showing}
 use Rattle.office_policy.specs.Revisions.{revision_count}
 use Rattle.office_policy.specs.Verdict.{accepted, verdict}
-use Rattle.office_policy.specs.Formed.{IsFormed}
+use Rattle.office_policy.specs.Formed.{HasForms, IsFormed}
 use Rattle.office_policy.specs.Lawful.{IsAllowed}
+use Rattle.office_policy.specs.Asked.{IsAsked}
 use Rattle.office_policy.specs.Runs.{history_after}
 use Rattle.office_policy.specs.Meaning.{Meaning}
 use Rattle.office_policy.specs.Handled.{IsHandled, Stands, Survives}
 
--- the event of what is asked and was allowed, where it changes something: the text of a submission
--- is that of its revision
-abbrev pub event_in : Ask → Allowed → Option Event
-event_in (ask.Enrol user team roles digest) a =
-    Some (enrolled a.caller.name user team roles digest)
-event_in (ask.Submit p document) a =
-    option_map (λ row. submitted a.caller.name p row.body) a.revision
-event_in (ask.Vote p n digest approve) a = Some (voted a.caller.name p n digest approve)
-event_in (ask.Issue p n) a = Some (issued a.caller.name p n)
-event_in (ask.Withdraw p n) a = Some (withdrawn a.caller.name p n)
-event_in (ask.Adopt p n) a = Some (adopted a.caller.name p n)
-event_in (ask.Hold p) a = Some (held a.caller.name p)
-event_in (ask.Release p) a = Some (released a.caller.name p)
-event_in _ a = None
+-- the event of what was allowed
+abbrev pub event_for : Allowed → Event
+event_for a = event_by a.caller.name a.change
 
--- what was allowed has an event
-pub record HasEvent (a : Ask) (allowed : Allowed) : Type 0 where
-  pub event : Event
-  pub asked : event_in a allowed ≡ Some event
-
--- the revision that a submission adds is the next one of its profile, and open
-abbrev pub IsNextRevision : History → Ask → Allowed → Type 0
-IsNextRevision h (ask.Submit p document) a =
-    (row : RevisionRow) → a.revision ≡ Some row → row ≡ record {
+-- a revision that is added is the next one of its profile, by this caller, and open
+abbrev pub IsNext : History → (caller : List ℕ) → Change → Type 0
+IsNext h caller (changes.AddRevision p row) =
+    row ≡ record {
       number = suc (revision_count h p);
-      author = a.caller.name;
+      author = caller;
       state = Open;
       body = row.body;
       digest = digest_of row.body;
     }
-IsNextRevision h _ a = Unit {0}
+IsNext h caller _ = Unit {0}
 
--- the verdict allows the request to its caller, with this reply and the event of what is asked
+-- the verdict allows the request to its caller, with this reply and the event of this change
 pub record IsAllowedTo (h : History) (r : Request) (a : Allowed) : Type 0 where
   pub formed : IsFormed r
   pub caller : user_showing h (digest_of r.token) ≡ Some a.caller
-  pub event : Event
-  pub asked : event_in r.ask a ≡ Some event
-  pub verdict : verdict h r ≡ accepted a.reply (Some event)
-  pub revision : IsNextRevision h r.ask a
-  pub lawful : IsAllowed h event
+  pub verdict : verdict h r ≡ accepted a.reply (Some (event_for a))
+  pub next : IsNext h a.caller.name a.change
+  pub lawful : IsAllowed h (event_for a)
 
 -- what carrying it out came to is answered so
 abbrev pub answer_in : Allowed → Result ⊤ Fault → Answer
@@ -84,10 +67,12 @@ module _ {X : Type 0} (m : Meaning X) where
     pub handled : IsHandled m old new r told
     pub same : (h : History) → m.is_of h old → m.is_clean new → history_after h r told ≡ h
 
-  -- the request is allowed and has this event; so far nothing was changed
+  -- the request is allowed, and just what it asks is to happen; so far nothing was changed
   pub record IsPermitted (old new : X) (r : Request) (a : Allowed) : Type 0 where
     pub leaves : LeavesAll old new
-    pub event : HasEvent r.ask a
+    pub token : is_token r.token ≡ true
+    pub forms : HasForms r.ask
+    pub asked : IsAsked a.caller.name r.ask (Some (event_for a))
     pub allowed : (h : History) → m.is_of h old → m.is_clean new → IsAllowedTo h r a
     pub stands : (h : History) → m.is_of h old → m.is_clean new → Stands m h new
 

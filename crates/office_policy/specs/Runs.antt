@@ -4,7 +4,7 @@ use Rattle.std.specs.Prelude.{◌≡◌, List, [], ◌∷◌, Option, Some, None
 use Rattle.review_policy.specs.declared.ask.Request.{Request}
 use Rattle.review_policy.specs.declared.answer.Answer.{Answer}
 use Rattle.review_policy.specs.declared.answer.Answer.TheVariants.{Done, Denied, Fault}
-use Rattle.review_policy.specs.declared.answer.Fault.TheVariants as faults
+use Rattle.review_policy.specs.declared.fault.Fault.TheVariants as faults
 use Rattle.office_policy.specs.History.{Event, History}
 use Rattle.office_policy.specs.Verdict.{Verdict, accepted, denied, verdict}
 
@@ -30,7 +30,7 @@ history_after h r answer = with_event (event_of (verdict h r)) h
 
 -- the answer is the verdict's, or the fault of memory, of the disk or of room on it
 abbrev pub IsAnswer : History → Request → Answer → Type 0
-IsAnswer h r (Fault faults.Memory) = Unit {0}
+IsAnswer h r (Fault faults.NoMemory) = Unit {0}
 IsAnswer h r (Fault faults.Disk) = Unit {0}
 IsAnswer h r (Fault faults.Full) = Unit {0}
 IsAnswer h r (Fault faults.NotAnOffice) = ⊥

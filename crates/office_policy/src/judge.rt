@@ -3,8 +3,9 @@
 ghost use Rattle.office_policy.specs.Handled.{IsHandled, Survives};
 ghost use Rattle.office_policy.specs.Judging.{IsJudged, IsPermitted, answer_in};
 
+use crate::change::Change;
 use crate::handler::Handler;
-use office_tables::{RevisionRow, UserRow};
+use office_tables::UserRow;
 use review_policy::{Answer, Fault, Reply, Request};
 use std::alloc::Global;
 
@@ -13,10 +14,10 @@ use std::alloc::Global;
 pub struct Allowed {
     /// Who asks for it.
     pub caller: UserRow,
+    /// What is to happen.
+    pub change: Change,
     /// What is answered once it is done.
     pub reply: Reply,
-    /// The revision that a submission adds.
-    pub revision: Option<RevisionRow>,
 }
 
 /// What a request comes to, before anything is changed.
@@ -34,23 +35,18 @@ pub trait Judge: Handler {
     fn judge(&mut self, alloc: Global, request: &Request) -> Judgement
         ensures { IsJudged Self.Handler.meaning self.old self.new request.now result };
 
-    /// Carries out what was allowed of this request when it was judged, before anything else was
+    /// Carries out what was allowed of a request when it was judged, before anything else was
     /// asked.
     ///
     /// # Errors
     ///
     /// A fault says that nothing changed.
-    fn carry_out(
-        &mut self,
-        alloc: Global,
-        request: &Request,
-        allowed: &Allowed,
-    ) -> Result<(), Fault>
-        requires { (before : Self)
-            × IsPermitted Self.Handler.meaning before self.old request.now allowed.now }
-        ensures handled { (before : Self)
-            → IsPermitted Self.Handler.meaning before self.old request.now allowed.now
-            → IsHandled Self.Handler.meaning before self.new request.now
+    fn carry_out(&mut self, alloc: Global, allowed: &Allowed) -> Result<(), Fault>
+        requires { (before : Self) × (request : Request)
+            × IsPermitted Self.Handler.meaning before self.old request allowed.now }
+        ensures handled { (before : Self) (request : Request)
+            → IsPermitted Self.Handler.meaning before self.old request allowed.now
+            → IsHandled Self.Handler.meaning before self.new request
             (answer_in allowed.now result) }
         ensures survives { Survives Self.Handler.meaning self.old self.new };
 }

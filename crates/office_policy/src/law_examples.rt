@@ -8,8 +8,8 @@ ghost use Rattle.review_policy.specs.FirstRefusal.{IsFirstRefusal};
 ghost use Rattle.review_policy.specs.declared.ask.Ask.TheVariants as ask;
 ghost use Rattle.review_policy.specs.declared.ask.Request.{Request};
 ghost use Rattle.review_policy.specs.declared.answer.Answer.TheVariants.{Done, Denied, Fault};
-ghost use Rattle.review_policy.specs.declared.answer.Fault.TheVariants as faults;
-ghost use Rattle.review_policy.specs.declared.answer.Fault.{Fault as FaultWord};
+ghost use Rattle.review_policy.specs.declared.fault.Fault.TheVariants as faults;
+ghost use Rattle.review_policy.specs.declared.fault.Fault.{Fault as FaultWord};
 ghost use Rattle.review_policy.specs.declared.answer.Reply.{Reply};
 ghost use Rattle.review_policy.specs.declared.answer.Reply.TheVariants as reply;
 ghost use Rattle.review_policy.specs.declared.denial.Denial.{Denial};
@@ -199,7 +199,7 @@ pub fn answers_tell_the_verdict()
         → IsAnswer h r (Done reply) ↔ ((e : Option Event) × (verdict h r ≡ accepted reply e)) }
     ensures denied { (h : History) (r : Request) (d : Denial) (f : Option (List ℕ))
         → IsAnswer h r (Denied d f) ↔ (verdict h r ≡ denied d f) }
-    ensures memory { (h : History) (r : Request) → IsAnswer h r (Fault faults.Memory) }
+    ensures memory { (h : History) (r : Request) → IsAnswer h r (Fault faults.NoMemory) }
     ensures disk { (h : History) (r : Request) → IsAnswer h r (Fault faults.Disk) }
     ensures full { (h : History) (r : Request) → IsAnswer h r (Fault faults.Full) }
     ensures no_office { (h : History) (r : Request) → IsAnswer h r (Fault faults.NotAnOffice) → ⊥ }

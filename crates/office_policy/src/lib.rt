@@ -3,6 +3,7 @@
 #![tactic(auto)]
 
 pub mod callers;
+pub mod change;
 pub mod duty;
 pub mod event;
 pub mod events;
@@ -18,6 +19,7 @@ pub mod shown;
 pub mod standing;
 pub mod submission_examples;
 
+pub use change::Change;
 pub use event::Event;
 pub use handler::Handler;
 pub use judge::{Allowed, Judge, Judgement};

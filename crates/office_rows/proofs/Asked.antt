@@ -22,8 +22,8 @@ use Rattle.sqlite_value.specs.Keys.{collated_cmp}
 use Rattle.sqlite_trees.specs.Tree.{Trees}
 use Rattle.sqlite_trees.proofs.ListLemmas.{map-map, flat_map-map, filter-map, ascending-map, IsPermutation-filter, all-map, all_weaker}
 use Rattle.sqlite_rules.specs.Lists.{Has}
-use Rattle.office_tables.specs.declared.fault.StoreFault.{StoreFault}
-use Rattle.office_tables.specs.declared.fault.StoreFault.TheVariants.{NotAnOffice}
+use Rattle.review_policy.specs.declared.fault.Fault.{Fault}
+use Rattle.review_policy.specs.declared.fault.Fault.TheVariants.{NotAnOffice}
 use Rattle.office_rows.specs.Rows.{IsFaultOf}
 use Rattle.office_rows.specs.Faults.{FindsRow}
 use Rattle.office_rows.specs.Entries.{Keeps, row_of}
@@ -47,7 +47,7 @@ module _ (q : Query) (schema : Schema) (sql : List ℕ) (params : Row) (names : 
   pub shown_answer : (rows : List Row) → Shown sql params old new rows → IsAnswer q (overlay old.now.trees []) params rows
   shown_answer rows h = (reads_as sql params old new schema has _ means.is means.plain means.unlisted rows h).answer Null
 
-  pub fault_kept : old.now ≡ old.committed → old.in_transaction ≡ false → (f : StoreFault) → IsFaultOf sql params old new f → (f ≢ NotAnOffice) × IsKept old new
+  pub fault_kept : old.now ≡ old.committed → old.in_transaction ≡ false → (f : Fault) → IsFaultOf sql params old new f → (f ≢ NotAnOffice) × IsKept old new
   fault_kept settled idle f h =
       let failed = query_failed sql params old new h.error plain_old settled idle h.failed in
       ((λ same. failed.0.0 (sym h.fault ∙ same)), failed.1)

@@ -13,8 +13,8 @@ use Rattle.sqlite.specs.Listing.{understood}
 use Rattle.sqlite.proofs.Callers.{IsPlain, never_commits}
 use Rattle.sqlite.proofs.StateLemmas.{survives_weaker}
 use Rattle.sqlite_rules.specs.Lists.{Has}
-use Rattle.office_tables.specs.declared.fault.StoreFault.{StoreFault}
-use Rattle.office_tables.specs.declared.fault.StoreFault.TheVariants.{NotAnOffice}
+use Rattle.review_policy.specs.declared.fault.Fault.{Fault}
+use Rattle.review_policy.specs.declared.fault.Fault.TheVariants.{NotAnOffice}
 use Rattle.office_rows.specs.Faults.{FindsRow}
 use Rattle.office_rows.specs.Entries.{Keeps, Stores, row_of}
 use Rattle.office_rows.proofs.Errors.{IsKept, unchanged_kept, query_failed}
@@ -47,7 +47,7 @@ module _ (command : Command) (schema : Schema) (sql : List ℕ) (params : Row) (
 
   -- what the first row of the answer says, and what its lack says; where there is an answer the connection is open
   pub finds : (Tells : Option Row → Type 0) → ((row : Row) → QueriesRow sql params old new (Ok row) → Tells (Some row)) → (Shown sql params old new [] → Tells None)
-      → (r : Result (Option Row) StoreFault) → FindsRow sql params old new r → IfOk r Tells × (r ≢ Err NotAnOffice) × IsKept old new × OnOk r (IsTrue new.is_open)
+      → (r : Result (Option Row) Fault) → FindsRow sql params old new r → IfOk r Tells × (r ≢ Err NotAnOffice) × IsKept old new × OnOk r (IsTrue new.is_open)
   unfolding QueriesRow
   finds Tells some none (Ok (Some row)) h = let same = row_same row h in (some row h, (λ e. cc), unchanged_kept old new same, same.0.is_open)
   finds Tells some none (Ok None) (inl h) = absurd ((query_failed _ _ old new _ plain_old settled idle h).0.1 refl)
@@ -67,7 +67,7 @@ module _ {X : Type 0} (encode shown : X → Row) (passes : X → Bool) (project 
     (tested : (k : ℤ × X) → list_all (holds (params ∷ row_of encode k ∷ [])) tests ≡ passes k.1)
     (showed : (k : ℤ × X) → eval_all project (params ∷ row_of encode k ∷ []) ≡ shown k.1)
     (old new : State) (has : old.now.schema ≡ schema) (settled : old.now ≡ old.committed) (idle : old.in_transaction ≡ false) where
-  pub finds_some : (xs : List X) → Keeps encode (overlay old.now.trees [] tree) xs → (r : Result (Option Row) StoreFault) → FindsRow sql params old new r
+  pub finds_some : (xs : List X) → Keeps encode (overlay old.now.trees [] tree) xs → (r : Result (Option Row) Fault) → FindsRow sql params old new r
       → IfOk r (IsFound passes shown xs) × (r ≢ Err NotAnOffice) × IsKept old new × OnOk r (IsTrue new.is_open)
   finds_some xs keeps =
       finds (Select (record { lets = []; body = plain_query project tests tree }) names) schema sql params means old new has settled idle (IsFound passes shown xs)
@@ -78,7 +78,7 @@ module _ {X : Type 0} (encode shown : X → Row) (passes : X → Bool) (project 
   no_commit = commits_none (Select (record { lets = []; body = plain_query project tests tree }) names) schema sql params means old new has settled idle
 
 -- at a key stands what the table has there
-pub found_own : {K X : Type 0} (encode shown : X → Row) (is_at : K → X → Bool) (IsFormed : X → Type 0) (rows : List Row) (stores : Stores encode is_at IsFormed rows) (k : K) (r : Result (Option Row) StoreFault)
+pub found_own : {K X : Type 0} (encode shown : X → Row) (is_at : K → X → Bool) (IsFormed : X → Type 0) (rows : List Row) (stores : Stores encode is_at IsFormed rows) (k : K) (r : Result (Option Row) Fault)
     → IfOk r (IsFound (is_at k) shown stores.entries) → IfOk r (λ o. o ≡ option_map shown (find (is_at k) stores.entries))
 found_own encode shown is_at IsFormed rows stores k (Ok (Some row)) it =
     ap Some it.3 ∙ sym (ap (option_map shown) (find_own is_at stores.entries stores.own_keys k it.0 it.1 it.2))

@@ -20,3 +20,8 @@ pub mod Queries
 pub mod Shut
 pub mod Whole
 pub mod Sure
+pub mod Halting
+pub mod Refused
+pub mod RefusedUpdates
+pub mod RefusedUpserts
+pub mod Storing

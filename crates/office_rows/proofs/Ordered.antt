@@ -24,8 +24,8 @@ use Rattle.sqlite_trees.specs.Tree.{Trees}
 use Rattle.sqlite_trees.proofs.ListLemmas.{map-map, filter-map, IsPermutation-filter}
 use Rattle.office_rows.specs.Entries.{Keeps, row_of}
 use Rattle.office_rows.proofs.Plain.{plain_query, Means}
-use Rattle.office_tables.specs.declared.fault.StoreFault.{StoreFault}
-use Rattle.office_tables.specs.declared.fault.StoreFault.TheVariants.{NotAnOffice}
+use Rattle.review_policy.specs.declared.fault.Fault.{Fault}
+use Rattle.review_policy.specs.declared.fault.Fault.TheVariants.{NotAnOffice}
 use Rattle.office_rows.specs.Faults.{FindsRow}
 use Rattle.office_rows.proofs.Errors.{IsKept}
 use Rattle.office_rows.proofs.Finding.{finds}
@@ -109,7 +109,7 @@ module _ {X : Type 0} (encode shown sorts : X → Row) (passes : X → Bool) (pr
 
     module _ (schema : Schema) (sql : List ℕ) (tree : ℕ) (names : List (List ℕ)) (means : Means schema sql (Select (record { lets = []; body = first_query project tests tree order }) names))
         (old new : State) (has : old.now.schema ≡ schema) (settled : old.now ≡ old.committed) (idle : old.in_transaction ≡ false) where
-      pub finds_first : (xs : List X) → Keeps encode (overlay old.now.trees [] tree) xs → (r : Result (Option Row) StoreFault) → FindsRow sql params old new r
+      pub finds_first : (xs : List X) → Keeps encode (overlay old.now.trees [] tree) xs → (r : Result (Option Row) Fault) → FindsRow sql params old new r
           → IfOk r (IsFirstRow xs) × (r ≢ Err NotAnOffice) × IsKept old new × OnOk r (IsTrue new.is_open)
       finds_first xs keeps =
           finds (Select (record { lets = []; body = first_query project tests tree order }) names) schema sql params means old new has settled idle (IsFirstRow xs)

@@ -18,8 +18,8 @@ use Rattle.sqlite_resolve.specs.declared.error.CompileError.TheVariants.{NoSuchT
 use Rattle.sqlite_resolve.specs.Lowering.{Checked, and_then}
 use Rattle.sqlite_resolve.specs.Scope.{Name}
 use Rattle.sqlite_resolve.specs.Compile.{compiled, first, planned, meaning, returning, with_command, timed}
-use Rattle.office_tables.specs.declared.fault.StoreFault.{StoreFault}
-use Rattle.office_tables.specs.declared.fault.StoreFault.TheVariants.{NotAnOffice}
+use Rattle.review_policy.specs.declared.fault.Fault.{Fault}
+use Rattle.review_policy.specs.declared.fault.Fault.TheVariants.{NotAnOffice}
 use Rattle.office_rows.specs.Faults.{fault_of_error, FindsRow}
 use Rattle.office_rows.specs.Rows.{IsFaultOf}
 use Rattle.office_rows.specs.Queries.{IsQuery, IsAsked}
@@ -108,10 +108,10 @@ module _ (sql : List ℕ) (query : IsQuery sql) (params : Row) (old new : State)
   not_no_rows (inr h) = let none = query old.now.schema h.0 h.1.is in let it = rw none at h.2 in no_row_is_no_fault _ h.0.command it.0 _ it.2
 
   -- either it has answered and changed nothing, or it has failed
-  abbrev Left : {A : Type 0} → Result A StoreFault → Type 0
+  abbrev Left : {A : Type 0} → Result A Fault → Type 0
   Left r = IsUnchanged old new ⊎ (IsRolledBack old new × OnOk r ⊥ × (r ≢ Err NotAnOffice))
 
-  first_left : (r : Result (Option Row) StoreFault) → FindsRow sql params old new r → Left r
+  first_left : (r : Result (Option Row) Fault) → FindsRow sql params old new r → Left r
   unfolding QueriesRow
   first_left (Ok (Some row)) h = inl (row_left row h)
   first_left (Ok None) (inl h) = absurd (not_no_rows h)
@@ -122,14 +122,14 @@ module _ (sql : List ℕ) (query : IsQuery sql) (params : Row) (old new : State)
     | inr back ↦ inr (back.0, tt, λ same. back.1 (sym is ∙ (let k : f ≡ NotAnOffice = cc in k)))
   ]
 
-  rows_left : {X : Type 0} (items : X → List Row) (r : Result X StoreFault) → IfOk r (λ x. Shown sql params old new (items x)) → IfErr r (IsFaultOf sql params old new) → Left r
+  rows_left : {X : Type 0} (items : X → List Row) (r : Result X Fault) → IfOk r (λ x. Shown sql params old new (items x)) → IfErr r (IsFaultOf sql params old new) → Left r
   rows_left items (Ok x) h fault = inl (shown_left (items x) h)
   rows_left items (Err f) h fault = elim (failed_left fault.error fault.failed) [
     | inl same ↦ inl same
     | inr back ↦ inr (back.0, tt, λ same. back.1 (sym fault.fault ∙ (let k : f ≡ NotAnOffice = cc in k)))
   ]
 
-  asked : {A : Type 0} (r : Result A StoreFault) → (HasCleanDisk new → Left r) → Survives old new (CommitsShowing sql params old) → IsAsked old new r
+  asked : {A : Type 0} (r : Result A Fault) → (HasCleanDisk new → Left r) → Survives old new (CommitsShowing sql params old) → IsAsked old new r
   unfolding CommitsShowing
   asked r left survives = record {
     answered = λ clean. elim (left clean) [
@@ -147,19 +147,19 @@ module _ (sql : List ℕ) (query : IsQuery sql) (params : Row) (old new : State)
     crash = survives_weaker old new _ _ (λ clean db h. let none = query old.now.schema h.0 h.1.is in let some = rw none at h.2 in cc) survives;
   }
     where
-      on_any : {A P : Type 0} (r : Result A StoreFault) → P → OnOk r P
+      on_any : {A P : Type 0} (r : Result A Fault) → P → OnOk r P
       on_any (Ok a) p = p
       on_any (Err f) p = tt
 
-      never : {A : Type 0} (P : Type 0) (r : Result A StoreFault) → OnOk r ⊥ → OnOk r P
+      never : {A : Type 0} (P : Type 0) (r : Result A Fault) → OnOk r ⊥ → OnOk r P
       never P (Ok a) none = absurd none
       never P (Err f) none = tt
 
   -- what a query of the first row leaves
-  pub first_asked : (r : Result (Option Row) StoreFault) → (HasCleanDisk new → FindsRow sql params old new r) → Survives old new (CommitsShowing sql params old) → IsAsked old new r
+  pub first_asked : (r : Result (Option Row) Fault) → (HasCleanDisk new → FindsRow sql params old new r) → Survives old new (CommitsShowing sql params old) → IsAsked old new r
   first_asked r row = asked r (λ clean. first_left r (row clean))
 
   -- what a query of all its rows leaves
-  pub rows_asked : {X : Type 0} (items : X → List Row) (r : Result X StoreFault) → (HasCleanDisk new → IfOk r (λ x. Shown sql params old new (items x))) → (HasCleanDisk new → IfErr r (IsFaultOf sql params old new))
+  pub rows_asked : {X : Type 0} (items : X → List Row) (r : Result X Fault) → (HasCleanDisk new → IfOk r (λ x. Shown sql params old new (items x))) → (HasCleanDisk new → IfErr r (IsFaultOf sql params old new))
       → Survives old new (CommitsShowing sql params old) → IsAsked old new r
   rows_asked items r rows fault = asked r (λ clean. rows_left items r (rows clean) (fault clean))

@@ -70,7 +70,7 @@ reflexive z = go (value_cmp (Int z) (Int z)) (value_cmp_total.antisymm (Int z) (
     go Less e = absurd cc
     go Greater e = absurd cc
 
-symmetric : (y z : ℤ) → is_eq (value_cmp (Int y) (Int z)) ≡ is_eq (value_cmp (Int z) (Int y))
+pub symmetric : (y z : ℤ) → is_eq (value_cmp (Int y) (Int z)) ≡ is_eq (value_cmp (Int z) (Int y))
 symmetric y z = ap is_eq (value_cmp_total.antisymm (Int y) (Int z)) ∙ go (value_cmp (Int z) (Int y))
   where
     go : (o : Ordering) → is_eq (Rattle.std.specs.Ordering.ordering_reverse o) ≡ is_eq o

@@ -21,8 +21,8 @@ use Rattle.sqlite_sql.proofs.QueryLemmas.{no_fold_overflows}
 use Rattle.sqlite_typing.specs.Types.{accepts_program}
 use Rattle.sqlite_resolve.specs.declared.compiled.Compiled.{Compiled}
 use Rattle.sqlite_resolve.specs.declared.error.CompileError.{CompileError}
-use Rattle.office_tables.specs.declared.fault.StoreFault.{StoreFault}
-use Rattle.office_tables.specs.declared.fault.StoreFault.TheVariants as stores
+use Rattle.review_policy.specs.declared.fault.Fault.{Fault}
+use Rattle.review_policy.specs.declared.fault.Fault.TheVariants as stores
 use Rattle.office_rows.specs.Faults.{fault_of_error, FindsRow}
 use Rattle.office_rows.specs.Rows.{IsFaultOf}
 use Rattle.office_rows.specs.Causes.{HasFailed}
@@ -65,7 +65,7 @@ failed_so old new e (cause, is, has, back, tells) = rw is (by cause has)
     by Broken has = inr has
     by Unstorable has = absurd has
 
-sure_read : (schema : Schema) (db : Database) (params : Row) (e : Error) (command : Command) → db.schema ≡ schema → IsSureQuery schema params command → RefusesToRead None command db params e → ⊥
+pub sure_read : (schema : Schema) (db : Database) (params : Row) (e : Error) (command : Command) → db.schema ≡ schema → IsSureQuery schema params command → RefusesToRead None command db params e → ⊥
 sure_read schema db params e (Select p names) has sure (inl h) =
     let typed : accepts_program db.schema [] p.body params ≡ true = rw has sure.3 in
     let refused : accepts_program db.schema [] p.body params ≡ false = rw sure.0 at h.1 in
@@ -107,9 +107,9 @@ shut_failed sql params old new e bare shut (inl (inl h)) = never_both old.is_ope
 shut_failed sql params old new e bare shut (inl (inr h)) = failed_so old new e h
 shut_failed sql params old new e bare shut (inr (c, it, h)) = let none = bare c it.is in never_both old.is_open (rw none at h).3.0.was_open shut
 
-module _ (P : StoreFault → Type 0) (sql : List ℕ) (params : Row) (old new : State) (why : (e : Error) → FailsToQuery sql params old new e → P (fault_of_error e)) where
+module _ (P : Fault → Type 0) (sql : List ℕ) (params : Row) (old new : State) (why : (e : Error) → FailsToQuery sql params old new e → P (fault_of_error e)) where
   -- why there is no first row
-  pub first_fault : (r : Result (Option Row) StoreFault) → FindsRow sql params old new r → IfErr r P
+  pub first_fault : (r : Result (Option Row) Fault) → FindsRow sql params old new r → IfErr r P
   unfolding QueriesRow
   first_fault (Ok (Some row)) h = tt
   first_fault (Ok None) h = tt
@@ -117,7 +117,7 @@ module _ (P : StoreFault → Type 0) (sql : List ℕ) (params : Row) (old new : 
   first_fault (Err f) (e, inr h, is, another) = absurd (another h.0)
 
   -- why there are no rows
-  pub rows_fault : {X : Type 0} (r : Result X StoreFault) → IfErr r (IsFaultOf sql params old new) → IfErr r P
+  pub rows_fault : {X : Type 0} (r : Result X Fault) → IfErr r (IsFaultOf sql params old new) → IfErr r P
   rows_fault (Ok x) h = tt
   rows_fault (Err f) h = subst P (sym h.fault) (why h.error h.failed)
 
@@ -159,7 +159,7 @@ was_shut true now stays shut = never_both now (stays refl) shut
 was_shut false now stays shut = refl
 
 -- what was met in between was met
-pub met_between : (old now mid new : State) (f : StoreFault) → old.faults ≤ now.faults → mid.faults ≤ new.faults → (now.is_open ≡ false → old.is_open ≡ false) → HasFailed now mid f → HasFailed old new f
+pub met_between : (old now mid new : State) (f : Fault) → old.faults ≤ now.faults → mid.faults ≤ new.faults → (now.is_open ≡ false → old.is_open ≡ false) → HasFailed now mid f → HasFailed old new f
 met_between old now mid new stores.NoMemory before after shut h = tt
 met_between old now mid new stores.Disk before after shut (inl risen) = inl (omega arith)
 met_between old now mid new stores.Disk before after shut (inr closed) = inr (shut closed)

@@ -37,7 +37,7 @@ one_more g all left s old now next count it step runs =
       committed = λ clean is_open. (done clean).1.committed_is ∙ it.committed (before clean) (done clean).1.was_open;
       ran = λ clean db rest. it.ran (before clean) db (next, count, done clean, rest);
       failed = λ clean e rest. it.failed (before clean) e (inr (next, count, done clean, rest));
-      refused = λ clean e rest. it.refused (before clean) e (inr (next, count, done clean, rest));
+      refused = λ clean e rest. it.refused (before clean) e (inr (next, count, done clean, step.limit, rest));
       stays = λ clean was. (done clean).1.is_open;
     }
 

@@ -48,7 +48,7 @@ use Rattle.office_rows.proofs.Writing.{IsTableOf, went, same_value, not_taken, n
 -- ---- the one entry that passes
 
 -- of entries under rowids of their own, the only one that passes
-only_one : {X : Type 0} (p : ℤ × X → Bool) (kept : List (ℤ × X)) (j : ℤ × X) → AreApart kept → Has kept j → p j ≡ true → ((k : ℤ × X) → Has kept k → p k ≡ true → k ≡ j) → filter p kept ≡ j ∷ []
+pub only_one : {X : Type 0} (p : ℤ × X → Bool) (kept : List (ℤ × X)) (j : ℤ × X) → AreApart kept → Has kept j → p j ≡ true → ((k : ℤ × X) → Has kept k → p k ≡ true → k ≡ j) → filter p kept ≡ j ∷ []
 only_one p [] j apart here passed only = absurd here
 only_one {X} p (k ∷ kept) j apart (inl is) passed only = rw (ap p (sym is) ∙ passed, filter_none p kept (all_from _ kept none)) (ap (λ y. y ∷ []) (sym is))
   where
@@ -72,6 +72,12 @@ module _ {K X : Type 0} (is_at : K → X → Bool) where
   one_at (c ∷ kept) differ a b (inl p) (inr h) k x y = absurd (true≢false (sym y ∙ all_has _ kept b differ.0 h k (ap (λ (m : ℤ × X). is_at k m.1) (sym p) ∙ x)))
   one_at (c ∷ kept) differ a b (inr h) (inl q) k x y = absurd (true≢false (sym x ∙ all_has _ kept a differ.0 h k (ap (λ (m : ℤ × X). is_at k m.1) (sym q) ∙ y)))
   one_at (c ∷ kept) differ a b (inr g) (inr h) k x y = one_at kept differ.1 a b g h k x y
+
+  -- two entries at one key are one
+  pub one_of : (encode : X → Row) (rows : List Row) (xs : List X) (keeps : Keeps encode rows xs) → HaveOwnKeys is_at xs → (a b : ℤ × X) → Has keeps.kept a → Has keeps.kept b → (k : K) → is_at k a.1 ≡ true → is_at k b.1 ≡ true
+      → a ≡ b
+  one_of encode rows xs keeps own a b has_a has_b k here there =
+      one_at keeps.kept (ascending_from_map Differ (λ (e : ℤ × X). e.1) keeps.kept (ascending_permuted Differ differ_back xs (map (λ (e : ℤ × X). e.1) keeps.kept) (IsPermutation-sym _ _ keeps.same) own)) a b has_a has_b k here there
 
   -- the only entry at a key
   alone_at : (encode : X → Row) (rows : List Row) (xs : List X) (keeps : Keeps encode rows xs) → HaveOwnKeys is_at xs → (j : ℤ × X) → Has keeps.kept j → (k : K) → is_at k j.1 ≡ true

@@ -5,11 +5,10 @@ use Rattle.sqlite.specs.declared.error.Error.{Error}
 use Rattle.sqlite.specs.declared.error.Error.TheVariants as error
 use Rattle.sqlite.specs.declared.error.ErrorCode.TheVariants as code
 use Rattle.sqlite.specs.State.{State, QueriesRow}
-use Rattle.office_tables.specs.declared.fault.StoreFault.{StoreFault}
-use Rattle.office_tables.specs.declared.fault.StoreFault.TheVariants.{NoMemory, Disk, Full}
-use Rattle.office_tables.specs.declared.fault.StoreFault.TheVariants.{NotAnOffice}
+use Rattle.review_policy.specs.declared.fault.Fault.{Fault}
+use Rattle.review_policy.specs.declared.fault.Fault.TheVariants.{NoMemory, Disk, Full, NotAnOffice}
 
-abbrev pub fault_of_error : Error → StoreFault
+abbrev pub fault_of_error : Error → Fault
 fault_of_error (error.SqliteFailure code.OutOfMemory) = NoMemory
 fault_of_error (error.SqliteFailure code.DiskFull) = Full
 fault_of_error (error.SqliteFailure code.TooBig) = Full
@@ -25,7 +24,7 @@ abbrev pub IsOfMachine : Error → Type 0
 IsOfMachine e = (fault_of_error e ≢ NotAnOffice) × (e ≢ error.QueryReturnedNoRows)
 
 -- the first row of the answer, that there is none, or why there is no answer
-abbrev pub FindsRow : List ℕ → Row → State → State → Result (Option Row) StoreFault → Type 0
+abbrev pub FindsRow : List ℕ → Row → State → State → Result (Option Row) Fault → Type 0
 FindsRow sql params old new (Ok (Some row)) = QueriesRow sql params old new (Ok row)
 FindsRow sql params old new (Ok None) =
     QueriesRow sql params old new (Err error.QueryReturnedNoRows)

@@ -5,3 +5,4 @@ pub mod Rows
 pub mod Queries
 pub mod Told
 pub mod Causes
+pub mod Refusals

@@ -4,8 +4,8 @@ use Rattle.sqlite.specs.Schema.{Schema}
 use Rattle.sqlite.specs.State.{State, HasCleanDisk, Survives}
 use Rattle.sqlite.specs.Listing.{understood}
 use Rattle.sqlite_resolve.specs.declared.compiled.Compiled.{Compiled}
-use Rattle.office_tables.specs.declared.fault.StoreFault.{StoreFault}
-use Rattle.office_tables.specs.declared.fault.StoreFault.TheVariants.{NotAnOffice}
+use Rattle.review_policy.specs.declared.fault.Fault.{Fault}
+use Rattle.review_policy.specs.declared.fault.Fault.TheVariants.{NotAnOffice}
 
 -- it is no write with RETURNING
 abbrev pub IsQuery : List ℕ → Type 0
@@ -16,7 +16,7 @@ abbrev pub IsAsItWas : State → State → Type 0
 IsAsItWas old new = IsTrue new.is_open → (new.now ≡ old.now) × (new.committed ≡ old.committed)
 
 -- what a query leaves, whatever it answers
-pub record IsAsked {A : Type 0} (old new : State) (result : Result A StoreFault) : Type 0 where
+pub record IsAsked {A : Type 0} (old new : State) (result : Result A Fault) : Type 0 where
   -- an answer comes of an open connection, which stays open
   pub answered : HasCleanDisk new → OnOk result (IsTrue old.is_open × IsTrue new.is_open)
   -- one that a fault has shut stays shut, and its fault is never `NotAnOffice`

@@ -10,7 +10,7 @@ use Rattle.sqlite.specs.State.{ExecutesInside, IsUnchanged}
 use Rattle.sqlite.specs.Steps.{FailsToCommit}
 use Rattle.sqlite.specs.Held.{Held, state}
 use Rattle.sqlite.specs.Values.{bound}
-use Rattle.office_tables.specs.declared.fault.StoreFault.{StoreFault}
+use Rattle.review_policy.specs.declared.fault.Fault.{Fault}
 use Rattle.office_rows.specs.Causes.{HasFailed}
 use Rattle.office_rows.specs.Faults.{fault_of_error}
 use Rattle.office_rows.specs.declared.transaction.Statement.{Statement as Lent}
@@ -43,7 +43,7 @@ module _ {S : Type 0} (g : Ghosts S) where
       × ExecutesInside 0 s.sql s.params (state g h) (state g mid) (Ok count) × FailedIn ss mid e)
 
   -- this fault is that of a statement of a transaction, or of its commit
-  pub record IsCause (statements : List Statement) (h : Held S) (f : StoreFault) : Type 0 where
+  pub record IsCause (statements : List Statement) (h : Held S) (f : Fault) : Type 0 where
     pub error : Error
     pub failed : FailedIn statements (begun h) error
     pub fault : f ≡ fault_of_error error
@@ -54,13 +54,14 @@ module _ {S : Type 0} (g : Ghosts S) where
       (new : Held S) × ExecutesInside 0 s.sql s.params (state g h) (state g new) (Err e)
       × (IsUnchanged (state g h) (state g new) ⊎ (e ≡ SqliteFailure TooBig))
 
-  -- from this connection on, it refuses one of the statements
+  -- from this connection on, it refuses one of the statements; the limit on steps stays
   abbrev pub RefusedIn : List Statement → Held S → Error → Type 0
   RefusedIn [] h e = ⊥
   RefusedIn (s ∷ ss) h e =
       IsRefused s h e
       ⊎ ((mid : Held S) × (count : ℕ)
-      × ExecutesInside 0 s.sql s.params (state g h) (state g mid) (Ok count) × RefusedIn ss mid e)
+      × ExecutesInside 0 s.sql s.params (state g h) (state g mid) (Ok count)
+      × ((state g mid).step_limit ≡ (state g h).step_limit) × RefusedIn ss mid e)
 
   -- a transaction fails for no memory, for the disk, over a connection that was shut, or since
   -- SQLite refuses a statement
@@ -69,12 +70,12 @@ module _ {S : Type 0} (g : Ghosts S) where
       HasFailed (state g old) (state g new) (fault_of_error e) ⊎ RefusedIn statements (begun old) e
 
   -- it refuses a statement of the transaction with this fault
-  pub record Refuses (statements : List Statement) (h : Held S) (f : StoreFault) : Type 0 where
+  pub record Refuses (statements : List Statement) (h : Held S) (f : Fault) : Type 0 where
     pub error : Error
     pub refused : RefusedIn statements (begun h) error
     pub fault : f ≡ fault_of_error error
 
   -- a transaction met this fault, of one of these causes
-  pub record HasMet (statements : List Statement) (old new : Held S) (f : StoreFault) : Type 0 where
+  pub record HasMet (statements : List Statement) (old new : Held S) (f : Fault) : Type 0 where
     pub cause : IsCause statements old f
     pub met : HasFailed (state g old) (state g new) f ⊎ Refuses statements old f

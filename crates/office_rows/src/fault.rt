@@ -2,31 +2,31 @@
 
 ghost use Rattle.std.specs.Prelude.{◌≡◌, ◌∷◌, [], map, replicate, ℕ};
 ghost use Rattle.office_rows.specs.Faults.{fault_of_error};
-ghost use Rattle.office_tables.specs.declared.fault.StoreFault.TheVariants.{NoMemory, Disk};
-ghost use Rattle.office_tables.specs.declared.fault.StoreFault.TheVariants.{Full, NotAnOffice};
+ghost use Rattle.review_policy.specs.declared.fault.Fault.TheVariants.{NoMemory, Disk};
+ghost use Rattle.review_policy.specs.declared.fault.Fault.TheVariants.{Full, NotAnOffice};
 ghost use Rattle.sqlite.specs.declared.error.Error.TheVariants as error;
 ghost use Rattle.sqlite.specs.declared.error.ErrorCode.TheVariants as code;
 ghost use Rattle.sqlite.specs.declared.types.Type.{«Type» as SqlType};
 ghost use Rattle.sqlite_resolve.specs.declared.error.CompileError.{CompileError};
 ghost use Rattle.sqlite_schema.specs.declared.schema.Constraint.{Constraint};
 
-use office_tables::StoreFault;
+use review_policy::Fault;
 use sqlite::{Error, ErrorCode};
 
 /// The fault of a store that an error of `sqlite` is. A text that isn't understood and a value of
 /// another kind are `NotAnOffice`; what is neither out of memory nor out of room is `Disk`.
-pub fn fault_of_error(error: Error) -> StoreFault
+pub fn fault_of_error(error: Error) -> Fault
     ensures { result ≡ fault_of_error error }
 {
     match error {
-        Error::SqliteFailure(ErrorCode::OutOfMemory) => StoreFault::NoMemory,
-        Error::SqliteFailure(ErrorCode::DiskFull | ErrorCode::TooBig) => StoreFault::Full,
-        Error::SqlInputError(_) => StoreFault::NotAnOffice,
+        Error::SqliteFailure(ErrorCode::OutOfMemory) => Fault::NoMemory,
+        Error::SqliteFailure(ErrorCode::DiskFull | ErrorCode::TooBig) => Fault::Full,
+        Error::SqlInputError(_) => Fault::NotAnOffice,
         Error::InvalidColumnIndex(_)
         | Error::InvalidColumnType(_, _)
         | Error::IntegralValueOutOfRange(_)
-        | Error::Utf8Error(_) => StoreFault::NotAnOffice,
-        _ => StoreFault::Disk,
+        | Error::Utf8Error(_) => Fault::NotAnOffice,
+        _ => Fault::Disk,
     }
 }
 

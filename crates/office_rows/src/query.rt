@@ -8,7 +8,7 @@ ghost use Rattle.office_rows.specs.Faults.{FindsRow};
 ghost use Rattle.office_rows.specs.Told.{IsTold, TellsWhether};
 
 use crate::fault::fault_of_error;
-use office_tables::StoreFault;
+use review_policy::Fault;
 use sqlite::types::ValueRef;
 use sqlite::{Alter, Connection, Error, Row};
 
@@ -17,7 +17,7 @@ pub fn first_row<S: Alter>(
     conn: &mut Connection<S>,
     sql: &str,
     params: &[ValueRef<'_>],
-) -> Result<Option<Row>, StoreFault>
+) -> Result<Option<Row>, Fault>
     ensures row { HasCleanDisk (state S.Store conn.new) → FindsRow
         sql.now (bound params.now) (state S.Store conn.old) (state S.Store conn.new) result }
     ensures mode { conn.old.in_transaction ≡ false → conn.new.in_transaction ≡ false }
@@ -33,7 +33,7 @@ pub fn first_row<S: Alter>(
 }
 
 /// Whether a query found a row.
-pub fn is_there(found: Result<Option<Row>, StoreFault>) -> Result<bool, StoreFault>
+pub fn is_there(found: Result<Option<Row>, Fault>) -> Result<bool, Fault>
     ensures { IsTold TellsWhether found result }
 {
     let row = found?;

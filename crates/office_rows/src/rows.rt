@@ -7,7 +7,7 @@ ghost use Rattle.sqlite.specs.Values.{bound};
 ghost use Rattle.office_rows.specs.Rows.{IsFaultOf};
 
 use crate::fault::fault_of_error;
-use office_tables::StoreFault;
+use review_policy::Fault;
 use sqlite::types::ValueRef;
 use sqlite::{Alter, Connection, Row};
 
@@ -16,7 +16,7 @@ pub fn all_rows<S: Alter>(
     conn: &mut Connection<S>,
     sql: &str,
     params: &[ValueRef<'_>],
-) -> Result<Vec<Row>, StoreFault>
+) -> Result<Vec<Row>, Fault>
     ensures rows { HasCleanDisk (state S.Store conn.new) → IfOk result (λ rows. Shown
         sql.now (bound params.now) (state S.Store conn.old) (state S.Store conn.new) rows.items) }
     ensures fault { HasCleanDisk (state S.Store conn.new) → IfErr result (IsFaultOf

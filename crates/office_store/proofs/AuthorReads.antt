@@ -21,7 +21,7 @@ use Rattle.sqlite_rules.proofs.ListLemmas.{all_has, has_filtered, has_kept, has_
 use Rattle.review_policy.specs.Words.{is_word}
 use Rattle.review_policy.specs.declared.ask.ProfileName.{ProfileName}
 use Rattle.office_tables.specs.declared.row.RevisionRow.{RevisionRow}
-use Rattle.office_tables.specs.declared.fault.StoreFault.{StoreFault}
+use Rattle.review_policy.specs.declared.fault.Fault.{Fault}
 use Rattle.office_tables.specs.Tables.{Tables, is_profile}
 use Rattle.office_tables.specs.Lists.{name_cmp, IsAuthor}
 use Rattle.office_rows.specs.Entries.{row_of}
@@ -109,7 +109,7 @@ module _ (old new : State) (t : Tables) (shows : Shows old t) where
   abbrev IsRowBy : ProfileName → List ℕ → Option Row → Type 0
   IsRowBy p name row = is_some row ≡ true ↔ IsAuthor t p name
 
-  row_by : (p : ProfileName) (name : List ℕ) (r : Result (Option Row) StoreFault) → IfOk r (IsFound (is_by p name) author_row shows.office.revisions.entries) → IfOk r (IsRowBy p name)
+  row_by : (p : ProfileName) (name : List ℕ) (r : Result (Option Row) Fault) → IfOk r (IsFound (is_by p name) author_row shows.office.revisions.entries) → IfOk r (IsRowBy p name)
   row_by p name (Ok (Some row)) it =
       let both = both_true (is_profile p it.0.0) (bytes_eq name it.0.1.author) it.2 in
       ((λ e. subst (IsAuthor t p) (sym ((bytes_eq-Decides name it.0.1.author).0 both.1)) (makes_author p it.0 it.1 both.0)), (λ author. refl))
@@ -148,7 +148,7 @@ module _ (old new : State) (t : Tables) (shows : Shows old t) where
       }
 
   module _ (idle : old.in_transaction ≡ false) where
-    pub reads_by : (p : ProfileName) (name : List ℕ) (r : Result (Option Row) StoreFault) → FindsRow REVISION_BY.now (author_params p name) old new r → IsReadOf new t (IsRowBy p name) r
+    pub reads_by : (p : ProfileName) (name : List ℕ) (r : Result (Option Row) Fault) → FindsRow REVISION_BY.now (author_params p name) old new r → IsReadOf new t (IsRowBy p name) r
     reads_by p name r h =
         let o = shows.office in
         let it = finds_some revision_row author_row (is_by p name) (col 1 4 ∷ []) by_author office_schema REVISION_BY.now (author_params p name) 4 (codes "author" ∷ []) by_means (by_tested p name) (λ k. refl)
@@ -160,7 +160,7 @@ module _ (old new : State) (t : Tables) (shows : Shows old t) where
           same = still_shows old new t shows it.2;
         }
 
-    pub reads_authors : {X : Type 0} (items : X → List Row) (p : ProfileName) (r : Result X StoreFault) → IfOk r (λ x. Shown AUTHORS_OF.now (profile_params p) old new (items x))
+    pub reads_authors : {X : Type 0} (items : X → List Row) (p : ProfileName) (r : Result X Fault) → IfOk r (λ x. Shown AUTHORS_OF.now (profile_params p) old new (items x))
         → IfErr r (IsFaultOf AUTHORS_OF.now (profile_params p) old new) → IsReadOf new t (λ x. AreAuthorRows t p (items x)) r
     reads_authors items p =
         let o = shows.office in

@@ -10,7 +10,7 @@ use Rattle.sqlite.specs.State.{State}
 use Rattle.sqlite_tied.specs.Compute.{everything}
 use Rattle.sqlite.specs.Listing.{understood}
 use Rattle.review_policy.specs.declared.ask.ProfileName.{ProfileName}
-use Rattle.office_tables.specs.declared.fault.StoreFault.{StoreFault}
+use Rattle.review_policy.specs.declared.fault.Fault.{Fault}
 use Rattle.office_tables.specs.Tables.{Tables, Vote}
 use Rattle.office_rows.specs.Entries.{row_of}
 use Rattle.office_rows.specs.Faults.{FindsRow}
@@ -51,7 +51,7 @@ abbrev vote_in : VoteEntry → Vote
 vote_in e = e.1
 
 module _ (old new : State) (t : Tables) (shows : Shows old t) (idle : old.in_transaction ≡ false) where
-  pub reads_vote : (p : ProfileName) (n : ℕ) (voter : List ℕ) (r : Result (Option Row) StoreFault) → FindsRow VOTE_AT.now (vote_params p n voter) old new r
+  pub reads_vote : (p : ProfileName) (n : ℕ) (voter : List ℕ) (r : Result (Option Row) Fault) → FindsRow VOTE_AT.now (vote_params p n voter) old new r
       → IfOk r (λ row. row ≡ option_map voted_row (t.votes p n voter))
   reads_vote p n voter r h =
       let o = shows.office in

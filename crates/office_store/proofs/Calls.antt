@@ -9,8 +9,8 @@ use Rattle.sqlite.specs.State.{State, HasCleanDisk, Survives, CommitsShowing, Fa
 use Rattle.sqlite.specs.Tree.{Trees}
 use Rattle.sqlite.proofs.StateLemmas.{survives_weaker}
 use Rattle.office_tables.specs.Tables.{Tables}
-use Rattle.office_tables.specs.declared.fault.StoreFault.{StoreFault}
-use Rattle.office_tables.specs.declared.fault.StoreFault.TheVariants.{NoMemory, NotAnOffice}
+use Rattle.review_policy.specs.declared.fault.Fault.{Fault}
+use Rattle.review_policy.specs.declared.fault.Fault.TheVariants.{NoMemory, NotAnOffice}
 use Rattle.office_rows.specs.Causes.{HasFailed}
 use Rattle.office_rows.specs.Faults.{fault_of_error, FindsRow}
 use Rattle.office_rows.specs.Rows.{IsFaultOf}
@@ -40,7 +40,7 @@ pub by_open : (b : Bool) (P : Type 0) → (IsTrue b → P) → (b ≡ false → 
 by_open true P f g = f refl
 by_open false P f g = g refl
 
-pub if_open : {A : Type 0} (P Q : Type 0) (r : Result A StoreFault) (R : A → Type 0) → OnOk r (P × Q) → (P → IfOk r R) → IfOk r R
+pub if_open : {A : Type 0} (P Q : Type 0) (r : Result A Fault) (R : A → Type 0) → OnOk r (P × Q) → (P → IfOk r R) → IfOk r R
 if_open P Q (Ok a) R both f = f both.0
 if_open P Q (Err f) R both g = tt
 
@@ -57,12 +57,12 @@ pub leaves_only : (new : State) → Settles new → (t : Tables) → Shows new t
 leaves_only new law t shows trees may = trees_of new.now trees t shows.office (law trees shows.is_open may ∙ ap (λ (d : Database). d.trees) (sym shows.settled))
 
 -- what fails so never faults the form of the tables
-pub never_unformed : {A : Type 0} (old new : State) (r : Result A StoreFault) → IfErr r (HasFailed old new) → r ≢ Err NotAnOffice
-never_unformed {A} old new r cause same = subst (λ (s : Result A StoreFault). IfErr s (HasFailed old new)) same cause
+pub never_unformed : {A : Type 0} (old new : State) (r : Result A Fault) → IfErr r (HasFailed old new) → r ≢ Err NotAnOffice
+never_unformed {A} old new r cause same = subst (λ (s : Result A Fault). IfErr s (HasFailed old new)) same cause
 
 -- ---- a query
 
-pub read_of : {X : Type 0} (old new : State) (r : Result X StoreFault) (Found : Tables → X → Type 0) → IsIdle old → new.in_transaction ≡ false → IsAsked old new r → Settles new
+pub read_of : {X : Type 0} (old new : State) (r : Result X Fault) (Found : Tables → X → Type 0) → IsIdle old → new.in_transaction ≡ false → IsAsked old new r → Settles new
     → ((t : Tables) → ShowsIfOpen old t → HasCleanDisk new → IfErr r (HasFailed old new)) → ((t : Tables) → Shows old t → HasCleanDisk new → IfOk r (Found t)) → IsRead old new r Found
 read_of old new r Found idle mode asked law fails finds = record {
   leaves = record {
@@ -93,7 +93,7 @@ fails_of sql query given params old new idle are sure t shows =
     (λ shut e. shut_failed sql given old new e (query old.now.schema) shut)
 
 -- a query of the first row, by these parameters
-pub first_read : (sql : List ℕ) → IsQuery sql → (given params : Row) (old new : State) (r : Result (Option Row) StoreFault) (Found : Tables → Option Row → Type 0) → IsIdle old
+pub first_read : (sql : List ℕ) → IsQuery sql → (given params : Row) (old new : State) (r : Result (Option Row) Fault) (Found : Tables → Option Row → Type 0) → IsIdle old
     → (old.in_transaction ≡ false → new.in_transaction ≡ false) → Settles new → Survives old new (CommitsShowing sql given old) → (HasCleanDisk new → FindsRow sql given old new r) → given ≡ params
     → IsSure office_schema sql params → ((t : Tables) → Shows old t → FindsRow sql params old new r → IfOk r (Found t)) → IsRead old new r Found
 first_read sql query given params old new r Found idle mode law survives row are sure finds =
@@ -102,7 +102,7 @@ first_read sql query given params old new r Found idle mode law survives row are
     (λ t shows clean. finds t shows (subst (λ (p : Row). FindsRow sql p old new r) are (row clean)))
 
 -- a query of all its rows
-pub rows_read : {X : Type 0} (items : X → List Row) (sql : List ℕ) → IsQuery sql → (given params : Row) (old new : State) (r : Result X StoreFault) (Found : Tables → X → Type 0) → IsIdle old
+pub rows_read : {X : Type 0} (items : X → List Row) (sql : List ℕ) → IsQuery sql → (given params : Row) (old new : State) (r : Result X Fault) (Found : Tables → X → Type 0) → IsIdle old
     → (old.in_transaction ≡ false → new.in_transaction ≡ false) → Settles new → Survives old new (CommitsShowing sql given old)
     → (HasCleanDisk new → IfOk r (λ x. Shown sql given old new (items x))) → (HasCleanDisk new → IfErr r (IsFaultOf sql given old new)) → given ≡ params → IsSure office_schema sql params
     → ((t : Tables) → Shows old t → IfOk r (λ x. Shown sql params old new (items x)) → IfErr r (IsFaultOf sql params old new) → IfOk r (Found t)) → IsRead old new r Found
@@ -113,7 +113,7 @@ rows_read items sql query given params old new r Found idle mode law survives ro
     finds t shows (subst (λ (p : Row). IfOk r (λ x. Shown sql p old new (items x))) are (rows clean)) (subst (λ (p : Row). IfErr r (IsFaultOf sql p old new)) are (fault clean)))
 
 -- nothing is read where there is no memory
-pub fails_unread : {X : Type 0} (s : State) (f : StoreFault) (Found : Tables → X → Type 0) → IsIdle s → f ≡ NoMemory → Settles s → IsRead {A = X} s s (Err f) Found
+pub fails_unread : {X : Type 0} (s : State) (f : Fault) (Found : Tables → X → Type 0) → IsIdle s → f ≡ NoMemory → Settles s → IsRead {A = X} s s (Err f) Found
 fails_unread s f Found idle memory law = record {
   leaves = record {
     idle = idle;
@@ -132,47 +132,47 @@ fails_unread s f Found idle memory law = record {
 
 -- ---- what is told of what was read
 
-module _ {X A : Type 0} (Tells : X → Result A StoreFault → Type 0) where
-  pub told_ok : (P : Type 0) (row : Result X StoreFault) (r : Result A StoreFault) → IsTold Tells row r → OnOk row P → OnOk r P
+module _ {X A : Type 0} (Tells : X → Result A Fault → Type 0) where
+  pub told_ok : (P : Type 0) (row : Result X Fault) (r : Result A Fault) → IsTold Tells row r → OnOk row P → OnOk r P
   told_ok P (Ok x) (Ok a) told p = p
   told_ok P (Ok x) (Err f) told p = tt
   told_ok P (Err e) (Ok a) told p = absurd cc
   told_ok P (Err e) (Err f) told p = tt
 
-  pub told_found : (FoundRow : X → Type 0) (Found : A → Type 0) (row : Result X StoreFault) (r : Result A StoreFault) → IsTold Tells row r → IfOk row FoundRow
+  pub told_found : (FoundRow : X → Type 0) (Found : A → Type 0) (row : Result X Fault) (r : Result A Fault) → IsTold Tells row r → IfOk row FoundRow
       → ((x : X) → FoundRow x → (a : A) → Tells x (Ok a) → Found a) → IfOk r Found
   told_found FoundRow Found (Ok x) (Ok a) told row f = f x row a told
   told_found FoundRow Found (Ok x) (Err e) told row f = tt
   told_found FoundRow Found (Err e) (Ok a) told row f = absurd cc
   told_found FoundRow Found (Err e) (Err d) told row f = tt
 
-  passed_on : (e : StoreFault) (r : Result A StoreFault) → r ≡ Err e → ◌≢◌ {A = Result X StoreFault} (Err e) (Err NotAnOffice) → r ≢ Err NotAnOffice
+  passed_on : (e : Fault) (r : Result A Fault) → r ≡ Err e → ◌≢◌ {A = Result X Fault} (Err e) (Err NotAnOffice) → r ≢ Err NotAnOffice
   passed_on e r told other same = other (let k : e ≡ NotAnOffice = cc in ap Err k)
 
-  pub told_formed : (FoundRow : X → Type 0) (row : Result X StoreFault) (r : Result A StoreFault) → IsTold Tells row r → row ≢ Err NotAnOffice → IfOk row FoundRow
+  pub told_formed : (FoundRow : X → Type 0) (row : Result X Fault) (r : Result A Fault) → IsTold Tells row r → row ≢ Err NotAnOffice → IfOk row FoundRow
       → ((x : X) → FoundRow x → Tells x (Err NotAnOffice) → ⊥) → r ≢ Err NotAnOffice
   told_formed FoundRow (Ok x) r told other row none same = none x row (subst (Tells x) same told)
   told_formed FoundRow (Err e) r told other row none same = passed_on e r told other same
 
   -- where it reports no other fault of what was found than that there is no memory
-  told_cause : (FoundRow : X → Type 0) (P : StoreFault → Type 0) (row : Result X StoreFault) (r : Result A StoreFault) → IsTold Tells row r → P NoMemory → IfErr row P → IfOk row FoundRow
-      → ((x : X) → FoundRow x → (f : StoreFault) → Tells x (Err f) → f ≡ NoMemory) → IfErr r P
+  told_cause : (FoundRow : X → Type 0) (P : Fault → Type 0) (row : Result X Fault) (r : Result A Fault) → IsTold Tells row r → P NoMemory → IfErr row P → IfOk row FoundRow
+      → ((x : X) → FoundRow x → (f : Fault) → Tells x (Err f) → f ≡ NoMemory) → IfErr r P
   told_cause FoundRow P (Ok x) (Ok a) told memory fails found none = tt
   told_cause FoundRow P (Ok x) (Err f) told memory fails found none = subst P (sym (none x found f told)) memory
   told_cause FoundRow P (Err e) (Ok a) told memory fails found none = absurd cc
   told_cause FoundRow P (Err e) (Err f) told memory fails found none = let k : f ≡ e = cc in subst P (sym k) fails
 
-  none_shut : (Q : Type 0) (b : Bool) (row : Result X StoreFault) → OnOk row (IsTrue b × Q) → b ≡ false → IfOk row (λ _. ⊥)
+  none_shut : (Q : Type 0) (b : Bool) (row : Result X Fault) → OnOk row (IsTrue b × Q) → b ≡ false → IfOk row (λ _. ⊥)
   none_shut Q b (Ok x) both shut = never_both b both.0 shut
   none_shut Q b (Err e) both shut = tt
 
-  pub told_shut : (Q : Type 0) (b : Bool) (row : Result X StoreFault) (r : Result A StoreFault) → IsTold Tells row r → OnOk row (IsTrue b × Q) → b ≡ false → row ≢ Err NotAnOffice → r ≢ Err NotAnOffice
+  pub told_shut : (Q : Type 0) (b : Bool) (row : Result X Fault) (r : Result A Fault) → IsTold Tells row r → OnOk row (IsTrue b × Q) → b ≡ false → row ≢ Err NotAnOffice → r ≢ Err NotAnOffice
   told_shut Q b (Ok x) r told both shut other = never_both b both.0 shut
   told_shut Q b (Err e) r told both shut other = passed_on e r told other
 
-  pub read_told : (old new : State) (FoundRow : Tables → X → Type 0) (Found : Tables → A → Type 0) (row : Result X StoreFault) (r : Result A StoreFault) → IsRead old new row FoundRow → IsTold Tells row r
+  pub read_told : (old new : State) (FoundRow : Tables → X → Type 0) (Found : Tables → A → Type 0) (row : Result X Fault) (r : Result A Fault) → IsRead old new row FoundRow → IsTold Tells row r
       → ((t : Tables) → Shows old t → (x : X) → FoundRow t x → (a : A) → Tells x (Ok a) → Found t a)
-      → ((t : Tables) → Shows old t → (x : X) → FoundRow t x → (f : StoreFault) → Tells x (Err f) → f ≡ NoMemory)
+      → ((t : Tables) → Shows old t → (x : X) → FoundRow t x → (f : Fault) → Tells x (Err f) → f ≡ NoMemory)
       → IsRead old new r Found
   read_told old new FoundRow Found row r read told some none = record {
     leaves = record {
@@ -197,21 +197,21 @@ module _ {X A : Type 0} (Tells : X → Result A StoreFault → Type 0) where
 -- ---- a write
 
 -- a read that failed, and whose fault is passed on, or what is made of its answer
-module _ {X A : Type 0} (old new : State) (FoundRow : Tables → X → Type 0) (Found : Tables → A → Type 0) (row : Result X StoreFault) (read : IsRead old new row FoundRow) (r : Result A StoreFault) where
-  abbrev Makes : X → Result A StoreFault → Type 0
+module _ {X A : Type 0} (old new : State) (FoundRow : Tables → X → Type 0) (Found : Tables → A → Type 0) (row : Result X Fault) (read : IsRead old new row FoundRow) (r : Result A Fault) where
+  abbrev Makes : X → Result A Fault → Type 0
   Makes x s = (t : Tables) → Shows old t → FoundRow t x → IfOk s (Found t) × IfErr s (λ f. f ≡ NoMemory)
 
   made : IsTold Makes row r → IsRead old new r Found
   made told = read_told Makes old new FoundRow Found row r read told (λ t shows x found a makes. (makes t shows found).0) (λ t shows x found f makes. (makes t shows found).1)
 
-  pub read_failed : (f : StoreFault) → row ≡ Err f → r ≡ Err f → IsRead old new r Found
-  read_failed f is same = made (subst (λ (s : Result X StoreFault). IsTold Makes s r) (sym is) same)
+  pub read_failed : (f : Fault) → row ≡ Err f → r ≡ Err f → IsRead old new r Found
+  read_failed f is same = made (subst (λ (s : Result X Fault). IsTold Makes s r) (sym is) same)
 
   pub read_made : (x : X) → row ≡ Ok x → ((t : Tables) → Shows old t → FoundRow t x → IfOk r (Found t) × IfErr r (λ f. f ≡ NoMemory)) → IsRead old new r Found
-  read_made x is makes = made (subst (λ (s : Result X StoreFault). IsTold Makes s r) (sym is) makes)
+  read_made x is makes = made (subst (λ (s : Result X Fault). IsTold Makes s r) (sym is) makes)
 
 -- a write of these statements is one of whatever makes the same tables
-pub write_as : {A : Type 0} (old new : State) (r : Result A StoreFault) (First Second : Tables → Tables → Type 0) → ((t u : Tables) → Second t u → First t u) → IsWrite old new r First → IsWrite old new r Second
+pub write_as : {A : Type 0} (old new : State) (r : Result A Fault) (First Second : Tables → Tables → Type 0) → ((t u : Tables) → Second t u → First t u) → IsWrite old new r First → IsWrite old new r Second
 write_as old new r First Second given write = record {
   leaves = write.leaves;
   done = λ t u shows makes. write.done t u shows (given t u makes);
@@ -223,7 +223,7 @@ write_as old new r First Second given write = record {
 }
 
 -- a write of statements that make this change
-pub write_into : {S A : Type 0} (g : Ghosts S) (ss : List Statement) (old new : State) (r : Result A StoreFault) (change : Tables → Tables) → ((t : Tables) → AreSteps g ss t (change t)) → IsWrite old new r (AreSteps g ss)
+pub write_into : {S A : Type 0} (g : Ghosts S) (ss : List Statement) (old new : State) (r : Result A Fault) (change : Tables → Tables) → ((t : Tables) → AreSteps g ss t (change t)) → IsWrite old new r (AreSteps g ss)
     → IsWrite old new r (Into change)
 write_into g ss old new r change steps = write_as old new r (AreSteps g ss) (Into change) (λ t u is. subst (λ v. AreSteps g ss t v) (sym is) (steps t))
 
@@ -232,7 +232,7 @@ write_into g ss old new r change steps = write_as old new r (AreSteps g ss) (Int
 module _ {S : Type 0} (g : Ghosts S) (ss : List Statement) (some : 0 < length ss) (old new : Held S) (idle : IsIdle (state g old)) (mode : new.in_transaction ≡ false) (law : Settles (state g new))
     (was_open : HasCleanDisk (state g new) → IsTrue (state g new).is_open → IsTrue (state g old).is_open)
     (survives : Survives (state g old) (state g new) (λ trees. (db : Database) × RanAll g ss (begun old) db × (trees ≡ db.trees))) where
-  leaves_of : {A : Type 0} (r : Result A StoreFault) → (HasCleanDisk (state g new) → OnOk r (IsTrue (state g old).is_open × IsTrue (state g new).is_open))
+  leaves_of : {A : Type 0} (r : Result A Fault) → (HasCleanDisk (state g new) → OnOk r (IsTrue (state g old).is_open × IsTrue (state g new).is_open))
       → (HasCleanDisk (state g new) → (state g old).is_open ≡ false → r ≢ Err NotAnOffice) → Leaves (state g old) (state g new) r
   leaves_of r answered other = record {
     idle = record { autocommit = mode; unlimited = survives.limit ∙ idle.unlimited };
@@ -269,7 +269,7 @@ module _ {S : Type 0} (g : Ghosts S) (ss : List Statement) (some : 0 < length ss
     lost = lost_of;
   }
 
-  pub write_refused : (A : Type 0) (e : Error) (f : StoreFault) → f ≡ fault_of_error e
+  pub write_refused : (A : Type 0) (e : Error) (f : Fault) → f ≡ fault_of_error e
       → (HasCleanDisk (state g new) → IsTrue (state g new).is_open → ((state g new).now ≡ (state g old).committed) × ((state g new).committed ≡ (state g old).committed))
       → (HasCleanDisk (state g new) → FailedIn g ss (begun old) e) → IsWrite {A = A} (state g old) (state g new) (Err f) (AreSteps g ss)
   write_refused A e f is none cause = record {
@@ -287,5 +287,5 @@ module _ {S : Type 0} (g : Ghosts S) (ss : List Statement) (some : 0 < length ss
     lost = lost_of;
   }
     where
-      other : HasCleanDisk (state g new) → (state g old).is_open ≡ false → ◌≢◌ {A = Result A StoreFault} (Err f) (Err NotAnOffice)
+      other : HasCleanDisk (state g new) → (state g old).is_open ≡ false → ◌≢◌ {A = Result A Fault} (Err f) (Err NotAnOffice)
       other clean shut same = failed_shut g ss (begun old) e some (cause clean) shut (sym is ∙ (let k : f ≡ NotAnOffice = cc in k))

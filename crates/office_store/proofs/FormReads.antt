@@ -11,7 +11,7 @@ use Rattle.sqlite_tied.specs.Compute.{everything}
 use Rattle.sqlite.specs.Listing.{understood}
 use Rattle.sqlite_rules.specs.Lists.{Has}
 use Rattle.std.proofs.lemmas.List.Sorted.{IsPermutation-sym}
-use Rattle.office_tables.specs.declared.fault.StoreFault.{StoreFault}
+use Rattle.review_policy.specs.declared.fault.Fault.{Fault}
 use Rattle.office_tables.specs.Tables.{Tables}
 use Rattle.office_rows.specs.Faults.{FindsRow}
 use Rattle.office_rows.proofs.Plain.{plain_query, Means}
@@ -58,7 +58,7 @@ module _ (old new : State) (t : Tables) (shows : Shows old t) (idle : old.in_tra
       let same = answered_kept office_columns shown any columns [] [] (λ k. refl) (λ k. refl) (overlay old.now.trees []) 0 [] (t.listed ∷ []) (read.answer Null) (one_office old new t shows idle) in
       has_permuted _ _ (form_row t.listed) same (inl refl)
 
-  pub reads_form : (r : Result (Option Row) StoreFault) → FindsRow OFFICE_ROW.now [] old new r → IfOk r (IsFormRow t)
+  pub reads_form : (r : Result (Option Row) Fault) → FindsRow OFFICE_ROW.now [] old new r → IfOk r (IsFormRow t)
   reads_form r h =
       let it = finds _ office_schema OFFICE_ROW.now [] form_means old new shows.office.schema shows.settled idle (IsFormRow t) form_found form_none r h in
       it.0

@@ -8,8 +8,8 @@ use Rattle.sqlite_schema.specs.Names.{same_name}
 use Rattle.sqlite_value.specs.Order.{column}
 use Rattle.sqlite_rules.proofs.ListLemmas.{contains_had}
 use Rattle.office_tables.specs.Tables.{Tables}
-use Rattle.office_tables.specs.declared.fault.StoreFault.{StoreFault}
-use Rattle.office_tables.specs.declared.fault.StoreFault.TheVariants.{NoMemory, NotAnOffice}
+use Rattle.review_policy.specs.declared.fault.Fault.{Fault}
+use Rattle.review_policy.specs.declared.fault.Fault.TheVariants.{NoMemory, NotAnOffice}
 use Rattle.office_rows.specs.Causes.{HasFailed}
 use Rattle.office_rows.specs.Faults.{FindsRow}
 use Rattle.office_rows.specs.Told.{IsTold, TellsRow}
@@ -42,7 +42,7 @@ same_old listed form row a b = go form.is_old form.listed (sym b ∙ a)
     go false n same = absurd cc
     go true n same = let k : n ≡ listed = cc in ap old_form k
 
-module _ {Found : Tables → Option Row → Type 0} (old new : State) (row : Result (Option Row) StoreFault) (r : Result Form StoreFault) (read : IsRead old new row Found) (told : IsTold TellsNumber row r)
+module _ {Found : Tables → Option Row → Type 0} (old new : State) (row : Result (Option Row) Fault) (r : Result Form Fault) (read : IsRead old new row Found) (told : IsTold TellsNumber row r)
     (finds : HasCleanDisk new → FindsRow OFFICE_ROW.now [] old new row) (idle : old.in_transaction ≡ false) (t : Tables) (shows : ShowsOldIfOpen old t) (clean : HasCleanDisk new) where
   on_open : IsTrue old.is_open → IfOk r (λ form. form ≡ old_form t.listed) × (r ≢ Err NotAnOffice)
   on_open is_open =
@@ -69,7 +69,7 @@ module _ {Found : Tables → Option Row → Type 0} (old new : State) (row : Res
 pub found_form : (old mid : State) (form : Form) → TellsRow OFFICE_ROW.now [] old mid TellsNumber (Ok form) → FindsRow OFFICE_ROW.now [] old mid (Ok (Some (numbered_row form)))
 found_form old mid form it = go it.row it.found it.told
   where
-    go : (row : Result (Option Row) StoreFault) → FindsRow OFFICE_ROW.now [] old mid row → IsTold TellsNumber row (Ok form) → FindsRow OFFICE_ROW.now [] old mid (Ok (Some (numbered_row form)))
+    go : (row : Result (Option Row) Fault) → FindsRow OFFICE_ROW.now [] old mid row → IsTold TellsNumber row (Ok form) → FindsRow OFFICE_ROW.now [] old mid (Ok (Some (numbered_row form)))
     go (Ok (Some w)) found told = subst (λ (v : Row). FindsRow OFFICE_ROW.now [] old mid (Ok (Some v))) told found
     go (Ok None) found told = absurd cc
     go (Err f) found told = absurd cc
@@ -110,14 +110,14 @@ opened_whole added form listed is = go added form.is_old form.listed is
     go (Err why) false n is = absurd cc
     go (Ok there) false n is = let k : listed ≡ n = cc in (refl, ap new_form (sym k))
 
-module _ (old new : State) (added : Result (Unit {0}) OpeningFault) (form : Result Form StoreFault) (result : Result ℕ OpeningFault) (is : result ≡ opening_of added form) where
-  abbrev Tells : Form → Result ℕ StoreFault → Type 0
+module _ (old new : State) (added : Result (Unit {0}) OpeningFault) (form : Result Form Fault) (result : Result ℕ OpeningFault) (is : result ≡ opening_of added form) where
+  abbrev Tells : Form → Result ℕ Fault → Type 0
   Tells f r = r ≡ as_store (opening_of added (Ok f))
 
   pub opened_read : IsRead old new form (λ t f. f ≡ new_form t.listed) → ((t : Tables) → Shows old t → added ≡ Ok tt) → IsRead old new (as_store result) (λ t listed. listed ≡ t.listed)
   opened_read read there = read_told Tells old new (λ t f. f ≡ new_form t.listed) (λ t listed. listed ≡ t.listed) form (as_store result) read (told form is) some none
     where
-      told : (form : Result Form StoreFault) → result ≡ opening_of added form → IsTold Tells form (as_store result)
+      told : (form : Result Form Fault) → result ≡ opening_of added form → IsTold Tells form (as_store result)
       told (Ok f) is = ap as_store is
       told (Err e) is = ap as_store is
 
@@ -125,10 +125,10 @@ module _ (old new : State) (added : Result (Unit {0}) OpeningFault) (form : Resu
       opens t shows f found = λ i. as_store (opening_of (there t shows i) (Ok (found i)))
 
       some : (t : Tables) → Shows old t → (f : Form) → f ≡ new_form t.listed → (a : ℕ) → Tells f (Ok a) → a ≡ t.listed
-      some t shows f found a tells = let k : ◌≡◌ {A = Result ℕ StoreFault} (Ok a) (Ok t.listed) = tells ∙ opens t shows f found in let n : a ≡ t.listed = cc in n
+      some t shows f found a tells = let k : ◌≡◌ {A = Result ℕ Fault} (Ok a) (Ok t.listed) = tells ∙ opens t shows f found in let n : a ≡ t.listed = cc in n
 
-      none : (t : Tables) → Shows old t → (f : Form) → f ≡ new_form t.listed → (why : StoreFault) → Tells f (Err why) → why ≡ NoMemory
-      none t shows f found why tells = let k : ◌≡◌ {A = Result ℕ StoreFault} (Err why) (Ok t.listed) = tells ∙ opens t shows f found in absurd cc
+      none : (t : Tables) → Shows old t → (f : Form) → f ≡ new_form t.listed → (why : Fault) → Tells f (Err why) → why ≡ NoMemory
+      none t shows f found why tells = let k : ◌≡◌ {A = Result ℕ Fault} (Err why) (Ok t.listed) = tells ∙ opens t shows f found in absurd cc
 
   -- an office of schema 1 isn't opened, and is refused for that or by a failure
   pub opened_old : (listed : ℕ) → IfOk form (λ f. f ≡ old_form listed) × (form ≢ Err NotAnOffice) → OnOk result ⊥ × IfErr result IsOldOrFailure
@@ -137,7 +137,7 @@ module _ (old new : State) (added : Result (Unit {0}) OpeningFault) (form : Resu
       Refused : Result ℕ OpeningFault → Type 0
       Refused r = OnOk r ⊥ × IfErr r IsOldOrFailure
 
-      go : (form : Result Form StoreFault) → result ≡ opening_of added form → IfOk form (λ f. f ≡ old_form listed) × (form ≢ Err NotAnOffice) → Refused result
+      go : (form : Result Form Fault) → result ≡ opening_of added form → IfOk form (λ f. f ≡ old_form listed) × (form ≢ Err NotAnOffice) → Refused result
       go (Ok f) is known = subst Refused (sym (is ∙ ap (λ (f : Form). opening_of added (Ok f)) known.0)) (tt, tt)
       go (Err e) is known = subst Refused (sym is) (tt, λ same. known.1 (ap Err same))
 
@@ -148,7 +148,7 @@ fails old new NoIndex failed = failed
 fails old new (Store f) failed = failed
 
 -- what is opened has the form of an office
-pub opened_form : (old new : State) → has_old_tables old.now.schema ≡ true → (form : Result Form StoreFault) (result : Result ℕ OpeningFault) → result ≡ opening_of (added_by old.now.schema) form
+pub opened_form : (old new : State) → has_old_tables old.now.schema ≡ true → (form : Result Form Fault) (result : Result ℕ OpeningFault) → result ≡ opening_of (added_by old.now.schema) form
     → TellsRow OFFICE_ROW.now [] old new TellsNumber form → IfOk form HasCaps → IfOk result (HasForm old new)
 opened_form old new tables form (Err why) is tells caps = tt
 opened_form old new tables (Err e) (Ok listed) is tells caps = absurd cc

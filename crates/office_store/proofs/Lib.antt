@@ -32,3 +32,4 @@ pub mod Sure
 pub mod OfficeRow
 pub mod Told
 pub mod ToldLists
+pub mod Refusals

@@ -21,8 +21,8 @@ use Rattle.sqlite_trees.proofs.ListLemmas.{ascending-get_or}
 use Rattle.sqlite_rules.specs.Lists.{Has}
 use Rattle.office_tables.specs.Tables.{Tables}
 use Rattle.office_tables.specs.Lists.{name_cmp}
-use Rattle.office_tables.specs.declared.fault.StoreFault.{StoreFault}
-use Rattle.office_tables.specs.declared.fault.StoreFault.TheVariants.{NotAnOffice}
+use Rattle.review_policy.specs.declared.fault.Fault.{Fault}
+use Rattle.review_policy.specs.declared.fault.Fault.TheVariants.{NotAnOffice}
 use Rattle.office_rows.specs.Faults.{FindsRow}
 use Rattle.office_rows.specs.Rows.{IsFaultOf}
 use Rattle.office_rows.proofs.Plain.{Means}
@@ -40,13 +40,13 @@ shows_again old new t shows same = record {
 }
 
 -- a read found what it should, never faults the form of the tables, and leaves them shown
-pub record IsReadOf {X : Type 0} (new : State) (t : Tables) (R : X → Type 0) (r : Result X StoreFault) : Type 0 where
+pub record IsReadOf {X : Type 0} (new : State) (t : Tables) (R : X → Type 0) (r : Result X Fault) : Type 0 where
   pub found : IfOk r R
   pub formed : r ≢ Err NotAnOffice
   pub shown : OnOk r (Shows new t)
   pub same : ShowsIfOpen new t
 
-either_way : {X : Type 0} (new : State) (t : Tables) (r : Result X StoreFault) → OnOk r (Shows new t) → OnErr r (ShowsIfOpen new t) → ShowsIfOpen new t
+either_way : {X : Type 0} (new : State) (t : Tables) (r : Result X Fault) → OnOk r (Shows new t) → OnErr r (ShowsIfOpen new t) → ShowsIfOpen new t
 either_way new t (Ok x) shows fault = λ is_open. shows
 either_way new t (Err f) shows fault = fault
 
@@ -55,7 +55,7 @@ module _ (q : Query) (sql : List ℕ) (params : Row) (names : List (List ℕ)) (
   module _ (idle : old.in_transaction ≡ false) where
     -- a query of all its rows
     pub list_read : {X : Type 0} (items : X → List Row) (R : List Row → Type 0) → ((rows : List Row) → IsAnswer q (overlay old.now.trees []) params rows → R rows)
-        → (r : Result X StoreFault) → IfOk r (λ x. Shown sql params old new (items x)) → IfErr r (IsFaultOf sql params old new) → IsReadOf new t (λ x. R (items x)) r
+        → (r : Result X Fault) → IfOk r (λ x. Shown sql params old new (items x)) → IfErr r (IsFaultOf sql params old new) → IsReadOf new t (λ x. R (items x)) r
     list_read items R right r rows fault =
         let schema = shows.office.schema in
         let shown = IfOk-weaker r (λ x. Shown sql params old new (items x)) (λ _. Shows new t) (λ x h. shows_again old new t shows (shown_same q office_schema sql params names means old new schema (items x) h)) rows in
@@ -68,7 +68,7 @@ module _ (q : Query) (sql : List ℕ) (params : Row) (names : List (List ℕ)) (
         }
 
     -- the connection shows the tables after a query of the first row
-    pub first_shows : (r : Result (Option Row) StoreFault) → FindsRow sql params old new r → OnOk r (Shows new t)
+    pub first_shows : (r : Result (Option Row) Fault) → FindsRow sql params old new r → OnOk r (Shows new t)
     first_shows (Ok row) h = shows_again old new t shows (found_same q office_schema sql params names means old new shows.office.schema shows.settled idle row h)
     first_shows (Err f) h = tt
 

@@ -28,7 +28,7 @@ use Rattle.sqlite_rules.proofs.ListLemmas.{all_has, all_from, has_filtered, has_
 use Rattle.review_policy.specs.declared.ask.ProfileName.{ProfileName}
 use Rattle.office_tables.specs.declared.row.RevisionRow.{RevisionRow}
 use Rattle.office_tables.specs.declared.listed.ListedRevision.{ListedRevision}
-use Rattle.office_tables.specs.declared.fault.StoreFault.{StoreFault}
+use Rattle.review_policy.specs.declared.fault.Fault.{Fault}
 use Rattle.office_tables.specs.Tables.{Tables}
 use Rattle.office_tables.specs.Lists.{listed_cmp, profile_of, IsListed}
 use Rattle.office_rows.specs.Entries.{row_of}
@@ -181,7 +181,7 @@ module _ (old new : State) (t : Tables) (shows : Shows old t) where
             record { profile = formed.profile.profile; number = formed.number }));
       }
 
-  pub reads_listed : (idle : old.in_transaction ≡ false) {X : Type 0} (items : X → List Row) (team : List ℕ) (r : Result X StoreFault) → IfOk r (λ x. Shown REVISIONS_OF.now (Text team ∷ []) old new (items x))
+  pub reads_listed : (idle : old.in_transaction ≡ false) {X : Type 0} (items : X → List Row) (team : List ℕ) (r : Result X Fault) → IfOk r (λ x. Shown REVISIONS_OF.now (Text team ∷ []) old new (items x))
       → IfErr r (IsFaultOf REVISIONS_OF.now (Text team ∷ []) old new) → IsReadOf new t (λ x. AreListedRows t team (items x)) r
   reads_listed idle items team =
       let o = shows.office in

@@ -8,8 +8,8 @@ use Rattle.sqlite.specs.State.{State, HasCleanDisk, Survives, Shows as Sees}
 use Rattle.sqlite.specs.Tree.{Trees}
 use Rattle.sqlite.proofs.StateLemmas.{survives_weaker, survives_then}
 use Rattle.office_tables.specs.Tables.{Tables}
-use Rattle.office_tables.specs.declared.fault.StoreFault.{StoreFault}
-use Rattle.office_tables.specs.declared.fault.StoreFault.TheVariants.{NotAnOffice}
+use Rattle.review_policy.specs.declared.fault.Fault.{Fault}
+use Rattle.review_policy.specs.declared.fault.Fault.TheVariants.{NotAnOffice}
 use Rattle.office_rows.specs.Faults.{fault_of_error}
 use Rattle.office_rows.specs.Queries.{IsAsItWas}
 use Rattle.office_rows.specs.Statements.{begun, RanAll, FailedIn}
@@ -45,7 +45,7 @@ left_before s law t shows trees may = old_trees_of s.now trees t shows.office (l
 
 -- ---- nothing was done, or a read
 
-pub only_asked : (A : Type 0) {X E : Type 0} {Found : Tables → X → Type 0} (old new : State) (row : Result X StoreFault) (e : E) → IsRead old new row Found → Settles old → IsMigration {A = A} old new (Err e)
+pub only_asked : (A : Type 0) {X E : Type 0} {Found : Tables → X → Type 0} (old new : State) (row : Result X Fault) (e : E) → IsRead old new row Found → Settles old → IsMigration {A = A} old new (Err e)
 only_asked A old new row e read law = record {
   idle = read.leaves.idle;
   clean = read.leaves.clean;
@@ -114,17 +114,17 @@ module _ {S : Type 0} (g : Ghosts S) (old new : Held S) (idle : IsIdle (state g 
         (λ t shows clean is_open. let was = shows (was_open clean is_open) in old_again (state g old) (state g new) t was (same was.settled clean) is_open) same
 
 -- the statements never fail for the form of an office of schema 1
-pub never_unformed : {S : Type 0} (g : Ghosts S) (h : Held S) (e : Error) (f : StoreFault) (t : Tables) → ShowsOldIfOpen (state g h) t → FailedIn g (migration []) (begun h) e → f ≡ fault_of_error e → f ≢ NotAnOffice
+pub never_unformed : {S : Type 0} (g : Ghosts S) (h : Held S) (e : Error) (f : Fault) (t : Tables) → ShowsOldIfOpen (state g h) t → FailedIn g (migration []) (begun h) e → f ≡ fault_of_error e → f ≢ NotAnOffice
 never_unformed g h e f t shows failed is same =
     by_open (state g h).is_open ⊥ (λ is_open. (none_migrated g t (begun h) e (shows is_open).office failed).0 (sym is ∙ same))
     (λ shut. failed_shut g (migration []) (begun h) e (omega arith) failed shut (sym is ∙ same))
 
 -- ---- the row and then the statements
 
-module _ {X A B E F : Type 0} {Found : Tables → X → Type 0} (old mid new : State) (row : Result X StoreFault) (x : X) (is : row ≡ Ok x) (read : IsRead old mid row Found) (law : Settles old) (s : Result B F) (r : Result A E)
+module _ {X A B E F : Type 0} {Found : Tables → X → Type 0} (old mid new : State) (row : Result X Fault) (x : X) (is : row ≡ Ok x) (read : IsRead old mid row Found) (law : Settles old) (s : Result B F) (r : Result A E)
     (alike_ok : (P : Type 0) → OnOk s P → OnOk r P) (alike_err : (P : Type 0) → OnErr s P → OnErr r P) (move : IsMigration mid new s) where
   both_open : HasCleanDisk new → IsTrue old.is_open × IsTrue mid.is_open
-  both_open clean = subst (λ (o : Result X StoreFault). OnOk o (IsTrue old.is_open × IsTrue mid.is_open)) is (read.leaves.answered (move.clean clean))
+  both_open clean = subst (λ (o : Result X Fault). OnOk o (IsTrue old.is_open × IsTrue mid.is_open)) is (read.leaves.answered (move.clean clean))
 
   mid_shows : (t : Tables) → ShowsOldIfOpen old t → HasCleanDisk new → ShowsOldIfOpen mid t
   mid_shows t shows clean = let was = shows (both_open clean).0 in old_again old mid t was (read.same was.settled (move.clean clean))

@@ -11,8 +11,8 @@ use Rattle.sqlite_tied.specs.Compute.{everything}
 use Rattle.sqlite.specs.Listing.{understood}
 use Rattle.sqlite_schema.specs.Names.{same_name}
 use Rattle.sqlite_rules.specs.Lists.{Has}
-use Rattle.office_tables.specs.declared.fault.StoreFault.{StoreFault}
-use Rattle.office_tables.specs.declared.fault.StoreFault.TheVariants.{NotAnOffice}
+use Rattle.review_policy.specs.declared.fault.Fault.{Fault}
+use Rattle.review_policy.specs.declared.fault.Fault.TheVariants.{NotAnOffice}
 use Rattle.office_tables.specs.Tables.{Tables}
 use Rattle.office_rows.specs.Entries.{Keeps}
 use Rattle.office_rows.specs.Faults.{FindsRow}
@@ -74,7 +74,7 @@ module _ (old new : State) (t : Tables) (shows : ShowsOld old t) (idle : old.in_
       let same = answered_kept old_columns shown any columns [] [] (λ k. refl) (λ k. refl) (overlay old.now.trees []) 0 [] (t.listed ∷ []) (read.answer Null) one_office in
       has_permuted _ _ (numbered_row (old_form t.listed)) same (inl refl)
 
-  pub reads_old : (r : Result (Option Row) StoreFault) → FindsRow OFFICE_ROW.now [] old new r → IfOk r (IsOldRow t) × (r ≢ Err NotAnOffice)
+  pub reads_old : (r : Result (Option Row) Fault) → FindsRow OFFICE_ROW.now [] old new r → IfOk r (IsOldRow t) × (r ≢ Err NotAnOffice)
   reads_old r h = let it = finds _ old_schema OFFICE_ROW.now [] old_means old new shows.office.schema shows.settled idle (IsOldRow t) old_found old_none r h in (it.0, it.1)
 
   pub shown_has_old_tables : has_old_tables old.now.schema ≡ true

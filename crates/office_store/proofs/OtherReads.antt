@@ -15,7 +15,7 @@ use Rattle.sqlite.specs.Listing.{understood}
 use Rattle.sqlite_rules.specs.Lists.{Has}
 use Rattle.sqlite_rules.proofs.ListLemmas.{all_has, has_found}
 use Rattle.review_policy.specs.declared.ask.ProfileName.{ProfileName}
-use Rattle.office_tables.specs.declared.fault.StoreFault.{StoreFault}
+use Rattle.review_policy.specs.declared.fault.Fault.{Fault}
 use Rattle.office_tables.specs.Tables.{Tables, Baseline, is_profile}
 use Rattle.office_rows.specs.Entries.{Keeps, row_of}
 use Rattle.office_rows.specs.Faults.{FindsRow}
@@ -77,7 +77,7 @@ module _ (old new : State) (t : Tables) (shows : Shows old t) where
       subst IsBaseline (sym same) (all_has IsBaseline _ it.0 shows.office.baselines.formed has.0)
 
   module _ (idle : old.in_transaction ≡ false) where
-    pub reads_baseline : (team : List ℕ) (r : Result (Option Row) StoreFault) → FindsRow BASELINE_OF.now (Text team ∷ []) old new r
+    pub reads_baseline : (team : List ℕ) (r : Result (Option Row) Fault) → FindsRow BASELINE_OF.now (Text team ∷ []) old new r
         → IfOk r (λ row. row ≡ option_map adopted_row (t.baselines team))
     reads_baseline team r h =
         let o = shows.office in
@@ -88,7 +88,7 @@ module _ (old new : State) (t : Tables) (shows : Shows old t) where
         sym (map_of_map adopted_row baseline_of _) ∙ ap (option_map adopted_row) (sym (o.baselines_are team)) in
         subst (λ x. IfOk r (λ row. row ≡ x)) same found
 
-    pub reads_hold : (p : ProfileName) (r : Result (Option Row) StoreFault) → FindsRow HOLD_OF.now (profile_params p) old new r
+    pub reads_hold : (p : ProfileName) (r : Result (Option Row) Fault) → FindsRow HOLD_OF.now (profile_params p) old new r
         → IfOk r (λ row. is_some row ≡ t.holds p)
     reads_hold p r h =
         let o = shows.office in
@@ -97,14 +97,14 @@ module _ (old new : State) (t : Tables) (shows : Shows old t) where
         let found = found_own hold_row hold_row is_profile IsProfileName (old.now.trees 10) o.holds p r it.0 in
         held r found
       where
-        held : (r : Result (Option Row) StoreFault) → IfOk r (λ row. row ≡ option_map hold_row (find (is_profile p) shows.office.holds.entries)) → IfOk r (λ row. is_some row ≡ t.holds p)
+        held : (r : Result (Option Row) Fault) → IfOk r (λ row. row ≡ option_map hold_row (find (is_profile p) shows.office.holds.entries)) → IfOk r (λ row. is_some row ≡ t.holds p)
         held (Ok row) is = ap is_some is ∙ some_mapped hold_row _ ∙ sym (shows.office.holds_are p)
         held (Err f) is = is
 
     abbrev pub one_office : Keeps office_columns (old.now.trees 0) (t.listed ∷ [])
     one_office = record { kept = (pos 1, t.listed) ∷ []; rows_are = shows.office.office; apart = (tt, tt); same = IsPermutation-refl (t.listed ∷ []) }
 
-    listed_row : (r : Result (Option Row) StoreFault) → IfOk r (IsFound any shown_listed (t.listed ∷ [])) → IfOk r (IsRowListed t)
+    listed_row : (r : Result (Option Row) Fault) → IfOk r (IsFound any shown_listed (t.listed ∷ [])) → IfOk r (IsRowListed t)
     listed_row (Ok (Some row)) it = it.3 ∙ ap shown_listed (only it.0 it.1)
       where
         only : (x : ℕ) → Has (t.listed ∷ []) x → x ≡ t.listed
@@ -113,7 +113,7 @@ module _ (old new : State) (t : Tables) (shows : Shows old t) where
     listed_row (Ok None) none = none t.listed (inl refl) refl
     listed_row (Err f) it = it
 
-    pub reads_listed : (r : Result (Option Row) StoreFault) → FindsRow LISTED.now [] old new r → IfOk r (IsRowListed t)
+    pub reads_listed : (r : Result (Option Row) Fault) → FindsRow LISTED.now [] old new r → IfOk r (IsRowListed t)
     reads_listed r h =
         let o = shows.office in
         let it = finds_some office_columns shown_listed any (col 1 3 ∷ []) [] office_schema LISTED.now [] 0 (codes "listed" ∷ []) listed_means (λ k. refl) (λ k. refl) old new o.schema shows.settled idle (t.listed ∷ []) one_office r h in
@@ -125,7 +125,7 @@ same_adopted a b same =
     let number : a.number ≡ b.number = cc in
     λ i. record { profile = profile i; number = number i }
 
-pub listed_is : (r : Result ℕ StoreFault) (row : Row) (n : ℕ) → row ≡ Int (pos n) ∷ [] → IfOk r (λ caps. (0 < length row) × (column row 0 ≡ Int (pos caps)) × (caps < 2 ^ 41)) → IfOk r (λ caps. caps ≡ n)
+pub listed_is : (r : Result ℕ Fault) (row : Row) (n : ℕ) → row ≡ Int (pos n) ∷ [] → IfOk r (λ caps. (0 < length row) × (column row 0 ≡ Int (pos caps)) × (caps < 2 ^ 41)) → IfOk r (λ caps. caps ≡ n)
 listed_is (Ok caps) row n is h =
     let same : Int (pos n) ≡ Int (pos caps) = ap (λ (r : Row). column r 0) (sym is) ∙ h.1 in
     let k : caps ≡ n = cc in k

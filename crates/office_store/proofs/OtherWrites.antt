@@ -40,14 +40,14 @@ map_with value false x o = refl
 
 -- ---- votes
 
-abbrev vote_terms : List Term
+abbrev pub vote_terms : List Term
 vote_terms = lit Null ∷ col 0 0 ∷ col 0 1 ∷ col 0 2 ∷ col 0 3 ∷ col 0 4 ∷ col 0 5 ∷ []
 
 -- the columns of the voter's row, where there is one
-abbrev vote_columns : List Term
+abbrev pub vote_columns : List Term
 vote_columns = col 1 0 ∷ col 1 1 ∷ col 1 2 ∷ col 1 3 ∷ col 1 4 ∷ col 0 4 ∷ col 0 5 ∷ []
 
-put_vote_means : Means office_schema PUT_VOTE.now (InsertOr 3 Abort (Values vote_terms 7)
+pub put_vote_means : Means office_schema PUT_VOTE.now (InsertOr 3 Abort (Values vote_terms 7)
     (record { target = Some (1 ∷ 2 ∷ 3 ∷ 4 ∷ []); update = Some (record { lets = []; body = plain_query (col 1 0 ∷ vote_columns) (column_is 0 6 ∷ []) 6 }) } ∷ []))
 unfolding understood everything
 put_vote_means = record { is = refl; plain = (refl, refl); unlisted = refl }
@@ -55,7 +55,7 @@ put_vote_means = record { is = refl; plain = (refl, refl); unlisted = refl }
 abbrev pub put_vote : VoteEntry → Statement
 put_vote e = record { sql = PUT_VOTE.now; params = vote_row e }
 
-cast_vote : (e : VoteEntry) → cast_row (votes_table 6) (Null ∷ vote_row e) ≡ Null ∷ vote_row e
+pub cast_vote : (e : VoteEntry) → cast_row (votes_table 6) (Null ∷ vote_row e) ≡ Null ∷ vote_row e
 cast_vote e = rw (cast_null, cast_int (pos e.0.number), cast_int (bit e.1.approves), cast_int (bit e.1.security))
 
 abbrev key_of : ProfileName → ℕ → List ℕ → VoteKey
@@ -64,16 +64,16 @@ key_of p n voter = record { profile = p; number = n; voter = voter }
 abbrev vote_put : VoteEntry → Tables → Tables
 vote_put e t = record t { votes = λ q n name. cond (same_vote (key_of q n name) e.0) (Some e.1) (t.votes q n name) }
 
-abbrev vote_key : VoteEntry → VoteKey
+abbrev pub vote_key : VoteEntry → VoteKey
 vote_key e = e.0
 
 abbrev vote_of : VoteEntry → Vote
 vote_of e = e.1
 
-cast_voted : (id : ℤ) (e : VoteEntry) → cast_row (votes_table 6) (row_of vote_row (id, e)) ≡ row_of vote_row (id, e)
+pub cast_voted : (id : ℤ) (e : VoteEntry) → cast_row (votes_table 6) (row_of vote_row (id, e)) ≡ row_of vote_row (id, e)
 cast_voted id e = rw (cast_int id, cast_int (pos e.0.number), cast_int (bit e.1.approves), cast_int (bit e.1.security))
 
-vote_agrees : (e : VoteEntry) (id : ℤ) (k : ℤ × VoteEntry)
+pub vote_agrees : (e : VoteEntry) (id : ℤ) (k : ℤ × VoteEntry)
     → conflicts (Some (1 ∷ 2 ∷ 3 ∷ 4 ∷ [])) office_schema.indexes (votes_table 6) (row_of vote_row (id, e)) (row_of vote_row k) ≡ same_vote e.0 k.1.0
 unfolding first_key
 vote_agrees e id k =
@@ -82,14 +82,14 @@ vote_agrees e id k =
 
 -- ---- baselines
 
-abbrev baseline_terms : List Term
+abbrev pub baseline_terms : List Term
 baseline_terms = lit Null ∷ col 0 0 ∷ col 0 1 ∷ col 0 2 ∷ []
 
 -- the columns of the team's row, where there is one
-abbrev baseline_columns : List Term
+abbrev pub baseline_columns : List Term
 baseline_columns = col 1 0 ∷ col 1 1 ∷ col 0 1 ∷ col 0 2 ∷ []
 
-put_baseline_means : Means office_schema PUT_BASELINE.now (InsertOr 4 Abort (Values baseline_terms 4)
+pub put_baseline_means : Means office_schema PUT_BASELINE.now (InsertOr 4 Abort (Values baseline_terms 4)
     (record { target = Some (1 ∷ []); update = Some (record { lets = []; body = plain_query (col 1 0 ∷ baseline_columns) (column_is 0 3 ∷ []) 8 }) } ∷ []))
 unfolding understood everything
 put_baseline_means = record { is = refl; plain = (refl, refl); unlisted = refl }
@@ -97,36 +97,36 @@ put_baseline_means = record { is = refl; plain = (refl, refl); unlisted = refl }
 abbrev pub put_baseline : BaselineEntry → Statement
 put_baseline e = record { sql = PUT_BASELINE.now; params = baseline_row e }
 
-cast_baseline : (e : BaselineEntry) → cast_row (baselines_table 8) (Null ∷ baseline_row e) ≡ Null ∷ baseline_row e
+pub cast_baseline : (e : BaselineEntry) → cast_row (baselines_table 8) (Null ∷ baseline_row e) ≡ Null ∷ baseline_row e
 cast_baseline e = rw (cast_null, cast_int (pos e.1.number))
 
 abbrev baseline_put : BaselineEntry → Tables → Tables
 baseline_put e t = record t { baselines = λ other. cond (bytes_eq other e.0) (Some e.1) (t.baselines other) }
 
-abbrev baseline_key : BaselineEntry → List ℕ
+abbrev pub baseline_key : BaselineEntry → List ℕ
 baseline_key e = e.0
 
 abbrev baseline_of : BaselineEntry → Baseline
 baseline_of e = e.1
 
-cast_adopted : (id : ℤ) (e : BaselineEntry) → cast_row (baselines_table 8) (row_of baseline_row (id, e)) ≡ row_of baseline_row (id, e)
+pub cast_adopted : (id : ℤ) (e : BaselineEntry) → cast_row (baselines_table 8) (row_of baseline_row (id, e)) ≡ row_of baseline_row (id, e)
 cast_adopted id e = rw (cast_int id, cast_int (pos e.1.number))
 
-baseline_agrees : (e : BaselineEntry) (id : ℤ) (k : ℤ × BaselineEntry)
+pub baseline_agrees : (e : BaselineEntry) (id : ℤ) (k : ℤ × BaselineEntry)
     → conflicts (Some (1 ∷ [])) office_schema.indexes (baselines_table 8) (row_of baseline_row (id, e)) (row_of baseline_row k) ≡ bytes_eq e.0 k.1.0
 unfolding first_key
 baseline_agrees e id k = or_false _ ∙ one_is _ _ (text_is k.1.0 e.0)
 
 -- ---- holds
 
-delete_hold_means : Means office_schema DELETE_HOLD.now (Delete 5 (record { lets = []; body = plain_query (col 1 0 ∷ []) at_profile 10 }))
+pub delete_hold_means : Means office_schema DELETE_HOLD.now (Delete 5 (record { lets = []; body = plain_query (col 1 0 ∷ []) at_profile 10 }))
 unfolding understood everything
 delete_hold_means = record { is = refl; plain = (refl, refl); unlisted = refl }
 
-abbrev hold_terms : List Term
+abbrev pub hold_terms : List Term
 hold_terms = lit Null ∷ col 0 0 ∷ col 0 1 ∷ []
 
-insert_hold_means : Means office_schema INSERT_HOLD.now (Insert 5 (Values hold_terms 3))
+pub insert_hold_means : Means office_schema INSERT_HOLD.now (Insert 5 (Values hold_terms 3))
 unfolding understood everything
 insert_hold_means = record { is = refl; plain = (refl, refl); unlisted = refl }
 
@@ -136,7 +136,7 @@ delete_hold p = record { sql = DELETE_HOLD.now; params = profile_params p }
 abbrev pub insert_hold : ProfileName → Statement
 insert_hold p = record { sql = INSERT_HOLD.now; params = hold_row p }
 
-cast_hold : (p : ProfileName) → cast_row (holds_table 10) (Null ∷ hold_row p) ≡ Null ∷ hold_row p
+pub cast_hold : (p : ProfileName) → cast_row (holds_table 10) (Null ∷ hold_row p) ≡ Null ∷ hold_row p
 cast_hold p = rw cast_null
 
 abbrev itself : ProfileName → ProfileName
@@ -150,7 +150,7 @@ holds_with : (b : Bool) (p : ProfileName) (o : Option ProfileName) → cond b tr
 holds_with true p o = refl
 holds_with false p o = refl
 
-none_held : (o : Option ProfileName) → is_some o ≡ false → o ≡ None
+pub none_held : (o : Option ProfileName) → is_some o ≡ false → o ≡ None
 none_held None none = refl
 none_held (Some p) none = absurd cc
 
@@ -187,7 +187,7 @@ module _ {S : Type 0} (g : Ghosts S) where
   pub baseline_steps : (p : ProfileName) (n : ℕ) (t : Tables) → IsBaseline (baseline_entry p n) → AreSteps g (put_baseline (baseline_entry p n) ∷ []) t (with_baseline p n t)
   baseline_steps p n t formed = (baseline_put (baseline_entry p n) t, put_baseline_step (baseline_entry p n) t formed, refl)
 
-  delete_hold_step : (p : ProfileName) (t : Tables) → IsStep g (delete_hold p) t (without_hold p t)
+  pub delete_hold_step : (p : ProfileName) (t : Tables) → IsStep g (delete_hold p) t (without_hold p t)
   delete_hold_step p t = record {
     ok = λ old new count o ran.
         let it = removes is_profile profiles_decide itself hold_row IsProfileName office_schema 5 (holds_table 10) is_holds DELETE_HOLD.now (profile_params p) (state g old) (state g new) count o.schema ran o.holds
@@ -197,7 +197,7 @@ module _ {S : Type 0} (g : Ghosts S) where
     err = λ old new e o failed. delete_failed DELETE_HOLD.now (profile_params p) 5 _ office_schema (state g old) (state g new) e o.schema delete_hold_means failed;
   }
 
-  insert_hold_step : (p : ProfileName) (t : Tables) → IsProfileName p → t.holds p ≡ false → IsStep g (insert_hold p) t (with_hold p t)
+  pub insert_hold_step : (p : ProfileName) (t : Tables) → IsProfileName p → t.holds p ≡ false → IsStep g (insert_hold p) t (with_hold p t)
   insert_hold_step p t formed none = record {
     ok = λ old new count o ran.
         let it = puts is_profile profiles_decide itself hold_row IsProfileName office_schema 5 (holds_table 10) is_holds INSERT_HOLD.now (hold_row p) (state g old) (state g new) count o.schema ran o.holds

@@ -22,7 +22,7 @@ use Rattle.sqlite_rules.proofs.ListLemmas.{all_has, has_found}
 use Rattle.review_policy.specs.declared.ask.ProfileName.{ProfileName}
 use Rattle.review_policy.specs.declared.revision.State.TheVariants.{Issued}
 use Rattle.office_tables.specs.declared.row.RevisionRow.{RevisionRow}
-use Rattle.office_tables.specs.declared.fault.StoreFault.{StoreFault}
+use Rattle.review_policy.specs.declared.fault.Fault.{Fault}
 use Rattle.office_tables.specs.Tables.{Tables, is_profile}
 use Rattle.office_tables.specs.Reads.{IsLast, IsIssued, HasRevision}
 use Rattle.office_rows.specs.Faults.{FindsRow}
@@ -144,7 +144,7 @@ module _ (old new : State) (t : Tables) (shows : Shows old t) where
       subst IsRevision (sym same) formed
 
   module _ (idle : old.in_transaction ≡ false) where
-    pub reads_revision : (p : ProfileName) (n : ℕ) (r : Result (Option Row) StoreFault) → FindsRow REVISION_AT.now (revision_params p n) old new r
+    pub reads_revision : (p : ProfileName) (n : ℕ) (r : Result (Option Row) Fault) → FindsRow REVISION_AT.now (revision_params p n) old new r
         → IfOk r (λ row. row ≡ option_map revision_columns (t.revisions p n))
     reads_revision p n r h =
         let o = shows.office in
@@ -155,7 +155,7 @@ module _ (old new : State) (t : Tables) (shows : Shows old t) where
         sym (map_of_map revision_columns row_of_entry _) ∙ ap (option_map revision_columns) (sym (o.revisions_are p n)) in
         subst (λ x. IfOk r (λ row. row ≡ x)) same found
 
-    pub reads_summary : (p : ProfileName) (n : ℕ) (r : Result (Option Row) StoreFault) → FindsRow STATE_AND_DIGEST.now (revision_params p n) old new r
+    pub reads_summary : (p : ProfileName) (n : ℕ) (r : Result (Option Row) Fault) → FindsRow STATE_AND_DIGEST.now (revision_params p n) old new r
         → IfOk r (λ row. row ≡ option_map (λ r. summary_row (summary_of r)) (t.revisions p n))
     reads_summary p n r h =
         let o = shows.office in
@@ -179,12 +179,12 @@ module _ (old new : State) (t : Tables) (shows : Shows old t) where
         let state : (state_number Issued == state_number it.entry.1.state) ≡ true = subst (λ s. (state_number Issued == state_number s) ≡ true) (sym issued ∙ ap (λ (x : RevisionRow). x.state) it.is) refl in
         none it.entry it.has (λ i. profile i && state i)
 
-    issued_row : (p : ProfileName) (r : Result (Option Row) StoreFault) → IfOk r (IsFound (is_in_state p Issued) shown shows.office.revisions.entries) → IfOk r (IsIssuedRow t p)
+    issued_row : (p : ProfileName) (r : Result (Option Row) Fault) → IfOk r (IsFound (is_in_state p Issued) shown shows.office.revisions.entries) → IfOk r (IsIssuedRow t p)
     issued_row p (Ok (Some row)) it = (it.0.1, issued_entry p it.0 it.1 it.2, it.3)
     issued_row p (Ok None) none = none_issued p none
     issued_row p (Err f) it = it
 
-    pub reads_issued : (p : ProfileName) (r : Result (Option Row) StoreFault) → FindsRow ISSUED_OF.now (profile_params p) old new r
+    pub reads_issued : (p : ProfileName) (r : Result (Option Row) Fault) → FindsRow ISSUED_OF.now (profile_params p) old new r
         → IfOk r (IsIssuedRow t p)
     reads_issued p r h =
         let o = shows.office in
@@ -212,12 +212,12 @@ module _ (old new : State) (t : Tables) (shows : Shows old t) where
     abbrev IsFirstOf : ProfileName → (Revision → Row) → List Term → Option Row → Type 0
     IsFirstOf p show project = IsFirstRow revision_row show number_of (is_of p) project at_profile greatest (profile_params p) shows.office.revisions.entries
 
-    last_shown : (p : ProfileName) (r : Result (Option Row) StoreFault) → IfOk r (IsFirstOf p shown shown_columns) → IfOk r (IsLastRow t p)
+    last_shown : (p : ProfileName) (r : Result (Option Row) Fault) → IfOk r (IsFirstOf p shown shown_columns) → IfOk r (IsLastRow t p)
     last_shown p (Ok (Some row)) it = (it.0.1, first_is_last p shown shown_columns it.0 it.1, it.2)
     last_shown p (Ok None) none = none_is_last p none
     last_shown p (Err f) it = it
 
-    pub reads_last : (p : ProfileName) (r : Result (Option Row) StoreFault) → FindsRow LAST_OF.now (profile_params p) old new r
+    pub reads_last : (p : ProfileName) (r : Result (Option Row) Fault) → FindsRow LAST_OF.now (profile_params p) old new r
         → IfOk r (IsLastRow t p)
     reads_last p r h =
         let o = shows.office in
@@ -227,14 +227,14 @@ module _ (old new : State) (t : Tables) (shows : Shows old t) where
 
     -- ---- the numbers alone
 
-    last_numbered : (p : ProfileName) (r : Result (Option Row) StoreFault) → IfOk r (IsFirstOf p number_of number_column) → IfOk r (IsRowOfNumber (IsLast t p))
+    last_numbered : (p : ProfileName) (r : Result (Option Row) Fault) → IfOk r (IsFirstOf p number_of number_column) → IfOk r (IsRowOfNumber (IsLast t p))
     last_numbered p (Ok (Some row)) it =
         let last = first_is_last p number_of number_column it.0 it.1 in
         (it.0.1, last, (revision_formed p it.0.1.number it.0.1 last.0).number, it.2)
     last_numbered p (Ok None) none = none_is_last p none
     last_numbered p (Err f) it = it
 
-    pub reads_last_number : (p : ProfileName) (r : Result (Option Row) StoreFault) → FindsRow LAST_NUMBER.now (profile_params p) old new r
+    pub reads_last_number : (p : ProfileName) (r : Result (Option Row) Fault) → FindsRow LAST_NUMBER.now (profile_params p) old new r
         → IfOk r (IsRowOfNumber (IsLast t p))
     reads_last_number p r h =
         let o = shows.office in
@@ -242,14 +242,14 @@ module _ (old new : State) (t : Tables) (shows : Shows old t) where
         office_schema LAST_NUMBER.now 4 (codes "number" ∷ []) last_number_means old new o.schema shows.settled idle o.revisions.entries o.revisions.kept r h in
         last_numbered p r it.0
 
-    issued_numbered : (p : ProfileName) (r : Result (Option Row) StoreFault) → IfOk r (IsFound (is_in_state p Issued) number_of shows.office.revisions.entries) → IfOk r (IsRowOfNumber (IsIssued t p))
+    issued_numbered : (p : ProfileName) (r : Result (Option Row) Fault) → IfOk r (IsFound (is_in_state p Issued) number_of shows.office.revisions.entries) → IfOk r (IsRowOfNumber (IsIssued t p))
     issued_numbered p (Ok (Some row)) it =
         let is = issued_entry p it.0 it.1 it.2 in
         (it.0.1, is, (revision_formed p it.0.1.number it.0.1 is.0).number, it.3)
     issued_numbered p (Ok None) none = none_issued p none
     issued_numbered p (Err f) it = it
 
-    pub reads_issued_number : (p : ProfileName) (r : Result (Option Row) StoreFault) → FindsRow ISSUED_NUMBER.now (profile_params p) old new r
+    pub reads_issued_number : (p : ProfileName) (r : Result (Option Row) Fault) → FindsRow ISSUED_NUMBER.now (profile_params p) old new r
         → IfOk r (IsRowOfNumber (IsIssued t p))
     reads_issued_number p r h =
         let o = shows.office in
@@ -257,7 +257,7 @@ module _ (old new : State) (t : Tables) (shows : Shows old t) where
         old new o.schema shows.settled idle o.revisions.entries o.revisions.kept r h in
         issued_numbered p r it.0
 
-    any_row : (p : ProfileName) (r : Result (Option Row) StoreFault) → IfOk r (IsFound (is_of p) number_of shows.office.revisions.entries) → IfOk r (λ row. is_some row ≡ true ↔ HasRevision t p)
+    any_row : (p : ProfileName) (r : Result (Option Row) Fault) → IfOk r (IsFound (is_of p) number_of shows.office.revisions.entries) → IfOk r (λ row. is_some row ≡ true ↔ HasRevision t p)
     any_row p (Ok (Some row)) it = (
       (λ _. record { number = it.0.1.number; revision = it.0.1; there = subst (λ q. t.revisions q it.0.1.number ≡ Some it.0.1) (sym (same_profile p it.0.0 it.2)) (found_at it.0 it.1) }),
       (λ _. refl),
@@ -270,7 +270,7 @@ module _ (old new : State) (t : Tables) (shows : Shows old t) where
     )
     any_row p (Err f) it = it
 
-    pub reads_any : (p : ProfileName) (r : Result (Option Row) StoreFault) → FindsRow REVISION_OF.now (profile_params p) old new r
+    pub reads_any : (p : ProfileName) (r : Result (Option Row) Fault) → FindsRow REVISION_OF.now (profile_params p) old new r
         → IfOk r (λ row. is_some row ≡ true ↔ HasRevision t p)
     reads_any p r h =
         let o = shows.office in

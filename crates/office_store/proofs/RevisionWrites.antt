@@ -36,29 +36,29 @@ use Rattle.office_store.proofs.Profiles.{profile_params, revision_params, at_rev
 
 -- ---- the texts
 
-abbrev put_state : State → List Term
+abbrev pub put_state : State → List Term
 put_state s = col 1 0 ∷ col 1 1 ∷ col 1 2 ∷ col 1 3 ∷ col 1 4 ∷ lit (Int (pos (state_number s))) ∷ col 1 6 ∷ col 1 7 ∷ []
 
-close_means : Means office_schema CLOSE_OPEN.now (Update 2 (record { lets = []; body = plain_query (col 1 0 ∷ put_state Closed) (in_state_of Open) 4 }))
+pub close_means : Means office_schema CLOSE_OPEN.now (Update 2 (record { lets = []; body = plain_query (col 1 0 ∷ put_state Closed) (in_state_of Open) 4 }))
 unfolding understood everything
 close_means = record { is = refl; plain = (refl, refl); unlisted = refl }
 
-replace_means : Means office_schema REPLACE_ISSUED.now (Update 2 (record { lets = []; body = plain_query (col 1 0 ∷ put_state Replaced) (in_state_of Issued) 4 }))
+pub replace_means : Means office_schema REPLACE_ISSUED.now (Update 2 (record { lets = []; body = plain_query (col 1 0 ∷ put_state Replaced) (in_state_of Issued) 4 }))
 unfolding understood everything
 replace_means = record { is = refl; plain = (refl, refl); unlisted = refl }
 
-issue_means : Means office_schema ISSUE_REVISION.now (Update 2 (record { lets = []; body = plain_query (col 1 0 ∷ put_state Issued) at_revision 4 }))
+pub issue_means : Means office_schema ISSUE_REVISION.now (Update 2 (record { lets = []; body = plain_query (col 1 0 ∷ put_state Issued) at_revision 4 }))
 unfolding understood everything
 issue_means = record { is = refl; plain = (refl, refl); unlisted = refl }
 
-withdraw_means : Means office_schema WITHDRAW_REVISION.now (Update 2 (record { lets = []; body = plain_query (col 1 0 ∷ put_state Withdrawn) at_revision 4 }))
+pub withdraw_means : Means office_schema WITHDRAW_REVISION.now (Update 2 (record { lets = []; body = plain_query (col 1 0 ∷ put_state Withdrawn) at_revision 4 }))
 unfolding understood everything
 withdraw_means = record { is = refl; plain = (refl, refl); unlisted = refl }
 
-abbrev insert_terms : List Term
+abbrev pub insert_terms : List Term
 insert_terms = lit Null ∷ col 0 0 ∷ col 0 1 ∷ col 0 2 ∷ col 0 3 ∷ col 0 4 ∷ col 0 5 ∷ col 0 6 ∷ []
 
-insert_means : Means office_schema INSERT_REVISION.now (Insert 2 (Values insert_terms 8))
+pub insert_means : Means office_schema INSERT_REVISION.now (Insert 2 (Values insert_terms 8))
 unfolding understood everything
 insert_means = record { is = refl; plain = (refl, refl); unlisted = refl }
 
@@ -79,7 +79,7 @@ insert_revision e = record { sql = INSERT_REVISION.now; params = revision_row e 
 
 -- ---- a revision whose state is changed
 
-abbrev put_in : State → Revision → Revision
+abbrev pub put_in : State → Revision → Revision
 put_in s e = (e.0, in_state s e.1)
 
 key_kept : (s : State) (b : Bool) (e : Revision) → revision_key (cond b (put_in s e) e) ≡ revision_key e
@@ -90,17 +90,17 @@ form_kept : (s : State) (b : Bool) (e : Revision) → IsRevision e → IsRevisio
 form_kept s true e h = record { profile = h.profile; number = h.number; author = h.author; body = h.body; digest = h.digest }
 form_kept s false e h = h
 
-cast_kept : (k : ℤ × Revision) → cast_row (revisions_table 4) (row_of revision_row k) ≡ row_of revision_row k
+pub cast_kept : (k : ℤ × Revision) → cast_row (revisions_table 4) (row_of revision_row k) ≡ row_of revision_row k
 cast_kept k = rw (cast_int k.0, cast_int (pos k.1.1.number), cast_int (pos (state_number k.1.1.state)))
 
-cast_new : (e : Revision) → cast_row (revisions_table 4) (Null ∷ revision_row e) ≡ Null ∷ revision_row e
+pub cast_new : (e : Revision) → cast_row (revisions_table 4) (Null ∷ revision_row e) ≡ Null ∷ revision_row e
 cast_new e = rw (cast_null, cast_int (pos e.1.number), cast_int (pos (state_number e.1.state)))
 
 second : (c : Bool) (p : ProfileName) (x y : RevisionRow) → (cond {A = Revision} c (p, x) (p, y)).1 ≡ cond c x y
 second true p x y = refl
 second false p x y = refl
 
-abbrev at_key : ProfileName → ℕ → Revision → Bool
+abbrev pub at_key : ProfileName → ℕ → Revision → Bool
 at_key q n e = same_revision (q, n) (revision_key e)
 
 -- what is found at a key after the change of entries is what was found there, changed
@@ -111,7 +111,7 @@ found_changed : (passes : Revision → Bool) (s : State) (f : ProfileName → �
 found_changed passes s f does q n None here = refl
 found_changed passes s f does q n (Some e) here = ap Some (does q n e (here e refl))
 
-abbrev changed_by : (ProfileName → ℕ → RevisionRow → RevisionRow) → Tables → Tables
+abbrev pub changed_by : (ProfileName → ℕ → RevisionRow → RevisionRow) → Tables → Tables
 changed_by f t = record t { revisions = λ q n. option_map (f q n) (t.revisions q n) }
 
 module _ {S : Type 0} (g : Ghosts S) where
@@ -133,7 +133,7 @@ module _ {S : Type 0} (g : Ghosts S) where
 
   -- ---- the open revision of a profile is closed
 
-  abbrev closed : ProfileName → ProfileName → ℕ → RevisionRow → RevisionRow
+  abbrev pub closed : ProfileName → ProfileName → ℕ → RevisionRow → RevisionRow
   closed p q n r = cond (is_profile q p) (after_submission r) r
 
   closes : (b : Bool) (s : State) (number : ℕ) (author body digest : List ℕ) →
@@ -151,9 +151,12 @@ module _ {S : Type 0} (g : Ghosts S) where
       (λ i. cond (is_profile (here i).0 p) (after_submission e.1) e.1) ∙ (λ i. cond (profile_sym e.0 p i) (after_submission e.1) e.1)
       ∙ closes (is_profile p e.0) e.1.state e.1.number e.1.author e.1.body e.1.digest ∙ sym (second (is_in_state p Open e) e.0 (in_state Closed e.1) e.1)
 
+  pub close_step : (p : ProfileName) (t : Tables) → IsStep g (close_open p) t (changed_by (closed p) t)
+  close_step p = state_step CLOSE_OPEN.now (profile_params p) (is_in_state p Open) Closed (in_state_of Open) close_means (state_tested p Open) (closed p) (does_close p)
+
   -- ---- the issued revision of a profile is replaced
 
-  abbrev replaced : ProfileName → ProfileName → ℕ → RevisionRow → RevisionRow
+  abbrev pub replaced : ProfileName → ProfileName → ℕ → RevisionRow → RevisionRow
   replaced p q n r = cond (is_profile q p) (after_issue r) r
 
   replaces : (b : Bool) (s : State) (number : ℕ) (author body digest : List ℕ) →
@@ -171,6 +174,9 @@ module _ {S : Type 0} (g : Ghosts S) where
       (λ i. cond (is_profile (here i).0 p) (after_issue e.1) e.1) ∙ (λ i. cond (profile_sym e.0 p i) (after_issue e.1) e.1)
       ∙ replaces (is_profile p e.0) e.1.state e.1.number e.1.author e.1.body e.1.digest ∙ sym (second (is_in_state p Issued e) e.0 (in_state Replaced e.1) e.1)
 
+  pub replace_step : (p : ProfileName) (t : Tables) → IsStep g (replace_issued p) t (changed_by (replaced p) t)
+  replace_step p = state_step REPLACE_ISSUED.now (profile_params p) (is_in_state p Issued) Replaced (in_state_of Issued) replace_means (state_tested p Issued) (replaced p) (does_replace p)
+
   -- ---- a revision comes into a state
 
   abbrev put_at : ProfileName → ℕ → State → ProfileName → ℕ → RevisionRow → RevisionRow
@@ -185,14 +191,14 @@ module _ {S : Type 0} (g : Ghosts S) where
 
   -- ---- a revision is put in
 
-  abbrev inserted : Revision → Tables → Tables
+  abbrev pub inserted : Revision → Tables → Tables
   inserted e t = record t { revisions = λ q n. cond (same_revision (q, n) (revision_key e)) (Some e.1) (t.revisions q n) }
 
   mapped_cond : (b : Bool) (e : Revision) (o : Option Revision) → cond b (Some e.1) (option_map (λ (e : Revision). e.1) o) ≡ option_map (λ (e : Revision). e.1) (cond b (Some e) o)
   mapped_cond true e o = refl
   mapped_cond false e o = refl
 
-  none_mapped : (o : Option Revision) → ◌≡◌ {A = Option RevisionRow} (option_map (λ (e : Revision). e.1) o) None → o ≡ None
+  pub none_mapped : (o : Option Revision) → ◌≡◌ {A = Option RevisionRow} (option_map (λ (e : Revision). e.1) o) None → o ≡ None
   none_mapped None none = refl
   none_mapped (Some e) none = absurd cc
 
@@ -213,14 +219,14 @@ module _ {S : Type 0} (g : Ghosts S) where
   submitted false c r None = refl
   submitted false c r (Some x) = refl
 
-  still_none : (b : Bool) (o : Option RevisionRow) → o ≡ None → option_map (λ r. cond b (after_submission r) r) o ≡ None
+  pub still_none : (b : Bool) (o : Option RevisionRow) → o ≡ None → option_map (λ r. cond b (after_submission r) r) o ≡ None
   still_none b None none = refl
   still_none b (Some r) none = absurd cc
 
   pub add_steps : (p : ProfileName) (r : RevisionRow) (t : Tables) → IsRevision (p, r) → t.revisions p r.number ≡ None → AreSteps g (close_open p ∷ insert_revision (p, r) ∷ []) t (with_revision p r t)
   add_steps p r t formed none = (
     changed_by (closed p) t,
-    state_step CLOSE_OPEN.now (profile_params p) (is_in_state p Open) Closed (in_state_of Open) close_means (state_tested p Open) (closed p) (does_close p) t,
+    close_step p t,
     (
       inserted (p, r) (changed_by (closed p) t),
       insert_step (p, r) (changed_by (closed p) t) formed (still_none (is_profile p p) (t.revisions p r.number) none),
@@ -240,7 +246,7 @@ module _ {S : Type 0} (g : Ghosts S) where
   pub issue_steps : (p : ProfileName) (m : ℕ) (t : Tables) → AreSteps g (replace_issued p ∷ issue_revision p m ∷ []) t (with_issued p m t)
   issue_steps p m t = (
     changed_by (replaced p) t,
-    state_step REPLACE_ISSUED.now (profile_params p) (is_in_state p Issued) Replaced (in_state_of Issued) replace_means (state_tested p Issued) (replaced p) (does_replace p) t,
+    replace_step p t,
     (
       changed_by (put_at p m Issued) (changed_by (replaced p) t),
       state_step ISSUE_REVISION.now (revision_params p m) (at_key p m) Issued at_revision issue_means (revision_tested p m) (put_at p m Issued) (does_put p m Issued) (changed_by (replaced p) t),

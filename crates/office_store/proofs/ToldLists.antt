@@ -5,8 +5,8 @@ use Rattle.std.proofs.lemmas.List.{take_more, take_all, map-append}
 use Rattle.sqlite.specs.Order.{Row}
 use Rattle.sqlite.specs.State.{State, Shown}
 use Rattle.office_tables.specs.Tables.{Tables}
-use Rattle.office_tables.specs.declared.fault.StoreFault.{StoreFault}
-use Rattle.office_tables.specs.declared.fault.StoreFault.TheVariants.{NoMemory, NotAnOffice}
+use Rattle.review_policy.specs.declared.fault.Fault.{Fault}
+use Rattle.review_policy.specs.declared.fault.Fault.TheVariants.{NoMemory, NotAnOffice}
 use Rattle.office_rows.specs.Rows.{IsFaultOf}
 use Rattle.office_rows.specs.Told.{IsOfRow, IsUnread, IsTold, TellsAll, FindsRows, map_ok}
 use Rattle.office_tables.specs.declared.listed.ListedRevision.{ListedRevision}
@@ -38,7 +38,7 @@ all_read f rows i xs past so_far = sym (take_all i rows past) ∙ so_far
 
 -- ---- what a query of all its rows found
 
-pub rows_found : {V : Type 0} (rows_of : V → List Row) (sql : List ℕ) (given params : Row) (old new : State) (r : Result V StoreFault) → IfOk r (λ v. Shown sql given old new (rows_of v))
+pub rows_found : {V : Type 0} (rows_of : V → List Row) (sql : List ℕ) (given params : Row) (old new : State) (r : Result V Fault) → IfOk r (λ v. Shown sql given old new (rows_of v))
     → IfErr r (IsFaultOf sql given old new) → given ≡ params → FindsRows sql params old new (map_ok r rows_of)
 rows_found rows_of sql given params old new (Ok v) shown fault are = subst (λ (p : Row). Shown sql p old new (rows_of v)) are shown
 rows_found rows_of sql given params old new (Err f) shown fault are = subst (λ (p : Row). IsFaultOf sql p old new f) are fault
@@ -46,24 +46,24 @@ rows_found rows_of sql given params old new (Err f) shown fault are = subst (λ 
 -- ---- what is told of them
 
 module _ {V W X : Type 0} (rows_of : V → List Row) (items_of : W → List X) (encode : X → Row) (IsFormed : X → Type 0) where
-  pub all_failed : (found : Result V StoreFault) (r : Result W StoreFault) (f : StoreFault) → found ≡ Err f → r ≡ Err f → IsTold (TellsAll encode IsFormed) (map_ok found rows_of) (map_ok r items_of)
+  pub all_failed : (found : Result V Fault) (r : Result W Fault) (f : Fault) → found ≡ Err f → r ≡ Err f → IsTold (TellsAll encode IsFormed) (map_ok found rows_of) (map_ok r items_of)
   all_failed found r f is same =
-      subst (λ (o : Result V StoreFault). IsTold (TellsAll encode IsFormed) (map_ok o rows_of) (map_ok r items_of)) (sym is) (ap (λ (o : Result W StoreFault). map_ok o items_of) same)
+      subst (λ (o : Result V Fault). IsTold (TellsAll encode IsFormed) (map_ok o rows_of) (map_ok r items_of)) (sym is) (ap (λ (o : Result W Fault). map_ok o items_of) same)
 
-  read_all : (rows : List Row) (r : Result W StoreFault) → IfOk r (λ w. rows ≡ map encode (items_of w)) → ((xs : List X) → rows ≡ map encode xs → AllByRecursion IsFormed xs → r ≢ Err NotAnOffice)
+  read_all : (rows : List Row) (r : Result W Fault) → IfOk r (λ w. rows ≡ map encode (items_of w)) → ((xs : List X) → rows ≡ map encode xs → AllByRecursion IsFormed xs → r ≢ Err NotAnOffice)
       → IfErr r IsOfRow → TellsAll encode IsFormed rows (map_ok r items_of)
   read_all rows (Ok w) read formed cause = read
   read_all rows (Err f) read formed cause = elim cause [ inl memory ↦ inl memory | inr named ↦ inr (named, λ xs all is. formed xs is all (ap Err named)) ]
 
-  pub all_told : (found : Result V StoreFault) (v : V) → found ≡ Ok v → (rows : List Row) → rows ≡ rows_of v → (r : Result W StoreFault) → IfOk r (λ w. rows ≡ map encode (items_of w))
+  pub all_told : (found : Result V Fault) (v : V) → found ≡ Ok v → (rows : List Row) → rows ≡ rows_of v → (r : Result W Fault) → IfOk r (λ w. rows ≡ map encode (items_of w))
       → ((xs : List X) → rows ≡ map encode xs → AllByRecursion IsFormed xs → r ≢ Err NotAnOffice) → IfErr r IsOfRow
       → IsTold (TellsAll encode IsFormed) (map_ok found rows_of) (map_ok r items_of)
   all_told found v is rows are r read formed cause =
-      subst (λ (o : Result V StoreFault). IsTold (TellsAll encode IsFormed) (map_ok o rows_of) (map_ok r items_of)) (sym is)
+      subst (λ (o : Result V Fault). IsTold (TellsAll encode IsFormed) (map_ok o rows_of) (map_ok r items_of)) (sym is)
       (subst (λ (l : List Row). TellsAll encode IsFormed l (map_ok r items_of)) are (read_all rows r read formed cause))
 
   -- a read of the tables, from its rows
-  pub list_read_told : (old new : State) (FoundRows : Tables → V → Type 0) (Found : Tables → W → Type 0) (found : Result V StoreFault) (r : Result W StoreFault) → IsRead old new found FoundRows
+  pub list_read_told : (old new : State) (FoundRows : Tables → V → Type 0) (Found : Tables → W → Type 0) (found : Result V Fault) (r : Result W Fault) → IsRead old new found FoundRows
       → IsTold (TellsAll encode IsFormed) (map_ok found rows_of) (map_ok r items_of)
       → ((t : Tables) → Shows old t → (v : V) → FoundRows t v → (xs : List X) × AllByRecursion IsFormed xs × (rows_of v ≡ map encode xs) × ((w : W) → map encode (items_of w) ≡ map encode xs → Found t w))
       → IsRead old new r Found
@@ -71,15 +71,15 @@ module _ {V W X : Type 0} (rows_of : V → List Row) (items_of : W → List X) (
       (λ t shows v rows w tells. let it = finds t shows v rows in it.3 w (sym tells ∙ it.2))
       (λ t shows v rows f. let it = finds t shows v rows in never v it.0 it.1 it.2 f)
     where
-      Tells : V → Result W StoreFault → Type 0
+      Tells : V → Result W Fault → Type 0
       Tells v s = TellsAll encode IsFormed (rows_of v) (map_ok s items_of)
 
-      each : (found : Result V StoreFault) (r : Result W StoreFault) → IsTold (TellsAll encode IsFormed) (map_ok found rows_of) (map_ok r items_of) → IsTold Tells found r
+      each : (found : Result V Fault) (r : Result W Fault) → IsTold (TellsAll encode IsFormed) (map_ok found rows_of) (map_ok r items_of) → IsTold Tells found r
       each (Ok v) r told = told
       each (Err e) (Ok w) told = absurd cc
       each (Err e) (Err f) told = let same : f ≡ e = cc in ap Err same
 
-      never : (v : V) (xs : List X) → AllByRecursion IsFormed xs → rows_of v ≡ map encode xs → (f : StoreFault) → Tells v (Err f) → f ≡ NoMemory
+      never : (v : V) (xs : List X) → AllByRecursion IsFormed xs → rows_of v ≡ map encode xs → (f : Fault) → Tells v (Err f) → f ≡ NoMemory
       never v xs all is f (inl memory) = memory
       never v xs all is f (inr unread) = absurd (unread.1 xs all is)
 
@@ -166,29 +166,29 @@ same_standings (x ∷ xs) (y ∷ ys) same =
     let rest : map cast_row xs ≡ map cast_row ys = cc in
     λ i. same_standing x y first i ∷ same_standings xs ys rest i
 
-pub votes_failed : {V W : Type 0} (rows_of : V → List Row) (items_of : W → List VoteRow) (found : Result V StoreFault) (r : Result W StoreFault) (f : StoreFault) → found ≡ Err f → r ≡ Err f
+pub votes_failed : {V W : Type 0} (rows_of : V → List Row) (items_of : W → List VoteRow) (found : Result V Fault) (r : Result W Fault) (f : Fault) → found ≡ Err f → r ≡ Err f
     → IsTold TellsVotes (map_ok found rows_of) (map_ok r items_of)
 votes_failed {V} {W} rows_of items_of found r f is same =
-    subst (λ (o : Result V StoreFault). IsTold TellsVotes (map_ok o rows_of) (map_ok r items_of)) (sym is) (ap (λ (o : Result W StoreFault). map_ok o items_of) same)
+    subst (λ (o : Result V Fault). IsTold TellsVotes (map_ok o rows_of) (map_ok r items_of)) (sym is) (ap (λ (o : Result W Fault). map_ok o items_of) same)
 
-pub votes_told : {V W : Type 0} (rows_of : V → List Row) (items_of : W → List VoteRow) (found : Result V StoreFault) (v : V) → found ≡ Ok v → (rows : List Row) → rows ≡ rows_of v → (r : Result W StoreFault)
+pub votes_told : {V W : Type 0} (rows_of : V → List Row) (items_of : W → List VoteRow) (found : Result V Fault) (v : V) → found ≡ Ok v → (rows : List Row) → rows ≡ rows_of v → (r : Result W Fault)
     → IfOk r (λ w. AreCastAs rows (items_of w)) → ((cast : List Cast) → rows ≡ map cast_row cast → AllByRecursion IsCastForm cast → r ≢ Err NotAnOffice) → IfErr r IsOfRow
     → IsTold TellsVotes (map_ok found rows_of) (map_ok r items_of)
 votes_told {V} {W} rows_of items_of found v is rows are r read formed cause =
-    subst (λ (o : Result V StoreFault). IsTold TellsVotes (map_ok o rows_of) (map_ok r items_of)) (sym is)
+    subst (λ (o : Result V Fault). IsTold TellsVotes (map_ok o rows_of) (map_ok r items_of)) (sym is)
     (subst (λ (l : List Row). TellsVotes l (map_ok r items_of)) are (each r read formed cause))
   where
-    each : (r : Result W StoreFault) → IfOk r (λ w. AreCastAs rows (items_of w)) → ((cast : List Cast) → rows ≡ map cast_row cast → AllByRecursion IsCastForm cast → r ≢ Err NotAnOffice) → IfErr r IsOfRow
+    each : (r : Result W Fault) → IfOk r (λ w. AreCastAs rows (items_of w)) → ((cast : List Cast) → rows ≡ map cast_row cast → AllByRecursion IsCastForm cast → r ≢ Err NotAnOffice) → IfErr r IsOfRow
         → TellsVotes rows (map_ok r items_of)
     each (Ok w) read formed cause = read
     each (Err f) read formed cause = elim cause [ inl memory ↦ inl memory | inr named ↦ inr (named, λ xs all is. formed xs is all (ap Err named)) ]
 
-abbrev pub TalliesAs : Result (List VoteRow) StoreFault → Result Tally StoreFault → Type 0
+abbrev pub TalliesAs : Result (List VoteRow) Fault → Result Tally Fault → Type 0
 TalliesAs (Ok votes) (Ok tally) = tally ≡ tally_of votes
 TalliesAs (Err f) (Err e) = e ≡ f
 TalliesAs _ _ = ⊥
 
-pub tally_told : (rows : Result (List Row) StoreFault) (votes : Result (List VoteRow) StoreFault) (r : Result Tally StoreFault) → IsTold TellsVotes rows votes → TalliesAs votes r → IsTold TellsTally rows r
+pub tally_told : (rows : Result (List Row) Fault) (votes : Result (List VoteRow) Fault) (r : Result Tally Fault) → IsTold TellsVotes rows votes → TalliesAs votes r → IsTold TellsTally rows r
 tally_told (Ok rows) (Ok votes) (Ok tally) told is = (votes, told, is)
 tally_told (Ok rows) (Ok votes) (Err f) told is = absurd is
 tally_told (Ok rows) (Err f) (Ok tally) told is = absurd is
@@ -197,6 +197,6 @@ tally_told (Err e) (Ok votes) r told is = absurd cc
 tally_told (Err e) (Err f) (Ok tally) told is = absurd is
 tally_told (Err e) (Err f) (Err d) told is = let same : f ≡ e = cc in ap Err (is ∙ same)
 
-pub tallies_failed : {W : Type 0} (items_of : W → List VoteRow) (votes : Result W StoreFault) (r : Result Tally StoreFault) (f : StoreFault) → votes ≡ Err f → r ≡ Err f → TalliesAs (map_ok votes items_of) r
+pub tallies_failed : {W : Type 0} (items_of : W → List VoteRow) (votes : Result W Fault) (r : Result Tally Fault) (f : Fault) → votes ≡ Err f → r ≡ Err f → TalliesAs (map_ok votes items_of) r
 tallies_failed {W} items_of votes r f is same =
-    subst (λ (o : Result W StoreFault). TalliesAs (map_ok o items_of) r) (sym is) (subst (λ (o : Result Tally StoreFault). TalliesAs (Err f) o) (sym same) refl)
+    subst (λ (o : Result W Fault). TalliesAs (map_ok o items_of) r) (sym is) (subst (λ (o : Result Tally Fault). TalliesAs (Err f) o) (sym same) refl)

@@ -12,7 +12,7 @@ use Rattle.sqlite_tied.specs.Compute.{everything}
 use Rattle.sqlite.specs.Listing.{understood}
 use Rattle.sqlite_rules.proofs.ListLemmas.{all_has, has_found}
 use Rattle.office_tables.specs.declared.row.UserRow.{UserRow}
-use Rattle.office_tables.specs.declared.fault.StoreFault.{StoreFault}
+use Rattle.review_policy.specs.declared.fault.Fault.{Fault}
 use Rattle.office_tables.specs.Tables.{Tables}
 use Rattle.office_rows.specs.Entries.{row_of}
 use Rattle.office_rows.specs.Faults.{FindsRow}
@@ -57,7 +57,7 @@ module _ (old new : State) (t : Tables) (shows : Shows old t) where
   found_formed name u at = all_has IsUser _ u shows.office.users.formed (has_found (is_named name) shows.office.users.entries u (sym (shows.office.users_are name) ∙ at)).0
 
   module _ (idle : old.in_transaction ≡ false) where
-    pub reads_named : (name : List ℕ) (r : Result (Option Row) StoreFault) → FindsRow USER_BY_NAME.now (Text name ∷ []) old new r
+    pub reads_named : (name : List ℕ) (r : Result (Option Row) Fault) → FindsRow USER_BY_NAME.now (Text name ∷ []) old new r
         → IfOk r (λ row. row ≡ option_map user_row (t.users name))
     reads_named name r h =
         let o = shows.office in
@@ -66,7 +66,7 @@ module _ (old new : State) (t : Tables) (shows : Shows old t) where
         let found = found_own user_row user_row is_named IsUser (old.now.trees 1) o.users name r it.0 in
         subst (λ u. IfOk r (λ row. row ≡ option_map user_row u)) (sym (o.users_are name)) found
 
-    row_shows : (digest : List ℕ) (r : Result (Option Row) StoreFault) → IfOk r (IsFound (shows_digest digest) user_row shows.office.users.entries) → IfOk r (IsRowShowing t digest)
+    row_shows : (digest : List ℕ) (r : Result (Option Row) Fault) → IfOk r (IsFound (shows_digest digest) user_row shows.office.users.entries) → IfOk r (IsRowShowing t digest)
     row_shows digest (Ok (Some row)) it =
         let at = shows.office.users_are it.0.name ∙ find_own is_named shows.office.users.entries shows.office.users.own_keys it.0.name it.0 it.1 ((bytes_eq-Decides it.0.name it.0.name).1 refl) in
         (it.0, (at, sym ((bytes_eq-Decides digest it.0.digest).0 it.2)), it.3)
@@ -74,7 +74,7 @@ module _ (old new : State) (t : Tables) (shows : Shows old t) where
         λ name u at same. none u (has_found (is_named name) shows.office.users.entries u (sym (shows.office.users_are name) ∙ at)).0 ((bytes_eq-Decides digest u.digest).1 (sym same))
     row_shows digest (Err f) it = it
 
-    pub reads_showing : (digest : List ℕ) (r : Result (Option Row) StoreFault) → FindsRow USER_BY_TOKEN.now (Blob digest ∷ []) old new r
+    pub reads_showing : (digest : List ℕ) (r : Result (Option Row) Fault) → FindsRow USER_BY_TOKEN.now (Blob digest ∷ []) old new r
         → IfOk r (IsRowShowing t digest)
     reads_showing digest r h =
         let o = shows.office in

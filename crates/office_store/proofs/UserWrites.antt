@@ -31,21 +31,21 @@ use Rattle.office_store.specs.Steps.{statement, IsStep, AreSteps}
 use Rattle.office_store.proofs.Columns.{column_is, text_is, rowid_is, one_is, or_false, cast_null, cast_int}
 use Rattle.office_store.proofs.Lenses.{is_users, with_users}
 
-abbrev name_of : UserRow → List ℕ
+abbrev pub name_of : UserRow → List ℕ
 name_of u = u.name
 
-abbrev insert_terms : List Term
+abbrev pub insert_terms : List Term
 insert_terms = lit Null ∷ col 0 0 ∷ col 0 1 ∷ col 0 2 ∷ col 0 3 ∷ []
 
-insert_means : Means office_schema INSERT_USER.now (Insert 1 (Values insert_terms 5))
+pub insert_means : Means office_schema INSERT_USER.now (Insert 1 (Values insert_terms 5))
 unfolding understood everything
 insert_means = record { is = refl; plain = (refl, refl); unlisted = refl }
 
 -- the columns of the user's row, where there is one
-abbrev put_columns : List Term
+abbrev pub put_columns : List Term
 put_columns = col 1 0 ∷ col 1 1 ∷ col 0 1 ∷ col 0 2 ∷ col 0 3 ∷ []
 
-put_means : Means office_schema PUT_USER.now
+pub put_means : Means office_schema PUT_USER.now
     (InsertOr 1 Abort (Values insert_terms 5) (record { target = Some (1 ∷ []); update = Some (record { lets = []; body = plain_query (col 1 0 ∷ put_columns) (column_is 0 4 ∷ []) 1 }) } ∷ []))
 unfolding understood everything
 put_means = record { is = refl; plain = (refl, refl); unlisted = refl }
@@ -56,13 +56,13 @@ put_user u = record { sql = PUT_USER.now; params = user_row u }
 abbrev pub insert_user : UserRow → Statement
 insert_user u = record { sql = INSERT_USER.now; params = user_row u }
 
-cast_user : (u : UserRow) → cast_row (users_table 1) (Null ∷ user_row u) ≡ Null ∷ user_row u
+pub cast_user : (u : UserRow) → cast_row (users_table 1) (Null ∷ user_row u) ≡ Null ∷ user_row u
 cast_user u = rw (cast_null, cast_int (pos u.roles))
 
-cast_put : (id : ℤ) (u : UserRow) → cast_row (users_table 1) (row_of user_row (id, u)) ≡ row_of user_row (id, u)
+pub cast_put : (id : ℤ) (u : UserRow) → cast_row (users_table 1) (row_of user_row (id, u)) ≡ row_of user_row (id, u)
 cast_put id u = rw (cast_int id, cast_int (pos u.roles))
 
-user_agrees : (u : UserRow) (id : ℤ) (k : ℤ × UserRow) → conflicts (Some (1 ∷ [])) office_schema.indexes (users_table 1) (row_of user_row (id, u)) (row_of user_row k) ≡ bytes_eq u.name k.1.name
+pub user_agrees : (u : UserRow) (id : ℤ) (k : ℤ × UserRow) → conflicts (Some (1 ∷ [])) office_schema.indexes (users_table 1) (row_of user_row (id, u)) (row_of user_row k) ≡ bytes_eq u.name k.1.name
 unfolding first_key
 user_agrees u id k = or_false _ ∙ one_is _ _ (text_is k.1.name u.name)
 

@@ -27,7 +27,7 @@ use Rattle.sqlite_rules.proofs.ListLemmas.{all_has, all_from, has_filtered, has_
 use Rattle.review_policy.specs.declared.ask.ProfileName.{ProfileName}
 use Rattle.review_policy.specs.declared.revision.VoteRow.{VoteRow}
 use Rattle.office_tables.specs.declared.row.UserRow.{UserRow}
-use Rattle.office_tables.specs.declared.fault.StoreFault.{StoreFault}
+use Rattle.review_policy.specs.declared.fault.Fault.{Fault}
 use Rattle.office_tables.specs.Tables.{Tables, is_profile}
 use Rattle.office_tables.specs.Lists.{name_cmp, standing_vote, IsStanding, AreStanding}
 use Rattle.office_rows.specs.Entries.{HaveOwnKeys, row_of}
@@ -277,7 +277,7 @@ module _ (old new : State) (t : Tables) (shows : Shows old t) where
             record { voter = formed.voter; roles = roles_formed (t.users e.0.voter) (found_formed old new t shows e.0.voter) }));
       }
 
-  pub reads_votes : (idle : old.in_transaction ≡ false) {X : Type 0} (items : X → List Row) (p : ProfileName) (n : ℕ) (r : Result X StoreFault) → IfOk r (λ x. Shown VOTES_ON.now (revision_params p n) old new (items x))
+  pub reads_votes : (idle : old.in_transaction ≡ false) {X : Type 0} (items : X → List Row) (p : ProfileName) (n : ℕ) (r : Result X Fault) → IfOk r (λ x. Shown VOTES_ON.now (revision_params p n) old new (items x))
       → IfErr r (IsFaultOf VOTES_ON.now (revision_params p n) old new) → IsReadOf new t (λ x. AreVoteRows t p n (items x)) r
   reads_votes idle items p n =
       let o = shows.office in

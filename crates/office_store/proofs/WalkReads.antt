@@ -24,7 +24,7 @@ use Rattle.sqlite_rules.specs.Lists.{Has}
 use Rattle.sqlite_rules.proofs.ListLemmas.{all_has}
 use Rattle.review_policy.specs.Words.{is_word}
 use Rattle.office_tables.specs.declared.listed.ListedRevision.{ListedRevision}
-use Rattle.office_tables.specs.declared.fault.StoreFault.{StoreFault}
+use Rattle.review_policy.specs.declared.fault.Fault.{Fault}
 use Rattle.office_tables.specs.Tables.{Tables}
 use Rattle.office_tables.specs.Lists.{name_cmp, IsListed}
 use Rattle.office_rows.specs.Entries.{row_of}
@@ -141,7 +141,7 @@ module _ (old new : State) (t : Tables) (shows : Shows old t) where
   abbrev IsFirstAbove : List ℕ → List ℕ → Option Row → Type 0
   IsFirstAbove team text = IsFirstRow revision_row shown key (passes team text) shown_columns above by_name_state_and_number (above_params team text) entries
 
-  row_above : (team text : List ℕ) (r : Result (Option Row) StoreFault) → IfOk r (IsFirstAbove team text) → IfOk r (IsRowAbove t team text)
+  row_above : (team text : List ℕ) (r : Result (Option Row) Fault) → IfOk r (IsFirstAbove team text) → IfOk r (IsRowAbove t team text)
   row_above team text (Ok (Some row)) it =
       let e = it.0 in
       let both = both_true (is_of team e) (is_above text e) it.1.passed in (
@@ -160,7 +160,7 @@ module _ (old new : State) (t : Tables) (shows : Shows old t) where
   row_above team text (Ok None) none = λ l listed less. let p = passing team text l listed less in none p.entry p.has p.passed
   row_above team text (Err f) it = it
 
-  pub reads_above : (idle : old.in_transaction ≡ false) (team text : List ℕ) (r : Result (Option Row) StoreFault) → FindsRow LISTED_ABOVE.now (above_params team text) old new r
+  pub reads_above : (idle : old.in_transaction ≡ false) (team text : List ℕ) (r : Result (Option Row) Fault) → FindsRow LISTED_ABOVE.now (above_params team text) old new r
       → IfOk r (IsRowAbove t team text)
   reads_above idle team text r h =
       let o = shows.office in

@@ -1,8 +1,8 @@
 -- What the calls of a store leave of a connection: a read, and a write.
 use Rattle.std.specs.Prelude.{◌≡◌, ◌≢◌, false, Result, Err, IfOk, IfErr, OnOk, OnErr, IsTrue}
 use Rattle.sqlite.specs.State.{State, HasCleanDisk, Survives}
-use Rattle.office_tables.specs.declared.fault.StoreFault.{StoreFault}
-use Rattle.office_tables.specs.declared.fault.StoreFault.TheVariants.{NotAnOffice}
+use Rattle.review_policy.specs.declared.fault.Fault.{Fault}
+use Rattle.review_policy.specs.declared.fault.Fault.TheVariants.{NotAnOffice}
 use Rattle.office_tables.specs.Tables.{Tables}
 use Rattle.office_rows.specs.Causes.{HasFailed}
 use Rattle.office_rows.specs.Queries.{IsAsItWas}
@@ -10,7 +10,7 @@ use Rattle.office_store.specs.Shown.{IsIdle, Shows, ShowsIfOpen, AreOffice, Leav
 use Rattle.office_store.specs.Shown.{LeavesNoMore, MayLeave}
 
 -- what each call leaves, whatever the connection shows
-pub record Leaves {A : Type 0} (old new : State) (result : Result A StoreFault) : Type 0 where
+pub record Leaves {A : Type 0} (old new : State) (result : Result A Fault) : Type 0 where
   -- no transaction is open, and no limit on steps is set
   pub idle : IsIdle new
   -- a disk that is clean was clean before
@@ -26,7 +26,7 @@ pub record Leaves {A : Type 0} (old new : State) (result : Result A StoreFault) 
   pub settled : (t : Tables) → Shows new t → LeavesOnly new t
 
 -- a read, whose answer is `Found` of the tables
-pub record IsRead {A : Type 0} (old new : State) (result : Result A StoreFault)
+pub record IsRead {A : Type 0} (old new : State) (result : Result A Fault)
     (Found : Tables → A → Type 0) : Type 0 where
   pub leaves : Leaves old new result
   -- the answer is that of the tables that the connection shows
@@ -41,7 +41,7 @@ pub record IsRead {A : Type 0} (old new : State) (result : Result A StoreFault)
   pub crash : LeavesNoMore old new
 
 -- a write, which makes the tables `u` of the tables `t` where `Makes t u`
-pub record IsWrite {A : Type 0} (old new : State) (result : Result A StoreFault)
+pub record IsWrite {A : Type 0} (old new : State) (result : Result A Fault)
     (Makes : Tables → Tables → Type 0) : Type 0 where
   pub leaves : Leaves old new result
   -- where it is done, the connection shows the tables that it makes of those that were shown

@@ -1,6 +1,6 @@
 -- The words of why no office is founded, why none is opened, and why one isn't migrated.
 use Rattle.std.specs.Prelude.{ℕ, List, codes}
-use Rattle.office_tables.specs.Faults.{store_fault_word}
+use Rattle.review_policy.specs.WordTables.{fault_word}
 use Rattle.office_store.specs.declared.fault.FoundingFault.{FoundingFault}
 use Rattle.office_store.specs.declared.fault.FoundingFault.TheVariants as founding
 use Rattle.office_store.specs.declared.fault.MigrationFault.{MigrationFault}
@@ -10,13 +10,13 @@ use Rattle.office_store.specs.declared.fault.OpeningFault.TheVariants as opening
 
 abbrev pub founding_fault_word : FoundingFault → List ℕ
 founding_fault_word founding.AlreadyFounded = codes "already-founded"
-founding_fault_word (founding.Store fault) = store_fault_word fault
+founding_fault_word (founding.Store fault) = fault_word fault
 
 abbrev pub opening_fault_word : OpeningFault → List ℕ
 opening_fault_word opening.OldSchema = codes "old-schema"
 opening_fault_word opening.NoIndex = codes "no-index"
-opening_fault_word (opening.Store fault) = store_fault_word fault
+opening_fault_word (opening.Store fault) = fault_word fault
 
 abbrev pub migration_fault_word : MigrationFault → List ℕ
 migration_fault_word migration.AlreadyMigrated = codes "already-migrated"
-migration_fault_word (migration.Store fault) = store_fault_word fault
+migration_fault_word (migration.Store fault) = fault_word fault

@@ -9,8 +9,8 @@ use Rattle.sqlite.specs.Schema.{Schema}
 use Rattle.sqlite.specs.State.{State}
 use Rattle.sqlite.specs.Table.{Table}
 use Rattle.sqlite_schema.specs.Names.{table_named, column_named, index_named}
-use Rattle.office_tables.specs.declared.fault.StoreFault.{StoreFault}
-use Rattle.office_tables.specs.declared.fault.StoreFault.TheVariants.{NotAnOffice}
+use Rattle.review_policy.specs.declared.fault.Fault.{Fault}
+use Rattle.review_policy.specs.declared.fault.Fault.TheVariants.{NotAnOffice}
 use Rattle.office_rows.specs.Causes.{HasFailed}
 use Rattle.office_rows.specs.Faults.{FindsRow}
 use Rattle.office_rows.specs.Told.{TellsOnly, TellsRow}
@@ -106,7 +106,7 @@ HasCaps form = AreCaps form.listed
 
 -- what the row of the office says: the number of its schema and its listed capabilities, or that it
 -- isn't of its form
-abbrev pub TellsNumber : Option Row → Result Form StoreFault → Type 0
+abbrev pub TellsNumber : Option Row → Result Form Fault → Type 0
 TellsNumber = TellsOnly numbered_row HasCaps
 
 abbrev pub old_form : ℕ → Form
@@ -136,19 +136,19 @@ listed_where listed (Err why) = Err why
 
 -- what is answered of the form of the office's row: an office of schema 1 is old, whatever else
 -- there is
-abbrev pub opening_of : Result (Unit {0}) OpeningFault → Result Form StoreFault
+abbrev pub opening_of : Result (Unit {0}) OpeningFault → Result Form Fault
     → Result ℕ OpeningFault
 opening_of added (Err f) = Err (Store f)
 opening_of added (Ok form) = if form.is_old then Err OldSchema else listed_where form.listed added
 
 -- the result is that of the row which the query found, or the fault that SQLite named
 pub record TellsOpening (old new : State) (result : Result ℕ OpeningFault) : Type 0 where
-  pub form : Result Form StoreFault
+  pub form : Result Form Fault
   pub row : TellsRow OFFICE_ROW.now [] old new TellsNumber form
   pub is : result ≡ opening_of (added_by old.now.schema) form
 
 -- the same result, where an office that isn't opened counts as none
-abbrev pub as_store : {A : Type 0} → Result A OpeningFault → Result A StoreFault
+abbrev pub as_store : {A : Type 0} → Result A OpeningFault → Result A Fault
 as_store (Ok a) = Ok a
 as_store (Err OldSchema) = Err NotAnOffice
 as_store (Err NoIndex) = Err NotAnOffice

@@ -14,7 +14,7 @@ use Rattle.office_tables.specs.declared.listed.ListedRevision.{ListedRevision}
 use Rattle.office_tables.specs.Tables.{Tables, Vote}
 use Rattle.office_tables.specs.Lists.{AreAuthors, IsListed, AreRevisionsOf, AreStanding, name_cmp}
 use Rattle.office_tables.specs.Lists.{standing_vote, tally_of}
-use Rattle.office_tables.specs.declared.fault.StoreFault.{StoreFault}
+use Rattle.review_policy.specs.declared.fault.Fault.{Fault}
 use Rattle.office_tables.specs.declared.listed.Tally.{Tally}
 use Rattle.office_rows.specs.Told.{IsUnread}
 use Rattle.office_store.specs.Entries.{state_number, bit}
@@ -141,12 +141,12 @@ pub record AreCastAs (rows : List Row) (votes : List VoteRow) : Type 0 where
   pub stand : votes ≡ map standing_of cast
 
 -- the votes are told of the rows
-abbrev pub TellsVotes : List Row → Result (List VoteRow) StoreFault → Type 0
+abbrev pub TellsVotes : List Row → Result (List VoteRow) Fault → Type 0
 TellsVotes rows (Ok votes) = AreCastAs rows votes
 TellsVotes rows (Err f) = IsUnread (map cast_row) (AllByRecursion IsCastForm) rows f
 
 -- the tally is told of such votes
-abbrev pub TellsTally : List Row → Result Tally StoreFault → Type 0
+abbrev pub TellsTally : List Row → Result Tally Fault → Type 0
 TellsTally rows (Ok tally) =
     (votes : List VoteRow) × TellsVotes rows (Ok votes) × (tally ≡ tally_of votes)
 TellsTally rows (Err f) = IsUnread (map cast_row) (AllByRecursion IsCastForm) rows f

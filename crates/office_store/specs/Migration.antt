@@ -9,8 +9,8 @@ use Rattle.sqlite.specs.Held.{Held, state}
 use Rattle.sqlite.specs.State.{State, HasCleanDisk, Survives}
 use Rattle.sqlite_trees.specs.Tree.{Trees}
 use Rattle.review_policy.specs.declared.ask.ProfileName.{ProfileName}
-use Rattle.office_tables.specs.declared.fault.StoreFault.{StoreFault}
-use Rattle.office_tables.specs.declared.fault.StoreFault.TheVariants.{NotAnOffice}
+use Rattle.review_policy.specs.declared.fault.Fault.{Fault}
+use Rattle.review_policy.specs.declared.fault.Fault.TheVariants.{NotAnOffice}
 use Rattle.office_tables.specs.Tables.{Tables}
 use Rattle.office_rows.specs.Queries.{IsAsItWas}
 use Rattle.office_rows.specs.Statements.{Statement, HasMet}
@@ -109,7 +109,7 @@ WasOld {S} g old =
 
 -- the row of the office was found, with schema 1, and then the transaction of the statements met
 -- this fault
-pub record MeetsInMigration {S : Type 0} (g : Ghosts S) (old new : Held S) (f : StoreFault)
+pub record MeetsInMigration {S : Type 0} (g : Ghosts S) (old new : Held S) (f : Fault)
     : Type 0 where
   pub mid : Held S
   pub listed : ℕ

@@ -14,8 +14,7 @@ ghost use Rattle.office_store.specs.Shown.{IsIdle};
 use crate::bind::{of_author, of_profile};
 use crate::column::word_at;
 use office_rows::{all_rows, first_row, is_there};
-use office_tables::StoreFault;
-use review_policy::{ProfileName, Word};
+use review_policy::{Fault, ProfileName, Word};
 use sqlite::{Alter, Connection, Row};
 use std::alloc::Global;
 
@@ -30,7 +29,7 @@ fn revision_by<S: Alter>(
     conn: &mut Connection<S>,
     profile: &ProfileName,
     author: &Word,
-) -> Result<Option<Row>, StoreFault>
+) -> Result<Option<Row>, Fault>
     requires { IsIdle (state S.Store conn.old) }
     ensures read { Reads S.Store conn.old conn.new result
         (λ t row. is_some row ≡ true ↔ IsAuthor t profile.now author.now) }
@@ -45,7 +44,7 @@ pub fn is_author<S: Alter>(
     conn: &mut Connection<S>,
     profile: &ProfileName,
     author: &Word,
-) -> Result<bool, StoreFault>
+) -> Result<bool, Fault>
     requires { IsIdle (state S.Store conn.old) }
     ensures read { Reads S.Store conn.old conn.new result
         (λ t is_author. is_author ≡ true ↔ IsAuthor t profile.now author.now) }
@@ -56,10 +55,7 @@ pub fn is_author<S: Alter>(
 }
 
 // The rows of the authors of a profile.
-fn author_rows<S: Alter>(
-    conn: &mut Connection<S>,
-    profile: &ProfileName,
-) -> Result<Vec<Row>, StoreFault>
+fn author_rows<S: Alter>(conn: &mut Connection<S>, profile: &ProfileName) -> Result<Vec<Row>, Fault>
     requires { IsIdle (state S.Store conn.old) }
     ensures read { Reads S.Store conn.old conn.new result
         (λ t rows. AreAuthorRows t profile.now rows.items) }
@@ -70,34 +66,34 @@ fn author_rows<S: Alter>(
 }
 
 // The name of a row of one.
-fn read_name(alloc: Global, row: &Row) -> Result<Word, StoreFault>
+fn read_name(alloc: Global, row: &Row) -> Result<Word, Fault>
     ensures name { IfOk result (λ name. row.now ≡ name_row name) }
     ensures formed { AcceptsFormed name_row IsWord row.now result }
     ensures cause { IfErr result IsOfRow }
 {
     if row.column_count() != 1 {
-        return Err(StoreFault::NotAnOffice);
+        return Err(Fault::NotAnOffice);
     }
     word_at(alloc, row, 0)
 }
 
 // The names of rows of one each.
-fn read_names(alloc: Global, rows: &[Row]) -> Result<Vec<Word>, StoreFault>
+fn read_names(alloc: Global, rows: &[Row]) -> Result<Vec<Word>, Fault>
     ensures names { IfOk result (λ names. rows.now ≡ map name_row names.items) }
     ensures formed { (names : List (List ℕ)) → rows.now ≡ map name_row names
-        → AllByRecursion IsWord names → result ≢ Err StoreFault.NotAnOffice }
+        → AllByRecursion IsWord names → result ≢ Err Fault.NotAnOffice }
     ensures cause { IfErr result IsOfRow }
 {
     let mut names = Vec::new(alloc);
     for row in rows {
         let name = read_name(alloc, row)?;
-        names.push(name).map_err(|_| StoreFault::NoMemory)?;
+        names.push(name).map_err(|_| Fault::NoMemory)?;
     }
     Ok(names)
 }
 
 // The names of the rows that a query found.
-fn names_of(alloc: Global, found: Result<Vec<Row>, StoreFault>) -> Result<Vec<Word>, StoreFault>
+fn names_of(alloc: Global, found: Result<Vec<Row>, Fault>) -> Result<Vec<Word>, Fault>
     ensures { IsTold (TellsAll name_row IsWord)
         (map_ok found (λ rows. rows.items)) (map_ok result (λ names. names.items)) }
 {
@@ -111,7 +107,7 @@ pub fn authors<S: Alter>(
     alloc: Global,
     conn: &mut Connection<S>,
     profile: &ProfileName,
-) -> Result<Vec<Word>, StoreFault>
+) -> Result<Vec<Word>, Fault>
     requires { IsIdle (state S.Store conn.old) }
     ensures read { Reads S.Store conn.old conn.new result
         (λ t names. AreAuthors t profile.now names.items) }

@@ -17,8 +17,7 @@ use crate::bind::{of_baseline, of_word};
 use crate::column::{number_at, word_at};
 use crate::write::write_one;
 use office_rows::first_row;
-use office_tables::StoreFault;
-use review_policy::{ProfileName, Word};
+use review_policy::{Fault, ProfileName, Word};
 use sqlite::{Alter, Connection, Row};
 use std::alloc::Global;
 
@@ -36,15 +35,15 @@ pub struct Adopted {
 }
 
 // The revision that a row names.
-fn read_adopted(alloc: Global, row: &Row) -> Result<Adopted, StoreFault>
+fn read_adopted(alloc: Global, row: &Row) -> Result<Adopted, Fault>
     ensures adopted { IfOk result (λ adopted. row.now ≡ row_of_adopted adopted) }
     ensures formed { (team : List ℕ) (adopted : AdoptedValue)
         → IsBaseline (team, baseline_of adopted) → row.now ≡ row_of_adopted adopted
-        → result ≢ Err StoreFault.NotAnOffice }
+        → result ≢ Err Fault.NotAnOffice }
     ensures cause { IfErr result IsOfRow }
 {
     if row.column_count() != 2 {
-        return Err(StoreFault::NotAnOffice);
+        return Err(Fault::NotAnOffice);
     }
     Ok(Adopted {
         profile: word_at(alloc, row, 0)?,
@@ -53,10 +52,7 @@ fn read_adopted(alloc: Global, row: &Row) -> Result<Adopted, StoreFault>
 }
 
 // The revision of the row that a query found, if it found one.
-fn adopted_of(
-    alloc: Global,
-    found: Result<Option<Row>, StoreFault>,
-) -> Result<Option<Adopted>, StoreFault>
+fn adopted_of(alloc: Global, found: Result<Option<Row>, Fault>) -> Result<Option<Adopted>, Fault>
     ensures { IsTold (TellsOne row_of_adopted IsAdopted) found result }
 {
     match found? {
@@ -66,7 +62,7 @@ fn adopted_of(
 }
 
 // The row of the baseline of a team.
-fn row_of<S: Alter>(conn: &mut Connection<S>, team: &Word) -> Result<Option<Row>, StoreFault>
+fn row_of<S: Alter>(conn: &mut Connection<S>, team: &Word) -> Result<Option<Row>, Fault>
     requires { IsIdle (state S.Store conn.old) }
     ensures read { Reads S.Store conn.old conn.new result
         (λ t row. row ≡ option_map adopted_row (t.baselines team.now)) }
@@ -81,7 +77,7 @@ pub fn baseline<S: Alter>(
     alloc: Global,
     conn: &mut Connection<S>,
     team: &Word,
-) -> Result<Option<Adopted>, StoreFault>
+) -> Result<Option<Adopted>, Fault>
     requires { IsIdle (state S.Store conn.old) }
     ensures read { Reads S.Store conn.old conn.new result
         (λ t adopted. option_map baseline_of adopted ≡ t.baselines team.now) }
@@ -96,7 +92,7 @@ pub fn put_baseline<S: Alter>(
     conn: &mut Connection<S>,
     profile: &ProfileName,
     number: u32,
-) -> Result<(), StoreFault>
+) -> Result<(), Fault>
     requires { IsIdle (state S.Store conn.old) }
     ensures write { Writes S.Store conn.old conn.new result
         (Into (with_baseline profile.now number)) }

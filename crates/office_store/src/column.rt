@@ -13,107 +13,114 @@ ghost use Rattle.office_store.specs.Entries.{bit, state_number};
 
 use cap_sets::Caps;
 use office_rows::fault_of_error;
-use office_tables::StoreFault;
-use review_policy::{Roles, State, Text, Word, WordFault};
+use review_policy::{Fault, Roles, State, Text, Word, WordFault};
 use sqlite::Row;
 use std::alloc::Global;
 
 /// The text of a column.
-pub(crate) fn text_at(row: &Row, at: usize) -> Result<String, StoreFault>
+pub(crate) fn text_at(row: &Row, at: usize) -> Result<String, Fault>
     ensures text { IfOk result (λ text.
         (at < length row.now) × (column row.now at ≡ SqlText (string_bytes text))) }
     ensures formed { (text : List ℕ) → at < length row.now
         → column row.now at ≡ SqlText text → IsUtf8 text
-        → result ≢ Err StoreFault.NotAnOffice }
+        → result ≢ Err Fault.NotAnOffice }
     ensures cause { IfErr result IsOfRow }
 {
     row.get(at).map_err(fault_of_error)
 }
 
-/// The word of a column.
+/// The word of a column of this number, from 0.
+///
+/// # Errors
+///
+/// `NotAnOffice`: the column isn't there, or has something else. `NoMemory`.
 #[tactic(auto, using(crate::proofs::Columns::word_is_utf8))]
-pub(crate) fn word_at(alloc: Global, row: &Row, at: usize) -> Result<Word, StoreFault>
+pub fn word_at(alloc: Global, row: &Row, at: usize) -> Result<Word, Fault>
     ensures word { IfOk result (λ word.
         (at < length row.now) × (column row.now at ≡ SqlText word)) }
     ensures formed { (word : List ℕ) → at < length row.now
         → column row.now at ≡ SqlText word → is_word word ≡ true
-        → result ≢ Err StoreFault.NotAnOffice }
+        → result ≢ Err Fault.NotAnOffice }
     ensures cause { IfErr result IsOfRow }
 {
     let text = text_at(row, at)?;
     match Word::new(alloc, text.as_str()) {
         Ok(word) => Ok(word),
-        Err(WordFault::NotAWord) => Err(StoreFault::NotAnOffice),
-        Err(WordFault::NoMemory) => Err(StoreFault::NoMemory),
+        Err(WordFault::NotAWord) => Err(Fault::NotAnOffice),
+        Err(WordFault::NoMemory) => Err(Fault::NoMemory),
     }
 }
 
-/// The number of a column.
-pub(crate) fn number_at(row: &Row, at: usize) -> Result<u32, StoreFault>
+/// The number in a column of this number, from 0.
+///
+/// # Errors
+///
+/// `NotAnOffice`: the column isn't there, or has something else. `NoMemory`.
+pub fn number_at(row: &Row, at: usize) -> Result<u32, Fault>
     ensures number { IfOk result (λ number.
         (at < length row.now) × (column row.now at ≡ Int (pos number))) }
     ensures formed { (number : ℕ) → at < length row.now
         → column row.now at ≡ Int (pos number) → number < 2 ^ 32
-        → result ≢ Err StoreFault.NotAnOffice }
+        → result ≢ Err Fault.NotAnOffice }
     ensures cause { IfErr result IsOfRow }
 {
     row.get(at).map_err(fault_of_error)
 }
 
 /// The truth value of a column, which is 0 or 1.
-pub(crate) fn flag_at(row: &Row, at: usize) -> Result<bool, StoreFault>
+pub(crate) fn flag_at(row: &Row, at: usize) -> Result<bool, Fault>
     ensures flag { IfOk result (λ flag.
         (at < length row.now) × (column row.now at ≡ Int (bit flag))) }
     ensures formed { (flag : Bool) → at < length row.now → column row.now at ≡ Int (bit flag)
-        → result ≢ Err StoreFault.NotAnOffice }
+        → result ≢ Err Fault.NotAnOffice }
     ensures cause { IfErr result IsOfRow }
 {
     match number_at(row, at)? {
         0 => Ok(false),
         1 => Ok(true),
-        _ => Err(StoreFault::NotAnOffice),
+        _ => Err(Fault::NotAnOffice),
     }
 }
 
 // The bits of a column.
-fn bits_at(row: &Row, at: usize) -> Result<u64, StoreFault>
+fn bits_at(row: &Row, at: usize) -> Result<u64, Fault>
     ensures bits { IfOk result (λ bits.
         (at < length row.now) × (column row.now at ≡ Int (pos bits))) }
     ensures formed { (bits : ℕ) → at < length row.now → column row.now at ≡ Int (pos bits)
-        → result ≢ Err StoreFault.NotAnOffice }
+        → result ≢ Err Fault.NotAnOffice }
     ensures cause { IfErr result IsOfRow }
 {
     row.get(at).map_err(fault_of_error)
 }
 
 /// The capabilities of a column.
-pub(crate) fn caps_at(row: &Row, at: usize) -> Result<Caps, StoreFault>
+pub(crate) fn caps_at(row: &Row, at: usize) -> Result<Caps, Fault>
     ensures caps { IfOk result (λ caps.
         (at < length row.now) × (column row.now at ≡ Int (pos caps)) × (caps < 2 ^ 41)) }
     ensures formed { (caps : ℕ) → at < length row.now
         → column row.now at ≡ Int (pos caps) → caps < 2 ^ 41
-        → result ≢ Err StoreFault.NotAnOffice }
+        → result ≢ Err Fault.NotAnOffice }
     ensures cause { IfErr result IsOfRow }
 {
     match Caps::from_bits(bits_at(row, at)?) {
         Some(caps) => Ok(caps),
-        None => Err(StoreFault::NotAnOffice),
+        None => Err(Fault::NotAnOffice),
     }
 }
 
 /// The digest of a column.
-pub(crate) fn digest_at(row: &Row, at: usize) -> Result<[u8; 32], StoreFault>
+pub(crate) fn digest_at(row: &Row, at: usize) -> Result<[u8; 32], Fault>
     ensures digest { IfOk result (λ digest.
         (at < length row.now) × (column row.now at ≡ Blob digest)) }
     ensures formed { (digest : List ℕ) → at < length row.now
         → column row.now at ≡ Blob digest → length digest ≡ 32
-        → result ≢ Err StoreFault.NotAnOffice }
+        → result ≢ Err Fault.NotAnOffice }
     ensures cause { IfErr result IsOfRow }
 {
     let bytes: Vec<u8> = row.get(at).map_err(fault_of_error)?;
     match <[u8; 32]>::try_from(bytes.as_slice()) {
         Ok(digest) => Ok(digest),
-        Err(_) => Err(StoreFault::NotAnOffice),
+        Err(_) => Err(Fault::NotAnOffice),
     }
 }
 
@@ -126,31 +133,31 @@ pub(crate) fn bytes_of(digest: &[u8; 32]) -> &[u8]
 }
 
 /// The roles of a column.
-pub(crate) fn roles_at(row: &Row, at: usize) -> Result<Roles, StoreFault>
+pub(crate) fn roles_at(row: &Row, at: usize) -> Result<Roles, Fault>
     ensures roles { IfOk result (λ roles.
         (at < length row.now) × (column row.now at ≡ Int (pos roles))) }
     ensures formed { (roles : ℕ) → at < length row.now
         → column row.now at ≡ Int (pos roles) → roles < 64
-        → result ≢ Err StoreFault.NotAnOffice }
+        → result ≢ Err Fault.NotAnOffice }
     ensures cause { IfErr result IsOfRow }
 {
     let bits = number_at(row, at)?;
     if bits >= 64 {
-        return Err(StoreFault::NotAnOffice);
+        return Err(Fault::NotAnOffice);
     }
     match Roles::from_bits(bits as u8) {
         Some(roles) => Ok(roles),
-        None => Err(StoreFault::NotAnOffice),
+        None => Err(Fault::NotAnOffice),
     }
 }
 
 /// The state of a column.
-pub(crate) fn state_at(row: &Row, at: usize) -> Result<State, StoreFault>
+pub(crate) fn state_at(row: &Row, at: usize) -> Result<State, Fault>
     ensures state { IfOk result (λ state.
         (at < length row.now) × (column row.now at ≡ Int (pos (state_number state)))) }
     ensures formed { (state : StateValue) → at < length row.now
         → column row.now at ≡ Int (pos (state_number state))
-        → result ≢ Err StoreFault.NotAnOffice }
+        → result ≢ Err Fault.NotAnOffice }
     ensures cause { IfErr result IsOfRow }
 {
     match number_at(row, at)? {
@@ -159,6 +166,6 @@ pub(crate) fn state_at(row: &Row, at: usize) -> Result<State, StoreFault>
         2 => Ok(State::Issued),
         3 => Ok(State::Replaced),
         4 => Ok(State::Withdrawn),
-        _ => Err(StoreFault::NotAnOffice),
+        _ => Err(Fault::NotAnOffice),
     }
 }

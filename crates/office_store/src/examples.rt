@@ -11,8 +11,8 @@ ghost use Rattle.review_policy.specs.declared.ask.ProfileName.{ProfileName};
 ghost use Rattle.review_policy.specs.declared.revision.State.TheVariants as states;
 ghost use Rattle.office_tables.specs.Tables.{Tables};
 ghost use Rattle.office_store.specs.Entries.{state_number};
-ghost use Rattle.office_tables.specs.declared.fault.StoreFault.{StoreFault};
-ghost use Rattle.office_tables.specs.declared.fault.StoreFault.TheVariants.{NotAnOffice, Full};
+ghost use Rattle.review_policy.specs.declared.fault.Fault.{Fault};
+ghost use Rattle.review_policy.specs.declared.fault.Fault.TheVariants.{NotAnOffice, Full};
 ghost use Rattle.office_store.specs.declared.fault.FoundingFault.TheVariants as founding;
 ghost use Rattle.office_store.specs.declared.fault.MigrationFault.TheVariants as migration;
 ghost use Rattle.office_store.specs.declared.fault.OpeningFault.TheVariants as opening;
@@ -126,7 +126,7 @@ pub fn examples_of_openings()
     ensures without_indexes { opening_of (added_by tables_schema) (Ok (new_form 5))
         ≡ Err opening.NoIndex }
     ensures whole { opening_of (added_by office_schema) (Ok (new_form 5)) ≡ Ok 5 }
-    ensures unread { (fault : StoreFault) → opening_of (added_by office_schema) (Err fault)
+    ensures unread { (fault : Fault) → opening_of (added_by office_schema) (Err fault)
         ≡ Err (opening.Store fault) }
     ensures old_row { numbered_row (old_form 5) ≡ Int (pos 1) ∷ Int (pos 1) ∷ Int (pos 5) ∷ [] }
     ensures new_row { numbered_row (new_form 5) ≡ Int (pos 1) ∷ Int (pos 2) ∷ Int (pos 5) ∷ [] }

@@ -1,6 +1,6 @@
 //! Why no office is founded, why none is opened, and why one isn't migrated.
 
-use office_tables::StoreFault;
+use review_policy::Fault;
 use std::error::Error;
 use std::fmt;
 
@@ -10,7 +10,7 @@ pub enum FoundingFault {
     /// One of the tables of an office is there.
     AlreadyFounded,
     /// The store failed, or something else is there: `NotAnOffice`.
-    Store(StoreFault),
+    Store(Fault),
 }
 
 impl fmt::Display for FoundingFault {
@@ -38,7 +38,7 @@ pub enum OpeningFault {
     /// The office is of schema 2, and one of the two indexes of its revisions isn't there.
     NoIndex,
     /// The store failed, or is no office of schema 1 or 2: `NotAnOffice`.
-    Store(StoreFault),
+    Store(Fault),
 }
 
 impl fmt::Display for OpeningFault {
@@ -65,7 +65,7 @@ pub enum MigrationFault {
     /// The office is of schema 2.
     AlreadyMigrated,
     /// The store failed, or is no office of schema 1 or 2: `NotAnOffice`.
-    Store(StoreFault),
+    Store(Fault),
 }
 
 impl fmt::Display for MigrationFault {

@@ -19,7 +19,7 @@ use crate::column::{caps_at, number_at};
 use crate::fault::OpeningFault;
 use cap_sets::Caps;
 use office_rows::first_row;
-use office_tables::StoreFault;
+use review_policy::Fault;
 use sqlite::{Alter, Connection, Row};
 use sqlite_schema::schema::Schema;
 
@@ -88,7 +88,7 @@ fn check_added(schema: &Schema) -> Result<(), OpeningFault>
     ensures { result ≡ added_by schema.now }
 {
     if !has_holds(schema) {
-        return Err(OpeningFault::Store(StoreFault::NotAnOffice));
+        return Err(OpeningFault::Store(Fault::NotAnOffice));
     }
     if !has_indexes(schema) {
         return Err(OpeningFault::NoIndex);
@@ -105,26 +105,26 @@ pub(crate) struct Form {
 }
 
 // Whether a number is 1, where it is else 2.
-fn is_first(number: u32) -> Result<bool, StoreFault>
+fn is_first(number: u32) -> Result<bool, Fault>
     ensures first { result ≡ Ok true ↔ number ≡ 1 }
     ensures second { result ≡ Ok false ↔ number ≡ 2 }
-    ensures cause { IfErr result (λ fault. fault ≡ StoreFault.NotAnOffice) }
+    ensures cause { IfErr result (λ fault. fault ≡ Fault.NotAnOffice) }
 {
     match number {
         1 => Ok(true),
         2 => Ok(false),
-        _ => Err(StoreFault::NotAnOffice),
+        _ => Err(Fault::NotAnOffice),
     }
 }
 
 // The form of a row that is of the office's.
-fn read_number(row: &Row) -> Result<Form, StoreFault>
+fn read_number(row: &Row) -> Result<Form, Fault>
     ensures form { IfOk result (λ form. HasCaps form × (row.now ≡ numbered_row form)) }
     ensures formed { AcceptsFormed numbered_row HasCaps row.now result }
     ensures cause { IfErr result IsOfRow }
 {
     if row.column_count() != 3 || number_at(row, 0)? != 1 {
-        return Err(StoreFault::NotAnOffice);
+        return Err(Fault::NotAnOffice);
     }
     let is_old = is_first(number_at(row, 1)?)?;
     let listed = caps_at(row, 2)?;
@@ -132,18 +132,18 @@ fn read_number(row: &Row) -> Result<Form, StoreFault>
 }
 
 // The form of the row that a query found.
-fn number_of(found: Result<Option<Row>, StoreFault>) -> Result<Form, StoreFault>
+fn number_of(found: Result<Option<Row>, Fault>) -> Result<Form, Fault>
     ensures told { IsTold TellsNumber found result }
     ensures caps { IfOk result HasCaps }
 {
     match found? {
         Some(row) => read_number(&row),
-        None => Err(StoreFault::NotAnOffice),
+        None => Err(Fault::NotAnOffice),
     }
 }
 
 // The row of the office.
-fn office_form<S: Alter>(conn: &mut Connection<S>) -> Result<Option<Row>, StoreFault>
+fn office_form<S: Alter>(conn: &mut Connection<S>) -> Result<Option<Row>, Fault>
     requires { IsIdle (state S.Store conn.old) }
     ensures read { Reads S.Store conn.old conn.new result (λ t row. IsFormRow t row) }
     ensures row { FindsFirst S.Store conn.old conn.new OFFICE_ROW.now [] result }
@@ -152,12 +152,12 @@ fn office_form<S: Alter>(conn: &mut Connection<S>) -> Result<Option<Row>, StoreF
 }
 
 /// The form of the office's row.
-pub(crate) fn office_number<S: Alter>(conn: &mut Connection<S>) -> Result<Form, StoreFault>
+pub(crate) fn office_number<S: Alter>(conn: &mut Connection<S>) -> Result<Form, Fault>
     requires { IsIdle (state S.Store conn.old) }
     ensures read { Reads S.Store conn.old conn.new result (λ t form. form ≡ new_form t.listed) }
     ensures old { (t : Tables) → ShowsOldIfOpen (state S.Store conn.old) t
         → HasCleanDisk (state S.Store conn.new)
-        → IfOk result (λ form. form ≡ old_form t.listed) × (result ≢ Err StoreFault.NotAnOffice) }
+        → IfOk result (λ form. form ≡ old_form t.listed) × (result ≢ Err Fault.NotAnOffice) }
     ensures told { ReadsFirst S.Store conn.old conn.new OFFICE_ROW.now [] TellsNumber result }
     ensures caps { IfOk result HasCaps }
 {
@@ -166,10 +166,7 @@ pub(crate) fn office_number<S: Alter>(conn: &mut Connection<S>) -> Result<Form, 
 
 // The listed capabilities of an office that is opened, by the form of its row, and by what its
 // schema lacks.
-fn opened(
-    form: Result<Form, StoreFault>,
-    added: Result<(), OpeningFault>,
-) -> Result<Caps, OpeningFault>
+fn opened(form: Result<Form, Fault>, added: Result<(), OpeningFault>) -> Result<Caps, OpeningFault>
     ensures { result ≡ opening_of added form }
 {
     match form {
@@ -196,7 +193,7 @@ pub fn check_office<S: Alter>(conn: &mut Connection<S>) -> Result<Caps, OpeningF
     ensures read { has_old_tables (state S.Store conn.old).now.schema ≡ true
         → Reads S.Store conn.old conn.new (as_store result) (λ t listed. listed ≡ t.listed) }
     ensures foreign { has_old_tables (state S.Store conn.old).now.schema ≡ false
-        → (result ≡ Err (OpeningFault.Store StoreFault.NotAnOffice)) × (conn.new ≡ conn.old) }
+        → (result ≡ Err (OpeningFault.Store Fault.NotAnOffice)) × (conn.new ≡ conn.old) }
     ensures form { HasCleanDisk (state S.Store conn.new)
         → IfOk result (HasForm (state S.Store conn.old) (state S.Store conn.new)) }
     ensures told { has_old_tables (state S.Store conn.old).now.schema ≡ true
@@ -208,7 +205,7 @@ pub fn check_office<S: Alter>(conn: &mut Connection<S>) -> Result<Caps, OpeningF
     ensures idle { IsIdle (state S.Store conn.new) }
 {
     if !has_old_tables(conn.schema()) {
-        return Err(OpeningFault::Store(StoreFault::NotAnOffice));
+        return Err(OpeningFault::Store(Fault::NotAnOffice));
     }
     let added = check_added(conn.schema());
     opened(office_number(conn), added)

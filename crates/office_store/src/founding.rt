@@ -23,8 +23,7 @@ use crate::schema::{
 use crate::users::INSERT_USER;
 use cap_sets::Caps;
 use office_rows::{Statement, fault_of_error, run_all};
-use office_tables::StoreFault;
-use review_policy::Word;
+use review_policy::{Fault, Word};
 use sqlite::types::ValueRef;
 use sqlite::{Alter, Connection, Error, params};
 use sqlite_schema::schema::Schema;
@@ -142,14 +141,14 @@ fn make_office<S: Alter>(
     team: &Word,
     digest: &[u8; 32],
     listed: Caps,
-) -> Result<(), StoreFault>
+) -> Result<(), Fault>
     requires idle { IsIdle (state S.Store conn.old) }
     requires empty { (state S.Store conn.old).now.schema ≡ no_schema }
     ensures founded { ShowsOnOk S.Store conn.new
         (new_office name.now team.now digest.now listed) result }
     ensures kept { KeepsOnOk S.Store conn.new
         (new_office name.now team.now digest.now listed) result }
-    ensures formed { HasCleanDisk (state S.Store conn.new) → result ≢ Err StoreFault.NotAnOffice }
+    ensures formed { HasCleanDisk (state S.Store conn.new) → result ≢ Err Fault.NotAnOffice }
     ensures cause { MeetsOnErr S.Store conn.old conn.new
         (founding_office (first_user name.now team.now digest.now) listed) result }
     ensures same { SameOnErr S.Store conn.old conn.new result }
@@ -197,7 +196,7 @@ pub fn found<S: Alter>(
     ensures already { result ≡ Err FoundingFault.AlreadyFounded
         ↔ IsTrue (has_table (state S.Store conn.old).now.schema) }
     ensures foreign { HasCleanDisk (state S.Store conn.new)
-        → result ≡ Err (FoundingFault.Store StoreFault.NotAnOffice)
+        → result ≡ Err (FoundingFault.Store Fault.NotAnOffice)
         ↔ IsForeign (state S.Store conn.old).now.schema }
     ensures cause { HasCleanDisk (state S.Store conn.new)
         → IfErr result (FailsToFound S.Store
@@ -213,7 +212,7 @@ pub fn found<S: Alter>(
         return Err(FoundingFault::AlreadyFounded);
     }
     if !is_empty(conn.schema()) {
-        return Err(FoundingFault::Store(StoreFault::NotAnOffice));
+        return Err(FoundingFault::Store(Fault::NotAnOffice));
     }
     match make_office(conn, name, team, digest, listed) {
         Ok(()) => Ok(()),

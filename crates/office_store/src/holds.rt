@@ -13,8 +13,7 @@ ghost use Rattle.office_store.specs.Writes.{holding, releasing};
 use crate::bind::of_profile;
 use crate::write::{write_one, write_two};
 use office_rows::{first_row, is_there};
-use office_tables::StoreFault;
-use review_policy::ProfileName;
+use review_policy::{Fault, ProfileName};
 use sqlite::{Alter, Connection, Row};
 
 pub(crate) const HOLD_OF: &str = "SELECT team, profile FROM holds WHERE team = ?1 AND profile = ?2";
@@ -24,10 +23,7 @@ pub(crate) const DELETE_HOLD: &str = "DELETE FROM holds WHERE team = ?1 AND prof
 pub(crate) const INSERT_HOLD: &str = "INSERT INTO holds (team, profile) VALUES (?1, ?2)";
 
 // The row of a profile that is held.
-fn hold_of<S: Alter>(
-    conn: &mut Connection<S>,
-    profile: &ProfileName,
-) -> Result<Option<Row>, StoreFault>
+fn hold_of<S: Alter>(conn: &mut Connection<S>, profile: &ProfileName) -> Result<Option<Row>, Fault>
     requires { IsIdle (state S.Store conn.old) }
     ensures read { Reads S.Store conn.old conn.new result
         (λ t row. is_some row ≡ t.holds profile.now) }
@@ -38,7 +34,7 @@ fn hold_of<S: Alter>(
 }
 
 /// Whether a profile is held.
-pub fn held<S: Alter>(conn: &mut Connection<S>, profile: &ProfileName) -> Result<bool, StoreFault>
+pub fn held<S: Alter>(conn: &mut Connection<S>, profile: &ProfileName) -> Result<bool, Fault>
     requires { IsIdle (state S.Store conn.old) }
     ensures read { Reads S.Store conn.old conn.new result (λ t held. held ≡ t.holds profile.now) }
     ensures told { ReadsFirst S.Store conn.old conn.new
@@ -48,7 +44,7 @@ pub fn held<S: Alter>(conn: &mut Connection<S>, profile: &ProfileName) -> Result
 }
 
 /// Holds a profile.
-pub fn put_hold<S: Alter>(conn: &mut Connection<S>, profile: &ProfileName) -> Result<(), StoreFault>
+pub fn put_hold<S: Alter>(conn: &mut Connection<S>, profile: &ProfileName) -> Result<(), Fault>
     requires { IsIdle (state S.Store conn.old) }
     ensures write { Writes S.Store conn.old conn.new result (Into (with_hold profile.now)) }
     ensures cause { MeetsOnErr S.Store conn.old conn.new (holding profile.now) result }
@@ -58,10 +54,7 @@ pub fn put_hold<S: Alter>(conn: &mut Connection<S>, profile: &ProfileName) -> Re
 }
 
 /// Holds a profile no longer.
-pub fn delete_hold<S: Alter>(
-    conn: &mut Connection<S>,
-    profile: &ProfileName,
-) -> Result<(), StoreFault>
+pub fn delete_hold<S: Alter>(conn: &mut Connection<S>, profile: &ProfileName) -> Result<(), Fault>
     requires { IsIdle (state S.Store conn.old) }
     ensures write { Writes S.Store conn.old conn.new result (Into (without_hold profile.now)) }
     ensures cause { MeetsOnErr S.Store conn.old conn.new (releasing profile.now) result }

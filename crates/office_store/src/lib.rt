@@ -16,6 +16,7 @@ pub mod listing;
 pub mod migration;
 pub mod numbers;
 pub mod office;
+pub mod refusing;
 pub mod reopening;
 pub mod revisions;
 pub mod schema;
@@ -28,6 +29,7 @@ mod write;
 
 pub use author::{authors, is_author};
 pub use baselines::{Adopted, baseline, put_baseline};
+pub use column::{number_at, word_at};
 pub use fault::{FoundingFault, MigrationFault, OpeningFault};
 pub use form::check_office;
 pub use founding::found;

@@ -14,8 +14,8 @@ ghost use Rattle.office_store.specs.Shown.{IsIdle};
 use crate::bind::of_word;
 use crate::column::{number_at, state_at, word_at};
 use office_rows::all_rows;
-use office_tables::{ListedRevision, StoreFault};
-use review_policy::Word;
+use office_tables::ListedRevision;
+use review_policy::{Fault, Word};
 use sqlite::{Alter, Connection, Row};
 use std::alloc::Global;
 
@@ -25,7 +25,7 @@ pub(crate) const REVISIONS_OF: &str =
     "SELECT profile, number, state FROM revisions WHERE team = ?1 ORDER BY +profile, number";
 
 // The rows of the revisions of a team.
-fn listed_rows<S: Alter>(conn: &mut Connection<S>, team: &Word) -> Result<Vec<Row>, StoreFault>
+fn listed_rows<S: Alter>(conn: &mut Connection<S>, team: &Word) -> Result<Vec<Row>, Fault>
     requires { IsIdle (state S.Store conn.old) }
     ensures read { Reads S.Store conn.old conn.new result
         (λ t rows. AreListedRows t team.now rows.items) }
@@ -36,13 +36,13 @@ fn listed_rows<S: Alter>(conn: &mut Connection<S>, team: &Word) -> Result<Vec<Ro
 }
 
 // The revision that a row names.
-pub(crate) fn read_listed(alloc: Global, row: &Row) -> Result<ListedRevision, StoreFault>
+pub(crate) fn read_listed(alloc: Global, row: &Row) -> Result<ListedRevision, Fault>
     ensures listed { IfOk result (λ listed. row.now ≡ listed_row listed) }
     ensures formed { AcceptsFormed listed_row IsListedForm row.now result }
     ensures cause { IfErr result IsOfRow }
 {
     if row.column_count() != 3 {
-        return Err(StoreFault::NotAnOffice);
+        return Err(Fault::NotAnOffice);
     }
     Ok(ListedRevision {
         profile: word_at(alloc, row, 0)?,
@@ -52,25 +52,22 @@ pub(crate) fn read_listed(alloc: Global, row: &Row) -> Result<ListedRevision, St
 }
 
 // The revisions that rows name.
-fn read_all_listed(alloc: Global, rows: &[Row]) -> Result<Vec<ListedRevision>, StoreFault>
+fn read_all_listed(alloc: Global, rows: &[Row]) -> Result<Vec<ListedRevision>, Fault>
     ensures listed { IfOk result (λ listed. rows.now ≡ map listed_row listed.items) }
     ensures formed { (listed : List Listed) → rows.now ≡ map listed_row listed
-        → AllByRecursion IsListedForm listed → result ≢ Err StoreFault.NotAnOffice }
+        → AllByRecursion IsListedForm listed → result ≢ Err Fault.NotAnOffice }
     ensures cause { IfErr result IsOfRow }
 {
     let mut listed = Vec::new(alloc);
     for row in rows {
         let revision = read_listed(alloc, row)?;
-        listed.push(revision).map_err(|_| StoreFault::NoMemory)?;
+        listed.push(revision).map_err(|_| Fault::NoMemory)?;
     }
     Ok(listed)
 }
 
 // The revisions of the rows that a query found.
-fn listed_of(
-    alloc: Global,
-    found: Result<Vec<Row>, StoreFault>,
-) -> Result<Vec<ListedRevision>, StoreFault>
+fn listed_of(alloc: Global, found: Result<Vec<Row>, Fault>) -> Result<Vec<ListedRevision>, Fault>
     ensures { IsTold (TellsAll listed_row IsListedForm)
         (map_ok found (λ rows. rows.items)) (map_ok result (λ listed. listed.items)) }
 {
@@ -84,7 +81,7 @@ pub fn revisions_of<S: Alter>(
     alloc: Global,
     conn: &mut Connection<S>,
     team: &Word,
-) -> Result<Vec<ListedRevision>, StoreFault>
+) -> Result<Vec<ListedRevision>, Fault>
     requires { IsIdle (state S.Store conn.old) }
     ensures read { Reads S.Store conn.old conn.new result
         (λ t listed. AreRevisionsOf t team.now listed.items) }

@@ -15,7 +15,7 @@ use crate::fault::MigrationFault;
 use crate::form::{has_old_tables, office_number};
 use crate::schema::{CREATE_BY_AUTHOR, CREATE_BY_STATE, CREATE_HOLDS};
 use office_rows::{Statement, fault_of_error, run_all};
-use office_tables::StoreFault;
+use review_policy::Fault;
 use sqlite::{Alter, Connection, Error};
 
 pub(crate) const RENUMBER: &str = "UPDATE office SET schema = 2";
@@ -56,11 +56,11 @@ fn run_migration<S: Alter>(conn: &mut Connection<S>) -> Result<(), Error>
 }
 
 // Makes an office of schema 1 one of schema 2.
-fn move_office<S: Alter>(conn: &mut Connection<S>) -> Result<(), StoreFault>
+fn move_office<S: Alter>(conn: &mut Connection<S>) -> Result<(), Fault>
     requires { IsIdle (state S.Store conn.old) }
     ensures migration { IsMigration (state S.Store conn.old) (state S.Store conn.new) result }
     ensures formed { (t : Tables) → ShowsOldIfOpen (state S.Store conn.old) t
-        → HasCleanDisk (state S.Store conn.new) → result ≢ Err StoreFault.NotAnOffice }
+        → HasCleanDisk (state S.Store conn.new) → result ≢ Err Fault.NotAnOffice }
     ensures cause { MeetsOnErr S.Store conn.old conn.new (migration []) result }
 {
     match run_migration(conn) {
@@ -86,19 +86,19 @@ pub fn migrate<S: Alter>(conn: &mut Connection<S>) -> Result<(), MigrationFault>
     ensures old { (t : Tables) → ShowsOld (state S.Store conn.old) t
         → HasCleanDisk (state S.Store conn.new)
         → (result ≢ Err MigrationFault.AlreadyMigrated)
-        × (result ≢ Err (MigrationFault.Store StoreFault.NotAnOffice)) }
+        × (result ≢ Err (MigrationFault.Store Fault.NotAnOffice)) }
     ensures already { (t : Tables) → Shows (state S.Store conn.old) t
         → HasCleanDisk (state S.Store conn.new)
-        → OnOk result ⊥ × (result ≢ Err (MigrationFault.Store StoreFault.NotAnOffice))
+        → OnOk result ⊥ × (result ≢ Err (MigrationFault.Store Fault.NotAnOffice))
         × ShowsIfOpen (state S.Store conn.new) t }
     ensures foreign { has_old_tables (state S.Store conn.old).now.schema ≡ false
-        → (result ≡ Err (MigrationFault.Store StoreFault.NotAnOffice)) × (conn.new ≡ conn.old) }
+        → (result ≡ Err (MigrationFault.Store Fault.NotAnOffice)) × (conn.new ≡ conn.old) }
     ensures was { HasCleanDisk (state S.Store conn.new) → OnOk result (WasOld S.Store conn.old) }
     ensures cause { HasCleanDisk (state S.Store conn.new)
         → IfErr result (FailsToMigrate S.Store conn.old conn.new) }
 {
     if !has_old_tables(conn.schema()) {
-        return Err(MigrationFault::Store(StoreFault::NotAnOffice));
+        return Err(MigrationFault::Store(Fault::NotAnOffice));
     }
     let form = match office_number(conn) {
         Ok(form) => form,

@@ -13,8 +13,7 @@ ghost use Rattle.office_store.specs.Shown.{IsIdle};
 use crate::bind::of_profile;
 use crate::column::number_at;
 use office_rows::first_row;
-use office_tables::StoreFault;
-use review_policy::ProfileName;
+use review_policy::{Fault, ProfileName};
 use sqlite::{Alter, Connection, Row};
 
 pub(crate) const LAST_NUMBER: &str =
@@ -24,19 +23,19 @@ pub(crate) const ISSUED_NUMBER: &str =
     "SELECT number FROM revisions WHERE team = ?1 AND profile = ?2 AND state = 2";
 
 // The number of a row of one.
-fn read_number(row: &Row) -> Result<u32, StoreFault>
+fn read_number(row: &Row) -> Result<u32, Fault>
     ensures number { IfOk result (λ number. row.now ≡ number_row number) }
     ensures formed { AcceptsFormed number_row IsNumber row.now result }
     ensures cause { IfErr result IsOfRow }
 {
     if row.column_count() != 1 {
-        return Err(StoreFault::NotAnOffice);
+        return Err(Fault::NotAnOffice);
     }
     number_at(row, 0)
 }
 
 // The number of the row that a query found, if it found one.
-fn number_of(found: Result<Option<Row>, StoreFault>) -> Result<Option<u32>, StoreFault>
+fn number_of(found: Result<Option<Row>, Fault>) -> Result<Option<u32>, Fault>
     ensures { IsTold (TellsOne number_row IsNumber) found result }
 {
     match found? {
@@ -49,7 +48,7 @@ fn number_of(found: Result<Option<Row>, StoreFault>) -> Result<Option<u32>, Stor
 fn last_number_row<S: Alter>(
     conn: &mut Connection<S>,
     profile: &ProfileName,
-) -> Result<Option<Row>, StoreFault>
+) -> Result<Option<Row>, Fault>
     requires { IsIdle (state S.Store conn.old) }
     ensures read { Reads S.Store conn.old conn.new result
         (λ t row. IsRowOfNumber (IsLast t profile.now) row) }
@@ -63,7 +62,7 @@ fn last_number_row<S: Alter>(
 fn issued_number_row<S: Alter>(
     conn: &mut Connection<S>,
     profile: &ProfileName,
-) -> Result<Option<Row>, StoreFault>
+) -> Result<Option<Row>, Fault>
     requires { IsIdle (state S.Store conn.old) }
     ensures read { Reads S.Store conn.old conn.new result
         (λ t row. IsRowOfNumber (IsIssued t profile.now) row) }
@@ -77,7 +76,7 @@ fn issued_number_row<S: Alter>(
 pub fn last_number<S: Alter>(
     conn: &mut Connection<S>,
     profile: &ProfileName,
-) -> Result<Option<u32>, StoreFault>
+) -> Result<Option<u32>, Fault>
     requires { IsIdle (state S.Store conn.old) }
     ensures read { Reads S.Store conn.old conn.new result
         (λ t number. IsNumberOf (IsLast t profile.now) number) }
@@ -91,7 +90,7 @@ pub fn last_number<S: Alter>(
 pub fn issued_number<S: Alter>(
     conn: &mut Connection<S>,
     profile: &ProfileName,
-) -> Result<Option<u32>, StoreFault>
+) -> Result<Option<u32>, Fault>
     requires { IsIdle (state S.Store conn.old) }
     ensures read { Reads S.Store conn.old conn.new result
         (λ t number. IsNumberOf (IsIssued t profile.now) number) }

@@ -19,8 +19,8 @@ use crate::bind::{of_number, of_profile, of_revision};
 use crate::column::{digest_at, number_at, state_at, text_at, word_at};
 use crate::write::{write_one, write_two};
 use office_rows::{first_row, is_there};
-use office_tables::{RevisionRow, StoreFault};
-use review_policy::{ProfileName, State, Text, Word};
+use office_tables::RevisionRow;
+use review_policy::{Fault, ProfileName, State, Text, Word};
 use sqlite::{Alter, Connection, Row};
 use std::alloc::Global;
 
@@ -52,14 +52,14 @@ pub(crate) const INSERT_REVISION: &str =
     "INSERT INTO revisions (team, profile, number, author, state, body, digest) VALUES (?1, ?2, ?3, ?4, ?5, ?6, ?7)";
 
 // The revision that a row stands for.
-fn read_revision(alloc: Global, row: &Row) -> Result<RevisionRow, StoreFault>
+fn read_revision(alloc: Global, row: &Row) -> Result<RevisionRow, Fault>
     ensures revision { IfOk result (λ revision. row.now ≡ revision_columns revision) }
     ensures formed { (profile : Name) (revision : Revision) → IsRevision (profile, revision)
-        → row.now ≡ revision_columns revision → result ≢ Err StoreFault.NotAnOffice }
+        → row.now ≡ revision_columns revision → result ≢ Err Fault.NotAnOffice }
     ensures cause { IfErr result IsOfRow }
 {
     if row.column_count() != 5 {
-        return Err(StoreFault::NotAnOffice);
+        return Err(Fault::NotAnOffice);
     }
     Ok(RevisionRow {
         number: number_at(row, 0)?,
@@ -73,8 +73,8 @@ fn read_revision(alloc: Global, row: &Row) -> Result<RevisionRow, StoreFault>
 // The revision of the row that a query found, if it found one.
 fn revision_of(
     alloc: Global,
-    found: Result<Option<Row>, StoreFault>,
-) -> Result<Option<RevisionRow>, StoreFault>
+    found: Result<Option<Row>, Fault>,
+) -> Result<Option<RevisionRow>, Fault>
     ensures { IsTold (TellsOne revision_columns IsRevisionForm) found result }
 {
     match found? {
@@ -88,7 +88,7 @@ fn row_at<S: Alter>(
     conn: &mut Connection<S>,
     profile: &ProfileName,
     number: u32,
-) -> Result<Option<Row>, StoreFault>
+) -> Result<Option<Row>, Fault>
     requires { IsIdle (state S.Store conn.old) }
     ensures read { Reads S.Store conn.old conn.new result
         (λ t row. row ≡ option_map revision_columns (t.revisions profile.now number)) }
@@ -102,7 +102,7 @@ fn row_at<S: Alter>(
 fn issued_row<S: Alter>(
     conn: &mut Connection<S>,
     profile: &ProfileName,
-) -> Result<Option<Row>, StoreFault>
+) -> Result<Option<Row>, Fault>
     requires { IsIdle (state S.Store conn.old) }
     ensures read { Reads S.Store conn.old conn.new result (λ t row. IsIssuedRow t profile.now row) }
     ensures row { FindsFirst S.Store conn.old conn.new
@@ -112,10 +112,7 @@ fn issued_row<S: Alter>(
 }
 
 // The row of the last revision of a profile.
-fn last_row<S: Alter>(
-    conn: &mut Connection<S>,
-    profile: &ProfileName,
-) -> Result<Option<Row>, StoreFault>
+fn last_row<S: Alter>(conn: &mut Connection<S>, profile: &ProfileName) -> Result<Option<Row>, Fault>
     requires { IsIdle (state S.Store conn.old) }
     ensures read { Reads S.Store conn.old conn.new result (λ t row. IsLastRow t profile.now row) }
     ensures row { FindsFirst S.Store conn.old conn.new
@@ -125,10 +122,7 @@ fn last_row<S: Alter>(
 }
 
 // The row of a revision of a profile.
-fn row_of<S: Alter>(
-    conn: &mut Connection<S>,
-    profile: &ProfileName,
-) -> Result<Option<Row>, StoreFault>
+fn row_of<S: Alter>(conn: &mut Connection<S>, profile: &ProfileName) -> Result<Option<Row>, Fault>
     requires { IsIdle (state S.Store conn.old) }
     ensures read { Reads S.Store conn.old conn.new result
         (λ t row. is_some row ≡ true ↔ HasRevision t profile.now) }
@@ -142,7 +136,7 @@ fn row_of<S: Alter>(
 pub fn has_revision<S: Alter>(
     conn: &mut Connection<S>,
     profile: &ProfileName,
-) -> Result<bool, StoreFault>
+) -> Result<bool, Fault>
     requires { IsIdle (state S.Store conn.old) }
     ensures read { Reads S.Store conn.old conn.new result
         (λ t found. found ≡ true ↔ HasRevision t profile.now) }
@@ -158,7 +152,7 @@ pub fn revision<S: Alter>(
     conn: &mut Connection<S>,
     profile: &ProfileName,
     number: u32,
-) -> Result<Option<RevisionRow>, StoreFault>
+) -> Result<Option<RevisionRow>, Fault>
     requires { IsIdle (state S.Store conn.old) }
     ensures read { Reads S.Store conn.old conn.new result
         (λ t revision. revision ≡ t.revisions profile.now number) }
@@ -174,7 +168,7 @@ pub fn issued<S: Alter>(
     alloc: Global,
     conn: &mut Connection<S>,
     profile: &ProfileName,
-) -> Result<Option<RevisionRow>, StoreFault>
+) -> Result<Option<RevisionRow>, Fault>
     requires { IsIdle (state S.Store conn.old) }
     ensures read { Reads S.Store conn.old conn.new result
         (λ t revision. IsIssued t profile.now revision) }
@@ -190,7 +184,7 @@ pub fn last<S: Alter>(
     alloc: Global,
     conn: &mut Connection<S>,
     profile: &ProfileName,
-) -> Result<Option<RevisionRow>, StoreFault>
+) -> Result<Option<RevisionRow>, Fault>
     requires { IsIdle (state S.Store conn.old) }
     ensures read { Reads S.Store conn.old conn.new result
         (λ t revision. IsLast t profile.now revision) }
@@ -206,7 +200,7 @@ pub fn add_revision<S: Alter>(
     conn: &mut Connection<S>,
     profile: &ProfileName,
     revision: &RevisionRow,
-) -> Result<(), StoreFault>
+) -> Result<(), Fault>
     requires { IsIdle (state S.Store conn.old) }
     ensures write { Writes S.Store conn.old conn.new result (Adds profile.now revision.now) }
     ensures cause { MeetsOnErr S.Store conn.old conn.new
@@ -227,7 +221,7 @@ pub fn set_issued<S: Alter>(
     conn: &mut Connection<S>,
     profile: &ProfileName,
     number: u32,
-) -> Result<(), StoreFault>
+) -> Result<(), Fault>
     requires { IsIdle (state S.Store conn.old) }
     ensures write { Writes S.Store conn.old conn.new result
         (Into (with_issued profile.now number)) }
@@ -247,7 +241,7 @@ pub fn set_withdrawn<S: Alter>(
     conn: &mut Connection<S>,
     profile: &ProfileName,
     number: u32,
-) -> Result<(), StoreFault>
+) -> Result<(), Fault>
     requires { IsIdle (state S.Store conn.old) }
     ensures write { Writes S.Store conn.old conn.new result
         (Into (with_withdrawn profile.now number)) }

@@ -14,8 +14,8 @@ ghost use Rattle.office_store.specs.Shown.{IsIdle};
 use crate::bind::of_number;
 use crate::column::{flag_at, roles_at, word_at};
 use office_rows::all_rows;
-use office_tables::{StoreFault, Tally};
-use review_policy::{ProfileName, Role, VoteRow};
+use office_tables::Tally;
+use review_policy::{Fault, ProfileName, Role, VoteRow};
 use sqlite::{Alter, Connection, Row};
 use std::alloc::Global;
 
@@ -28,7 +28,7 @@ fn vote_rows<S: Alter>(
     conn: &mut Connection<S>,
     profile: &ProfileName,
     number: u32,
-) -> Result<Vec<Row>, StoreFault>
+) -> Result<Vec<Row>, Fault>
     requires { IsIdle (state S.Store conn.old) }
     ensures read { Reads S.Store conn.old conn.new result
         (λ t rows. AreVoteRows t profile.now number rows.items) }
@@ -46,14 +46,14 @@ fn is_secure(counts: bool, had_security: bool, has_security: bool) -> bool
 }
 
 // The vote of a row, as it stands by its voter's present roles.
-fn read_vote(alloc: Global, row: &Row) -> Result<VoteRow, StoreFault>
+fn read_vote(alloc: Global, row: &Row) -> Result<VoteRow, Fault>
     ensures read { IfOk result (IsCastAs row.now) }
     ensures formed { (cast : Cast) → row.now ≡ cast_row cast → IsCastForm cast
-        → result ≢ Err StoreFault.NotAnOffice }
+        → result ≢ Err Fault.NotAnOffice }
     ensures cause { IfErr result IsOfRow }
 {
     if row.column_count() != 4 {
-        return Err(StoreFault::NotAnOffice);
+        return Err(Fault::NotAnOffice);
     }
     let voter = word_at(alloc, row, 0)?;
     let approve = flag_at(row, 1)?;
@@ -71,16 +71,16 @@ fn read_vote(alloc: Global, row: &Row) -> Result<VoteRow, StoreFault>
 }
 
 // The votes of rows.
-fn read_votes(alloc: Global, rows: &[Row]) -> Result<Vec<VoteRow>, StoreFault>
+fn read_votes(alloc: Global, rows: &[Row]) -> Result<Vec<VoteRow>, Fault>
     ensures read { IfOk result (λ votes. AreCastAs rows.now votes.items) }
     ensures formed { (cast : List Cast) → rows.now ≡ map cast_row cast
-        → AllByRecursion IsCastForm cast → result ≢ Err StoreFault.NotAnOffice }
+        → AllByRecursion IsCastForm cast → result ≢ Err Fault.NotAnOffice }
     ensures cause { IfErr result IsOfRow }
 {
     let mut votes = Vec::new(alloc);
     for row in rows {
         let vote = read_vote(alloc, row)?;
-        votes.push(vote).map_err(|_| StoreFault::NoMemory)?;
+        votes.push(vote).map_err(|_| Fault::NoMemory)?;
     }
     Ok(votes)
 }
@@ -92,7 +92,7 @@ pub fn standing<S: Alter>(
     conn: &mut Connection<S>,
     profile: &ProfileName,
     number: u32,
-) -> Result<Vec<VoteRow>, StoreFault>
+) -> Result<Vec<VoteRow>, Fault>
     requires { IsIdle (state S.Store conn.old) }
     ensures read { Reads S.Store conn.old conn.new result
         (λ t votes. AreStanding t profile.now number votes.items) }
@@ -151,7 +151,7 @@ pub fn tally<S: Alter>(
     conn: &mut Connection<S>,
     profile: &ProfileName,
     number: u32,
-) -> Result<Tally, StoreFault>
+) -> Result<Tally, Fault>
     requires { IsIdle (state S.Store conn.old) }
     ensures read { Reads S.Store conn.old conn.new result
         (λ t tally. IsTally t profile.now number tally) }

@@ -11,8 +11,7 @@ ghost use Rattle.office_store.specs.Summaries.{summary_of, summary_row, IsSummar
 use crate::bind::of_number;
 use crate::column::{digest_at, state_at};
 use office_rows::first_row;
-use office_tables::StoreFault;
-use review_policy::{ProfileName, State};
+use review_policy::{Fault, ProfileName, State};
 use sqlite::{Alter, Connection, Row};
 
 pub(crate) const STATE_AND_DIGEST: &str =
@@ -27,13 +26,13 @@ pub struct Summary {
 }
 
 // The summary that a row stands for.
-fn read_summary(row: &Row) -> Result<Summary, StoreFault>
+fn read_summary(row: &Row) -> Result<Summary, Fault>
     ensures summary { IfOk result (λ summary. row.now ≡ summary_row summary) }
     ensures formed { AcceptsFormed summary_row IsSummary row.now result }
     ensures cause { IfErr result IsOfRow }
 {
     if row.column_count() != 2 {
-        return Err(StoreFault::NotAnOffice);
+        return Err(Fault::NotAnOffice);
     }
     Ok(Summary {
         state: state_at(row, 0)?,
@@ -42,7 +41,7 @@ fn read_summary(row: &Row) -> Result<Summary, StoreFault>
 }
 
 // The summary of the row that a query found, if it found one.
-fn found_summary(found: Result<Option<Row>, StoreFault>) -> Result<Option<Summary>, StoreFault>
+fn found_summary(found: Result<Option<Row>, Fault>) -> Result<Option<Summary>, Fault>
     ensures { IsTold (TellsOne summary_row IsSummary) found result }
 {
     match found? {
@@ -56,7 +55,7 @@ fn row_at<S: Alter>(
     conn: &mut Connection<S>,
     profile: &ProfileName,
     number: u32,
-) -> Result<Option<Row>, StoreFault>
+) -> Result<Option<Row>, Fault>
     requires { IsIdle (state S.Store conn.old) }
     ensures read { Reads S.Store conn.old conn.new result (λ t row.
         row ≡ option_map (λ r. summary_row (summary_of r)) (t.revisions profile.now number)) }
@@ -71,7 +70,7 @@ pub fn summary_at<S: Alter>(
     conn: &mut Connection<S>,
     profile: &ProfileName,
     number: u32,
-) -> Result<Option<Summary>, StoreFault>
+) -> Result<Option<Summary>, Fault>
     requires { IsIdle (state S.Store conn.old) }
     ensures read { Reads S.Store conn.old conn.new result
         (λ t summary. summary ≡ option_map summary_of (t.revisions profile.now number)) }

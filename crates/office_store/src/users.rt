@@ -18,8 +18,8 @@ use crate::bind::{of_digest, of_user, of_word};
 use crate::column::{digest_at, roles_at, word_at};
 use crate::write::write_one;
 use office_rows::first_row;
-use office_tables::{StoreFault, UserRow};
-use review_policy::Word;
+use office_tables::UserRow;
+use review_policy::{Fault, Word};
 use sqlite::{Alter, Connection, Row};
 use std::alloc::Global;
 
@@ -35,13 +35,13 @@ pub(crate) const PUT_USER: &str =
     "INSERT INTO users (name, team, roles, token) VALUES (?1, ?2, ?3, ?4) ON CONFLICT (name) DO UPDATE SET team = ?2, roles = ?3, token = ?4";
 
 // The user that a row stands for.
-fn read_user(alloc: Global, row: &Row) -> Result<UserRow, StoreFault>
+fn read_user(alloc: Global, row: &Row) -> Result<UserRow, Fault>
     ensures user { IfOk result (λ user. row.now ≡ user_row user) }
     ensures formed { AcceptsFormed user_row IsUser row.now result }
     ensures cause { IfErr result IsOfRow }
 {
     if row.column_count() != 4 {
-        return Err(StoreFault::NotAnOffice);
+        return Err(Fault::NotAnOffice);
     }
     Ok(UserRow {
         name: word_at(alloc, row, 0)?,
@@ -52,10 +52,7 @@ fn read_user(alloc: Global, row: &Row) -> Result<UserRow, StoreFault>
 }
 
 // The user of the row that a query found, if it found one.
-fn user_of(
-    alloc: Global,
-    found: Result<Option<Row>, StoreFault>,
-) -> Result<Option<UserRow>, StoreFault>
+fn user_of(alloc: Global, found: Result<Option<Row>, Fault>) -> Result<Option<UserRow>, Fault>
     ensures { IsTold (TellsOne user_row IsUser) found result }
 {
     match found? {
@@ -65,7 +62,7 @@ fn user_of(
 }
 
 // The row of the user of that name.
-fn row_named<S: Alter>(conn: &mut Connection<S>, name: &Word) -> Result<Option<Row>, StoreFault>
+fn row_named<S: Alter>(conn: &mut Connection<S>, name: &Word) -> Result<Option<Row>, Fault>
     requires { IsIdle (state S.Store conn.old) }
     ensures read { Reads S.Store conn.old conn.new result
         (λ t row. row ≡ option_map user_row (t.users name.now)) }
@@ -76,10 +73,7 @@ fn row_named<S: Alter>(conn: &mut Connection<S>, name: &Word) -> Result<Option<R
 }
 
 // The row of the user whose token has that digest.
-fn row_showing<S: Alter>(
-    conn: &mut Connection<S>,
-    digest: &[u8; 32],
-) -> Result<Option<Row>, StoreFault>
+fn row_showing<S: Alter>(conn: &mut Connection<S>, digest: &[u8; 32]) -> Result<Option<Row>, Fault>
     requires { IsIdle (state S.Store conn.old) }
     ensures read { Reads S.Store conn.old conn.new result (λ t row. IsRowShowing t digest.now row) }
     ensures row { FindsFirst S.Store conn.old conn.new
@@ -93,7 +87,7 @@ pub fn user_by_name<S: Alter>(
     alloc: Global,
     conn: &mut Connection<S>,
     name: &Word,
-) -> Result<Option<UserRow>, StoreFault>
+) -> Result<Option<UserRow>, Fault>
     requires { IsIdle (state S.Store conn.old) }
     ensures read { Reads S.Store conn.old conn.new result (λ t user. user ≡ t.users name.now) }
     ensures told { ReadsFirst S.Store conn.old conn.new
@@ -107,7 +101,7 @@ pub fn user_by_token<S: Alter>(
     alloc: Global,
     conn: &mut Connection<S>,
     digest: &[u8; 32],
-) -> Result<Option<UserRow>, StoreFault>
+) -> Result<Option<UserRow>, Fault>
     requires { IsIdle (state S.Store conn.old) }
     ensures read { Reads S.Store conn.old conn.new result
         (λ t user. IsUserShowing t digest.now user) }
@@ -118,8 +112,8 @@ pub fn user_by_token<S: Alter>(
 }
 
 /// Puts a user in the place of any of that name. Where another user shows the same token the store
-/// refuses it, as [`StoreFault::Disk`].
-pub fn put_user<S: Alter>(conn: &mut Connection<S>, user: &UserRow) -> Result<(), StoreFault>
+/// refuses it, as [`Fault::Disk`].
+pub fn put_user<S: Alter>(conn: &mut Connection<S>, user: &UserRow) -> Result<(), Fault>
     requires { IsIdle (state S.Store conn.old) }
     ensures write { Writes S.Store conn.old conn.new result (Into (with_user user.now)) }
     ensures cause { MeetsOnErr S.Store conn.old conn.new (putting_user user.now) result }

@@ -17,8 +17,7 @@ use crate::bind::{of_vote, of_voter};
 use crate::column::flag_at;
 use crate::write::write_one;
 use office_rows::first_row;
-use office_tables::StoreFault;
-use review_policy::{ProfileName, Word};
+use review_policy::{Fault, ProfileName, Word};
 use sqlite::{Alter, Connection, Row};
 
 pub(crate) const VOTE_AT: &str =
@@ -35,13 +34,13 @@ pub struct Ballot {
 }
 
 // The vote that a row stands for.
-fn read_ballot(row: &Row) -> Result<Ballot, StoreFault>
+fn read_ballot(row: &Row) -> Result<Ballot, Fault>
     ensures ballot { IfOk result (λ ballot. row.now ≡ row_of_ballot ballot) }
     ensures formed { AcceptsFormed row_of_ballot IsBallot row.now result }
     ensures cause { IfErr result IsOfRow }
 {
     if row.column_count() != 2 {
-        return Err(StoreFault::NotAnOffice);
+        return Err(Fault::NotAnOffice);
     }
     Ok(Ballot {
         approves: flag_at(row, 0)?,
@@ -50,7 +49,7 @@ fn read_ballot(row: &Row) -> Result<Ballot, StoreFault>
 }
 
 // The vote of the row that a query found, if it found one.
-fn found_ballot(found: Result<Option<Row>, StoreFault>) -> Result<Option<Ballot>, StoreFault>
+fn found_ballot(found: Result<Option<Row>, Fault>) -> Result<Option<Ballot>, Fault>
     ensures { IsTold (TellsOne row_of_ballot IsBallot) found result }
 {
     match found? {
@@ -65,7 +64,7 @@ fn row_by<S: Alter>(
     profile: &ProfileName,
     number: u32,
     voter: &Word,
-) -> Result<Option<Row>, StoreFault>
+) -> Result<Option<Row>, Fault>
     requires { IsIdle (state S.Store conn.old) }
     ensures read { Reads S.Store conn.old conn.new result
         (λ t row. row ≡ option_map voted_row (t.votes profile.now number voter.now)) }
@@ -81,7 +80,7 @@ pub fn ballot_of<S: Alter>(
     profile: &ProfileName,
     number: u32,
     voter: &Word,
-) -> Result<Option<Ballot>, StoreFault>
+) -> Result<Option<Ballot>, Fault>
     requires { IsIdle (state S.Store conn.old) }
     ensures read { Reads S.Store conn.old conn.new result
         (λ t ballot. option_map vote_of ballot ≡ t.votes profile.now number voter.now) }
@@ -99,7 +98,7 @@ pub fn put_vote<S: Alter>(
     number: u32,
     voter: &Word,
     ballot: Ballot,
-) -> Result<(), StoreFault>
+) -> Result<(), Fault>
     requires { IsIdle (state S.Store conn.old) }
     ensures write { Writes S.Store conn.old conn.new result
         (Into (with_vote profile.now number voter.now

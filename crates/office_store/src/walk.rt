@@ -11,8 +11,8 @@ ghost use Rattle.office_store.specs.Shown.{IsIdle};
 use crate::bind::of_bound;
 use crate::listing::read_listed;
 use office_rows::first_row;
-use office_tables::{ListedRevision, StoreFault};
-use review_policy::Word;
+use office_tables::ListedRevision;
+use review_policy::{Fault, Word};
 use sqlite::{Alter, Connection, Row};
 use std::alloc::Global;
 
@@ -25,7 +25,7 @@ fn row_above<S: Alter>(
     conn: &mut Connection<S>,
     team: &Word,
     bound: &str,
-) -> Result<Option<Row>, StoreFault>
+) -> Result<Option<Row>, Fault>
     requires { IsIdle (state S.Store conn.old) }
     ensures read { Reads S.Store conn.old conn.new result
         (λ t row. IsRowAbove t team.now bound.now row) }
@@ -38,8 +38,8 @@ fn row_above<S: Alter>(
 // The revision of the row that a query found, if it found one.
 fn found_listed(
     alloc: Global,
-    found: Result<Option<Row>, StoreFault>,
-) -> Result<Option<ListedRevision>, StoreFault>
+    found: Result<Option<Row>, Fault>,
+) -> Result<Option<ListedRevision>, Fault>
     ensures { IsTold (TellsOne listed_row IsListedForm) found result }
 {
     match found? {
@@ -50,9 +50,9 @@ fn found_listed(
 
 // A text above a name and below each other word that is above that one, since no word has a byte as
 // low as a space. A scan from the name itself would read all its revisions.
-fn bound_after(alloc: Global, name: &Word) -> Result<String, StoreFault>
+fn bound_after(alloc: Global, name: &Word) -> Result<String, Fault>
     ensures bound { IfOk result (λ bound. string_bytes bound ≡ name.now ++ 32 ∷ []) }
-    ensures cause { IfErr result (λ f. f ≡ StoreFault.NoMemory) }
+    ensures cause { IfErr result (λ f. f ≡ Fault.NoMemory) }
 {
     let bound = [name.as_str(), " "].concat(alloc)?;
     Ok(bound)
@@ -63,7 +63,7 @@ pub fn first_listed<S: Alter>(
     alloc: Global,
     conn: &mut Connection<S>,
     team: &Word,
-) -> Result<Option<ListedRevision>, StoreFault>
+) -> Result<Option<ListedRevision>, Fault>
     requires { IsIdle (state S.Store conn.old) }
     ensures { Reads S.Store conn.old conn.new result
         (λ t listed. IsNextListed t team.now None listed) }
@@ -77,7 +77,7 @@ pub fn next_listed<S: Alter>(
     conn: &mut Connection<S>,
     team: &Word,
     name: &Word,
-) -> Result<Option<ListedRevision>, StoreFault>
+) -> Result<Option<ListedRevision>, Fault>
     requires { IsIdle (state S.Store conn.old) }
     ensures { Reads S.Store conn.old conn.new result
         (λ t listed. IsNextListed t team.now (Some name.now) listed) }

@@ -9,16 +9,13 @@ ghost use Rattle.office_store.specs.Shown.{IsIdle};
 ghost use Rattle.office_store.specs.Steps.{statement, AreSteps};
 
 use office_rows::{Statement, fault_of_error, run_all};
-use office_tables::StoreFault;
+use review_policy::Fault;
 use sqlite::types::ValueRef;
 use sqlite::{Alter, Connection};
 
 /// Runs the statements in one transaction: the tables are what all of them make of those that were
 /// shown, or as they were.
-fn write<S: Alter>(
-    conn: &mut Connection<S>,
-    statements: &[Statement<'_, '_>],
-) -> Result<(), StoreFault>
+fn write<S: Alter>(conn: &mut Connection<S>, statements: &[Statement<'_, '_>]) -> Result<(), Fault>
     requires idle { IsIdle (state S.Store conn.old) }
     requires some { 0 < length statements.now }
     ensures write { Writes S.Store conn.old conn.new result
@@ -36,7 +33,7 @@ pub(crate) fn write_one<'a, S: Alter>(
     conn: &mut Connection<S>,
     first: &'a str,
     params: &'a [ValueRef<'a>],
-) -> Result<(), StoreFault>
+) -> Result<(), Fault>
     requires { IsIdle (state S.Store conn.old) }
     ensures write { Writes S.Store conn.old conn.new result
         (AreSteps S.Store (statement first.now (bound params.now) ∷ [])) }
@@ -53,7 +50,7 @@ pub(crate) fn write_two<'a, S: Alter>(
     first_params: &'a [ValueRef<'a>],
     second: &'a str,
     second_params: &'a [ValueRef<'a>],
-) -> Result<(), StoreFault>
+) -> Result<(), Fault>
     requires { IsIdle (state S.Store conn.old) }
     ensures write { Writes S.Store conn.old conn.new result
         (AreSteps S.Store (statement first.now (bound first_params.now)

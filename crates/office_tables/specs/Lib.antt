@@ -2,4 +2,3 @@ pub mod Tables
 pub mod Changes
 pub mod Reads
 pub mod Lists
-pub mod Faults

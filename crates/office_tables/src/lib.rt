@@ -1,10 +1,8 @@
 //! The six tables of an office: their rows, and what a change does to them.
 #![tactic(auto)]
 
-pub mod fault;
 pub mod listed;
 pub mod row;
 
-pub use fault::StoreFault;
 pub use listed::{ListedRevision, Tally};
 pub use row::{RevisionRow, UserRow};

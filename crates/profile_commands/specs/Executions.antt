@@ -15,8 +15,8 @@ use Rattle.profile_commands.specs.declared.execution.ExecutionFault.{ExecutionFa
 use Rattle.profile_commands.specs.declared.execution.ExecutionFault.TheVariants.{RootTakesNoFile}
 use Rattle.profile_commands.specs.declared.execution.ExecutionFault.TheVariants.{UnknownCapability}
 use Rattle.profile_commands.specs.declared.fault.FileFault.{FileFault}
-use Rattle.profile_commands.specs.declared.execve.Outcome.{Outcome}
-use Rattle.profile_commands.specs.declared.execve.Outcome.TheVariants.{Done, Denied}
+use Rattle.profile_commands.specs.declared.execve.ExecveOutcome.{ExecveOutcome}
+use Rattle.profile_commands.specs.declared.execve.ExecveOutcome.TheVariants.{Done, Denied}
 use Rattle.profile_commands.specs.Lists.{set_listed}
 use Rattle.profile_commands.specs.Refusal.{RefusesAs}
 
@@ -48,12 +48,12 @@ execution_of words =
     else (if words.root then Ok ByRoot else Ok (OfFile Plain))
 
 -- the outcome is the lines of this state
-abbrev pub IsDone : CapState → Outcome → Type 0
+abbrev pub IsDone : CapState → ExecveOutcome → Type 0
 IsDone after (Done text) = string_bytes text ≡ state_text after
 IsDone after Denied = ⊥
 
 -- what comes of execve: the lines of a state after it, or EPERM where there is none
-abbrev pub IsOutcome : Execution → CapState → Outcome → Type 0
+abbrev pub IsOutcome : Execution → CapState → ExecveOutcome → Type 0
 IsOutcome ByRoot before outcome =
     (after : CapState) × IsAfterRoot before after × IsDone after outcome
 IsOutcome (OfFile file) before Denied = IsDenied before file
@@ -61,7 +61,7 @@ IsOutcome (OfFile file) before outcome =
     (after : CapState) × IsAfter before file after × IsDone after outcome
 
 -- what comes of it in a process that has the sets of what the bytes read as
-abbrev pub IsExecuted : Execution → List ℕ → Result Outcome FileFault → Type 0
+abbrev pub IsExecuted : Execution → List ℕ → Result ExecveOutcome FileFault → Type 0
 IsExecuted execution bytes (Ok outcome) =
     (profile : Profile) × (reading_of bytes ≡ Ok profile)
     × IsOutcome execution profile.caps outcome

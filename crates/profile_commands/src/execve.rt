@@ -15,7 +15,7 @@ use streams::Counted;
 
 /// What comes of execve.
 #[derive(Debug, Drop)]
-pub enum Outcome {
+pub enum ExecveOutcome {
     /// The five lines of the state after it.
     Done(String),
     /// The kernel refuses it with EPERM.
@@ -23,11 +23,11 @@ pub enum Outcome {
 }
 
 // The outcome of a state after execve.
-fn done(alloc: Global, after: &CapState) -> Result<Outcome, AllocError>
+fn done(alloc: Global, after: &CapState) -> Result<ExecveOutcome, AllocError>
     ensures { IfOk result (IsDone after.now) }
 {
     let text = state_text(alloc, after)?;
-    Ok(Outcome::Done(text))
+    Ok(ExecveOutcome::Done(text))
 }
 
 // What comes of execve in a process of this state.
@@ -35,14 +35,14 @@ fn outcome_of(
     alloc: Global,
     execution: &Execution,
     before: &CapState,
-) -> Result<Outcome, AllocError>
+) -> Result<ExecveOutcome, AllocError>
     ensures { IfOk result (IsOutcome execution.now before.now) }
 {
     match execution {
         Execution::ByRoot => done(alloc, &execve_root(before)),
         Execution::OfFile(file) => match execve(before, *file) {
             Ok(after) => done(alloc, &after),
-            Err(_) => Ok(Outcome::Denied),
+            Err(_) => Ok(ExecveOutcome::Denied),
         },
     }
 }
@@ -56,7 +56,7 @@ pub fn execve_document<R: Read>(
     alloc: Global,
     execution: &Execution,
     reader: &mut Counted<R>,
-) -> Result<Outcome, FileFault>
+) -> Result<ExecveOutcome, FileFault>
     requires calls { reader.old.calls ≤ 2 ^ 62 }
     requires faults { reader.old.faults ≤ 2 ^ 62 }
     ensures executed { IfSome (R.remaining reader.old.inner)

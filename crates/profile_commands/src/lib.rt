@@ -14,6 +14,6 @@ pub use check::check_document;
 pub use compare::{ComparedFault, compare_documents};
 pub use document::read_document;
 pub use execution::{Execution, ExecutionFault, execution_of};
-pub use execve::{Outcome, execve_document};
+pub use execve::{ExecveOutcome, execve_document};
 pub use fault::FileFault;
 pub use list::set_listed;

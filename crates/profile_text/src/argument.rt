@@ -137,7 +137,7 @@ fn args_in(alloc: Global, entry: usize, values: &[Tree<'_>]) -> Result<Vec<ArgPa
 
 /// A list of arguments, or null.
 #[tactic(auto, unfolding(crate::specs::Shape::optional_faults, crate::specs::Shape::list_faults, crate::specs::FilterParts::list_as))]
-pub(crate) fn args_of(
+pub(crate) fn optional_args(
     alloc: Global,
     entry: usize,
     value: &Tree<'_>,

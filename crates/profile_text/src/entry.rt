@@ -9,7 +9,7 @@ ghost use Rattle.profile_text.specs.Reading.{Gives, GivesAs, unless_faulty};
 ghost use Rattle.profile_text.specs.Shape.{below, items_faults, list_faults, object_faults};
 ghost use Rattle.profile_text.specs.Shape.{optional_faults};
 
-use crate::argument::args_of;
+use crate::argument::optional_args;
 use crate::fault::{DocFault, Path};
 use crate::members::{FromMembers, with_members};
 use crate::place::Place;
@@ -94,7 +94,7 @@ impl FromMembers for FoundEntry {
             self.word = Some(word);
             Ok(())
         } else if name == "args" {
-            let args = args_of(alloc, entry, value)?;
+            let args = optional_args(alloc, entry, value)?;
             self.args = args;
             Ok(())
         } else if name == "errnoRet" {

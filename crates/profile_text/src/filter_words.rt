@@ -11,7 +11,7 @@ ghost use Rattle.profile_text.specs.Shape.{word_faults};
 use crate::fault::{DocFault, Path};
 use crate::place::Place;
 use json_tree::Tree;
-use seccomp_doc::{Form, Formed, WordFault};
+use seccomp_doc::{Form, Formed, NameFault};
 use std::alloc::Global;
 
 // The word at a position of a list.
@@ -31,10 +31,10 @@ fn word_of<F: Form>(
     match value {
         Tree::String(text) => match Formed::read(alloc, text) {
             Ok(word) => Ok(word),
-            Err(WordFault::NotAWord) => {
+            Err(NameFault::NotAWord) => {
                 Err(DocFault::UnknownWord(Path::of_item(alloc, place, name, position)?))
             }
-            Err(WordFault::NoMemory) => Err(DocFault::NoMemory),
+            Err(NameFault::NoMemory) => Err(DocFault::NoMemory),
         },
         _ => Err(DocFault::WrongShape(Path::of_item(alloc, place, name, position)?)),
     }

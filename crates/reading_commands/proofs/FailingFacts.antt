@@ -11,7 +11,7 @@ use Rattle.profile_commands.specs.Refusal.{IsChecked}
 use Rattle.profile_commands.specs.declared.compare.ComparedFault.{ComparedFault}
 use Rattle.profile_commands.specs.declared.execution.Execution.{Execution}
 use Rattle.profile_commands.specs.declared.execution.ExecutionFault.{ExecutionFault}
-use Rattle.profile_commands.specs.declared.execve.Outcome.{Outcome}
+use Rattle.profile_commands.specs.declared.execve.ExecveOutcome.{ExecveOutcome}
 use Rattle.profile_commands.specs.declared.fault.FileFault.{FileFault}
 use Rattle.streams.specs.declared.counted.Counted.{Counted}
 use Rattle.reading_commands.specs.Documents.{outcome_text, source_bytes, IsSource}
@@ -63,7 +63,7 @@ module _ {F O : Type 0} (Opens : List ℕ → Result F Error → Type 0) (bytes_
           subst (λ (w : CommandFault). FailsToExecute Opens bytes_of contents output wrote words w) (sym is)
           ((execution, described), (file, opened, refused, same))
 
-      pub execve_cut : (file : F) (outcome : Outcome) (printed : List ℕ) → Opens words.file.now (Ok file)
+      pub execve_cut : (file : F) (outcome : ExecveOutcome) (printed : List ℕ) → Opens words.file.now (Ok file)
           → IfSome (bytes_of file) (λ bytes. IsExecuted execution bytes (Ok outcome)) → printed ≡ outcome_text outcome
           → (why ≡ fault.Write) × IsCut contents output wrote printed → FailsToExecute Opens bytes_of contents output wrote words why
       execve_cut file outcome printed opened executed is it =

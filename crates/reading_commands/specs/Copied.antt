@@ -6,10 +6,9 @@ use Rattle.std.specs.declared.io.ErrorKind.{ErrorKind}
 use Rattle.std.specs.declared.io.ErrorKind.TheVariants as kind
 use Rattle.sqlite.specs.Held.{Held}
 use Rattle.sqlite.specs.declared.error.Error.{Error as SqliteError}
-use Rattle.memory_database.specs.Copies.{CopyStore, over_copy, IsCopyOf}
-use Rattle.office_tables.specs.declared.fault.StoreFault.{StoreFault}
-use Rattle.office_tables.specs.declared.fault.StoreFault.TheVariants.{NoMemory, Disk, Full}
-use Rattle.office_tables.specs.declared.fault.StoreFault.TheVariants.{NotAnOffice}
+use Rattle.memory_database.specs.Copies.{CopyStore, over_copy, FailsToCopy, IsCopyOf}
+use Rattle.review_policy.specs.declared.fault.Fault.{Fault}
+use Rattle.review_policy.specs.declared.fault.Fault.TheVariants.{NoMemory, Disk, Full, NotAnOffice}
 use Rattle.command_host.specs.Openings.{fault_of_opening, IsNoOffice, IsOpenedOffice}
 use Rattle.command_host.specs.declared.fault.CommandFault.{CommandFault}
 use Rattle.command_host.specs.declared.fault.CommandFault.TheVariants as fault
@@ -30,14 +29,14 @@ Gave {F} Opened bytes_of bytes =
     (file : F) × Opened (Ok file) × IfSome (bytes_of file) (λ all. bytes ≡ all)
 
 -- why a file that was opened gives no bytes
-abbrev pub IsOfReading : StoreFault → Type 0
+abbrev pub IsOfReading : Fault → Type 0
 IsOfReading Disk = Unit {0}
 IsOfReading NoMemory = Unit {0}
 IsOfReading _ = ⊥
 
 -- It gave none, for this: nothing is there; something is and can't be opened, or can't be read; or
 -- there was no memory.
-abbrev pub GaveNone : {F : Type 0} → (Result F Error → Type 0) → StoreFault → Type 0
+abbrev pub GaveNone : {F : Type 0} → (Result F Error → Type 0) → Fault → Type 0
 GaveNone Opened NotAnOffice = (e : Error) × Opened (Err e) × IsMissing e
 GaveNone {F} Opened Disk = ((e : Error) × Opened (Err e)) ⊎ ((file : F) × Opened (Ok file))
 GaveNone {F} Opened NoMemory = (file : F) × Opened (Ok file)
@@ -63,12 +62,22 @@ module _ {F : Type 0} (Opens : List ℕ → Result F Error → Type 0)
   abbrev pub IsCopiedOffice : Held CopyStore → Type 0
   IsCopiedOffice = IsOpenedOffice over_copy IsCopyAt
 
+  -- the two files gave bytes of which no database is opened in a copy, for this
+  pub record IsUncopied (why : Fault) : Type 0 where
+    pub log : List ℕ
+    pub database : List ℕ
+    pub from_log : GaveLog log
+    pub from_database : Gave (Opens path) bytes_of database
+    pub error : SqliteError
+    pub fails : FailsToCopy log database error
+    pub told : why ≡ fault_of_opening error
+
   -- There is none, for this: one of the two files gave no bytes, where the log has no part in that
   -- it isn't there; the bytes are no database; or there was no memory.
-  abbrev pub IsNoCopy : StoreFault → Type 0
+  abbrev pub IsNoCopy : Fault → Type 0
   IsNoCopy why = GaveNone (Opens path) why
       ⊎ ((why ≢ NotAnOffice) × GaveNone (Opens (log_path path)) why)
-      ⊎ ((e : SqliteError) × (why ≡ fault_of_opening e)) ⊎ (why ≡ NoMemory)
+      ⊎ IsUncopied why ⊎ (why ≡ NoMemory)
 
   -- there is no copy; or what is in it is no office of this schema
   abbrev pub IsNoCopiedOffice : CommandFault → Type 0

@@ -10,7 +10,7 @@ use Rattle.profile_commands.specs.Executions.{execution_of, IsExecuted}
 use Rattle.profile_commands.specs.Refusal.{IsChecked, RefusesAs}
 use Rattle.profile_commands.specs.declared.compare.ComparedFault.{ComparedFault}
 use Rattle.profile_commands.specs.declared.execution.Execution.{Execution}
-use Rattle.profile_commands.specs.declared.execve.Outcome.{Outcome}
+use Rattle.profile_commands.specs.declared.execve.ExecveOutcome.{ExecveOutcome}
 use Rattle.profile_commands.specs.declared.fault.FileFault.{FileFault}
 use Rattle.streams.specs.declared.counted.Counted.{Counted}
 use Rattle.reading_commands.specs.declared.compare.Source.{Source}
@@ -69,7 +69,7 @@ module _ {F O : Type 0} (Opens : List ℕ → Result F Error → Type 0)
       ((execution : Execution) × (execution_of words ≡ Ok execution))
       × GaveNothing words.file.now why
   FailsToExecute words fault.Write =
-      (file : F) × (execution : Execution) × (outcome : Outcome)
+      (file : F) × (execution : Execution) × (outcome : ExecveOutcome)
       × (execution_of words ≡ Ok execution) × Opens words.file.now (Ok file)
       × IfSome (bytes_of file) (λ bytes. IsExecuted execution bytes (Ok outcome))
       × IsCut contents output wrote (outcome_text outcome)

@@ -10,18 +10,18 @@ use Rattle.profile_commands.specs.Comparing.{IsCompared}
 use Rattle.profile_commands.specs.Executions.{execution_of, IsExecuted}
 use Rattle.profile_commands.specs.Refusal.{IsChecked}
 use Rattle.profile_commands.specs.declared.execution.Execution.{Execution}
-use Rattle.profile_commands.specs.declared.execve.Outcome.{Outcome}
-use Rattle.profile_commands.specs.declared.execve.Outcome.TheVariants.{Done, Denied}
+use Rattle.profile_commands.specs.declared.execve.ExecveOutcome.{ExecveOutcome}
+use Rattle.profile_commands.specs.declared.execve.ExecveOutcome.TheVariants.{Done, Denied}
 use Rattle.reading_commands.specs.declared.compare.Source.{Source}
 use Rattle.reading_commands.specs.declared.compare.Source.TheVariants.{Opened, Unopened}
 
 -- what is printed of an execve: the lines of the state after it, or EPERM
-abbrev pub outcome_text : Outcome → List ℕ
+abbrev pub outcome_text : ExecveOutcome → List ℕ
 outcome_text (Done text) = string_bytes text
 outcome_text Denied = codes "EPERM\n"
 
 -- and the status with it
-abbrev pub outcome_status : Outcome → ℕ
+abbrev pub outcome_status : ExecveOutcome → ℕ
 outcome_status (Done text) = 0
 outcome_status Denied = 1
 
@@ -59,7 +59,7 @@ module _ {F O : Type 0} (Opens : List ℕ → Result F Error → Type 0)
     pub file : F
     pub opened : Opens words.file.now (Ok file)
     pub execution : Execution
-    pub outcome : Outcome
+    pub outcome : ExecveOutcome
     pub described : execution_of words ≡ Ok execution
     pub executed : IfSome (bytes_of file) (λ bytes. IsExecuted execution bytes (Ok outcome))
     pub printed : IsWhole contents output wrote (outcome_text outcome)

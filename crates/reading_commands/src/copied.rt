@@ -11,13 +11,13 @@ ghost use Rattle.reading_commands.specs.Copied.{IsOfReading};
 use command_host::{CommandFault, PassFiles, fault_of_opening};
 use memory_database::{CopyStore, open_copy};
 use office_desk::Office;
-use office_tables::StoreFault;
+use review_policy::Fault;
 use sqlite::Connection;
 use std::alloc::Global;
 use std::io::{ErrorKind, Read};
 
 // All bytes of a file.
-fn bytes_in<R: Read>(alloc: Global, file: &mut R) -> Result<Vec<u8>, StoreFault>
+fn bytes_in<R: Read>(alloc: Global, file: &mut R) -> Result<Vec<u8>, Fault>
     ensures bytes { IfOk result (λ bytes.
         IfSome (R.remaining file.old) (λ all. bytes.items ≡ all)) }
     ensures fault { IfErr result IsOfReading }
@@ -25,36 +25,36 @@ fn bytes_in<R: Read>(alloc: Global, file: &mut R) -> Result<Vec<u8>, StoreFault>
     let mut bytes = Vec::new(alloc);
     match file.read_to_end(&mut bytes) {
         Ok(_) => Ok(bytes),
-        Err(error) if error.kind() == ErrorKind::OutOfMemory => Err(StoreFault::NoMemory),
-        Err(_) => Err(StoreFault::Disk),
+        Err(error) if error.kind() == ErrorKind::OutOfMemory => Err(Fault::NoMemory),
+        Err(_) => Err(Fault::Disk),
     }
 }
 
 // The bytes of the file at a path.
-fn bytes_at<F: PassFiles>(files: &F, alloc: Global, path: &str) -> Result<Vec<u8>, StoreFault>
+fn bytes_at<F: PassFiles>(files: &F, alloc: Global, path: &str) -> Result<Vec<u8>, Fault>
     ensures bytes { IfOk result (λ bytes.
         Gave (F.opens files.now path.now) F.File.remaining bytes.items) }
     ensures none { IfErr result (GaveNone (F.opens files.now path.now)) }
 {
     match files.open_at(path) {
         Ok(mut file) => bytes_in(alloc, &mut file),
-        Err(error) if error.kind() == ErrorKind::NotFound => Err(StoreFault::NotAnOffice),
-        Err(_) => Err(StoreFault::Disk),
+        Err(error) if error.kind() == ErrorKind::NotFound => Err(Fault::NotAnOffice),
+        Err(_) => Err(Fault::Disk),
     }
 }
 
 // The bytes of the log beside a database; none where no log is there.
-fn log_at<F: PassFiles>(files: &F, alloc: Global, path: &str) -> Result<Vec<u8>, StoreFault>
+fn log_at<F: PassFiles>(files: &F, alloc: Global, path: &str) -> Result<Vec<u8>, Fault>
     ensures bytes { IfOk result (λ bytes.
         GaveLog (F.opens files.now) F.File.remaining path.now bytes.items) }
     ensures none { IfErr result (IsNoCopy (F.opens files.now) F.File.remaining path.now) }
 {
     let Ok(log) = format!(in alloc; "{path}-wal") else {
-        return Err(StoreFault::NoMemory);
+        return Err(Fault::NoMemory);
     };
     match bytes_at(files, alloc, log.as_str()) {
         Ok(bytes) => Ok(bytes),
-        Err(StoreFault::NotAnOffice) => Ok(Vec::new(alloc)),
+        Err(Fault::NotAnOffice) => Ok(Vec::new(alloc)),
         Err(fault) => Err(fault),
     }
 }
@@ -64,7 +64,7 @@ fn copy_at<F: PassFiles>(
     files: &F,
     alloc: Global,
     path: &str,
-) -> Result<Connection<CopyStore>, StoreFault>
+) -> Result<Connection<CopyStore>, Fault>
     ensures copy { IfOk result (IsCopyAt (F.opens files.now) F.File.remaining path.now) }
     ensures none { IfErr result (IsNoCopy (F.opens files.now) F.File.remaining path.now) }
 {
@@ -82,7 +82,8 @@ fn copy_at<F: PassFiles>(
 /// # Errors
 ///
 /// `Store` where there is no copy: `NotAnOffice` where nothing is at the path, or what is there is no
-/// database, `Disk` where a file can't be read. `Opening` where what is in it is no office.
+/// database, `Disk` where a file can't be read, or has a database that is damaged. `Opening` where
+/// what is in it is no office.
 pub(crate) fn office_in_copy<F: PassFiles>(
     files: &F,
     alloc: Global,

@@ -10,7 +10,7 @@ ghost use Rattle.reading_commands.specs.Documents.{HasExecuted};
 use crate::compare::compare_files;
 use command_host::{CommandFault, PassFiles, print};
 use command_line::ExecveWords;
-use profile_commands::{Outcome, check_document, execution_of, execve_document};
+use profile_commands::{ExecveOutcome, check_document, execution_of, execve_document};
 use std::alloc::Global;
 use std::io::Write;
 use streams::Counted;
@@ -74,11 +74,11 @@ pub fn run_execve<F: PassFiles, O: Write>(
     let execution = execution_of(words)?;
     let mut reader = open(files, words.file)?;
     match execve_document(alloc, &execution, &mut reader)? {
-        Outcome::Done(text) => {
+        ExecveOutcome::Done(text) => {
             print(output, text.as_str())?;
             Ok(0)
         }
-        Outcome::Denied => {
+        ExecveOutcome::Denied => {
             print(output, "EPERM\n")?;
             Ok(1)
         }

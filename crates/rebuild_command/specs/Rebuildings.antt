@@ -5,12 +5,12 @@ use Rattle.sqlite.specs.Held.{Held, state}
 use Rattle.sqlite.specs.Store.{Ghosts}
 use Rattle.desk_http.specs.Lines.{IsCut, IsWhole}
 use Rattle.journal_rebuilding.specs.Rebuilding.{IsBuilt, IsUnbuilt}
-use Rattle.journal_replay.specs.declared.fault.Refused.{Refused}
-use Rattle.journal_replay.specs.declared.fault.Why.{Why}
-use Rattle.journal_replay.specs.declared.fault.Why.TheVariants as halt
+use Rattle.journal_office.specs.declared.refused.Refused.{Refused}
+use Rattle.journal_office.specs.declared.refused.Why.{Why}
+use Rattle.journal_office.specs.declared.refused.Why.TheVariants as halt
 use Rattle.office_desk.specs.Meant.{meaning_over}
 use Rattle.office_store.specs.Schema.{no_schema}
-use Rattle.office_tables.specs.declared.fault.StoreFault.{StoreFault}
+use Rattle.review_policy.specs.declared.fault.Fault.{Fault}
 use Rattle.command_host.specs.declared.databases.Databases as databases
 use Rattle.command_host.specs.declared.fault.CommandFault.{CommandFault}
 use Rattle.command_host.specs.declared.fault.CommandFault.TheVariants as fault
@@ -66,7 +66,7 @@ module _ {S D F : Type 0} (g : Ghosts S) (d : databases.Ghosts D (Held S)) (path
   -- whatever came of that; or all of it is, and the database couldn't be closed.
   abbrev pub IsUnrebuilt : CommandFault → Type 0
   IsUnrebuilt why =
-      IsNoText Opens why ⊎ ((unopened : StoreFault) × IsUnopened d path unopened
+      IsNoText Opens why ⊎ ((unopened : Fault) × IsUnopened d path unopened
       × (why ≡ fault.Store unopened))
       ⊎ ((refused : Refused) × WasUnbuilt g Opens bytes_of (d.opened path) (IsEnded d) refused
       × (why ≡ told_of refused))

@@ -5,8 +5,8 @@ ghost use Rattle.rebuild_command.specs.Rebuildings.{FailsToRebuild, HasRebuilt, 
 ghost use Rattle.rebuild_command.specs.Rebuildings.{WasRebuilt, rebuilt_line, told_of};
 
 use command_host::{CommandFault, Databases, PassFiles, close, open, print_bytes, text_at};
+use journal_office::{Rebuilt, Refused, Why};
 use journal_rebuilding::rebuild_as_read;
-use journal_replay::{Rebuilt, Refused, Why};
 use sealed_log::Seal;
 use sqlite::{Alter, Connection};
 use std::alloc::{AllocError, Global};

@@ -1,8 +1,8 @@
 -- The words by which lines and pages name rules, states, faults and roles.
 use Rattle.std.specs.Prelude.{ℕ, List, [], ◌∷◌, Option, find, codes}
 use Rattle.std.specs.Str.{bytes_eq}
-use Rattle.review_policy.specs.declared.answer.Fault.{Fault}
-use Rattle.review_policy.specs.declared.answer.Fault.TheVariants.{Memory, Disk, Full, NotAnOffice}
+use Rattle.review_policy.specs.declared.fault.Fault.{Fault}
+use Rattle.review_policy.specs.declared.fault.Fault.TheVariants.{NoMemory, Disk, Full, NotAnOffice}
 use Rattle.review_policy.specs.declared.denial.Rule.{Rule}
 use Rattle.review_policy.specs.declared.denial.Rule.TheVariants.{CallerUnknown, RoleMissing, OwnRow}
 use Rattle.review_policy.specs.declared.denial.Rule.TheVariants.{TeamFixed, TokenTaken, OtherTeam}
@@ -60,7 +60,7 @@ state_word Withdrawn = codes "withdrawn"
 
 -- the word of each fault
 abbrev pub fault_word : Fault → List ℕ
-fault_word Memory = codes "memory"
+fault_word NoMemory = codes "memory"
 fault_word Disk = codes "disk"
 fault_word Full = codes "full"
 fault_word NotAnOffice = codes "not-an-office"

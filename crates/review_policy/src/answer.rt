@@ -1,9 +1,9 @@
 //! What the office answers.
 
 ghost use Rattle.std.specs.Prelude.{◌≡◌};
-ghost use Rattle.review_policy.specs.WordTables.{fault_word};
 
 use crate::denial::Denial;
+use crate::fault::Fault;
 use crate::revision::State;
 use crate::text::Text;
 use crate::word::Word;
@@ -98,33 +98,6 @@ pub enum Reply {
     Held,
     /// The profile is no longer held.
     Released,
-}
-
-/// What failed, so that a request was not done.
-#[derive(Clone, Copy, Debug, PartialEq, Eq)]
-pub enum Fault {
-    /// There was no memory. No contract can say when: it may stand in place of any answer.
-    Memory,
-    /// The disk failed.
-    Disk,
-    /// The disk is full, or a value is too big for it.
-    Full,
-    /// The tables aren't those of an office.
-    NotAnOffice,
-}
-
-impl Fault {
-    /// Its word, as answers name it.
-    pub fn word(self) -> &'static str
-        ensures { result.now ≡ fault_word self }
-    {
-        match self {
-            Fault::Memory => "memory",
-            Fault::Disk => "disk",
-            Fault::Full => "full",
-            Fault::NotAnOffice => "not-an-office",
-        }
-    }
 }
 
 /// The answer to a request.

@@ -5,7 +5,7 @@ use crate::token::Token;
 use crate::word::Word;
 
 /// A profile, by its team and its own name.
-#[derive(Debug, Drop)]
+#[derive(Clone, Debug, Drop)]
 pub struct ProfileName {
     /// The team that the profile is of.
     pub team: Word,

@@ -8,13 +8,14 @@ pub mod decide;
 pub mod denial;
 pub mod digest;
 pub mod facts;
+pub mod fault;
 pub mod revision;
 pub mod role;
 pub mod text;
 pub mod token;
 pub mod word;
 
-pub use answer::{Answer, Fault, ListedProfile, Listing, Reply};
+pub use answer::{Answer, ListedProfile, Listing, Reply};
 pub use ask::{Ask, ProfileName, Request};
 pub use decide::{
     decide_adopt, decide_enrol, decide_fetch, decide_hold, decide_issue, decide_read,
@@ -27,8 +28,9 @@ pub use facts::{
     AdoptFacts, EnrolFacts, FetchFacts, HoldFacts, IssueFacts, ReadFacts, ReleaseFacts,
     SubmitFacts, VoteFacts, WithdrawFacts,
 };
+pub use fault::Fault;
 pub use revision::{MAX_REVISIONS, State, VoteRow};
-pub use role::{Role, Roles};
+pub use role::{Role, Roles, each_role_is_listed};
 pub use text::Text;
 pub use token::Token;
 pub use word::{Word, WordFault};

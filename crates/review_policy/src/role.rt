@@ -3,8 +3,9 @@
 ghost use Rattle.std.specs.Prelude.{◌≡◌, ◌<◌, ◌^◌, Some, None, IfSome, if◌then◌else◌, nat_lt};
 ghost use Rattle.std.specs.Int.RustNames.{bit_or};
 ghost use Rattle.review_policy.specs.Role.{has_role, place_of};
-ghost use Rattle.review_policy.specs.WordTables.{role_word, role_of};
+ghost use Rattle.review_policy.specs.WordTables.{all_roles, role_word, role_of};
 ghost use Rattle.review_policy.specs.declared.role.Role.{Role};
+ghost use Rattle.review_policy.specs.declared.role.TheConstants.Role as roles;
 
 use std::marker::Model;
 
@@ -42,6 +43,16 @@ fn role_named(text: &str) -> Option<Role>
 }
 
 impl Role {
+    /// Every role, by its bit.
+    pub const ALL: [Role; 6] = [
+        Role::Registrar,
+        Role::Author,
+        Role::Reviewer,
+        Role::Security,
+        Role::Issuer,
+        Role::Machine,
+    ];
+
     /// Its word, as requests name it.
     pub fn word(self) -> &'static str
         ensures { result.now ≡ role_word self }
@@ -65,6 +76,11 @@ impl Role {
         role_named(text)
     }
 }
+
+/// The law of the list of roles: it has each, by its bit.
+pub fn each_role_is_listed()
+    ensures { roles.ALL ≡ all_roles }
+{}
 
 /// A set of roles.
 #[derive(Clone, Copy, Debug, PartialEq, Eq)]

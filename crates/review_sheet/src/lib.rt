@@ -23,3 +23,4 @@ pub use laws::{
 };
 pub use sets::state_text;
 pub use sheet_text::sheet;
+pub use votes::vote_word;

@@ -29,8 +29,8 @@ fn push_each(text: &mut String, votes: &[VoteRow]) -> Result<(), AllocError>
     Ok(())
 }
 
-// What a vote says.
-fn vote_word(approve: bool) -> &'static str
+/// The word of a vote, by whether it approves.
+pub fn vote_word(approve: bool) -> &'static str
     ensures { result.now ≡ vote_word approve }
 {
     if approve { "approve" } else { "reject" }

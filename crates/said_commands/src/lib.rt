@@ -1,7 +1,7 @@
 //! What the program says to a command line, as text.
 #![tactic(auto)]
 
-use command_host::{Databases, HostJournals, Network, Unread};
+use command_host::{Databases, HostJournals, Network, UnknownFiles};
 use office_commands::run_words;
 use sqlite::{Alter, Connection};
 use std::alloc::{AllocError, Global};
@@ -41,7 +41,7 @@ fn run_line<S: Alter + Drop, D: Databases<Database = Connection<S>>, N: Network,
     let status = run_words(
         rt,
         databases,
-        &HostJournals::new(rt, Unread),
+        &HostJournals::new(rt, UnknownFiles),
         network,
         alloc,
         &words,

@@ -2,8 +2,8 @@
 use Rattle.std.specs.Prelude.{◌≡◌, ℕ, List, Bool, true, false, ◌&&◌, ◌||◌, ◌==◌, nat_lt, nat_le}
 use Rattle.std.specs.Prelude.{Result, Ok, Err, length, take, drop, bytes_eq, codes}
 use Rattle.std.specs.List.{list_all}
-use Rattle.seccomp_doc.specs.declared.word.WordFault.{WordFault}
-use Rattle.seccomp_doc.specs.declared.word.WordFault.TheVariants.{NotAWord, NoMemory}
+use Rattle.seccomp_doc.specs.declared.word.NameFault.{NameFault}
+use Rattle.seccomp_doc.specs.declared.word.NameFault.TheVariants.{NotAWord, NoMemory}
 
 abbrev pub is_upper_case : ℕ → Bool
 is_upper_case b = nat_le 65 b && nat_le b 90
@@ -50,7 +50,7 @@ is_call_name text = is_name is_call_byte 64 text
 
 -- what a reader answers: the text, where it is of the form, or that it isn't, or that memory was
 -- refused
-abbrev pub Reads : (List ℕ → Bool) → List ℕ → Result (List ℕ) WordFault → Type 0
+abbrev pub Reads : (List ℕ → Bool) → List ℕ → Result (List ℕ) NameFault → Type 0
 Reads form text (Ok word) = (form text ≡ true) × (word ≡ text)
 Reads form text (Err NotAWord) = form text ≡ false
 Reads form text (Err NoMemory) = form text ≡ true

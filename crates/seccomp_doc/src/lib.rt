@@ -26,4 +26,4 @@ pub use filter::{Filter, action_for};
 pub use flag::ScmpFlag;
 pub use parts::{ArgParts, EntryParts, FilterParts};
 pub use text::{Form, Formed};
-pub use word::WordFault;
+pub use word::NameFault;

@@ -3,7 +3,7 @@
 ghost use Rattle.std.specs.Prelude.{◌≡◌, true, if◌then◌else◌, Some, None, string_bytes};
 ghost use Rattle.seccomp_doc.specs.Word.{Reads};
 
-use crate::word::WordFault;
+use crate::word::NameFault;
 use std::alloc::Global;
 use std::fmt;
 use std::marker::{Model, PhantomData};
@@ -43,11 +43,11 @@ impl<F: Form> Formed<F> {
     /// # Errors
     ///
     /// `NotAWord` where it is of another form; `NoMemory` where it is out of memory.
-    pub fn read(alloc: Global, text: &str) -> Result<Formed<F>, WordFault>
+    pub fn read(alloc: Global, text: &str) -> Result<Formed<F>, NameFault>
         ensures { Reads F.is_form text.now result }
     {
         if !F::is_form(text) {
-            return Err(WordFault::NotAWord);
+            return Err(NameFault::NotAWord);
         }
         Ok(Formed {
             text: String::from_str(alloc, text)?,

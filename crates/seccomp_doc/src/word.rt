@@ -7,7 +7,7 @@ use thiserror::Error;
 
 /// Why a text is read as no name.
 #[derive(Debug, Drop, Error)]
-pub enum WordFault {
+pub enum NameFault {
     /// The text isn't of the form.
     #[error("not a word")]
     NotAWord,
@@ -16,14 +16,14 @@ pub enum WordFault {
     NoMemory,
 }
 
-impl From<AllocError> for WordFault {
+impl From<AllocError> for NameFault {
     ghost use Rattle.std.specs.Prelude.{◌≡◌};
-    ghost use Rattle.seccomp_doc.specs.declared.word.WordFault.TheVariants.{NoMemory};
+    ghost use Rattle.seccomp_doc.specs.declared.word.NameFault.TheVariants.{NoMemory};
 
     ghost from_gives = { λ _ e. e ≡ NoMemory };
 
-    fn from(_error: AllocError) -> WordFault {
-        WordFault::NoMemory
+    fn from(_error: AllocError) -> NameFault {
+        NameFault::NoMemory
     }
 }
 

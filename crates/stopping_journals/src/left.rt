@@ -1,9 +1,8 @@
 //! What is left of an office and its journal, and what that has to be.
 
-use journal_replay::{Rebuilt, rebuild};
-use journaled_office::reopen;
+use journal::Journaled;
+use journal_office::{Rebuilt, rebuild, reopen};
 use office_desk::Office;
-use office_journal::Journaled;
 use sealed_log::{Seal, SealedLog};
 use sqlite::{Connection, FileStore, Files};
 use sqlite_disk::{Disk, Memory};

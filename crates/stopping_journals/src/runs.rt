@@ -1,7 +1,7 @@
 //! An office over two files with its journal in a third: each of the three stops in turn.
 
 use crate::left::{AllTold, Kept, Remains};
-use journaled_office::reopen;
+use journal_office::reopen;
 use json_requests::{line, read_line};
 use office_desk::Office;
 use office_policy::Handler;

@@ -4,13 +4,13 @@ ghost use Rattle.std.specs.Prelude.{IfOk};
 ghost use Rattle.sqlite.specs.Held.{state};
 ghost use Rattle.office_store.specs.Shown.{IsIdle};
 
-use crate::texts::OLD_OFFICE;
 use office_desk::Office;
 use office_store::migrate;
 use sqlite::{Alter, Connection};
 use std::alloc::Global;
 use std::test::Fail;
 use test_offices::offices::found_office;
+use test_offices::old::OLD_OFFICE;
 
 #[derive(Clone, Copy, Debug)]
 pub enum Beginning {

@@ -10,8 +10,8 @@ use office_store::{
     put_vote, revision, revisions_of, set_issued, set_withdrawn, standing, tally, user_by_name,
     user_by_token,
 };
-use office_tables::{RevisionRow, StoreFault, UserRow};
-use review_policy::{ProfileName, Roles, State, Text, Word, WordFault};
+use office_tables::{RevisionRow, UserRow};
+use review_policy::{Fault, ProfileName, Roles, State, Text, Word, WordFault};
 use sqlite::{Alter, Connection};
 use std::alloc::{AllocError, Global};
 use std::fmt::Debug;
@@ -68,13 +68,13 @@ fn found_office<S: Alter>(alloc: Global, conn: &mut Connection<S>) -> Result<(),
     ensures { IsIdle (state S.Store conn.new) }
 {
     let (Ok(name), Ok(team)) = (Word::new(alloc, "root"), Word::new(alloc, "ops")) else {
-        return Err(FoundingFault::Store(StoreFault::NoMemory));
+        return Err(FoundingFault::Store(Fault::NoMemory));
     };
     let listed = Caps::from_name("CAP_SYS_ADMIN").unwrap_or(Caps::empty());
     found(conn, &name, &team, &[1; 32], listed)
 }
 
-fn put<S: Alter>(conn: &mut Connection<S>, subject: &Subject) -> Result<(), StoreFault>
+fn put<S: Alter>(conn: &mut Connection<S>, subject: &Subject) -> Result<(), Fault>
     requires { IsIdle (state S.Store conn.old) }
     ensures { IsIdle (state S.Store conn.new) }
 {
@@ -88,11 +88,7 @@ fn put<S: Alter>(conn: &mut Connection<S>, subject: &Subject) -> Result<(), Stor
 }
 
 // Adds a revision after the last one, whose body is `{}` and whose digest has the byte 7 alone, and answers its number.
-fn add<S: Alter>(
-    alloc: Global,
-    conn: &mut Connection<S>,
-    subject: &Subject,
-) -> Result<u32, StoreFault>
+fn add<S: Alter>(alloc: Global, conn: &mut Connection<S>, subject: &Subject) -> Result<u32, Fault>
     requires { IsIdle (state S.Store conn.old) }
     ensures { IsIdle (state S.Store conn.new) }
 {
@@ -129,10 +125,7 @@ fn byte_of(digest: &[u8; 32]) -> u8 {
 }
 
 // The name, the team, the roles and the byte of the digest of a user.
-fn user_text(
-    alloc: Global,
-    answer: Result<Option<UserRow>, StoreFault>,
-) -> Result<String, AllocError> {
+fn user_text(alloc: Global, answer: Result<Option<UserRow>, Fault>) -> Result<String, AllocError> {
     match answer {
         Ok(Some(user)) => {
             let (name, team, roles) = (user.name.as_str(), user.team.as_str(), user.roles.bits());
@@ -145,7 +138,7 @@ fn user_text(
 // The number, the author, the state, the body and the byte of the digest of a revision.
 fn revision_text(
     alloc: Global,
-    answer: Result<Option<RevisionRow>, StoreFault>,
+    answer: Result<Option<RevisionRow>, Fault>,
 ) -> Result<String, AllocError> {
     match answer {
         Ok(Some(revision)) => {

@@ -2,6 +2,7 @@
 #![tactic(auto)]
 
 pub mod offices;
+pub mod old;
 pub mod served;
 pub mod tables;
 pub mod trial;

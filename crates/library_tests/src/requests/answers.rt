@@ -41,7 +41,12 @@ const FAULTS: &str = "\
      Connection: close\r\n\r\n{\"answer\":\"fault\",\"word\":\"memory\"}";
 
 fn push_faults(text: &mut String, alloc: Global) -> Result<(), AllocError> {
-    for fault in [Fault::Memory, Fault::Disk, Fault::Full, Fault::NotAnOffice] {
+    for fault in [
+        Fault::NoMemory,
+        Fault::Disk,
+        Fault::Full,
+        Fault::NotAnOffice,
+    ] {
         write!(text, "{} ", fault.word())?;
         push_told(text, alloc, Answer::Fault(fault))?;
     }

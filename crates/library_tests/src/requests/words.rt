@@ -81,14 +81,7 @@ fn push_role(told: &mut String, role: Role) -> Result<(), AllocError> {
 }
 
 fn push_roles(told: &mut String) -> Result<(), AllocError> {
-    for role in [
-        Role::Registrar,
-        Role::Author,
-        Role::Reviewer,
-        Role::Security,
-        Role::Issuer,
-        Role::Machine,
-    ] {
+    for role in Role::ALL {
         push_role(told, role)?;
     }
     Ok(())

@@ -1,9 +1,9 @@
 // An office in memory with a journal in memory.
 
 use crate::office::openings::run;
+use journal::Journaled;
 use json_requests::{line, read_line};
 use office_desk::Office;
-use office_journal::Journaled;
 use office_policy::{Handler, Judge};
 use sealed_log::{Reader, SealedLog};
 use sqlite::{Connection, MemStore};

@@ -7,7 +7,7 @@ ghost use Rattle.office_store.specs.Shown.{IsIdle};
 use crate::office::founded::{founded, reopened};
 use office_desk::Office;
 use office_store::{FoundingFault, OpeningFault};
-use office_tables::StoreFault;
+use review_policy::Fault;
 use sqlite::{Alter, Connection};
 use std::alloc::Global;
 use std::process::Abort;
@@ -72,7 +72,7 @@ fn a_second_founding_hands_the_office_back_as_it_was(rt: HostRuntime) -> Result<
 #[test]
 fn an_empty_store_is_no_office_and_is_handed_back_empty(rt: HostRuntime) -> Result<(), Fail> {
     let conn = Connection::open_in_memory(rt.alloc())?;
-    let conn = not_opened(&rt, conn, OpeningFault::Store(StoreFault::NotAnOffice))?;
+    let conn = not_opened(&rt, conn, OpeningFault::Store(Fault::NotAnOffice))?;
     assert!(rt; is_founded(rt.alloc(), conn)?);
     Ok(())
 }
@@ -95,7 +95,7 @@ fn no_office_is_founded_beside_a_foreign_table(rt: HostRuntime) -> Result<(), Fa
     let alloc = rt.alloc();
     let conn = Connection::open_in_memory(alloc)?;
     let conn = run(conn, "CREATE TABLE notes (name TEXT) STRICT")?;
-    let foreign = FoundingFault::Store(StoreFault::NotAnOffice);
+    let foreign = FoundingFault::Store(Fault::NotAnOffice);
     let conn = not_founded(&rt, alloc, conn, foreign)?;
     let conn = run(conn, "DROP TABLE notes")?;
     assert!(rt; is_founded(alloc, conn)?);

@@ -12,8 +12,8 @@ use office_store::{
     held, is_author, issued, last, listed, put_baseline, put_hold, put_user, put_vote, revision,
     revisions_of, set_issued, set_withdrawn, standing, tally, user_by_name, user_by_token,
 };
-use office_tables::{RevisionRow, StoreFault, Tally};
-use review_policy::{State, Text};
+use office_tables::{RevisionRow, Tally};
+use review_policy::{Fault, State, Text};
 use sqlite::{Alter, Connection};
 use std::alloc::Global;
 use std::time::Instant;
@@ -79,7 +79,7 @@ pub fn add<S: Alter>(
     conn: &mut Connection<S>,
     sample: &Sample,
     body: &str,
-) -> Result<u32, StoreFault>
+) -> Result<u32, Fault>
     requires { IsIdle (state S.Store conn.old) }
     ensures { IsIdle (state S.Store conn.new) }
 {
@@ -100,7 +100,7 @@ pub fn add<S: Alter>(
 }
 
 /// Has the user approve the first revision.
-pub fn vote<S: Alter>(conn: &mut Connection<S>, sample: &Sample) -> Result<(), StoreFault>
+pub fn vote<S: Alter>(conn: &mut Connection<S>, sample: &Sample) -> Result<(), Fault>
     requires { IsIdle (state S.Store conn.old) }
     ensures { IsIdle (state S.Store conn.new) }
 {
@@ -111,11 +111,11 @@ pub fn vote<S: Alter>(conn: &mut Connection<S>, sample: &Sample) -> Result<(), S
     put_vote(conn, &sample.profile, 1, &sample.user.name, ballot)
 }
 
-fn has_any(listed: Result<Caps, StoreFault>) -> Result<bool, StoreFault> {
+fn has_any(listed: Result<Caps, Fault>) -> Result<bool, Fault> {
     Ok(listed?.bits() != 0)
 }
 
-fn is_opened(listed: Result<Caps, OpeningFault>) -> Result<bool, StoreFault> {
+fn is_opened(listed: Result<Caps, OpeningFault>) -> Result<bool, Fault> {
     match listed {
         Ok(listed) => Ok(listed.bits() != 0),
         Err(OpeningFault::Store(fault)) => Err(fault),
@@ -123,19 +123,19 @@ fn is_opened(listed: Result<Caps, OpeningFault>) -> Result<bool, StoreFault> {
     }
 }
 
-fn is_there<T: Drop>(row: Result<Option<T>, StoreFault>) -> Result<bool, StoreFault> {
+fn is_there<T: Drop>(row: Result<Option<T>, Fault>) -> Result<bool, Fault> {
     Ok(row?.is_some())
 }
 
-fn are_there<T: Drop>(rows: Result<Vec<T>, StoreFault>) -> Result<bool, StoreFault> {
+fn are_there<T: Drop>(rows: Result<Vec<T>, Fault>) -> Result<bool, Fault> {
     Ok(!rows?.is_empty())
 }
 
-fn is_approved(tally: Result<Tally, StoreFault>) -> Result<bool, StoreFault> {
+fn is_approved(tally: Result<Tally, Fault>) -> Result<bool, Fault> {
     Ok(tally?.approvals > 0)
 }
 
-fn is_done<T: Drop>(written: Result<T, StoreFault>) -> Result<bool, StoreFault> {
+fn is_done<T: Drop>(written: Result<T, Fault>) -> Result<bool, Fault> {
     written?;
     Ok(true)
 }
@@ -147,7 +147,7 @@ fn make<S: Alter>(
     call: Call,
     sample: &Sample,
     body: &str,
-) -> Result<bool, StoreFault>
+) -> Result<bool, Fault>
     requires { IsIdle (state S.Store conn.old) }
     ensures { IsIdle (state S.Store conn.new) }
 {

@@ -9,9 +9,8 @@ use crate::figures::sample::{Profiles, Sample, Sizes, body, samples};
 use anyhow::{Context, Result};
 use cap_sets::Caps;
 use office_store::{found, put_user, set_issued};
-use office_tables::StoreFault;
 use profile_text::digest;
-use review_policy::Word;
+use review_policy::{Fault, Word};
 use sqlite::{Alter, Connection};
 use std::alloc::Global;
 use std::time::Instant;
@@ -43,7 +42,7 @@ fn submit<S: Alter>(
     sample: &Sample,
     body: &str,
     issued: u32,
-) -> Result<(), StoreFault>
+) -> Result<(), Fault>
     requires { IsIdle (state S.Store conn.old) }
     ensures { IsIdle (state S.Store conn.new) }
 {
@@ -60,7 +59,7 @@ fn put_short<S: Alter>(
     alloc: Global,
     conn: &mut Connection<S>,
     sample: &Sample,
-) -> Result<(), StoreFault>
+) -> Result<(), Fault>
     requires { IsIdle (state S.Store conn.old) }
     ensures { IsIdle (state S.Store conn.new) }
 {
@@ -75,7 +74,7 @@ fn put<S: Alter>(
     part: Part,
     sample: &Sample,
     body: &str,
-) -> Result<(), StoreFault>
+) -> Result<(), Fault>
     requires { IsIdle (state S.Store conn.old) }
     ensures { IsIdle (state S.Store conn.new) }
 {

@@ -1,6 +1,6 @@
 // Clients that wait in the queue of a listener.
 
-use desk_http::{HttpFault, Listener, Stream, serve_exchanges};
+use desk_http::{HttpFault, Listener, Served, Stream, serve_exchanges};
 use http_requests::OfficeRouter;
 use std::alloc::Global;
 use std::io;
@@ -68,7 +68,7 @@ impl<'a> Listener for Queue<'a> {
         &mut self,
         _reader: Counted<Source<'a>>,
         writer: Counted<Sink>,
-        _served: Result<u16, HttpFault>,
+        _served: Result<Served, HttpFault>,
     )
         ensures { ⊤ }
     {

@@ -8,7 +8,7 @@ use std::process::Abort;
 use std::test::Fail;
 use test_doubles::fake_streams::{Giving, Source, Taking};
 use test_doubles::messages::{
-    DONE, ENROLMENT, LONG_BODY, SAME_AS_OPEN, SUBMISSION, SUBMITTED, TOO_LARGE, TOO_LONG,
+    CALL, DONE, ENROLMENT, LONG_BODY, SAME_AS_OPEN, SUBMISSION, SUBMITTED, TOO_LARGE, TOO_LONG,
 };
 
 #[test]
@@ -167,6 +167,37 @@ fn a_head_is_refused_before_anything_behind_it_comes(rt: HostRuntime) -> Result<
     let long = Source::new(LONG_BODY.as_bytes(), Giving::FailsAtEnd);
     let calls = trial.assert_served(&rt, long, Taking::All, Ok(413), TOO_LARGE.as_bytes());
     assert_eq!(rt; calls, 67);
+    Ok(())
+}
+
+// Requests, and whether bytes of one may still come behind its response.
+const ENDS: [(&str, bool); 6] = [
+    (ENROLMENT, false),
+    (CALL, false),
+    (
+        "POST /hold/blue/web HTTP/1.1\r\nHost: office\r\nAuthorization: Bearer abc\r\nContent-Length: 2\r\n\r\n{}",
+        false,
+    ),
+    (LONG_BODY, true),
+    (
+        "POST /nowhere HTTP/1.1\r\nHost: office\r\nContent-Length: 2\r\n\r\n{}",
+        true,
+    ),
+    (
+        "POST /hold/blue/web HTTP/1.1\r\nHost: office\r\nContent-Length: 2\r\n\r\n{}",
+        true,
+    ),
+];
+
+#[test]
+fn only_of_what_is_refused_by_its_head_more_may_come(rt: HostRuntime) -> Result<(), Fail> {
+    let mut trial = Trial::new(rt.alloc())?;
+    for (message, is_unread) in ENDS {
+        let mut written = Vec::new(rt.alloc());
+        let exchange = trial.serve(message.as_bytes(), &mut written);
+        assert!(rt; exchange.served.is_ok(), "{message}");
+        assert_eq!(rt; exchange.is_unread, is_unread, "{message}");
+    }
     Ok(())
 }
 

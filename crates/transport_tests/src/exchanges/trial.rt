@@ -1,6 +1,6 @@
 // An office in memory, whose exchanges are compared.
 
-use desk_http::{HttpFault, serve_one};
+use desk_http::{HttpFault, Served, serve_one};
 use http_requests::OfficeRouter;
 use std::alloc::Global;
 use std::io::{Read, Write};
@@ -14,7 +14,10 @@ use test_offices::trial::TrialOffice;
 // What came of an exchange.
 #[derive(Clone, Copy)]
 pub struct Exchange {
+    // Its status, where its response was written whole.
     pub served: Result<u16, HttpFault>,
+    // Whether it was served, and bytes of its request may still come.
+    pub is_unread: bool,
     // How often the reader was called.
     pub calls: u64,
     // How often the reader failed, and the writer.
@@ -64,8 +67,13 @@ impl Trial {
             &mut reader,
             &mut writer,
         );
+        let (served, is_unread) = match served {
+            Ok(Served { status, is_unread }) => (Ok(status), is_unread),
+            Err(fault) => (Err(fault), false),
+        };
         Exchange {
             served,
+            is_unread,
             calls: reader.calls(),
             faults: (reader.faults(), writer.faults()),
         }

@@ -1,7 +1,7 @@
 use Rattle.std.proofs.Common.{subst, sym}
 use Rattle.office_desk.specs.Meant.{meaning_over}
-use Rattle.journal_lines.specs.Told.{place}
-use Rattle.journal_replay.specs.Rebuilt.{HasReplayed}
+use Rattle.journal.specs.Told.{place}
+use Rattle.journal_office.specs.Rebuilt.{HasReplayed}
 use Rattle.journal_rebuilding.proofs.rebuilding.next_event.Goals as goal
 
 pub returns-in-Err-clause-halted : goal.returns-in-Err-clause-halted

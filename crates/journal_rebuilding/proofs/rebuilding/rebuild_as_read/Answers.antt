@@ -1,7 +1,7 @@
 use Rattle.std.proofs.Common.{◌∙◌, ◌+◌, ◌-◌, ◌^◌, ℕ, List, min, ap, ap₂, inl, inr, subst, sym}
 use Rattle.office_desk.specs.Meant.{meaning_over}
-use Rattle.journal_lines.specs.Told.{place, placed_meant}
-use Rattle.journal_replay.specs.Rebuilt.{IsRebuilt}
+use Rattle.journal.specs.Told.{place, placed_meant}
+use Rattle.journal_office.specs.Rebuilt.{IsRebuilt}
 use Rattle.journal_rebuilding.specs.Rebuilding.{IsHalted}
 use Rattle.journal_rebuilding.proofs.rebuilding.rebuild_as_read.Goals as goal
 

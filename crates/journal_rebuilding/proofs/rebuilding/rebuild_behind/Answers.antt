@@ -1,8 +1,8 @@
 use Rattle.std.proofs.Common.{◌∷◌, [], refl, subst}
 use Rattle.office_desk.specs.Meant.{meaning_over}
-use Rattle.journal_lines.specs.Told.{place, start}
-use Rattle.journal_replay.specs.Steps.{IsFirstRead}
-use Rattle.journal_replay.proofs.Refusals.{first_replayed}
+use Rattle.journal.specs.Told.{place, start}
+use Rattle.journal_office.specs.Steps.{IsFirstRead}
+use Rattle.journal_office.proofs.Refusals.{first_replayed}
 use Rattle.journal_rebuilding.proofs.Building.{founded_only}
 use Rattle.journal_rebuilding.proofs.rebuilding.rebuild_behind.Goals as goal
 

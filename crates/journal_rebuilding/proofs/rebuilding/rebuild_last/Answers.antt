@@ -1,8 +1,9 @@
 use Rattle.std.proofs.Common.{◌∙◌, subst, sym}
 use Rattle.office_desk.specs.Meant.{meaning_over}
-use Rattle.journal_lines.specs.Told.{place, placed_meant}
-use Rattle.journal_replay.specs.Rebuilt.{HasReplayed}
-use Rattle.journal_rebuilding.proofs.Building.{built_behind, built_off, kept_out, last_comes, outside}
+use Rattle.journal.specs.Told.{place, placed_meant}
+use Rattle.journal_office.specs.Rebuilt.{HasReplayed}
+use Rattle.journal_office.proofs.Comes.{last_comes}
+use Rattle.journal_rebuilding.proofs.Building.{built_behind, built_off, kept_out, outside}
 use Rattle.journal_rebuilding.proofs.rebuilding.rebuild_last.Goals as goal
 
 pub returns-then-not-ends_there : goal.returns-then-not-ends_there

@@ -1,9 +1,9 @@
 use Rattle.std.proofs.Common.{arith, inl, ◌≡◌, ◌∙◌, ◌++◌, ◌∷◌, [], Some, ap, sym, subst, length-append}
 use Rattle.office_desk.specs.Meant.{meaning_over}
-use Rattle.journal_lines.specs.Told.{place, placed_meant}
-use Rattle.journal_replay.specs.Rebuilt.{HasReplayed}
-use Rattle.journal_replay.specs.Steps.{CountsNext}
-use Rattle.journal_replay.proofs.Replays.{ended, more}
+use Rattle.journal.specs.Told.{place, placed_meant}
+use Rattle.journal_office.specs.Rebuilt.{HasReplayed}
+use Rattle.journal_office.specs.Steps.{CountsNext}
+use Rattle.journal_office.proofs.Replays.{ended, more}
 use Rattle.journal_rebuilding.proofs.Building.{kept_out, left_by}
 use Rattle.journal_rebuilding.proofs.rebuilding.rebuild_rest.Goals as goal
 

@@ -1,8 +1,8 @@
 use Rattle.std.proofs.Common.{◌≡◌, ◌≤◌, ◌+◌, ◌-◌, ℕ, List, None, Option, length}
 use Rattle.office_policy.specs.History.{Event}
 use Rattle.office_desk.specs.Meant.{meaning_over}
-use Rattle.journal_lines.specs.Told.{place}
-use Rattle.journal_replay.specs.Rebuilt.{HasReplayed}
+use Rattle.journal.specs.Told.{place}
+use Rattle.journal_office.specs.Rebuilt.{HasReplayed}
 use Rattle.journal_rebuilding.proofs.rebuilding.rebuild_rest.Given as goal
 
 abbrev pub invariant-events : goal.invariant-events

@@ -1,5 +1,5 @@
 use Rattle.office_desk.specs.Meant.{meaning_over}
-use Rattle.journal_lines.specs.Told.{place}
+use Rattle.journal.specs.Told.{place}
 use Rattle.journal_reports.proofs.Writing.{still_written}
 use Rattle.journal_reports.proofs.history.next_event.Goals as goal
 

@@ -1,11 +1,12 @@
 use Rattle.std.proofs.Common.{◌-◌, ◌∷◌, [], refl, subst}
 use Rattle.std.specs.Io.KnownBytes.{Appends}
 use Rattle.office_desk.specs.Meant.{meaning_over}
-use Rattle.journal_lines.specs.Told.{place, placed_meant, start}
-use Rattle.journal_replay.specs.Steps.{IsFirstRead}
+use Rattle.journal.specs.Told.{place, placed_meant, start}
+use Rattle.journal_office.specs.Steps.{IsFirstRead}
+use Rattle.journal_office.proofs.Comes.{first_comes}
 use Rattle.journal_reports.specs.Struck.{struck_lines}
 use Rattle.journal_reports.specs.Writing.{WritesPart}
-use Rattle.journal_reports.proofs.Writing.{first_comes, first_cut, first_stopped, first_written, none_first}
+use Rattle.journal_reports.proofs.Writing.{first_cut, first_stopped, first_written, none_first}
 use Rattle.journal_reports.proofs.history.write_all.Goals as goal
 
 pub returns-in-None : goal.returns-in-None

@@ -1,10 +1,11 @@
 use Rattle.std.proofs.Common.{◌∙◌, ◌-◌, ap, subst}
 use Rattle.std.specs.Io.KnownBytes.{Appends}
 use Rattle.office_desk.specs.Meant.{meaning_over}
-use Rattle.journal_lines.specs.Told.{place, placed_meant}
+use Rattle.journal.specs.Told.{place, placed_meant}
+use Rattle.journal_office.proofs.Comes.{last_comes}
 use Rattle.journal_reports.specs.Struck.{struck_lines}
 use Rattle.journal_reports.specs.Writing.{WritesPart}
-use Rattle.journal_reports.proofs.Writing.{cut_behind, cut_off, last_comes, none_left, still_written, struck_stopped, struck_written}
+use Rattle.journal_reports.proofs.Writing.{cut_behind, cut_off, none_left, still_written, struck_stopped, struck_written}
 use Rattle.journal_reports.proofs.history.write_last.Goals as goal
 
 pub returns-in-Ok : goal.returns-in-Ok

@@ -1,7 +1,7 @@
 use Rattle.std.proofs.Common.{arith, inl, ◌∙◌, ◌-◌, ◌++◌, ◌∷◌, [], Some, ap, sym, subst}
 use Rattle.office_desk.specs.Meant.{meaning_over}
-use Rattle.journal_lines.specs.Told.{place, placed_meant}
-use Rattle.journal_replay.specs.Steps.{CountsNext}
+use Rattle.journal.specs.Told.{place, placed_meant}
+use Rattle.journal_office.specs.Steps.{CountsNext}
 use Rattle.journal_reports.specs.History.{HasWritten}
 use Rattle.journal_reports.specs.Struck.{struck_lines}
 use Rattle.journal_reports.specs.Writing.{WritesFirst}

@@ -1,7 +1,7 @@
 use Rattle.std.proofs.Common.{◌≡◌, ◌-◌, ℕ, List, None, Option}
 use Rattle.office_policy.specs.History.{Event}
 use Rattle.office_desk.specs.Meant.{meaning_over}
-use Rattle.journal_lines.specs.Told.{place}
+use Rattle.journal.specs.Told.{place}
 use Rattle.journal_reports.specs.History.{HasWritten, last_line}
 use Rattle.journal_reports.proofs.history.write_rest.Given as goal
 

@@ -1,6 +1,6 @@
 use Rattle.std.proofs.Common.{◌∙◌, ◌∷◌, [], sym, subst}
 use Rattle.office_desk.specs.Meant.{meaning_over}
-use Rattle.journal_lines.specs.Told.{placed_meant}
+use Rattle.journal.specs.Told.{placed_meant}
 use Rattle.journal_reports.specs.Evidence.{IsEvidence, IsNoEvidence}
 use Rattle.journal_reports.proofs.Searching.{none_found, first_unissued}
 use Rattle.journal_reports.proofs.issue.evidence.Goals as goal

@@ -1,5 +1,5 @@
 use Rattle.std.proofs.Common.{refl, sym}
-use Rattle.journal_lines.specs.Told.{placed_meant}
+use Rattle.journal.specs.Told.{placed_meant}
 use Rattle.office_desk.specs.Meant.{meaning_over}
 use Rattle.journal_reports.specs.declared.fault.NoEvidence.TheVariants.{NoMemory}
 use Rattle.journal_reports.proofs.Searching.{look_left, looked_past, looked_at, looked_for, not_looked}

@@ -1,9 +1,9 @@
 use Rattle.std.proofs.Common.{arith, ◌∙◌, ◌++◌, ◌∷◌, [], Some, ap, sym, subst}
 use Rattle.office_desk.specs.Meant.{meaning_over}
-use Rattle.journal_lines.specs.Told.{place, placed_meant}
-use Rattle.journal_replay.specs.Rebuilt.{HasReplayed}
-use Rattle.journal_replay.specs.Steps.{CountsNext}
-use Rattle.journal_replay.proofs.Refusals.{left_behind}
+use Rattle.journal.specs.Told.{place, placed_meant}
+use Rattle.journal_office.specs.Rebuilt.{HasReplayed}
+use Rattle.journal_office.specs.Steps.{CountsNext}
+use Rattle.journal_office.proofs.Refusals.{left_behind}
 use Rattle.journal_reports.proofs.Searching.{left_in, left_with, never}
 use Rattle.journal_reports.proofs.issue.search.Goals as goal
 
@@ -16,7 +16,7 @@ returns-in_err-placed g c = λ bytes es all none.
     let before = c.events.invariant.replayed bytes es all none in
     let refused = c.in_err-placed.field-0.0 in
     left_with m bytes c.args.name.now c.args.number _ c.from_residual.result refused c.from_residual.ensures.1
-    (left_behind m bytes (place g.R.Read.remaining c.events.replay.events) _ before.0 c.events.replay.office _ refused.line refused.why before.1
+    (left_behind m bytes (place g.R.Read.remaining c.events.replay.events) _ before.0 c.events.replay.office _ refused.line refused.why c.in_err-placed.ensures.office before.1
     (c.in_err-placed.ensures.next c.events.invariant.fault))
 
 pub returns-in_err-text : goal.returns-in_err-text

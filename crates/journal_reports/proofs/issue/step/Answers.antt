@@ -1,4 +1,4 @@
-use Rattle.journal_lines.specs.Told.{place, placed_meant}
+use Rattle.journal.specs.Told.{place, placed_meant}
 use Rattle.office_desk.specs.Meant.{meaning_over}
 use Rattle.journal_reports.proofs.Searching.{kept, stepped, unseen}
 use Rattle.journal_reports.proofs.issue.step.Goals as goal

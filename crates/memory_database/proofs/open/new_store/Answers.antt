@@ -5,7 +5,6 @@ use Rattle.sqlite_store.specs.Build.{CanBuild}
 use Rattle.sqlite_store.specs.Unopened.{CanCreate, StopsCreating, state_of}
 use Rattle.sqlite_store.specs.FileStore.{IsReady, schema_of, view}
 use Rattle.sqlite_store.specs.Opening.{FailsToOpen}
-use Rattle.sqlite_store.specs.declared.error.OpenError.{OpenError}
 use Rattle.sqlite_store.specs.declared.error.OpenError.TheVariants.{Refused}
 use Rattle.memory_database.proofs.MemoryFacts.{has_no_table}
 use Rattle.memory_database.proofs.open.new_store.Goals as goal

@@ -1,7 +1,7 @@
 use Rattle.std.proofs.Common.{rules, ◌≡◌, Err, refl, sym, subst}
 use Rattle.sqlite.specs.Held.{state}
 use Rattle.review_policy.specs.declared.ask.ProfileName.{ProfileName}
-use Rattle.office_tables.specs.declared.fault.StoreFault.TheVariants.{NoMemory}
+use Rattle.review_policy.specs.declared.fault.Fault.TheVariants.{NoMemory}
 use Rattle.office_tables.specs.Lists.{profile_of}
 use Rattle.office_store.proofs.Calls.{fails_unread}
 use Rattle.office_desk.specs.Listed.{standing_of, IsOneOf}

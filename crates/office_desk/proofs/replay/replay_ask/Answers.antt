@@ -2,8 +2,7 @@ use Rattle.std.proofs.Common.{rules, ◌≡◌, true, false}
 use Rattle.office_policy.specs.Happened.{event_meant}
 use Rattle.office_desk.specs.declared.replay.Unreplayed.TheVariants as causes
 use Rattle.office_desk.specs.Replayed.{has_text, unreplayed_of}
-use Rattle.office_desk.specs.Told.{told_of}
-use Rattle.office_desk.proofs.Replaying.{carried_again, carried_idle, judged_same, left_with, other_again, refused_again, uncarried_again}
+use Rattle.office_desk.proofs.Replaying.{asked_same, done_again, failed_again, judged_same, left_with, other_again, refused_again}
 use Rattle.office_desk.proofs.replay.replay_ask.Goals as goal
 
 pub returns-in_err-allowed-clause-replayed : goal.returns-in_err-allowed-clause-replayed
@@ -22,9 +21,10 @@ returns-then-not-has_text-clause-replayed g c =
     let e = event_meant c.args.event.now in
     let a = c.args.ask.now in
     let allowed = c.in-Allowed.allowed in
-    let text : has_text e allowed ≡ false = search rules in
+    let text : has_text e allowed.change ≡ false = search rules in
     other_again g.S.Store old mid e a c.requires.asks c.args.name.now c.requires.called c.requires.forms allowed
     (judged_same g.S.Store old mid c.args.name.now a c.in_ok-allowed.field-0 allowed c.in-Allowed.is c.in_ok-allowed.ensures.judged)
+    (asked_same g.S.Store old mid c.args.name.now a c.in_ok-allowed.field-0 allowed c.in-Allowed.is c.in_ok-allowed.ensures.asked)
     text c.in_ok-allowed.ensures.settled
 
 pub returns-in_err-carry_out-clause-replayed : goal.returns-in_err-carry_out-clause-replayed
@@ -36,10 +36,11 @@ returns-in_err-carry_out-clause-replayed g c =
     let a = c.args.ask.now in
     let allowed = c.in-Allowed.allowed in
     let fault = c.in_err-carry_out.field-0.0 in
-    let text : has_text e allowed ≡ true = search rules in
-    left_with g.S.Store old new e c.from_residual-in_err-carry_out.result (causes.Fault (told_of fault)) c.from_residual-in_err-carry_out.ensures.1
-    (uncarried_again g.S.Store old mid e a c.requires.asks c.args.name.now c.requires.called c.requires.forms allowed
+    let text : has_text e allowed.change ≡ true = search rules in
+    left_with g.S.Store old new e c.from_residual-in_err-carry_out.result (causes.Fault fault) c.from_residual-in_err-carry_out.ensures.1
+    (failed_again g.S.Store old mid e a c.requires.asks c.args.name.now c.requires.called c.requires.forms allowed
     (judged_same g.S.Store old mid c.args.name.now a c.in_ok-allowed.field-0 allowed c.in-Allowed.is c.in_ok-allowed.ensures.judged)
+    (asked_same g.S.Store old mid c.args.name.now a c.in_ok-allowed.field-0 allowed c.in-Allowed.is c.in_ok-allowed.ensures.asked)
     text c.in_ok-allowed.ensures.open new fault c.in_err-carry_out.ensures)
 
 pub returns-clause-replayed : goal.returns-clause-replayed
@@ -49,15 +50,14 @@ returns-clause-replayed g c =
     let e = event_meant c.args.event.now in
     let a = c.args.ask.now in
     let allowed = c.in-Allowed.allowed in
-    let text : has_text e allowed ≡ true = search rules in
-    carried_again g.S.Store old mid e a c.requires.asks c.args.name.now c.requires.called c.requires.forms allowed
+    let text : has_text e allowed.change ≡ true = search rules in
+    done_again g.S.Store old mid e a c.requires.asks c.args.name.now c.requires.called c.requires.forms allowed
     (judged_same g.S.Store old mid c.args.name.now a c.in_ok-allowed.field-0 allowed c.in-Allowed.is c.in_ok-allowed.ensures.judged)
+    (asked_same g.S.Store old mid c.args.name.now a c.in_ok-allowed.field-0 allowed c.in-Allowed.is c.in_ok-allowed.ensures.asked)
     text c.in_ok-allowed.ensures.open c.carry_out.new.conn c.in_ok-carry_out.ensures
 
 pub returns-in_err-carry_out-clause-idle : goal.returns-in_err-carry_out-clause-idle
-returns-in_err-carry_out-clause-idle g c =
-    carried_idle g.S.Store c.args.ask.now c.in-Allowed.allowed c.judge_named.new.conn c.carry_out.new.conn _ c.in_ok-allowed.ensures.judged.idle c.carry_out.ensures
+returns-in_err-carry_out-clause-idle g c = c.carry_out.ensures.written.leaves.idle
 
 pub returns-clause-idle : goal.returns-clause-idle
-returns-clause-idle g c =
-    carried_idle g.S.Store c.args.ask.now c.in-Allowed.allowed c.judge_named.new.conn c.carry_out.new.conn _ c.in_ok-allowed.ensures.judged.idle c.carry_out.ensures
+returns-clause-idle g c = c.carry_out.ensures.written.leaves.idle

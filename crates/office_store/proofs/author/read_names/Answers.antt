@@ -1,6 +1,6 @@
 use Rattle.std.proofs.Common.{rules, ◌≡◌, ◌+◌, Err, [], ◌∷◌, ◌++◌, sym, subst}
 use Rattle.sqlite_rules.proofs.ListLemmas.{all_has}
-use Rattle.office_tables.specs.declared.fault.StoreFault.TheVariants.{NotAnOffice}
+use Rattle.review_policy.specs.declared.fault.Fault.TheVariants.{NotAnOffice}
 use Rattle.std.proofs.Common.{ℕ, List, map, take}
 use Rattle.office_store.specs.Lists.{name_row, IsWord}
 use Rattle.office_store.proofs.ListReads.{shows_at}

@@ -1,6 +1,6 @@
 use Rattle.std.proofs.Common.{inl, inr, rules, ◌≡◌, Err, true, false, true≢false, refl, sym, ap, ◌∙◌}
 use Rattle.sqlite.specs.Held.{state}
-use Rattle.office_tables.specs.declared.fault.StoreFault.TheVariants.{NotAnOffice}
+use Rattle.review_policy.specs.declared.fault.Fault.TheVariants.{NotAnOffice}
 use Rattle.office_store.specs.Founding.{has_table}
 use Rattle.office_store.specs.Schema.{no_schema}
 use Rattle.office_store.proofs.Committed.{survives_same}

@@ -8,7 +8,7 @@ use Rattle.office_rows.specs.Causes.{HasFailed}
 use Rattle.office_rows.specs.Statements.{begun}
 use Rattle.sqlite.specs.Effect.{Database}
 use Rattle.sqlite.proofs.StateLemmas.{survives_weaker}
-use Rattle.office_tables.specs.declared.fault.StoreFault.TheVariants.{NotAnOffice}
+use Rattle.review_policy.specs.declared.fault.Fault.TheVariants.{NotAnOffice}
 use Rattle.office_tables.specs.Changes.{founded_tables}
 use Rattle.office_store.proofs.Committed.{trees_of}
 use Rattle.office_store.specs.Founding.{first_user}

@@ -1,7 +1,7 @@
 use Rattle.office_tables.specs.declared.listed.ListedRevision.{ListedRevision}
 use Rattle.std.proofs.Common.{rules, ◌≡◌, ◌+◌, Err, [], ◌∷◌, ◌++◌, sym, subst}
 use Rattle.sqlite_rules.proofs.ListLemmas.{all_has}
-use Rattle.office_tables.specs.declared.fault.StoreFault.TheVariants.{NotAnOffice}
+use Rattle.review_policy.specs.declared.fault.Fault.TheVariants.{NotAnOffice}
 use Rattle.std.proofs.Common.{List, map, take}
 use Rattle.office_store.specs.Lists.{listed_row, IsListedForm}
 use Rattle.office_store.proofs.ListReads.{shows_at}

@@ -10,6 +10,6 @@ use Rattle.office_desk.proofs.office.Office.last_revision.Goals as goal
 pub returns : goal.returns
 returns g c =
     let p = c.args.name.now in
-    subst (λ old. HasLookedBack (meaning_over g.S.Store) old c.last.new.conn (λ h. last_revision h p) c.outcome.result) c.self.view_is
+    subst (λ old. HasLookedBack (meaning_over g.S.Store) old c.last.new.conn (λ h. last_revision h p) c.last.result) c.self.view_is
     (looked g.S.Store c.self.inside.conn c.last.new.conn (λ t found. IsLast t p found) (λ h found. found ≡ last_revision h p) (λ h found lawful is. last_found h p found is)
-    c.last.result c.last.ensures.read c.outcome.result c.outcome.ensures)
+    c.last.result c.last.ensures.read)

@@ -9,6 +9,6 @@ pub returns : goal.returns
 returns g c =
     let p = c.args.name.now in
     let n = c.args.number in
-    subst (λ old. HasLookedBack (meaning_over g.S.Store) old c.revision.new.conn (λ h. revision_of h p n) c.outcome.result) c.self.view_is
+    subst (λ old. HasLookedBack (meaning_over g.S.Store) old c.revision.new.conn (λ h. revision_of h p n) c.revision.result) c.self.view_is
     (looked g.S.Store c.self.inside.conn c.revision.new.conn (λ t found. found ≡ t.revisions p n) (λ h found. found ≡ revision_of h p n) (λ h found lawful is. is)
-    c.revision.result c.revision.ensures.read c.outcome.result c.outcome.ensures)
+    c.revision.result c.revision.ensures.read)

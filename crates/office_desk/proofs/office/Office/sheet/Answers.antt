@@ -8,6 +8,6 @@ use Rattle.office_desk.proofs.office.Office.sheet.Goals as goal
 pub returns : goal.returns
 returns g c =
     let look = sheet_at c.args.name.now c.args.number in
-    subst (λ old. HasLookedBack (meaning_over g.S.Store) old c.sheet_at.new.conn look c.outcome.result) c.self.view_is
+    subst (λ old. HasLookedBack (meaning_over g.S.Store) old c.sheet_at.new.conn look c.sheet_at.result) c.self.view_is
     (looked g.S.Store c.self.inside.conn c.sheet_at.new.conn (LooksBack look) (λ h found. found ≡ look h) (λ h found lawful looks. looks h lawful refl)
-    c.sheet_at.result c.sheet_at.ensures c.outcome.result c.outcome.ensures)
+    c.sheet_at.result c.sheet_at.ensures)

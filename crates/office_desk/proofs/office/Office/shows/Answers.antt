@@ -10,6 +10,6 @@ use Rattle.office_desk.proofs.office.Office.shows.Goals as goal
 pub returns : goal.returns
 returns g c =
     let e = event_meant c.args.event.now in
-    subst (λ old. HasLooked (meaning_over g.S.Store) old c.shows.new.conn (TellsWhether e) c.outcome.result) c.self.view_is
+    subst (λ old. HasLooked (meaning_over g.S.Store) old c.shows.new.conn (TellsWhether e) c.shows.result) c.self.view_is
     (looked g.S.Store c.self.inside.conn c.shows.new.conn (λ t shown. shown ≡ true ↔ Shows t e) (TellsWhether e) (λ h shown lawful shows. shows)
-    c.shows.result c.shows.ensures c.outcome.result c.outcome.ensures)
+    c.shows.result c.shows.ensures)

@@ -8,4 +8,4 @@ pub returns : goal.returns
 returns g c =
     subst (λ old. IsJudged (meaning_over g.S.Store) old c.judge.new.conn c.args.request.now c.judgement.result) c.self.view_is
     (judged_is g.S.Store c.self.inside.conn c.judge.new.conn c.args.request.now c.request_forms.ensures.token c.request_forms.ensures.ask
-    c.judge.result c.judge.ensures.judged c.judge.ensures.event c.judge.ensures.open c.judge.ensures.settled c.judgement.result c.judgement.ensures)
+    c.judge.result c.judge.ensures.judged c.judge.ensures.asked c.judge.ensures.open c.judge.ensures.settled c.judgement.result c.judgement.ensures)

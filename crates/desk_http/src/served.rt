@@ -1,0 +1,11 @@
+//! What an exchange comes to.
+
+/// An exchange whose response was written whole.
+#[derive(Clone, Copy, Debug, PartialEq, Eq)]
+pub struct Served {
+    /// The status of the response.
+    pub status: u16,
+    /// Whether bytes of the request may still come: it was refused before its body was read, or there
+    /// was no memory to read it.
+    pub is_unread: bool,
+}

@@ -1,0 +1,431 @@
+-- What was allowed, carried out in an office with a journal.
+use Rattle.std.proofs.Common.{◌⊎◌, inl, inr, ◌≡◌, ◌∙◌, ◌≤◌, ◌+◌, [], ◌∷◌, ◌++◌, ℕ, List, Bool, true, false, not, Ok, Err, IsTrue, refl, sym, ap, subst, arith, le_trans, append-nil, append_assoc}
+use Rattle.std.proofs.lemmas.Bool.{and_parts, and_from}
+use Rattle.review_policy.specs.declared.ask.Request.{Request}
+use Rattle.review_policy.specs.declared.fault.Fault.{Fault as TheFault}
+use Rattle.review_policy.specs.declared.fault.Fault.TheVariants as faults
+use Rattle.review_policy.specs.declared.answer.Answer.TheVariants.{Done, Fault}
+use Rattle.office_policy.specs.declared.judge.Allowed.{Allowed}
+use Rattle.office_policy.specs.History.{Event, History}
+use Rattle.office_policy.specs.Verdict.{verdict}
+use Rattle.office_policy.specs.Runs.{IsAnswer, event_of, history_after, with_event as with_was}
+use Rattle.office_policy.specs.Meaning.{Meaning}
+use Rattle.office_policy.specs.Handled.{AreWithEvent, HasCause, HasRisen, IsHandled, IsUnwritten, Stands, Survives, only_reads}
+use Rattle.office_policy.specs.Judging.{IsAllowedTo, IsPermitted, LeavesAll, event_for}
+use Rattle.office_policy.proofs.AskedFacts.{changing}
+use Rattle.office_policy.proofs.SurvivalFacts.{survives_on}
+use Rattle.office_policy.proofs.CauseFacts.{cause_before}
+use Rattle.sealed_log.specs.Sealed.{IsBody, sealed_text}
+use Rattle.journal.specs.Forms.{HasForms, HasNumber}
+use Rattle.journal.specs.Journal.{IsEntry, Says}
+use Rattle.journal.specs.Lines.{happened, strike, text_of}
+use Rattle.journal.proofs.Lengths.{allowed_entry}
+use Rattle.journal.specs.declared.journaled.Journaled.{Journaled}
+use Rattle.journal.specs.Begun.{IsLeftOf}
+use Rattle.journal.specs.Journals.{HasStruck, IsHalfStruck, IsOf, IsStray, IsStruck, IsTakenBack, KeepsJournal, LeavesFile, LeavesOffice, goes_on, is_clean, journaled, stray_faults, struck_none, with_office}
+use Rattle.journal.specs.Writing.{IsAppended, IsLeftIn, IsMet, Writing}
+use Rattle.journal.proofs.Offices.{all_left, caused, none_fewer, open_of, risen_first, risen_second, stands_with}
+use Rattle.journal.proofs.Texts.{numbered_by, one_more, one_struck}
+
+by_flag : (b : Bool) → IsTrue (not b) → b ≡ false
+by_flag true is = absurd (let c : false ≡ true = is in cc)
+by_flag false is = refl
+
+pub never_both : (b : Bool) → b ≡ true → b ≡ false → ⊥
+never_both b is_true is_false = let c : true ≡ false = sym is_true ∙ is_false in absurd cc
+
+one_risen : (p q s t : ℕ) → p ≤ s → q ≤ t → HasRisen (p + q + 0) (s + t + 1)
+one_risen p q s t first second = omega (arith, first, second)
+
+none_below : (n : ℕ) → 0 ≤ n
+none_below n = omega arith
+
+module _ {O J : Type 0} (m : Meaning O) (w : Writing J) (x : Journaled O J) (goes : IsTrue (goes_on m w x)) (r : Request) (a : Allowed) (mid : O) (permitted : IsPermitted m x.office mid r a) where
+  clean_at : m.is_clean mid → m.is_clean x.office
+  clean_at = permitted.leaves.survives.clean
+
+  still : LeavesAll (journaled m w) x (with_office x mid)
+  still = all_left m w x mid permitted.leaves
+
+  has_room : IsTrue (not x.has_stray)
+  has_room = (and_parts (w.is_open x.journal) _ goes).1
+
+  is_open : IsTrue (w.is_open x.journal)
+  is_open = open_of m w x goes
+
+  -- there was no memory for the line
+  pub no_line : IsHandled (journaled m w) x (with_office x mid) r (Fault faults.NoMemory)
+  no_line = record {
+    survives = still.survives;
+    answer = λ h of clean. tt;
+    cause = λ h of clean. inl (still.kept clean, still.crash clean);
+    approved = λ h of clean. tt;
+    office = still.office;
+    stands = λ h of clean. tt;
+    kept = still.kept;
+    crash = λ h of clean left may. inl (still.crash clean left may);
+  }
+
+  -- the event that is written
+  abbrev event : Event
+  event = event_for a
+
+  module _ (body : List ℕ) (said : body ≡ text_of (happened event)) (own : HasNumber event → HasForms event) where
+    module _ (h : History) (allowed : IsAllowedTo h r a) where
+      formed : HasForms event
+      formed = own (numbered_by a.caller.name r.ask event permitted.asked allowed.formed.number)
+
+      entry : IsEntry (happened event)
+      entry = allowed_entry h event allowed.lawful formed
+
+      after_is : history_after h r (Done a.reply) ≡ event ∷ h
+      after_is = ap (λ v. with_was (event_of v) h) allowed.verdict
+
+    -- the text of what was allowed is never too long for a line
+    pub no_body : (IsBody body → ⊥) → IsHandled (journaled m w) x (with_office x mid) r (Fault faults.Disk)
+    no_body none = record {
+      survives = still.survives;
+      answer = λ h of clean. tt;
+      cause = λ h of clean. absurd (none (subst IsBody (sym said) (entry h (permitted.allowed h of.office clean.0)).body));
+      approved = λ h of clean. tt;
+      office = still.office;
+      stands = λ h of clean. tt;
+      kept = still.kept;
+      crash = λ h of clean left may. inl (still.crash clean left may);
+    }
+
+    module _ (h : History) (of : IsOf m w h x) (clean : m.is_clean mid) (clean_j : w.is_clean x.journal) where
+      allowed : IsAllowedTo h r a
+      allowed = permitted.allowed h of.office clean
+
+      says : Says (w.bodies x.journal) h
+      says = of.says (clean_at clean, clean_j) goes
+
+      -- the bodies with that of the event say it too
+      with_line : (bodies : List (List ℕ)) → bodies ≡ w.bodies x.journal ++ body ∷ [] → Says bodies (event ∷ h)
+      with_line bodies is =
+          subst (λ b. Says b (event ∷ h)) (sym (is ∙ ap (λ l. w.bodies x.journal ++ l ∷ []) said))
+          (one_more (w.bodies x.journal) h event (entry h allowed) says)
+
+      -- and say it no more where it is struck out
+      with_strike : (bodies : List (List ℕ)) → bodies ≡ (w.bodies x.journal ++ body ∷ []) ++ text_of strike ∷ [] → Says bodies h
+      with_strike bodies is =
+          subst (λ b. Says b h) (sym (is ∙ ap (λ l. (w.bodies x.journal ++ l ∷ []) ++ text_of strike ∷ []) said))
+          (one_struck (w.bodies x.journal) h event (entry h allowed) says)
+
+      -- the line is there, or what is left of it
+      first_part : (left : List ℕ) → IsLeftIn (w.bodies x.journal) body left → IsLeftOf h left
+      first_part left part = inr (record {
+        before = w.bodies x.journal;
+        says = says;
+        event = event;
+        allowed = allowed.lawful;
+        forms = formed h allowed;
+        left = inl (subst (λ b. IsLeftIn (w.bodies x.journal) b left) said part);
+      })
+
+      -- and behind it what is left of the line that strikes it out
+      half_line : (bodies : List (List ℕ)) (left : List ℕ) → bodies ≡ w.bodies x.journal ++ body ∷ [] → IsLeftIn bodies (text_of strike) left → IsLeftOf h left
+      half_line bodies left is part = inr (record {
+        before = w.bodies x.journal;
+        says = says;
+        event = event;
+        allowed = allowed.lawful;
+        forms = formed h allowed;
+        left = inr (subst (λ b. IsLeftIn b (text_of strike) left) (is ∙ ap (λ l. w.bodies x.journal ++ l ∷ []) said) part);
+      })
+
+      whole_line : (bodies : List (List ℕ)) (left : List ℕ) → bodies ≡ w.bodies x.journal ++ body ∷ [] → left ≡ sealed_text bodies → IsLeftOf h left
+      whole_line bodies left is whole = half_line bodies left is (record { tail = []; short = none_below _; is = whole ∙ sym (append-nil (sealed_text bodies)) })
+
+    -- ---- the line was not written
+
+    module _ (j : J) (fault : TheFault) (appended : IsAppended w x.journal j body (Err fault)) where
+      abbrev unwritten : Journaled O J
+      unwritten = record { office = mid; journal = j; has_stray = x.has_stray }
+
+      clean_both : is_clean m w unwritten → is_clean m w x
+      clean_both clean = (clean_at clean.0, appended.clean clean.1)
+
+      unwritten_of : (h : History) → IsOf m w h x → IsOf m w h unwritten
+      unwritten_of h of = record {
+        office = permitted.leaves.office h of.office;
+        says = λ clean on. subst (λ b. Says b h) (sym (appended.written.0 clean.1 (open_of m w unwritten on))) (of.says (clean_both clean) goes);
+      }
+
+      risen : HasRisen (w.faults x.journal) (w.faults j) → HasRisen (m.faults x.office + w.faults x.journal + stray_faults x.has_stray) (m.faults mid + w.faults j + stray_faults x.has_stray)
+      risen more =
+          risen_second (m.faults x.office) (w.faults x.journal) (stray_faults x.has_stray) (m.faults mid) (w.faults j) (stray_faults x.has_stray) permitted.leaves.survives.counts more
+          (none_fewer (stray_faults x.has_stray))
+
+      told : (h : History) (f : TheFault) → IsMet w x.journal j f → IsAnswer h r (Fault f)
+      told h faults.NoMemory met = tt
+      told h faults.Disk met = tt
+      told h faults.Full met = tt
+      told h faults.NotAnOffice met = met
+
+      office_left : m.is_clean mid → (left : m.Left) → LeavesOffice m w unwritten left → LeavesOffice m w x left
+      office_left clean left (inl may) = inl (permitted.leaves.crash clean left may)
+      office_left clean left (inr each) = inr (λ h of. each h (unwritten_of h of))
+
+      file_left : is_clean m w unwritten → (left : List ℕ) → LeavesFile m w unwritten left → LeavesFile m w x left
+      file_left clean left (inl may) =
+          elim (appended.crash clean.1 left may) [
+            | inl before ↦ inl before
+            | inr part ↦ inr (goes, λ h of. first_part h of clean.0 (appended.clean clean.1) left part.left)
+          ]
+      file_left clean left (inr each) = inr (goes, λ h of. each.1 h (unwritten_of h of))
+
+      kept_still : is_clean m w unwritten → (journaled m w).keeps x unwritten
+      kept_still clean = (
+        permitted.leaves.kept clean.0,
+        λ on. (goes, subst (HasStruck (w.bodies x.journal)) (sym (appended.written.0 clean.1 (open_of m w unwritten on))) (struck_none (w.bodies x.journal))),
+      )
+
+      nothing_left : is_clean m w unwritten → (left : m.Left × List ℕ) → (journaled m w).may_leave unwritten left → (journaled m w).may_leave x left
+      nothing_left clean left may = (office_left clean.0 left.0 may.0, file_left clean left.1 may.1)
+
+      cause : is_clean m w unwritten → (h : History) (f : TheFault) → IsMet w x.journal j f → HasCause (journaled m w) x unwritten h r (Fault f)
+      cause clean h faults.NoMemory met = inl (kept_still clean, nothing_left clean)
+      cause clean h faults.Disk met = λ stood. inl (risen (met is_open))
+      cause clean h faults.Full met = inl (risen met)
+      cause clean h faults.NotAnOffice met = met
+
+      pub not_appended : IsHandled (journaled m w) x unwritten r (Fault fault)
+      not_appended = record {
+        survives = record {
+          clean = clean_both;
+          counts = omega (arith, appended.counts, permitted.leaves.survives.counts);
+          closes = λ clean stood. elim (permitted.leaves.survives.closes clean.0 stood.0) [
+            | inl stays ↦ elim (appended.closes clean.1 is_open) [
+              | inl stays_open ↦ inl (stays, and_from (w.is_open j) _ stays_open has_room)
+              | inr more ↦ inr (risen more)
+            ]
+            | inr more ↦ inr
+                (risen_first (m.faults x.office) (w.faults x.journal) (stray_faults x.has_stray) (m.faults mid) (w.faults j) (stray_faults x.has_stray) more appended.counts
+                (none_fewer (stray_faults x.has_stray)))
+          ];
+          shut = λ clean stood. (permitted.leaves.survives.shut clean.0 stood.0, goes);
+        };
+        answer = λ h of clean. told h fault (appended.written.1 clean.1);
+        cause = λ h of clean. cause clean h fault (appended.written.1 clean.1);
+        approved = λ h of clean. tt;
+        office = unwritten_of;
+        stands = λ h of clean. tt;
+        kept = kept_still;
+        crash = λ h of clean left may. inl (nothing_left clean left may);
+      }
+
+    -- ---- the line was written
+
+    module _ (j : J) (appended : IsAppended w x.journal j body (Ok tt)) (o : O) (clean_mid : m.is_clean o → m.is_clean mid) where
+      abbrev written : Journaled O J
+      written = record { office = o; journal = j; has_stray = x.has_stray }
+
+      goes_still : IsTrue (goes_on m w written)
+      goes_still = and_from (w.is_open j) _ appended.written.0 has_room
+
+      -- ---- and what was allowed was done
+
+      module _ (handled : IsHandled m x.office o r (Done a.reply)) where
+        done_of : (h : History) → IsOf m w h x → IsOf m w (history_after h r (Done a.reply)) written
+        done_of h of = record {
+          office = handled.office h of.office;
+          says = λ clean on.
+              subst (Says (w.bodies j)) (sym (after_is h (permitted.allowed h of.office (clean_mid clean.0))))
+              (with_line h of (clean_mid clean.0) (appended.clean clean.1) (w.bodies j) (appended.written.1 clean.1));
+        }
+
+        done_stands : (h : History) → IsOf m w h x → is_clean m w written → Stands (journaled m w) (history_after h r (Done a.reply)) written
+        done_stands h of clean = stands_with m w written (history_after h r (Done a.reply)) clean goes_still (done_of h of) (handled.stands h of.office clean.0)
+
+        pub done : IsHandled (journaled m w) x written r (Done a.reply)
+        done = record {
+          survives = record {
+            clean = λ clean. (handled.survives.clean clean.0, appended.clean clean.1);
+            counts = omega (arith, handled.survives.counts, appended.counts);
+            closes = λ clean stood. elim (handled.survives.closes clean.0 stood.0) [
+              | inl stays ↦ inl (stays, goes_still)
+              | inr more ↦ inr
+                  (risen_first (m.faults x.office) (w.faults x.journal) (stray_faults x.has_stray) (m.faults o) (w.faults j) (stray_faults x.has_stray) more appended.counts
+                  (none_fewer (stray_faults x.has_stray)))
+            ];
+            shut = λ clean stood. (handled.survives.shut clean.0 stood.0, goes);
+          };
+          answer = λ h of clean. handled.answer h of.office clean.0;
+          cause = λ h of clean. tt;
+          approved = λ h of clean. handled.approved h of.office clean.0;
+          office = done_of;
+          stands = done_stands;
+          kept = λ clean reads. absurd (never_both (only_reads r.ask) reads (changing a.caller.name r.ask event permitted.asked));
+          crash = λ h of clean left may.
+              let allowed = permitted.allowed h of.office (clean_mid clean.0) in
+              let are : (journaled m w).are_of (event ∷ h) left = subst (λ k. (journaled m w).are_of k left) (after_is h allowed) ((done_stands h of clean).leaves left may) in
+              inr (subst (λ v. AreWithEvent (journaled m w) h v left) (sym allowed.verdict) are);
+        }
+
+      -- ---- and there was a fault
+
+      module _ (fault : TheFault) (handled : IsHandled m x.office o r (Fault fault)) (z : Journaled O J) (back : IsTakenBack m w written z) where
+        clean_before : m.is_clean z.office → m.is_clean o
+        clean_before = back.leaves.survives.clean
+
+        clean_z : m.is_clean z.office → m.is_clean mid
+        clean_z clean = clean_mid (clean_before clean)
+
+        clean_x : w.is_clean z.journal → w.is_clean x.journal
+        clean_x clean = appended.clean (back.clean clean)
+
+        survives_both : Survives m x.office z.office
+        survives_both = survives_on m x.office o z.office handled.survives back.leaves.survives
+
+        more_faults : w.faults x.journal ≤ w.faults z.journal
+        more_faults = le_trans appended.counts back.counts
+
+        more_strays : stray_faults x.has_stray ≤ stray_faults z.has_stray
+        more_strays = subst (λ b. stray_faults b ≤ stray_faults z.has_stray) (sym (by_flag x.has_stray has_room)) (none_below (stray_faults z.has_stray))
+
+        abbrev MoreFaults : Type 0
+        MoreFaults = HasRisen (m.faults x.office + w.faults x.journal + stray_faults x.has_stray) (m.faults z.office + w.faults z.journal + stray_faults z.has_stray)
+
+        stray_is : z.has_stray ≡ true → MoreFaults
+        stray_is stray =
+            subst (λ b. HasRisen (m.faults x.office + w.faults x.journal + stray_faults b) (m.faults z.office + w.faults z.journal + stray_faults z.has_stray)) (sym (by_flag x.has_stray has_room))
+            (subst (λ b. HasRisen (m.faults x.office + w.faults x.journal + 0) (m.faults z.office + w.faults z.journal + stray_faults b)) (sym stray)
+            (one_risen (m.faults x.office) (w.faults x.journal) (m.faults z.office) (w.faults z.journal) survives_both.counts more_faults))
+
+        on_without : IsTrue (goes_on m w z) → z.has_stray ≡ false
+        on_without on = by_flag z.has_stray (and_parts (w.is_open z.journal) _ on).1
+
+        -- the bodies where the event is there, and where it is struck out
+        one_there : w.is_clean z.journal → w.bodies j ≡ w.bodies x.journal ++ body ∷ []
+        one_there clean = appended.written.1 (back.clean clean)
+
+        both_there : IsStruck m w written z → w.is_clean z.journal → w.bodies z.journal ≡ (w.bodies x.journal ++ body ∷ []) ++ text_of strike ∷ []
+        both_there struck clean = struck.bodies clean ∙ ap (λ b. b ++ text_of strike ∷ []) (one_there clean)
+
+        closes_by : IsStruck m w written z ⊎ (IsHalfStruck m w written z ⊎ IsStray m w written z) → m.is_clean z.office → m.is_open x.office
+            → (m.is_open z.office × IsTrue (goes_on m w z)) ⊎ MoreFaults
+        closes_by (inl struck) clean stood =
+            elim (survives_both.closes clean stood) [
+              | inl stays ↦ inl (stays, and_from (w.is_open z.journal) _ struck.is_open (subst (λ b. IsTrue (not b)) (sym struck.no_stray) refl))
+              | inr more ↦ inr
+                  (risen_first (m.faults x.office) (w.faults x.journal) (stray_faults x.has_stray) (m.faults z.office) (w.faults z.journal) (stray_faults z.has_stray) more more_faults more_strays)
+            ]
+        closes_by (inr (inl half)) clean stood = inr (stray_is half.stray)
+        closes_by (inr (inr stray)) clean stood = inr (stray_is stray.stray)
+
+        says_by : IsStruck m w written z ⊎ (IsHalfStruck m w written z ⊎ IsStray m w written z) → (h : History) → IsOf m w h x → is_clean m w z
+            → IsTrue (goes_on m w z) → Says (w.bodies z.journal) h
+        says_by (inl struck) h of clean on = with_strike h of (clean_z clean.0) (clean_x clean.1) (w.bodies z.journal) (both_there struck clean.1)
+        says_by (inr (inl half)) h of clean on = absurd (never_both z.has_stray half.stray (on_without on))
+        says_by (inr (inr stray)) h of clean on = absurd (never_both z.has_stray stray.stray (on_without on))
+
+        back_of : (h : History) → IsOf m w h x → IsOf m w h z
+        back_of h of = record {
+          office = back.leaves.office h (handled.office h of.office);
+          says = says_by back.journal h of;
+        }
+
+        -- an event that is struck out is all that the journal has more
+        keeps_by : IsStruck m w written z ⊎ (IsHalfStruck m w written z ⊎ IsStray m w written z) → w.is_clean z.journal → KeepsJournal m w x z
+        keeps_by (inl struck) clean on = (
+          goes,
+          record {
+            events = event ∷ [];
+            is = both_there struck clean ∙ append_assoc (w.bodies x.journal) (body ∷ []) (text_of strike ∷ [])
+                ∙ ap (λ l. w.bodies x.journal ++ l ∷ text_of strike ∷ []) said;
+          },
+        )
+        keeps_by (inr (inl half)) clean on = absurd (never_both z.has_stray half.stray (on_without on))
+        keeps_by (inr (inr stray)) clean on = absurd (never_both z.has_stray stray.stray (on_without on))
+
+        -- what is left was left before, or has the event of the verdict
+        abbrev IsLeft : History → m.Left × List ℕ → Type 0
+        IsLeft h left = (journaled m w).may_leave x left ⊎ AreWithEvent (journaled m w) h (verdict h r) left
+
+        module _ (clean : m.is_clean z.office) (clean_j : w.is_clean z.journal) where
+          -- where the office stands still
+          office_still : ((h : History) → m.is_of h o → m.is_clean z.office → Stands m h z.office) → (left : m.Left) → LeavesOffice m w z left → LeavesOffice m w x left
+          office_still stands left (inl may) = inr (λ h of. (stands h (handled.office h of.office) clean).leaves left may)
+          office_still stands left (inr each) = inr (λ h of. each h (back_of h of))
+
+          unstruck : (left : List ℕ) → w.may_leave j left → left ≡ sealed_text (w.bodies j)
+          unstruck left may = w.settled j (back.clean clean_j) appended.written.0 left may
+
+          struck_file : IsStruck m w written z → (file : List ℕ) → LeavesFile m w z file → (h : History) → IsOf m w h x → IsLeftOf h file
+          struck_file struck file (inl may) h of = inl (record {
+            bodies = w.bodies z.journal;
+            is = w.settled z.journal clean_j struck.is_open file may;
+            says = with_strike h of (clean_z clean) (clean_x clean_j) (w.bodies z.journal) (both_there struck clean_j);
+          })
+          struck_file struck file (inr each) h of = each.1 h (back_of h of)
+
+          half_file : IsHalfStruck m w written z → (file : List ℕ) → LeavesFile m w z file → (h : History) → IsOf m w h x → IsLeftOf h file
+          half_file half file (inl may) h of = elim (half.crash clean_j file may) [
+            | inl before ↦ whole_line h of (clean_z clean) (clean_x clean_j) (w.bodies j) file (one_there clean_j) (unstruck file before)
+            | inr part ↦ half_line h of (clean_z clean) (clean_x clean_j) (w.bodies j) file (one_there clean_j) part.left
+          ]
+          half_file half file (inr each) h of = absurd (never_both z.has_stray half.stray (on_without each.0))
+
+          file_is : IsStray m w written z → (file : List ℕ) → LeavesFile m w z file → file ≡ sealed_text (w.bodies j)
+          file_is stray file (inl may) = unstruck file (subst (λ k. w.may_leave k file) stray.journal may)
+          file_is stray file (inr each) = absurd (never_both z.has_stray stray.stray (on_without each.0))
+
+          module _ (h : History) (of : IsOf m w h x) (file : List ℕ) (may_file : LeavesFile m w z file) where
+            stray_file : IsStray m w written z → LeavesFile m w x file
+            stray_file stray = inr (goes, λ k of_k. whole_line k of_k (clean_z clean) (clean_x clean_j) (w.bodies j) file (one_there clean_j) (file_is stray file may_file))
+
+            by_crash : IsStray m w written z → (office : m.Left) → m.may_leave x.office office ⊎ AreWithEvent m h (verdict h r) office → IsLeft h (office, file)
+            by_crash stray office (inl before) = inl (inl before, stray_file stray)
+            by_crash stray office (inr with_one) =
+                let allowed = permitted.allowed h of.office (clean_z clean) in
+                let are : m.are_of (event ∷ h) office = subst (λ v. AreWithEvent m h v office) allowed.verdict with_one in
+                let says : IsLeftOf (event ∷ h) file = inl (record {
+                  bodies = w.bodies j;
+                  is = file_is stray file may_file;
+                  says = with_line h of (clean_z clean) (clean_x clean_j) (w.bodies j) (one_there clean_j);
+                }) in
+                inr (subst (λ v. AreWithEvent (journaled m w) h v (office, file)) (sym allowed.verdict) (are, says))
+
+            by_office : IsStray m w written z → (office : m.Left) → LeavesOffice m w z office → IsLeft h (office, file)
+            by_office stray office (inl may) = by_crash stray office (handled.crash h of.office (clean_before clean) office (back.leaves.crash clean office may))
+            by_office stray office (inr each) = inl (inr (λ k of_k. each k (back_of k of_k)), stray_file stray)
+
+          crash_by : IsStruck m w written z ⊎ (IsHalfStruck m w written z ⊎ IsStray m w written z) → (h : History) → IsOf m w h x → (left : m.Left × List ℕ) → (journaled m w).may_leave z left → IsLeft h left
+          crash_by (inl struck) h of left may = inl (office_still struck.stands left.0 may.0, inr (goes, struck_file struck left.1 may.1))
+          crash_by (inr (inl half)) h of left may = inl (office_still half.stands left.0 may.0, inr (goes, half_file half left.1 may.1))
+          crash_by (inr (inr stray)) h of left may = by_office h of left.1 may.1 stray left.0 may.0
+
+          -- where the office was asked to write nothing, nothing more is left
+          module _ (none : IsUnwritten m x.office z.office) where
+            office_none : (left : m.Left) → LeavesOffice m w z left → LeavesOffice m w x left
+            office_none left (inl may) = inl (none.1 left may)
+            office_none left (inr each) = inr (λ h of. each h (back_of h of))
+
+            file_none : IsStruck m w written z ⊎ (IsHalfStruck m w written z ⊎ IsStray m w written z) → (file : List ℕ) → LeavesFile m w z file → (h : History) → IsOf m w h x → IsLeftOf h file
+            file_none (inl struck) file may h of = struck_file struck file may h of
+            file_none (inr (inl half)) file may h of = half_file half file may h of
+            file_none (inr (inr stray)) file may h of = whole_line h of (clean_z clean) (clean_x clean_j) (w.bodies j) file (one_there clean_j) (file_is stray file may)
+
+            nothing_more : IsUnwritten (journaled m w) x z
+            nothing_more = ((none.0, keeps_by back.journal clean_j), λ left may. (office_none left.0 may.0, inr (goes, file_none back.journal left.1 may.1)))
+
+        pub taken_back : IsHandled (journaled m w) x z r (Fault fault)
+        taken_back = record {
+          survives = record {
+            clean = λ clean. (survives_both.clean clean.0, clean_x clean.1);
+            counts = omega (arith, survives_both.counts, more_faults, more_strays);
+            closes = λ clean stood. closes_by back.journal clean.0 stood.0;
+            shut = λ clean stood. (survives_both.shut clean.0 stood.0, goes);
+          };
+          answer = λ h of clean. handled.answer h of.office (clean_before clean.0);
+          cause = λ h of clean.
+              caused m w x z h r (Fault fault) more_faults more_strays (nothing_more clean.0 clean.1)
+              (cause_before m x.office o z.office h r (Fault fault) (back.leaves.kept clean.0, back.leaves.crash clean.0) back.leaves.survives.counts (handled.cause h of.office (clean_before clean.0)));
+          approved = λ h of clean. tt;
+          office = back_of;
+          stands = λ h of clean. tt;
+          kept = λ clean. (m.keeps_on x.office o z.office (handled.kept (clean_before clean.0)) (back.leaves.kept clean.0), keeps_by back.journal clean.1);
+          crash = λ h of clean left may. crash_by clean.0 clean.1 back.journal h of left may;
+        }

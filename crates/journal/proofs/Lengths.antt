@@ -1,0 +1,378 @@
+-- A line of what the policy allows is no longer than a line can be.
+use Rattle.std.proofs.Common.{inl, inr, ◌≡◌, ℕ, ◌+◌, ◌*◌, ◌≤◌, List, [], ◌∷◌, ◌++◌, length, map, Bool, true, false, ◌∙◌, ◌==◌, Ok, Err, Result, refl, sym, ap, arith, leb-true, le_refl, lit≤, length-append}
+use Rattle.std.specs.Prelude.{◌&&◌, codes, nat_le}
+use Rattle.std.specs.List.{list_all}
+use Rattle.std.proofs.lemmas.Bool.{and_parts, cases_Bool, cases_lt}
+use Rattle.std.proofs.lemmas.Fmt.{length-decimal-le_succ}
+use Rattle.hex.proofs.HexLemmas.{length-encode_with}
+use Rattle.hex.specs.Hex.{encode_lower, lower_digits}
+use Rattle.json.proofs.Printed.Strings.{escape_byte_plain}
+use Rattle.json.specs.Print.{escape, escape_byte, quoted}
+use Rattle.serde_json.specs.Data.{unsigned, negative, float, Data, null, boolean, number, string, array, object, Items, no_items, item, Members, no_members, member}
+use Rattle.serde_json.specs.View.{items_of}
+use Rattle.serde_json.specs.Written.{comma_if, compact_text, items_text, members_text}
+use Rattle.std.specs.Int.{bit_at}
+use Rattle.cap_sets.specs.Capability.{cap_names, names_from, names_of}
+use Rattle.profile_text.proofs.ReadFacts.{too_long}
+use Rattle.profile_text.specs.Reading.{most_bytes, reading_of}
+use Rattle.profile_text.specs.declared.fault.DocFault.{DocFault}
+use Rattle.profile_text.specs.declared.fault.DocFault.TheVariants.{TooLong}
+use Rattle.profile_text.specs.declared.profile.Profile.{Profile}
+use Rattle.review_policy.specs.Role.{has_role}
+use Rattle.review_policy.specs.WordTables.{all_roles, role_word}
+use Rattle.review_policy.specs.Words.{is_word, is_word_byte}
+use Rattle.review_policy.specs.declared.role.Role.{Role}
+use Rattle.sealed_log.specs.Sealed.{longest}
+use Rattle.office_policy.proofs.LawFacts.{allowed_follows}
+use Rattle.review_policy.specs.declared.ask.ProfileName.{ProfileName}
+use Rattle.office_policy.specs.Formed.{IsName, IsNumber, IsWord}
+use Rattle.office_policy.specs.History.{Event, History, founded, enrolled, submitted, voted, issued, withdrawn, adopted, held, released}
+use Rattle.office_policy.specs.Lawful.{IsAllowed, IsFounding}
+use Rattle.journal.specs.declared.kind.Kind.{Kind}
+use Rattle.journal.specs.declared.kind.Kind.TheVariants as kinds
+use Rattle.journal.specs.Kinds.{kind_word}
+use Rattle.journal.specs.Forms.{HasForms, IsFormed}
+use Rattle.journal.specs.Journal.{IsEntry}
+use Rattle.review_sheet.specs.Review.{vote_word}
+use Rattle.journal.specs.Lines.{Line, happened, strike, line_data, of_profile, of_revision, role_words, text_of, words_among}
+use Rattle.journal.proofs.NoFeeds.{HasSmall, ItemsHaveSmall, MembersHaveSmall, line_small, no_feed}
+use Rattle.journal.proofs.Tables.{holds_below, each_below}
+
+-- ---- strings
+
+abbrev is_short_escape : ℕ → Bool
+is_short_escape x = nat_le (length (escape_byte x)) 6
+
+escapes_short : holds_below is_short_escape 128 ≡ true
+unfolding escape_byte
+escapes_short = refl
+
+escape_short : (x : ℕ) → length (escape_byte x) ≤ 6
+escape_short x = elim (cases_lt x 128) [
+  | inl small ↦ leb-true (length (escape_byte x)) 6 (each_below is_short_escape 128 x escapes_short small)
+  | inr big ↦ let one = ap length (escape_byte_plain x (λ e. omega arith) (λ e. omega arith) (omega arith)) in omega (arith, one)
+]
+
+escaped : (s : List ℕ) → length (escape s) ≤ 6 * length s
+escaped [] = le_refl 0
+escaped (x ∷ s) = omega (arith, escaped s, escape_short x, length-append (escape_byte x) (escape s))
+
+quoted_room : (s : List ℕ) → length (quoted s) ≤ 6 * length s + 2
+quoted_room s = omega (arith, escaped s, length-append (escape s) (34 ∷ []))
+
+-- ---- values
+
+-- as many bytes as a value's text has at most
+abbrev mutual
+  room : Data → ℕ
+  room null = 4
+  room (boolean b) = 5
+  room (number (unsigned n)) = n + 1
+  room (number (negative z)) = 0
+  room (number (float x)) = 0
+  room (string s) = 6 * length s + 2
+  room (array ds) = items_room ds + 2
+  room (object ms) = members_room ms + 2
+
+  items_room : Items → ℕ
+  items_room no_items = 0
+  items_room (item d ds) = room d + 1 + items_room ds
+
+  members_room : Members → ℕ
+  members_room no_members = 0
+  members_room (member k d ms) = 6 * length k + 4 + room d + members_room ms
+
+comma_room : (later : Bool) → length (comma_if later) ≤ 1
+comma_room true = lit≤ tt
+comma_room false = lit≤ tt
+
+mutual
+  value_room : (d : Data) → HasSmall d → length (compact_text d) ≤ room d
+  value_room null h = lit≤ tt
+  value_room (boolean true) h = lit≤ tt
+  value_room (boolean false) h = lit≤ tt
+  value_room (number (unsigned n)) h = length-decimal-le_succ n h
+  value_room (number (negative z)) h = absurd h
+  value_room (number (float x)) h = absurd h
+  value_room (string s) h = quoted_room s
+  value_room (array ds) h = let rest = items_fit false ds h in omega (arith, rest)
+  value_room (object ms) h = let rest = members_fit false ms h in omega (arith, rest)
+
+  items_fit : (later : Bool) (ds : Items) → ItemsHaveSmall ds → length (items_text later ds) ≤ items_room ds + 1
+  items_fit later no_items h = lit≤ tt
+  items_fit later (item d ds) h =
+      let here = value_room d h.0 in
+      let rest = items_fit true ds h.1 in
+      omega (arith, here, rest, comma_room later, length-append (comma_if later) (compact_text d ++ items_text true ds), length-append (compact_text d) (items_text true ds))
+
+  members_fit : (later : Bool) (ms : Members) → MembersHaveSmall ms → length (members_text later ms) ≤ members_room ms + 1
+  members_fit later no_members h = lit≤ tt
+  members_fit later (member k d ms) h =
+      let here = value_room d h.0 in
+      let rest = members_fit true ms h.1 in
+      omega (
+        arith,
+        here,
+        rest,
+        quoted_room k,
+        comma_room later,
+        length-append (comma_if later) (quoted k ++ 58 ∷ (compact_text d ++ members_text true ms)),
+        length-append (quoted k) (58 ∷ (compact_text d ++ members_text true ms)),
+        length-append (compact_text d) (members_text true ms),
+      )
+
+-- ---- lists of words
+
+abbrev texts_room : List (List ℕ) → ℕ
+texts_room [] = 0
+texts_room (text ∷ texts) = 6 * length text + 3 + texts_room texts
+
+room_of_texts : (texts : List (List ℕ)) → items_room (items_of (map string texts)) ≡ texts_room texts
+room_of_texts [] = refl
+room_of_texts (text ∷ texts) = let rest = room_of_texts texts in omega (arith, rest)
+
+some_names : (n : ℕ) (names : List (List ℕ)) (caps : ℕ) → texts_room (names_from n names caps) ≤ texts_room names
+unfolding names_from
+some_names n [] caps = le_refl 0
+some_names n (name ∷ names) caps = elim (cases_Bool (bit_at caps n == 1)) [
+  | inl is ↦ rw is (let rest = some_names (n + 1) names caps in omega (arith, rest))
+  | inr is_not ↦ rw is_not (let rest = some_names (n + 1) names caps in omega (arith, rest))
+]
+
+some_words : (roles : ℕ) (among : List Role) → texts_room (words_among roles among) ≤ texts_room (map role_word among)
+some_words roles [] = le_refl 0
+some_words roles (role ∷ among) = elim (cases_Bool (has_role roles role)) [
+  | inl is ↦ rw is (let rest = some_words roles among in omega (arith, rest))
+  | inr is_not ↦ rw is_not (let rest = some_words roles among in omega (arith, rest))
+]
+
+names_room : (caps : ℕ) → items_room (items_of (map string (names_of caps))) ≤ 20000
+names_room caps =
+    let all : texts_room cap_names ≤ 20000 = lit≤ tt in
+    let some = some_names 0 cap_names caps in
+    omega (arith, all, some, room_of_texts (names_of caps))
+
+roles_room : (roles : ℕ) → items_room (items_of (map string (role_words roles))) ≤ 1000
+roles_room roles =
+    let all : texts_room (map role_word all_roles) ≤ 1000 = lit≤ tt in
+    let some = some_words roles all_roles in
+    omega (arith, all, some, room_of_texts (role_words roles))
+
+-- ---- the parts of an event
+
+word_room : (text : List ℕ) → IsWord text → length text ≤ 64
+unfolding is_word
+word_room text is =
+    let sizes = (and_parts (nat_le 1 (length text) && nat_le (length text) 64) (list_all is_word_byte text) is).0 in
+    leb-true (length text) 64 (and_parts (nat_le 1 (length text)) (nat_le (length text) 64) sizes).1
+
+digest_room : (digest : List ℕ) → length (encode_lower digest) ≡ 2 * length digest
+digest_room digest = length-encode_with lower_digits digest
+
+number_room : (n : ℕ) → IsNumber n → n ≤ 9999
+number_room n is = is.1
+
+vote_room : (approves : Bool) → length (vote_word approves) ≤ 7
+vote_room true = lit≤ tt
+vote_room false = lit≤ tt
+
+kind_room : (kind : Kind) → length (kind_word kind) ≤ 8
+kind_room kinds.Found = lit≤ tt
+kind_room kinds.Enrol = lit≤ tt
+kind_room kinds.Submit = lit≤ tt
+kind_room kinds.Vote = lit≤ tt
+kind_room kinds.Issue = lit≤ tt
+kind_room kinds.Withdraw = lit≤ tt
+kind_room kinds.Adopt = lit≤ tt
+kind_room kinds.Hold = lit≤ tt
+kind_room kinds.Release = lit≤ tt
+kind_room kinds.Strike = lit≤ tt
+
+by_key : length (codes "by") ≡ 2
+by_key = refl
+
+digest_key : length (codes "digest") ≡ 6
+digest_key = refl
+
+document_key : length (codes "document") ≡ 8
+document_key = refl
+
+event_key : length (codes "event") ≡ 5
+event_key = refl
+
+listed_key : length (codes "listed") ≡ 6
+listed_key = refl
+
+profile_key : length (codes "profile") ≡ 7
+profile_key = refl
+
+revision_key : length (codes "revision") ≡ 8
+revision_key = refl
+
+roles_key : length (codes "roles") ≡ 5
+roles_key = refl
+
+team_key : length (codes "team") ≡ 4
+team_key = refl
+
+user_key : length (codes "user") ≡ 4
+user_key = refl
+
+vote_key : length (codes "vote") ≡ 4
+vote_key = refl
+
+of_profile_fits : (kind : Kind) (caller : List ℕ) (p : ProfileName) → IsWord caller → IsName p → room (of_profile kind caller p) ≤ 3000
+of_profile_fits kind caller p who name =
+    omega (
+      arith,
+      word_room caller who,
+      word_room p.team name.0,
+      word_room p.profile name.1,
+      kind_room kind,
+      by_key,
+      event_key,
+      profile_key,
+      team_key,
+    )
+
+of_revision_fits : (kind : Kind) (caller : List ℕ) (p : ProfileName) (n : ℕ) → IsWord caller → IsName p → IsNumber n → room (of_revision kind caller p n) ≤ 20000
+of_revision_fits kind caller p n who name numbered =
+    omega (
+      arith,
+      word_room caller who,
+      word_room p.team name.0,
+      word_room p.profile name.1,
+      number_room n numbered,
+      kind_room kind,
+      by_key,
+      event_key,
+      profile_key,
+      revision_key,
+      team_key,
+    )
+
+-- the text of a submission is no longer than that of a document
+abbrev HasShortText : Event → Type 0
+HasShortText (submitted caller p text) = length text ≤ 262144
+HasShortText _ = Unit {0}
+
+fits : (e : Event) → HasForms e → HasShortText e → room (line_data (happened e)) + 84 ≤ longest
+fits (founded name team digest listed) h short =
+    omega (
+      arith,
+      word_room name h.0,
+      word_room team h.1,
+      digest_room digest,
+      h.2.0,
+      names_room listed,
+      kind_room kinds.Found,
+      digest_key,
+      event_key,
+      listed_key,
+      team_key,
+      user_key,
+    )
+fits (enrolled caller name team roles digest) h short =
+    omega (
+      arith,
+      word_room caller h.0,
+      word_room name h.1,
+      word_room team h.2,
+      roles_room roles,
+      digest_room digest,
+      h.4.0,
+      kind_room kinds.Enrol,
+      by_key,
+      digest_key,
+      event_key,
+      roles_key,
+      team_key,
+      user_key,
+    )
+fits (submitted caller p text) h short =
+    omega (
+      arith,
+      word_room caller h.0,
+      word_room p.team h.1.0,
+      word_room p.profile h.1.1,
+      short,
+      kind_room kinds.Submit,
+      by_key,
+      document_key,
+      event_key,
+      profile_key,
+      team_key,
+    )
+fits (voted caller p n digest approves) h short =
+    omega (
+      arith,
+      word_room caller h.0,
+      word_room p.team h.1.0,
+      word_room p.profile h.1.1,
+      number_room n h.2,
+      digest_room digest,
+      h.3.0,
+      vote_room approves,
+      kind_room kinds.Vote,
+      by_key,
+      digest_key,
+      event_key,
+      profile_key,
+      revision_key,
+      team_key,
+      vote_key,
+    )
+fits (issued caller p n) h short = let most = of_revision_fits kinds.Issue caller p n h.0 h.1 h.2 in omega (arith, most)
+fits (withdrawn caller p n) h short = let most = of_revision_fits kinds.Withdraw caller p n h.0 h.1 h.2 in omega (arith, most)
+fits (adopted caller p n) h short = let most = of_revision_fits kinds.Adopt caller p n h.0 h.1 h.2 in omega (arith, most)
+fits (held caller p) h short = let most = of_profile_fits kinds.Hold caller p h.0 h.1 in omega (arith, most)
+fits (released caller p) h short = let most = of_profile_fits kinds.Release caller p h.0 h.1 in omega (arith, most)
+
+-- ---- lines
+
+entry : (l : Line) → IsFormed l → room (line_data l) + 84 ≤ longest → IsEntry l
+unfolding text_of
+entry l formed small = record {
+  formed = formed;
+  body = record {
+    one = no_feed l formed;
+    fits = let text = value_room (line_data l) (line_small l formed) in omega (arith, text, small);
+  };
+}
+
+pub strike_entry : IsEntry strike
+strike_entry = entry strike tt (lit≤ tt)
+
+short_document : (text : List ℕ) (profile : Profile) → reading_of text ≡ Ok profile → length text ≤ 262144
+short_document text profile reads = elim (cases_lt most_bytes (length text)) [
+  | inl more ↦ absurd (let both : ◌≡◌ {A = Result Profile DocFault} (Ok profile) (Err TooLong) = sym reads ∙ too_long text more in cc)
+  | inr less ↦ less
+]
+
+allowed_text : (h : History) (e : Event) → IsAllowed h e → HasShortText e
+allowed_text h (founded name team digest listed) is = tt
+allowed_text h (enrolled caller name team roles digest) is = tt
+allowed_text h (submitted caller p text) is =
+    let follows = allowed_follows h (submitted caller p text) is in
+    short_document text follows.profile follows.reads
+allowed_text h (voted caller p n digest approves) is = tt
+allowed_text h (issued caller p n) is = tt
+allowed_text h (withdrawn caller p n) is = tt
+allowed_text h (adopted caller p n) is = tt
+allowed_text h (held caller p) is = tt
+allowed_text h (released caller p) is = tt
+
+pub allowed_entry : (h : History) (e : Event) → IsAllowed h e → HasForms e → IsEntry (happened e)
+allowed_entry h e is forms = entry (happened e) forms (fits e forms (allowed_text h e is))
+
+pub founding_entry : (e : Event) → IsFounding e → HasForms e → IsEntry (happened e)
+founding_entry (founded name team digest listed) is forms =
+    entry (happened (founded name team digest listed)) forms (fits (founded name team digest listed) forms tt)
+founding_entry (enrolled caller name team roles digest) is forms = absurd is
+founding_entry (submitted caller p text) is forms = absurd is
+founding_entry (voted caller p n digest approves) is forms = absurd is
+founding_entry (issued caller p n) is forms = absurd is
+founding_entry (withdrawn caller p n) is forms = absurd is
+founding_entry (adopted caller p n) is forms = absurd is
+founding_entry (held caller p) is forms = absurd is
+founding_entry (released caller p) is forms = absurd is

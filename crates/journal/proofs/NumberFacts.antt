@@ -1,0 +1,110 @@
+-- The number of a revision that a text may name is from 1 to 9,999.
+use Rattle.std.proofs.Common.{◌≡◌, ℕ, List, Option, Some, None, Bool, true, false, cond, refl, subst, arith, leb-true}
+use Rattle.std.specs.Prelude.{◌&&◌, codes, nat_le, option_and_then}
+use Rattle.std.proofs.lemmas.Bool.{and_parts}
+use Rattle.serde_json.specs.Data.{Data}
+use Rattle.review_policy.specs.declared.ask.ProfileName.{ProfileName}
+use Rattle.json_requests.specs.Members.{◌>>=◌, digest_at, if_revision, name_at, revision_at, roles_at, text_at, vote_at, whole_at, word_at}
+use Rattle.json_requests.specs.Requests.{value_of}
+use Rattle.office_policy.specs.Formed.{IsNumber}
+use Rattle.office_policy.specs.History.{Event, issued, withdrawn, adopted, held, released}
+use Rattle.journal.specs.declared.kind.Kind.{Kind}
+use Rattle.journal.specs.declared.kind.Kind.TheVariants as kinds
+use Rattle.journal.specs.Forms.{HasNumber, IsNumbered}
+use Rattle.journal.specs.Kinds.{kind_of}
+use Rattle.journal.specs.Lines.{Line, strike}
+use Rattle.journal.specs.Read.{caller_at, candidate_at, candidate_in, enrolled_at, founded_at, line_at, listed_at, profile_event_at, revision_event_at, submitted_at, voted_at}
+
+in_range : (m n : ℕ) → if_revision m ≡ Some n → IsNumber n
+in_range m n found = by_test (nat_le 1 m && nat_le m 9999) refl found
+  where
+    by_test : (b : Bool) → (nat_le 1 m && nat_le m 9999) ≡ b → cond b (Some m) None ≡ Some n → IsNumber n
+    by_test true is given =
+        let same : m ≡ n = cc in
+        let parts = and_parts (nat_le 1 m) (nat_le m 9999) is in
+        let low = leb-true 1 m parts.0 in
+        let high = leb-true m 9999 parts.1 in
+        (omega arith, omega arith)
+    by_test false is given = cc
+
+number_is : (d : Data) (n : ℕ) → revision_at d ≡ Some n → IsNumber n
+unfolding revision_at
+number_is d n found = at (whole_at (codes "revision") d) found
+  where
+    at : (o : Option ℕ) → option_and_then if_revision o ≡ Some n → IsNumber n
+    at None h = cc
+    at (Some m) h = in_range m n h
+
+-- each line that this may be has its number
+abbrev AllNumbered : Option Line → Type 0
+AllNumbered o = (l : Line) → o ≡ Some l → IsNumbered l
+
+none_found : AllNumbered None
+none_found l h = cc
+
+one_found : (m : Line) → IsNumbered m → AllNumbered (Some m)
+one_found m numbered l h = let same : m ≡ l = cc in subst IsNumbered same numbered
+
+after : {A : Type 0} (o : Option A) (f : A → Option Line) → ((x : A) → o ≡ Some x → AllNumbered (f x)) → AllNumbered (o >>= f)
+after None f each = none_found
+after (Some x) f each = each x refl
+
+founding : (d : Data) → AllNumbered (founded_at d)
+unfolding founded_at
+founding d =
+    after (word_at (codes "user") d) _ (λ name is. after (word_at (codes "team") d) _ (λ team is. after (digest_at d) _ (λ digest is.
+    after (listed_at d) _ (λ listed is. one_found _ tt))))
+
+enrolment : (d : Data) → AllNumbered (enrolled_at d)
+unfolding enrolled_at
+enrolment d =
+    after (caller_at d) _ (λ caller is. after (word_at (codes "user") d) _ (λ name is. after (word_at (codes "team") d) _ (λ team is.
+    after (roles_at d) _ (λ roles is. after (digest_at d) _ (λ digest is. one_found _ tt)))))
+
+submission : (d : Data) → AllNumbered (submitted_at d)
+unfolding submitted_at
+submission d =
+    after (caller_at d) _ (λ caller is. after (name_at d) _ (λ name is. after (text_at (codes "document") d) _ (λ text is. one_found _ tt)))
+
+vote : (d : Data) → AllNumbered (voted_at d)
+unfolding voted_at
+vote d =
+    after (caller_at d) _ (λ caller is. after (name_at d) _ (λ name is. after (revision_at d) _ (λ n found.
+    after (digest_at d) _ (λ digest is. after (vote_at d) _ (λ approves is. one_found _ (number_is d n found))))))
+
+on_revision : (event : List ℕ → ProfileName → ℕ → Event) → ((caller : List ℕ) (p : ProfileName) (n : ℕ) → IsNumber n → HasNumber (event caller p n))
+    → (d : Data) → AllNumbered (revision_event_at event d)
+unfolding revision_event_at
+on_revision event numbered d =
+    after (caller_at d) _ (λ caller is. after (name_at d) _ (λ name is.
+    after (revision_at d) _ (λ n found. one_found _ (numbered caller name n (number_is d n found)))))
+
+on_profile : (event : List ℕ → ProfileName → Event) → ((caller : List ℕ) (p : ProfileName) → HasNumber (event caller p))
+    → (d : Data) → AllNumbered (profile_event_at event d)
+unfolding profile_event_at
+on_profile event numbered d =
+    after (caller_at d) _ (λ caller is. after (name_at d) _ (λ name is. one_found _ (numbered caller name)))
+
+by_kind : (kind : Kind) (d : Data) → AllNumbered (line_at kind d)
+by_kind kinds.Found d = founding d
+by_kind kinds.Enrol d = enrolment d
+by_kind kinds.Submit d = submission d
+by_kind kinds.Vote d = vote d
+by_kind kinds.Issue d = on_revision issued (λ caller p n h. h) d
+by_kind kinds.Withdraw d = on_revision withdrawn (λ caller p n h. h) d
+by_kind kinds.Adopt d = on_revision adopted (λ caller p n h. h) d
+by_kind kinds.Hold d = on_profile held (λ caller p. tt) d
+by_kind kinds.Release d = on_profile released (λ caller p. tt) d
+by_kind kinds.Strike d = one_found strike tt
+
+in_object : (d : Data) → AllNumbered (candidate_at d)
+unfolding candidate_at
+in_object d = after (option_and_then kind_of (text_at (codes "event") d)) _ (λ kind is. by_kind kind d)
+
+pub numbered : (text : List ℕ) (l : Line) → candidate_in text ≡ Some l → IsNumbered l
+unfolding candidate_in
+numbered text = at (value_of text)
+  where
+    at : (o : Option Data) → AllNumbered (option_and_then candidate_at o)
+    at None = none_found
+    at (Some d) = in_object d

@@ -1,0 +1,166 @@
+-- An office with a journal, where the office alone was asked.
+use Rattle.std.proofs.Common.{inl, inr, ◌≡◌, ◌∙◌, ◌≤◌, ◌+◌, ℕ, List, true, false, Some, None, IsTrue, sym, subst, arith}
+use Rattle.std.proofs.lemmas.Bool.{and_parts}
+use Rattle.review_policy.specs.declared.ask.Ask.{Ask}
+use Rattle.review_policy.specs.declared.ask.Request.{Request}
+use Rattle.review_policy.specs.declared.answer.Answer.{Answer}
+use Rattle.review_policy.specs.declared.answer.Answer.TheVariants.{Done, Denied, Fault}
+use Rattle.review_policy.specs.declared.fault.Fault.{Fault as TheFault}
+use Rattle.review_policy.specs.declared.fault.Fault.TheVariants as faults
+use Rattle.office_policy.specs.History.{History}
+use Rattle.office_policy.specs.Verdict.{Verdict, accepted, denied, verdict}
+use Rattle.office_policy.specs.Runs.{history_after}
+use Rattle.office_policy.specs.Meaning.{Meaning}
+use Rattle.office_policy.specs.Handled.{HasCause, HasRisen, IsHandled, IsMet, IsUnwritten, RefusesEvent, Stands, Survives, UnlessChanged, UnlessFaulty}
+use Rattle.office_policy.specs.Judging.{IsAnswered, LeavesAll}
+use Rattle.office_policy.proofs.SurvivalFacts.{survives_none}
+use Rattle.journal.specs.Journal.{Says}
+use Rattle.journal.specs.declared.journaled.Journaled.{Journaled}
+use Rattle.journal.specs.Begun.{IsLeftOf}
+use Rattle.journal.specs.Journals.{IsOf, LeavesFile, LeavesOffice, goes_on, is_clean, journaled, stray_faults, struck_none, with_office}
+use Rattle.journal.specs.Writing.{Writing}
+
+-- ---- counts of faults
+
+pub risen_first : (a b c x y z : ℕ) → HasRisen a x → b ≤ y → c ≤ z → HasRisen (a + b + c) (x + y + z)
+risen_first a b c x y z risen more rest = omega (arith, risen, more, rest)
+
+pub risen_second : (a b c x y z : ℕ) → a ≤ x → HasRisen b y → c ≤ z → HasRisen (a + b + c) (x + y + z)
+risen_second a b c x y z more risen rest = omega (arith, more, risen, rest)
+
+pub none_fewer : (n : ℕ) → n ≤ n
+none_fewer n = omega arith
+
+-- ---- what holds whatever was answered
+
+pub kept_anyhow : (a : Ask) (told : Answer) (P : Type 0) → P → UnlessChanged a told P
+kept_anyhow a (Done reply) P p = λ reads. p
+kept_anyhow a (Denied denial fault) P p = p
+kept_anyhow a (Fault fault) P p = p
+
+pub unless_faulty : (told : Answer) (P Q : Type 0) → (P → Q) → UnlessFaulty told P → UnlessFaulty told Q
+unless_faulty (Done reply) P Q to p = to p
+unless_faulty (Denied denial fault) P Q to p = to p
+unless_faulty (Fault fault) P Q to p = tt
+
+module _ {O J : Type 0} (m : Meaning O) (w : Writing J) where
+  -- it is open, where it goes on
+  pub open_of : (x : Journaled O J) → IsTrue (goes_on m w x) → IsTrue (w.is_open x.journal)
+  open_of x goes = (and_parts (w.is_open x.journal) _ goes).0
+
+  -- ---- causes
+
+  refused : (x : Journaled O J) (h : History) (v : Verdict) (fault : TheFault) → RefusesEvent m x.office h v fault → RefusesEvent (journaled m w) x h v fault
+  refused x h (accepted reply (Some e)) fault is = is
+  refused x h (accepted reply None) fault is = absurd is
+  refused x h (denied denial told) fault is = absurd is
+
+  pub met : (x y : Journaled O J) (h : History) (r : Request) (fault : TheFault) → w.faults x.journal ≤ w.faults y.journal → stray_faults x.has_stray ≤ stray_faults y.has_stray
+      → IsMet m x.office y.office h r fault → IsMet (journaled m w) x y h r fault
+  met x y h r fault more rest (inl risen) =
+      inl (risen_first (m.faults x.office) (w.faults x.journal) (stray_faults x.has_stray) (m.faults y.office) (w.faults y.journal) (stray_faults y.has_stray) risen more rest)
+  met x y h r fault more rest (inr refuses) = inr (refused x h (verdict h r) fault refuses)
+
+  pub caused : (x y : Journaled O J) (h : History) (r : Request) (told : Answer) → w.faults x.journal ≤ w.faults y.journal → stray_faults x.has_stray ≤ stray_faults y.has_stray
+      → (IsUnwritten m x.office y.office → IsUnwritten (journaled m w) x y) → HasCause m x.office y.office h r told → HasCause (journaled m w) x y h r told
+  caused x y h r (Done reply) more rest unwritten cause = tt
+  caused x y h r (Denied denial fault) more rest unwritten cause = tt
+  caused x y h r (Fault faults.NoMemory) more rest unwritten (inl none) = inl (unwritten none)
+  caused x y h r (Fault faults.NoMemory) more rest unwritten (inr refuses) = inr (refused x h (verdict h r) faults.NoMemory refuses)
+  caused x y h r (Fault faults.Disk) more rest unwritten cause = λ is_open. met x y h r faults.Disk more rest (cause is_open.0)
+  caused x y h r (Fault faults.Full) more rest unwritten cause = met x y h r faults.Full more rest cause
+  caused x y h r (Fault faults.NotAnOffice) more rest unwritten cause = cause
+
+  -- ---- what stands
+
+  -- an office that stands, with the journal that says its history, stands with it
+  pub stands_with : (x : Journaled O J) (h : History) → is_clean m w x → IsTrue (goes_on m w x) → IsOf m w h x → Stands m h x.office → Stands (journaled m w) h x
+  stands_with x h clean goes of stands = record {
+    is_of = of;
+    is_open = (stands.is_open, goes);
+    leaves = λ left may. (office left.0 may.0, file left.1 may.1);
+  }
+    where
+      office : (left : m.Left) → LeavesOffice m w x left → m.are_of h left
+      office left (inl may) = stands.leaves left may
+      office left (inr each) = each h of
+
+      file : (left : List ℕ) → LeavesFile m w x left → IsLeftOf h left
+      file left (inl may) = inl (record { bodies = w.bodies x.journal; is = w.settled x.journal clean.1 (open_of x goes) left may; says = of.says clean goes })
+      file left (inr each) = each.1 h of
+
+  module _ (x : Journaled O J) (office : O) (leaves : LeavesAll m x.office office) where
+    still_of : (h : History) → IsOf m w h x → IsOf m w h (with_office x office)
+    still_of h of = record {
+      office = leaves.office h of.office;
+      says = λ clean goes. of.says (leaves.survives.clean clean.0, clean.1) goes;
+    }
+
+    survives : Survives (journaled m w) x (with_office x office)
+    survives = record {
+      clean = λ clean. (leaves.survives.clean clean.0, clean.1);
+      counts = omega (arith, leaves.survives.counts);
+      closes = λ clean is_open. elim (leaves.survives.closes clean.0 is_open.0) [
+        | inl still ↦ inl (still, is_open.1)
+        | inr risen ↦ inr
+            (risen_first (m.faults x.office) (w.faults x.journal) (stray_faults x.has_stray) (m.faults office) (w.faults x.journal) (stray_faults x.has_stray) risen
+            (none_fewer (w.faults x.journal)) (none_fewer (stray_faults x.has_stray)))
+      ];
+      shut = λ clean is_open. (leaves.survives.shut clean.0 is_open.0, is_open.1);
+    }
+
+    office_before : m.is_clean office → (left : m.Left) → LeavesOffice m w (with_office x office) left → LeavesOffice m w x left
+    office_before clean left (inl may) = inl (leaves.crash clean left may)
+    office_before clean left (inr each) = inr (λ h of. each h (still_of h of))
+
+    file_before : (left : List ℕ) → LeavesFile m w (with_office x office) left → LeavesFile m w x left
+    file_before left (inl may) = inl may
+    file_before left (inr each) = inr (each.0, λ h of. each.1 h (still_of h of))
+
+    -- nothing was changed
+    pub all_left : LeavesAll (journaled m w) x (with_office x office)
+    all_left = record {
+      survives = survives;
+      office = still_of;
+      kept = λ clean. (leaves.kept clean.0, λ goes. (goes, struck_none (w.bodies x.journal)));
+      crash = λ clean left may. (office_before clean.0 left.0 may.0, file_before left.1 may.1);
+    }
+
+  -- the office answered the request
+  pub answered : (x : Journaled O J) (office : O) (r : Request) (told : Answer) → IsTrue (goes_on m w x) → IsAnswered m x.office office r told
+      → IsHandled (journaled m w) x (with_office x office) r told
+  answered x office r told goes is =
+      let all : LeavesAll (journaled m w) x (with_office x office) = all_left x office is.leaves in
+      let of_after : (h : History) → IsOf m w h x → IsOf m w (history_after h r told) (with_office x office) = λ h of. record {
+        office = is.handled.office h of.office;
+        says = λ clean goes. subst (Says (w.bodies x.journal)) (sym (is.same h of.office clean.0)) (of.says (is.leaves.survives.clean clean.0, clean.1) goes);
+      } in
+      record {
+        survives = all.survives;
+        answer = λ h of clean. is.handled.answer h of.office clean.0;
+        cause = λ h of clean.
+            caused x (with_office x office) h r told (none_fewer (w.faults x.journal)) (none_fewer (stray_faults x.has_stray)) (λ none. (all.kept clean, all.crash clean)) (is.handled.cause h of.office clean.0);
+        approved = λ h of clean. is.handled.approved h of.office clean.0;
+        office = of_after;
+        stands = λ h of clean.
+            unless_faulty told (Stands m (history_after h r told) office) (Stands (journaled m w) (history_after h r told) (with_office x office))
+            (stands_with (with_office x office) (history_after h r told) clean goes (of_after h of)) (is.handled.stands h of.office clean.0);
+        kept = λ clean. kept_anyhow r.ask told ((journaled m w).keeps x (with_office x office)) (all.kept clean);
+        crash = λ h of clean left may. inl (all.crash clean left may);
+      }
+
+  -- an office whose journal doesn't go on is shut
+  shut : (x : Journaled O J) → goes_on m w x ≡ false → IsTrue (goes_on m w x) → ⊥
+  shut x ends goes = let k : goes_on m w x ≡ true = goes in let c : true ≡ false = sym k ∙ ends in absurd cc
+
+  pub refused_shut : (x : Journaled O J) (r : Request) → goes_on m w x ≡ false → IsHandled (journaled m w) x x r (Fault faults.Disk)
+  refused_shut x r ends = record {
+    survives = survives_none (journaled m w) x;
+    answer = λ h of clean. tt;
+    cause = λ h of clean stood. absurd (shut x ends stood.1);
+    approved = λ h of clean. tt;
+    office = λ h of. of;
+    stands = λ h of clean. tt;
+    kept = λ clean. (journaled m w).keeps_itself x;
+    crash = λ h of clean left may. inl may;
+  }

@@ -1,0 +1,31 @@
+-- What a crash may leave of the journal of an office.
+use Rattle.std.specs.Prelude.{◌⊎◌, ℕ, List, [], ◌∷◌, ◌++◌}
+use Rattle.office_policy.specs.History.{Event, History}
+use Rattle.office_policy.specs.Lawful.{IsAllowed}
+use Rattle.journal.specs.Forms.{HasForms}
+use Rattle.journal.specs.Journal.{IsJournalOf, Says}
+use Rattle.journal.specs.Lines.{happened, strike, text_of}
+use Rattle.journal.specs.Writing.{IsLeftIn}
+
+-- these bodies, and that of an event
+abbrev pub with_event : List (List ℕ) → Event → List (List ℕ)
+with_event bodies e = bodies ++ text_of (happened e) ∷ []
+
+-- and that of the line that strikes it out
+abbrev pub with_struck : List (List ℕ) → Event → List (List ℕ)
+with_struck bodies e = with_event bodies e ++ text_of strike ∷ []
+
+-- the journal of the history, and behind it what is left of the line of an event that the policy
+-- allows then; or that line too, and what is left of the one that strikes it out
+pub record IsBegun (h : History) (file : List ℕ) : Type 0 where
+  pub before : List (List ℕ)
+  pub says : Says before h
+  pub event : Event
+  pub allowed : IsAllowed h event
+  pub forms : HasForms event
+  pub left : IsLeftIn before (text_of (happened event)) file
+      ⊎ IsLeftIn (with_event before event) (text_of strike) file
+
+-- the journal of the history, or it with one event more that was begun
+abbrev pub IsLeftOf : History → List ℕ → Type 0
+IsLeftOf h file = IsJournalOf file h ⊎ IsBegun h file

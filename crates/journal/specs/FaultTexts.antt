@@ -1,0 +1,12 @@
+-- The words of why a journal can't be read on.
+use Rattle.std.specs.Prelude.{ℕ, List, codes}
+use Rattle.journal.specs.declared.events.Unreadable.{Unreadable}
+use Rattle.journal.specs.declared.events.Unreadable.TheVariants as unreadable
+
+abbrev pub unreadable_word : Unreadable → List ℕ
+unreadable_word unreadable.NotALine = codes "not-a-line"
+unreadable_word unreadable.NothingToStrike = codes "nothing-to-strike"
+unreadable_word unreadable.Unsealed = codes "unsealed"
+unreadable_word unreadable.TornLine = codes "torn-line"
+unreadable_word unreadable.Read = codes "read"
+unreadable_word unreadable.NoMemory = codes "memory"

@@ -1,0 +1,21 @@
+-- What the reader of a line returns; out of memory may come in place of any answer.
+use Rattle.std.specs.Prelude.{◌≡◌, ◌≢◌, ℕ, List, Option, Some, None, Result, Ok, Err}
+use Rattle.journal.specs.declared.line.Line as of_lines
+use Rattle.journal.specs.declared.fault.UnreadLine.{UnreadLine}
+use Rattle.journal.specs.declared.fault.UnreadLine.TheVariants.{NotALine, NoMemory}
+use Rattle.journal.specs.Forms.{IsFormed}
+use Rattle.journal.specs.Lines.{Line, text_of}
+use Rattle.journal.specs.Shown.{shown}
+
+-- the text is that of the line that is read, which has its forms; where none is, it is that of no
+-- line with its forms
+abbrev pub IsRead : List ℕ → Result of_lines.Line UnreadLine → Type 0
+IsRead text (Ok line) = (text ≡ text_of (shown line)) × IsFormed (shown line)
+IsRead text (Err NotALine) = (line : Line) → IsFormed line → text ≢ text_of line
+IsRead text (Err NoMemory) = Unit {0}
+
+-- what a text may be is found as the definition has it
+abbrev pub IsCandidate : Result of_lines.Line UnreadLine → Option Line → Type 0
+IsCandidate (Ok line) candidate = candidate ≡ Some (shown line)
+IsCandidate (Err NotALine) candidate = candidate ≡ None
+IsCandidate (Err NoMemory) candidate = Unit {0}

@@ -1,0 +1,138 @@
+-- What an office with a journal is to those who see neither store nor file.
+use Rattle.std.proofs.Common.{◌≡◌, ◌⊎◌, ◌∙◌, ◌+◌, [], ◌∷◌, ◌++◌, ◌≤◌, ◌&&◌, ℕ, List, Bool, true}
+use Rattle.std.proofs.Common.{false, not, flat_map, if◌then◌else◌, IsTrue, ap, sym, append-nil}
+use Rattle.std.proofs.Common.{append_assoc}
+use Rattle.std.proofs.lemmas.Grind.{flat_map-append}
+use Rattle.office_policy.specs.History.{Event, History}
+use Rattle.office_policy.specs.Meaning.{Meaning}
+use Rattle.office_policy.specs.Handled.{Stands}
+use Rattle.office_policy.specs.Judging.{LeavesAll}
+use Rattle.journal.specs.Journal.{Says}
+use Rattle.journal.specs.Lines.{happened, strike, text_of}
+use Rattle.journal.specs.declared.journaled.Journaled.{Journaled}
+use Rattle.journal.specs.Begun.{IsLeftOf}
+use Rattle.journal.specs.Writing.{Writing, IsLeftInPart}
+
+-- an event that didn't happen, and couldn't be struck out, is a fault too
+abbrev pub stray_faults : Bool → ℕ
+stray_faults has_stray = if has_stray then 1 else 0
+
+-- the same journal with another office
+abbrev pub with_office : {O J : Type 0} → Journaled O J → O → Journaled O J
+with_office x office = record {
+  office = office;
+  journal = x.journal;
+  has_stray = x.has_stray;
+}
+
+-- events that didn't happen, each with the line that strikes it out
+abbrev pub struck_body : Event → List (List ℕ)
+struck_body e = text_of (happened e) ∷ text_of strike ∷ []
+
+abbrev pub struck_bodies : List Event → List (List ℕ)
+struck_bodies es = flat_map struck_body es
+
+-- the second are the first, and such events behind them
+pub record HasStruck (old new : List (List ℕ)) : Type 0 where
+  pub events : List Event
+  pub is : new ≡ old ++ struck_bodies events
+
+pub struck_none : (bodies : List (List ℕ)) → HasStruck bodies bodies
+struck_none bodies = record { events = []; is = sym (append-nil bodies) }
+
+pub struck_on : (a b c : List (List ℕ)) → HasStruck a b → HasStruck b c → HasStruck a c
+struck_on a b c first then_ = record {
+  events = first.events ++ then_.events;
+  is = then_.is ∙ ap (λ l. l ++ struck_bodies then_.events) first.is
+      ∙ append_assoc a (struck_bodies first.events) (struck_bodies then_.events)
+      ∙ ap (λ l. a ++ l) (sym (flat_map-append struck_body first.events then_.events));
+}
+
+module _ {O J : Type 0} (m : Meaning O) (w : Writing J) where
+  -- its journal is open, and has no event that didn't happen
+  abbrev pub goes_on : Journaled O J → Bool
+  goes_on x = w.is_open x.journal && not x.has_stray
+
+  -- what both keep things in has returned what was written
+  abbrev pub is_clean : Journaled O J → Type 0
+  is_clean x = m.is_clean x.office × w.is_clean x.journal
+
+  -- it is the office of a history, and its journal says that history
+  pub record IsOf (h : History) (x : Journaled O J) : Type 0 where
+    pub office : m.is_of h x.office
+    pub says : is_clean x → IsTrue (goes_on x) → Says (w.bodies x.journal) h
+
+  -- where the journal goes on it went on before, and has what it had, and behind that at most events
+  -- that are struck out
+  abbrev pub KeepsJournal : (old new : Journaled O J) → Type 0
+  KeepsJournal old new = IsTrue (goes_on new)
+      → IsTrue (goes_on old) × HasStruck (w.bodies old.journal) (w.bodies new.journal)
+
+  -- what a crash may leave of the office, or what is of each history that it is of
+  abbrev pub LeavesOffice : Journaled O J → m.Left → Type 0
+  LeavesOffice x left =
+      m.may_leave x.office left ⊎ ((h : History) → IsOf h x → m.are_of h left)
+
+  -- what a crash may leave of the journal; or, while that goes on, the journal of each history that
+  -- it is of, or such a one with one event more that was begun
+  abbrev pub LeavesFile : Journaled O J → List ℕ → Type 0
+  LeavesFile x file =
+      w.may_leave x.journal file
+      ⊎ (IsTrue (goes_on x) × ((h : History) → IsOf h x → IsLeftOf h file))
+
+  -- the meaning of an office with a journal: what is left of it are tables and a file
+  abbrev pub journaled : Meaning (Journaled O J)
+  journaled = record {
+    is_clean = is_clean;
+    is_open = λ x. m.is_open x.office × IsTrue (goes_on x);
+    faults = λ x. m.faults x.office + w.faults x.journal + stray_faults x.has_stray;
+    refuses = λ x. m.refuses x.office;
+    is_of = IsOf;
+    keeps = λ x y. m.keeps x.office y.office × KeepsJournal x y;
+    Left = m.Left × List ℕ;
+    may_leave = λ x left. LeavesOffice x left.0 × LeavesFile x left.1;
+    are_of = λ h left. m.are_of h left.0 × IsLeftOf h left.1;
+    lawful = λ h x of. m.lawful h x.office of.office;
+    keeps_itself = λ x. (m.keeps_itself x.office, λ goes. (goes, struck_none (w.bodies x.journal)));
+    keeps_on = λ x y z first then_. (
+      m.keeps_on x.office y.office z.office first.0 then_.0,
+      λ goes.
+          let later = then_.1 goes in
+          let earlier = first.1 later.0 in (
+            earlier.0,
+            struck_on (w.bodies x.journal) (w.bodies y.journal) (w.bodies z.journal)
+                earlier.1 later.1,
+          ),
+    );
+  }
+
+  -- the office stands as it did before, of each history that it was of
+  abbrev pub StandsStill : (old new : Journaled O J) → Type 0
+  StandsStill old new =
+      (h : History) → m.is_of h old.office → m.is_clean new.office → Stands m h new.office
+
+  -- the event of the last line was struck out
+  pub record IsStruck (old new : Journaled O J) : Type 0 where
+    pub stands : StandsStill old new
+    pub no_stray : new.has_stray ≡ false
+    pub is_open : IsTrue (w.is_open new.journal)
+    pub bodies : w.is_clean new.journal
+        → w.bodies new.journal ≡ w.bodies old.journal ++ text_of strike ∷ []
+
+  -- or couldn't be
+  pub record IsHalfStruck (old new : Journaled O J) : Type 0 where
+    pub stands : StandsStill old new
+    pub stray : new.has_stray ≡ true
+    pub crash : w.is_clean new.journal → (left : List ℕ) → w.may_leave new.journal left
+        → w.may_leave old.journal left ⊎ IsLeftInPart w old.journal (text_of strike) left
+
+  -- or wasn't, as the office may not stand as it did
+  pub record IsStray (old new : Journaled O J) : Type 0 where
+    pub stray : new.has_stray ≡ true
+    pub journal : new.journal ≡ old.journal
+
+  pub record IsTakenBack (old new : Journaled O J) : Type 0 where
+    pub leaves : LeavesAll m old.office new.office
+    pub clean : w.is_clean new.journal → w.is_clean old.journal
+    pub counts : w.faults old.journal ≤ w.faults new.journal
+    pub journal : IsStruck old new ⊎ IsHalfStruck old new ⊎ IsStray old new

@@ -1,0 +1,16 @@
+pub mod Kinds
+pub mod Lines
+pub mod Forms
+pub mod Shown
+pub mod Read
+pub mod Faults
+pub mod Examples
+pub mod Journal
+pub mod Reading
+pub mod Told
+pub mod Steps
+pub mod FaultTexts
+pub mod Writing
+pub mod Begun
+pub mod Journals
+pub mod Logs

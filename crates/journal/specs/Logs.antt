@@ -1,0 +1,31 @@
+-- What a sealed log is to those who write a journal to it.
+use Rattle.std.proofs.Common.{◌∙◌, Result, Ok, Err, IsTrue}
+use Rattle.std.specs.Prelude.{⊤}
+use Rattle.sqlite_disk.specs.declared.Disk.{Ghosts}
+use Rattle.sealed_log.specs.Log.{bodies_of}
+use Rattle.sealed_log.specs.declared.fault.LogFault.{LogFault}
+use Rattle.sealed_log.specs.declared.fault.LogFault.TheVariants as logs
+use Rattle.sealed_log.specs.declared.log.SealedLog.{SealedLog}
+use Rattle.review_policy.specs.declared.fault.Fault.{Fault}
+use Rattle.review_policy.specs.declared.fault.Fault.TheVariants as faults
+use Rattle.journal.specs.Writing.{Writing}
+
+-- the fault of an office that a fault of its log is
+abbrev pub fault_meant : LogFault → Fault
+fault_meant logs.Memory = faults.NoMemory
+fault_meant logs.Disk = faults.Disk
+fault_meant logs.Full = faults.Full
+
+abbrev pub told_meant : Result ⊤ LogFault → Result ⊤ Fault
+told_meant (Ok done) = Ok done
+told_meant (Err fault) = Err (fault_meant fault)
+
+abbrev pub in_log : {D : Type 0} (g : Ghosts D) → Writing (SealedLog D g)
+in_log g = record {
+  is_clean = λ j. IsTrue (g.is_clean j.disk);
+  bodies = bodies_of g;
+  is_open = λ j. j.is_open;
+  faults = λ j. g.faults j.disk;
+  may_leave = λ j left. g.may_leave j.disk left;
+  settled = λ j clean is_open left may. j.settled is_open left may ∙ (j.whole is_open clean).text;
+}

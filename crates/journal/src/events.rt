@@ -1,0 +1,227 @@
+//! A journal, read as a stream: its events that stand, the oldest first.
+
+ghost use Rattle.std.specs.Prelude.{◌≡◌, ◌<◌, ◌^◌, ◌-◌, IfErr, None, option_map};
+ghost use Rattle.journal.specs.Reading.{held};
+ghost use Rattle.journal.specs.Steps.{IsLast, Steps, body_fault, line_fault};
+ghost use Rattle.journal.specs.Told.{Gives, KeepsFault, Leaves, held_at, place};
+ghost use Rattle.journal.specs.Told.{placed_meant, start, without_held};
+
+use crate::reader::{Faulty, Reader};
+use office_policy::Event;
+use sealed_log::{NoBody, Seal, no_seal, read_body};
+use std::alloc::Global;
+use std::error::Error;
+use std::fmt;
+use std::io::BufRead;
+use std::mem::replace;
+
+/// Why a journal can't be read on. Its text is one word.
+#[derive(Clone, Copy, Debug, Drop, PartialEq, Eq)]
+pub enum Unreadable {
+    /// The line is too long, or its body is that of none.
+    NotALine,
+    /// The line strikes out the one before it, which says nothing that happened.
+    NothingToStrike,
+    /// The line isn't sealed behind those before it.
+    Unsealed,
+    /// The journal ends within the line: it has no line feed.
+    TornLine,
+    /// The input failed, or gave 2^64 - 1 lines. No contract can say when.
+    Read,
+    /// There was no memory to read the line. No contract can say when.
+    NoMemory,
+}
+
+impl fmt::Display for Unreadable {
+    ghost use Rattle.std.specs.Prelude.{Some};
+    ghost use Rattle.journal.specs.FaultTexts.{unreadable_word};
+
+    ghost output = { λ fault. Some (unreadable_word fault) };
+
+    fn fmt<W: fmt::Write>(&self, f: &mut fmt::Formatter<W>) -> fmt::Result {
+        f.write_str(match self {
+            Unreadable::NotALine => "not-a-line",
+            Unreadable::NothingToStrike => "nothing-to-strike",
+            Unreadable::Unsealed => "unsealed",
+            Unreadable::TornLine => "torn-line",
+            Unreadable::Read => "read",
+            Unreadable::NoMemory => "memory",
+        })
+    }
+}
+
+impl Error for Unreadable {}
+
+impl From<Faulty> for Unreadable {
+    ghost from_gives = { λ fault e. e ≡ line_fault fault };
+
+    fn from(fault: Faulty) -> Unreadable {
+        match fault {
+            Faulty::NotALine => Unreadable::NotALine,
+            Faulty::NothingToStrike => Unreadable::NothingToStrike,
+            Faulty::NoMemory => Unreadable::NoMemory,
+        }
+    }
+}
+
+impl From<NoBody> for Unreadable {
+    ghost from_gives = { λ fault e. e ≡ body_fault fault };
+
+    fn from(fault: NoBody) -> Unreadable {
+        match fault {
+            NoBody::Unsealed => Unreadable::Unsealed,
+            NoBody::TooLong => Unreadable::NotALine,
+            NoBody::Torn => Unreadable::TornLine,
+            NoBody::Read => Unreadable::Read,
+            NoBody::NoMemory => Unreadable::NoMemory,
+        }
+    }
+}
+
+/// An event that stands, with the number of its line, from 1.
+#[derive(Debug, Drop)]
+pub struct Placed {
+    pub line: u64,
+    pub event: Event,
+}
+
+// What came of a line.
+enum Step {
+    // By it this event stands, or no line was left and it stands at the end.
+    Stands(Placed),
+    // No event stands by it.
+    Passed,
+    // No line was left, nor an event.
+    Ended,
+}
+
+// What stands at the end, by the line of this number.
+fn last(reader: &mut Reader, line: u64) -> Step
+    ensures none_held { held reader.new ≡ None }
+    ensures last { IsLast line (held reader.old) result }
+{
+    match replace(reader, Reader::new()).end() {
+        Some(event) => Step::Stands(Placed { line, event }),
+        None => Step::Ended,
+    }
+}
+
+/// The events of a journal that stand, as its input is read. Of the journal only the line that is
+/// read and the event that is held back are kept. After a fault nothing more is read.
+#[derive(Drop)]
+pub struct Events<R> {
+    input: R,
+    reader: Reader,
+    seal: Seal,
+    text: Vec<u8>,
+    taken: u64,
+    fault: Option<Unreadable>,
+}
+
+impl<R: BufRead> Events<R> {
+    /// Before the first line of the input.
+    pub fn new(alloc: Global, input: R) -> Events<R>
+        ensures place { place R.remaining result ≡ start (R.remaining input) }
+        ensures fault { result.fault ≡ None }
+    {
+        Events {
+            input,
+            reader: Reader::new(),
+            seal: no_seal(),
+            text: Vec::new(alloc),
+            taken: 0,
+            fault: None,
+        }
+    }
+
+    /// How many lines were taken. After an error it is the line behind these that can't be.
+    pub fn taken(&self) -> u64
+        ensures { result ≡ (place R.remaining self.now).taken }
+    {
+        self.taken
+    }
+
+    /// The seal of the lines that were taken.
+    pub fn seal(&self) -> Seal
+        ensures { result ≡ (place R.remaining self.now).seal }
+    {
+        self.seal
+    }
+
+    // Takes the next line.
+    fn step(&mut self, alloc: Global) -> Result<Step, Unreadable>
+        requires { self.old.taken < 2 ^ 64 - 1 }
+        ensures told { Steps (place R.remaining self.old) (place R.remaining self.new) result }
+        ensures leaves { IfErr result
+            (Leaves (place R.remaining self.old) (place R.remaining self.new)) }
+        ensures fault { self.new.fault ≡ self.old.fault }
+    {
+        if !read_body(alloc, &mut self.input, &mut self.seal, &mut self.text)? {
+            return Ok(last(&mut self.reader, self.taken));
+        }
+        let line = self.taken;
+        let stands = self.reader.take(alloc, &self.text)?;
+        self.taken = line + 1;
+        match stands {
+            Some(event) => Ok(Step::Stands(Placed { line, event })),
+            None => Ok(Step::Passed),
+        }
+    }
+
+    // Takes lines until an event stands.
+    fn find(&mut self, alloc: Global) -> Result<Option<Placed>, Unreadable>
+        ensures told { Gives (place R.remaining self.old) (place R.remaining self.new) result }
+        ensures leaves { IfErr result
+            (Leaves (place R.remaining self.old) (place R.remaining self.new)) }
+        ensures fault { self.new.fault ≡ self.old.fault }
+    {
+        while self.taken < u64::MAX {
+            match self.step(alloc)? {
+                Step::Stands(placed) => return Ok(Some(placed)),
+                Step::Passed => {}
+                Step::Ended => return Ok(None),
+            }
+        }
+        Err(Unreadable::Read)
+    }
+
+    /// The next event that stands; `None` at the end of the input.
+    ///
+    /// # Errors
+    ///
+    /// The line behind those that were taken can't be, since it is no line, strikes out nothing, isn't
+    /// sealed or has no line feed; or the input or memory fails. From then on it is the same error.
+    pub fn next(&mut self, alloc: Global) -> Result<Option<Placed>, Unreadable>
+        ensures told { self.old.fault ≡ None
+            → Gives (place R.remaining self.old) (place R.remaining self.new) result }
+        ensures leaves { self.old.fault ≡ None → IfErr result
+            (Leaves (place R.remaining self.old) (place R.remaining self.new)) }
+        ensures fault { KeepsFault self.old.fault self.new.fault result }
+    {
+        match self.fault {
+            Some(fault) => Err(fault),
+            None => match self.find(alloc) {
+                Ok(found) => Ok(found),
+                Err(fault) => {
+                    self.fault = Some(fault);
+                    Err(fault)
+                }
+            },
+        }
+    }
+
+    /// The event that is held back: that of the last line that was taken, where the next could strike
+    /// it out. After an error none can, so it stands as far as the journal can be read. It is held back
+    /// no longer.
+    pub fn held_back(&mut self) -> Option<Placed>
+        ensures held { option_map placed_meant result ≡ held_at (place R.remaining self.old) }
+        ensures place { place R.remaining self.new ≡ without_held (place R.remaining self.old) }
+        ensures fault { self.new.fault ≡ self.old.fault }
+    {
+        let line = self.taken;
+        match replace(&mut self.reader, Reader::new()).end() {
+            Some(event) => Some(Placed { line, event }),
+            None => None,
+        }
+    }
+}

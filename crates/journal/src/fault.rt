@@ -1,0 +1,26 @@
+//! Why no line was read of a text.
+
+use std::alloc::AllocError;
+use thiserror::Error;
+
+/// Why no line was read of a text.
+#[derive(Clone, Copy, Debug, Drop, PartialEq, Eq, Error)]
+pub enum UnreadLine {
+    /// The text is that of no line.
+    #[error("not-a-line")]
+    NotALine,
+    /// There was no memory to read it. No contract can say when.
+    #[error("memory")]
+    NoMemory,
+}
+
+impl From<AllocError> for UnreadLine {
+    ghost use Rattle.std.specs.Prelude.{◌≡◌};
+    ghost use Rattle.journal.specs.declared.fault.UnreadLine.TheVariants.{NoMemory};
+
+    ghost from_gives = { λ _ e. e ≡ NoMemory };
+
+    fn from(_error: AllocError) -> UnreadLine {
+        UnreadLine::NoMemory
+    }
+}

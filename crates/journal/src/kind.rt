@@ -1,0 +1,58 @@
+//! The words by which lines name what happened.
+
+ghost use Rattle.std.specs.Prelude.{◌≡◌};
+ghost use Rattle.journal.specs.Kinds.{kind_of, kind_word};
+
+/// What a line says that happened, or that it strikes out the line before it.
+#[derive(Clone, Copy)]
+pub(crate) enum Kind {
+    Found,
+    Enrol,
+    Submit,
+    Vote,
+    Issue,
+    Withdraw,
+    Adopt,
+    Hold,
+    Release,
+    Strike,
+}
+
+impl Kind {
+    /// Its word.
+    pub(crate) fn word(self) -> &'static str
+        ensures { result.now ≡ kind_word self }
+    {
+        match self {
+            Kind::Found => "found",
+            Kind::Enrol => "enrol",
+            Kind::Submit => "submit",
+            Kind::Vote => "vote",
+            Kind::Issue => "issue",
+            Kind::Withdraw => "withdraw",
+            Kind::Adopt => "adopt",
+            Kind::Hold => "hold",
+            Kind::Release => "release",
+            Kind::Strike => "strike",
+        }
+    }
+
+    /// The kind of this word; `None` where it is no kind's.
+    pub(crate) fn from_word(text: &str) -> Option<Kind>
+        ensures { result ≡ kind_of text.now }
+    {
+        match text {
+            "found" => Some(Kind::Found),
+            "enrol" => Some(Kind::Enrol),
+            "submit" => Some(Kind::Submit),
+            "vote" => Some(Kind::Vote),
+            "issue" => Some(Kind::Issue),
+            "withdraw" => Some(Kind::Withdraw),
+            "adopt" => Some(Kind::Adopt),
+            "hold" => Some(Kind::Hold),
+            "release" => Some(Kind::Release),
+            "strike" => Some(Kind::Strike),
+            _ => None,
+        }
+    }
+}

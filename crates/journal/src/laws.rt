@@ -1,0 +1,117 @@
+//! What holds of lines, apart from any call. Each is a function without a parameter whose contract
+//! is the law; it does nothing.
+
+ghost use Rattle.std.specs.Prelude.{◌≡◌, ◌≤◌, [], ◌∷◌, ◌++◌, ℕ, List, All, IfSome, Some, None};
+ghost use Rattle.office_policy.specs.History.{Event, History};
+ghost use Rattle.office_policy.specs.Lawful.{IsAllowed, IsFounding};
+ghost use Rattle.journal.specs.declared.events.Unreadable.{Unreadable};
+ghost use Rattle.journal.specs.Examples.{founding, enrolment, submission, vote, issue};
+ghost use Rattle.journal.specs.Examples.{withdrawal, adoption, hold, release, founding_text};
+ghost use Rattle.journal.specs.Examples.{enrolment_text, submission_text, vote_text};
+ghost use Rattle.journal.specs.Examples.{issue_text, withdrawal_text, adoption_text};
+ghost use Rattle.journal.specs.Examples.{hold_text, release_text, strike_text};
+ghost use Rattle.journal.specs.Forms.{HasForms, IsFormed};
+ghost use Rattle.journal.specs.Journal.{IsEntry, IsJournalOf, IsSealedJournal, history_in};
+ghost use Rattle.journal.specs.Lines.{Line, happened, strike, text_of};
+ghost use Rattle.journal.specs.Told.{Begins, Ends, GoesOn, IsJournalTo, IsOutside, Place};
+ghost use Rattle.journal.specs.Told.{Stops, Tells, history_told, standing, start, told};
+
+/// A text is that of one line: it says what happened, by whom, and of what.
+pub fn a_text_is_of_one_line()
+    ensures { (a b : Line) → IsFormed a → IsFormed b → text_of a ≡ text_of b → a ≡ b }
+{}
+
+/// A text has no control character, so no line feed: a line feed ends a line, and stands nowhere
+/// else.
+pub fn no_line_feed_stands_in_a_text()
+    ensures { (line : Line) → IsFormed line → All (λ byte. 32 ≤ byte) (text_of line) }
+{}
+
+/// The line of what the policy allows, of a founding, and the one that strikes out, are no longer than
+/// a line can be: so no crash leaves more than that behind a journal.
+pub fn what_is_allowed_can_be_written()
+    ensures allowed { (h : History) (e : Event) → IsAllowed h e → HasForms e
+        → IsEntry (happened e) }
+    ensures founding { (e : Event) → IsFounding e → HasForms e → IsEntry (happened e) }
+    ensures strike { IsEntry strike }
+{}
+
+/// A text is the journal of one history at most.
+pub fn a_journal_has_one_history()
+    ensures { (text : List ℕ) (g h : History) → IsJournalOf text g → IsJournalOf text h → g ≡ h }
+{}
+
+/// What lines say, by computing: the events that the next line doesn't strike out, the newest
+/// first; and nothing where a strike follows no event.
+pub fn examples_of_histories()
+    ensures none { history_in [] ≡ Some [] }
+    ensures newest_first { (a b : Event) → history_in (happened a ∷ happened b ∷ [])
+        ≡ Some (b ∷ a ∷ []) }
+    ensures struck_out { (a b c : Event)
+        → history_in (happened a ∷ happened b ∷ strike ∷ happened c ∷ []) ≡ Some (c ∷ a ∷ []) }
+    ensures struck_out_at_last { (a b : Event) → history_in (happened a ∷ happened b ∷ strike ∷ [])
+        ≡ Some (a ∷ []) }
+    ensures nothing_to_strike { history_in (strike ∷ []) ≡ None }
+    ensures struck_out_twice { (a b : Event)
+        → history_in (happened a ∷ happened b ∷ strike ∷ strike ∷ []) ≡ None }
+{}
+
+/// What a journal tells from its first line on is its history, and each journal tells it.
+pub fn a_journal_tells_its_history()
+    ensures of_lines { (lines : List Line) (es : List (ℕ × Event)) → told 0 None lines ≡ Some es
+        → history_in lines ≡ Some (history_told es) }
+    ensures told { (text : List ℕ) (es : List (ℕ × Event)) → Tells (start (Some text)) es
+        → IsJournalOf text (history_told es) }
+    ensures tells { (text : List ℕ) (h : History) → IsJournalOf text h
+        → ((es : List (ℕ × Event)) × Tells (start (Some text)) es × (h ≡ history_told es)) }
+{}
+
+/// What is told up to a place, with the event that is held back there, is the history of the lines
+/// before it, whatever comes behind them.
+pub fn the_lines_before_a_place_are_a_journal()
+    ensures told { (old new : Place) (first : List (ℕ × Event))
+        → GoesOn old new first → Begins old new first }
+    ensures history { (text : List ℕ) (p : Place) (es : List (ℕ × Event))
+        → Begins (start (Some text)) p es
+        → IsJournalTo p text (history_told (es ++ standing p.taken p.held)) }
+{}
+
+/// What is told to the end is the history of the whole journal, of which the place has the seal.
+pub fn what_is_read_to_the_end_is_the_journal()
+    ensures { (text : List ℕ) (here end : Place) (es : List (ℕ × Event))
+        → GoesOn (start (Some text)) here es → Ends here end
+        → IsSealedJournal text (history_told es) end.seal }
+{}
+
+/// Where what is left can be told, no line keeps from it: the input or memory fails, or nothing.
+pub fn no_fault_is_in_what_is_told()
+    ensures { (p : Place) (after : ℕ) (fault : Unreadable) (es : List (ℕ × Event))
+        → Stops p after fault → Tells p es → IfSome p.left (λ _. IsOutside fault) }
+{}
+
+/// What lines tell, by computing: each event that stands with the number of its line, from 1.
+pub fn examples_of_what_is_told()
+    ensures none { told 0 None [] ≡ Some [] }
+    ensures oldest_first { (a b : Event) → told 0 None (happened a ∷ happened b ∷ [])
+        ≡ Some ((1, a) ∷ (2, b) ∷ []) }
+    ensures struck_out { (a b c : Event)
+        → told 0 None (happened a ∷ happened b ∷ strike ∷ happened c ∷ [])
+        ≡ Some ((1, a) ∷ (4, c) ∷ []) }
+    ensures further_on { (a b : Event) → told 7 (Some a) (happened b ∷ [])
+        ≡ Some ((7, a) ∷ (8, b) ∷ []) }
+    ensures nothing_to_strike { told 0 None (strike ∷ []) ≡ None }
+{}
+
+/// A line of each kind.
+pub fn examples_of_lines()
+    ensures founding { text_of founding ≡ founding_text }
+    ensures enrolment { text_of enrolment ≡ enrolment_text }
+    ensures submission { text_of submission ≡ submission_text }
+    ensures vote { text_of vote ≡ vote_text }
+    ensures issue { text_of issue ≡ issue_text }
+    ensures withdrawal { text_of withdrawal ≡ withdrawal_text }
+    ensures adoption { text_of adoption ≡ adoption_text }
+    ensures hold { text_of hold ≡ hold_text }
+    ensures release { text_of release ≡ release_text }
+    ensures strike { text_of strike ≡ strike_text }
+{}

@@ -1,0 +1,27 @@
+//! The journal of an office: its lines, how they are read, and an office that writes the line of each
+//! event before it happens.
+#![tactic(auto)]
+
+pub mod events;
+pub mod fault;
+mod forms;
+mod journal;
+mod journaled;
+mod kind;
+pub mod laws;
+pub mod line;
+mod log;
+pub mod members;
+mod part;
+mod print;
+pub mod read;
+pub mod reader;
+
+pub use events::{Events, Placed, Unreadable};
+pub use fault::UnreadLine;
+pub use journal::Journal;
+pub use journaled::Journaled;
+pub use line::Line;
+pub use print::{change_text, text};
+pub use read::read_line;
+pub use reader::{Faulty, Reader};

@@ -1,0 +1,64 @@
+//! The line of a text.
+
+ghost use Rattle.std.specs.Prelude.{◌≡◌, IfOk, bytes_eq};
+ghost use Rattle.journal.specs.Faults.{IsCandidate, IsRead};
+ghost use Rattle.journal.specs.Lines.{text_of};
+ghost use Rattle.journal.specs.Read.{candidate_in};
+ghost use Rattle.journal.specs.Shown.{shown};
+
+use crate::fault::UnreadLine;
+use crate::forms::line_forms;
+use crate::line::Line;
+use crate::part::candidate_of;
+use crate::print::text;
+use json_requests::LineFault;
+use serde_json::Value;
+use std::alloc::{AllocError, Global};
+
+// What a text may be.
+#[tactic(auto, using(crate::proofs::LineFacts::candidate_is, crate::proofs::LineFacts::candidate_none))]
+fn candidate(alloc: Global, bytes: &[u8]) -> Result<Line, UnreadLine>
+    ensures { IsCandidate result (candidate_in bytes.now) }
+{
+    match Value::from_slice(alloc, bytes) {
+        Ok(value) => match candidate_of(alloc, &value) {
+            Ok(line) => Ok(line),
+            Err(LineFault::NotJson | LineFault::NotARequest) => Err(UnreadLine::NotALine),
+            Err(LineFault::NoMemory) => Err(UnreadLine::NoMemory),
+        },
+        Err(error) => {
+            if error.is_memory() {
+                Err(UnreadLine::NoMemory)
+            } else {
+                Err(UnreadLine::NotALine)
+            }
+        }
+    }
+}
+
+// Whether the bytes are the text of a line.
+fn is_its_text(alloc: Global, line: &Line, bytes: &[u8]) -> Result<bool, AllocError>
+    ensures { IfOk result (λ same. same ≡ bytes_eq (text_of (shown line.now)) bytes.now) }
+{
+    let written = text(alloc, line)?;
+    Ok(written.as_bytes() == bytes)
+}
+
+/// The line that a text is, which is passed without its line feed. It is read where it is the
+/// line's text to the byte: each line has one text.
+#[tactic(auto, using(crate::proofs::LineFacts::unread, crate::proofs::LineFacts::read_same, crate::proofs::LineFacts::read_other))]
+pub fn read_line(alloc: Global, bytes: &[u8]) -> Result<Line, UnreadLine>
+    ensures { IsRead bytes.now result }
+{
+    match candidate(alloc, bytes) {
+        Ok(line) => {
+            line_forms(&line);
+            if is_its_text(alloc, &line, bytes)? {
+                Ok(line)
+            } else {
+                Err(UnreadLine::NotALine)
+            }
+        }
+        Err(fault) => Err(fault),
+    }
+}

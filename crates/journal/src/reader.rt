@@ -1,0 +1,65 @@
+//! A journal, read a line at a time.
+
+ghost use Rattle.std.specs.Prelude.{◌≡◌, None, option_map};
+ghost use Rattle.office_policy.specs.Happened.{event_meant};
+ghost use Rattle.journal.specs.Reading.{Takes, held};
+
+use crate::fault::UnreadLine;
+use crate::line::Line;
+use crate::read::read_line;
+use office_policy::Event;
+use std::alloc::Global;
+use thiserror::Error;
+
+/// Why a line can't stand in a journal after those before it.
+#[derive(Clone, Copy, Debug, Drop, PartialEq, Eq, Error)]
+pub enum Faulty {
+    /// The text is that of no line.
+    #[error("not-a-line")]
+    NotALine,
+    /// The line strikes out the one before it, which says nothing that happened.
+    #[error("nothing-to-strike")]
+    NothingToStrike,
+    /// There was no memory to read it. No contract can say when.
+    #[error("memory")]
+    NoMemory,
+}
+
+/// Reads a journal, the oldest line first. The event of the last line is held back, since the next
+/// line may strike it out; no other is kept.
+#[derive(Drop)]
+pub struct Reader {
+    held: Option<Event>,
+}
+
+impl Reader {
+    /// Before the first line.
+    pub fn new() -> Reader
+        ensures { held result ≡ None }
+    {
+        Reader { held: None }
+    }
+
+    /// Takes the text of the next line, without its line feed: the event before it, where that
+    /// stands.
+    pub fn take(&mut self, alloc: Global, text: &[u8]) -> Result<Option<Event>, Faulty>
+        ensures { Takes self.old self.new text.now result }
+    {
+        match read_line(alloc, text) {
+            Ok(Line::Event(event)) => Ok(self.held.replace(event)),
+            Ok(Line::Strike) => match self.held.take() {
+                Some(_) => Ok(None),
+                None => Err(Faulty::NothingToStrike),
+            },
+            Err(UnreadLine::NotALine) => Err(Faulty::NotALine),
+            Err(UnreadLine::NoMemory) => Err(Faulty::NoMemory),
+        }
+    }
+
+    /// The event that is held back: that of the last line, where the journal ends here.
+    pub fn end(self) -> Option<Event>
+        ensures { option_map event_meant result ≡ held self }
+    {
+        self.held
+    }
+}

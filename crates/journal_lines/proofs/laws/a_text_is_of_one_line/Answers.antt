@@ -1,5 +1,0 @@
-use Rattle.journal_lines.proofs.LineFacts.{same_line}
-use Rattle.journal_lines.proofs.laws.a_text_is_of_one_line.Goals as goal
-
-pub returns : goal.returns
-returns c = same_line

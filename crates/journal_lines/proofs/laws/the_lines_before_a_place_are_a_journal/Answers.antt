@@ -1,9 +1,0 @@
-use Rattle.journal_lines.proofs.HistoryFacts.{before_place}
-use Rattle.journal_lines.proofs.ToldFacts.{begins_first}
-use Rattle.journal_lines.proofs.laws.the_lines_before_a_place_are_a_journal.Goals as goal
-
-pub returns-clause-told : goal.returns-clause-told
-returns-clause-told c = begins_first
-
-pub returns-clause-history : goal.returns-clause-history
-returns-clause-history c = before_place

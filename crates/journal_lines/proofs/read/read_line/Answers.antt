@@ -1,7 +1,0 @@
-use Rattle.std.proofs.Common.{◌∙◌, sym}
-use Rattle.journal_lines.proofs.LineFacts.{read_other}
-use Rattle.journal_lines.proofs.read.read_line.Goals as goal
-
-pub returns-else-branch : goal.returns-else-branch
-returns-else-branch c =
-    read_other c.args.bytes.now c.in-Ok.line c.in-Ok.ensures (sym c.in_ok-is_its_text-in-Ok.ensures ∙ c.if-branch.false)

@@ -1,0 +1,206 @@
+-- Where and why no office is built anew.
+use Rattle.std.proofs.Common.{◌≡◌, ◌∙◌, ℕ, List, [], ◌∷◌, Option, Some, None, Result, Ok, Err, inl, inr, sym, refl, ap, ap₂, subst, append-nil}
+use Rattle.std.specs.Prelude.{IsErrAnd, ⊤, option_map}
+use Rattle.sqlite.specs.Held.{Held, state}
+use Rattle.sqlite.specs.State.{HasCleanDisk}
+use Rattle.sqlite.specs.Store.{Ghosts}
+use Rattle.office_policy.specs.declared.event.Event as values
+use Rattle.office_policy.specs.declared.event.Event.TheVariants as events
+use Rattle.office_policy.specs.Happened.{event_meant}
+use Rattle.office_policy.specs.Handled.{Stands}
+use Rattle.office_policy.specs.History.{Event}
+use Rattle.office_policy.specs.Lawful.{IsFounding}
+use Rattle.office_policy.specs.Meaning.{Meaning}
+use Rattle.office_desk.specs.Meant.{meaning_over}
+use Rattle.journal.specs.declared.events.Unreadable.{Unreadable}
+use Rattle.journal.specs.Told.{GoesOn, Leaves, Place, held_at, start}
+use Rattle.journal_office.specs.declared.refused.Refused.{Refused}
+use Rattle.journal_office.specs.declared.refused.Why.{Why}
+use Rattle.journal_office.specs.declared.refused.Why.TheVariants as why
+use Rattle.journal_office.specs.Rebuilt.{HasReplayed, IsRefused, line_behind}
+use Rattle.journal_office.specs.Steps.{Continues, IsFirstRead, IsKeptOut, IsLeft, IsLeftBehind, IsLeftHeld, IsNoFirst, IsNoFounding, IsNoneRead, IsUnbegun, LeavesAt, LeavesHeld}
+use Rattle.journal_office.proofs.Replays.{goes_then}
+
+-- a journal that is left at this place
+pub left_here : (here after : Place) (fault : Unreadable) (refused : Refused) → refused ≡ record { line = line_behind after.taken; why = why.Unread fault } → Leaves here after fault
+    → IsLeft here after refused.line refused.why
+left_here here after fault refused is leaves =
+    subst (λ (r : Refused). IsLeft here after r.line r.why) (sym is) (record { leaves = leaves; counted = refl })
+
+pub left_first : (here after : Place) (line : ℕ) (w : Why) → IsLeft here after line w → IsNoFirst here after line w
+left_first here after line (why.Unread fault) left = left
+left_first here after line why.NotFounded left = absurd left
+left_first here after line (why.Unfounded fault) left = absurd left
+left_first here after line (why.Unreplayed cause) left = absurd left
+
+-- the event that is held back at a place
+pub held_there : (after last : Place) → after.taken ≡ last.taken → after.held ≡ last.held → held_at after ≡ held_at last
+held_there after last taken kept = ap₂ (λ (n : ℕ) (h : Option Event). option_map (λ e. (n, e)) h) taken kept
+
+-- is held back where the journal is left
+left_held : (here after : Place) (line : ℕ) (fault : Unreadable) (kept : Option (ℕ × Event)) → LeavesAt here after line fault → kept ≡ held_at after → LeavesHeld here kept line fault
+left_held here after line fault kept at is = record {
+  last = at.leaves.last;
+  on = at.leaves.on;
+  cannot = at.leaves.cannot;
+  held = sym (is ∙ held_there after at.leaves.last at.leaves.taken at.leaves.held);
+  counted = at.counted ∙ ap line_behind at.leaves.taken;
+}
+
+pub held_first : (here after : Place) (line : ℕ) (w : Why) (kept : Option (ℕ × Event)) → IsLeft here after line w → kept ≡ held_at after → IsLeftHeld here kept line w
+held_first here after line (why.Unread fault) kept at is = left_held here after line fault kept at is
+held_first here after line why.NotFounded kept at is = absurd at
+held_first here after line (why.Unfounded fault) kept at is = absurd at
+held_first here after line (why.Unreplayed cause) kept at is = absurd at
+
+pub none_read : (here after : Place) (line : ℕ) (w : Why) → IsLeft here after line w → None ≡ held_at after → IsNoneRead here line w
+none_read here after line (why.Unread fault) at is = left_held here after line fault None at is
+none_read here after line why.NotFounded at is = absurd at
+none_read here after line (why.Unfounded fault) at is = absurd at
+none_read here after line (why.Unreplayed cause) at is = absurd at
+
+pub no_founding : (e : values.Event) → ((user team digest : List ℕ) (listed : ℕ) → e ≡ events.Founded user team digest listed → ⊥) → IsFounding (event_meant e) → ⊥
+no_founding (events.Founded user team digest listed) not_founded is = not_founded user team digest listed refl
+no_founding (events.Enrolled caller user team roles digest) not_founded is = is
+no_founding (events.Submitted caller name text) not_founded is = is
+no_founding (events.Voted caller name revision digest approves) not_founded is = is
+no_founding (events.Issued caller name revision) not_founded is = is
+no_founding (events.Withdrawn caller name revision) not_founded is = is
+no_founding (events.Adopted caller name revision) not_founded is = is
+no_founding (events.Held caller name) not_founded is = is
+no_founding (events.Released caller name) not_founded is = is
+
+module _ {X : Type 0} (m : Meaning X) (bytes : Option (List ℕ)) where
+  -- what is told before it is told of the whole, and lawful
+  pub left_behind : (here after : Place) (es : List (ℕ × Event)) (office left : X) (line : ℕ) (w : Why) → left ≡ office → HasReplayed bytes m here es office → IsLeft here after line w
+      → IsLeftBehind m bytes left line w
+  left_behind here after es office left line (why.Unread fault) same all at = record {
+    last = at.leaves.last;
+    before = es;
+    told = subst (λ (xs : List (ℕ × Event)). GoesOn (start bytes) at.leaves.last xs) (append-nil es) (goes_then (start bytes) here at.leaves.last es [] all.told at.leaves.on);
+    cannot = at.leaves.cannot;
+    counted = at.counted ∙ ap line_behind at.leaves.taken;
+    lawful = λ clean. inr (all.lawful (subst (λ (x : X). m.is_clean x) same clean));
+  }
+  left_behind here after es office left line why.NotFounded same all at = absurd at
+  left_behind here after es office left line (why.Unfounded fault) same all at = absurd at
+  left_behind here after es office left line (why.Unreplayed cause) same all at = absurd at
+
+  -- a `?` that leaves with it
+  pub left_by : (left : X) (count : ℕ) (seal : List ℕ) (result : Result ⊤ Refused) (refused : Refused) → IsErrAnd result (λ e. e ≡ refused) → IsLeftBehind m bytes left refused.line refused.why
+      → Continues m bytes left count seal result
+  left_by left count seal (Ok done) refused is at = absurd is
+  left_by left count seal (Err r) refused is at = subst (λ (r : Refused). IsLeftBehind m bytes left r.line r.why) (sym is) at
+
+  -- the next event doesn't happen again
+  pub kept_out : (here after : Place) (es : List (ℕ × Event)) (placed : ℕ × Event) (old left : X) (line : ℕ) (w : Why) → HasReplayed bytes m here es old → GoesOn here after (placed ∷ [])
+      → IsKeptOut m old left placed line w → IsLeftBehind m bytes left line w
+  kept_out here after es placed old left line (why.Unread fault) before told is = absurd is
+  kept_out here after es placed old left line why.NotFounded before told is = absurd is
+  kept_out here after es placed old left line (why.Unfounded fault) before told is = absurd is
+  kept_out here after es placed old left line (why.Unreplayed cause) before told is = record {
+    before = es;
+    event = placed.1;
+    here = here;
+    after = after;
+    old = old;
+    replayed = before;
+    told = subst (λ (n : ℕ). GoesOn here after ((n, placed.1) ∷ [])) (sym is.0) told;
+    refused = is.1;
+  }
+
+  -- the founding is the first event
+  pub first_replayed : (after : Place) (line : ℕ) (e : Event) (office : X) → GoesOn (start bytes) after ((line, e) ∷ []) → IsFounding e
+      → (m.is_clean office → Stands m (e ∷ []) office) → HasReplayed bytes m after ((line, e) ∷ []) office
+  first_replayed after line e office told founding stands = record { told = told; lawful = λ clean. founding; stands = stands }
+
+module _ {S : Type 0} (g : Ghosts S) (bytes : Option (List ℕ)) (conn left : Held S) (line : ℕ) where
+  pub none_first : (after : Place) (w : Why) → IsNoFirst (start bytes) after line w → IsRefused bytes g conn left line w
+  none_first after (why.Unread fault) at = record {
+    last = at.leaves.last;
+    before = [];
+    told = at.leaves.on;
+    cannot = at.leaves.cannot;
+    counted = at.counted ∙ ap line_behind at.leaves.taken;
+    lawful = λ clean. inl refl;
+  }
+  none_first after why.NotFounded at = inl at
+  none_first after (why.Unfounded fault) at = absurd at
+  none_first after (why.Unreplayed cause) at = absurd at
+
+  pub none_founded : (after : Place) (e : Event) (w : Why) → GoesOn (start bytes) after ((line, e) ∷ []) → IsNoFounding g e conn left w → IsRefused bytes g conn left line w
+  none_founded after e (why.Unread fault) told is = absurd is
+  none_founded after e why.NotFounded told is = inr (record { event = e; after = after; told = told; other = is })
+  none_founded after e (why.Unfounded fault) told is = record {
+    name = is.name;
+    team = is.team;
+    digest = is.digest;
+    listed = is.listed;
+    after = after;
+    told = subst (λ (f : Event). GoesOn (start bytes) after ((line, f) ∷ [])) is.is told;
+    already = is.already;
+    cause = is.cause;
+  }
+  none_founded after e (why.Unreplayed cause) told is = absurd is
+
+  pub none_behind : (w : Why) → IsLeftBehind (meaning_over g) bytes left line w → IsRefused bytes g conn left line w
+  none_behind (why.Unread fault) at = at
+  none_behind why.NotFounded at = absurd at
+  none_behind (why.Unfounded fault) at = absurd at
+  none_behind (why.Unreplayed cause) at = at
+
+module _ {S : Type 0} (g : Ghosts S) (bytes : Option (List ℕ)) (conn : Held S) where
+  -- of a place before the first line
+  pub begun_not : (from after : Place) (refused : Refused) → from ≡ start bytes → IsNoFirst from after refused.line refused.why → IsRefused bytes g conn conn refused.line refused.why
+  begun_not from after refused at none =
+      none_first g bytes conn conn refused.line after refused.why (subst (λ (p : Place). IsNoFirst p after refused.line refused.why) at none)
+
+  pub begun_unfounded : (from here : Place) (line : ℕ) (e : Event) (w : Why) (left : Held S) → from ≡ start bytes → GoesOn from here ((line, e) ∷ []) → IsNoFounding g e conn left w
+      → IsRefused bytes g conn left line w
+  begun_unfounded from here line e w left at told none =
+      none_founded g bytes conn left line here e w (subst (λ (p : Place). GoesOn p here ((line, e) ∷ [])) at told) none
+
+  pub begun_founded : (from here : Place) (line : ℕ) (e : Event) (office : Held S) → from ≡ start bytes → GoesOn from here ((line, e) ∷ []) → IsFounding e
+      → (HasCleanDisk (state g office) → Stands (meaning_over g) (e ∷ []) office) → HasReplayed bytes (meaning_over g) here ((line, e) ∷ []) office
+  begun_founded from here line e office at told founding stands =
+      first_replayed (meaning_over g) bytes here line e office (subst (λ (p : Place). GoesOn p here ((line, e) ∷ [])) at told) founding stands
+
+  -- nothing founds one
+  none_held : (line : ℕ) (w : Why) → IsNoneRead (start bytes) line w → IsUnbegun bytes g conn conn line w
+  none_held line (why.Unread fault) none = record { kept = None; held = none; none = tt }
+  none_held line why.NotFounded none = inl none
+  none_held line (why.Unfounded fault) none = absurd none
+  none_held line (why.Unreplayed cause) none = absurd none
+
+  pub unbegun_none : (from : Place) (refused : Refused) → from ≡ start bytes → IsNoneRead from refused.line refused.why → IsUnbegun bytes g conn conn refused.line refused.why
+  unbegun_none from refused at none = none_held refused.line refused.why (subst (λ (p : Place). IsNoneRead p refused.line refused.why) at none)
+
+  -- nor does the event that is held back
+  held_unfounded : (line : ℕ) (w cause : Why) (placed : ℕ × Event) (left : Held S) → IsLeftHeld (start bytes) (Some placed) line w → IsNoFounding g placed.1 conn left cause
+      → IsUnbegun bytes g conn left line w
+  held_unfounded line (why.Unread fault) cause placed left at none = record { kept = Some placed; held = at; none = (cause, none) }
+  held_unfounded line why.NotFounded cause placed left at none = absurd at
+  held_unfounded line (why.Unfounded fault) cause placed left at none = absurd at
+  held_unfounded line (why.Unreplayed cause2) cause placed left at none = absurd at
+
+  pub unbegun_held : (from here : Place) (refused : Refused) (cause : Why) (placed : ℕ × Event) (halt : Option Refused) (left : Held S) → from ≡ start bytes → IsFirstRead from here placed halt
+      → halt ≡ Some refused → IsNoFounding g placed.1 conn left cause → IsUnbegun bytes g conn left refused.line refused.why
+  unbegun_held from here refused cause placed halt left at first is none =
+      held_unfounded refused.line refused.why cause placed left
+      (subst (λ (p : Place). IsLeftHeld p (Some placed) refused.line refused.why) at (subst (λ (h : Option Refused). IsFirstRead from here placed h) is first)) none
+
+  -- nor the first that stands
+  first_unfounded : (after : Place) (line : ℕ) (e : Event) (w : Why) (left : Held S) → GoesOn (start bytes) after ((line, e) ∷ []) → IsNoFounding g e conn left w → IsUnbegun bytes g conn left line w
+  first_unfounded after line e (why.Unread fault) left told is = absurd is
+  first_unfounded after line e why.NotFounded left told is = none_founded g bytes conn left line after e why.NotFounded told is
+  first_unfounded after line e (why.Unfounded fault) left told is = none_founded g bytes conn left line after e (why.Unfounded fault) told is
+  first_unfounded after line e (why.Unreplayed cause) left told is = absurd is
+
+  pub unbegun_first : (from here : Place) (cause : Why) (placed : ℕ × Event) (halt : Option Refused) (left : Held S) → from ≡ start bytes → IsFirstRead from here placed halt
+      → halt ≡ None → IsNoFounding g placed.1 conn left cause → IsUnbegun bytes g conn left placed.0 cause
+  unbegun_first from here cause placed halt left at first is none =
+      first_unfounded here placed.0 placed.1 cause left
+      (subst (λ (p : Place). GoesOn p here (placed ∷ [])) at (subst (λ (h : Option Refused). IsFirstRead from here placed h) is first)) none
+
+  pub begun_read : (from here : Place) (placed : ℕ × Event) (halt : Option Refused) → from ≡ start bytes → IsFirstRead from here placed halt → IsFirstRead (start bytes) here placed halt
+  begun_read from here placed halt at first = subst (λ (p : Place). IsFirstRead p here placed halt) at first

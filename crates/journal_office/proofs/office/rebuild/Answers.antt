@@ -1,0 +1,39 @@
+use Rattle.std.proofs.Common.{◌∙◌, ◌∷◌, [], ℕ, List, sym, subst}
+use Rattle.office_desk.specs.Meant.{meaning_over}
+use Rattle.journal.specs.Told.{place, placed_meant}
+use Rattle.journal_office.specs.Rebuilt.{IsRebuilt, IsRefused}
+use Rattle.journal_office.proofs.Refusals.{none_behind}
+use Rattle.journal_office.proofs.Unlawful.{refutes}
+use Rattle.journal_office.proofs.office.rebuild.Goals as goal
+
+pub returns-in-Err-clause-unlawful : goal.returns-in-Err-clause-unlawful
+returns-in-Err-clause-unlawful g c =
+    let refusal = c.in-Err.refusal in
+    refutes g.S.Store (g.R.Read.remaining c.args.journal) c.args.conn refusal.1 refusal.0.line refusal.0.why c.in-Err.ensures.refused
+
+pub returns-in-Ok-replayed-clause-rebuilt : goal.returns-in-Ok-replayed-clause-rebuilt
+returns-in-Ok-replayed-clause-rebuilt g c =
+    let bytes = g.R.Read.remaining c.args.journal in
+    let rebuilt = c.in-Ok-replayed.ensures bytes (placed_meant c.in-Ok.begun.1 ∷ []) c.in-Ok.ensures.begun (sym c.in-Ok.ensures.count) in
+    let m = meaning_over g.S.Store in
+    let office = c.into_office-office.result in
+    subst (λ (n : ℕ). IsRebuilt bytes m n c.seal-seal.result office) (sym c.count-events.ensures)
+    (subst (λ (s : List ℕ). IsRebuilt bytes m c.replay_rest-replayed.new.replay.count s office) (sym c.seal-seal.ensures)
+    (subst (λ o. IsRebuilt bytes m c.replay_rest-replayed.new.replay.count (place g.R.Read.remaining c.replay_rest-replayed.new.replay.events).seal o) (sym c.into_office-office.ensures) rebuilt))
+
+pub returns-in-Err-replayed-clause-rebuilt : goal.returns-in-Err-replayed-clause-rebuilt
+returns-in-Err-replayed-clause-rebuilt g c =
+    let bytes = g.R.Read.remaining c.args.journal in
+    let refused = c.in-Err-replayed.refused in
+    let behind = c.in-Err-replayed.ensures bytes (placed_meant c.in-Ok.begun.1 ∷ []) c.in-Ok.ensures.begun (sym c.in-Ok.ensures.count) in
+    subst (λ left. IsRefused bytes g.S.Store c.args.conn left refused.line refused.why) (sym (c.into_connection.ensures.connection ∙ c.into_office-office.ensures))
+    (none_behind g.S.Store bytes c.args.conn c.replay_rest-replayed.new.replay.office refused.line refused.why behind)
+
+pub returns-in-Err-replayed-clause-unlawful : goal.returns-in-Err-replayed-clause-unlawful
+returns-in-Err-replayed-clause-unlawful g c =
+    let bytes = g.R.Read.remaining c.args.journal in
+    let refused = c.in-Err-replayed.refused in
+    let behind = c.in-Err-replayed.ensures bytes (placed_meant c.in-Ok.begun.1 ∷ []) c.in-Ok.ensures.begun (sym c.in-Ok.ensures.count) in
+    refutes g.S.Store bytes c.args.conn c.into_connection.result refused.line refused.why
+    (subst (λ left. IsRefused bytes g.S.Store c.args.conn left refused.line refused.why) (sym (c.into_connection.ensures.connection ∙ c.into_office-office.ensures))
+    (none_behind g.S.Store bytes c.args.conn c.replay_rest-replayed.new.replay.office refused.line refused.why behind))

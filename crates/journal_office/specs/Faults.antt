@@ -1,0 +1,40 @@
+-- Why an office isn't opened again.
+use Rattle.sealed_log.specs.declared.fault.LogFault.{LogFault}
+use Rattle.sealed_log.specs.declared.fault.LogFault.TheVariants as logs
+use Rattle.journal.specs.declared.fault.UnreadLine.{UnreadLine}
+use Rattle.journal.specs.declared.fault.UnreadLine.TheVariants as unread
+use Rattle.journal_office.specs.declared.not_reopened.NotReopened.{NotReopened}
+use Rattle.journal_office.specs.declared.not_reopened.NotReopened.TheVariants.{Unsealed, NotALine}
+use Rattle.journal_office.specs.declared.not_reopened.NotReopened.TheVariants.{Changed, OtherJournal}
+use Rattle.journal_office.specs.declared.not_reopened.NotReopened.TheVariants.{Office, Log, NoMemory}
+
+-- why no line was read of a text
+abbrev pub unread_fault : UnreadLine → NotReopened
+unread_fault unread.NotALine = NotALine
+unread_fault unread.NoMemory = NoMemory
+
+-- why the file of a journal can't be used
+abbrev pub log_fault : LogFault → NotReopened
+log_fault logs.Memory = NoMemory
+log_fault logs.Disk = Log
+log_fault logs.Full = Log
+
+-- the file or memory failed, and neither the journal nor the office
+abbrev pub IsOutside : NotReopened → Type 0
+IsOutside Unsealed = ⊥
+IsOutside NotALine = ⊥
+IsOutside (Changed at) = ⊥
+IsOutside OtherJournal = ⊥
+IsOutside (Office fault) = ⊥
+IsOutside Log = Unit {0}
+IsOutside NoMemory = Unit {0}
+
+-- the journal is none, or another's, or was changed
+abbrev pub IsRefusal : NotReopened → Type 0
+IsRefusal Unsealed = Unit {0}
+IsRefusal NotALine = Unit {0}
+IsRefusal (Changed at) = Unit {0}
+IsRefusal OtherJournal = Unit {0}
+IsRefusal (Office fault) = ⊥
+IsRefusal Log = ⊥
+IsRefusal NoMemory = ⊥

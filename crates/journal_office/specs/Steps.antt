@@ -1,0 +1,163 @@
+-- What is done with the events of a journal.
+use Rattle.std.specs.Prelude.{◌≡◌, ◌⊎◌, ◌↔◌, ◌+◌, ◌-◌, ◌^◌, ◌<◌, [], ◌∷◌, ℕ, List, Option, Some, None}
+use Rattle.std.specs.Prelude.{Result, Ok, Err, IfSome, IsTrue, ⊤}
+use Rattle.sqlite.specs.Held.{Held, state}
+use Rattle.sqlite.specs.State.{HasCleanDisk}
+use Rattle.sqlite.specs.Store.{Ghosts}
+use Rattle.office_store.specs.declared.fault.FoundingFault.{FoundingFault}
+use Rattle.office_store.specs.declared.fault.FoundingFault.TheVariants.{AlreadyFounded}
+use Rattle.office_store.specs.Founding.{FailsToFound, first_user, has_table}
+use Rattle.office_policy.specs.History.{Event, founded}
+use Rattle.office_policy.specs.Lawful.{IsFounding}
+use Rattle.office_policy.specs.Meaning.{Meaning}
+use Rattle.office_desk.specs.Replayed.{HasHappened, IsReplayed}
+use Rattle.journal.specs.declared.events.Placed.{Placed}
+use Rattle.journal.specs.declared.events.Unreadable.{Unreadable}
+use Rattle.journal.specs.Told.{CannotGoOn, Gives, GoesOn, Leaves, Place, Tells, held_at}
+use Rattle.journal.specs.Told.{placed_meant, start}
+use Rattle.journal_office.specs.declared.refused.Refused.{Refused}
+use Rattle.journal_office.specs.declared.refused.Why.{Why}
+use Rattle.journal_office.specs.declared.refused.Why.TheVariants as why
+use Rattle.journal_office.specs.Rebuilt.{IsNotFounded, IsRebuilt, IsUnfounded, IsUnread}
+use Rattle.journal_office.specs.Rebuilt.{IsUnreplayed, line_behind}
+
+-- it can't be read further than to a line, for this fault
+pub record LeavesAt (old new : Place) (line : ℕ) (fault : Unreadable) : Type 0 where
+  pub leaves : Leaves old new fault
+  pub counted : line ≡ line_behind new.taken
+
+-- it can't be read on
+abbrev pub IsLeft : (old new : Place) → ℕ → Why → Type 0
+IsLeft old new line (why.Unread fault) = LeavesAt old new line fault
+IsLeft old new line why.NotFounded = ⊥
+IsLeft old new line (why.Unfounded fault) = ⊥
+IsLeft old new line (why.Unreplayed cause) = ⊥
+
+-- the next event that stands, or that there is none
+abbrev pub IsNext : Place → Place → Result (Option Placed) Refused → Type 0
+IsNext old new (Ok found) = Gives old new (Ok found)
+IsNext old new (Err refused) = IsLeft old new refused.line refused.why
+
+-- the event is that of the last line that can be read behind the place, and the only one that stands
+-- there: the line behind it can't be read, for this fault
+pub record IsLast (here : Place) (placed : ℕ × Event) : Type 0 where
+  pub fault : Unreadable
+  pub last : Place
+  pub on : GoesOn here last []
+  pub cannot : CannotGoOn fault last
+  pub held : held_at last ≡ Some placed
+
+-- the event is the next one behind the place: it stands, or it does as far as the journal can be read
+abbrev pub ComesNext : Place → (ℕ × Event) → Type 0
+ComesNext here placed = ((behind : Place) × GoesOn here behind (placed ∷ [])) ⊎ IsLast here placed
+
+-- it can't be read on, or tells nothing
+abbrev pub IsNoFirst : (old new : Place) → ℕ → Why → Type 0
+IsNoFirst old new line (why.Unread fault) = LeavesAt old new line fault
+IsNoFirst old new line why.NotFounded = Tells old [] × (line ≡ 0)
+IsNoFirst old new line (why.Unfounded fault) = ⊥
+IsNoFirst old new line (why.Unreplayed cause) = ⊥
+
+-- the first event that stands
+abbrev pub IsFirst : Place → Place → Result Placed Refused → Type 0
+IsFirst old new (Ok placed) = GoesOn old new (placed_meant placed ∷ [])
+IsFirst old new (Err refused) = IsNoFirst old new refused.line refused.why
+
+-- it can't be read further than to a line, for this fault; no event stands before, and this one is
+-- held back there, or none
+pub record LeavesHeld (old : Place) (kept : Option (ℕ × Event)) (line : ℕ) (fault : Unreadable)
+    : Type 0 where
+  pub last : Place
+  pub on : GoesOn old last []
+  pub cannot : CannotGoOn fault last
+  pub held : held_at last ≡ kept
+  pub counted : line ≡ line_behind last.taken
+
+abbrev pub IsLeftHeld : Place → Option (ℕ × Event) → ℕ → Why → Type 0
+IsLeftHeld old kept line (why.Unread fault) = LeavesHeld old kept line fault
+IsLeftHeld old kept line why.NotFounded = ⊥
+IsLeftHeld old kept line (why.Unfounded fault) = ⊥
+IsLeftHeld old kept line (why.Unreplayed cause) = ⊥
+
+-- the event is the first one that stands; or it is held back where the journal can't be read on
+abbrev pub IsFirstRead : (old new : Place) → (ℕ × Event) → Option Refused → Type 0
+IsFirstRead old new placed None = GoesOn old new (placed ∷ [])
+IsFirstRead old new placed (Some refused) =
+    IsLeftHeld old (Some placed) refused.line refused.why
+
+-- none is, nor is one held back
+abbrev pub IsNoneRead : Place → ℕ → Why → Type 0
+IsNoneRead old line (why.Unread fault) = LeavesHeld old None line fault
+IsNoneRead old line why.NotFounded = Tells old [] × (line ≡ 0)
+IsNoneRead old line (why.Unfounded fault) = ⊥
+IsNoneRead old line (why.Unreplayed cause) = ⊥
+
+abbrev pub ReadsFirst : (old new : Place) → Result (Placed × Option Refused) Refused → Type 0
+ReadsFirst old new (Ok found) = IsFirstRead old new (placed_meant found.0) found.1
+ReadsFirst old new (Err refused) = IsNoneRead old refused.line refused.why
+
+-- the event founds no office, for this fault
+pub record FoundsNone {S : Type 0} (g : Ghosts S) (event : Event) (conn left : Held S)
+    (fault : FoundingFault) : Type 0 where
+  pub name : List ℕ
+  pub team : List ℕ
+  pub digest : List ℕ
+  pub listed : ℕ
+  pub is : event ≡ founded name team digest listed
+  pub already : fault ≡ AlreadyFounded ↔ IsTrue (has_table (state g conn).now.schema)
+  pub cause : HasCleanDisk (state g left)
+      → FailsToFound g (first_user name team digest) listed conn left fault
+
+-- it is no founding, or founds no office
+abbrev pub IsNoFounding : {S : Type 0} → Ghosts S → Event → (conn left : Held S) → Why → Type 0
+IsNoFounding g event conn left (why.Unread fault) = ⊥
+IsNoFounding g event conn left why.NotFounded = IsFounding event → ⊥
+IsNoFounding g event conn left (why.Unfounded fault) = FoundsNone g event conn left fault
+IsNoFounding g event conn left (why.Unreplayed cause) = ⊥
+
+-- of a journal with these bytes, where they are known
+module _ (bytes : Option (List ℕ)) {S : Type 0} (g : Ghosts S) (conn left : Held S) where
+  -- it can't be read further than to a line, and what is held back there founds no office
+  pub record IsUnreadAt (line : ℕ) (fault : Unreadable) : Type 0 where
+    pub kept : Option (ℕ × Event)
+    pub held : LeavesHeld (start bytes) kept line fault
+    pub none : IfSome kept (λ placed. (w : Why) × IsNoFounding g placed.1 conn left w)
+
+  -- why no office is founded by what can be read of it
+  abbrev pub IsUnbegun : (line : ℕ) → Why → Type 0
+  IsUnbegun line (why.Unread fault) = IsUnreadAt line fault
+  IsUnbegun line why.NotFounded = IsNotFounded bytes line
+  IsUnbegun line (why.Unfounded fault) = IsUnfounded bytes g conn left line fault
+  IsUnbegun line (why.Unreplayed cause) = ⊥
+
+-- an event more was taken, which can be counted, or none
+abbrev pub CountsNext : (old new : ℕ) → Option Placed → Type 0
+CountsNext old new None = new ≡ old
+CountsNext old new (Some placed) = (new ≡ old + 1) × (old < 2 ^ 64 - 1)
+
+module _ {X : Type 0} (m : Meaning X) (old new : X) (placed : ℕ × Event) where
+  -- the event doesn't happen again, for a reason of its own line
+  abbrev pub IsKeptOut : ℕ → Why → Type 0
+  IsKeptOut line (why.Unread fault) = ⊥
+  IsKeptOut line why.NotFounded = ⊥
+  IsKeptOut line (why.Unfounded fault) = ⊥
+  IsKeptOut line (why.Unreplayed cause) =
+      (line ≡ placed.0) × IsReplayed m old new placed.1 (Err cause)
+
+  -- the event happens again, or it doesn't
+  abbrev pub Happens : Result ⊤ Refused → Type 0
+  Happens (Ok done) = HasHappened m old new placed.1
+  Happens (Err refused) = IsKeptOut refused.line refused.why
+
+module _ {X : Type 0} (m : Meaning X) (bytes : Option (List ℕ)) (left : X) where
+  -- the events behind the first don't all happen again
+  abbrev pub IsLeftBehind : ℕ → Why → Type 0
+  IsLeftBehind line (why.Unread fault) = IsUnread bytes (m.is_clean left) line fault
+  IsLeftBehind line why.NotFounded = ⊥
+  IsLeftBehind line (why.Unfounded fault) = ⊥
+  IsLeftBehind line (why.Unreplayed cause) = IsUnreplayed bytes m left line cause
+
+  -- they all do, with the first they are so many, and this is the seal of the journal; or not
+  abbrev pub Continues : ℕ → List ℕ → Result ⊤ Refused → Type 0
+  Continues count seal (Ok done) = IsRebuilt bytes m count seal left
+  Continues count seal (Err refused) = IsLeftBehind refused.line refused.why

@@ -1,0 +1,17 @@
+//! Offices and their journals: opened again after a crash, or built anew from the journal alone.
+#![tactic(auto)]
+
+pub mod laws;
+mod mending;
+mod not_reopened;
+mod office;
+mod opening;
+mod refused;
+mod replay;
+
+pub use mending::mend;
+pub use not_reopened::NotReopened;
+pub use office::{Rebuilt, rebuild};
+pub use opening::reopen;
+pub use refused::{Refused, Why};
+pub use replay::Replay;

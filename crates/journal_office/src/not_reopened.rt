@@ -1,0 +1,84 @@
+//! Why an office and its journal aren't opened again.
+
+use journal::UnreadLine;
+use review_policy::Fault;
+use sealed_log::LogFault;
+use std::alloc::AllocError;
+use thiserror::Error;
+
+/// Why an office and its journal aren't opened again.
+#[derive(Clone, Copy, Debug, Drop, PartialEq, Eq, Error)]
+pub enum NotReopened {
+    /// No line of the journal is sealed.
+    #[error("unsealed")]
+    Unsealed,
+    /// The last line that is sealed is no line of a journal.
+    #[error("not-a-line")]
+    NotALine,
+    /// More stands behind what is sealed, which ends at this offset, than a line: no crash left that.
+    #[error("changed at {at}")]
+    Changed { at: usize },
+    /// The last two lines have events, and the tables show neither: the journal is of another
+    /// office, or of this one at another time.
+    #[error("other-journal")]
+    OtherJournal,
+    /// The office met this fault when it was asked about the last lines.
+    #[error("office")]
+    Office(Fault),
+    /// The file of the journal can't be read, cut, written or synced.
+    #[error("log")]
+    Log,
+    /// There was no memory to read a line. No contract can say when.
+    #[error("memory")]
+    NoMemory,
+}
+
+impl From<LogFault> for NotReopened {
+    ghost use Rattle.std.specs.Prelude.{◌≡◌};
+    ghost use Rattle.journal_office.specs.Faults.{log_fault};
+
+    ghost from_gives = { λ fault e. e ≡ log_fault fault };
+
+    fn from(fault: LogFault) -> NotReopened {
+        match fault {
+            LogFault::Memory => NotReopened::NoMemory,
+            LogFault::Disk | LogFault::Full => NotReopened::Log,
+        }
+    }
+}
+
+impl From<AllocError> for NotReopened {
+    ghost use Rattle.std.specs.Prelude.{◌≡◌};
+    ghost use Rattle.journal_office.specs.declared.not_reopened.NotReopened.TheVariants.{NoMemory};
+
+    ghost from_gives = { λ _ e. e ≡ NoMemory };
+
+    fn from(_error: AllocError) -> NotReopened {
+        NotReopened::NoMemory
+    }
+}
+
+impl From<UnreadLine> for NotReopened {
+    ghost use Rattle.std.specs.Prelude.{◌≡◌};
+    ghost use Rattle.journal_office.specs.Faults.{unread_fault};
+
+    ghost from_gives = { λ why e. e ≡ unread_fault why };
+
+    fn from(why: UnreadLine) -> NotReopened {
+        match why {
+            UnreadLine::NotALine => NotReopened::NotALine,
+            UnreadLine::NoMemory => NotReopened::NoMemory,
+        }
+    }
+}
+
+impl From<Fault> for NotReopened {
+    ghost use Rattle.std.specs.Prelude.{◌≡◌};
+    ghost use Rattle.journal_office.specs.declared.not_reopened.NotReopened.TheVariants.{Office};
+
+    ghost from_gives = { λ fault e. e ≡ Office fault };
+
+    fn from(fault: Fault) -> NotReopened {
+        NotReopened::Office(fault)
+    }
+}

@@ -1,0 +1,53 @@
+//! An office is opened again with its journal.
+
+ghost use Rattle.std.specs.Prelude.{◌≡◌, ◌≢◌, ℕ, IfOk, IfErr, IsTrue};
+ghost use Rattle.sealed_log.specs.Disks.{LeavesTail};
+ghost use Rattle.sealed_log.specs.Log.{bodies_of};
+ghost use Rattle.sealed_log.specs.Sealed.{longest, sealed_text};
+ghost use Rattle.office_policy.specs.History.{History};
+ghost use Rattle.office_policy.specs.Judging.{LeavesAll};
+ghost use Rattle.office_policy.specs.Lawful.{IsLawfulHistory};
+ghost use Rattle.office_desk.specs.Meant.{meaning_over};
+ghost use Rattle.journal.specs.Journals.{goes_on};
+ghost use Rattle.journal.specs.Logs.{in_log};
+ghost use Rattle.journal_office.specs.Mending.{IsMended, SaysOther, TellsOf};
+ghost use Rattle.journal_office.specs.Opening.{IsHandedBack, IsReopened};
+
+use crate::mending::mend;
+use crate::not_reopened::NotReopened;
+use journal::Journaled;
+use office_desk::Office;
+use sealed_log::SealedLog;
+use sqlite::Alter;
+use sqlite_disk::Disk;
+use std::alloc::Global;
+
+/// An office with its journal in a sealed log; or why not, and both.
+pub type Reopened<S, D> = Result<
+    Journaled<Office<S>, SealedLog<D>>,
+    (NotReopened, Office<S>, SealedLog<D>),
+>;
+
+/// Opens an office again with the journal that a crash left of it, which is mended first, as `mend`
+/// has it.
+///
+/// # Errors
+///
+/// Those of `mend`. The office is handed back, with nothing of it changed, and the log, as `mend`
+/// left it.
+pub fn reopen<S: Alter + Drop, D: Disk + Drop>(
+    alloc: Global,
+    office: Office<S>,
+    log: SealedLog<D>,
+) -> Reopened<S, D>
+    ensures opened { IfOk result (λ x. IsReopened S.Store D.Disk office log x) }
+    ensures back { IfErr result (λ refusal.
+        IsHandedBack S.Store D.Disk office log refusal.0 refusal.1 refusal.2) }
+{
+    let mut office = office;
+    let mut log = log;
+    match mend(alloc, &mut office, &mut log) {
+        Ok(()) => Ok(Journaled::new(office, log)),
+        Err(why) => Err((why, office, log)),
+    }
+}

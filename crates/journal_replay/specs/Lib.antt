@@ -1,3 +1,0 @@
-pub mod FaultTexts
-pub mod Rebuilt
-pub mod Steps

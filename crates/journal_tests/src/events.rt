@@ -1,0 +1,75 @@
+//! Journals, read as streams.
+
+use journal::{Events, Line, Placed, Unreadable, text};
+use sealed_log::{no_seal, seal};
+use std::alloc::{AllocError, Global};
+use std::io::BufRead;
+use std::test::Fail;
+
+// What a journal tells first, and how many lines were taken then.
+fn first<R: BufRead + Drop>(
+    alloc: Global,
+    journal: R,
+) -> (Result<Option<Placed>, Unreadable>, u64) {
+    let mut events = Events::new(alloc, journal);
+    let found = events.next(alloc);
+    (found, events.taken())
+}
+
+// An event that stands, as its number and its line; that none does; or why the journal can't be read.
+fn told(alloc: Global, found: Result<Option<Placed>, Unreadable>) -> Result<String, AllocError> {
+    match found {
+        Ok(Some(placed)) => {
+            let said = text(alloc, &Line::Event(placed.event))?;
+            format!(in alloc; "{} {said}", placed.line)
+        }
+        Ok(None) => String::from_str(alloc, "none"),
+        Err(fault) => format!(in alloc; "{fault}"),
+    }
+}
+
+// A journal of these lines, each sealed behind those before it.
+fn sealed(alloc: Global, lines: &[&str]) -> Result<String, AllocError> {
+    let mut journal = String::new(alloc);
+    let mut last = no_seal();
+    for line in lines {
+        last = seal(&last, line.as_bytes());
+        let digits = String::from_utf8_lossy(alloc, &last)?;
+        let whole = format!(in alloc; "{{\"line\":{line},\"seal\":\"{digits}\"}}\n")?;
+        journal.push_str(whole.as_str())?;
+    }
+    Ok(journal)
+}
+
+// The first event is struck out, and the second stands where the journal ends.
+const STRUCK: [&str; 3] = [
+    "{\"by\":\"iss\",\"event\":\"issue\",\"profile\":\"web\",\"revision\":1,\"team\":\"blue\"}",
+    "{\"event\":\"strike\"}",
+    "{\"by\":\"sec\",\"event\":\"hold\",\"profile\":\"web\",\"team\":\"blue\"}",
+];
+
+#[test]
+fn the_first_event_that_stands_is_told_with_its_line(rt: HostRuntime) -> Result<(), Fail> {
+    let alloc = rt.alloc();
+    let strike = &STRUCK[1..2];
+    let struck = sealed(alloc, &STRUCK)?;
+    let other = sealed(alloc, &["{}"])?;
+    let nothing = sealed(alloc, strike)?;
+    for (journal, wanted, lines) in [
+        (
+            struck.as_str(),
+            "3 {\"by\":\"sec\",\"event\":\"hold\",\"profile\":\"web\",\"team\":\"blue\"}",
+            3,
+        ),
+        ("", "none", 0),
+        (other.as_str(), "not-a-line", 0),
+        (nothing.as_str(), "nothing-to-strike", 0),
+        ("{\"event\":\"strike\"}\n", "unsealed", 0),
+        ("{\"event\":\"strike\"}", "torn-line", 0),
+    ] {
+        let (found, taken) = first(alloc, journal.as_bytes());
+        assert_eq!(rt; told(alloc, found)?.as_str(), wanted);
+        assert_eq!(rt; taken, lines);
+    }
+    Ok(())
+}

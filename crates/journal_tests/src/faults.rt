@@ -1,0 +1,43 @@
+//! The words of the faults of logs and of journals, where no command and no line shows them.
+
+use journal::{Faulty, UnreadLine, Unreadable};
+use sealed_log::{LogFault, NoBody};
+use std::alloc::AllocError;
+
+// Those of logs, whose lines are sealed.
+fn push_logs(text: &mut String) -> Result<(), AllocError> {
+    let (disk, full) = (LogFault::Disk, LogFault::Full);
+    writeln!(text, "{} {disk} {full}", LogFault::Memory)?;
+    let (unsealed, too_long, torn) = (NoBody::Unsealed, NoBody::TooLong, NoBody::Torn);
+    writeln!(
+        text,
+        "{unsealed} {too_long} {torn} {} {}",
+        NoBody::Read,
+        NoBody::NoMemory
+    )
+}
+
+// And those of journals and their lines.
+fn push_journals(text: &mut String) -> Result<(), AllocError> {
+    writeln!(text, "{} {}", UnreadLine::NotALine, UnreadLine::NoMemory)?;
+    let (not_a_line, nothing) = (Faulty::NotALine, Faulty::NothingToStrike);
+    writeln!(text, "{not_a_line} {nothing} {}", Faulty::NoMemory)?;
+    let (read, memory) = (Unreadable::Read, Unreadable::NoMemory);
+    writeln!(text, "{read} {memory}")
+}
+
+const WORDS: &str = "\
+     memory disk full\n\
+     unsealed too-long torn-line read memory\n\
+     not-a-line memory\n\
+     not-a-line nothing-to-strike memory\n\
+     read memory\n";
+
+#[test]
+fn each_fault_of_a_journal_is_shown_by_its_word(rt: HostRuntime) -> Result<(), AllocError> {
+    let mut text = String::new(rt.alloc());
+    push_logs(&mut text)?;
+    push_journals(&mut text)?;
+    assert_eq!(rt; text.as_str(), WORDS);
+    Ok(())
+}

@@ -1,4 +1,0 @@
-pub mod Ends
-pub mod MendFacts
-pub mod OpenFacts
-pub mod Leaving

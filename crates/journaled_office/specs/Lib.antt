@@ -1,4 +1,0 @@
-pub mod Faults
-pub mod Left
-pub mod Mending
-pub mod Opening

@@ -1,4 +1,0 @@
-pub mod Texts
-pub mod Offices
-pub mod Carried
-pub mod LogFacts

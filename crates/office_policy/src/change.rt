@@ -1,0 +1,49 @@
+//! What requests change, as values of a program.
+
+use office_tables::{RevisionRow, UserRow};
+use review_policy::ProfileName;
+
+/// What is to happen by a request of a changing kind, with the row that is written where it adds
+/// one. Digests are of SHA-256; revisions are numbered from 1.
+#[derive(Debug, Drop)]
+pub enum Change {
+    /// A user is enrolled, or given these roles and the token of this digest: the row.
+    Enrol {
+        user: UserRow,
+    },
+    /// A revision is added to a profile: its row, with the canonical text of what was handed in.
+    AddRevision {
+        name: ProfileName,
+        row: RevisionRow,
+    },
+    /// A vote is cast on a revision; the digest that it named.
+    Vote {
+        name: ProfileName,
+        revision: u32,
+        digest: [u8; 32],
+        approves: bool,
+    },
+    /// A revision is issued.
+    Issue {
+        name: ProfileName,
+        revision: u32,
+    },
+    /// A revision is taken back.
+    Withdraw {
+        name: ProfileName,
+        revision: u32,
+    },
+    /// A revision becomes the baseline of its team.
+    Adopt {
+        name: ProfileName,
+        revision: u32,
+    },
+    /// A profile is held.
+    Hold {
+        name: ProfileName,
+    },
+    /// A held profile is released.
+    Release {
+        name: ProfileName,
+    },
+}
