@@ -1,5 +1,5 @@
 -- An office that is kept with a journal: what is known of it as it is founded, opened, served and closed.
-use Rattle.std.proofs.Common.{◌≡◌, ◌∙◌, ℕ, List, [], ◌∷◌, ◌++◌, arith, length, length-append, take, Option, Some, None, Result, Ok, Err, IsTrue, true, inl, inr, refl, subst, sym, ap}
+use Rattle.std.proofs.Common.{◌≡◌, ◌∙◌, ℕ, List, [], ◌∷◌, ◌++◌, arith, length, length-append, take, Option, None, Result, Ok, Err, IsTrue, true, inl, inr, refl, subst, sym, ap}
 use Rattle.std.specs.Prelude.{IfErr, OnOk, ⊤}
 use Rattle.std.proofs.lemmas.List.Elements.{All-cons, All-nil}
 use Rattle.std.specs.declared.io.Error.{Error}
@@ -24,10 +24,9 @@ use Rattle.command_host.specs.declared.fault.CommandFault.{CommandFault}
 use Rattle.command_host.specs.declared.fault.CommandFault.TheVariants as fault
 use Rattle.changing_commands.specs.declared.founding.Founding.{Founding}
 use Rattle.command_host.specs.declared.no_file.NoFile.{NoFile}
-use Rattle.changing_commands.specs.Foundings.{founding_event, Described, IsFoundedIn}
+use Rattle.changing_commands.specs.Foundings.{founding_event, IsFoundedIn}
 use Rattle.changing_commands.specs.Journals.{IfJournaled, IsBegunBy, IsKeptOffice, IsServedWith}
-use Rattle.changing_commands.specs.Journals.{IsUnfoundedBehind, IsUnfoundedWith, WasFoundedBehind}
-use Rattle.changing_commands.specs.Journals.{WasFoundedWith}
+use Rattle.changing_commands.specs.Journals.{IsUnfoundedBehind, WasFoundedBehind}
 use Rattle.command_host.specs.declared.databases.Databases as databases
 use Rattle.command_host.specs.Openings.{IsEnded, IsFirstOf}
 
@@ -97,13 +96,6 @@ module _ {S D L : Type 0} (g : Ghosts S) (f : DiskGhosts L) (Found : Result L No
       subst (λ r. IsServedWith g f Found d path Done Stops r) (sym is)
       (inr (inl (record { old = old; new = new; office = office; done = stops; closed = ended })))
 
--- what holds by a path that an option gives, or without one
-pub with_journal : (given : Option (List ℕ)) (path : List ℕ) (Without : Type 0) (With : List ℕ → Type 0) → given ≡ Some path → With path → IfJournaled given Without With
-with_journal given path Without With is it = subst (λ (o : Option (List ℕ)). IfJournaled o Without With) (sym is) it
-
-pub without_journal : (given : Option (List ℕ)) (Without : Type 0) (With : List ℕ → Type 0) → given ≡ None → Without → IfJournaled given Without With
-without_journal given Without With is it = subst (λ (o : Option (List ℕ)). IfJournaled o Without With) (sym is) it
-
 module _ {S D L : Type 0} (g : Ghosts S) (f : DiskGhosts L) (Created : Result L NoFile → Type 0) (d : databases.Ghosts D (Held S)) (path : List ℕ) where
   pub founded_behind : (founding : Founding) (log : SealedLog L f) (office : Held S) (r : Result (Unit {0}) CommandFault) → IsBegunBy f Created founding log
       → IsFoundedIn g (d.opened path) (Ok founding) office → OnOk r (d.closed office) → OnOk r (WasFoundedBehind g f Created (d.opened path) d.closed founding)
@@ -116,15 +108,3 @@ module _ {S D L : Type 0} (g : Ghosts S) (f : DiskGhosts L) (Created : Result L 
       → IfErr r (IsUnfoundedBehind g f Created Removed d path founding)
   behind_open Removed founding log office (Ok done) begun founded ended closed = tt
   behind_open Removed founding log office (Err why) begun founded ended closed = inr (record { log = log; journal = begun; office = inr (closed, (office, founded, ended)) })
-
-  -- what was founded by a founding was founded as words describe it
-  pub founded_with : (described : Described) (founding : Founding) (r : Result (Unit {0}) CommandFault) → described ≡ Ok founding
-      → OnOk r (WasFoundedBehind g f Created (d.opened path) d.closed founding) → OnOk r (WasFoundedWith g f Created (d.opened path) d.closed described)
-  founded_with described founding (Ok done) is founded = record { founding = founding; is = is; founded = founded }
-  founded_with described founding (Err why) is founded = tt
-
-  pub unfounded_with : (Removed : Result ⊤ Error → Type 0) (described : Described) (founding : Founding)
-      (r : Result (Unit {0}) CommandFault) → described ≡ Ok founding → IfErr r (IsUnfoundedBehind g f Created Removed d path founding)
-      → IfErr r (IsUnfoundedWith g f Created Removed d path described)
-  unfounded_with Removed described founding (Ok done) is unfounded = tt
-  unfounded_with Removed described founding (Err why) is unfounded = inr (founding, is, unfounded)

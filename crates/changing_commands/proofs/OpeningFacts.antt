@@ -1,13 +1,19 @@
 -- An office at a path: what is known of it as it is opened, served and closed.
 use Rattle.std.proofs.Common.{◌≡◌, ℕ, List, inl, inr, Result, Ok, Err, subst, sym}
 use Rattle.std.specs.Prelude.{IfErr, OnOk}
-use Rattle.sqlite.specs.Held.{Held}
+use Rattle.sqlite.specs.Held.{Held, state}
+use Rattle.sqlite.specs.State.{HasCleanDisk}
 use Rattle.sqlite.specs.Store.{Ghosts}
 use Rattle.command_host.specs.declared.fault.CommandFault.{CommandFault}
 use Rattle.command_host.specs.declared.fault.CommandFault.TheVariants as fault
 use Rattle.changing_commands.specs.declared.founding.Founding.{Founding}
 use Rattle.command_host.specs.declared.founding_fault.FoundingWordsFault.{FoundingWordsFault}
-use Rattle.changing_commands.specs.Foundings.{IsFoundedIn, IsUnfounded, WasFounded}
+use Rattle.office_store.specs.Founding.{first_user, FailsToFound}
+use Rattle.office_store.specs.Shown.{AreOffice, MayLeave}
+use Rattle.office_store.specs.declared.fault.FoundingFault.{FoundingFault}
+use Rattle.office_policy.specs.TablesOf.{tables_of}
+use Rattle.office_desk.specs.Opened.{IsHandedBack}
+use Rattle.changing_commands.specs.Foundings.{history_of, IsFoundedIn, IsNotFounded, IsUnfounded, WasFounded}
 use Rattle.command_host.specs.declared.databases.Databases as databases
 use Rattle.command_host.specs.Openings.{IsEnded, IsFirstOf, IsOpenedOffice, IsServed}
 
@@ -36,3 +42,11 @@ module _ {S D : Type 0} (g : Ghosts S) (d : databases.Ghosts D (Held S)) (path :
       → IfErr r (IsUnfounded g d path described)
   founded_open described office (Ok done) founded ended closed = tt
   founded_open described office (Err why) founded ended closed = inr (closed, office, founded, ended)
+
+-- what the store says of an office that isn't founded
+pub not_founded : {S A : Type 0} (g : Ghosts S) (founding : Founding) (conn : Held S) (r : Result A (FoundingFault × Held S))
+    → IfErr r (λ refusal. HasCleanDisk (state g refusal.1) → FailsToFound g (first_user founding.name founding.team founding.digest) founding.listed conn refusal.1 refusal.0)
+    → IsHandedBack g conn r → IfErr r (λ refusal. MayLeave (state g conn) (state g refusal.1) (λ trees. AreOffice trees (tables_of (history_of founding))))
+    → IfErr r (λ refusal. IsNotFounded g founding conn refusal.1 refusal.0)
+not_founded g founding conn (Ok office) cause same crash = tt
+not_founded g founding conn (Err refusal) cause same crash = record { cause = cause; same = same; crash = crash }

@@ -5,18 +5,22 @@ use Rattle.sqlite.specs.Held.{Held, state}
 use Rattle.sqlite.specs.Store.{Ghosts}
 use Rattle.sqlite.specs.State.{HasCleanDisk}
 use Rattle.command_line.specs.declared.command.InitWords.{InitWords}
+use Rattle.office_rows.specs.Queries.{IsAsItWas}
+use Rattle.office_store.specs.Founding.{first_user, FailsToFound}
 use Rattle.office_store.specs.Schema.{no_schema}
+use Rattle.office_store.specs.Shown.{AreOffice, MayLeave}
+use Rattle.office_store.specs.declared.fault.FoundingFault.{FoundingFault}
 use Rattle.office_policy.specs.History.{Event, History, founded}
 use Rattle.office_policy.specs.Handled.{Stands}
+use Rattle.office_policy.specs.TablesOf.{tables_of}
 use Rattle.office_desk.specs.Offices.{IsOffice}
 use Rattle.office_desk.specs.Meant.{meaning_over}
 use Rattle.cap_sets.specs.Capability.{set_named}
 use Rattle.review_policy.specs.Digests.{digest_from_hex}
 use Rattle.review_policy.specs.Words.{is_word}
-use Rattle.review_policy.specs.declared.word.WordFault.TheVariants as words
 use Rattle.command_host.specs.declared.founding_fault.FoundingWordsFault.{FoundingWordsFault}
 use Rattle.command_host.specs.declared.founding_fault.FoundingWordsFault.TheVariants as refusal
-use Rattle.command_host.specs.Openings.{IsEnded, IsUnopened}
+use Rattle.command_host.specs.Openings.{IsEnded, IsUnlimited, IsUnopened}
 use Rattle.command_host.specs.declared.databases.Databases as databases
 use Rattle.changing_commands.specs.declared.founding.Founding.{Founding}
 use Rattle.command_host.specs.declared.fault.CommandFault.{CommandFault}
@@ -88,6 +92,27 @@ pub record WasFounded {S : Type 0} (g : Ghosts S) (Opened Closed : Held S → Ty
   pub founded : IsFoundedIn g Opened described office
   pub closed : Closed office
 
+-- No office of a founding is founded over a connection, for this. What is left of that has what it had;
+-- and a crash leaves what it could leave before, or the office of just this founding.
+pub record IsNotFounded {S : Type 0} (g : Ghosts S) (founding : Founding) (conn left : Held S)
+    (why : FoundingFault) : Type 0 where
+  pub cause : HasCleanDisk (state g left)
+      → FailsToFound g (first_user founding.name founding.team founding.digest) founding.listed
+      conn left why
+  pub same : (state g conn).now ≡ (state g conn).committed → HasCleanDisk (state g left)
+      → IsAsItWas (state g conn) (state g left)
+  pub crash : MayLeave (state g conn) (state g left)
+      (λ trees. AreOffice trees (tables_of (history_of founding)))
+
+-- the same of the founding that words describe, over a database that was opened, of which this is
+-- known; and what is left was closed, of which that is known
+abbrev pub WasNotFounded : {S : Type 0} → Ghosts S → (Opened Closed : Held S → Type 0) → Described
+    → FoundingFault → Type 0
+WasNotFounded {S} g Opened Closed (Ok founding) why =
+    (conn left : Held S) × IsUnlimited Opened conn × IsNotFounded g founding conn left why
+    × Closed left
+WasNotFounded g Opened Closed (Err fault) why = ⊥
+
 -- words describe a founding
 abbrev pub IsDescribed : Described → Type 0
 IsDescribed (Ok founding) = Unit {0}
@@ -101,19 +126,19 @@ IsUndescribed described _ = ⊥
 -- Why nothing is founded: by the words where they describe no founding; and where they describe one,
 -- since no database was opened at the path, or by the store, whose database was then closed. Memory
 -- may have been refused in place of either.
-abbrev pub IsUnfoundedAs : {S D : Type 0} → databases.Ghosts D (Held S) → (path : List ℕ)
-    → Described → CommandFault → Type 0
-IsUnfoundedAs d path described (fault.FoundingWords why) = Gives (Err why) described
-IsUnfoundedAs {S} d path described (fault.Founding why) =
-    IsDescribed described × ((conn : Held S) × IsEnded d conn)
-IsUnfoundedAs d path described (fault.Store why) = IsDescribed described × IsUnopened d path why
-IsUnfoundedAs d path described _ = ⊥
+abbrev pub IsUnfoundedAs : {S D : Type 0} → Ghosts S → databases.Ghosts D (Held S)
+    → (path : List ℕ) → Described → CommandFault → Type 0
+IsUnfoundedAs g d path described (fault.FoundingWords why) = Gives (Err why) described
+IsUnfoundedAs g d path described (fault.Founding why) =
+    WasNotFounded g (d.opened path) (IsEnded d) described why
+IsUnfoundedAs g d path described (fault.Store why) = IsDescribed described × IsUnopened d path why
+IsUnfoundedAs g d path described _ = ⊥
 
 -- the same, or it was founded in a database that was opened, of which this is known, and couldn't
 -- be closed
 abbrev pub IsUnfounded : {S D : Type 0} → Ghosts S → databases.Ghosts D (Held S)
     → (path : List ℕ) → Described → CommandFault → Type 0
 IsUnfounded {S} g d path described why =
-    IsUnfoundedAs d path described why
+    IsUnfoundedAs g d path described why
     ⊎ ((why ≡ fault.Close) × (office : Held S) × IsFoundedIn g (d.opened path) described office
     × IsEnded d office)

@@ -1,5 +1,6 @@
 -- What the databases in the files of a host are known by, and what a command leaves in them.
-use Rattle.std.specs.Prelude.{Ok}
+use Rattle.std.specs.Prelude.{ℕ, List, Ok, Option, Result}
+use Rattle.std.specs.declared.io.Error.{Error}
 use Rattle.sqlite_disk.specs.declared.Disk as disk
 use Rattle.sqlite_disk.specs.declared.Files.{Files}
 use Rattle.sqlite_wal.specs.Files.{outcomes}
@@ -16,8 +17,10 @@ use Rattle.office_policy.specs.Runs.{history_after_all}
 use Rattle.office_policy.specs.TablesOf.{tables_of}
 use Rattle.office_desk.specs.Meant.{meaning_over}
 use Rattle.changing_commands.specs.declared.founding.Founding.{Founding}
+use Rattle.changing_commands.specs.declared.rebuild.Built.{Built}
 use Rattle.changing_commands.specs.Foundings.{WasFounded, history_of}
 use Rattle.changing_commands.specs.Migrations.{WasMigrated}
+use Rattle.changing_commands.specs.Rebuildings.{WasRebuilt}
 use Rattle.command_host.specs.Openings.{WasServed}
 use Rattle.changing_commands.specs.Serving.{HasServedUpTo}
 use Rattle.command_host.specs.HostFiles.{IsClosedInto, IsFoundIn}
@@ -57,3 +60,11 @@ module _ {D : Type 0} (g : disk.Ghosts D) where
   MigrationIsLeft = (h : History) (image : Image) → HoldsOldOffice image (tables_of h)
       → (it : WasMigrated (over_files {g = g}) (IsFoundIn image) IsClosedInto)
       → HoldHistory g it.closed.0 h
+
+  -- what was built anew of a journal, and closed, is left in its files: the office of the history that
+  -- the journal is of
+  abbrev pub RebuildingIsLeft : {F : Type 0} → (Opens : Result F Error → Type 0)
+      → (bytes_of : F → Option (List ℕ)) → Type 0
+  RebuildingIsLeft Opens bytes_of = (image : Image) (built : Built)
+      (it : WasRebuilt (over_files {g = g}) Opens bytes_of (IsFoundIn image) IsClosedInto built)
+      → HoldHistory g it.closed.0 it.rebuilt.rebuilt.history

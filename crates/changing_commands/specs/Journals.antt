@@ -4,7 +4,6 @@ use Rattle.std.specs.Prelude.{IsTrue, true}
 use Rattle.std.specs.declared.io.Error.{Error}
 use Rattle.sqlite.specs.Held.{Held}
 use Rattle.sqlite.specs.Store.{Ghosts}
-use Rattle.sqlite.specs.declared.error.Error.{Error as SqliteError}
 use Rattle.sqlite_disk.specs.declared.Disk.{Ghosts as DiskGhosts}
 use Rattle.sealed_log.specs.Log.{bodies_of}
 use Rattle.sealed_log.specs.declared.log.SealedLog.{SealedLog}
@@ -86,7 +85,7 @@ module _ {S L : Type 0} (g : Ghosts S) (f : DiskGhosts L) (Created : Result L No
     pub record IsUnfoundedThen (founding : Founding) (why : CommandFault) : Type 0 where
       pub log : SealedLog L f
       pub journal : IsBegunBy f Created founding log
-      pub office : (IsUnfoundedAs d path (Ok founding) why × IsRemoved Removed)
+      pub office : (IsUnfoundedAs g d path (Ok founding) why × IsRemoved Removed)
           ⊎ ((why ≡ fault.Close) × ((office : Held S)
           × IsFoundedIn g (d.opened path) (Ok founding) office × IsEnded d office))
 

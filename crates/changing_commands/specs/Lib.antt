@@ -6,3 +6,6 @@ pub mod Serving
 pub mod Trials
 pub mod Hosts
 pub mod KeptHosts
+pub mod Rebuildings
+pub mod Founded
+pub mod Served

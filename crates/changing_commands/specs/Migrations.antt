@@ -1,9 +1,8 @@
 -- An office of schema 1 in a file that was made one of schema 2.
-use Rattle.std.specs.Prelude.{Result, Ok, ℕ, List}
+use Rattle.std.specs.Prelude.{Ok, ℕ, List}
 use Rattle.sqlite.specs.Held.{Held, state}
 use Rattle.sqlite.specs.State.{HasCleanDisk}
 use Rattle.sqlite.specs.Store.{Ghosts}
-use Rattle.sqlite.specs.declared.error.Error.{Error}
 use Rattle.office_store.specs.Migration.{FailsToMigrate, IsMigration, WasOld}
 use Rattle.office_store.specs.declared.fault.MigrationFault.{MigrationFault}
 use Rattle.command_host.specs.Openings.{IsEnded, IsNotThere, IsUnlimited}

@@ -1,8 +1,11 @@
 -- The office in which requests are tried.
-use Rattle.std.specs.Prelude.{◌≡◌, ◌⊎◌, [], ◌∷◌, codes, Result, Ok, Err}
+use Rattle.std.specs.Prelude.{◌≡◌, ◌⊎◌, ℕ, List, [], ◌∷◌, codes, Option, Result, Ok, Err}
 use Rattle.sqlite.specs.Held.{Held}
 use Rattle.memory_database.specs.MemoryStore.{MemoryStore, over_memory}
+use Rattle.office_desk.specs.Meant.{meaning_over}
+use Rattle.streams.specs.declared.counted.Counted.{Counted}
 use Rattle.changing_commands.specs.Foundings.{founding_of, Described, IsFoundedAs}
+use Rattle.changing_commands.specs.Lines.{HasAnswered, HasStopped}
 use Rattle.command_host.specs.declared.fault.CommandFault.{CommandFault}
 use Rattle.command_host.specs.declared.fault.CommandFault.TheVariants as fault
 
@@ -27,3 +30,11 @@ abbrev pub HasTried : (Done : (old new : Held MemoryStore) → Type 0)
     → Result (Unit {0}) CommandFault → Type 0
 HasTried Done Stops (Ok done) = WasTried Done
 HasTried Done Stops (Err why) = (why ≡ fault.NoMemory) ⊎ WasTried (Stops why)
+
+-- the same of the lines that were to come, of which these are left, and of an output
+module _ {O : Type 0} (contents : O → Option (List ℕ)) (came left : Option (List ℕ))
+    (output wrote : Counted O) where
+  abbrev pub IsTrial : Result (Unit {0}) CommandFault → Type 0
+  IsTrial result =
+      HasTried (HasAnswered contents (meaning_over over_memory) came output wrote)
+      (HasStopped contents (meaning_over over_memory) came left output wrote) result

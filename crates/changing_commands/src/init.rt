@@ -1,21 +1,19 @@
 //! `init`: an office is founded in a file.
 
-ghost use Rattle.std.specs.Prelude.{◌≡◌, IfErr, IfOk, Ok, OnOk, option_copied};
+ghost use Rattle.std.specs.Prelude.{◌≡◌, IfErr, IfOk, Ok, OnOk};
 ghost use Rattle.sqlite.specs.Held.{state};
-ghost use Rattle.sqlite.specs.State.{HasCleanDisk};
-ghost use Rattle.office_store.specs.Founding.{first_user, FailsToFound};
 ghost use Rattle.office_store.specs.Schema.{no_schema};
 ghost use Rattle.office_store.specs.Shown.{IsIdle};
+ghost use Rattle.command_host.specs.Outside.{known};
+ghost use Rattle.changing_commands.specs.Founded.{FailsToInit, HasFounded};
 ghost use Rattle.changing_commands.specs.Foundings.{founding_of_words, IsFoundedBy, IsFoundedIn};
-ghost use Rattle.changing_commands.specs.Foundings.{IsUndescribed, IsUnfounded, IsUnfoundedAs};
-ghost use Rattle.changing_commands.specs.Foundings.{WasFounded};
-ghost use Rattle.changing_commands.specs.Journals.{HasLine, IfJournaled, IsUnfoundedBehind};
-ghost use Rattle.changing_commands.specs.Journals.{IsUnfoundedWith, WasFoundedBehind};
-ghost use Rattle.changing_commands.specs.Journals.{WasFoundedWith};
+ghost use Rattle.changing_commands.specs.Foundings.{IsNotFounded, IsUndescribed, IsUnfounded};
+ghost use Rattle.changing_commands.specs.Foundings.{IsUnfoundedAs, WasFounded};
+ghost use Rattle.changing_commands.specs.Journals.{HasLine, IsUnfoundedBehind, WasFoundedBehind};
 
 use crate::begun::begin_journal;
 use crate::founding::{Founding, founding_of};
-use command_host::{CommandFault, Databases, Journals, close, open};
+use command_host::{CommandFault, Databases, Host, Journals, Outside, close, open};
 use command_line::InitWords;
 use office_desk::Office;
 use office_store::FoundingFault;
@@ -32,10 +30,8 @@ pub(crate) fn found_in<S: Alter>(
     requires { IsIdle (state S.Store conn) }
     ensures founded { IfOk result (IsFoundedBy S.Store founding.now) }
     ensures empty { OnOk result ((state S.Store conn).now.schema ≡ no_schema) }
-    ensures cause { IfErr result (λ refusal. HasCleanDisk (state S.Store refusal.1)
-        → FailsToFound S.Store
-        (first_user founding.now.name founding.now.team founding.now.digest)
-        founding.now.listed conn refusal.1 refusal.0) }
+    ensures refused { IfErr result (λ refusal.
+        IsNotFounded S.Store founding.now conn refusal.1 refusal.0) }
 {
     Office::found(
         conn,
@@ -71,7 +67,7 @@ fn founded_at<S: Alter + Drop, D: Databases<Database = Connection<S>>>(
 ) -> Result<Office<S>, CommandFault>
     ensures founded { IfOk result
         (IsFoundedIn S.Store (D.opened path.now) (Ok founding.now)) }
-    ensures refused { IfErr result (IsUnfoundedAs D.Databases path.now (Ok founding.now)) }
+    ensures refused { IfErr result (IsUnfoundedAs S.Store D.Databases path.now (Ok founding.now)) }
 {
     let conn = match open(databases, path) {
         Ok(conn) => conn,
@@ -97,7 +93,7 @@ fn founded_behind<S: Alter + Drop, D: Databases<Database = Connection<S>>, J: Di
     requires { HasLine J.Disk founding.now log }
     ensures founded { IfOk result
         (IsFoundedIn S.Store (D.opened path.now) (Ok founding.now)) }
-    ensures refused { IfErr result (IsUnfoundedAs D.Databases path.now (Ok founding.now)) }
+    ensures refused { IfErr result (IsUnfoundedAs S.Store D.Databases path.now (Ok founding.now)) }
 {
     let founded = founded_at(databases, path, founding);
     drop(log);
@@ -152,31 +148,21 @@ fn found_behind<S: Alter + Drop, D: Databases<Database = Connection<S>>, J: Jour
 /// the words give a journal, that is begun before.
 ///
 /// The words are looked at before the paths, so that words which describe no founding make no file.
-pub fn found_at<S: Alter + Drop, D: Databases<Database = Connection<S>>, J: Journals>(
-    databases: &D,
-    journals: &J,
+pub fn found_at<H: Host>(
+    host: &Outside<'_, H>,
     alloc: Global,
     words: &InitWords<'_>,
 ) -> Result<(), CommandFault>
-    ensures founded { OnOk result (IfJournaled (option_copied words.now.journal)
-        (WasFounded S.Store (D.opened words.now.database.now) D.closed
-        (founding_of_words words.now))
-        (λ file. WasFoundedWith S.Store J.File.Disk (J.creates journals.now file)
-        (D.opened words.now.database.now) D.closed (founding_of_words words.now))) }
-    ensures failed { IfErr result (λ why.
-        IfJournaled (option_copied words.now.journal)
-        (IsUnfounded S.Store D.Databases words.now.database.now
-        (founding_of_words words.now) why)
-        (λ file. IsUnfoundedWith S.Store J.File.Disk (J.creates journals.now file)
-        (J.removes journals.now file) D.Databases words.now.database.now
-        (founding_of_words words.now) why)) }
+    ensures founded { OnOk result (HasFounded (known host.now) words.now) }
+    ensures failed { IfErr result (FailsToInit (known host.now) words.now) }
 {
     let founding = match founding_in(alloc, words) {
         Ok(founding) => founding,
         Err(fault) => return Err(fault),
     };
+    let path = words.database;
     match words.journal {
-        Some(file) => found_behind(databases, journals, alloc, words.database, file, &founding),
-        None => found_and_close(databases, words.database, &founding),
+        Some(file) => found_behind(host.databases, host.journals, alloc, path, file, &founding),
+        None => found_and_close(host.databases, path, &founding),
     }
 }

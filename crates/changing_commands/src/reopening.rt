@@ -3,10 +3,10 @@
 
 ghost use Rattle.std.specs.Prelude.{ℕ, List};
 ghost use Rattle.changing_commands.specs.Hosts.{DeskIsLeft, ExchangesAreLeft, FoundingIsLeft};
-ghost use Rattle.changing_commands.specs.Hosts.{MigrationIsLeft};
+ghost use Rattle.changing_commands.specs.Hosts.{MigrationIsLeft, RebuildingIsLeft};
 ghost use Rattle.changing_commands.specs.KeptHosts.{KeptDeskIsLeft, KeptExchangesAreLeft};
 
-use command_host::Journals;
+use command_host::{Journals, PassFiles};
 use sqlite::{Connection, FileStore};
 use sqlite_disk::Disk;
 
@@ -34,4 +34,14 @@ pub fn a_kept_office_is_left_with_its_journal<D: Disk + Drop, J: Journals>(
         → KeptDeskIsLeft D.Disk J.File.Disk (J.opens journals path) }
     ensures exchanges { (journals : J) (path : List ℕ)
         → KeptExchangesAreLeft D.Disk J.File.Disk (J.opens journals path) }
+{}
+
+/// What `rebuild` builds of a journal and closes is left in its files: the office of the history that
+/// the journal is of, as the files read now, and after a crash.
+pub fn a_rebuilt_office_is_left_in_its_files<D: Disk + Drop, F: PassFiles>(
+    _conn: &Connection<FileStore<D>>,
+    _files: &F,
+)
+    ensures { (files : F) (path : List ℕ)
+        → RebuildingIsLeft D.Disk (F.opens files path) F.File.remaining }
 {}

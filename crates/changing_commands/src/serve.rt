@@ -1,24 +1,19 @@
 //! `serve`: an office in a file, over HTTP on loopback.
 
-ghost use Rattle.std.specs.Prelude.{◌≡◌, IfErr, IfOk, option_copied, string_bytes};
+ghost use Rattle.std.specs.Prelude.{◌≡◌, IfErr, IfOk, string_bytes};
 ghost use Rattle.std.specs.Duration.{as_nanos};
 ghost use Rattle.std.specs.Net.Socket.{socket_ip, socket_port};
-ghost use Rattle.office_desk.specs.Meant.{meaning_over};
-ghost use Rattle.changing_commands.specs.Journals.{IfJournaled, IsServedWith, journaled_over};
-ghost use Rattle.command_host.specs.Openings.{IsServed};
-ghost use Rattle.changing_commands.specs.Serving.{HasBegun, HasServed, IsAt, IsServing};
 ghost use Rattle.command_host.specs.Networks.{IsLoopback};
-ghost use Rattle.changing_commands.specs.Serving.{IsTellingPort, IsUnbound, listening_line};
-ghost use Rattle.changing_commands.specs.Serving.{longest_exchange};
+ghost use Rattle.command_host.specs.Outside.{known};
+ghost use Rattle.changing_commands.specs.Served.{IsServedAlone, IsServedKept, IsServedOver};
+ghost use Rattle.changing_commands.specs.Serving.{IsAt, IsServing, IsTellingPort, IsUnbound};
+ghost use Rattle.changing_commands.specs.Serving.{listening_line, longest_exchange};
 
 use crate::kept::{close_kept, kept_office_at};
-use command_host::{
-    CommandFault, Databases, Journals, Network, close, first_fault, office_at, print,
-};
+use command_host::{CommandFault, Host, Network, Outside, close, first_fault, office_at, print};
 use command_line::ServeWords;
 use desk_http::Server;
 use office_policy::Handler;
-use sqlite::{Alter, Connection};
 use std::alloc::{AllocError, Global};
 use std::io::Write;
 use std::net::{IpAddr, Ipv4Addr, SocketAddr, TcpListener};
@@ -95,93 +90,58 @@ fn serve_bound<N: Network, H: Handler, O: Write>(
     }
 }
 
-// The same without a journal.
-fn serve_alone<S: Alter + Drop, D: Databases<Database = Connection<S>>, N: Network, O: Write>(
-    databases: &D,
-    network: &N,
+// The same of the office at a path, without a journal.
+fn serve_alone<H: Host, O: Write>(
+    host: &Outside<'_, H>,
     alloc: Global,
     words: &ServeWords<'_>,
     output: &mut Counted<O>,
 ) -> Result<(), CommandFault>
-    ensures { IsServed S.Store D.Databases words.now.database.now
-        (λ old new. HasServed N.shows N.binds N.tells O.contents (meaning_over S.Store) words.now
-        old new output.old output.new)
-        (λ why old new. HasBegun N.shows N.binds N.tells O.contents (meaning_over S.Store) words.now
-        old new output.old output.new why) result }
+    ensures { IsServedAlone (known host.now) O.contents output.old output.new words.now result }
 {
-    let mut office = match office_at(databases, words.database) {
+    let mut office = match office_at(host.databases, words.database) {
         Ok(office) => office,
         Err(fault) => return Err(fault),
     };
-    let served = serve_bound(network, &mut office, alloc, words, output);
-    let closed = close(databases, office);
+    let served = serve_bound(host.network, &mut office, alloc, words, output);
+    let closed = close(host.databases, office);
     first_fault(served, closed)
 }
 
 // The same with the journal at this path.
-fn serve_kept<
-    S: Alter + Drop,
-    D: Databases<Database = Connection<S>>,
-    J: Journals,
-    N: Network,
-    O: Write,
->(
-    databases: &D,
-    journals: &J,
-    network: &N,
+fn serve_kept<H: Host, O: Write>(
+    host: &Outside<'_, H>,
     alloc: Global,
     words: &ServeWords<'_>,
     journal: &str,
     output: &mut Counted<O>,
 ) -> Result<(), CommandFault>
-    ensures { IsServedWith S.Store J.File.Disk (J.opens journals.now journal.now)
-        D.Databases words.now.database.now
-        (λ old new. HasServed N.shows N.binds N.tells O.contents
-        (journaled_over S.Store J.File.Disk) words.now old new output.old output.new)
-        (λ why old new. HasBegun N.shows N.binds N.tells O.contents
-        (journaled_over S.Store J.File.Disk) words.now old new output.old output.new why) result }
+    ensures { IsServedKept (known host.now) O.contents output.old output.new words.now
+        journal.now result }
 {
-    let mut kept = match kept_office_at(databases, journals, alloc, words.database, journal) {
+    let path = words.database;
+    let mut kept = match kept_office_at(host.databases, host.journals, alloc, path, journal) {
         Ok(kept) => kept,
         Err(fault) => return Err(fault),
     };
-    let served = serve_bound(network, &mut kept, alloc, words, output);
-    let closed = close_kept(databases, kept);
+    let served = serve_bound(host.network, &mut kept, alloc, words, output);
+    let closed = close_kept(host.databases, kept);
     first_fault(served, closed)
 }
 
 /// Serves exchanges with the office at a path, with its journal where the words give one, and
 /// closes it, also where that failed. Where closing fails too, the first fault is told. The port is
 /// bound last, so that nothing is heard where there is no office.
-pub fn serve_http<
-    S: Alter + Drop,
-    D: Databases<Database = Connection<S>>,
-    J: Journals,
-    N: Network,
-    O: Write,
->(
-    databases: &D,
-    journals: &J,
-    network: &N,
+pub fn serve_http<H: Host, O: Write>(
+    host: &Outside<'_, H>,
     alloc: Global,
     words: &ServeWords<'_>,
     output: &mut Counted<O>,
 ) -> Result<(), CommandFault>
-    ensures { IfJournaled (option_copied words.now.journal)
-        (IsServed S.Store D.Databases words.now.database.now
-        (λ old new. HasServed N.shows N.binds N.tells O.contents (meaning_over S.Store) words.now
-        old new output.old output.new)
-        (λ why old new. HasBegun N.shows N.binds N.tells O.contents (meaning_over S.Store) words.now
-        old new output.old output.new why) result)
-        (λ file. IsServedWith S.Store J.File.Disk (J.opens journals.now file)
-        D.Databases words.now.database.now
-        (λ old new. HasServed N.shows N.binds N.tells O.contents
-        (journaled_over S.Store J.File.Disk) words.now old new output.old output.new)
-        (λ why old new. HasBegun N.shows N.binds N.tells O.contents
-        (journaled_over S.Store J.File.Disk) words.now old new output.old output.new why) result) }
+    ensures { IsServedOver (known host.now) O.contents output.old output.new words.now result }
 {
     match words.journal {
-        Some(file) => serve_kept(databases, journals, network, alloc, words, file, output),
-        None => serve_alone(databases, network, alloc, words, output),
+        Some(file) => serve_kept(host, alloc, words, file, output),
+        None => serve_alone(host, alloc, words, output),
     }
 }

@@ -2,10 +2,8 @@
 
 ghost use Rattle.std.specs.Prelude.{◌≡◌, ◌^◌, ◌≤◌, IfErr, IfOk};
 ghost use Rattle.memory_database.specs.MemoryStore.{over_memory};
-ghost use Rattle.office_desk.specs.Meant.{meaning_over};
 ghost use Rattle.changing_commands.specs.Foundings.{IsFoundedAs};
-ghost use Rattle.changing_commands.specs.Lines.{HasAnswered, HasStopped};
-ghost use Rattle.changing_commands.specs.Trials.{trial_founding, HasTried};
+ghost use Rattle.changing_commands.specs.Trials.{trial_founding, IsTrial};
 
 use crate::founding::{Founding, founding_of};
 use crate::init::found_in;
@@ -55,11 +53,8 @@ pub fn serve_trial<R: Read, W: Write>(
     requires reads { input.old.calls ≤ 2 ^ 62 }
     requires read_faults { input.old.faults ≤ 2 ^ 62 }
     requires write_faults { output.old.faults ≤ 2 ^ 62 }
-    ensures { HasTried (HasAnswered W.contents (meaning_over over_memory)
-        (R.remaining input.old.inner) output.old output.new)
-        (HasStopped W.contents (meaning_over over_memory)
-        (R.remaining input.old.inner) (R.remaining input.new.inner) output.old output.new)
-        result }
+    ensures { IsTrial W.contents (R.remaining input.old.inner) (R.remaining input.new.inner)
+        output.old output.new result }
 {
     let mut office = match trial_office(alloc) {
         Ok(office) => office,

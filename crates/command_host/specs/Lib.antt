@@ -6,3 +6,6 @@ pub mod NoFiles
 pub mod Networks
 pub mod HostFiles
 pub mod JournalTexts
+pub mod FailedCalls
+pub mod Known
+pub mod Outside

@@ -1,11 +1,11 @@
 //! What is printed on standard output, and said on standard error.
 
-ghost use Rattle.std.specs.Prelude.{◌≡◌, IfErr, OnOk};
+ghost use Rattle.std.specs.Prelude.{◌≡◌, IfErr, IfOk, OnOk};
 ghost use Rattle.desk_http.specs.Lines.{IsCut, IsWhole};
-ghost use Rattle.command_host.specs.Said.{IsRefusal, IsSaid};
+ghost use Rattle.command_host.specs.Said.{IsRefusal, IsSaid, seal_line};
 
 use crate::fault::CommandFault;
-use std::alloc::Global;
+use std::alloc::{AllocError, Global};
 use std::io::Write;
 use streams::{Counted, write_whole};
 
@@ -28,6 +28,18 @@ pub fn print<W: Write>(output: &mut Counted<W>, text: &str) -> Result<(), Comman
         × IsCut W.contents output.old output.new text.now) }
 {
     print_bytes(output, text.as_bytes())
+}
+
+/// The line that says what was done with an office, how many events it has, and the seal of its
+/// journal.
+pub fn seal_line(alloc: Global, done: &str, events: u64, seal: &[u8]) -> Result<Vec<u8>, AllocError>
+    ensures { IfOk result (λ line. line.items ≡ seal_line done.now events seal.now) }
+{
+    let events = format!(in alloc; "{done} {events} events, seal ")?;
+    let mut line = Vec::from_slice(alloc, events.as_str().as_bytes())?;
+    line.extend_from_slice(seal)?;
+    line.push(b'\n')?;
+    Ok(line)
 }
 
 /// Says a text. Where that fails there is no more to say.

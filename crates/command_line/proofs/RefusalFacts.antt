@@ -14,7 +14,7 @@ use Rattle.command_line.specs.declared.command.Requests.TheVariants.{Count, Unti
 use Rattle.command_line.specs.declared.command.ServeWords.{ServeWords}
 use Rattle.command_line.specs.declared.command.VerifyWords.{VerifyWords}
 use Rattle.command_line.specs.Meaning.{HasCompareValues, HasEvidenceValues, HasHistoryValues, HasInitValues, HasRebuildValues, HasServeValues, HasVerifyValues, is_until_stopped}
-use Rattle.command_line.specs.Refusals.{IsRefused, IsTold, NoKeptSeal, NoNumberIn, NoRequests, NoSealGiven, NoneAskedFor}
+use Rattle.command_line.specs.Refusals.{IsRefused, IsTold, NoKeptSeal, NoLineGiven, NoNumberIn, NoRequests, NoSealGiven, NoneAskedFor}
 
 -- two texts that don't compare equal are two
 apart : (a b : Text) → bytes_eq a b ≡ false → a ≢ b
@@ -149,6 +149,11 @@ refused_as_told kinds found error NoMemory has told = tt
 pub no_seal_given : (text : Text) → NoKeptSeal text → NoSealGiven (Some text)
 no_seal_given text none None given = given
 no_seal_given text none (Some kept) given = none kept given
+
+-- a `--line` whose value is no such number gives none
+pub no_line_given : (rows : List Row) (text : Text) → first_of (codes "line") rows ≡ Some text → NoNumberIn 1 18446744073709551615 (one_of (codes "line") rows) → NoLineGiven rows
+no_line_given rows text there none None h = none≢some text (sym h ∙ there)
+no_line_given rows text there none (Some n) h = none n h
 
 -- where both are given, or neither, the words ask for no exchanges
 pub both_given : (rows : List Row) (text : Text) → is_until_stopped rows ≡ true → first_of (codes "requests") rows ≡ Some text → NoRequests rows

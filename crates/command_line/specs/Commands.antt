@@ -1,5 +1,5 @@
 -- The commands of the program, as clap reads them.
-use Rattle.std.specs.Prelude.{[], ◌∷◌, List, Option, String, codes, map, string_bytes, true}
+use Rattle.std.specs.Prelude.{[], ◌∷◌, List, Option, String, codes, map, string_bytes}
 use Rattle.std.specs.declared.alloc.Global.{Global}
 use Rattle.clap.specs.Words.{App, Kinds, Row, Shape, Text, fault_of, new_app, subcommand_of}
 use Rattle.command_line.specs.Parts.{flag_rule, needed_number_rule, needed_rule, number_rule}
@@ -62,11 +62,12 @@ history_app = with_rules (new_app (codes "history")) (needed_rule (codes "journa
     ∷ record (number_rule (codes "since") 1 18446744073709551615) { defaults = codes "1" ∷ [] }
     ∷ flag_rule (codes "json") ∷ [])
 
--- `evidence JOURNAL TEAM PROFILE N`
+-- `evidence JOURNAL TEAM PROFILE N [--line L]`
 abbrev pub evidence_app : App
 evidence_app = with_rules (new_app (codes "evidence")) (needed_rule (codes "journal")
     ∷ needed_rule (codes "team") ∷ needed_rule (codes "profile")
-    ∷ needed_number_rule (codes "revision") 1 9999 ∷ [])
+    ∷ needed_number_rule (codes "revision") 1 9999
+    ∷ number_rule (codes "line") 1 18446744073709551615 ∷ [])
 
 -- the commands, in the order of the help
 abbrev pub commands : List Shape

@@ -140,12 +140,18 @@ pub record HasHistoryValues (rows : List Row) (words : HistoryWords) : Type 0 wh
   pub since : IsNumberIn 1 18446744073709551615 words.since (one_of (codes "since") rows)
   pub json : IsFlag (one_of (codes "json") rows) words.json
 
--- each value of evidence is the one that the rows give for it, the number within its limits
+-- there is no `--line`, or its value is this number, from 1 and of 64 bits
+abbrev pub IsLineGiven : List Row → Option ℕ → Type 0
+IsLineGiven rows None = first_of (codes "line") rows ≡ None
+IsLineGiven rows (Some n) = IsNumberIn 1 18446744073709551615 n (one_of (codes "line") rows)
+
+-- each value of evidence is the one that the rows give for it, the numbers within their limits
 pub record HasEvidenceValues (rows : List Row) (words : EvidenceWords) : Type 0 where
   pub journal : Gives rows (codes "journal") words.journal.now
   pub team : Gives rows (codes "team") words.team.now
   pub profile : Gives rows (codes "profile") words.profile.now
   pub revision : IsNumberIn 1 9999 words.revision (one_of (codes "revision") rows)
+  pub line : IsLineGiven rows words.line
 
 -- the subcommand of this name, with these rows of values, asks for the command
 abbrev pub AsksFor : Text → List Row → Command → Type 0

@@ -10,8 +10,8 @@ use Rattle.command_line.specs.declared.fault.WordsFault.{WordsFault}
 use Rattle.command_line.specs.declared.fault.WordsFault.TheVariants.{Help, Version, Refused}
 use Rattle.command_line.specs.declared.fault.WordsFault.TheVariants.{NoMemory}
 use Rattle.command_line.specs.declared.command.Requests.{Requests}
-use Rattle.command_line.specs.Meaning.{AreRequests, AsksFor, IsCommand, IsKeptSeal, IsNumberIn}
-use Rattle.command_line.specs.Meaning.{IsSealGiven}
+use Rattle.command_line.specs.Meaning.{AreRequests, AsksFor, IsCommand, IsKeptSeal, IsLineGiven}
+use Rattle.command_line.specs.Meaning.{IsNumberIn, IsSealGiven}
 
 -- what is reported of an error of clap's by its kind; out of memory may stand in place of its text
 abbrev pub IsTold : ErrorKind → WordsFault → Type 0
@@ -35,6 +35,10 @@ NoKeptSeal text = (kept : KeptSeal) → ¬ IsKeptSeal text kept
 -- and there is one
 abbrev pub NoSealGiven : Option Text → Type 0
 NoSealGiven given = (seal : Option KeptSeal) → ¬ IsSealGiven given seal
+
+-- there is a `--line`, and its value is no number from 1 and of 64 bits
+abbrev pub NoLineGiven : List Row → Type 0
+NoLineGiven rows = (line : Option ℕ) → ¬ IsLineGiven rows line
 
 -- the subcommand of this name, with these rows of values, asks for no command
 abbrev pub NoneAskedFor : Text → List Row → Type 0

@@ -41,7 +41,8 @@ pub enum Command<'w> {
     /// `history JOURNAL [--team T] [--profile P] [--user U] [--since N] [--json]`: what a journal
     /// tells, a line an event.
     History(HistoryWords<'w>),
-    /// `evidence JOURNAL TEAM PROFILE N`: on what a revision was issued.
+    /// `evidence JOURNAL TEAM PROFILE N [--line L]`: on what a revision was issued, or how its sheet
+    /// stood before an event.
     Evidence(EvidenceWords<'w>),
 }
 
@@ -108,6 +109,8 @@ pub struct EvidenceWords<'w> {
     pub profile: &'w str,
     /// N, the number of the revision, from 1 to 9,999.
     pub revision: u32,
+    /// The L of `--line`, from 1.
+    pub line: Option<u64>,
 }
 
 /// How many exchanges `serve` serves.

@@ -2,11 +2,12 @@
 
 ghost use Rattle.std.specs.Prelude.{◌≡◌, ℕ, IfOk, IfSome, IfNone, false, codes};
 ghost use Rattle.command_line.specs.Commands.{evidence_app};
-ghost use Rattle.command_line.specs.Meaning.{AsksFor, IsNumberIn, value_of, values_of};
+ghost use Rattle.command_line.specs.Meaning.{AsksFor, IsLineGiven, IsNumberIn, value_of, values_of};
 ghost use Rattle.command_line.specs.Parts.{AddsCommand};
-ghost use Rattle.command_line.specs.Refusals.{NoNumberIn, NoneAskedFor};
+ghost use Rattle.command_line.specs.Refusals.{NoLineGiven, NoNumberIn, NoneAskedFor};
 
 use crate::command::{Command, EvidenceWords};
+use crate::line::line_number;
 use crate::parts::{Form, Parameter, add_command};
 use clap::ArgMatches;
 use std::alloc::{AllocError, Global};
@@ -14,19 +15,23 @@ use std::alloc::{AllocError, Global};
 // The greatest number of a revision.
 const LAST_REVISION: u32 = 9_999;
 
-const ABOUT: &str = "Prints on what a revision was issued";
+const ABOUT: &str = "Prints on what a revision was issued, or how its sheet stood before an event";
 
 const EXAMPLES: &str =
     "It is the review sheet of the revision as it was just before its issue, by what JOURNAL tells up to
 there; then who issued it, and the number of the journal's line.
 
+With `--line` it is the sheet as it was just before the event of line L, as an adoption, a withdrawal or
+a hold; then the line by which `history` tells that event: who did it, and what.
+
 Statuses: 0, it prints the sheet; 1, it was refused or failed, which standard error says as
 `office: WORDS`.
 
-Example:
-  office evidence team.journal blue web 2";
+Examples:
+  office evidence team.journal blue web 2
+  office evidence team.journal blue web 2 --line 14";
 
-/// Adds `evidence JOURNAL TEAM PROFILE N`.
+/// Adds `evidence JOURNAL TEAM PROFILE N [--line L]`.
 pub(crate) fn add_evidence<'a>(
     alloc: Global,
     commands: &mut Vec<clap::Command<'a>>,
@@ -58,6 +63,15 @@ pub(crate) fn add_evidence<'a>(
             },
             help: "The number of the revision, from 1 to 9999",
         },
+        Parameter {
+            id: "line",
+            form: Form::Number {
+                shown: "L",
+                low: 1,
+                high: u64::MAX,
+            },
+            help: "The line of the event, in place of the issue",
+        },
     ];
     add_command(alloc, commands, "evidence", ABOUT, EXAMPLES, &parameters)
 }
@@ -77,8 +91,22 @@ fn revision_of(given: &ArgMatches<'_>) -> Option<u32>
     }
 }
 
+// L, where it is given; none where what is given is no number from 1.
+fn line_of(given: &ArgMatches<'_>) -> Option<Option<u64>>
+    ensures line { IfSome result (IsLineGiven (values_of given.now)) }
+    ensures lacking { IfNone result (NoLineGiven (values_of given.now)) }
+{
+    match given.get_str("line") {
+        Some(_) => match line_number(given, "line") {
+            Some(line) => Some(Some(line)),
+            None => None,
+        },
+        None => Some(None),
+    }
+}
+
 /// What `evidence` asks for with these values; none without JOURNAL, TEAM, PROFILE and N, which is
-/// within its limits.
+/// within its limits, as L is where it is given.
 pub(crate) fn evidence_of<'w>(given: &ArgMatches<'w>) -> Option<Command<'w>>
     ensures command { IfSome result (AsksFor (codes "evidence") (values_of given.now)) }
     ensures lacking { IfNone result (NoneAskedFor (codes "evidence") (values_of given.now)) }
@@ -87,10 +115,12 @@ pub(crate) fn evidence_of<'w>(given: &ArgMatches<'w>) -> Option<Command<'w>>
     let team = given.get_str("team")?;
     let profile = given.get_str("profile")?;
     let revision = revision_of(given)?;
+    let line = line_of(given)?;
     Some(Command::Evidence(EvidenceWords {
         journal,
         team,
         profile,
         revision,
+        line,
     }))
 }

@@ -1,12 +1,13 @@
 //! The command `history`.
 
-ghost use Rattle.std.specs.Prelude.{◌≡◌, ℕ, IfOk, IfSome, IfNone, false, codes};
+ghost use Rattle.std.specs.Prelude.{◌≡◌, IfOk, IfSome, IfNone, false, codes};
 ghost use Rattle.command_line.specs.Commands.{history_app};
-ghost use Rattle.command_line.specs.Meaning.{AsksFor, IsNumberIn, value_of, values_of};
+ghost use Rattle.command_line.specs.Meaning.{AsksFor, values_of};
 ghost use Rattle.command_line.specs.Parts.{AddsCommand};
-ghost use Rattle.command_line.specs.Refusals.{NoNumberIn, NoneAskedFor};
+ghost use Rattle.command_line.specs.Refusals.{NoneAskedFor};
 
 use crate::command::{Command, HistoryWords};
+use crate::line::line_number;
 use crate::parts::{Form, Parameter, add_command};
 use clap::ArgMatches;
 use std::alloc::{AllocError, Global};
@@ -73,17 +74,6 @@ pub(crate) fn add_history<'a>(
     add_command(alloc, commands, "history", ABOUT, EXAMPLES, &parameters)
 }
 
-// N, or its default. `clap` takes it from 1 only, and here the value itself is known to be.
-fn since_of(given: &ArgMatches<'_>) -> Option<u64>
-    ensures number { IfSome result (λ n.
-        IsNumberIn 1 18446744073709551615 n (value_of (codes "since") given.now)) }
-    ensures lacking { IfNone result
-        (NoNumberIn 1 18446744073709551615 (value_of (codes "since") given.now)) }
-{
-    let since = given.get_one::<u64>("since")?;
-    if 1 <= since { Some(since) } else { None }
-}
-
 /// What `history` asks for with these values; none without JOURNAL and N, which is within its
 /// limits.
 pub(crate) fn history_of<'w>(given: &ArgMatches<'w>) -> Option<Command<'w>>
@@ -94,7 +84,7 @@ pub(crate) fn history_of<'w>(given: &ArgMatches<'w>) -> Option<Command<'w>>
     let team = given.get_str("team");
     let profile = given.get_str("profile");
     let user = given.get_str("user");
-    let since = since_of(given)?;
+    let since = line_number(given, "since")?;
     let json = given.get_flag("json");
     Some(Command::History(HistoryWords {
         journal,

@@ -13,6 +13,7 @@ mod execve;
 mod fault;
 mod history;
 mod init;
+mod line;
 mod migrate;
 mod parts;
 mod rebuild;

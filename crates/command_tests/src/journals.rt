@@ -121,6 +121,25 @@ fn a_journal_that_is_open_is_busy(rt: HostRuntime) -> Result<(), Fail> {
 }
 
 #[test]
+fn a_file_of_the_journal_is_no_database(rt: HostRuntime) -> Result<(), Fail> {
+    let alloc = rt.alloc();
+    let wanted = "1 office: same-file\n> ";
+    for database in ["apart.journal-wal", "apart.journal-journal"] {
+        let init = founding(alloc, database)?;
+        let desk = format!(in alloc; "office desk {database}")?;
+        let serve = format!(in alloc; "office serve {database} --requests 1")?;
+        for command in [init.as_str(), desk.as_str(), serve.as_str()] {
+            let line = format!(in alloc; "{command} --journal apart.journal")?;
+            assert_said(&rt, &rt, line.as_str(), "", Giving::Whole, wanted)?;
+        }
+        let line = format!(in alloc; "office rebuild {database} apart.journal")?;
+        assert_said(&rt, &rt, line.as_str(), "", Giving::Whole, wanted)?;
+        assert!(rt; !fs::exists(&rt, database)?);
+    }
+    Ok(())
+}
+
+#[test]
 fn a_file_of_the_database_is_no_journal(rt: HostRuntime) -> Result<(), Fail> {
     let alloc = rt.alloc();
     let init = founding(alloc, "apart.db")?;

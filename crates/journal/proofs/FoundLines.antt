@@ -1,5 +1,5 @@
 -- What was written of a line is found in it.
-use Rattle.std.proofs.Common.{◌≡◌, ℕ, zero, suc, ◌/◌, ◌%◌, ◌^◌, ◌<◌, List, [], ◌∷◌, All, Some, Bool, true, false, refl, arith, map, slice_index}
+use Rattle.std.proofs.Common.{◌≡◌, ℕ, zero, suc, ◌/◌, ◌%◌, ◌^◌, ◌<◌, List, [], ◌∷◌, All, Some, None, Bool, true, false, refl, arith, map, slice_index}
 use Rattle.std.specs.Prelude.{◌&&◌, nat_le}
 use Rattle.std.specs.List.{list_all}
 use Rattle.std.proofs.lemmas.Bool.Decides.{nat_tests}
@@ -74,12 +74,12 @@ listed_back listed known = listed_set (items_of (map string (names_of listed))) 
 -- ---- lines
 
 on_profile : (event : List ℕ → ProfileName → Event) (kind : Kind) (caller : List ℕ) (p : ProfileName) → IsWord caller → IsName p
-    → profile_event_at event (of_profile kind caller p) ≡ Some (happened (event caller p))
+    → profile_event_at event (of_profile None kind caller p) ≡ Some (happened (event caller p))
 unfolding profile_event_at caller_at word_at name_at
 on_profile event kind caller p is_caller is_name = rw (is_caller, is_name.0, is_name.1) refl
 
 on_revision : (event : List ℕ → ProfileName → ℕ → Event) (kind : Kind) (caller : List ℕ) (p : ProfileName) (n : ℕ) → IsWord caller → IsName p → IsNumber n
-    → revision_event_at event (of_revision kind caller p n) ≡ Some (happened (event caller p n))
+    → revision_event_at event (of_revision None kind caller p n None) ≡ Some (happened (event caller p n))
 unfolding revision_event_at caller_at word_at name_at revision_at
 on_revision event kind caller p n is_caller is_name is_number = rw (is_caller, is_name.0, is_name.1, number_back n is_number) refl
 

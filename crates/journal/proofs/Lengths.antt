@@ -1,5 +1,5 @@
 -- A line of what the policy allows is no longer than a line can be.
-use Rattle.std.proofs.Common.{inl, inr, ◌≡◌, ℕ, ◌+◌, ◌*◌, ◌≤◌, List, [], ◌∷◌, ◌++◌, length, map, Bool, true, false, ◌∙◌, ◌==◌, Ok, Err, Result, refl, sym, ap, arith, leb-true, le_refl, lit≤, length-append}
+use Rattle.std.proofs.Common.{inl, inr, ◌≡◌, ℕ, ◌+◌, ◌*◌, ◌≤◌, List, [], ◌∷◌, ◌++◌, length, map, None, Bool, true, false, ◌∙◌, ◌==◌, Ok, Err, Result, refl, sym, ap, arith, leb-true, le_refl, lit≤, length-append}
 use Rattle.std.specs.Prelude.{◌&&◌, codes, nat_le}
 use Rattle.std.specs.List.{list_all}
 use Rattle.std.proofs.lemmas.Bool.{and_parts, cases_Bool, cases_lt}
@@ -221,7 +221,7 @@ user_key = refl
 vote_key : length (codes "vote") ≡ 4
 vote_key = refl
 
-of_profile_fits : (kind : Kind) (caller : List ℕ) (p : ProfileName) → IsWord caller → IsName p → room (of_profile kind caller p) ≤ 3000
+of_profile_fits : (kind : Kind) (caller : List ℕ) (p : ProfileName) → IsWord caller → IsName p → room (of_profile None kind caller p) ≤ 3000
 of_profile_fits kind caller p who name =
     omega (
       arith,
@@ -235,7 +235,7 @@ of_profile_fits kind caller p who name =
       team_key,
     )
 
-of_revision_fits : (kind : Kind) (caller : List ℕ) (p : ProfileName) (n : ℕ) → IsWord caller → IsName p → IsNumber n → room (of_revision kind caller p n) ≤ 20000
+of_revision_fits : (kind : Kind) (caller : List ℕ) (p : ProfileName) (n : ℕ) → IsWord caller → IsName p → IsNumber n → room (of_revision None kind caller p n None) ≤ 20000
 of_revision_fits kind caller p n who name numbered =
     omega (
       arith,

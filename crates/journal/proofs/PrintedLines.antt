@@ -1,5 +1,5 @@
 -- The text of a line, read as JSON, is the value that was written.
-use Rattle.std.proofs.Common.{◌≡◌, ℕ, ◌+◌, ◌<◌, List, [], ◌∷◌, All, map, Some, Bool, true, false, cond, refl, arith, lit≤, lt-ltb}
+use Rattle.std.proofs.Common.{◌≡◌, ℕ, ◌+◌, ◌<◌, List, [], ◌∷◌, All, map, Some, None, Bool, true, false, cond, refl, arith, lit≤, lt-ltb}
 use Rattle.std.specs.Prelude.{codes, IsUtf8, filter, ◌==◌}
 use Rattle.std.specs.Int.{bit_at}
 use Rattle.std.specs.List.{list_all}
@@ -134,7 +134,7 @@ number_part name n rest plain h others = list_part name (number (unsigned n)) re
 
 -- ---- lines
 
-profile_prints : (kind : Kind) (caller : List ℕ) (p : ProfileName) → IsWord caller → IsName p → Prints 2 (of_profile kind caller p)
+profile_prints : (kind : Kind) (caller : List ℕ) (p : ProfileName) → IsWord caller → IsName p → Prints 2 (of_profile None kind caller p)
 profile_prints kind caller p is_caller is_name =
     object_prints 1 _
     (text_part (codes "by") caller _ refl (word_utf8 caller is_caller)
@@ -148,7 +148,7 @@ revision_back : (kind caller profile team : List ℕ) (n : Data) → of_json (ou
     ≡ Some (object (member (codes "by") (string caller) (member (codes "event") (string kind) (member (codes "profile") (string profile) (member (codes "revision") n (member (codes "team") (string team) no_members))))))
 revision_back kind caller profile team n is = rw is refl
 
-of_revision_prints : (kind : Kind) (caller : List ℕ) (p : ProfileName) (n : ℕ) → IsWord caller → IsName p → IsNumber n → Prints 2 (of_revision kind caller p n)
+of_revision_prints : (kind : Kind) (caller : List ℕ) (p : ProfileName) (n : ℕ) → IsWord caller → IsName p → IsNumber n → Prints 2 (of_revision None kind caller p n None)
 of_revision_prints kind caller p n is_caller is_name is_number =
     object_prints 1 _
     (text_part (codes "by") caller _ refl (word_utf8 caller is_caller)

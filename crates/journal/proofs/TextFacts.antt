@@ -1,40 +1,70 @@
--- The text of a line is the one that JSON has for it, since no part of it is a float.
-use Rattle.std.proofs.Common.{◌≡◌, ◌∙◌, ℕ, List, [], ◌∷◌, ◌++◌, Result, Ok, Err, map, false, refl, sym, ap, append_assoc, append-nil}
-use Rattle.std.specs.Prelude.{IfOk, String, string_bytes}
-use Rattle.serde_json.specs.Data.{Data, string}
-use Rattle.serde_json.specs.View.{items_of}
-use Rattle.serde_json.specs.Written.{has_float, items_have_float, compact_text}
-use Rattle.cap_sets.specs.Capability.{names_of}
-use Rattle.office_policy.specs.History.{founded, enrolled, submitted, voted, issued, withdrawn, adopted, held, released}
-use Rattle.journal.specs.Lines.{Line, happened, strike, line_data, role_words, text_of}
+-- Lines that are written token by token.
+use Rattle.std.proofs.Common.{◌≡◌, ◌∙◌, ℕ, ◌+◌, ◌<◌, ◌≤◌, List, [], ◌∷◌, ◌++◌, Option, Some, None, option_map, length, get_or, drop, map, true, false, cond, refl, sym, ap, append_assoc}
+use Rattle.std.proofs.lemmas.List.{drop_all, drop_more}
+use Rattle.std.specs.Prelude.{codes, filter}
+use Rattle.hex.specs.Hex.{encode_lower}
+use Rattle.json.specs.Token.{Token}
+use Rattle.json.specs.Tree.{members_tokens}
+use Rattle.json.specs.Written.{Written}
+use Rattle.serde_json.specs.Data.{Members, no_members, string}
+use Rattle.serde_json.specs.Written.{members_outline}
+use Rattle.json_tree.specs.Tokens.{Appends, member_tokens, open_tokens}
+use Rattle.json_tree.proofs.Writing.{Leaves, all_tokens, leaves_none}
+use Rattle.review_policy.specs.Role.{has_role}
+use Rattle.review_policy.specs.WordTables.{role_word}
+use Rattle.review_policy.specs.declared.role.Role.{Role}
+use Rattle.journal.specs.declared.kind.Kind.{Kind}
+use Rattle.journal.specs.Lines.{deed_members, kind_members, words_among}
 
-no_float_texts : (texts : List (List ℕ)) → items_have_float (items_of (map string texts)) ≡ false
-no_float_texts [] = refl
-no_float_texts (text ∷ texts) = no_float_texts texts
+-- ---- members that other members follow
 
-no_float : (l : Line) → has_float (line_data l) ≡ false
-no_float (happened (founded name team digest listed)) = rw (no_float_texts (names_of listed)) refl
-no_float (happened (enrolled caller name team roles digest)) = rw (no_float_texts (role_words roles)) refl
-no_float (happened (submitted caller p text)) = refl
-no_float (happened (voted caller p n digest approves)) = refl
-no_float (happened (issued caller p n)) = refl
-no_float (happened (withdrawn caller p n)) = refl
-no_float (happened (adopted caller p n)) = refl
-no_float (happened (held caller p)) = refl
-no_float (happened (released caller p)) = refl
-no_float strike = refl
+abbrev rest_tokens : Members → List Token
+rest_tokens ms = members_tokens (members_outline ms)
 
-pub text_is : {Z E : Type 0} (d : Data) (l : Line) (r : Result (String Z) E) → d ≡ line_data l → IfOk r (λ text. has_float d ≡ false → string_bytes text ≡ compact_text d)
-    → IfOk r (λ text. string_bytes text ≡ text_of l)
-unfolding text_of
-text_is d l (Ok text) e h = rw e at (h (rw e (no_float l)))
-text_is d l (Err refused) e h = tt
+pub kind_first : (kind : Kind) (line : Option ℕ) (rest : Members) → rest_tokens (kind_members kind line rest) ≡ open_tokens (kind_members kind line no_members) ++ rest_tokens rest
+kind_first kind None rest = refl
+kind_first kind (Some n) rest = refl
 
--- with one more name written, what is left is less by it
-pub name_more : (name : List ℕ) (rest : List (List ℕ)) (left : List (List ℕ)) (old new all : List Data) → left ≡ name ∷ rest
-    → old ++ map string left ≡ all → new ≡ old ++ string name ∷ [] → new ++ map string rest ≡ all
-name_more name rest left old new all is before one =
-    ap (λ xs. xs ++ map string rest) one ∙ append_assoc old (string name ∷ []) (map string rest) ∙ ap (λ xs. old ++ map string xs) (sym is) ∙ before
+pub deed_first : (caller : List ℕ) (digest : Option (List ℕ)) (kind : Kind) (line : Option ℕ) (rest : Members)
+    → rest_tokens (deed_members caller digest kind line rest) ≡ open_tokens (deed_members caller digest kind line no_members) ++ rest_tokens rest
+deed_first caller None kind None rest = refl
+deed_first caller None kind (Some n) rest = refl
+deed_first caller (Some digest) kind None rest = refl
+deed_first caller (Some digest) kind (Some n) rest = refl
 
-pub names_end : (left : List (List ℕ)) (old all : List Data) → left ≡ [] → old ++ map string left ≡ all → old ≡ all
-names_end left old all none before = sym (append-nil old) ∙ ap (λ xs. old ++ map string xs) (sym none) ∙ before
+-- who did what is a caller, a digest where there is one, and a kind
+pub deed_tokens : {A : Type 0} (f : A → List ℕ) (caller : List ℕ) (digest : Option A) (kind : Kind) (line : Option ℕ)
+    → open_tokens (deed_members caller (option_map f digest) kind line no_members)
+    ≡ Token.key (codes "by") ∷ Token.string caller ∷ (member_tokens (codes "digest") (option_map (λ d. string (encode_lower (f d))) digest) ++ open_tokens (kind_members kind line no_members))
+deed_tokens f caller None kind line = refl
+deed_tokens f caller (Some digest) kind line = refl
+
+-- ---- the words of roles
+
+role_step : (roles : ℕ) (r : Role) (rest : List Role) → all_tokens string (words_among roles (r ∷ rest)) ≡ all_tokens string (words_among roles (r ∷ [])) ++ all_tokens string (words_among roles rest)
+role_step roles r rest =
+    elim (has_role roles r) as (λ b. all_tokens string (map role_word (cond b (r ∷ filter (has_role roles) rest) (filter (has_role roles) rest)))
+    ≡ all_tokens string (map role_word (cond b (r ∷ []) [])) ++ all_tokens string (map role_word (filter (has_role roles) rest))) [
+      | true ↦ refl
+      | false ↦ refl
+    ]
+
+-- with one more written, what is left is less by it
+pub role_written : (roles : ℕ) (among : List Role) (i : ℕ) (d : Role) {a b c : Written} → i < length among
+    → Leaves string (words_among roles among) (words_among roles (drop i among)) a b → Appends b c (all_tokens string (words_among roles (get_or among i d ∷ [])))
+    → Leaves string (words_among roles among) (words_among roles (drop (i + 1) among)) a c
+role_written roles among i d {a} {b} {c} lt before more =
+    let r = get_or among i d in
+    let rest = all_tokens string (words_among roles (drop (i + 1) among)) in
+    record {
+      before = more.before ∙ before.before;
+      tokens =
+          ap (λ ts. ts ++ rest) more.tokens
+          ∙ append_assoc b.tokens (all_tokens string (words_among roles (r ∷ []))) rest
+          ∙ ap (λ ts. b.tokens ++ ts) (sym (role_step roles r (drop (i + 1) among)) ∙ ap (λ rs. all_tokens string (words_among roles rs)) (sym (drop_more among i d lt)))
+          ∙ before.tokens;
+    }
+
+pub roles_written : (roles : ℕ) (among : List Role) (i : ℕ) {a b : Written} → length among ≤ i
+    → Leaves string (words_among roles among) (words_among roles (drop i among)) a b → Appends a b (all_tokens string (words_among roles among))
+roles_written roles among i ge before = leaves_none before (ap (words_among roles) (drop_all i among ge))

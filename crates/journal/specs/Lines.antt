@@ -1,9 +1,11 @@
 -- The lines of a journal: compact JSON, with the members of each object in byte order of their
--- names.
-use Rattle.std.specs.Prelude.{ℕ, List, ◌∷◌, [], map, filter, if◌then◌else◌, codes}
-use Rattle.serde_json.specs.Data.{Data, string, object, Members, no_members, member}
+-- names. What happened has the number of its line where it is told, and none in the journal.
+use Rattle.std.specs.Prelude.{Bool, ℕ, List, Option, Some, None, map, filter, option_map, codes}
+use Rattle.hex.specs.Hex.{encode_lower}
+use Rattle.serde_json.specs.Data.{Data, string, number, unsigned, object, Members, no_members}
+use Rattle.serde_json.specs.Data.{member}
 use Rattle.serde_json.specs.Written.{compact_text}
-use Rattle.profile_text.specs.Text.{set_data, texts_data}
+use Rattle.profile_text.specs.Text.{member_if, set_data, texts_data}
 use Rattle.review_policy.specs.Role.{has_role}
 use Rattle.review_policy.specs.WordTables.{all_roles, role_word}
 use Rattle.review_policy.specs.declared.ask.ProfileName.{ProfileName}
@@ -31,70 +33,84 @@ words_among roles among = map role_word (filter (has_role roles) among)
 abbrev pub role_words : ℕ → List (List ℕ)
 role_words roles = words_among roles all_roles
 
--- the word of a role, where it is in a set
-abbrev pub role_data : ℕ → Role → List Data
-role_data roles role = if has_role roles role then string (role_word role) ∷ [] else []
+-- the kind of what happened, and where it is told the number of its line
+abbrev pub kind_members : Kind → Option ℕ → Members → Members
+kind_members kind line ms =
+    text_member (codes "event") (kind_word kind)
+    (member_if (codes "line") (option_map (λ n. number (unsigned n)) line) ms)
 
--- the member that names the kind
-abbrev pub kind_member : Kind → Members → Members
-kind_member kind ms = text_member (codes "event") (kind_word kind) ms
+-- who did what, with a digest where there is one
+abbrev pub deed_members : (caller : List ℕ) → Option (List ℕ) → Kind → (line : Option ℕ) → Members
+    → Members
+deed_members caller digest kind line ms =
+    text_member (codes "by") caller
+    (member_if (codes "digest") (option_map (λ d. string (encode_lower d)) digest)
+    (kind_members kind line ms))
+
+-- a profile
+abbrev pub profile_members : ProfileName → Members → Members
+profile_members p ms =
+    text_member (codes "profile") p.profile (text_member (codes "team") p.team ms)
+
+-- a revision
+abbrev pub revision_members : ProfileName → ℕ → Members → Members
+revision_members p n ms =
+    text_member (codes "profile") p.profile
+    (number_member (codes "revision") n (text_member (codes "team") p.team ms))
+
+-- a user
+abbrev pub user_members : (name team : List ℕ) → Members → Members
+user_members name team ms = text_member (codes "team") team (text_member (codes "user") name ms)
 
 -- what happened to a profile, by this caller
-abbrev pub of_profile : Kind → List ℕ → ProfileName → Data
-of_profile kind caller p =
-    object (text_member (codes "by") caller
-    (kind_member kind
-    (text_member (codes "profile") p.profile
-    (text_member (codes "team") p.team no_members))))
+abbrev pub of_profile : Option ℕ → Kind → List ℕ → ProfileName → Data
+of_profile line kind caller p =
+    object (deed_members caller None kind line (profile_members p no_members))
 
 -- what happened to a revision, by this caller
-abbrev pub of_revision : Kind → List ℕ → ProfileName → ℕ → Data
-of_revision kind caller p n =
-    object (text_member (codes "by") caller
-    (kind_member kind
-    (text_member (codes "profile") p.profile
-    (number_member (codes "revision") n
-    (text_member (codes "team") p.team no_members)))))
+abbrev pub of_revision : Option ℕ → Kind → List ℕ → ProfileName → ℕ → Option (List ℕ) → Data
+of_revision line kind caller p n digest =
+    object (deed_members caller digest kind line (revision_members p n no_members))
+
+-- a founding
+abbrev pub founding_data : Option ℕ → (name team digest : List ℕ) → ℕ → Data
+founding_data line name team digest listed =
+    object (digest_member digest
+    (kind_members Found line
+    (member (codes "listed") (set_data listed) (user_members name team no_members))))
+
+-- an enrolment
+abbrev pub enrolment_data : Option ℕ → (caller name team : List ℕ) → ℕ → List ℕ → Data
+enrolment_data line caller name team roles digest =
+    object (deed_members caller (Some digest) Enrol line
+    (member (codes "roles") (texts_data (role_words roles)) (user_members name team no_members)))
+
+-- a vote
+abbrev pub vote_data : Option ℕ → List ℕ → ProfileName → ℕ → List ℕ → Bool → Data
+vote_data line caller p n digest approves =
+    object (deed_members caller (Some digest) Vote line
+    (revision_members p n (text_member (codes "vote") (vote_word approves) no_members)))
 
 -- what happened, as JSON
 abbrev pub event_data : Event → Data
-event_data (founded name team digest listed) =
-    object (digest_member digest
-    (kind_member Found
-    (member (codes "listed") (set_data listed)
-    (text_member (codes "team") team
-    (text_member (codes "user") name no_members)))))
+event_data (founded name team digest listed) = founding_data None name team digest listed
 event_data (enrolled caller name team roles digest) =
-    object (text_member (codes "by") caller
-    (digest_member digest
-    (kind_member Enrol
-    (member (codes "roles") (texts_data (role_words roles))
-    (text_member (codes "team") team
-    (text_member (codes "user") name no_members))))))
+    enrolment_data None caller name team roles digest
 event_data (submitted caller p text) =
     object (text_member (codes "by") caller
     (text_member (codes "document") text
-    (kind_member Submit
-    (text_member (codes "profile") p.profile
-    (text_member (codes "team") p.team no_members)))))
-event_data (voted caller p n digest approves) =
-    object (text_member (codes "by") caller
-    (digest_member digest
-    (kind_member Vote
-    (text_member (codes "profile") p.profile
-    (number_member (codes "revision") n
-    (text_member (codes "team") p.team
-    (text_member (codes "vote") (vote_word approves) no_members)))))))
-event_data (issued caller p n) = of_revision Issue caller p n
-event_data (withdrawn caller p n) = of_revision Withdraw caller p n
-event_data (adopted caller p n) = of_revision Adopt caller p n
-event_data (held caller p) = of_profile Hold caller p
-event_data (released caller p) = of_profile Release caller p
+    (kind_members Submit None (profile_members p no_members))))
+event_data (voted caller p n digest approves) = vote_data None caller p n digest approves
+event_data (issued caller p n) = of_revision None Issue caller p n None
+event_data (withdrawn caller p n) = of_revision None Withdraw caller p n None
+event_data (adopted caller p n) = of_revision None Adopt caller p n None
+event_data (held caller p) = of_profile None Hold caller p
+event_data (released caller p) = of_profile None Release caller p
 
 -- a line, as JSON
 abbrev pub line_data : Line → Data
 line_data (happened e) = event_data e
-line_data strike = object (kind_member Strike no_members)
+line_data strike = object (kind_members Strike None no_members)
 
 -- the text of a line, which is the body of a sealed one
 unfoldable pub text_of : Line → List ℕ

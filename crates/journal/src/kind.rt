@@ -5,7 +5,7 @@ ghost use Rattle.journal.specs.Kinds.{kind_of, kind_word};
 
 /// What a line says that happened, or that it strikes out the line before it.
 #[derive(Clone, Copy)]
-pub(crate) enum Kind {
+pub enum Kind {
     Found,
     Enrol,
     Submit,
@@ -20,7 +20,7 @@ pub(crate) enum Kind {
 
 impl Kind {
     /// Its word.
-    pub(crate) fn word(self) -> &'static str
+    pub fn word(self) -> &'static str
         ensures { result.now ≡ kind_word self }
     {
         match self {
@@ -38,7 +38,7 @@ impl Kind {
     }
 
     /// The kind of this word; `None` where it is no kind's.
-    pub(crate) fn from_word(text: &str) -> Option<Kind>
+    pub fn from_word(text: &str) -> Option<Kind>
         ensures { result ≡ kind_of text.now }
     {
         match text {

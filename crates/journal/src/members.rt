@@ -1,116 +1,266 @@
-//! Members of what happened, as JSON: those that the lines of a journal share with what is told of
-//! one.
+//! What happened, as JSON that is written a token at a time: what the lines of a journal share with
+//! what is told of one. Where it is told, it has the number of its line.
 
-ghost use Rattle.std.specs.Prelude.{◌≡◌, ◌∷◌, [], ◌++◌, IfOk, OnOk, codes, map};
-ghost use Rattle.serde_json.specs.Data.{put as with_member, string};
-ghost use Rattle.serde_json.specs.View.{view, members_view};
-ghost use Rattle.cap_sets.specs.Capability.{names_of};
+ghost use Rattle.std.specs.Prelude.{◌∷◌, [], OnOk, Some, codes, flat_map, option_map};
+ghost use Rattle.hex.specs.Hex.{encode_lower};
+ghost use Rattle.serde_json.specs.Data.{no_members, string};
+ghost use Rattle.json_tree.specs.Tokens.{Appends, member_tokens, open_tokens, tokens_of};
 ghost use Rattle.profile_text.specs.Text.{set_data, texts_data};
-ghost use Rattle.journal.specs.Lines.{role_data, role_words, words_among};
+ghost use Rattle.journal.specs.Lines.{deed_members, enrolment_data, founding_data, kind_members};
+ghost use Rattle.journal.specs.Lines.{of_profile, of_revision, profile_members, revision_members};
+ghost use Rattle.journal.specs.Lines.{role_words, user_members, vote_data, words_among};
 
+use crate::kind::Kind;
 use cap_sets::Caps;
-use json_requests::object::with_text;
+use json::Writer;
+use json_requests::write::{write_digest, write_number, write_text};
 use review_policy::{ProfileName, Role, Roles, Word};
-use serde_json::{Map, ToValue, Value};
+use review_sheet::vote_word;
 use std::alloc::{AllocError, Global};
 
-// One text more.
-fn push_text(alloc: Global, texts: &mut Vec<Value>, text: &str) -> Result<(), AllocError>
-    ensures { OnOk result (map view texts.new.items
-        ≡ map view texts.old.items ++ string text.now ∷ []) }
-{
-    let value = text.to_value(alloc)?;
-    texts.push(value)?;
-    Ok(())
-}
-
-/// The names of capabilities, as an array.
+/// The kind of what happened, and the number of a line where there is one.
 ///
 /// # Errors
 ///
 /// Memory was refused. No contract can say when.
-pub fn names_value(alloc: Global, caps: Caps) -> Result<Value, AllocError>
-    ensures { IfOk result (λ v. view v ≡ set_data caps) }
+pub(crate) fn write_kind(out: &mut Writer, kind: Kind, line: Option<u64>) -> Result<(), AllocError>
+    ensures { OnOk result (Appends out.old out.new
+        (open_tokens (kind_members kind line no_members))) }
 {
-    let mut texts = Vec::new(alloc);
-    for name in caps.names() {
-        push_text(alloc, &mut texts, name)?;
+    write_text(out, "event", kind.word())?;
+    match line {
+        Some(line) => write_number(out, "line", line),
+        None => Ok(()),
     }
-    Ok(Value::Array(texts))
+}
+
+// A digest, where there is one.
+fn write_digest_if(
+    out: &mut Writer,
+    alloc: Global,
+    digest: Option<&[u8; 32]>,
+) -> Result<(), AllocError>
+    ensures { OnOk result (Appends out.old out.new (member_tokens (codes "digest")
+        (option_map (λ d. string (encode_lower d.now)) digest.entry))) }
+{
+    match digest {
+        Some(digest) => write_digest(out, alloc, digest),
+        None => Ok(()),
+    }
+}
+
+// Who did what, with a digest where there is one.
+fn write_deed(
+    out: &mut Writer,
+    alloc: Global,
+    caller: &Word,
+    digest: Option<&[u8; 32]>,
+    kind: Kind,
+    line: Option<u64>,
+) -> Result<(), AllocError>
+    ensures { OnOk result (Appends out.old out.new (open_tokens
+        (deed_members caller.now (option_map (λ d. d.now) digest.entry) kind line no_members))) }
+{
+    write_text(out, "by", caller.as_str())?;
+    write_digest_if(out, alloc, digest)?;
+    write_kind(out, kind, line)
+}
+
+/// A profile.
+///
+/// # Errors
+///
+/// Memory was refused. No contract can say when.
+pub(crate) fn write_profile(out: &mut Writer, name: &ProfileName) -> Result<(), AllocError>
+    ensures { OnOk result (Appends out.old out.new
+        (open_tokens (profile_members name.now no_members))) }
+{
+    write_text(out, "profile", name.profile.as_str())?;
+    write_text(out, "team", name.team.as_str())
+}
+
+// A revision.
+fn write_revision(out: &mut Writer, name: &ProfileName, number: u64) -> Result<(), AllocError>
+    ensures { OnOk result (Appends out.old out.new
+        (open_tokens (revision_members name.now number no_members))) }
+{
+    write_text(out, "profile", name.profile.as_str())?;
+    write_number(out, "revision", number)?;
+    write_text(out, "team", name.team.as_str())
+}
+
+// A user.
+fn write_user(out: &mut Writer, user: &Word, team: &Word) -> Result<(), AllocError>
+    ensures { OnOk result (Appends out.old out.new
+        (open_tokens (user_members user.now team.now no_members))) }
+{
+    write_text(out, "team", team.as_str())?;
+    write_text(out, "user", user.as_str())
+}
+
+// The names of capabilities.
+fn write_listed(out: &mut Writer, listed: Caps) -> Result<(), AllocError>
+    ensures { OnOk result (Appends out.old out.new
+        (member_tokens (codes "listed") (Some (set_data listed)))) }
+{
+    out.key("listed")?;
+    out.begin_array()?;
+    for name in listed.names() {
+        out.string(name)?;
+    }
+    out.end_array()
 }
 
 // The word of a role, where it is one of these.
-fn push_role(
-    alloc: Global,
-    texts: &mut Vec<Value>,
-    roles: Roles,
-    role: &Role,
-) -> Result<(), AllocError>
-    ensures { OnOk result (map view texts.new.items
-        ≡ map view texts.old.items ++ role_data roles role.now) }
+fn write_role(out: &mut Writer, roles: Roles, role: Role) -> Result<(), AllocError>
+    ensures { OnOk result (Appends out.old out.new
+        (flat_map (λ word. tokens_of (string word)) (words_among roles (role ∷ [])))) }
 {
-    if roles.has(*role) {
-        push_text(alloc, texts, role.word())
+    if roles.has(role) {
+        out.string(role.word())
     } else {
         Ok(())
     }
 }
 
 // The words of those of these roles that are in the set.
-fn role_words_among(alloc: Global, roles: Roles, among: &[Role]) -> Result<Value, AllocError>
-    ensures { IfOk result (λ v. view v ≡ texts_data (words_among roles among.now)) }
+fn write_among(out: &mut Writer, roles: Roles, among: &[Role]) -> Result<(), AllocError>
+    ensures { OnOk result (Appends out.old out.new
+        (tokens_of (texts_data (words_among roles among.now)))) }
 {
-    let mut texts = Vec::new(alloc);
+    out.begin_array()?;
     for role in among {
-        push_role(alloc, &mut texts, roles, role)?;
+        write_role(out, roles, *role)?;
     }
-    Ok(Value::Array(texts))
+    out.end_array()
 }
 
-/// The words of roles, as an array.
-///
-/// # Errors
-///
-/// Memory was refused. No contract can say when.
-pub fn roles_value(alloc: Global, roles: Roles) -> Result<Value, AllocError>
-    ensures { IfOk result (λ v. view v ≡ texts_data (role_words roles)) }
+// The words of roles.
+fn write_roles(out: &mut Writer, roles: Roles) -> Result<(), AllocError>
+    ensures { OnOk result (Appends out.old out.new
+        (member_tokens (codes "roles") (Some (texts_data (role_words roles))))) }
 {
-    role_words_among(alloc, roles, Role::ALL.as_slice())
+    out.key("roles")?;
+    write_among(out, roles, Role::ALL.as_slice())
 }
 
-/// An object with two more members, a user and the team.
+/// A founding.
 ///
 /// # Errors
 ///
 /// Memory was refused. No contract can say when.
-pub fn with_user(
+pub fn write_founding(
+    out: &mut Writer,
     alloc: Global,
-    object: Map<String, Value>,
+    line: Option<u64>,
     user: &Word,
     team: &Word,
-) -> Result<Map<String, Value>, AllocError>
-    ensures { IfOk result (λ m. members_view m.entries
-        ≡ with_member (codes "user") (string user.now)
-        (with_member (codes "team") (string team.now) (members_view object.entries))) }
+    digest: &[u8; 32],
+    listed: Caps,
+) -> Result<(), AllocError>
+    ensures { OnOk result (Appends out.old out.new
+        (tokens_of (founding_data line user.now team.now digest.now listed))) }
 {
-    let object = with_text(alloc, object, "team", team.as_str())?;
-    with_text(alloc, object, "user", user.as_str())
+    out.begin_object()?;
+    write_digest(out, alloc, digest)?;
+    write_kind(out, Kind::Found, line)?;
+    write_listed(out, listed)?;
+    write_user(out, user, team)?;
+    out.end_object()
 }
 
-/// An object with two more members, the team and the name of a profile.
+/// An enrolment.
 ///
 /// # Errors
 ///
 /// Memory was refused. No contract can say when.
-pub fn with_profile(
+pub fn write_enrolment(
+    out: &mut Writer,
     alloc: Global,
-    object: Map<String, Value>,
-    name: &ProfileName,
-) -> Result<Map<String, Value>, AllocError>
-    ensures { IfOk result (λ m. members_view m.entries
-        ≡ with_member (codes "team") (string name.now.team)
-        (with_member (codes "profile") (string name.now.profile) (members_view object.entries))) }
+    line: Option<u64>,
+    caller: &Word,
+    user: &Word,
+    team: &Word,
+    roles: Roles,
+    digest: &[u8; 32],
+) -> Result<(), AllocError>
+    ensures { OnOk result (Appends out.old out.new
+        (tokens_of (enrolment_data line caller.now user.now team.now roles digest.now))) }
 {
-    let object = with_text(alloc, object, "profile", name.profile.as_str())?;
-    with_text(alloc, object, "team", name.team.as_str())
+    out.begin_object()?;
+    write_deed(out, alloc, caller, Some(digest), Kind::Enrol, line)?;
+    write_roles(out, roles)?;
+    write_user(out, user, team)?;
+    out.end_object()
+}
+
+/// What happened to a profile.
+///
+/// # Errors
+///
+/// Memory was refused. No contract can say when.
+pub fn write_on_profile(
+    out: &mut Writer,
+    line: Option<u64>,
+    kind: Kind,
+    caller: &Word,
+    name: &ProfileName,
+) -> Result<(), AllocError>
+    ensures { OnOk result (Appends out.old out.new
+        (tokens_of (of_profile line kind caller.now name.now))) }
+{
+    out.begin_object()?;
+    write_text(out, "by", caller.as_str())?;
+    write_kind(out, kind, line)?;
+    write_profile(out, name)?;
+    out.end_object()
+}
+
+/// What happened to a revision, with a digest where one is given.
+///
+/// # Errors
+///
+/// Memory was refused. No contract can say when.
+pub fn write_on_revision(
+    out: &mut Writer,
+    alloc: Global,
+    line: Option<u64>,
+    kind: Kind,
+    caller: &Word,
+    name: &ProfileName,
+    number: u64,
+    digest: Option<&[u8; 32]>,
+) -> Result<(), AllocError>
+    ensures { OnOk result (Appends out.old out.new (tokens_of
+        (of_revision line kind caller.now name.now number (option_map (λ d. d.now) digest.entry)))) }
+{
+    out.begin_object()?;
+    write_deed(out, alloc, caller, digest, kind, line)?;
+    write_revision(out, name, number)?;
+    out.end_object()
+}
+
+/// A vote.
+///
+/// # Errors
+///
+/// Memory was refused. No contract can say when.
+pub fn write_vote(
+    out: &mut Writer,
+    alloc: Global,
+    line: Option<u64>,
+    caller: &Word,
+    name: &ProfileName,
+    number: u64,
+    digest: &[u8; 32],
+    approves: bool,
+) -> Result<(), AllocError>
+    ensures { OnOk result (Appends out.old out.new
+        (tokens_of (vote_data line caller.now name.now number digest.now approves))) }
+{
+    out.begin_object()?;
+    write_deed(out, alloc, caller, Some(digest), Kind::Vote, line)?;
+    write_revision(out, name, number)?;
+    write_text(out, "vote", vote_word(approves))?;
+    out.end_object()
 }

@@ -1,6 +1,5 @@
 pub mod Adding
 pub mod JsonExamples
-pub mod JsonFacts
 pub mod LineExamples
 pub mod Looks
 pub mod Searching

@@ -1,16 +1,16 @@
--- The evidence of an issue, looked for event by event.
-use Rattle.std.proofs.Common.{◌≡◌, ◌∙◌, ◌++◌, ℕ, List, [], ◌∷◌, append-nil, Bool, false, Option, Some, None, Result, Ok, Err, refl, sym, ap, subst}
-use Rattle.std.specs.Prelude.{IfSome, IsErrAnd, ◌||◌, option_and_then}
-use Rattle.std.specs.List.{list_any}
+-- The evidence of an event, looked for event by event.
+use Rattle.std.proofs.Common.{◌≡◌, ◌∙◌, ◌++◌, ℕ, List, [], ◌∷◌, append-nil, true, false, Option, Some, None, Result, Ok, Err, refl, sym, ap, subst}
+use Rattle.std.proofs.lemmas.List.Elements.{All-cons, All-nil}
+use Rattle.std.specs.Prelude.{IfErr, IfOk, IfSome, IsErrAnd, is_none, option_map}
 use Rattle.sqlite.specs.Held.{Held}
 use Rattle.sqlite.specs.Store.{Ghosts}
 use Rattle.review_policy.specs.declared.fault.Fault.{Fault}
 use Rattle.review_policy.specs.declared.ask.ProfileName.{ProfileName}
-use Rattle.office_policy.specs.History.{Event, founded, enrolled, submitted, voted, issued, withdrawn, adopted, held, released}
-use Rattle.office_policy.specs.Lawful.{IsAllowed, IsFounding}
+use Rattle.office_tables.specs.declared.row.RevisionRow.{RevisionRow}
+use Rattle.office_policy.specs.History.{Event, History}
 use Rattle.office_policy.specs.Meaning.{Meaning}
-use Rattle.office_policy.specs.Revisions.{issues}
-use Rattle.office_desk.specs.Looking.{HasLookedBack, sheet_at}
+use Rattle.office_policy.specs.Revisions.{revision_of}
+use Rattle.office_desk.specs.Looking.{HasLookedBack, sheet_at, sheet_text_of}
 use Rattle.office_desk.specs.Meant.{meaning_over}
 use Rattle.office_desk.specs.Replayed.{HasHappened}
 use Rattle.journal.specs.Journal.{IsJournalOf}
@@ -20,199 +20,211 @@ use Rattle.journal_office.specs.declared.refused.Refused.{Refused}
 use Rattle.journal_office.specs.Rebuilt.{HasReplayed}
 use Rattle.journal_office.specs.Steps.{IsKeptOut, IsLeftBehind}
 use Rattle.journal_office.proofs.Refusals.{kept_out, none_behind}
-use Rattle.journal_office.proofs.Replays.{more, told_more}
+use Rattle.journal_office.proofs.Replays.{more}
 use Rattle.journal_reports.specs.declared.fault.NoEvidence.{NoEvidence}
 use Rattle.journal_reports.specs.declared.fault.NoEvidence.TheVariants as why
-use Rattle.journal_reports.specs.Evidence.{IsEvidence, IsNeverIssued, IsNoEvidence, evidence_of, evidence_text, issuer_of}
-use Rattle.journal_reports.specs.Steps.{HasPassed, HasSeen, IsInVain, IsUnissued, Looks, LooksInVain, Searches, Steps, evidence_at}
-use Rattle.journal_reports.proofs.Looks.{has_evidence, issue_is, looked_on, no_issue}
+use Rattle.journal_reports.specs.Evidence.{IsNever, IsNoEvidence, ending_of, evidence_of, is_wanted, issue_text, none_of}
+use Rattle.journal_reports.specs.Lines.{line_of, text_of}
+use Rattle.journal_reports.specs.Steps.{HasSeen, IsInVain, Looks, LooksInVain, NoneWanted, Searches}
+use Rattle.journal_reports.specs.Writing.{HasLookedUp, HasMet}
+use Rattle.journal_reports.proofs.Looks.{looked_on}
 
-module _ {X : Type 0} (m : Meaning X) (bytes : Option (List ℕ)) (p : ProfileName) (n : ℕ) where
-  -- ---- a look
+module _ {X : Type 0} (m : Meaning X) (bytes : Option (List ℕ)) where
+  -- ---- what stands below a sheet
 
-  module _ (here : Place) (es : List (ℕ × Event)) (old new : X) (placed : ℕ × Event) (before : HasReplayed bytes m here es old) where
-    -- the event is no issue of the revision
-    pub looked_past : (found : Option (List ℕ)) → new ≡ old → found ≡ None → issuer_of p n placed.1 ≡ None → HasSeen bytes p n m here es old new placed found
-    looked_past found same none other = record {
-      clean = λ clean. subst (λ (x : X). m.is_clean x) same clean;
-      replayed = subst (λ (x : X). HasReplayed bytes m here es x) (sym same) before;
-      issue = none_found found none;
-      evidence = λ clean. none ∙ sym (ap (λ (o : Option (List ℕ)). option_and_then (λ issuer. evidence_of p n (history_told es) issuer placed.0) o) other);
+  module _ (here : Place) (es : List (ℕ × Event)) (old new : X) (line : ℕ) where
+    -- there was no memory
+    pub no_memory : (none : NoEvidence) → none ≡ why.NoMemory → LooksInVain bytes m here es old new line none
+    no_memory none is = subst (LooksInVain bytes m here es old new line) (sym is) tt
+
+    -- the line of the event
+    pub line_seen : (e : Event) (found : Option RevisionRow) (text : List ℕ) → HasLookedUp bytes m here es old new e found → text ≡ text_of line e found
+        → HasSeen bytes m here es old new (λ h. line_of false h line e) text
+    line_seen e found text looked is = record {
+      clean = looked.clean;
+      replayed = looked.replayed;
+      says = λ clean. is ∙ ap (text_of line e) (looked.row clean);
     }
-      where
-        none_found : (found : Option (List ℕ)) → found ≡ None → IfSome found (λ text. (issuer : List ℕ) × (issuer_of p n placed.1 ≡ Some issuer))
-        none_found None none = tt
-        none_found (Some text) none = absurd cc
 
-    -- it is the issue
-    module _ (issuer : List ℕ) (is : issuer_of p n placed.1 ≡ Some issuer) where
-      at : evidence_at p n es placed ≡ evidence_of p n (history_told es) issuer placed.0
-      at = ap (λ (o : Option (List ℕ)). option_and_then (λ issuer. evidence_of p n (history_told es) issuer placed.0) o) is
+    -- the office met a fault
+    pub line_unseen : (fault : Fault) → HasReplayed bytes m here es old → HasMet bytes m here es old new fault
+        → LooksInVain bytes m here es old new line (why.Unseen line fault)
+    line_unseen fault before looked = (refl, record { seen = old; replayed = before; met = looked.met })
 
-      -- the revision is there
-      pub looked_at : (sheet text : List ℕ) → HasLookedBack m old new (sheet_at p n) (Ok (Some sheet)) → text ≡ evidence_text sheet issuer placed.0
-          → HasSeen bytes p n m here es old new placed (Some text)
-      looked_at sheet text looked text_is = record {
-        clean = looked.leaves.survives.clean;
-        replayed = looked_on m bytes here es old new _ (Some sheet) before looked;
-        issue = (issuer, is);
-        evidence = λ clean.
-            let was = looked.leaves.survives.clean clean in
-            let found : Some sheet ≡ sheet_at p n (history_told es) = looked.found (history_told es) (before.stands was).is_of clean in
-            ap (λ t. Some t) text_is
-            ∙ ap (λ (o : Option (List ℕ)). option_map_text o) found ∙ sym at;
+  -- of an issue nothing is looked up
+  pub issue_seen : (here : Place) (es : List (ℕ × Event)) (office : X) (placed : ℕ × Event) (result : Result (List ℕ) NoEvidence) → HasReplayed bytes m here es office
+      → IfOk result (λ text. text ≡ issue_text placed) → IfErr result (λ none. none ≡ why.NoMemory) → Looks bytes m here es office office placed.0 (λ h. ending_of None h placed) result
+  issue_seen here es office placed (Ok text) before is none = record { clean = λ clean. clean; replayed = before; says = λ clean. is }
+  issue_seen here es office placed (Err e) before is none = no_memory here es office office placed.0 e none
+
+  -- ---- the evidence of an event
+
+  module _ (p : ProfileName) (n : ℕ) (line : Option ℕ) where
+    module _ (here : Place) (es : List (ℕ × Event)) (old : X) (placed : ℕ × Event) (before : HasReplayed bytes m here es old) where
+      abbrev look : History → Option (List ℕ)
+      look h = evidence_of p n line h placed
+
+      -- the sheet is there, and what stands below it was found
+      pub sheet_seen : (seen new : X) (sheet ending text : List ℕ) → HasLookedBack m old seen (sheet_at p n) (Ok (Some sheet))
+          → HasSeen bytes m here es seen new (λ h. ending_of line h placed) ending → text ≡ sheet ++ ending → HasSeen bytes m here es old new look (Some text)
+      sheet_seen seen new sheet ending text looked below is = record {
+        clean = λ clean. looked.leaves.survives.clean (below.clean clean);
+        replayed = below.replayed;
+        says = λ clean.
+            let between = below.clean clean in
+            let was = looked.leaves.survives.clean between in
+            let found : Some sheet ≡ sheet_at p n (history_told es) = looked.found (history_told es) (before.stands was).is_of between in
+            ap (λ t. Some t) (is ∙ ap (λ t. sheet ++ t) (below.says clean)) ∙ ap (λ (o : Option (List ℕ)). option_map (λ s. s ++ ending_of line (history_told es) placed) o) found;
       }
-        where
-          option_map_text : Option (List ℕ) → Option (List ℕ)
-          option_map_text None = None
-          option_map_text (Some s) = Some (evidence_text s issuer placed.0)
 
-      -- or it isn't
-      pub looked_for : HasLookedBack m old new (sheet_at p n) (Ok None) → HasSeen bytes p n m here es old new placed None
-      looked_for looked = record {
+      -- or that wasn't
+      pub ending_unseen : (seen new : X) (at : ℕ) (none : NoEvidence) → LooksInVain bytes m here es seen new at none → LooksInVain bytes m here es old new at none
+      ending_unseen seen new at (why.Refused refused) vain = absurd vain
+      ending_unseen seen new at (why.Unseen other fault) vain = (vain.0, record { seen = vain.1.seen; replayed = vain.1.replayed; met = vain.1.met })
+      ending_unseen seen new at why.NotIssued vain = absurd vain
+      ending_unseen seen new at why.NoEvent vain = absurd vain
+      ending_unseen seen new at why.NoRevision vain = absurd vain
+      ending_unseen seen new at why.NoMemory vain = tt
+
+      -- the revision isn't there
+      pub none_seen : (new : X) → HasLookedBack m old new (sheet_at p n) (Ok None) → HasSeen bytes m here es old new look None
+      none_seen new looked = record {
         clean = looked.leaves.survives.clean;
         replayed = looked_on m bytes here es old new _ None before looked;
-        issue = tt;
-        evidence = λ clean.
+        says = λ clean.
             let was = looked.leaves.survives.clean clean in
             let found : None ≡ sheet_at p n (history_told es) = looked.found (history_told es) (before.stands was).is_of clean in
-            ap (λ (o : Option (List ℕ)). option_map_text o) found ∙ sym at;
+            ap (λ (o : Option (List ℕ)). option_map (λ s. s ++ ending_of line (history_told es) placed) o) found;
       }
-        where
-          option_map_text : Option (List ℕ) → Option (List ℕ)
-          option_map_text None = None
-          option_map_text (Some s) = Some (evidence_text s issuer placed.0)
 
       -- the office met a fault
-      pub not_looked : (line : ℕ) (fault : Fault) → line ≡ placed.0 → HasLookedBack m old new (sheet_at p n) (Err fault)
-          → Looks bytes p n m here es old new placed (Err (why.Unseen line fault))
-      not_looked line fault of_line looked = record {
-        of_line = of_line;
-        issuer = issuer;
-        issue = issue_is p n placed.1 issuer is;
-        met = λ clean.
-            let was = looked.leaves.survives.clean clean in
-            looked.cause (history_told es) (before.stands was).is_of clean;
-      }
-
-  -- a `?` that leaves a look with this reason
-  pub look_left : (here : Place) (es : List (ℕ × Event)) (old new : X) (placed : ℕ × Event) (result : Result (Option (List ℕ)) NoEvidence) (none : NoEvidence) → IsErrAnd result (λ e. e ≡ none)
-      → LooksInVain bytes p n m here es old new placed none → Looks bytes p n m here es old new placed result
-  look_left here es old new placed (Ok found) none is vain = absurd is
-  look_left here es old new placed (Err e) none is vain = subst (LooksInVain bytes p n m here es old new placed) (sym is) vain
-
-  -- ---- the events
-
-  -- a `?` that leaves with this reason
-  pub left_in : (left : X) (result : Result (List ℕ) NoEvidence) (none : NoEvidence) → IsErrAnd result (λ e. e ≡ none) → IsInVain bytes p n m left none → Searches bytes p n m left result
-  left_in left (Ok text) none is vain = absurd is
-  left_in left (Err e) none is vain = subst (IsInVain bytes p n m left) (sym is) vain
-
-  -- the journal can't be read on, or the event doesn't happen again
-  pub left_with : (left : X) (result : Result (List ℕ) NoEvidence) (refused : Refused) → IsErrAnd result (λ e. e ≡ why.Refused refused) → IsLeftBehind m bytes left refused.line refused.why
-      → Searches bytes p n m left result
-  left_with left result refused is behind = left_in left result (why.Refused refused) is behind
-
-  -- the look was in vain
-  pub unseen : (here behind : Place) (es : List (ℕ × Event)) (old new : X) (placed : ℕ × Event) (none : NoEvidence) → HasReplayed bytes m here es old → GoesOn here behind (placed ∷ [])
-      → LooksInVain bytes p n m here es old new placed none → IsInVain bytes p n m new none
-  unseen here behind es old new placed (why.Refused refused) before told vain = absurd vain
-  unseen here behind es old new placed (why.Unseen line fault) before told vain = record {
-    before = es;
-    issuer = vain.issuer;
-    here = here;
-    behind = behind;
-    old = old;
-    replayed = before;
-    told =
-        let same : placed ≡ (line, issued vain.issuer p n) = λ i. (sym vain.of_line i, vain.issue i) in
-        subst (λ (q : ℕ × Event). GoesOn here behind (q ∷ [])) same told;
-    met = vain.met;
-  }
-  unseen here behind es old new placed why.NotIssued before told vain = absurd vain
-  unseen here behind es old new placed why.NoMemory before told vain = tt
-
-  -- the event doesn't happen again
-  pub kept : (here behind : Place) (es : List (ℕ × Event)) (old seen new : X) (placed : ℕ × Event) (found : Option (List ℕ)) (refused : Refused) → HasSeen bytes p n m here es old seen placed found
-      → GoesOn here behind (placed ∷ []) → IsKeptOut m seen new placed refused.line refused.why → IsInVain bytes p n m new (why.Refused refused)
-  kept here behind es old seen new placed found refused look told out =
-      kept_out m bytes here behind es placed seen new refused.line refused.why look.replayed told out
-
-  module _ (here behind : Place) (es : List (ℕ × Event)) (old seen new : X) (placed : ℕ × Event) (told : GoesOn here behind (placed ∷ [])) (happened : HasHappened m seen new placed.1) where
-    happened_on : HasReplayed bytes m here es seen → HasReplayed bytes m behind (es ++ placed ∷ []) new
-    happened_on before = more m bytes here behind es placed.0 placed.1 seen new before told happened
-
-    -- the issue, with its evidence
-    found_text : (text : List ℕ) → HasSeen bytes p n m here es old seen placed (Some text) → IsEvidence bytes p n m new text
-    found_text text look =
-        let issuer = look.issue.0 in
+      pub sheet_unseen : (new : X) (fault : Fault) → HasLookedBack m old new (sheet_at p n) (Err fault)
+          → LooksInVain bytes m here es old new placed.0 (why.Unseen placed.0 fault)
+      sheet_unseen new fault looked = (
+        refl,
         record {
+          seen = old;
+          replayed = before;
+          met = λ clean. looked.cause (history_told es) (before.stands (looked.leaves.survives.clean clean)).is_of clean;
+        },
+      )
+
+    -- ---- the event that is asked for
+
+    module _ (here behind : Place) (es : List (ℕ × Event)) (old seen new : X) (placed : ℕ × Event) (told : GoesOn here behind (placed ∷ [])) (asked : is_wanted p n line placed ≡ true) where
+      -- no evidence of it is there
+      none_there : (h : History) → None ≡ evidence_of p n line h placed → revision_of h p n ≡ None
+      none_there h none = unmapped (revision_of h p n) none
+        where
+          unmapped : (o : Option RevisionRow) → None ≡ option_map (λ s. s ++ ending_of line h placed) (option_map (λ r. sheet_text_of p r h) o) → o ≡ None
+          unmapped None none = refl
+          unmapped (Some row) none = absurd cc
+
+      module _ (happened : HasHappened m seen new placed.1) where
+        happened_on : HasReplayed bytes m here es seen → HasReplayed bytes m behind (es ++ placed ∷ []) new
+        happened_on before = more m bytes here behind es placed.0 placed.1 seen new before told happened
+
+        -- it happened again, and this is its evidence
+        pub given : (text : List ℕ) → HasSeen bytes m here es old seen (λ h. evidence_of p n line h placed) (Some text) → Searches bytes p n line m new (Ok text)
+        given text look = record {
           before = es;
-          issuer = issuer;
-          line = placed.0;
+          placed = placed;
           behind = behind;
-          replayed = subst (λ (e : Event). HasReplayed bytes m behind (es ++ (placed.0, e) ∷ []) new) (issue_is p n placed.1 issuer look.issue.1) (happened_on look.replayed);
-          says = λ clean. look.evidence (happened.survives.clean clean)
-              ∙ ap (λ (o : Option (List ℕ)). option_and_then (λ issuer. evidence_of p n (history_told es) issuer placed.0) o) look.issue.1;
+          replayed = happened_on look.replayed;
+          wanted = asked;
+          says = λ clean. look.says (happened.survives.clean clean);
         }
 
-    -- no issue
-    pub passed : HasSeen bytes p n m here es old seen placed None → HasPassed bytes p n m es old behind new placed
-    passed look = record {
-      replayed = happened_on look.replayed;
-      unissued = λ clean none.
-          let was = happened.survives.clean clean in
-          let h = history_told es in
-          let allowed = happened.allowed h (look.replayed.stands was).is_of clean in
-          subst (λ (k : List Event). list_any (issues p n) k ≡ false) (sym (told_more es placed.0 placed.1))
-          (first_of (issues p n placed.1) (by_issuer (issuer_of p n placed.1) refl (look.evidence was) allowed) (none (look.clean was)));
+        -- or the revision wasn't there
+        pub not_given : HasSeen bytes m here es old seen (λ h. evidence_of p n line h placed) None → Searches bytes p n line m new (Err why.NoRevision)
+        not_given look = record {
+          before = es;
+          placed = placed;
+          behind = behind;
+          replayed = happened_on look.replayed;
+          wanted = asked;
+          none = λ clean. none_there (history_told es) (look.says (happened.survives.clean clean));
+        }
+
+      -- it didn't happen again
+      pub kept : (found : Option (List ℕ)) (refused : Refused) → HasSeen bytes m here es old seen (λ h. evidence_of p n line h placed) found → IsKeptOut m seen new placed refused.line refused.why
+          → Searches bytes p n line m new (Err (why.Refused refused))
+      kept found refused look out = kept_out m bytes here behind es placed seen new refused.line refused.why look.replayed told out
+
+      -- it couldn't be looked at
+      pub unseen : (none : NoEvidence) → LooksInVain bytes m here es old new placed.0 none → Searches bytes p n line m new (Err none)
+      unseen (why.Refused refused) vain = absurd vain
+      unseen (why.Unseen at fault) vain = record {
+        before = es;
+        event = placed.1;
+        here = here;
+        behind = behind;
+        old = vain.1.seen;
+        replayed = vain.1.replayed;
+        told = subst (λ (k : ℕ). GoesOn here behind ((k, placed.1) ∷ [])) (sym vain.0) told;
+        wanted = subst (λ (k : ℕ). is_wanted p n line (k, placed.1) ≡ true) (sym vain.0) asked;
+        met = vain.1.met;
+      }
+      unseen why.NotIssued vain = absurd vain
+      unseen why.NoEvent vain = absurd vain
+      unseen why.NoRevision vain = absurd vain
+      unseen why.NoMemory vain = tt
+
+    -- ---- the events
+
+    -- before the founding no revision is there
+    pub unfounded : (here : Place) (first : ℕ × Event) (office : X) → HasReplayed bytes m here (first ∷ []) office → is_wanted p n line first ≡ true
+        → Searches bytes p n line m office (Err why.NoRevision)
+    unfounded here first office replayed asked = record {
+      before = [];
+      placed = first;
+      behind = here;
+      replayed = replayed;
+      wanted = asked;
+      none = λ clean. refl;
     }
-      where
-        first_of : (b : Bool) → b ≡ false → list_any (issues p n) (history_told es) ≡ false → (b || list_any (issues p n) (history_told es)) ≡ false
-        first_of b is rest = rw (is, rest) refl
 
-        by_issuer : (o : Option (List ℕ)) → issuer_of p n placed.1 ≡ o → None ≡ evidence_at p n es placed → IsAllowed (history_told es) placed.1 → issues p n placed.1 ≡ false
-        by_issuer None is same allowed = no_issue p n placed.1 is
-        by_issuer (Some c) is same allowed = absurd (has_evidence p n (history_told es) c placed.0
-            (subst (λ (e : Event). IsAllowed (history_told es) e) (issue_is p n placed.1 c is) allowed)
-            (sym (same ∙ ap (λ (o : Option (List ℕ)). option_and_then (λ issuer. evidence_of p n (history_told es) issuer placed.0) o) is)))
+    -- the founding isn't asked for
+    pub none_first : (first : ℕ × Event) → is_wanted p n line first ≡ false → NoneWanted p n line (first ∷ [])
+    none_first first other = All-cons (λ placed. is_wanted p n line placed ≡ false) first [] other (All-nil (λ placed. is_wanted p n line placed ≡ false))
 
-    -- what was found, or that it is passed
-    pub stepped : (found : Option (List ℕ)) → HasSeen bytes p n m here es old seen placed found → Steps bytes p n m es old behind new placed (Ok found)
-    stepped None look = passed look
-    stepped (Some text) look = found_text text look
+    -- a `?` that leaves as the journal can't be read on, or an event doesn't happen again
+    pub left_with : (left : X) (result : Result (List ℕ) NoEvidence) (refused : Refused) → IsErrAnd result (λ e. e ≡ why.Refused refused) → IsLeftBehind m bytes left refused.line refused.why
+        → Searches bytes p n line m left result
+    left_with left (Ok text) refused is behind = absurd is
+    left_with left (Err e) refused is behind = subst (IsInVain bytes p n line m left) (sym is) behind
 
-  -- no event is left
-  pub never : (here end : Place) (es : List (ℕ × Event)) (office : X) → HasReplayed bytes m here es office → Ends here end → (m.is_clean office → IsUnissued p n es)
-      → IsNeverIssued bytes p n m office
-  never here end es office before ends none =
-      record {
-        history = history_told es;
-        journal = journal bytes (subst (Tells (start bytes)) (append-nil es) (before.told.tells [] ends.tells));
+    -- no event is left
+    module _ (here end : Place) (es : List (ℕ × Event)) (office : X) (before : HasReplayed bytes m here es office) (ends : Ends here end) (none : NoneWanted p n line es) where
+      told_all : Tells (start bytes) es
+      told_all = subst (Tells (start bytes)) (append-nil es) (before.told.tells [] ends.tells)
+
+      is_never : IsNever bytes p n line m office
+      is_never = record {
+        events = es;
+        told = told_all;
+        journal = journal bytes told_all;
         lawful = before.lawful;
         never = none;
       }
-    where
-      journal : (bytes : Option (List ℕ)) → Tells (start bytes) es → IfSome bytes (λ text. IsJournalOf text (history_told es))
-      journal None t = tt
-      journal (Some text) t = journal_told text es t
+        where
+          journal : (bytes : Option (List ℕ)) → Tells (start bytes) es → IfSome bytes (λ text. IsJournalOf text (history_told es))
+          journal None t = tt
+          journal (Some text) t = journal_told text es t
 
--- a founding is no issue
-pub first_unissued : (p : ProfileName) (n line : ℕ) (e : Event) → IsFounding e → IsUnissued p n ((line, e) ∷ [])
-first_unissued p n line (founded name team digest listed) is = refl
-first_unissued p n line (enrolled caller name team roles digest) is = absurd is
-first_unissued p n line (submitted caller q text) is = absurd is
-first_unissued p n line (voted caller q k digest approves) is = absurd is
-first_unissued p n line (issued caller q k) is = absurd is
-first_unissued p n line (withdrawn caller q k) is = absurd is
-first_unissued p n line (adopted caller q k) is = absurd is
-first_unissued p n line (held caller q) is = absurd is
-first_unissued p n line (released caller q) is = absurd is
+      by_line : (given : Option ℕ) → given ≡ line → IsInVain bytes p n line m office (none_of given)
+      by_line None same = (sym same, is_never)
+      by_line (Some at) same = (ap (λ (o : Option ℕ). is_none o) (sym same), is_never)
+
+      pub never : Searches bytes p n line m office (Err (none_of line))
+      never = by_line line refl
 
 -- why there is no evidence, from the connection on
-pub none_found : {S : Type 0} (g : Ghosts S) (bytes : Option (List ℕ)) (p : ProfileName) (n : ℕ) (conn left : Held S) (none : NoEvidence) → IsInVain bytes p n (meaning_over g) left none
-    → IsNoEvidence bytes p n g conn left none
-none_found g bytes p n conn left (why.Refused refused) vain = none_behind g bytes conn left refused.line refused.why vain
-none_found g bytes p n conn left (why.Unseen line fault) vain = vain
-none_found g bytes p n conn left why.NotIssued vain = vain
-none_found g bytes p n conn left why.NoMemory vain = vain
+pub none_found : {S : Type 0} (g : Ghosts S) (bytes : Option (List ℕ)) (p : ProfileName) (n : ℕ) (line : Option ℕ) (conn left : Held S) (none : NoEvidence)
+    → IsInVain bytes p n line (meaning_over g) left none → IsNoEvidence bytes p n line g conn left none
+none_found g bytes p n line conn left (why.Refused refused) vain = none_behind g bytes conn left refused.line refused.why vain
+none_found g bytes p n line conn left (why.Unseen at fault) vain = vain
+none_found g bytes p n line conn left why.NotIssued vain = vain
+none_found g bytes p n line conn left why.NoEvent vain = vain
+none_found g bytes p n line conn left why.NoRevision vain = vain
+none_found g bytes p n line conn left why.NoMemory vain = vain

@@ -1,80 +1,106 @@
--- The evidence of an issue: the review sheet of the revision as it was just before that.
-use Rattle.std.specs.Prelude.{◌≡◌, ◌++◌, ◌∷◌, [], ◌==◌, ◌&&◌, ℕ, List, false, if◌then◌else◌}
+-- The evidence of an event: the review sheet of a revision as it was just before that.
+use Rattle.std.specs.Prelude.{◌≡◌, ◌++◌, ◌∷◌, [], ◌==◌, ℕ, List, Bool, true, false, is_none, All}
 use Rattle.std.specs.Prelude.{Option, Some, None, Result, Ok, Err, IfSome, codes, decimal}
 use Rattle.std.specs.Prelude.{option_map}
-use Rattle.std.specs.List.{list_any}
 use Rattle.sqlite.specs.Held.{Held}
 use Rattle.sqlite.specs.Store.{Ghosts}
 use Rattle.review_policy.specs.declared.fault.Fault.{Fault}
 use Rattle.review_policy.specs.declared.ask.ProfileName.{ProfileName}
-use Rattle.office_tables.specs.Tables.{is_profile}
-use Rattle.office_policy.specs.History.{Event, History, issued}
+use Rattle.office_policy.specs.History.{Event, History}
 use Rattle.office_policy.specs.Lawful.{IsLawfulHistory}
 use Rattle.office_policy.specs.Meaning.{Meaning}
-use Rattle.office_policy.specs.Revisions.{issues}
+use Rattle.office_policy.specs.Revisions.{issues, revision_of}
 use Rattle.office_desk.specs.Looking.{IsMetBetween, sheet_at}
 use Rattle.office_desk.specs.Meant.{meaning_over}
 use Rattle.journal.specs.Journal.{IsJournalOf}
-use Rattle.journal.specs.Told.{GoesOn, Place, history_told}
+use Rattle.journal.specs.Told.{GoesOn, Place, Tells, history_told, start}
 use Rattle.journal_office.specs.Rebuilt.{HasReplayed, IsRefused}
 use Rattle.journal_reports.specs.declared.fault.NoEvidence.{NoEvidence}
 use Rattle.journal_reports.specs.declared.fault.NoEvidence.TheVariants as why
+use Rattle.journal_reports.specs.Lines.{line_of}
+use Rattle.journal_reports.specs.Passing.{doer_of}
 
--- who issued the revision, where the event is its issue
-abbrev pub issuer_of : ProfileName → ℕ → Event → Option (List ℕ)
-issuer_of p n (issued c q m) = if is_profile p q && (n == m) then Some c else None
-issuer_of p n _ = None
+-- the event is the one that is asked for: that of the line, where one is given, and else the issue
+-- of the revision
+abbrev pub is_wanted : ProfileName → ℕ → (line : Option ℕ) → (placed : ℕ × Event) → Bool
+is_wanted p n None placed = issues p n placed.1
+is_wanted p n (Some line) placed = placed.0 == line
 
--- a sheet, then who issued the revision, and the line of the journal that says so
-abbrev pub evidence_text : (sheet issuer : List ℕ) → (line : ℕ) → List ℕ
-evidence_text sheet issuer line =
-    sheet ++ codes "issuer: " ++ issuer ++ codes "\nline: " ++ decimal line ++ codes "\n"
+-- who issued the revision, and the line of the journal that says so
+abbrev pub issue_text : (placed : ℕ × Event) → List ℕ
+issue_text placed =
+    codes "issuer: " ++ doer_of placed.1 ++ codes "\nline: " ++ decimal placed.0 ++ codes "\n"
 
--- with the sheet of the revision after this history
-abbrev pub evidence_of : ProfileName → ℕ → History → (issuer : List ℕ) → (line : ℕ)
+-- what stands below the sheet: that of an issue; of the event of a line what `history` says of it,
+-- after the history before it
+abbrev pub ending_of : (line : Option ℕ) → History → (placed : ℕ × Event) → List ℕ
+ending_of None h placed = issue_text placed
+ending_of (Some line) h placed = line_of false h placed.0 placed.1
+
+-- the sheet of the revision after the history before the event, where it is there, and this below it
+abbrev pub evidence_of : ProfileName → ℕ → (line : Option ℕ) → History → (placed : ℕ × Event)
     → Option (List ℕ)
-evidence_of p n h issuer line =
-    option_map (λ sheet. evidence_text sheet issuer line) (sheet_at p n h)
+evidence_of p n line h placed =
+    option_map (λ sheet. sheet ++ ending_of line h placed) (sheet_at p n h)
 
--- of a journal with these bytes, where they are known, and of this revision
-module _ (bytes : Option (List ℕ)) (p : ProfileName) (n : ℕ) where
+-- the word for that no event is asked for
+abbrev pub none_of : (line : Option ℕ) → NoEvidence
+none_of None = why.NotIssued
+none_of (Some line) = why.NoEvent
+
+-- of a journal with these bytes, where they are known, of this revision, and of an event
+module _ (bytes : Option (List ℕ)) (p : ProfileName) (n : ℕ) (line : Option ℕ) where
   module _ {X : Type 0} (m : Meaning X) (left : X) where
-    -- the journal tells a lawful history, of which the issue of the revision is the last event; the
-    -- text has the sheet after the history before it
+    -- the journal tells a lawful history, of which the event that is asked for is the last; the text
+    -- has the sheet after the history before it
     pub record IsEvidence (text : List ℕ) : Type 0 where
       pub before : List (ℕ × Event)
-      pub issuer : List ℕ
-      pub line : ℕ
+      pub placed : ℕ × Event
       pub behind : Place
-      pub replayed : HasReplayed bytes m behind (before ++ (line, issued issuer p n) ∷ []) left
+      pub replayed : HasReplayed bytes m behind (before ++ placed ∷ []) left
+      pub wanted : is_wanted p n line placed ≡ true
       pub says : m.is_clean left
-          → Some text ≡ evidence_of p n (history_told before) issuer line
+          → Some text ≡ evidence_of p n line (history_told before) placed
 
-    -- the event of this line is the issue, and the office of the events before it met this fault
+    -- the event of this line is asked for, and the office of the events before it met this fault
     -- when it was looked at
-    pub record IsUnseen (line : ℕ) (fault : Fault) : Type 0 where
+    pub record IsUnseen (at : ℕ) (fault : Fault) : Type 0 where
       pub before : List (ℕ × Event)
-      pub issuer : List ℕ
+      pub event : Event
       pub here : Place
       pub behind : Place
       pub old : X
       pub replayed : HasReplayed bytes m here before old
-      pub told : GoesOn here behind ((line, issued issuer p n) ∷ [])
+      pub told : GoesOn here behind ((at, event) ∷ [])
+      pub wanted : is_wanted p n line (at, event) ≡ true
       pub met : m.is_clean left → IsMetBetween m old left fault
 
-    -- the journal is of a lawful history in which the revision is never issued
-    pub record IsNeverIssued : Type 0 where
-      pub history : History
-      pub journal : IfSome bytes (λ text. IsJournalOf text history)
-      pub lawful : m.is_clean left → IsLawfulHistory history
-      pub never : m.is_clean left → list_any (issues p n) history ≡ false
+    -- the journal tells a lawful history, of which the event that is asked for is the last; the
+    -- revision isn't there before it
+    pub record IsWithoutRevision : Type 0 where
+      pub before : List (ℕ × Event)
+      pub placed : ℕ × Event
+      pub behind : Place
+      pub replayed : HasReplayed bytes m behind (before ++ placed ∷ []) left
+      pub wanted : is_wanted p n line placed ≡ true
+      pub none : m.is_clean left → revision_of (history_told before) p n ≡ None
+
+    -- the journal is of a lawful history, and none of its events is asked for
+    pub record IsNever : Type 0 where
+      pub events : List (ℕ × Event)
+      pub told : Tells (start bytes) events
+      pub journal : IfSome bytes (λ text. IsJournalOf text (history_told events))
+      pub lawful : m.is_clean left → IsLawfulHistory (history_told events)
+      pub never : All (λ placed. is_wanted p n line placed ≡ false) events
 
   module _ {S : Type 0} (g : Ghosts S) (conn left : Held S) where
     -- why there is no evidence, and what is left of the connection
     abbrev pub IsNoEvidence : NoEvidence → Type 0
     IsNoEvidence (why.Refused refused) = IsRefused bytes g conn left refused.line refused.why
-    IsNoEvidence (why.Unseen line fault) = IsUnseen (meaning_over g) left line fault
-    IsNoEvidence why.NotIssued = IsNeverIssued (meaning_over g) left
+    IsNoEvidence (why.Unseen at fault) = IsUnseen (meaning_over g) left at fault
+    IsNoEvidence why.NotIssued = (line ≡ None) × IsNever (meaning_over g) left
+    IsNoEvidence why.NoEvent = (is_none line ≡ false) × IsNever (meaning_over g) left
+    IsNoEvidence why.NoRevision = IsWithoutRevision (meaning_over g) left
     IsNoEvidence why.NoMemory = Unit {0}
 
     -- the evidence, or why there is none

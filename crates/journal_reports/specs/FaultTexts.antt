@@ -1,4 +1,4 @@
--- The texts of why there is no evidence of an issue, and why not the whole history was written.
+-- The texts of why there is no evidence, and why not the whole history was written.
 use Rattle.std.specs.Prelude.{ℕ, List, ◌++◌, codes, decimal}
 use Rattle.review_policy.specs.WordTables.{fault_word}
 use Rattle.journal_office.specs.FaultTexts.{refused_text}
@@ -12,6 +12,8 @@ no_evidence_text (why.Refused refused) = refused_text refused
 no_evidence_text (why.Unseen line fault) =
     codes "line " ++ decimal line ++ codes ": " ++ fault_word fault
 no_evidence_text why.NotIssued = codes "not-issued"
+no_evidence_text why.NoEvent = codes "no-event"
+no_evidence_text why.NoRevision = codes "no-revision"
 no_evidence_text why.NoMemory = codes "memory"
 
 abbrev pub unwritten_text : Unwritten → List ℕ

@@ -1,4 +1,4 @@
-//! Why there is no evidence of an issue, and why not the whole history was written.
+//! Why there is no evidence, and why not the whole history was written.
 
 use journal_office::Refused;
 use review_policy::Fault;
@@ -6,16 +6,20 @@ use std::alloc::AllocError;
 use std::error::Error;
 use std::fmt;
 
-/// Why there is no evidence of an issue. Its text is a word, behind the line where one is at fault.
+/// Why there is no evidence. Its text is a word, behind the line where one is at fault.
 #[derive(Clone, Copy, Debug, Drop, PartialEq, Eq)]
 pub enum NoEvidence {
-    /// Up to the issue, and with it, the journal can't be read or its events don't happen again.
+    /// Up to the event, and with it, the journal can't be read or its events don't happen again.
     Refused(Refused),
-    /// The issue is the event of this line, and the office of the events before it had this fault
-    /// when it was looked at.
+    /// The event is that of this line, and the office of the events before it had this fault when it
+    /// was looked at.
     Unseen { line: u64, fault: Fault },
-    /// In the whole journal the revision is never issued.
+    /// No line was given, and in the whole journal the revision is never issued.
     NotIssued,
+    /// In the whole journal no event stands on the line that was given.
+    NoEvent,
+    /// The revision isn't there before the event of the line.
+    NoRevision,
     /// There was no memory for the text. No contract can say when.
     NoMemory,
 }
@@ -28,17 +32,6 @@ impl From<Refused> for NoEvidence {
 
     fn from(refused: Refused) -> NoEvidence {
         NoEvidence::Refused(refused)
-    }
-}
-
-impl From<AllocError> for NoEvidence {
-    ghost use Rattle.std.specs.Prelude.{◌≡◌};
-    ghost use Rattle.journal_reports.specs.declared.fault.NoEvidence.TheVariants.{NoMemory};
-
-    ghost from_gives = { λ _ e. e ≡ NoMemory };
-
-    fn from(_error: AllocError) -> NoEvidence {
-        NoEvidence::NoMemory
     }
 }
 
@@ -56,6 +49,8 @@ impl fmt::Display for NoEvidence {
                 write!(f, "line {line}: {word}")
             }
             NoEvidence::NotIssued => f.write_str("not-issued"),
+            NoEvidence::NoEvent => f.write_str("no-event"),
+            NoEvidence::NoRevision => f.write_str("no-revision"),
             NoEvidence::NoMemory => f.write_str("memory"),
         }
     }

@@ -105,8 +105,8 @@ fn is_about(profile: Option<&Word>, event: &Event) -> bool
     }
 }
 
-// Who did it.
-fn doer_of(event: &Event) -> &Word
+/// Who did it: the caller, or who was founded.
+pub(crate) fn doer_of(event: &Event) -> &Word
     ensures { result.now ≡ doer_of (event_meant event.now) }
 {
     match event {

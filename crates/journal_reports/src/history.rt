@@ -37,8 +37,12 @@ use std::alloc::{AllocError, Global};
 use std::io::{BufRead, Write};
 use streams::{Counted, write_whole};
 
-// The revision that the line of an event looks up, where it does.
-fn look_up<S: Alter>(
+/// The revision that the line of an event looks up, where it does.
+///
+/// # Errors
+///
+/// The fault of the office.
+pub(crate) fn look_up<S: Alter>(
     alloc: Global,
     office: &mut Office<S>,
     event: &Event,

@@ -4,13 +4,13 @@
 mod fault;
 mod filter;
 mod history;
-mod issue;
 pub mod json_line;
 pub mod laws;
 pub mod line;
+mod sheet_before;
 mod struck;
 
 pub use fault::{NoEvidence, Unwritten};
 pub use filter::Filter;
 pub use history::write_history;
-pub use issue::evidence;
+pub use sheet_before::evidence;

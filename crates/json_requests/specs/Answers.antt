@@ -2,7 +2,7 @@
 use Rattle.std.specs.Prelude.{ℕ, List, [], ◌∷◌, ◌++◌, Option, Some, None, map, codes}
 use Rattle.hex.specs.Hex.{encode_lower}
 use Rattle.serde_json.specs.Data.{Data, number, unsigned, string, array, object, Members, member}
-use Rattle.serde_json.specs.Data.{no_members, put}
+use Rattle.serde_json.specs.Data.{no_members}
 use Rattle.serde_json.specs.View.{items_of}
 use Rattle.serde_json.specs.Written.{compact_text}
 use Rattle.review_policy.specs.declared.answer.Answer.{Answer}
@@ -42,10 +42,6 @@ listed_data p =
 -- a list of profiles
 abbrev pub listing_data : List ListedProfile → Data
 listing_data profiles = array (items_of (map listed_data profiles))
-
--- members, and a digest put among them
-abbrev pub with_digest : List ℕ → Members → Members
-with_digest digest ms = put (codes "digest") (string (encode_lower digest)) ms
 
 -- the members of an answer that a request is done, besides `answer`
 abbrev pub reply_members : Reply → Members

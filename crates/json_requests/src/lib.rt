@@ -11,10 +11,9 @@ pub mod fault;
 pub mod kind;
 pub mod laws;
 pub mod member;
-pub mod object;
 pub mod request;
 mod shape;
-mod write;
+pub mod write;
 
 pub use answer::{answer_text, line};
 pub use bad::{BadLine, bad_text};

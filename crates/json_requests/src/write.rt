@@ -1,4 +1,4 @@
-//! Parts of answers, written a token at a time.
+//! Members of JSON, written a token at a time.
 
 ghost use Rattle.std.specs.Prelude.{OnOk};
 ghost use Rattle.serde_json.specs.Data.{member, no_members, number, string, unsigned};
@@ -9,7 +9,11 @@ use json::Writer;
 use std::alloc::{AllocError, Global};
 
 /// A member that is a text.
-pub(crate) fn write_text(out: &mut Writer, name: &str, text: &str) -> Result<(), AllocError>
+///
+/// # Errors
+///
+/// Memory was refused. No contract can say when.
+pub fn write_text(out: &mut Writer, name: &str, text: &str) -> Result<(), AllocError>
     ensures { OnOk result (Appends out.old out.new
         (open_tokens (member name.now (string text.now) no_members))) }
 {
@@ -18,7 +22,11 @@ pub(crate) fn write_text(out: &mut Writer, name: &str, text: &str) -> Result<(),
 }
 
 /// A member that is a number.
-pub(crate) fn write_number(out: &mut Writer, name: &str, n: u64) -> Result<(), AllocError>
+///
+/// # Errors
+///
+/// Memory was refused. No contract can say when.
+pub fn write_number(out: &mut Writer, name: &str, n: u64) -> Result<(), AllocError>
     ensures { OnOk result (Appends out.old out.new
         (open_tokens (member name.now (number (unsigned n)) no_members))) }
 {
@@ -27,11 +35,11 @@ pub(crate) fn write_number(out: &mut Writer, name: &str, n: u64) -> Result<(), A
 }
 
 /// A digest, as 64 lower-case hexadecimal digits.
-pub(crate) fn write_digest(
-    out: &mut Writer,
-    alloc: Global,
-    digest: &[u8; 32],
-) -> Result<(), AllocError>
+///
+/// # Errors
+///
+/// Memory was refused. No contract can say when.
+pub fn write_digest(out: &mut Writer, alloc: Global, digest: &[u8; 32]) -> Result<(), AllocError>
     ensures { OnOk result (Appends out.old out.new
         (open_tokens (digest_member digest.now no_members))) }
 {

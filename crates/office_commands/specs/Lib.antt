@@ -1,4 +1,4 @@
 pub mod Commands
 pub mod Failing
 pub mod SameFiles
-pub mod RebuiltHosts
+pub mod Apart

@@ -1,4 +1,5 @@
--- A command whose journal is the file of its database, or one beside that, by its name.
+-- A command whose journal and database are one file, or of which one is a file beside the other, by
+-- their names.
 use Rattle.std.specs.Prelude.{◌≡◌, ◌||◌, ℕ, List, ◌++◌, Bool, true, false, Option, Some, None}
 use Rattle.std.specs.Prelude.{bytes_eq, codes, option_copied}
 use Rattle.command_line.specs.declared.command.Command.{Command}
@@ -6,26 +7,31 @@ use Rattle.command_line.specs.declared.command.Command.TheVariants as command
 use Rattle.command_host.specs.declared.fault.CommandFault.{CommandFault}
 use Rattle.command_host.specs.declared.fault.CommandFault.TheVariants as fault
 
--- a path is that of a database, of its log, or of the journal that SQLite may leave of it
-abbrev pub is_of_database : (path database : List ℕ) → Bool
-is_of_database path database =
-    bytes_eq path database || bytes_eq path (database ++ codes "-wal")
-    || bytes_eq path (database ++ codes "-journal")
+-- a path is that of the log of a file, or of the journal that SQLite may leave of it
+abbrev pub is_beside : (path file : List ℕ) → Bool
+is_beside path file =
+    bytes_eq path (file ++ codes "-wal") || bytes_eq path (file ++ codes "-journal")
 
--- the same of a path that is given
-abbrev pub is_one_of_database : (path : Option (List ℕ)) (database : List ℕ) → Bool
-is_one_of_database None database = false
-is_one_of_database (Some path) database = is_of_database path database
+-- two paths are one, or the one stands beside the other
+abbrev pub are_of_one_file : (path database : List ℕ) → Bool
+are_of_one_file path database =
+    bytes_eq path database || is_beside path database || is_beside database path
+
+-- the same of a path that may be given
+abbrev pub is_given_of_one_file : (path : Option (List ℕ)) (database : List ℕ) → Bool
+is_given_of_one_file None database = false
+is_given_of_one_file (Some path) database = are_of_one_file path database
 
 -- the command names such a path for its journal
 abbrev pub names_one_file : Command → Bool
 names_one_file (command.Init words) =
-    is_one_of_database (option_copied words.journal) words.database.now
+    is_given_of_one_file (option_copied words.journal) words.database.now
 names_one_file (command.Desk database journal) =
-    is_one_of_database (option_copied journal) database.now
+    is_given_of_one_file (option_copied journal) database.now
 names_one_file (command.Serve words) =
-    is_one_of_database (option_copied words.journal) words.database.now
-names_one_file (command.Rebuild database journal) = is_of_database journal.now database.now
+    is_given_of_one_file (option_copied words.journal) words.database.now
+names_one_file (command.Rebuild database journal) =
+    are_of_one_file journal.now database.now
 names_one_file _ = false
 
 -- a command that ended well named none, and this was done

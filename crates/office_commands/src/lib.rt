@@ -3,10 +3,8 @@
 #![tactic(auto)]
 
 mod host;
-mod rebuilt;
 mod run;
 mod same_file;
 
-pub use host::run_here;
-pub use rebuilt::a_rebuilt_office_is_left_in_its_files;
+pub use host::{run_here, run_over};
 pub use run::run_words;

@@ -1,19 +1,17 @@
 //! The commands of the program.
 
 ghost use Rattle.std.specs.Prelude.{◌≡◌, ◌^◌, ◌≤◌, IfErr, IfOk, MatchResult};
+ghost use Rattle.command_host.specs.Outside.{known};
 ghost use Rattle.command_host.specs.Said.{IsRefusal};
-ghost use Rattle.office_commands.specs.Commands.{failed_status, HasRun, HasRunWords, HasTold};
-ghost use Rattle.office_commands.specs.Commands.{IsPrinted};
+ghost use Rattle.office_commands.specs.Apart.{HasCarriedOut, HasFailedApart, HasRunApart};
+ghost use Rattle.office_commands.specs.Commands.{failed_status, HasRun, HasTold, IsPrinted};
 ghost use Rattle.office_commands.specs.Failing.{HasFailed};
-ghost use Rattle.office_commands.specs.SameFiles.{FailsApart, WasApart};
 
 use crate::same_file::names_one_file;
-use changing_commands::{found_at, migrate_at, serve_http, serve_stored, serve_trial};
-use command_host::{CommandFault, Databases, Journals, Network, PassFiles, print, refuse, say};
+use changing_commands::{found_at, migrate_at, run_rebuild, serve_http, serve_stored, serve_trial};
+use command_host::{CommandFault, Host, Outside, print, refuse, say};
 use command_line::{Command, WordsFault, read_words};
 use reading_commands::{run_check, run_compare, run_evidence, run_execve, run_history, run_verify};
-use rebuild_command::run_rebuild;
-use sqlite::{Alter, Connection};
 use std::alloc::Global;
 use std::io::{Read, Write};
 use streams::Counted;
@@ -29,19 +27,8 @@ fn failed_status(command: &Command<'_>) -> u8
 }
 
 // Carries a command out, and says with which status that ends the program.
-fn run<
-    F: PassFiles,
-    S: Alter + Drop,
-    D: Databases<Database = Connection<S>>,
-    J: Journals,
-    N: Network,
-    I: Read,
-    O: Write,
->(
-    files: &F,
-    databases: &D,
-    journals: &J,
-    network: &N,
+fn run<H: Host, I: Read, O: Write>(
+    host: &Outside<'_, H>,
     alloc: Global,
     command: Command<'_>,
     input: &mut Counted<I>,
@@ -50,13 +37,9 @@ fn run<
     requires reads { input.old.calls ≤ 2 ^ 62 }
     requires read_faults { input.old.faults ≤ 2 ^ 62 }
     requires write_faults { output.old.faults ≤ 2 ^ 62 }
-    ensures done { IfOk result (HasRun S.Store D.Databases J.File.Disk
-        (J.creates journals.now) (J.opens journals.now) N.shows N.binds N.tells
-        (F.opens files.now) F.File.remaining O.contents command.entry
-        (I.remaining input.old.inner) output.old output.new) }
-    ensures failed { IfErr result (HasFailed S.Store D.Databases J.File.Disk
-        (J.creates journals.now) (J.opens journals.now) (J.removes journals.now)
-        N.shows N.binds N.tells (F.opens files.now) F.File.remaining O.contents command.entry
+    ensures done { IfOk result (HasRun (known host.now) O.contents command.entry
+        (I.remaining input.old.inner) (I.remaining input.new.inner) output.old output.new) }
+    ensures failed { IfErr result (HasFailed (known host.now) O.contents command.entry
         (I.remaining input.old.inner) (I.remaining input.new.inner) output.old output.new) }
 {
     match command {
@@ -64,51 +47,40 @@ fn run<
             serve_trial(alloc, input, output)?;
             Ok(0)
         }
-        Command::Check { file } => run_check(files, alloc, file, output),
-        Command::Execve(words) => run_execve(files, alloc, &words, output),
+        Command::Check { file } => run_check(host.files, alloc, file, output),
+        Command::Execve(words) => run_execve(host.files, alloc, &words, output),
         Command::Init(words) => {
-            found_at(databases, journals, alloc, &words)?;
+            found_at(host, alloc, &words)?;
             print(output, "founded\n")?;
             Ok(0)
         }
         Command::Serve(words) => {
-            serve_http(databases, journals, network, alloc, &words, output)?;
+            serve_http(host, alloc, &words, output)?;
             Ok(0)
         }
         Command::Migrate { database } => {
-            migrate_at(databases, database)?;
+            migrate_at(host.databases, database)?;
             print(output, "migrated\n")?;
             Ok(0)
         }
         Command::Desk { database, journal } => {
-            serve_stored(databases, journals, alloc, database, journal, input, output)?;
+            serve_stored(host, alloc, database, journal, input, output)?;
             Ok(0)
         }
-        Command::Compare { base, new } => run_compare(files, alloc, base, new, output),
-        Command::Verify(words) => run_verify(files, alloc, &words, output),
+        Command::Compare { base, new } => run_compare(host.files, alloc, base, new, output),
+        Command::Verify(words) => run_verify(host.files, alloc, &words, output),
         Command::Rebuild { database, journal } => {
-            run_rebuild(files, databases, alloc, database, journal, output)
+            run_rebuild(host.files, host.databases, alloc, database, journal, output)
         }
-        Command::History(words) => run_history(files, alloc, &words, output),
-        Command::Evidence(words) => run_evidence(files, alloc, &words, output),
+        Command::History(words) => run_history(host.files, alloc, &words, output),
+        Command::Evidence(words) => run_evidence(host.files, alloc, &words, output),
     }
 }
 
 // The same, where the journal that the command names is no file of its database. Else that is told,
 // and nothing is opened.
-fn run_apart<
-    F: PassFiles,
-    S: Alter + Drop,
-    D: Databases<Database = Connection<S>>,
-    J: Journals,
-    N: Network,
-    I: Read,
-    O: Write,
->(
-    files: &F,
-    databases: &D,
-    journals: &J,
-    network: &N,
+fn run_apart<H: Host, I: Read, O: Write>(
+    host: &Outside<'_, H>,
     alloc: Global,
     command: Command<'_>,
     input: &mut Counted<I>,
@@ -117,23 +89,17 @@ fn run_apart<
     requires reads { input.old.calls ≤ 2 ^ 62 }
     requires read_faults { input.old.faults ≤ 2 ^ 62 }
     requires write_faults { output.old.faults ≤ 2 ^ 62 }
-    ensures done { IfOk result (λ status. WasApart command.entry
-        (HasRun S.Store D.Databases J.File.Disk
-        (J.creates journals.now) (J.opens journals.now) N.shows N.binds N.tells
-        (F.opens files.now) F.File.remaining O.contents command.entry
-        (I.remaining input.old.inner) output.old output.new status)) }
-    ensures failed { IfErr result (FailsApart command.entry
-        (HasFailed S.Store D.Databases J.File.Disk
-        (J.creates journals.now) (J.opens journals.now) (J.removes journals.now)
-        N.shows N.binds N.tells (F.opens files.now) F.File.remaining O.contents command.entry
-        (I.remaining input.old.inner) (I.remaining input.new.inner) output.old output.new)) }
+    ensures done { IfOk result (HasRunApart (known host.now) O.contents
+        (I.remaining input.old.inner) (I.remaining input.new.inner)
+        output.old output.new command.entry) }
+    ensures failed { IfErr result (HasFailedApart (known host.now) O.contents
+        (I.remaining input.old.inner) (I.remaining input.new.inner)
+        output.old output.new command.entry) }
 {
     if names_one_file(&command) {
         return Err(CommandFault::SameFile);
     }
-    run(
-        files, databases, journals, network, alloc, command, input, output,
-    )
+    run(host, alloc, command, input, output)
 }
 
 // Prints a text, or says that it couldn't be printed.
@@ -205,20 +171,8 @@ fn status_of<E: Write>(
 /// name. Gives the status that the program ends with: 0, or 1 where the command was refused or
 /// failed, or 2 where the words were refused. That of `compare` is 1 where it printed findings, and
 /// 2 where it was refused or failed.
-pub fn run_words<
-    F: PassFiles,
-    S: Alter + Drop,
-    D: Databases<Database = Connection<S>>,
-    J: Journals,
-    N: Network,
-    I: Read,
-    O: Write,
-    E: Write,
->(
-    files: &F,
-    databases: &D,
-    journals: &J,
-    network: &N,
+pub fn run_words<H: Host, I: Read, O: Write, E: Write>(
+    host: &Outside<'_, H>,
     alloc: Global,
     words: &[String],
     input: &mut Counted<I>,
@@ -228,24 +182,14 @@ pub fn run_words<
     requires reads { input.old.calls ≤ 2 ^ 62 }
     requires read_faults { input.old.faults ≤ 2 ^ 62 }
     requires write_faults { output.old.faults ≤ 2 ^ 62 }
-    ensures { HasRunWords E.contents errors.old errors.new O.contents output.old output.new
-        (λ command status. WasApart command (HasRun S.Store D.Databases J.File.Disk
-        (J.creates journals.now) (J.opens journals.now) N.shows N.binds N.tells
-        (F.opens files.now) F.File.remaining O.contents command
-        (I.remaining input.old.inner) output.old output.new status))
-        (λ command. FailsApart command (HasFailed S.Store D.Databases J.File.Disk
-        (J.creates journals.now) (J.opens journals.now) (J.removes journals.now)
-        N.shows N.binds N.tells
-        (F.opens files.now) F.File.remaining O.contents command
-        (I.remaining input.old.inner) (I.remaining input.new.inner) output.old output.new))
-        words.entry.now result }
+    ensures { HasCarriedOut (known host.now) O.contents
+        (I.remaining input.old.inner) (I.remaining input.new.inner) output.old output.new
+        E.contents errors.old errors.new words.entry.now result }
 {
     match read_words(alloc, words) {
         Ok(command) => {
             let failed = failed_status(&command);
-            let ended = run_apart(
-                files, databases, journals, network, alloc, command, input, output,
-            );
+            let ended = run_apart(host, alloc, command, input, output);
             status_of(alloc, errors, ended, failed)
         }
         Err(fault) => tell(alloc, &fault, output, errors),

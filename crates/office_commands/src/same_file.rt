@@ -1,47 +1,54 @@
-//! A command whose journal is the file of its database, or one of the files beside that.
+//! A command whose journal and database are one file, or of which one is a file beside the other.
 
 ghost use Rattle.std.specs.Prelude.{◌≡◌, ◌++◌, bytes_eq, option_copied};
-ghost use Rattle.office_commands.specs.SameFiles.{is_of_database, is_one_of_database};
-ghost use Rattle.office_commands.specs.SameFiles.{names_one_file};
+ghost use Rattle.office_commands.specs.SameFiles.{are_of_one_file, is_beside};
+ghost use Rattle.office_commands.specs.SameFiles.{is_given_of_one_file, names_one_file};
 
 use command_line::Command;
 
-// Whether a path is that of a database with an ending.
-fn is_behind(path: &str, database: &str, ending: &str) -> bool
-    ensures { result ≡ bytes_eq path.now (database.now ++ ending.now) }
+// Whether a path is that of a file with an ending.
+fn is_behind(path: &str, file: &str, ending: &str) -> bool
+    ensures { result ≡ bytes_eq path.now (file.now ++ ending.now) }
 {
-    match path.strip_prefix(database) {
+    match path.strip_prefix(file) {
         Some(rest) => rest == ending,
         None => false,
     }
 }
 
-// Whether a path is that of a database, of its log or of the journal that SQLite may leave of it.
-fn is_of_database(path: &str, database: &str) -> bool
-    ensures { result ≡ is_of_database path.now database.now }
+// Whether a path is that of the log of a file, or of the journal that SQLite may leave of it.
+fn is_beside(path: &str, file: &str) -> bool
+    ensures { result ≡ is_beside path.now file.now }
 {
-    path == database || is_behind(path, database, "-wal") || is_behind(path, database, "-journal")
+    is_behind(path, file, "-wal") || is_behind(path, file, "-journal")
+}
+
+// Whether two paths are one, or the one stands beside the other.
+fn are_of_one_file(path: &str, database: &str) -> bool
+    ensures { result ≡ are_of_one_file path.now database.now }
+{
+    path == database || is_beside(path, database) || is_beside(database, path)
 }
 
 // The same of a path that may be given.
-fn is_one_of_database(path: Option<&str>, database: &str) -> bool
-    ensures { result ≡ is_one_of_database (option_copied path.entry) database.now }
+fn is_given_of_one_file(path: Option<&str>, database: &str) -> bool
+    ensures { result ≡ is_given_of_one_file (option_copied path.entry) database.now }
 {
     match path {
-        Some(path) => is_of_database(path, database),
+        Some(path) => are_of_one_file(path, database),
         None => false,
     }
 }
 
-/// Whether a command names a file of its database for its journal.
+/// Whether the journal and the database of a command are one file, or one stands beside the other.
 pub(crate) fn names_one_file(command: &Command<'_>) -> bool
     ensures { result ≡ names_one_file command.now }
 {
     match command {
-        Command::Init(words) => is_one_of_database(words.journal, words.database),
-        Command::Desk { database, journal } => is_one_of_database(*journal, database),
-        Command::Serve(words) => is_one_of_database(words.journal, words.database),
-        Command::Rebuild { database, journal } => is_of_database(journal, database),
+        Command::Init(words) => is_given_of_one_file(words.journal, words.database),
+        Command::Desk { database, journal } => is_given_of_one_file(*journal, database),
+        Command::Serve(words) => is_given_of_one_file(words.journal, words.database),
+        Command::Rebuild { database, journal } => are_of_one_file(journal, database),
         _ => false,
     }
 }

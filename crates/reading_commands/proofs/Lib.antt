@@ -1,2 +1,1 @@
 pub mod FailingFacts
-pub mod HistoryFacts

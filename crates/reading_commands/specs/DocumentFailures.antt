@@ -1,5 +1,5 @@
 -- Why `check`, `execve` and `compare` fail, and what they then have done.
-use Rattle.std.specs.Prelude.{◌≡◌, ℕ, List, Option, Result, Ok, Err, IfSome, String}
+use Rattle.std.specs.Prelude.{◌≡◌, ◌⊎◌, ℕ, List, Option, Result, Ok, Err, IfSome, String}
 use Rattle.std.specs.Prelude.{string_bytes}
 use Rattle.std.specs.declared.alloc.Global.{Global}
 use Rattle.std.specs.declared.io.Error.{Error}
@@ -7,16 +7,31 @@ use Rattle.command_line.specs.declared.command.ExecveWords.{ExecveWords}
 use Rattle.desk_http.specs.Lines.{IsCut}
 use Rattle.profile_commands.specs.Comparing.{IsBase, IsCompared, IsNew}
 use Rattle.profile_commands.specs.Executions.{execution_of, IsExecuted}
-use Rattle.profile_commands.specs.Refusal.{IsChecked, RefusesAs}
+use Rattle.profile_commands.specs.Refusal.{no_memory, IsChecked, RefusesAs}
 use Rattle.profile_commands.specs.declared.compare.ComparedFault.{ComparedFault}
 use Rattle.profile_commands.specs.declared.execution.Execution.{Execution}
 use Rattle.profile_commands.specs.declared.execve.ExecveOutcome.{ExecveOutcome}
 use Rattle.profile_commands.specs.declared.fault.FileFault.{FileFault}
+use Rattle.profile_commands.specs.declared.fault.FileFault.TheVariants as file
 use Rattle.streams.specs.declared.counted.Counted.{Counted}
+use Rattle.streams.specs.declared.up_to.Unread.TheVariants as unread
 use Rattle.reading_commands.specs.declared.compare.Source.{Source}
+use Rattle.command_host.specs.FailedCalls.{CallFailed}
 use Rattle.command_host.specs.declared.fault.CommandFault.{CommandFault}
 use Rattle.command_host.specs.declared.fault.CommandFault.TheVariants as fault
 use Rattle.reading_commands.specs.Documents.{outcome_text, source_bytes, IsSource}
+
+-- a file couldn't be read
+abbrev pub failed_read : FileFault
+failed_read = file.Unread unread.Failed
+
+-- Where a file gave nothing by this fault, that is told: the same, and a call of read failed where it
+-- is that the file couldn't be read; or, where it is that, a want of memory.
+abbrev pub IsToldOfFile : {F : Type 0} (Gives : F → F → Result ℕ Error → List ℕ → Type 0)
+    → (met told : FileFault) → Type 0
+IsToldOfFile Gives met told =
+    ((told ≡ met) × (met ≡ failed_read → ∥ CallFailed Gives ∥₁))
+    ⊎ ((told ≡ no_memory) × (met ≡ failed_read))
 
 -- Files of which this is known as they are opened at a path, and whose bytes are these.
 module _ {F : Type 0} (Opens : List ℕ → Result F Error → Type 0)
@@ -34,20 +49,20 @@ module _ {F : Type 0} (Opens : List ℕ → Result F Error → Type 0)
         (λ bytes. IsNew {X = String Global} bytes (Err why))
 
 -- What an output has after what it had, of files of which this is known as they are opened at a
--- path, and whose bytes are these.
+-- path and read, and whose bytes are these.
 module _ {F O : Type 0} (Opens : List ℕ → Result F Error → Type 0)
-    (bytes_of : F → Option (List ℕ)) (contents : O → Option (List ℕ))
-    (output wrote : Counted O) where
+    (Gives : F → F → Result ℕ Error → List ℕ → Type 0) (bytes_of : F → Option (List ℕ))
+    (contents : O → Option (List ℕ)) (output wrote : Counted O) where
   -- no file could be opened at a path, and nothing was printed
   abbrev pub IsUnopened : (path : List ℕ) → Type 0
   IsUnopened path = ((e : Error) × Opens path (Err e)) × (wrote ≡ output)
 
   -- the file at a path gave nothing, by a fault that is of its bytes where it is of a document, and
-  -- nothing was printed
+  -- that is a failed read only where a call of read failed; and nothing was printed
   abbrev pub GaveNothing : (path : List ℕ) → FileFault → Type 0
   GaveNothing path why =
       (file : F) × Opens path (Ok file) × IfSome (bytes_of file) (λ bytes. RefusesAs bytes why)
-      × (wrote ≡ output)
+      × (why ≡ failed_read → ∥ CallFailed Gives ∥₁) × (wrote ≡ output)
 
   -- `check` fails: no file can be opened, it gives nothing, or its text was cut
   abbrev pub FailsToCheck : (path : List ℕ) → CommandFault → Type 0

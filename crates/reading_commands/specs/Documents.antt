@@ -40,6 +40,15 @@ abbrev pub source_bytes : {F : Type 0} → (F → Option (List ℕ)) → Source 
 source_bytes bytes_of (Opened file) = bytes_of file
 source_bytes bytes_of Unopened = None
 
+-- of the files at two paths, BASE and NEW, of which this is known as they are opened, and whose bytes are
+-- these, the text says what NEW permits more
+abbrev pub WereCompared : {F : Type 0} → (Opens : List ℕ → Result F Error → Type 0)
+    → (bytes_of : F → Option (List ℕ)) → (base_path new_path : List ℕ) → String Global → Type 0
+WereCompared {F} Opens bytes_of base_path new_path text =
+    (base shown : Source F) × IsSource (Opens base_path) base × IsSource (Opens new_path) shown
+    × IfSome (source_bytes bytes_of base)
+    (λ b. IfSome (source_bytes bytes_of shown) (λ s. IsCompared b s text))
+
 -- What an output has after what it had, of files of which this is known as they are opened at a
 -- path, and whose bytes are these.
 module _ {F O : Type 0} (Opens : List ℕ → Result F Error → Type 0)

@@ -14,6 +14,7 @@ use Rattle.journal_reports.specs.declared.fault.NoEvidence.{NoEvidence}
 use Rattle.journal_reports.specs.declared.fault.Unwritten.{Unwritten}
 use Rattle.command_host.specs.declared.fault.CommandFault.{CommandFault}
 use Rattle.command_host.specs.declared.fault.CommandFault.TheVariants as fault
+use Rattle.command_host.specs.FailedCalls.{IsToldOf}
 use Rattle.command_host.specs.JournalTexts.{IsNoText, IsTextAt}
 use Rattle.reading_commands.specs.declared.history.Names.{Names}
 use Rattle.office_desk.specs.Meant.{meaning_over}
@@ -60,18 +61,18 @@ NamesNone words why =
     IsNoName (option_copied words.team) why ⊎ IsNoName (option_copied words.profile) why
     ⊎ IsNoName (option_copied words.user) why
 
--- of journals of which this is known as they are opened, and whose bytes are these
+-- of journals of which this is known as they are opened and read, and whose bytes are these
 module _ {F : Type 0} (Opens : List ℕ → Result F Error → Type 0)
-    (bytes_of : F → Option (List ℕ)) where
+    (Gives : F → F → Result ℕ Error → List ℕ → Type 0) (bytes_of : F → Option (List ℕ)) where
   module _ (words : EvidenceWords) where
-    -- a journal was opened at the path that the words name, and the text is its evidence of the
-    -- issue of the revision that they name
+    -- a journal was opened at the path that the words name, and the text is its evidence, of the
+    -- revision and the event that they name
     pub record IsEvidenceAt (text : List ℕ) : Type 0 where
       pub bytes : Option (List ℕ)
       pub journal : IsTextAt (Opens words.journal.now) bytes_of bytes
       pub left : Held MemoryStore
-      pub evidence : IsEvidence bytes (profile_of words) words.revision (meaning_over over_memory)
-          left text
+      pub evidence : IsEvidence bytes (profile_of words) words.revision words.line
+          (meaning_over over_memory) left text
 
     -- a journal was opened there, and has no evidence, for this
     pub record HasNoEvidence (why : NoEvidence) : Type 0 where
@@ -79,14 +80,15 @@ module _ {F : Type 0} (Opens : List ℕ → Result F Error → Type 0)
       pub journal : IsTextAt (Opens words.journal.now) bytes_of bytes
       pub conn : Held MemoryStore
       pub left : Held MemoryStore
-      pub none : IsNoEvidence bytes (profile_of words) words.revision over_memory conn left why
+      pub none : IsNoEvidence bytes (profile_of words) words.revision words.line over_memory conn
+          left why
 
-    -- the journal has no evidence; the words name no profile; no journal can be opened; or there
-    -- was no memory
+    -- the words name no profile; no journal can be opened; there was no memory; or the journal has
+    -- no evidence, which is told
     abbrev pub IsNoEvidenceAt : CommandFault → Type 0
-    IsNoEvidenceAt (fault.NoEvidence why) = HasNoEvidence why
-    IsNoEvidenceAt fault.NoMemory = Unit {0}
-    IsNoEvidenceAt why = IsNoProfile words why ⊎ IsNoText (Opens words.journal.now) why
+    IsNoEvidenceAt why =
+        IsNoProfile words why ⊎ IsNoText (Opens words.journal.now) why ⊎ (why ≡ fault.NoMemory)
+        ⊎ ((met : NoEvidence) × HasNoEvidence met × IsToldOf Gives (fault.NoEvidence met) why)
 
   -- What an output has after what it had.
   module _ {O : Type 0} (contents : O → Option (List ℕ)) (output wrote : Counted O) where
@@ -123,10 +125,10 @@ module _ {F : Type 0} (Opens : List ℕ → Result F Error → Type 0)
         pub unwritten : IsUnwritten bytes (asked_of words) (contents output.inner)
             (contents wrote.inner) over_memory conn left why
 
-      -- not each line was written; or the words name no team, profile or user, no journal can be
-      -- opened, or there was no memory, and nothing was written
+      -- the words name no team, profile or user, no journal can be opened, or there was no memory,
+      -- and nothing was written; or not each line was written, which is told
       abbrev pub IsUntoldAt : CommandFault → Type 0
-      IsUntoldAt (fault.Unwritten why) = WasUntold why
-      IsUntoldAt fault.NoMemory = wrote ≡ output
       IsUntoldAt why =
-          (NamesNone words why ⊎ IsNoText (Opens words.journal.now) why) × (wrote ≡ output)
+          ((NamesNone words why ⊎ IsNoText (Opens words.journal.now) why ⊎ (why ≡ fault.NoMemory))
+          × (wrote ≡ output))
+          ⊎ ((met : Unwritten) × WasUntold met × IsToldOf Gives (fault.Unwritten met) why)

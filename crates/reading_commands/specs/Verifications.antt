@@ -1,5 +1,5 @@
 -- An office in a file that was compared with the one that a journal tells.
-use Rattle.std.specs.Prelude.{◌≡◌, ◌⊎◌, ℕ, List, ◌++◌, codes, decimal, Option, Result}
+use Rattle.std.specs.Prelude.{◌≡◌, ◌⊎◌, ℕ, List, codes, Option, Result}
 use Rattle.std.specs.declared.io.Error.{Error as IoError}
 use Rattle.sqlite.specs.Held.{Held, state}
 use Rattle.command_line.specs.declared.command.KeptSeal.{KeptSeal}
@@ -10,22 +10,19 @@ use Rattle.journal_verification.specs.declared.verification.Unverified.{Unverifi
 use Rattle.journal_verification.specs.declared.verification.Verified.{Verified}
 use Rattle.command_host.specs.declared.fault.CommandFault.{CommandFault}
 use Rattle.command_host.specs.declared.fault.CommandFault.TheVariants as fault
+use Rattle.command_host.specs.FailedCalls.{IsToldOf}
 use Rattle.command_host.specs.JournalTexts.{IsNoText, IsTextAt}
+use Rattle.command_host.specs.Said.{seal_line}
 use Rattle.memory_database.specs.Copies.{CopyStore, over_copy}
 use Rattle.reading_commands.specs.Copied.{IsCopiedOffice, IsNoCopiedOffice}
 use Rattle.reading_commands.specs.KeptSeals.{HadNoSeal, HadOtherSeal, HadSeal}
 use Rattle.streams.specs.declared.counted.Counted.{Counted}
 
--- the line that says how many events an office has, and the seal of its journal
-abbrev pub verified_line : Verified → List ℕ
-verified_line verified =
-    codes "verified " ++ decimal verified.events ++ codes " events, seal " ++ verified.seal
-    ++ codes "\n"
-
--- Of files of which this is known as they are opened, and whose bytes are these: that of a journal, and
--- those of the database at a path.
+-- Of files of which this is known as they are opened and read, and whose bytes are these: that of a
+-- journal, and those of the database at a path.
 module _ {F : Type 0} (Opens : List ℕ → Result F IoError → Type 0)
-    (bytes_of : F → Option (List ℕ)) (journal path : List ℕ) where
+    (Gives : F → F → Result ℕ IoError → List ℕ → Type 0) (bytes_of : F → Option (List ℕ))
+    (journal path : List ℕ) where
   -- A journal and an office in a copy were opened. The office is that of the lawful history that the
   -- journal tells, of so many events, and this is the seal of the journal.
   pub record WasVerified (found : Verified) : Type 0 where
@@ -33,7 +30,7 @@ module _ {F : Type 0} (Opens : List ℕ → Result F IoError → Type 0)
     pub from_journal : IsTextAt (Opens journal) bytes_of text
     pub old : Held CopyStore
     pub new : Held CopyStore
-    pub office : IsCopiedOffice Opens bytes_of path old
+    pub office : IsCopiedOffice Opens Gives bytes_of path old
     pub looked : HasLooked (state over_copy old) (state over_copy new)
     pub verified : IsVerified text over_copy new found
 
@@ -43,19 +40,20 @@ module _ {F : Type 0} (Opens : List ℕ → Result F IoError → Type 0)
     pub from_journal : IsTextAt (Opens journal) bytes_of text
     pub old : Held CopyStore
     pub new : Held CopyStore
-    pub office : IsCopiedOffice Opens bytes_of path old
+    pub office : IsCopiedOffice Opens Gives bytes_of path old
     pub looked : HasLooked (state over_copy old) (state over_copy new)
     pub unverified : IsUnverified text over_copy old new why
 
-  -- there is no text, or no office; or the office isn't that of the journal
+  -- there is no text, or no office; or the office isn't that of the journal, which is told
   abbrev pub IsUnverifiedAt : CommandFault → Type 0
-  IsUnverifiedAt (fault.Unverified why) = WasUnverified why
-  IsUnverifiedAt why = IsNoText (Opens journal) why ⊎ IsNoCopiedOffice Opens bytes_of path why
+  IsUnverifiedAt why =
+      IsNoText (Opens journal) why ⊎ IsNoCopiedOffice Opens Gives bytes_of path why
+      ⊎ ((met : Unverified) × WasUnverified met × IsToldOf Gives (fault.Unverified met) why)
 
   module _ (kept : Option KeptSeal) where
     -- a journal had the seal that was kept, and then the office was that of the journal
     pub record WasVerifiedWith (found : Verified) : Type 0 where
-      pub seal : HadSeal (Opens journal) bytes_of kept
+      pub seal : HadSeal (Opens journal) Gives bytes_of kept
       pub office : WasVerified found
 
     -- the office isn't that of the journal; or the journal had another seal, or none could be read
@@ -63,8 +61,8 @@ module _ {F : Type 0} (Opens : List ℕ → Result F IoError → Type 0)
     abbrev pub IsUnverifiedWith : CommandFault → Type 0
     IsUnverifiedWith why =
         IsUnverifiedAt why
-        ⊎ ((why ≡ fault.OtherSeal) × HadOtherSeal (Opens journal) bytes_of kept)
-        ⊎ ((why ≡ fault.Open) × HadNoSeal (Opens journal) bytes_of kept)
+        ⊎ ((why ≡ fault.OtherSeal) × HadOtherSeal (Opens journal) Gives bytes_of kept)
+        ⊎ ((why ≡ fault.Open) × HadNoSeal (Opens journal) Gives bytes_of kept)
 
     -- What an output has after what it had.
     module _ {O : Type 0} (contents : O → Option (List ℕ)) (output wrote : Counted O) where
@@ -72,12 +70,14 @@ module _ {F : Type 0} (Opens : List ℕ → Result F IoError → Type 0)
       pub record HasVerified : Type 0 where
         pub verified : Verified
         pub office : WasVerifiedWith verified
-        pub printed : IsWhole contents output wrote (verified_line verified)
+        pub printed : IsWhole contents output wrote
+            (seal_line (codes "verified") verified.events verified.seal)
 
       -- it wasn't, for want of memory, or was cut
       abbrev pub IsUnsaid : Verified → CommandFault → Type 0
       IsUnsaid verified fault.NoMemory = wrote ≡ output
-      IsUnsaid verified fault.Write = IsCut contents output wrote (verified_line verified)
+      IsUnsaid verified fault.Write = IsCut contents output wrote
+          (seal_line (codes "verified") verified.events verified.seal)
       IsUnsaid verified _ = ⊥
 
       -- the office isn't that of the journal, or the seal isn't, and nothing was printed; or they

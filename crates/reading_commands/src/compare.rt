@@ -1,9 +1,7 @@
 //! `compare`: what one document permits more than another.
 
-ghost use Rattle.std.specs.Prelude.{IfErr, IfOk, IfSome};
-ghost use Rattle.profile_commands.specs.Comparing.{IsCompared};
-ghost use Rattle.reading_commands.specs.declared.compare.Source.{Source};
-ghost use Rattle.reading_commands.specs.Documents.{IsSource, source_bytes};
+ghost use Rattle.std.specs.Prelude.{IfErr, IfOk};
+ghost use Rattle.reading_commands.specs.Documents.{IsSource, WereCompared};
 ghost use Rattle.reading_commands.specs.DocumentFailures.{IsUncompared};
 
 use command_host::PassFiles;
@@ -50,10 +48,8 @@ pub(crate) fn compare_files<F: PassFiles>(
     base: &str,
     new: &str,
 ) -> Result<String, ComparedFault>
-    ensures compared { IfOk result (λ text. (old shown : Source F.File)
-        × IsSource (F.opens files.now base.now) old × IsSource (F.opens files.now new.now) shown
-        × IfSome (source_bytes F.File.remaining old) (λ b.
-        IfSome (source_bytes F.File.remaining shown) (λ s. IsCompared b s text))) }
+    ensures compared { IfOk result (WereCompared (F.opens files.now) F.File.remaining
+        base.now new.now) }
     ensures failed { IfErr result (λ why. IsUncompared (F.opens files.now) F.File.remaining
         base.now new.now why) }
 {

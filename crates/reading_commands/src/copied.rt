@@ -8,7 +8,7 @@ ghost use Rattle.reading_commands.specs.Copied.{Gave, GaveLog, GaveNone, IsCopie
 ghost use Rattle.reading_commands.specs.Copied.{IsCopyAt, IsNoCopiedOffice, IsNoCopy};
 ghost use Rattle.reading_commands.specs.Copied.{IsOfReading};
 
-use command_host::{CommandFault, PassFiles, fault_of_opening};
+use command_host::{CommandFault, Noted, PassFiles, fault_of_opening};
 use memory_database::{CopyStore, open_copy};
 use office_desk::Office;
 use review_policy::Fault;
@@ -16,17 +16,17 @@ use sqlite::Connection;
 use std::alloc::Global;
 use std::io::{ErrorKind, Read};
 
-// All bytes of a file.
-fn bytes_in<R: Read>(alloc: Global, file: &mut R) -> Result<Vec<u8>, Fault>
+// All bytes of a file that was opened.
+fn bytes_in<F: PassFiles>(alloc: Global, file: &mut Noted<'_, F>) -> Result<Vec<u8>, Fault>
     ensures bytes { IfOk result (λ bytes.
-        IfSome (R.remaining file.old) (λ all. bytes.items ≡ all)) }
-    ensures fault { IfErr result IsOfReading }
+        IfSome (F.File.remaining file.old.file) (λ all. bytes.items ≡ all)) }
+    ensures fault { IfErr result (IsOfReading F.gives) }
 {
     let mut bytes = Vec::new(alloc);
     match file.read_to_end(&mut bytes) {
         Ok(_) => Ok(bytes),
-        Err(error) if error.kind() == ErrorKind::OutOfMemory => Err(Fault::NoMemory),
-        Err(_) => Err(Fault::Disk),
+        Err(_) if file.has_failed() => Err(Fault::Disk),
+        Err(_) => Err(Fault::NoMemory),
     }
 }
 
@@ -34,10 +34,10 @@ fn bytes_in<R: Read>(alloc: Global, file: &mut R) -> Result<Vec<u8>, Fault>
 fn bytes_at<F: PassFiles>(files: &F, alloc: Global, path: &str) -> Result<Vec<u8>, Fault>
     ensures bytes { IfOk result (λ bytes.
         Gave (F.opens files.now path.now) F.File.remaining bytes.items) }
-    ensures none { IfErr result (GaveNone (F.opens files.now path.now)) }
+    ensures none { IfErr result (GaveNone (F.opens files.now path.now) F.gives) }
 {
     match files.open_at(path) {
-        Ok(mut file) => bytes_in(alloc, &mut file),
+        Ok(file) => bytes_in(alloc, &mut Noted::new(files, file)),
         Err(error) if error.kind() == ErrorKind::NotFound => Err(Fault::NotAnOffice),
         Err(_) => Err(Fault::Disk),
     }
@@ -46,16 +46,18 @@ fn bytes_at<F: PassFiles>(files: &F, alloc: Global, path: &str) -> Result<Vec<u8
 // The bytes of the log beside a database; none where no log is there.
 fn log_at<F: PassFiles>(files: &F, alloc: Global, path: &str) -> Result<Vec<u8>, Fault>
     ensures bytes { IfOk result (λ bytes.
-        GaveLog (F.opens files.now) F.File.remaining path.now bytes.items) }
-    ensures none { IfErr result (IsNoCopy (F.opens files.now) F.File.remaining path.now) }
+        GaveLog (F.opens files.now) F.gives F.File.remaining path.now bytes.items) }
+    ensures none { IfErr result (IsNoCopy (F.opens files.now) F.gives F.File.remaining path.now) }
 {
     let Ok(log) = format!(in alloc; "{path}-wal") else {
         return Err(Fault::NoMemory);
     };
     match bytes_at(files, alloc, log.as_str()) {
         Ok(bytes) => Ok(bytes),
-        Err(Fault::NotAnOffice) => Ok(Vec::new(alloc)),
-        Err(fault) => Err(fault),
+        Err(fault) => match fault {
+            Fault::NotAnOffice => Ok(Vec::new(alloc)),
+            _ => Err(fault),
+        },
     }
 }
 
@@ -65,8 +67,8 @@ fn copy_at<F: PassFiles>(
     alloc: Global,
     path: &str,
 ) -> Result<Connection<CopyStore>, Fault>
-    ensures copy { IfOk result (IsCopyAt (F.opens files.now) F.File.remaining path.now) }
-    ensures none { IfErr result (IsNoCopy (F.opens files.now) F.File.remaining path.now) }
+    ensures copy { IfOk result (IsCopyAt (F.opens files.now) F.gives F.File.remaining path.now) }
+    ensures none { IfErr result (IsNoCopy (F.opens files.now) F.gives F.File.remaining path.now) }
 {
     let database = bytes_at(files, alloc, path)?;
     let log = log_at(files, alloc, path)?;
@@ -89,10 +91,10 @@ pub(crate) fn office_in_copy<F: PassFiles>(
     alloc: Global,
     path: &str,
 ) -> Result<Connection<CopyStore>, CommandFault>
-    ensures office { IfOk result (IsCopiedOffice (F.opens files.now) F.File.remaining path.now) }
+    ensures office { IfOk result (IsCopiedOffice (F.opens files.now) F.gives F.File.remaining path.now) }
     ensures idle { IfOk result (λ conn. IsIdle (state over_copy conn)) }
     ensures none { IfErr result
-        (IsNoCopiedOffice (F.opens files.now) F.File.remaining path.now) }
+        (IsNoCopiedOffice (F.opens files.now) F.gives F.File.remaining path.now) }
 {
     let conn = match copy_at(files, alloc, path) {
         Ok(conn) => conn,

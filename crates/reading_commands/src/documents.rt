@@ -3,29 +3,43 @@
 ghost use Rattle.std.specs.Prelude.{◌≡◌, IfErr, IfOk, string_bytes};
 ghost use Rattle.std.specs.declared.io.Error.{Error};
 ghost use Rattle.reading_commands.specs.DocumentFailures.{FailsToCheck, FailsToCompare};
-ghost use Rattle.reading_commands.specs.DocumentFailures.{FailsToExecute};
+ghost use Rattle.reading_commands.specs.DocumentFailures.{FailsToExecute, IsToldOfFile};
 ghost use Rattle.reading_commands.specs.Documents.{findings_status, HasChecked, HasCompared};
 ghost use Rattle.reading_commands.specs.Documents.{HasExecuted};
 
 use crate::compare::compare_files;
-use command_host::{CommandFault, PassFiles, print};
+use command_host::{CommandFault, Noted, PassFiles, print};
 use command_line::ExecveWords;
-use profile_commands::{ExecveOutcome, check_document, execution_of, execve_document};
+use profile_commands::{ExecveOutcome, FileFault, check_document, execution_of, execve_document};
 use std::alloc::Global;
 use std::io::Write;
-use streams::Counted;
+use streams::{Counted, Unread};
 
 // The file at this path, for reading.
-fn open<F: PassFiles>(files: &F, path: &str) -> Result<Counted<F::File>, CommandFault>
-    ensures opened { IfOk result (λ reader. F.opens files.now path.now (Ok reader.inner)) }
+fn open<'f, F: PassFiles>(files: &'f F, path: &str) -> Result<Counted<Noted<'f, F>>, CommandFault>
+    ensures opened { IfOk result (λ reader. F.opens files.now path.now (Ok reader.inner.file)) }
     ensures calls { IfOk result (λ reader. reader.calls ≡ 0) }
     ensures faults { IfOk result (λ reader. reader.faults ≡ 0) }
     ensures fault { IfErr result (λ fault. (fault ≡ CommandFault.Open)
         × ((e : Error) × F.opens files.now path.now (Err e))) }
 {
     match files.open_at(path) {
-        Ok(file) => Ok(Counted::new(file)),
+        Ok(file) => Ok(Counted::new(Noted::new(files, file))),
         Err(_) => Err(CommandFault::Open),
+    }
+}
+
+// What is told where a file gave nothing by this fault. `NoMemory` stands in place of a failed read
+// where no call of read failed, which no file has.
+fn told_of_file<F: PassFiles>(reader: Counted<Noted<'_, F>>, met: FileFault) -> FileFault
+    ensures { IsToldOfFile F.gives met result }
+{
+    let file = reader.into_inner();
+    match met {
+        FileFault::Unread(Unread::Failed) if !file.has_failed() => {
+            FileFault::Unread(Unread::NoMemory)
+        }
+        met => met,
     }
 }
 
@@ -44,11 +58,14 @@ pub fn run_check<F: PassFiles, O: Write>(
     ensures done { IfOk result (λ status.
         HasChecked (F.opens files.now) F.File.remaining O.contents output.old output.new file.now
         × (status ≡ 0)) }
-    ensures failed { IfErr result (FailsToCheck (F.opens files.now) F.File.remaining O.contents
+    ensures failed { IfErr result (FailsToCheck (F.opens files.now) F.gives F.File.remaining O.contents
         output.old output.new file.now) }
 {
     let mut reader = open(files, file)?;
-    let text = check_document(alloc, &mut reader)?;
+    let text = match check_document(alloc, &mut reader) {
+        Ok(text) => text,
+        Err(met) => return Err(CommandFault::File(told_of_file(reader, met))),
+    };
     print(output, text.as_str())?;
     Ok(0)
 }
@@ -68,12 +85,16 @@ pub fn run_execve<F: PassFiles, O: Write>(
     ensures done { IfOk result
         (HasExecuted (F.opens files.now) F.File.remaining O.contents output.old output.new
         words.now) }
-    ensures failed { IfErr result (FailsToExecute (F.opens files.now) F.File.remaining O.contents
+    ensures failed { IfErr result (FailsToExecute (F.opens files.now) F.gives F.File.remaining O.contents
         output.old output.new words.now) }
 {
     let execution = execution_of(words)?;
     let mut reader = open(files, words.file)?;
-    match execve_document(alloc, &execution, &mut reader)? {
+    let outcome = match execve_document(alloc, &execution, &mut reader) {
+        Ok(outcome) => outcome,
+        Err(met) => return Err(CommandFault::File(told_of_file(reader, met))),
+    };
+    match outcome {
         ExecveOutcome::Done(text) => {
             print(output, text.as_str())?;
             Ok(0)
@@ -107,7 +128,7 @@ pub fn run_compare<F: PassFiles, O: Write>(
 ) -> Result<u8, CommandFault>
     ensures done { IfOk result (HasCompared (F.opens files.now) F.File.remaining O.contents
         output.old output.new base.now new.now) }
-    ensures failed { IfErr result (FailsToCompare (F.opens files.now) F.File.remaining O.contents
+    ensures failed { IfErr result (FailsToCompare (F.opens files.now) F.gives F.File.remaining O.contents
         output.old output.new base.now new.now) }
 {
     let text = compare_files(files, alloc, base, new)?;

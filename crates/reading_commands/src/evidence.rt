@@ -1,4 +1,4 @@
-//! `evidence`: on what a revision was issued.
+//! `evidence`: on what a revision was issued, or how its sheet stood before an event.
 
 ghost use Rattle.std.specs.Prelude.{◌≡◌, IfErr, IfOk};
 ghost use Rattle.reading_commands.specs.Reports.{FailsToProve, HasProved, IsEvidenceAt};
@@ -6,7 +6,7 @@ ghost use Rattle.reading_commands.specs.Reports.{IsNoEvidenceAt, IsNoProfile};
 ghost use Rattle.reading_commands.specs.Reports.{profile_of};
 
 use crate::name::word_of;
-use command_host::{CommandFault, PassFiles, print, text_at};
+use command_host::{CommandFault, PassFiles, print, text_at, told_of_text};
 use command_line::EvidenceWords;
 use journal_reports::evidence;
 use memory_database::open_in_memory;
@@ -30,7 +30,7 @@ fn profile_of(alloc: Global, words: &EvidenceWords<'_>) -> Result<ProfileName, C
     }
 }
 
-/// The evidence of the issue that words name, of the journal that they name.
+/// The evidence of the revision and the event that words name, of the journal that they name.
 ///
 /// # Errors
 ///
@@ -41,27 +41,27 @@ pub(crate) fn evidence_at<F: PassFiles>(
     alloc: Global,
     words: &EvidenceWords<'_>,
 ) -> Result<Text, CommandFault>
-    ensures evidence { IfOk result (IsEvidenceAt (F.opens files.now) F.File.remaining words.now) }
-    ensures none { IfErr result (IsNoEvidenceAt (F.opens files.now) F.File.remaining words.now) }
+    ensures evidence { IfOk result (IsEvidenceAt (F.opens files.now) F.gives F.File.remaining words.now) }
+    ensures none { IfErr result (IsNoEvidenceAt (F.opens files.now) F.gives F.File.remaining words.now) }
 {
     let name = match profile_of(alloc, words) {
         Ok(name) => name,
         Err(fault) => return Err(fault),
     };
-    let text = match text_at(files, alloc, words.journal) {
+    let mut text = match text_at(files, alloc, words.journal) {
         Ok(text) => text,
         Err(fault) => return Err(fault),
     };
     let Ok(conn) = open_in_memory(alloc) else {
         return Err(CommandFault::NoMemory);
     };
-    match evidence(alloc, conn, text, &name, words.revision) {
+    match evidence(alloc, conn, &mut text, &name, words.revision, words.line) {
         Ok((text, _)) => Ok(text),
-        Err((why, _)) => Err(CommandFault::NoEvidence(why)),
+        Err((why, _)) => Err(told_of_text(&text, CommandFault::NoEvidence(why))),
     }
 }
 
-/// `evidence`: prints the evidence of an issue.
+/// `evidence`: prints the evidence of an event.
 ///
 /// # Errors
 ///
@@ -72,9 +72,9 @@ pub fn run_evidence<F: PassFiles, O: Write>(
     words: &EvidenceWords<'_>,
     output: &mut Counted<O>,
 ) -> Result<u8, CommandFault>
-    ensures done { IfOk result (λ status. HasProved (F.opens files.now) F.File.remaining
+    ensures done { IfOk result (λ status. HasProved (F.opens files.now) F.gives F.File.remaining
         O.contents output.old output.new words.now × (status ≡ 0)) }
-    ensures failed { IfErr result (FailsToProve (F.opens files.now) F.File.remaining O.contents
+    ensures failed { IfErr result (FailsToProve (F.opens files.now) F.gives F.File.remaining O.contents
         output.old output.new words.now) }
 {
     let text = match evidence_at(files, alloc, words) {

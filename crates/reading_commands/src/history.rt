@@ -1,11 +1,11 @@
 //! `history`: what a journal tells, a line an event.
 
-ghost use Rattle.std.specs.Prelude.{◌≡◌, IfErr, IfOk, OnOk};
+ghost use Rattle.std.specs.Prelude.{◌≡◌, IfErr, IfOk};
 ghost use Rattle.reading_commands.specs.Reports.{HasNames, IsUntoldAt, NamesNone, WasToldAt};
 ghost use Rattle.reading_commands.specs.Reports.{asked_of};
 
 use crate::name::name_of;
-use command_host::{CommandFault, PassFiles, text_at};
+use command_host::{CommandFault, PassFiles, text_at, told_of_text};
 use command_line::HistoryWords;
 use journal_reports::{Filter, write_history};
 use memory_database::open_in_memory;
@@ -59,28 +59,28 @@ fn filter_of<'n>(names: &'n Names, words: &HistoryWords<'_>) -> Filter<'n>
     }
 }
 
-/// Writes the history of the journal that words name: a line for each event that they ask for.
+/// `history`: prints a line for each event of a journal that the words ask for, and gives the status.
 ///
 /// # Errors
 ///
 /// `NotAWord` where T, P or U is none, before the journal is opened; and why not each line was
 /// written. The lines of the events before were.
-pub(crate) fn history_at<F: PassFiles, O: Write>(
+pub fn run_history<F: PassFiles, O: Write>(
     files: &F,
     alloc: Global,
     words: &HistoryWords<'_>,
     output: &mut Counted<O>,
-) -> Result<(), CommandFault>
-    ensures told { OnOk result (WasToldAt (F.opens files.now) F.File.remaining O.contents
-        output.old output.new words.now) }
-    ensures untold { IfErr result (IsUntoldAt (F.opens files.now) F.File.remaining O.contents
+) -> Result<u8, CommandFault>
+    ensures done { IfOk result (λ status. WasToldAt (F.opens files.now) F.gives F.File.remaining
+        O.contents output.old output.new words.now × (status ≡ 0)) }
+    ensures failed { IfErr result (IsUntoldAt (F.opens files.now) F.gives F.File.remaining O.contents
         output.old output.new words.now) }
 {
     let names = match names_of(alloc, words) {
         Ok(names) => names,
         Err(fault) => return Err(fault),
     };
-    let text = match text_at(files, alloc, words.journal) {
+    let mut text = match text_at(files, alloc, words.journal) {
         Ok(text) => text,
         Err(fault) => return Err(fault),
     };
@@ -88,30 +88,8 @@ pub(crate) fn history_at<F: PassFiles, O: Write>(
         return Err(CommandFault::NoMemory);
     };
     let filter = filter_of(&names, words);
-    match write_history(alloc, conn, text, &filter, output) {
-        Ok(_) => Ok(()),
-        Err((why, _)) => Err(CommandFault::Unwritten(why)),
-    }
-}
-
-/// `history`: prints a line for each event of a journal that the words ask for.
-///
-/// # Errors
-///
-/// As of `history_at`.
-pub fn run_history<F: PassFiles, O: Write>(
-    files: &F,
-    alloc: Global,
-    words: &HistoryWords<'_>,
-    output: &mut Counted<O>,
-) -> Result<u8, CommandFault>
-    ensures done { IfOk result (λ status. WasToldAt (F.opens files.now) F.File.remaining
-        O.contents output.old output.new words.now × (status ≡ 0)) }
-    ensures failed { IfErr result (IsUntoldAt (F.opens files.now) F.File.remaining O.contents
-        output.old output.new words.now) }
-{
-    match history_at(files, alloc, words, output) {
-        Ok(()) => Ok(0),
-        Err(fault) => Err(fault),
+    match write_history(alloc, conn, &mut text, &filter, output) {
+        Ok(_) => Ok(0),
+        Err((why, _)) => Err(told_of_text(&text, CommandFault::Unwritten(why))),
     }
 }

@@ -30,7 +30,7 @@ pub(crate) fn line_at<F: PassFiles>(
     path: &str,
     kept: Option<KeptSeal>,
 ) -> Result<Line, CommandFault>
-    ensures line { IfOk result (IsLine (F.opens files.now path.now) F.File.remaining kept) }
+    ensures line { IfOk result (IsLine (F.opens files.now path.now) F.gives F.File.remaining kept) }
     ensures none { IfErr result (IsNoText (F.opens files.now path.now)) }
 {
     let Some(kept) = kept else {
@@ -44,6 +44,7 @@ pub(crate) fn line_at<F: PassFiles>(
         Ok(Some(seal)) if seal == kept.seal => Ok(Line::Same),
         Ok(_) => Ok(Line::Other),
         Err(NoBody::NoMemory) => Err(CommandFault::NoMemory),
+        Err(NoBody::Read) if !text.get_ref().has_failed() => Err(CommandFault::NoMemory),
         Err(_) => Ok(Line::Unread),
     }
 }

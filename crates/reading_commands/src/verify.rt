@@ -3,27 +3,16 @@
 ghost use Rattle.std.specs.Prelude.{◌≡◌, IfErr, IfOk};
 ghost use Rattle.reading_commands.specs.Verifications.{FailsToVerify, HasVerified};
 ghost use Rattle.reading_commands.specs.Verifications.{IsUnverifiedAt, IsUnverifiedWith};
-ghost use Rattle.reading_commands.specs.Verifications.{WasVerified, WasVerifiedWith, verified_line};
+ghost use Rattle.reading_commands.specs.Verifications.{WasVerified, WasVerifiedWith};
 
 use crate::copied::office_in_copy;
 use crate::kept_seal::{Line, line_at};
-use command_host::{CommandFault, PassFiles, print_bytes, text_at};
+use command_host::{CommandFault, PassFiles, print_bytes, seal_line, text_at, told_of_text};
 use command_line::VerifyWords;
 use journal_verification::{Verified, verify};
-use std::alloc::{AllocError, Global};
+use std::alloc::Global;
 use std::io::Write;
 use streams::Counted;
-
-// The line that says how many events an office has, and the seal of its journal.
-fn verified_line(alloc: Global, verified: &Verified) -> Result<Vec<u8>, AllocError>
-    ensures { IfOk result (λ line. line.items ≡ verified_line verified.now) }
-{
-    let events = format!(in alloc; "verified {} events, seal ", verified.events)?;
-    let mut line = Vec::from_slice(alloc, events.as_str().as_bytes())?;
-    line.extend_from_slice(&verified.seal)?;
-    line.push(b'\n')?;
-    Ok(line)
-}
 
 // Compares the office in a copy of a database with the one that a journal tells.
 fn verify_at<F: PassFiles>(
@@ -32,12 +21,12 @@ fn verify_at<F: PassFiles>(
     database: &str,
     journal: &str,
 ) -> Result<Verified, CommandFault>
-    ensures verified { IfOk result (WasVerified (F.opens files.now) F.File.remaining
+    ensures verified { IfOk result (WasVerified (F.opens files.now) F.gives F.File.remaining
         journal.now database.now) }
-    ensures failed { IfErr result (IsUnverifiedAt (F.opens files.now) F.File.remaining
+    ensures failed { IfErr result (IsUnverifiedAt (F.opens files.now) F.gives F.File.remaining
         journal.now database.now) }
 {
-    let text = match text_at(files, alloc, journal) {
+    let mut text = match text_at(files, alloc, journal) {
         Ok(text) => text,
         Err(fault) => return Err(fault),
     };
@@ -45,9 +34,9 @@ fn verify_at<F: PassFiles>(
         Ok(conn) => conn,
         Err(fault) => return Err(fault),
     };
-    match verify(alloc, text, &mut conn) {
+    match verify(alloc, &mut text, &mut conn) {
         Ok(verified) => Ok(verified),
-        Err(why) => Err(CommandFault::Unverified(why)),
+        Err(why) => Err(told_of_text(&text, CommandFault::Unverified(why))),
     }
 }
 
@@ -62,9 +51,9 @@ fn verify_with<F: PassFiles>(
     alloc: Global,
     words: &VerifyWords<'_>,
 ) -> Result<Verified, CommandFault>
-    ensures verified { IfOk result (WasVerifiedWith (F.opens files.now) F.File.remaining
+    ensures verified { IfOk result (WasVerifiedWith (F.opens files.now) F.gives F.File.remaining
         words.now.journal.now words.now.database.now words.now.seal) }
-    ensures failed { IfErr result (IsUnverifiedWith (F.opens files.now) F.File.remaining
+    ensures failed { IfErr result (IsUnverifiedWith (F.opens files.now) F.gives F.File.remaining
         words.now.journal.now words.now.database.now words.now.seal) }
 {
     match line_at(files, alloc, words.journal, words.seal) {
@@ -96,10 +85,10 @@ pub fn run_verify<F: PassFiles, O: Write>(
     words: &VerifyWords<'_>,
     output: &mut Counted<O>,
 ) -> Result<u8, CommandFault>
-    ensures done { IfOk result (λ status. HasVerified (F.opens files.now) F.File.remaining
+    ensures done { IfOk result (λ status. HasVerified (F.opens files.now) F.gives F.File.remaining
         words.now.journal.now words.now.database.now words.now.seal
         O.contents output.old output.new × (status ≡ 0)) }
-    ensures failed { IfErr result (FailsToVerify (F.opens files.now) F.File.remaining
+    ensures failed { IfErr result (FailsToVerify (F.opens files.now) F.gives F.File.remaining
         words.now.journal.now words.now.database.now words.now.seal
         O.contents output.old output.new) }
 {
@@ -107,7 +96,7 @@ pub fn run_verify<F: PassFiles, O: Write>(
         Ok(verified) => verified,
         Err(fault) => return Err(fault),
     };
-    let Ok(line) = verified_line(alloc, &verified) else {
+    let Ok(line) = seal_line(alloc, "verified", verified.events, &verified.seal) else {
         return Err(CommandFault::NoMemory);
     };
     match print_bytes(output, &line) {

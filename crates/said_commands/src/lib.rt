@@ -2,7 +2,7 @@
 #![tactic(auto)]
 
 use command_host::{Databases, HostJournals, Network, UnknownFiles};
-use office_commands::run_words;
+use office_commands::run_over;
 use sqlite::{Alter, Connection};
 use std::alloc::{AllocError, Global};
 use std::io::Write;
@@ -38,10 +38,11 @@ fn run_line<S: Alter + Drop, D: Databases<Database = Connection<S>>, N: Network,
         words.push(String::from_str(alloc, word)?)?;
     }
     let mut errors = Counted::new(Vec::new(alloc));
-    let status = run_words(
-        rt,
+    let journals = HostJournals::new(rt, UnknownFiles);
+    let status = run_over(
         databases,
-        &HostJournals::new(rt, UnknownFiles),
+        rt,
+        &journals,
         network,
         alloc,
         &words,

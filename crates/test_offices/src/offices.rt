@@ -5,11 +5,10 @@ ghost use Rattle.sqlite.specs.Held.{state};
 ghost use Rattle.office_store.specs.Shown.{IsIdle};
 
 use cap_sets::Caps;
-use memory_database::{MemoryStore, open_in_memory};
 use office_desk::Office;
 use office_store::FoundingFault;
 use review_policy::{Word, digest_from_hex};
-use sqlite::{Alter, Connection};
+use sqlite::{Alter, Connection, MemStore};
 use std::alloc::Global;
 use std::test::Fail;
 
@@ -63,8 +62,8 @@ pub fn found_office<S: Alter + Drop>(alloc: Global, conn: Connection<S>) -> Resu
 }
 
 /// An office in memory in which root may enrol users, by the token abc.
-pub fn trial_office(alloc: Global) -> Result<Office<MemoryStore>, Fail> {
-    match found_office(alloc, open_in_memory(alloc)?)? {
+pub fn trial_office(alloc: Global) -> Result<Office<MemStore>, Fail> {
+    match found_office(alloc, Connection::open_in_memory(alloc)?)? {
         Ok(office) => Ok(office),
         Err((fault, _)) => Err(Fail::from(fault)),
     }

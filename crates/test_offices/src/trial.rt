@@ -2,17 +2,17 @@
 
 use crate::offices::trial_office;
 use crate::tables::tables_of;
-use memory_database::MemoryStore;
 use office_desk::Office;
 use office_policy::Handler;
 use review_policy::{Answer, Request};
+use sqlite::MemStore;
 use std::alloc::Global;
 use std::test::Fail;
 
 /// An office in memory. It answers as an office does, but its contract says nothing of it: of no history it is said to be its office.
 #[derive(Drop)]
 pub struct TrialOffice {
-    office: Office<MemoryStore>,
+    office: Office<MemStore>,
 }
 
 impl TrialOffice {

@@ -13,4 +13,10 @@ returns-in-Ok-found_in-clause-founded g c =
     }
 
 pub returns-in-Err-found_in-clause-refused : goal.returns-in-Err-found_in-clause-refused
-returns-in-Err-found_in-clause-refused g c = (tt {0}, (c.in-Err-found_in.conn, (c.close.result, c.close.ensures.ended)))
+returns-in-Err-found_in-clause-refused g c = (
+  c.in-Ok.conn,
+  c.in-Err-found_in.conn,
+  c.in-Ok.ensures.opened,
+  c.in-Err-found_in.ensures.refused,
+  (c.close.result, c.close.ensures.ended),
+)

@@ -13,6 +13,7 @@ returns-clause-command c =
         team = text_is f (codes "team") _ c.in_ok-team.ensures;
         profile = text_is f (codes "profile") _ c.in_ok-profile.ensures;
         revision = c.in_ok-revision.ensures.number;
+        line = c.in_ok-line.ensures.line;
       },
     )
 
@@ -35,3 +36,8 @@ pub returns-in_err-revision-clause-lacking : goal.returns-in_err-revision-clause
 returns-in_err-revision-clause-lacking c =
     let f = found_of c.args.given.now in
     lacks _ _ (no_evidence (rows_of f) (λ words h. c.in_err-revision.ensures.lacking words.revision h.revision))
+
+pub returns-in_err-line-clause-lacking : goal.returns-in_err-line-clause-lacking
+returns-in_err-line-clause-lacking c =
+    let f = found_of c.args.given.now in
+    lacks _ _ (no_evidence (rows_of f) (λ words h. c.in_err-line.ensures.lacking words.line h.line))

@@ -1,6 +1,8 @@
+use Rattle.json_requests.proofs.AnswerFacts.{text_is}
+use Rattle.journal.specs.Lines.{line_data, text_of}
 use Rattle.journal.specs.Shown.{shown}
-use Rattle.journal.proofs.TextFacts.{text_is}
 use Rattle.journal.proofs.print.text.Goals as goal
 
 pub returns : goal.returns
-returns c = text_is _ (shown c.args.line.now) _ c.in_ok-value.ensures c.to_string.ensures.text
+unfolding text_of
+returns c = text_is (line_data (shown c.args.line.now)) c.new-out.ensures.tokens c.in_ok-write_line.ensures c.written_text.ensures

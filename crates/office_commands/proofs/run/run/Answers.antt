@@ -1,30 +1,27 @@
 use Rattle.std.proofs.Common.{refl}
+use Rattle.command_host.specs.Outside.{known}
 use Rattle.reading_commands.proofs.FailingFacts.{failed_by}
 use Rattle.office_commands.proofs.RunFacts.{failed_as, run_as}
 use Rattle.office_commands.proofs.run.run.Goals as goal
 
 pub returns-in_ok-print-in-Init-clause-done : goal.returns-in_ok-print-in-Init-clause-done
 returns-in_ok-print-in-Init-clause-done g c =
-    run_as g.S.Store g.D.Databases g.J.File.Disk (g.J.Journals.creates c.args.journals.now) (g.J.Journals.opens c.args.journals.now) g.N.PassClock.shows g.N.PassNet.binds g.N.PassNet.tells
-    (g.F.PassFiles.opens c.args.files.now) g.F.File.Read.remaining g.O.Write.contents _ _ _ _ _ _
+    run_as (known c.args.host.now) g.O.Write.contents _ _ _ _ _ _ _
     c.in-Init.is (c.in_ok-found_at-in-Init.ensures.founded, c.in_ok-print-in-Init.ensures.whole, refl)
 
 pub returns-in_ok-print-in-Migrate-clause-done : goal.returns-in_ok-print-in-Migrate-clause-done
 returns-in_ok-print-in-Migrate-clause-done g c =
-    run_as g.S.Store g.D.Databases g.J.File.Disk (g.J.Journals.creates c.args.journals.now) (g.J.Journals.opens c.args.journals.now) g.N.PassClock.shows g.N.PassNet.binds g.N.PassNet.tells
-    (g.F.PassFiles.opens c.args.files.now) g.F.File.Read.remaining g.O.Write.contents _ _ _ _ _ _
+    run_as (known c.args.host.now) g.O.Write.contents _ _ _ _ _ _ _
     c.in-Migrate.is (c.in_ok-migrate_at-in-Migrate.ensures.migrated, c.in_ok-print-in-Migrate.ensures.whole, refl)
 
 pub returns-in_err-serve_http-in-Serve-clause-failed : goal.returns-in_err-serve_http-in-Serve-clause-failed
 returns-in_err-serve_http-in-Serve-clause-failed g c =
     failed_by _ _ c.in_err-serve_http-in-Serve.field-0.0 c.from_residual-in_err-serve_http-in-Serve.ensures.1
-    (failed_as g.S.Store g.D.Databases g.J.File.Disk (g.J.Journals.creates c.args.journals.now) (g.J.Journals.opens c.args.journals.now) g.N.PassClock.shows g.N.PassNet.binds g.N.PassNet.tells
-    (g.F.PassFiles.opens c.args.files.now) g.F.File.Read.remaining g.O.Write.contents (g.J.Journals.removes c.args.journals.now) _ _ _ _ _ _ _
+    (failed_as (known c.args.host.now) g.O.Write.contents _ _ _ _ _ _ _
     c.in-Serve.is c.in_err-serve_http-in-Serve.ensures)
 
 pub returns-in_err-serve_stored-in-Desk-clause-failed : goal.returns-in_err-serve_stored-in-Desk-clause-failed
 returns-in_err-serve_stored-in-Desk-clause-failed g c =
     failed_by _ _ c.in_err-serve_stored-in-Desk.field-0.0 c.from_residual-in_err-serve_stored-in-Desk.ensures.1
-    (failed_as g.S.Store g.D.Databases g.J.File.Disk (g.J.Journals.creates c.args.journals.now) (g.J.Journals.opens c.args.journals.now) g.N.PassClock.shows g.N.PassNet.binds g.N.PassNet.tells
-    (g.F.PassFiles.opens c.args.files.now) g.F.File.Read.remaining g.O.Write.contents (g.J.Journals.removes c.args.journals.now) _ _ _ _ _ _ _
+    (failed_as (known c.args.host.now) g.O.Write.contents _ _ _ _ _ _ _
     c.in-Desk.is c.in_err-serve_stored-in-Desk.ensures)

@@ -8,8 +8,9 @@ use Rattle.reading_commands.proofs.copied.office_in_copy.Goals as goal
 pub returns-in-Ok-over-clause-office : goal.returns-in-Ok-over-clause-office
 returns-in-Ok-over-clause-office g c =
     let opens = g.F.PassFiles.opens c.args.files.now in
+    let gives = g.F.PassFiles.gives in
     let bytes_of = g.F.File.Read.remaining in
-    subst (λ (x : Held CopyStore). IsOpenedOffice over_copy (IsCopyAt opens bytes_of c.args.path.now) x) (sym c.into_connection.ensures.connection)
+    subst (λ (x : Held CopyStore). IsOpenedOffice over_copy (IsCopyAt opens gives bytes_of c.args.path.now) x) (sym c.into_connection.ensures.connection)
     (record { was = c.in-Ok.conn; opened = c.in-Ok.ensures.copy; over = c.in-Ok-over.ensures.over })
 
 pub returns-clause-none : goal.returns-clause-none

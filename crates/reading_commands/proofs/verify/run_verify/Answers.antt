@@ -11,7 +11,7 @@ returns-in-Ok-print_bytes-clause-done g c = (
   record {
     verified = c.in-Ok.verified;
     office = c.in-Ok.ensures.verified;
-    printed = rw c.in-Ok-verified_line.ensures at (rw c.deref.ensures.value at c.in-Ok-print_bytes.ensures.whole);
+    printed = rw c.in-Ok-seal_line.ensures at (rw c.deref.ensures.value at c.in-Ok-print_bytes.ensures.whole);
   },
   refl,
 )
@@ -22,6 +22,6 @@ returns-clause-failed g c =
     inr (
       c.in-Ok.verified,
       c.in-Ok.ensures.verified,
-      subst (λ (why : CommandFault). IsUnsaid (g.F.PassFiles.opens c.args.files.now) g.F.File.Read.remaining c.args.words.now.journal.now c.args.words.now.database.now c.args.words.now.seal
-          g.O.Write.contents c.args.output.now c.print_bytes.new.output c.in-Ok.verified why) (sym failed.0) (rw c.in-Ok-verified_line.ensures at (rw c.deref.ensures.value at failed.1)),
+      subst (λ (why : CommandFault). IsUnsaid (g.F.PassFiles.opens c.args.files.now) g.F.PassFiles.gives g.F.File.Read.remaining c.args.words.now.journal.now c.args.words.now.database.now c.args.words.now.seal
+          g.O.Write.contents c.args.output.now c.print_bytes.new.output c.in-Ok.verified why) (sym failed.0) (rw c.in-Ok-seal_line.ensures at (rw c.deref.ensures.value at failed.1)),
     )

@@ -1,4 +1,4 @@
-use Rattle.std.specs.Io.Buffered.{reader_remaining}
+use Rattle.std.proofs.Common.{inr}
 use Rattle.memory_database.proofs.MemoryFacts.{copy_is_clean}
 use Rattle.reading_commands.proofs.verify.verify_at.Goals as goal
 
@@ -9,7 +9,7 @@ pub returns-in-Ok-verify-clause-verified : goal.returns-in-Ok-verify-clause-veri
 returns-in-Ok-verify-clause-verified g c =
     let new = c.verify.new.office in
     record {
-      text = reader_remaining g.F.File.Read.remaining c.in-Ok.text;
+      text = _;
       from_journal = c.in-Ok.ensures.text;
       old = c.in-Ok-office_in_copy.conn;
       new = new;
@@ -21,12 +21,16 @@ returns-in-Ok-verify-clause-verified g c =
 pub returns-clause-failed : goal.returns-clause-failed
 returns-clause-failed g c =
     let new = c.verify.new.office in
-    record {
-      text = reader_remaining g.F.File.Read.remaining c.in-Ok.text;
-      from_journal = c.in-Ok.ensures.text;
-      old = c.in-Ok-office_in_copy.conn;
-      new = new;
-      office = c.in-Ok-office_in_copy.ensures.office;
-      looked = c.verify.ensures.looked;
-      unverified = c.in-Err-verify.ensures.unverified (copy_is_clean new);
-    }
+    inr (inr (
+      c.in-Err-verify.why,
+      record {
+        text = _;
+        from_journal = c.in-Ok.ensures.text;
+        old = c.in-Ok-office_in_copy.conn;
+        new = new;
+        office = c.in-Ok-office_in_copy.ensures.office;
+        looked = c.verify.ensures.looked;
+        unverified = c.in-Err-verify.ensures.unverified (copy_is_clean new);
+      },
+      c.told_of_text.ensures,
+    ))

@@ -1,0 +1,94 @@
+-- An office in a file that was built anew of a journal.
+use Rattle.std.specs.Prelude.{◌≡◌, ◌⊎◌, ℕ, List, codes, Option, Result}
+use Rattle.std.specs.declared.io.Error.{Error as IoError}
+use Rattle.sqlite.specs.Held.{Held, state}
+use Rattle.sqlite.specs.Store.{Ghosts}
+use Rattle.desk_http.specs.Lines.{IsCut, IsWhole}
+use Rattle.journal_rebuilding.specs.Rebuilding.{IsBuilt, IsUnbuilt}
+use Rattle.journal_office.specs.declared.refused.Refused.{Refused}
+use Rattle.journal_office.specs.declared.refused.Why.{Why}
+use Rattle.journal_office.specs.declared.refused.Why.TheVariants as halt
+use Rattle.office_desk.specs.Meant.{meaning_over}
+use Rattle.office_store.specs.Schema.{no_schema}
+use Rattle.review_policy.specs.declared.fault.Fault.{Fault}
+use Rattle.command_host.specs.declared.databases.Databases as databases
+use Rattle.command_host.specs.declared.fault.CommandFault.{CommandFault}
+use Rattle.command_host.specs.declared.fault.CommandFault.TheVariants as fault
+use Rattle.changing_commands.specs.declared.rebuild.Built.{Built}
+use Rattle.command_host.specs.FailedCalls.{IsToldOf}
+use Rattle.command_host.specs.JournalTexts.{IsNoText, IsTextAt}
+use Rattle.command_host.specs.Openings.{IsEnded, IsUnlimited, IsUnopened}
+use Rattle.command_host.specs.Said.{seal_line}
+use Rattle.streams.specs.declared.counted.Counted.{Counted}
+
+-- What is told of why a journal isn't built on: where its founding founds no office in a database,
+-- just what `init` tells of that.
+abbrev pub told_by : Refused → Why → CommandFault
+told_by refused (halt.Unfounded why) = fault.Founding why
+told_by refused _ = fault.Unbuilt refused
+
+abbrev pub told_of : Refused → CommandFault
+told_of refused = told_by refused refused.why
+
+-- of journals of which this is known as they are opened, and whose bytes are these
+module _ {S F : Type 0} (g : Ghosts S) (Opens : Result F IoError → Type 0)
+    (bytes_of : F → Option (List ℕ)) (Opened Closed : Held S → Type 0) where
+  -- An office was built anew of all that a journal tells, in an empty database that was opened; it
+  -- has so many events, and this is the seal of the journal. It was closed, of which this is known.
+  pub record WasRebuilt (built : Built) : Type 0 where
+    pub text : Option (List ℕ)
+    pub journal : IsTextAt Opens bytes_of text
+    pub was : Held S
+    pub opened : IsUnlimited Opened was
+    pub empty : (state g was).now.schema ≡ no_schema
+    pub office : Held S
+    pub rebuilt : IsBuilt text (meaning_over g) office built.events built.seal
+    pub closed : Closed office
+
+  -- not all that it tells happened again over a database that was opened, for this; and that was
+  -- closed with what did, of which this is known
+  pub record WasUnbuilt (refused : Refused) : Type 0 where
+    pub text : Option (List ℕ)
+    pub journal : IsTextAt Opens bytes_of text
+    pub was : Held S
+    pub left : Held S
+    pub opened : IsUnlimited Opened was
+    pub unbuilt : IsUnbuilt text g was left refused
+    pub closed : Closed left
+
+-- of databases of which this is known, and of the one at a path, and of journals as they are opened
+-- and read
+module _ {S D F : Type 0} (g : Ghosts S) (d : databases.Ghosts D (Held S)) (path : List ℕ)
+    (Opens : Result F IoError → Type 0) (Gives : F → F → Result ℕ IoError → List ℕ → Type 0)
+    (bytes_of : F → Option (List ℕ)) where
+  -- There is no text, or no database; or the journal isn't built on, which is told, and the database
+  -- was closed, whatever came of that; or all of it is, and the database couldn't be closed.
+  abbrev pub IsUnrebuilt : CommandFault → Type 0
+  IsUnrebuilt why =
+      IsNoText Opens why ⊎ ((unopened : Fault) × IsUnopened d path unopened
+      × (why ≡ fault.Store unopened))
+      ⊎ ((refused : Refused) × WasUnbuilt g Opens bytes_of (d.opened path) (IsEnded d) refused
+      × IsToldOf Gives (told_of refused) why)
+      ⊎ ((built : Built) × WasRebuilt g Opens bytes_of (d.opened path) (IsEnded d) built
+      × (why ≡ fault.Close))
+
+  -- What an output has after what it had.
+  module _ {O : Type 0} (contents : O → Option (List ℕ)) (output wrote : Counted O) where
+    -- an office was built anew and closed, and its line was printed
+    pub record HasRebuilt : Type 0 where
+      pub built : Built
+      pub office : WasRebuilt g Opens bytes_of (d.opened path) d.closed built
+      pub printed : IsWhole contents output wrote (seal_line (codes "rebuilt") built.events built.seal)
+
+    -- it wasn't, for want of memory, or was cut
+    abbrev pub IsUnsaid : Built → CommandFault → Type 0
+    IsUnsaid built fault.NoMemory = wrote ≡ output
+    IsUnsaid built fault.Write = IsCut contents output wrote (seal_line (codes "rebuilt") built.events built.seal)
+    IsUnsaid built _ = ⊥
+
+    -- none was, and nothing was printed; or one was, and its line wasn't printed
+    abbrev pub FailsToRebuild : CommandFault → Type 0
+    FailsToRebuild why =
+        (IsUnrebuilt why × (wrote ≡ output))
+        ⊎ ((built : Built) × WasRebuilt g Opens bytes_of (d.opened path) d.closed built
+        × IsUnsaid built why)

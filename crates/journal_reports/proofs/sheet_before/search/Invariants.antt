@@ -1,0 +1,20 @@
+use Rattle.std.proofs.Common.{◌≡◌, ◌-◌, ℕ, List, None, Option}
+use Rattle.office_policy.specs.History.{Event}
+use Rattle.office_desk.specs.Meant.{meaning_over}
+use Rattle.journal.specs.Told.{place}
+use Rattle.journal_office.specs.Rebuilt.{HasReplayed}
+use Rattle.journal_reports.specs.Steps.{NoneWanted}
+use Rattle.journal_reports.proofs.sheet_before.search.Given as goal
+
+abbrev pub invariant-events : goal.invariant-events
+invariant-events g l = record {
+  fault : l.replay.events.fault ≡ None;
+  replayed : (bytes : Option (List ℕ)) (es : List (ℕ × Event))
+      → HasReplayed bytes (meaning_over g.S.Store) (place g.R.Read.remaining l.fn.replay.events) es l.fn.replay.office
+      → NoneWanted l.name l.number l.line es
+      → (all : List (ℕ × Event)) × HasReplayed bytes (meaning_over g.S.Store) (place g.R.Read.remaining l.replay.events) all l.replay.office
+      × NoneWanted l.name l.number l.line all;
+}
+
+abbrev pub decreases-events : goal.decreases-events
+decreases-events g l = 18446744073709551615 - l.replay.count

@@ -1,0 +1,39 @@
+use Rattle.std.proofs.Common.{inr, refl, subst}
+use Rattle.std.specs.Io.Buffered.{reader_remaining}
+use Rattle.memory_database.specs.MemoryStore.{over_memory}
+use Rattle.office_desk.specs.Meant.{meaning_over}
+use Rattle.journal_reports.specs.History.{IsUnwritten, IsWritten}
+use Rattle.journal_reports.specs.Passing.{Asked}
+use Rattle.reading_commands.proofs.history.run_history.Goals as goal
+
+pub returns-in-Ok-write_history-clause-done : goal.returns-in-Ok-write_history-clause-done
+returns-in-Ok-write_history-clause-done g c =
+    let bytes = reader_remaining (λ noted. g.F.File.Read.remaining noted.file) c.in-Ok-text_at.text in
+    let left = c.in-Ok-write_history.field-0 in (
+      record {
+        bytes = bytes;
+        journal = c.in-Ok-text_at.ensures.text;
+        left = left;
+        written = subst (λ (asked : Asked). IsWritten bytes asked (g.O.Write.contents c.args.output.now.inner) (g.O.Write.contents c.write_history.new.output.inner) (meaning_over over_memory) left)
+            c.filter_of-filter.ensures c.in-Ok-write_history.ensures.written;
+      },
+      refl,
+    )
+
+pub returns-clause-failed : goal.returns-clause-failed
+returns-clause-failed g c =
+    let bytes = reader_remaining (λ noted. g.F.File.Read.remaining noted.file) c.in-Ok-text_at.text in
+    let conn = c.in-Ok-open_in_memory.conn in
+    let left = c.in-Err-write_history.field-0-1 in
+    inr (
+      c.in-Err-write_history.why,
+      record {
+        bytes = bytes;
+        journal = c.in-Ok-text_at.ensures.text;
+        conn = conn;
+        left = left;
+        unwritten = subst (λ (asked : Asked). IsUnwritten bytes asked (g.O.Write.contents c.args.output.now.inner) (g.O.Write.contents c.write_history.new.output.inner) over_memory conn left c.in-Err-write_history.why)
+            c.filter_of-filter.ensures c.in-Err-write_history.ensures.unwritten;
+      },
+      c.told_of_text.ensures,
+    )
