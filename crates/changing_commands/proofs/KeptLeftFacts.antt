@@ -10,7 +10,7 @@ use Rattle.sealed_log.specs.Log.{bodies_of}
 use Rattle.sealed_log.specs.declared.log.SealedLog.{SealedLog}
 use Rattle.journal_office.specs.Mending.{TellsOf}
 use Rattle.journal_office.specs.Opening.{IsOfNow}
-use Rattle.office_store.specs.Reopening.{HoldsOffice}
+use Rattle.office_founding.specs.Reopening.{HoldsOffice}
 use Rattle.office_policy.specs.History.{History}
 use Rattle.office_policy.specs.Lawful.{IsLawfulHistory}
 use Rattle.office_policy.specs.TablesOf.{tables_of}

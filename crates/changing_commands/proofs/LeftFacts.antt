@@ -6,9 +6,9 @@ use Rattle.sqlite_store.specs.declared.store.FileStore.{FileStore}
 use Rattle.sqlite.specs.Files.{file_state, over_files}
 use Rattle.sqlite.specs.Held.{Held}
 use Rattle.sqlite.specs.State.{HasCleanDisk}
-use Rattle.office_store.specs.Migration.{ShowsOld}
-use Rattle.office_store.specs.Reopening.{HoldsOffice}
-use Rattle.office_store.proofs.Reopened.{closed_holds, crashed_holds, found_shows, found_shows_old}
+use Rattle.office_founding.specs.Migration.{ShowsOld}
+use Rattle.office_founding.specs.Reopening.{HoldsOffice}
+use Rattle.office_founding.proofs.Reopened.{closed_holds, crashed_holds, found_shows, found_shows_old}
 use Rattle.office_policy.specs.History.{History}
 use Rattle.office_policy.specs.Lawful.{IsLawfulHistory}
 use Rattle.office_policy.specs.TablesOf.{tables_of}

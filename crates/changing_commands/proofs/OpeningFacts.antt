@@ -8,9 +8,9 @@ use Rattle.command_host.specs.declared.fault.CommandFault.{CommandFault}
 use Rattle.command_host.specs.declared.fault.CommandFault.TheVariants as fault
 use Rattle.changing_commands.specs.declared.founding.Founding.{Founding}
 use Rattle.command_host.specs.declared.founding_fault.FoundingWordsFault.{FoundingWordsFault}
-use Rattle.office_store.specs.Founding.{first_user, FailsToFound}
+use Rattle.office_founding.specs.Founding.{first_user, FailsToFound}
 use Rattle.office_store.specs.Shown.{AreOffice, MayLeave}
-use Rattle.office_store.specs.declared.fault.FoundingFault.{FoundingFault}
+use Rattle.office_founding.specs.declared.fault.FoundingFault.{FoundingFault}
 use Rattle.office_policy.specs.TablesOf.{tables_of}
 use Rattle.office_desk.specs.Opened.{IsHandedBack}
 use Rattle.changing_commands.specs.Foundings.{history_of, IsFoundedIn, IsNotFounded, IsUnfounded, WasFounded}

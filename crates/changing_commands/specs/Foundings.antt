@@ -6,10 +6,10 @@ use Rattle.sqlite.specs.Store.{Ghosts}
 use Rattle.sqlite.specs.State.{HasCleanDisk}
 use Rattle.command_line.specs.declared.command.InitWords.{InitWords}
 use Rattle.office_rows.specs.Queries.{IsAsItWas}
-use Rattle.office_store.specs.Founding.{first_user, FailsToFound}
+use Rattle.office_founding.specs.Founding.{first_user, FailsToFound}
 use Rattle.office_store.specs.Schema.{no_schema}
 use Rattle.office_store.specs.Shown.{AreOffice, MayLeave}
-use Rattle.office_store.specs.declared.fault.FoundingFault.{FoundingFault}
+use Rattle.office_founding.specs.declared.fault.FoundingFault.{FoundingFault}
 use Rattle.office_policy.specs.History.{Event, History, founded}
 use Rattle.office_policy.specs.Handled.{Stands}
 use Rattle.office_policy.specs.TablesOf.{tables_of}

@@ -10,7 +10,7 @@ use Rattle.sqlite.specs.Files.{image_of, over_files}
 use Rattle.desk.specs.Outcomes.{history_after_lines}
 use Rattle.desk.specs.Stands.{HasHandled}
 use Rattle.desk_http.specs.Exchanged.{requests_in, answers_in}
-use Rattle.office_store.specs.Reopening.{HoldsOffice, HoldsOldOffice}
+use Rattle.office_founding.specs.Reopening.{HoldsOffice, HoldsOldOffice}
 use Rattle.office_policy.specs.History.{History}
 use Rattle.office_policy.specs.Lawful.{IsLawfulHistory}
 use Rattle.office_policy.specs.Runs.{history_after_all}

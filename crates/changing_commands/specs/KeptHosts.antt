@@ -14,7 +14,7 @@ use Rattle.sealed_log.specs.Log.{bodies_of}
 use Rattle.sealed_log.specs.declared.log.SealedLog.{SealedLog}
 use Rattle.journal.specs.Journal.{Says}
 use Rattle.journal_office.specs.Mending.{HasTablesOf, TellsOf}
-use Rattle.office_store.specs.Reopening.{HoldsOffice}
+use Rattle.office_founding.specs.Reopening.{HoldsOffice}
 use Rattle.journal.specs.Logs.{in_log}
 use Rattle.journal.specs.Journals.{goes_on}
 use Rattle.journal.specs.declared.journaled.Journaled.{Journaled}

@@ -3,8 +3,8 @@ use Rattle.std.specs.Prelude.{Ok, ℕ, List}
 use Rattle.sqlite.specs.Held.{Held, state}
 use Rattle.sqlite.specs.State.{HasCleanDisk}
 use Rattle.sqlite.specs.Store.{Ghosts}
-use Rattle.office_store.specs.Migration.{FailsToMigrate, IsMigration, WasOld}
-use Rattle.office_store.specs.declared.fault.MigrationFault.{MigrationFault}
+use Rattle.office_founding.specs.Migration.{FailsToMigrate, IsMigration, WasOld}
+use Rattle.office_founding.specs.declared.fault.MigrationFault.{MigrationFault}
 use Rattle.command_host.specs.Openings.{IsEnded, IsNotThere, IsUnlimited}
 use Rattle.command_host.specs.declared.databases.Databases as databases
 use Rattle.command_host.specs.declared.fault.CommandFault.{CommandFault}

@@ -16,7 +16,7 @@ use crate::founding::{Founding, founding_of};
 use command_host::{CommandFault, Databases, Host, Journals, Outside, close, open};
 use command_line::InitWords;
 use office_desk::Office;
-use office_store::FoundingFault;
+use office_founding::FoundingFault;
 use sealed_log::SealedLog;
 use sqlite::{Alter, Connection};
 use sqlite_disk::Disk;
@@ -130,10 +130,7 @@ fn found_behind<S: Alter + Drop, D: Databases<Database = Connection<S>>, J: Jour
         (J.creates journals.now journal.now) (J.removes journals.now journal.now)
         D.Databases path.now founding.now) }
 {
-    let log = match begin_journal(journals, alloc, journal, founding) {
-        Ok(log) => log,
-        Err(fault) => return Err(fault),
-    };
+    let log = begin_journal(journals, alloc, journal, founding)?;
     match founded_behind(databases, path, founding, log) {
         Ok(office) => close(databases, office),
         Err(fault) => {
@@ -156,10 +153,7 @@ pub fn found_at<H: Host>(
     ensures founded { OnOk result (HasFounded (known host.now) words.now) }
     ensures failed { IfErr result (FailsToInit (known host.now) words.now) }
 {
-    let founding = match founding_in(alloc, words) {
-        Ok(founding) => founding,
-        Err(fault) => return Err(fault),
-    };
+    let founding = founding_in(alloc, words)?;
     let path = words.database;
     match words.journal {
         Some(file) => found_behind(host.databases, host.journals, alloc, path, file, &founding),

@@ -59,10 +59,7 @@ pub(crate) fn kept_office_at<S: Alter + Drop, D: Databases<Database = Connection
     ensures fault { IfErr result (IsUnkept S.Store J.File.Disk
         (J.opens journals.now journal.now) D.Databases path.now) }
 {
-    let office = match office_at(databases, path) {
-        Ok(office) => office,
-        Err(fault) => return Err(fault),
-    };
+    let office = office_at(databases, path)?;
     match opened_with(journals, alloc, office, journal) {
         Ok(kept) => Ok(kept),
         Err((fault, office)) => {

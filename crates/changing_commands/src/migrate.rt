@@ -4,7 +4,7 @@ ghost use Rattle.std.specs.Prelude.{IfErr, OnOk};
 ghost use Rattle.changing_commands.specs.Migrations.{IsUnmigrated, WasMigrated};
 
 use command_host::{CommandFault, Databases, database_at};
-use office_store::migrate;
+use office_founding::migrate;
 use sqlite::{Alter, Connection};
 
 /// Makes the office of schema 1 at a path one of schema 2, and closes it, also where that was

@@ -48,10 +48,7 @@ fn rebuild_at<F: PassFiles, S: Alter + Drop, D: Databases<Database = Connection<
     ensures failed { IfErr result (IsUnrebuilt S.Store D.Databases database.now
         (F.opens files.now journal.now) F.gives F.File.remaining) }
 {
-    let mut text = match text_at(files, alloc, journal) {
-        Ok(text) => text,
-        Err(fault) => return Err(fault),
-    };
+    let mut text = text_at(files, alloc, journal)?;
     let conn = match open(databases, database) {
         Ok(conn) => conn,
         Err(fault) => return Err(CommandFault::Store(fault)),
@@ -63,10 +60,8 @@ fn rebuild_at<F: PassFiles, S: Alter + Drop, D: Databases<Database = Connection<
                 events,
                 seal,
             } = rebuilt;
-            match close(databases, office) {
-                Ok(()) => Ok(Built { events, seal }),
-                Err(fault) => Err(fault),
-            }
+            close(databases, office)?;
+            Ok(Built { events, seal })
         }
         Err((refused, conn)) => {
             // Why it isn't built on is reported, and not whether this closed.
@@ -101,15 +96,10 @@ pub fn run_rebuild<F: PassFiles, S: Alter + Drop, D: Databases<Database = Connec
     ensures failed { IfErr result (FailsToRebuild S.Store D.Databases database.now
         (F.opens files.now journal.now) F.gives F.File.remaining O.contents output.old output.new) }
 {
-    let built = match rebuild_at(files, databases, alloc, database, journal) {
-        Ok(built) => built,
-        Err(fault) => return Err(fault),
-    };
+    let built = rebuild_at(files, databases, alloc, database, journal)?;
     let Ok(line) = seal_line(alloc, "rebuilt", built.events, &built.seal) else {
         return Err(CommandFault::NoMemory);
     };
-    match print_bytes(output, &line) {
-        Ok(()) => Ok(0),
-        Err(fault) => Err(fault),
-    }
+    print_bytes(output, &line)?;
+    Ok(0)
 }

@@ -72,17 +72,11 @@ fn serve_bound<N: Network, H: Handler, O: Write>(
     let Ok(server) = Server::new(network, alloc, longest()) else {
         return Err(CommandFault::NoMemory);
     };
-    let (listener, port) = match bind(network, words.port) {
-        Ok(bound) => bound,
-        Err(fault) => return Err(fault),
-    };
+    let (listener, port) = bind(network, words.port)?;
     let Ok(line) = listening_line(alloc, port) else {
         return Err(CommandFault::NoMemory);
     };
-    match print(output, line.as_str()) {
-        Ok(()) => {}
-        Err(fault) => return Err(fault),
-    }
+    print(output, line.as_str())?;
     let exchanges = words.requests.exchanges();
     match server.serve_all(office, &listener, exchanges, output) {
         Ok(()) => Ok(()),
@@ -99,10 +93,7 @@ fn serve_alone<H: Host, O: Write>(
 ) -> Result<(), CommandFault>
     ensures { IsServedAlone (known host.now) O.contents output.old output.new words.now result }
 {
-    let mut office = match office_at(host.databases, words.database) {
-        Ok(office) => office,
-        Err(fault) => return Err(fault),
-    };
+    let mut office = office_at(host.databases, words.database)?;
     let served = serve_bound(host.network, &mut office, alloc, words, output);
     let closed = close(host.databases, office);
     first_fault(served, closed)
@@ -120,10 +111,7 @@ fn serve_kept<H: Host, O: Write>(
         journal.now result }
 {
     let path = words.database;
-    let mut kept = match kept_office_at(host.databases, host.journals, alloc, path, journal) {
-        Ok(kept) => kept,
-        Err(fault) => return Err(fault),
-    };
+    let mut kept = kept_office_at(host.databases, host.journals, alloc, path, journal)?;
     let served = serve_bound(host.network, &mut kept, alloc, words, output);
     let closed = close_kept(host.databases, kept);
     first_fault(served, closed)

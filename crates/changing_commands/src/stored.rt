@@ -25,10 +25,7 @@ fn serve_alone<H: Host, R: Read, W: Write>(
     ensures { IsDeskAlone (known host.now) W.contents output.old output.new
         (R.remaining input.old.inner) (R.remaining input.new.inner) path.now result }
 {
-    let mut office = match office_at(host.databases, path) {
-        Ok(office) => office,
-        Err(fault) => return Err(fault),
-    };
+    let mut office = office_at(host.databases, path)?;
     let answered = answer_lines(&mut office, alloc, input, output);
     let closed = close(host.databases, office);
     first_fault(answered, closed)
@@ -49,10 +46,7 @@ fn serve_kept<H: Host, R: Read, W: Write>(
     ensures { IsDeskKept (known host.now) W.contents output.old output.new
         (R.remaining input.old.inner) (R.remaining input.new.inner) path.now journal.now result }
 {
-    let mut kept = match kept_office_at(host.databases, host.journals, alloc, path, journal) {
-        Ok(kept) => kept,
-        Err(fault) => return Err(fault),
-    };
+    let mut kept = kept_office_at(host.databases, host.journals, alloc, path, journal)?;
     let answered = answer_lines(&mut kept, alloc, input, output);
     let closed = close_kept(host.databases, kept);
     first_fault(answered, closed)

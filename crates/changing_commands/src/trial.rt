@@ -56,9 +56,6 @@ pub fn serve_trial<R: Read, W: Write>(
     ensures { IsTrial W.contents (R.remaining input.old.inner) (R.remaining input.new.inner)
         output.old output.new result }
 {
-    let mut office = match trial_office(alloc) {
-        Ok(office) => office,
-        Err(fault) => return Err(fault),
-    };
+    let mut office = trial_office(alloc)?;
     answer_lines(&mut office, alloc, input, output)
 }

@@ -8,7 +8,8 @@ use Rattle.journal_reports.specs.FaultTexts.{no_evidence_text, unwritten_text}
 use Rattle.journal_verification.specs.DifferenceTexts.{difference_text}
 use Rattle.journal_verification.specs.declared.verification.Unverified.{Unverified}
 use Rattle.journal_verification.specs.declared.verification.Unverified.TheVariants as unverified
-use Rattle.office_store.specs.Faults.{founding_fault_word, migration_fault_word, opening_fault_word}
+use Rattle.office_founding.specs.Faults.{founding_fault_word, migration_fault_word}
+use Rattle.office_founding.specs.Faults.{opening_fault_word}
 use Rattle.review_policy.specs.WordTables.{fault_word}
 use Rattle.profile_commands.specs.declared.compare.ComparedFault.{ComparedFault}
 use Rattle.profile_commands.specs.declared.compare.ComparedFault.TheVariants as compared

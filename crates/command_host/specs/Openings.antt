@@ -8,9 +8,9 @@ use Rattle.sqlite.specs.declared.error.Error.{Error}
 use Rattle.sqlite.specs.declared.error.Error.TheVariants as error
 use Rattle.sqlite.specs.declared.error.ErrorCode.TheVariants as code
 use Rattle.office_rows.specs.Faults.{fault_of_error}
-use Rattle.office_store.specs.Form.{has_old_tables, TellsOpening}
-use Rattle.office_store.specs.declared.fault.OpeningFault.{OpeningFault}
-use Rattle.office_store.specs.declared.fault.OpeningFault.TheVariants as opening
+use Rattle.office_founding.specs.Form.{has_old_tables, TellsOpening}
+use Rattle.office_founding.specs.declared.fault.OpeningFault.{OpeningFault}
+use Rattle.office_founding.specs.declared.fault.OpeningFault.TheVariants as opening
 use Rattle.office_desk.specs.Opened.{IsOver}
 use Rattle.command_host.specs.declared.fault.CommandFault.{CommandFault}
 use Rattle.command_host.specs.declared.fault.CommandFault.TheVariants as fault

@@ -8,7 +8,7 @@ use desk::DeskFault;
 use journal_office::{NotReopened, Refused};
 use journal_reports::{NoEvidence, Unwritten};
 use journal_verification::Unverified;
-use office_store::{FoundingFault, MigrationFault, OpeningFault};
+use office_founding::{FoundingFault, MigrationFault, OpeningFault};
 use profile_commands::{ComparedFault, ExecutionFault, FileFault};
 use review_policy::Fault;
 use std::fmt;

@@ -123,8 +123,5 @@ pub fn first_fault(
 ) -> Result<(), CommandFault>
     ensures { IsFirstOf served closed result }
 {
-    match served {
-        Ok(()) => closed,
-        Err(fault) => Err(fault),
-    }
+    served.and(closed)
 }

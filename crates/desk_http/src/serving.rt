@@ -67,10 +67,7 @@ pub fn serve_exchanges<H: Handler, L: Listener, O: Write>(
 {
     for _ in 0..exchanges {
         let served = serve_next(office, alloc, router, listener);
-        match tell(output, served) {
-            Ok(()) => {}
-            Err(failed) => return Err(failed),
-        }
+        tell(output, served)?;
     }
     Ok(())
 }

@@ -20,10 +20,8 @@ fn put<O: Write>(output: &mut Counted<O>, text: &str) -> Result<(), WriteFailed>
 fn put_line<O: Write>(output: &mut Counted<O>, text: &str) -> Result<(), WriteFailed>
     ensures { IsPut O.contents output.old output.new (text.now ++ codes "\n") result }
 {
-    match put(output, text) {
-        Ok(()) => put(output, "\n"),
-        Err(failed) => Err(failed),
-    }
+    put(output, text)?;
+    put(output, "\n")
 }
 
 // Writes the line of a fault.
@@ -31,10 +29,8 @@ fn put_fault<O: Write>(output: &mut Counted<O>, word: &str) -> Result<(), WriteF
     ensures { IsPut O.contents output.old output.new
         (codes "fault " ++ (word.now ++ codes "\n")) result }
 {
-    match put(output, "fault ") {
-        Ok(()) => put_line(output, word),
-        Err(failed) => Err(failed),
-    }
+    put(output, "fault ")?;
+    put_line(output, word)
 }
 
 /// Writes the line that reports an exchange.

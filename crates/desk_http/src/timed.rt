@@ -89,10 +89,8 @@ impl<C: PassClock, T: PassRead + Timeouts> Read for Timed<'_, C, T> {
             (λ read. T.gives self.old.stream self.new.stream read buf.new) result }
     {
         let left = self.deadline.left()?;
-        match self.stream.set_read_timeout(left) {
-            Ok(()) => self.stream.pass_read(buf),
-            Err(error) => Err(error),
-        }
+        self.stream.set_read_timeout(left)?;
+        self.stream.pass_read(buf)
     }
 }
 
@@ -108,10 +106,8 @@ impl<C: PassClock, T: PassWrite + Timeouts> Write for Timed<'_, C, T> {
             (λ wrote. T.takes self.old.stream self.new.stream wrote buf.now) result }
     {
         let left = self.deadline.left()?;
-        match self.stream.set_write_timeout(left) {
-            Ok(()) => self.stream.pass_write(buf),
-            Err(error) => Err(error),
-        }
+        self.stream.set_write_timeout(left)?;
+        self.stream.pass_write(buf)
     }
 
     fn flush(&mut self) -> io::Result<()>

@@ -1,5 +1,5 @@
 -- A line of what the policy allows is no longer than a line can be.
-use Rattle.std.proofs.Common.{inl, inr, ◌≡◌, ℕ, ◌+◌, ◌*◌, ◌≤◌, List, [], ◌∷◌, ◌++◌, length, map, None, Bool, true, false, ◌∙◌, ◌==◌, Ok, Err, Result, refl, sym, ap, arith, leb-true, le_refl, lit≤, length-append}
+use Rattle.std.proofs.Common.{inl, inr, ◌≡◌, ℕ, ◌+◌, ◌*◌, ◌≤◌, List, [], ◌∷◌, ◌++◌, length, map, None, Bool, true, false, ◌∙◌, ◌==◌, Ok, refl, sym, ap, arith, leb-true, le_refl, lit≤, length-append}
 use Rattle.std.specs.Prelude.{◌&&◌, codes, nat_le}
 use Rattle.std.specs.List.{list_all}
 use Rattle.std.proofs.lemmas.Bool.{and_parts, cases_Bool, cases_lt}
@@ -13,10 +13,8 @@ use Rattle.serde_json.specs.View.{items_of}
 use Rattle.serde_json.specs.Written.{comma_if, compact_text, items_text, members_text}
 use Rattle.std.specs.Int.{bit_at}
 use Rattle.cap_sets.specs.Capability.{cap_names, names_from, names_of}
-use Rattle.profile_text.proofs.ReadFacts.{too_long}
-use Rattle.profile_text.specs.Reading.{most_bytes, reading_of}
-use Rattle.profile_text.specs.declared.fault.DocFault.{DocFault}
-use Rattle.profile_text.specs.declared.fault.DocFault.TheVariants.{TooLong}
+use Rattle.profile_text.proofs.ReadsFacts.{reads_from}
+use Rattle.profile_text.specs.Reading.{reading_of}
 use Rattle.profile_text.specs.declared.profile.Profile.{Profile}
 use Rattle.review_policy.specs.Role.{has_role}
 use Rattle.review_policy.specs.WordTables.{all_roles, role_word}
@@ -344,10 +342,7 @@ pub strike_entry : IsEntry strike
 strike_entry = entry strike tt (lit≤ tt)
 
 short_document : (text : List ℕ) (profile : Profile) → reading_of text ≡ Ok profile → length text ≤ 262144
-short_document text profile reads = elim (cases_lt most_bytes (length text)) [
-  | inl more ↦ absurd (let both : ◌≡◌ {A = Result Profile DocFault} (Ok profile) (Err TooLong) = sym reads ∙ too_long text more in cc)
-  | inr less ↦ less
-]
+short_document text profile reads = (reads_from text profile reads).short
 
 allowed_text : (h : History) (e : Event) → IsAllowed h e → HasShortText e
 allowed_text h (founded name team digest listed) is = tt

@@ -5,7 +5,6 @@ use Rattle.std.specs.Prelude.{codes, filter}
 use Rattle.hex.specs.Hex.{encode_lower}
 use Rattle.json.specs.Token.{Token}
 use Rattle.json.specs.Tree.{members_tokens}
-use Rattle.json.specs.Written.{Written}
 use Rattle.serde_json.specs.Data.{Members, no_members, string}
 use Rattle.serde_json.specs.Written.{members_outline}
 use Rattle.json_tree.specs.Tokens.{Appends, member_tokens, open_tokens}
@@ -50,21 +49,20 @@ role_step roles r rest =
     ]
 
 -- with one more written, what is left is less by it
-pub role_written : (roles : ℕ) (among : List Role) (i : ℕ) (d : Role) {a b c : Written} → i < length among
+pub role_written : (roles : ℕ) (among : List Role) (i : ℕ) (d : Role) {a b c : List Token} → i < length among
     → Leaves string (words_among roles among) (words_among roles (drop i among)) a b → Appends b c (all_tokens string (words_among roles (get_or among i d ∷ [])))
     → Leaves string (words_among roles among) (words_among roles (drop (i + 1) among)) a c
 role_written roles among i d {a} {b} {c} lt before more =
     let r = get_or among i d in
     let rest = all_tokens string (words_among roles (drop (i + 1) among)) in
     record {
-      before = more.before ∙ before.before;
       tokens =
           ap (λ ts. ts ++ rest) more.tokens
-          ∙ append_assoc b.tokens (all_tokens string (words_among roles (r ∷ []))) rest
-          ∙ ap (λ ts. b.tokens ++ ts) (sym (role_step roles r (drop (i + 1) among)) ∙ ap (λ rs. all_tokens string (words_among roles rs)) (sym (drop_more among i d lt)))
+          ∙ append_assoc b (all_tokens string (words_among roles (r ∷ []))) rest
+          ∙ ap (λ ts. b ++ ts) (sym (role_step roles r (drop (i + 1) among)) ∙ ap (λ rs. all_tokens string (words_among roles rs)) (sym (drop_more among i d lt)))
           ∙ before.tokens;
     }
 
-pub roles_written : (roles : ℕ) (among : List Role) (i : ℕ) {a b : Written} → length among ≤ i
+pub roles_written : (roles : ℕ) (among : List Role) (i : ℕ) {a b : List Token} → length among ≤ i
     → Leaves string (words_among roles among) (words_among roles (drop i among)) a b → Appends a b (all_tokens string (words_among roles among))
 roles_written roles among i ge before = leaves_none before (ap (words_among roles) (drop_all i among ge))

@@ -93,15 +93,13 @@ impl<O: Judge, J: Journal> Journaled<O, J> {
             // No event that the policy allows is too long for a line.
             return Err(Fault::Disk);
         }
-        match self.journal.append(alloc, text.as_str().as_bytes()) {
-            Ok(()) => match self.office.carry_out(alloc, allowed) {
-                Ok(()) => Ok(()),
-                Err(fault) => {
-                    self.strike_out(alloc, request);
-                    Err(fault)
-                }
-            },
-            Err(fault) => Err(fault),
+        self.journal.append(alloc, text.as_str().as_bytes())?;
+        match self.office.carry_out(alloc, allowed) {
+            Ok(()) => Ok(()),
+            Err(fault) => {
+                self.strike_out(alloc, request);
+                Err(fault)
+            }
         }
     }
 }

@@ -5,15 +5,16 @@ ghost use Rattle.std.specs.Prelude.{◌∷◌, [], OnOk, Some, codes, flat_map, 
 ghost use Rattle.hex.specs.Hex.{encode_lower};
 ghost use Rattle.serde_json.specs.Data.{no_members, string};
 ghost use Rattle.json_tree.specs.Tokens.{Appends, member_tokens, open_tokens, tokens_of};
-ghost use Rattle.profile_text.specs.Text.{set_data, texts_data};
+ghost use Rattle.profile_text.specs.Text.{texts_data};
 ghost use Rattle.journal.specs.Lines.{deed_members, enrolment_data, founding_data, kind_members};
 ghost use Rattle.journal.specs.Lines.{of_profile, of_revision, profile_members, revision_members};
 ghost use Rattle.journal.specs.Lines.{role_words, user_members, vote_data, words_among};
 
 use crate::kind::Kind;
 use cap_sets::Caps;
-use json::Writer;
 use json_requests::write::{write_digest, write_number, write_text};
+use json_tree::Writer;
+use profile_text::write_set;
 use review_policy::{ProfileName, Role, Roles, Word};
 use review_sheet::vote_word;
 use std::alloc::{AllocError, Global};
@@ -98,19 +99,6 @@ fn write_user(out: &mut Writer, user: &Word, team: &Word) -> Result<(), AllocErr
     write_text(out, "user", user.as_str())
 }
 
-// The names of capabilities.
-fn write_listed(out: &mut Writer, listed: Caps) -> Result<(), AllocError>
-    ensures { OnOk result (Appends out.old out.new
-        (member_tokens (codes "listed") (Some (set_data listed)))) }
-{
-    out.key("listed")?;
-    out.begin_array()?;
-    for name in listed.names() {
-        out.string(name)?;
-    }
-    out.end_array()
-}
-
 // The word of a role, where it is one of these.
 fn write_role(out: &mut Writer, roles: Roles, role: Role) -> Result<(), AllocError>
     ensures { OnOk result (Appends out.old out.new
@@ -164,7 +152,7 @@ pub fn write_founding(
     out.begin_object()?;
     write_digest(out, alloc, digest)?;
     write_kind(out, Kind::Found, line)?;
-    write_listed(out, listed)?;
+    write_set(out, "listed", listed)?;
     write_user(out, user, team)?;
     out.end_object()
 }

@@ -1,7 +1,7 @@
 //! What an object may be the line of.
 
 ghost use Rattle.std.specs.Prelude.{◌≡◌, ℕ, List, codes};
-ghost use Rattle.serde_json.specs.View.{view, items_view};
+ghost use Rattle.json_tree.specs.View.{view, items_view};
 ghost use Rattle.profile_text.specs.Sets.{cap_of, caps_of};
 ghost use Rattle.review_policy.specs.declared.ask.ProfileName.{ProfileName};
 ghost use Rattle.json_requests.specs.Faults.{Gives};
@@ -19,13 +19,13 @@ use crate::line::Line;
 use cap_sets::Caps;
 use json_requests::LineFault;
 use json_requests::member::{digest_of, name_of, revision_of, roles_of, text_of, vote_of, word_of};
+use json_tree::Tree;
 use office_policy::Event;
 use review_policy::{ProfileName, Text, Word};
-use serde_json::Value;
 use std::alloc::Global;
 
 // The capability that a value names, alone; no other value names one.
-fn cap_of(value: &Value) -> Caps
+fn cap_of(value: &Tree<'_>) -> Caps
     ensures { result ≡ cap_of (view value.now) }
 {
     match value.as_str().and_then(Caps::from_name) {
@@ -35,7 +35,7 @@ fn cap_of(value: &Value) -> Caps
 }
 
 // The capabilities that are listed.
-fn caps_of(values: &[Value]) -> Caps
+fn caps_of(values: &[Tree<'_>]) -> Caps
     ensures { result ≡ caps_of (items_view values.now) }
 {
     let mut caps = Caps::empty();
@@ -47,25 +47,25 @@ fn caps_of(values: &[Value]) -> Caps
 
 // The listed capabilities.
 #[tactic(auto, unfolding(crate::specs::Read::listed_at))]
-fn listed_of(value: &Value) -> Result<Caps, LineFault>
+fn listed_of(value: &Tree<'_>) -> Result<Caps, LineFault>
     ensures { Gives (λ caps. caps) result (listed_at (view value.now)) }
 {
-    match value.get("listed") {
-        Some(Value::Array(values)) => Ok(caps_of(values)),
-        _ => Err(LineFault::NotARequest),
+    match value.get("listed").and_then(Tree::as_array) {
+        Some(values) => Ok(caps_of(values)),
+        None => Err(LineFault::NotARequest),
     }
 }
 
 // Who asked for it.
 #[tactic(auto, unfolding(crate::specs::Read::caller_at))]
-fn caller_of(alloc: Global, value: &Value) -> Result<Word, LineFault>
+fn caller_of(alloc: Global, value: &Tree<'_>) -> Result<Word, LineFault>
     ensures { Gives (λ word. word) result (caller_at (view value.now)) }
 {
     word_of(alloc, value, "by")
 }
 
 // The text of a document.
-fn document_of(alloc: Global, value: &Value) -> Result<Text, LineFault>
+fn document_of(alloc: Global, value: &Tree<'_>) -> Result<Text, LineFault>
     ensures { Gives (λ text. text) result (text_at (codes "document") (view value.now)) }
 {
     match text_of(value, "document") {
@@ -75,7 +75,7 @@ fn document_of(alloc: Global, value: &Value) -> Result<Text, LineFault>
 }
 
 #[tactic(auto, unfolding(crate::specs::Read::founded_at))]
-fn founded_of(alloc: Global, value: &Value) -> Result<Line, LineFault>
+fn founded_of(alloc: Global, value: &Tree<'_>) -> Result<Line, LineFault>
     ensures { Gives shown result (founded_at (view value.now)) }
 {
     let user = word_of(alloc, value, "user")?;
@@ -91,7 +91,7 @@ fn founded_of(alloc: Global, value: &Value) -> Result<Line, LineFault>
 }
 
 #[tactic(auto, unfolding(crate::specs::Read::enrolled_at))]
-fn enrolled_of(alloc: Global, value: &Value) -> Result<Line, LineFault>
+fn enrolled_of(alloc: Global, value: &Tree<'_>) -> Result<Line, LineFault>
     ensures { Gives shown result (enrolled_at (view value.now)) }
 {
     let caller = caller_of(alloc, value)?;
@@ -109,7 +109,7 @@ fn enrolled_of(alloc: Global, value: &Value) -> Result<Line, LineFault>
 }
 
 #[tactic(auto, unfolding(crate::specs::Read::submitted_at))]
-fn submitted_of(alloc: Global, value: &Value) -> Result<Line, LineFault>
+fn submitted_of(alloc: Global, value: &Tree<'_>) -> Result<Line, LineFault>
     ensures { Gives shown result (submitted_at (view value.now)) }
 {
     let caller = caller_of(alloc, value)?;
@@ -119,7 +119,7 @@ fn submitted_of(alloc: Global, value: &Value) -> Result<Line, LineFault>
 }
 
 #[tactic(auto, unfolding(crate::specs::Read::voted_at))]
-fn voted_of(alloc: Global, value: &Value) -> Result<Line, LineFault>
+fn voted_of(alloc: Global, value: &Tree<'_>) -> Result<Line, LineFault>
     ensures { Gives shown result (voted_at (view value.now)) }
 {
     let caller = caller_of(alloc, value)?;
@@ -138,7 +138,7 @@ fn voted_of(alloc: Global, value: &Value) -> Result<Line, LineFault>
 
 // The caller, the profile and the number that an event on a revision names.
 #[tactic(auto, unfolding(crate::specs::Read::revision_event_at))]
-fn on_revision(alloc: Global, value: &Value) -> Result<(Word, ProfileName, u32), LineFault>
+fn on_revision(alloc: Global, value: &Tree<'_>) -> Result<(Word, ProfileName, u32), LineFault>
     ensures { (event : List ℕ → ProfileName → ℕ → Happening)
         → Gives (λ on. happened (event on.0 on.1 on.2)) result
         (revision_event_at event (view value.now)) }
@@ -151,7 +151,7 @@ fn on_revision(alloc: Global, value: &Value) -> Result<(Word, ProfileName, u32),
 
 // The caller and the profile that an event on a profile names.
 #[tactic(auto, unfolding(crate::specs::Read::profile_event_at))]
-fn on_profile(alloc: Global, value: &Value) -> Result<(Word, ProfileName), LineFault>
+fn on_profile(alloc: Global, value: &Tree<'_>) -> Result<(Word, ProfileName), LineFault>
     ensures { (event : List ℕ → ProfileName → Happening)
         → Gives (λ on. happened (event on.0 on.1)) result
         (profile_event_at event (view value.now)) }
@@ -161,7 +161,7 @@ fn on_profile(alloc: Global, value: &Value) -> Result<(Word, ProfileName), LineF
     Ok((caller, name))
 }
 
-fn issued_of(alloc: Global, value: &Value) -> Result<Line, LineFault>
+fn issued_of(alloc: Global, value: &Tree<'_>) -> Result<Line, LineFault>
     ensures { Gives shown result (revision_event_at issued (view value.now)) }
 {
     let (caller, name, revision) = on_revision(alloc, value)?;
@@ -172,7 +172,7 @@ fn issued_of(alloc: Global, value: &Value) -> Result<Line, LineFault>
     }))
 }
 
-fn withdrawn_of(alloc: Global, value: &Value) -> Result<Line, LineFault>
+fn withdrawn_of(alloc: Global, value: &Tree<'_>) -> Result<Line, LineFault>
     ensures { Gives shown result (revision_event_at withdrawn (view value.now)) }
 {
     let (caller, name, revision) = on_revision(alloc, value)?;
@@ -183,7 +183,7 @@ fn withdrawn_of(alloc: Global, value: &Value) -> Result<Line, LineFault>
     }))
 }
 
-fn adopted_of(alloc: Global, value: &Value) -> Result<Line, LineFault>
+fn adopted_of(alloc: Global, value: &Tree<'_>) -> Result<Line, LineFault>
     ensures { Gives shown result (revision_event_at adopted (view value.now)) }
 {
     let (caller, name, revision) = on_revision(alloc, value)?;
@@ -194,14 +194,14 @@ fn adopted_of(alloc: Global, value: &Value) -> Result<Line, LineFault>
     }))
 }
 
-fn held_of(alloc: Global, value: &Value) -> Result<Line, LineFault>
+fn held_of(alloc: Global, value: &Tree<'_>) -> Result<Line, LineFault>
     ensures { Gives shown result (profile_event_at held (view value.now)) }
 {
     let (caller, name) = on_profile(alloc, value)?;
     Ok(Line::Event(Event::Held { caller, name }))
 }
 
-fn released_of(alloc: Global, value: &Value) -> Result<Line, LineFault>
+fn released_of(alloc: Global, value: &Tree<'_>) -> Result<Line, LineFault>
     ensures { Gives shown result (profile_event_at released (view value.now)) }
 {
     let (caller, name) = on_profile(alloc, value)?;
@@ -209,7 +209,7 @@ fn released_of(alloc: Global, value: &Value) -> Result<Line, LineFault>
 }
 
 // The line of this kind.
-fn line_of(alloc: Global, kind: Kind, value: &Value) -> Result<Line, LineFault>
+fn line_of(alloc: Global, kind: Kind, value: &Tree<'_>) -> Result<Line, LineFault>
     ensures { Gives shown result (line_at kind (view value.now)) }
 {
     match kind {
@@ -228,7 +228,7 @@ fn line_of(alloc: Global, kind: Kind, value: &Value) -> Result<Line, LineFault>
 
 /// What an object may be the line of.
 #[tactic(auto, unfolding(crate::specs::Read::candidate_at))]
-pub(crate) fn candidate_of(alloc: Global, value: &Value) -> Result<Line, LineFault>
+pub(crate) fn candidate_of(alloc: Global, value: &Tree<'_>) -> Result<Line, LineFault>
     ensures { Gives shown result (candidate_at (view value.now)) }
 {
     match text_of(value, "event").and_then(Kind::from_word) {

@@ -16,9 +16,8 @@ use crate::members::{
     write_enrolment, write_founding, write_kind, write_on_profile, write_on_revision,
     write_profile, write_vote,
 };
-use json::Writer;
 use json_requests::write::write_text;
-use json_tree::written_text;
+use json_tree::{Writer, written_text};
 use office_policy::{Change, Event};
 use review_policy::{ProfileName, Text, Word};
 use std::alloc::{AllocError, Global};
@@ -183,7 +182,7 @@ pub fn change_text(alloc: Global, caller: &Word, change: &Change) -> Result<Stri
         → HasForms (event_by caller.now change.now) }
 {
     change_forms(caller, change);
-    let mut out = Writer::new(Vec::with_capacity(alloc, FIRST_ROOM)?);
+    let mut out = Writer::with_capacity(alloc, FIRST_ROOM)?;
     write_change(&mut out, alloc, caller, change)?;
     Ok(written_text(out))
 }
@@ -192,7 +191,7 @@ pub fn change_text(alloc: Global, caller: &Word, change: &Change) -> Result<Stri
 pub fn text(alloc: Global, line: &Line) -> Result<String, AllocError>
     ensures { IfOk result (λ text. string_bytes text ≡ text_of (shown line.now)) }
 {
-    let mut out = Writer::new(Vec::with_capacity(alloc, FIRST_ROOM)?);
+    let mut out = Writer::with_capacity(alloc, FIRST_ROOM)?;
     write_line(&mut out, alloc, line)?;
     Ok(written_text(out))
 }

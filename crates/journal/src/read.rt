@@ -12,7 +12,7 @@ use crate::line::Line;
 use crate::part::candidate_of;
 use crate::print::text;
 use json_requests::LineFault;
-use serde_json::Value;
+use json_tree::{ReadFault, Scratch, Tree};
 use std::alloc::{AllocError, Global};
 
 // What a text may be.
@@ -20,19 +20,15 @@ use std::alloc::{AllocError, Global};
 fn candidate(alloc: Global, bytes: &[u8]) -> Result<Line, UnreadLine>
     ensures { IsCandidate result (candidate_in bytes.now) }
 {
-    match Value::from_slice(alloc, bytes) {
+    let mut scratch = Scratch::new(alloc);
+    match Tree::from_slice(alloc, bytes, &mut scratch) {
         Ok(value) => match candidate_of(alloc, &value) {
             Ok(line) => Ok(line),
             Err(LineFault::NotJson | LineFault::NotARequest) => Err(UnreadLine::NotALine),
             Err(LineFault::NoMemory) => Err(UnreadLine::NoMemory),
         },
-        Err(error) => {
-            if error.is_memory() {
-                Err(UnreadLine::NoMemory)
-            } else {
-                Err(UnreadLine::NotALine)
-            }
-        }
+        Err(ReadFault::NotJson) => Err(UnreadLine::NotALine),
+        Err(ReadFault::NoMemory) => Err(UnreadLine::NoMemory),
     }
 }
 
@@ -50,15 +46,11 @@ fn is_its_text(alloc: Global, line: &Line, bytes: &[u8]) -> Result<bool, AllocEr
 pub fn read_line(alloc: Global, bytes: &[u8]) -> Result<Line, UnreadLine>
     ensures { IsRead bytes.now result }
 {
-    match candidate(alloc, bytes) {
-        Ok(line) => {
-            line_forms(&line);
-            if is_its_text(alloc, &line, bytes)? {
-                Ok(line)
-            } else {
-                Err(UnreadLine::NotALine)
-            }
-        }
-        Err(fault) => Err(fault),
+    let line = candidate(alloc, bytes)?;
+    line_forms(&line);
+    if is_its_text(alloc, &line, bytes)? {
+        Ok(line)
+    } else {
+        Err(UnreadLine::NotALine)
     }
 }

@@ -1,7 +1,7 @@
 -- The texts of why no office is built anew from a journal.
 use Rattle.std.specs.Prelude.{ℕ, List, [], ◌++◌, ◌==◌, if◌then◌else◌, codes, decimal}
 use Rattle.review_policy.specs.WordTables.{fault_word, rule_word}
-use Rattle.office_store.specs.Faults.{founding_fault_word}
+use Rattle.office_founding.specs.Faults.{founding_fault_word}
 use Rattle.office_desk.specs.declared.replay.Unreplayed.{Unreplayed}
 use Rattle.office_desk.specs.declared.replay.Unreplayed.TheVariants as causes
 use Rattle.journal.specs.FaultTexts.{unreadable_word}

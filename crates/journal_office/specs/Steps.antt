@@ -4,9 +4,9 @@ use Rattle.std.specs.Prelude.{Result, Ok, Err, IfSome, IsTrue, ⊤}
 use Rattle.sqlite.specs.Held.{Held, state}
 use Rattle.sqlite.specs.State.{HasCleanDisk}
 use Rattle.sqlite.specs.Store.{Ghosts}
-use Rattle.office_store.specs.declared.fault.FoundingFault.{FoundingFault}
-use Rattle.office_store.specs.declared.fault.FoundingFault.TheVariants.{AlreadyFounded}
-use Rattle.office_store.specs.Founding.{FailsToFound, first_user, has_table}
+use Rattle.office_founding.specs.declared.fault.FoundingFault.{FoundingFault}
+use Rattle.office_founding.specs.declared.fault.FoundingFault.TheVariants.{AlreadyFounded}
+use Rattle.office_founding.specs.Founding.{FailsToFound, first_user, has_table}
 use Rattle.office_policy.specs.History.{Event, founded}
 use Rattle.office_policy.specs.Lawful.{IsFounding}
 use Rattle.office_policy.specs.Meaning.{Meaning}

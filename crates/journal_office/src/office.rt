@@ -69,10 +69,7 @@ pub fn rebuild<S: Alter, R: BufRead + Drop>(
     ensures empty { OnOk result ((state S.Store conn).now.schema ≡ no_schema) }
     ensures idle { IfErr result (λ refusal. IsIdle (state S.Store refusal.1)) }
 {
-    let (mut replay, first) = match Replay::begin(alloc, conn, journal) {
-        Ok(begun) => begun,
-        Err(refusal) => return Err(refusal),
-    };
+    let (mut replay, first) = Replay::begin(alloc, conn, journal)?;
     drop(first);
     let replayed = replay_rest(alloc, &mut replay);
     let events = replay.count();

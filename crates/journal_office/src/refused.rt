@@ -2,7 +2,7 @@
 
 use journal::Unreadable;
 use office_desk::Unreplayed;
-use office_store::FoundingFault;
+use office_founding::FoundingFault;
 use std::error::Error;
 use std::fmt;
 

@@ -66,13 +66,12 @@ fn first<R: BufRead>(alloc: Global, events: &mut Events<R>) -> Result<Placed, Re
     ensures first { IsFirst (place R.remaining events.old) (place R.remaining events.new) result }
     ensures fault { IfOk result (λ _. events.new.fault ≡ None) }
 {
-    match next(alloc, events) {
-        Ok(Some(placed)) => Ok(placed),
-        Ok(None) => Err(Refused {
+    match next(alloc, events)? {
+        Some(placed) => Ok(placed),
+        None => Err(Refused {
             line: 0,
             why: Why::NotFounded,
         }),
-        Err(refused) => Err(refused),
     }
 }
 
@@ -274,13 +273,12 @@ impl<S: Alter, R: BufRead> Replay<S, R> {
         if self.count == u64::MAX {
             return Err(unread(&self.events, Unreadable::Read));
         }
-        match next(alloc, &mut self.events) {
-            Ok(Some(placed)) => {
+        match next(alloc, &mut self.events)? {
+            Some(placed) => {
                 self.count += 1;
                 Ok(Some(placed))
             }
-            Ok(None) => Ok(None),
-            Err(refused) => Err(refused),
+            None => Ok(None),
         }
     }
 

@@ -144,10 +144,7 @@ pub fn rebuild_as_read<S: Alter, R: BufRead + Drop>(
     ensures empty { OnOk result ((state S.Store conn).now.schema ≡ no_schema) }
     ensures idle { IfErr result (λ refusal. IsIdle (state S.Store refusal.1)) }
 {
-    let (mut replay, first, halt) = match Replay::begin_as_read(alloc, conn, journal) {
-        Ok(begun) => begun,
-        Err(refusal) => return Err(refusal),
-    };
+    let (mut replay, first, halt) = Replay::begin_as_read(alloc, conn, journal)?;
     drop(first);
     let before = replay.count();
     let rebuilt = rebuild_behind(alloc, &mut replay, halt);

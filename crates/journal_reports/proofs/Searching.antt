@@ -10,7 +10,8 @@ use Rattle.office_tables.specs.declared.row.RevisionRow.{RevisionRow}
 use Rattle.office_policy.specs.History.{Event, History}
 use Rattle.office_policy.specs.Meaning.{Meaning}
 use Rattle.office_policy.specs.Revisions.{revision_of}
-use Rattle.office_desk.specs.Looking.{HasLookedBack, sheet_at, sheet_text_of}
+use Rattle.office_judging.specs.Sheets.{sheet_at, sheet_text_of}
+use Rattle.office_desk.specs.Looking.{HasLookedBack}
 use Rattle.office_desk.specs.Meant.{meaning_over}
 use Rattle.office_desk.specs.Replayed.{HasHappened}
 use Rattle.journal.specs.Journal.{IsJournalOf}

@@ -10,7 +10,8 @@ use Rattle.office_policy.specs.History.{Event, History}
 use Rattle.office_policy.specs.Lawful.{IsLawfulHistory}
 use Rattle.office_policy.specs.Meaning.{Meaning}
 use Rattle.office_policy.specs.Revisions.{issues, revision_of}
-use Rattle.office_desk.specs.Looking.{IsMetBetween, sheet_at}
+use Rattle.office_judging.specs.Sheets.{sheet_at}
+use Rattle.office_desk.specs.Looking.{IsMetBetween}
 use Rattle.office_desk.specs.Meant.{meaning_over}
 use Rattle.journal.specs.Journal.{IsJournalOf}
 use Rattle.journal.specs.Told.{GoesOn, Place, Tells, history_told, start}

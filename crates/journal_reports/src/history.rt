@@ -169,10 +169,8 @@ fn write_struck<W: Write>(
     ensures { WritesFirst (W.contents output.old.inner) (W.contents output.new.inner)
         (struck_lines filter.now behind (last - behind)) result }
 {
-    match struck(alloc, filter, behind, last) {
-        Ok(text) => write_line(output, text),
-        Err(why) => Err(why),
-    }
+    let text = struck(alloc, filter, behind, last)?;
+    write_line(output, text)
 }
 
 // Has the next event happen again, and writes the lines behind that of the last one, up to its own.
@@ -316,10 +314,7 @@ fn write_first<W: Write>(
 {
     let made = first_line(alloc, &first, filter);
     drop(first);
-    match made {
-        Ok(line) => write_line(output, line),
-        Err(why) => Err(why),
-    }
+    write_line(output, made?)
 }
 
 // Writes the lines of all events, of which the first one has happened again. Where the journal can't
@@ -342,18 +337,11 @@ fn write_all<S: Alter, R: BufRead, W: Write>(
         (W.contents output.new.inner) replay.new.office result }
 {
     let line = first.line;
-    match write_struck(alloc, filter, 0, line.saturating_sub(1), output) {
-        Ok(()) => match write_first(alloc, first, filter, output) {
-            Ok(()) => match halt {
-                None => write_rest(alloc, replay, line, filter, output),
-                Some(refused) => Err(Unwritten::Refused(refused)),
-            },
-            Err(why) => Err(why),
-        },
-        Err(why) => {
-            drop(first);
-            Err(why)
-        }
+    write_struck(alloc, filter, 0, line.saturating_sub(1), output)?;
+    write_first(alloc, first, filter, output)?;
+    match halt {
+        None => write_rest(alloc, replay, line, filter, output),
+        Some(refused) => Err(Unwritten::Refused(refused)),
     }
 }
 

@@ -11,9 +11,8 @@ use journal::members::{
     write_enrolment, write_founding, write_on_profile, write_on_revision, write_vote,
 };
 use journal::{Kind, Placed};
-use json::Writer;
-use json_tree::written_text;
-use office_desk::number_of;
+use json_tree::{Writer, written_text};
+use office_judging::number_of;
 use office_policy::Event;
 use office_tables::RevisionRow;
 use profile_text::digest;
@@ -200,7 +199,7 @@ pub fn json_text(
     ensures { IfOk result (λ text. string_bytes text
         ≡ json_of placed.now.line (event_meant placed.now.event) found.now) }
 {
-    let mut out = Writer::new(Vec::with_capacity(alloc, FIRST_ROOM)?);
+    let mut out = Writer::with_capacity(alloc, FIRST_ROOM)?;
     write_event(&mut out, alloc, placed.line, &placed.event, found)?;
     let mut text = written_text(out);
     text.push('\n')?;

@@ -14,7 +14,7 @@ ghost use Rattle.journal_reports.specs.Lines.{on_revision, short_digest, text_of
 
 use cap_sets::{Caps, Names};
 use journal::Placed;
-use office_desk::number_of;
+use office_judging::number_of;
 use office_policy::Event;
 use office_tables::RevisionRow;
 use profile_text::digest;

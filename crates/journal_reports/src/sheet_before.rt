@@ -148,13 +148,10 @@ fn look<S: Alter>(
         (λ h. evidence_of name.now number line h (placed_meant placed.now)) result }
 {
     match office.sheet(alloc, name, number) {
-        Ok(Some(sheet)) => match ending(alloc, office, placed, line) {
-            Ok(ending) => match joined(alloc, &sheet, &ending) {
-                Ok(text) => Ok(Some(text)),
-                Err(why) => Err(why),
-            },
-            Err(why) => Err(why),
-        },
+        Ok(Some(sheet)) => {
+            let ending = ending(alloc, office, placed, line)?;
+            Ok(Some(joined(alloc, &sheet, &ending)?))
+        }
         Ok(None) => Ok(None),
         Err(fault) => Err(NoEvidence::Unseen {
             line: placed.line,

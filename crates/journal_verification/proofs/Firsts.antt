@@ -1,42 +1,87 @@
 -- Where two lists of rows first differ.
-use Rattle.std.proofs.Common.{inl, inr, ◌≡◌, ◌≢◌, ℕ, zero, suc, ◌<◌, ◌≤◌, List, [], ◌∷◌, take, get_or, length, Option, None, Some, Less, sym, ap, subst, ◌∙◌, arith}
-use Rattle.std.specs.Prelude.{slice_get}
+use Rattle.std.proofs.Common.{inl, inr, ◌≡◌, ◌≢◌, ℕ, ◌≤◌, List, [], ◌∷◌, ◌++◌, take, length, Option, None, Some, Result, Ok, Err, Less, refl, sym, ap, subst, ◌∙◌, arith}
+use Rattle.std.specs.Prelude.{slice_get, OnOk}
 use Rattle.std.specs.Ordering.{ordering_reverse}
-use Rattle.std.proofs.lemmas.Option.{slice_get_past}
+use Rattle.std.proofs.lemmas.List.{take_all}
+use Rattle.std.proofs.lemmas.Option.{same_Some, slice_get_past}
+use Rattle.sqlite.specs.Effect.{Database}
+use Rattle.sqlite.specs.Held.{Held, state}
 use Rattle.sqlite.specs.Order.{Row}
+use Rattle.sqlite.specs.Store.{Ghosts}
 use Rattle.sqlite_value.proofs.OrderLemmas.{row_cmp_total}
-use Rattle.journal_verification.specs.Differing.{IsFirstDifference, IsNoneBefore, StandsFirst, IsFirstDiffering, columns_cmp}
+use Rattle.journal_verification.specs.declared.difference.Difference.{Difference}
+use Rattle.journal_verification.specs.declared.table.Table.{Table}
+use Rattle.journal_verification.specs.Differing.{IsEarlier, IsFirstDiffering, IsNoneBefore, columns_cmp}
+use Rattle.journal_verification.specs.Named.{IsNamed}
+use Rattle.journal_verification.specs.Reading.{GivesBehind, GivesRest, HasBehind, HasNext, IsAt}
+use Rattle.journal_verification.specs.Same.{HaveOther, IsAnsweredBy}
+use Rattle.journal_verification.specs.Texts.{key_width, rows_text}
 
-pub found_at : {X : Type 0} (xs : List X) (at : ℕ) (x : X) → at < length xs → x ≡ get_or xs at x → slice_get xs at ≡ Some x
-found_at [] at x within is = absurd (omega (arith, within))
-found_at (y ∷ xs) zero x within is = ap Some (sym is)
-found_at (y ∷ xs) (suc at) x within is = found_at xs at x (omega (arith, within)) is
+-- of two rows the earlier
+pub second_earlier : (width : ℕ) (first second : Row) → (first ≡ second → ⊥) → columns_cmp width second first ≡ Less → IsEarlier width (Some first) (Some second) second
+second_earlier width first second differ less =
+    (λ same. differ (same_Some first second same), inr (refl, λ more. let k = sym more ∙ row_cmp_total.antisymm (take width first) (take width second) ∙ ap ordering_reverse less in absurd cc))
 
-back : {X : Type 0} (left right : List X) (at : ℕ) → IsFirstDifference left right at → IsFirstDifference right left at
-back left right at differ = record { before = sym differ.before; differ = λ same. differ.differ (sym same) }
+-- ---- in a whole answer
 
-module _ (width : ℕ) (left right : List Row) (at : ℕ) (differ : IsFirstDifference left right at) where
-  stands : (row : Row) (other : Option Row) → slice_get left at ≡ Some row → slice_get right at ≡ other → IsNoneBefore width row other → StandsFirst width left right row
-  stands row other there is none = record { at = at; differ = differ; there = there; none = subst (IsNoneBefore width row) (sym is) none }
+take_front : (before : List Row) (row : Row) (more : List Row) → take (length before) ((before ++ row ∷ []) ++ more) ≡ before
+take_front [] row more = refl
+take_front (x ∷ before) row more = ap (λ (l : List Row). x ∷ l) (take_front before row more)
 
-  pub left_first : (row other : Row) → at < length left → row ≡ get_or left at row → at < length right → other ≡ get_or right at other → columns_cmp width other row ≢ Less → IsFirstDiffering width left right row
-  left_first row other first row_is second other_is none = inl (stands row (Some other) (found_at left at row first row_is) (found_at right at other second other_is) none)
+got_front : (before : List Row) (row : Row) (more : List Row) → slice_get ((before ++ row ∷ []) ++ more) (length before) ≡ Some row
+got_front [] row more = refl
+got_front (x ∷ before) row more = got_front before row more
 
-  pub left_alone : (row : Row) → at < length left → row ≡ get_or left at row → length right ≤ at → IsFirstDiffering width left right row
-  left_alone row first row_is past = inl (stands row None (found_at left at row first row_is) (slice_get_past right at past) tt)
+module _ {S : Type 0} (g : Ghosts S) (old : Held S) where
+  pub rest_behind : (db : Database) (row : Row) → GivesRest g old db → GivesBehind g old (Some row) db
+  rest_behind db row rest = λ sql before at.
+      let it = rest sql (before ++ row ∷ []) at in
+      record { rows = (before ++ row ∷ []) ++ it.0; answered = it.1; begins = take_front before row it.0; there = got_front before row it.0 }
 
-  pub none_left : {P : Type 0} → length left ≤ at → length right ≤ at → P
-  none_left first second = absurd (differ.differ (slice_get_past left at first ∙ sym (slice_get_past right at second)))
+  pub rest_ok : {X E : Type 0} (db : Database) (r : Result X E) (row : Row) (next : Option Row) → Some row ≡ next → OnOk r (GivesRest g old db) → OnOk r (GivesBehind g old next db)
+  rest_ok db (Ok x) row next is rest = subst (λ n. GivesBehind g old n db) is (rest_behind db row rest)
+  rest_ok db (Err e) row next is rest = tt
 
-other_side : (width : ℕ) (left right : List Row) (row : Row) → IsFirstDiffering width right left row → IsFirstDiffering width left right row
-other_side width left right row (inl it) = inr it
-other_side width left right row (inr it) = inl it
+  pub end_behind : GivesBehind g old None (state g old).now
+  end_behind = λ sql before answered. record { rows = before; answered = answered; begins = take_all (length before) before (omega arith); there = slice_get_past before (length before) (omega arith) }
 
-module _ (width : ℕ) (left right : List Row) (at : ℕ) (differ : IsFirstDifference left right at) where
-  pub right_first : (row other : Row) → at < length left → other ≡ get_or left at other → at < length right → row ≡ get_or right at row → columns_cmp width row other ≡ Less → IsFirstDiffering width left right row
-  right_first row other first other_is second row_is less =
-      other_side width left right row (left_first width right left at (back left right at differ) row other second row_is first other_is
-      (λ more. let k = sym more ∙ row_cmp_total.antisymm (take width other) (take width row) ∙ ap ordering_reverse less in absurd cc))
+module _ {S T : Type 0} (g : Ghosts S) (f : Ghosts T) (sql : List ℕ) (a b : Database) (before : List Row) (left right : Option Row) (h : HasBehind g sql a before left) (k : HasBehind f sql b before right) where
+  first_differing : (width : ℕ) (row : Row) → IsEarlier width left right row → IsFirstDiffering width h.rows k.rows row
+  first_differing width row (differ, inl (is, none)) = inl (record {
+    at = length before;
+    differ = record { before = h.begins ∙ sym k.begins; differ = λ same. differ (sym h.there ∙ same ∙ k.there) };
+    there = h.there ∙ is;
+    none = subst (IsNoneBefore width row) (sym k.there) none;
+  })
+  first_differing width row (differ, inr (is, none)) = inr (record {
+    at = length before;
+    differ = record { before = k.begins ∙ sym h.begins; differ = λ same. differ (sym h.there ∙ sym same ∙ k.there) };
+    there = k.there ∙ is;
+    none = subst (IsNoneBefore width row) (sym h.there) none;
+  })
 
-  pub right_alone : (row : Row) → length left ≤ at → at < length right → row ≡ get_or right at row → IsFirstDiffering width left right row
-  right_alone row past second row_is = other_side width left right row (left_alone width right left at (back left right at differ) row second row_is past)
+  -- two answers that go on by other rows
+  pub have_other : (table : Table) → sql ≡ rows_text table → (d : Difference) (row : Row) → IsEarlier (key_width table) left right row → IsNamed table row d → HaveOther g f table a b d
+  have_other table is d row earlier named =
+      let differs = first_differing (key_width table) row earlier in
+      record {
+        left = h.rows;
+        right = k.rows;
+        in_first = subst (λ s. IsAnsweredBy g s a h.rows) is h.answered;
+        in_second = subst (λ s. IsAnsweredBy f s b k.rows) is k.answered;
+        row = row;
+        differs = differs;
+        named = named;
+      }
+
+module _ {S T : Type 0} (g : Ghosts S) (f : Ghosts T) (table : Table) where
+  pub tells_other : (a b : Database) (before : List Row) (left right first second : Option Row) → first ≡ left → second ≡ right → HasBehind g (rows_text table) a before left → HasBehind f (rows_text table) b before right → (d : Difference)
+      → (row : Row) × IsEarlier (key_width table) first second row × IsNamed table row d → HaveOther g f table a b d
+  tells_other a b before left right first second is also h k d (row, earlier, named) =
+      have_other g f (rows_text table) a b before left right h k table refl d row (subst (λ o. IsEarlier (key_width table) left o row) also (subst (λ o. IsEarlier (key_width table) o second row) is earlier)) named
+
+  -- both have given the same row more
+  pub both_came : (built : Held S) (office : Held T) (before : List Row) (row : Row) (next : Option Row) → Some row ≡ next → HasNext g (rows_text table) built before next × HasNext f (rows_text table) office before next
+      → (given : List Row) × IsAt g (rows_text table) built given × IsAt f (rows_text table) office given
+  both_came built office before row next is have =
+      (before ++ row ∷ [], subst (HasNext g (rows_text table) built before) (sym is) have.0, subst (HasNext f (rows_text table) office before) (sym is) have.1)

@@ -9,6 +9,7 @@ mod Keys
 mod Looks
 mod Offices
 mod Queries
+mod Readings
 mod Rising
 mod Telling
 mod Verifying

@@ -17,6 +17,7 @@ use Rattle.office_rows.specs.Rows.{IsFaultOf}
 use Rattle.office_rows.proofs.Queries.{rows_asked, shown_left}
 use Rattle.office_store.specs.Shown.{IsIdle}
 use Rattle.office_store.proofs.Calls.{opened}
+use Rattle.office_store.proofs.Committed.{survives_same}
 use Rattle.journal_verification.specs.declared.difference.Difference.{Difference}
 use Rattle.journal_verification.specs.declared.table.Table.{Table}
 use Rattle.journal_verification.specs.declared.table.Table.TheVariants as table
@@ -36,16 +37,16 @@ has_looked sql query params old new items r idle mode rows fault survives =
       survives = asked.crash;
     }
 
-pub answered : {S : Type 0} (g : Ghosts S) (sql : List ℕ) (old new : Held S) {X : Type 0} (items : X → List Row) (r : Result X Fault) → IfOk r (λ x. Shown sql [] (state g old) (state g new) (items x))
-    → IfOk r (λ x. IsAnsweredBy g sql (state g old).now (items x))
-answered g sql old new items (Ok x) shown = record { old = old; new = new; now = refl; shown = shown }
-answered g sql old new items (Err f) shown = tt
-
-pub unchanged : (sql : List ℕ) → IsQuery sql → (params : Row) (old new : State) {X : Type 0} (items : X → List Row) (r : Result X Fault) → IfOk r (λ x. Shown sql params old new (items x)) → OnOk r (IsUnchanged old new)
-unchanged sql query params old new items (Ok x) shown = shown_left sql query params old new (items x) shown
-unchanged sql query params old new items (Err f) shown = tt
-
 -- ---- one look after another
+
+pub looked_itself : (s : State) → IsIdle s → HasLooked s s
+looked_itself s idle = record {
+  idle = idle;
+  clean = λ clean. clean;
+  same = λ settled clean is_open. (refl, refl);
+  shut = λ clean shut. shut;
+  survives = survives_same s _;
+}
 
 pub looked_on : (old mid new : State) → HasLooked old mid → HasLooked mid new → HasLooked old new
 looked_on old mid new first next = record {

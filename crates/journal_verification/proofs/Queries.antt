@@ -1,8 +1,6 @@
 -- What the texts of the queries mean.
 use Rattle.std.proofs.Common.{ℕ, List, [], ◌∷◌, codes, refl}
-use Rattle.sqlite.specs.declared.types.Value.TheVariants.{Null}
-use Rattle.sqlite_sql.specs.declared.ops.BinaryOp.TheVariants.{Coalesce}
-use Rattle.sqlite.specs.Term.{Term, lit, col, op2}
+use Rattle.sqlite.specs.Term.{Term, col}
 use Rattle.sqlite.specs.Query.{Query, inner, end}
 use Rattle.sqlite.specs.Command.TheVariants.{Select}
 use Rattle.sqlite.specs.Collation.TheVariants.{Binary}
@@ -38,20 +36,16 @@ columns_of table.Votes = col 1 1 ∷ col 1 2 ∷ col 1 3 ∷ col 1 4 ∷ col 1 5
 columns_of table.Baselines = col 1 1 ∷ col 1 2 ∷ col 1 3 ∷ []
 columns_of table.Holds = col 1 1 ∷ col 1 2 ∷ []
 
--- what a plus makes of a column
-abbrev plus : Term → Term
-plus column = op2 Coalesce column (lit Null)
-
 abbrev rising : Term → Term × Key
 rising term = (term, ascending Binary)
 
 abbrev pub order_of : Table → List (Term × Key)
-order_of table.Office = rising (plus (col 1 0)) ∷ []
-order_of table.Users = rising (plus (col 1 1)) ∷ []
-order_of table.Revisions = rising (plus (col 1 1)) ∷ rising (col 1 2) ∷ rising (col 1 3) ∷ []
-order_of table.Votes = rising (plus (col 1 1)) ∷ rising (col 1 2) ∷ rising (col 1 3) ∷ rising (col 1 4) ∷ []
-order_of table.Baselines = rising (plus (col 1 1)) ∷ []
-order_of table.Holds = rising (plus (col 1 1)) ∷ rising (col 1 2) ∷ []
+order_of table.Office = rising (col 1 0) ∷ []
+order_of table.Users = rising (col 1 1) ∷ []
+order_of table.Revisions = rising (col 1 1) ∷ rising (col 1 2) ∷ rising (col 1 3) ∷ []
+order_of table.Votes = rising (col 1 1) ∷ rising (col 1 2) ∷ rising (col 1 3) ∷ rising (col 1 4) ∷ []
+order_of table.Baselines = rising (col 1 1) ∷ []
+order_of table.Holds = rising (col 1 1) ∷ rising (col 1 2) ∷ []
 
 abbrev pub names_of : Table → List (List ℕ)
 names_of table.Office = codes "key" ∷ codes "schema" ∷ codes "listed" ∷ []
@@ -69,7 +63,7 @@ rowid_names table.Office = codes "key" ∷ []
 rowid_names _ = codes "rowid" ∷ []
 
 abbrev pub by_rowid : List (Term × Key)
-by_rowid = rising (plus (col 1 0)) ∷ []
+by_rowid = rising (col 1 0) ∷ []
 
 abbrev pub rowids_query : Table → Query
 rowids_query t = ordered_query (col 1 0 ∷ []) [] (inner (tree_of t) end) by_rowid

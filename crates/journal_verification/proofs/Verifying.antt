@@ -8,7 +8,6 @@ use Rattle.memory_database.specs.MemoryStore.{MemoryStore, over_memory}
 use Rattle.memory_database.proofs.MemoryFacts.{memory_is_clean}
 use Rattle.office_store.specs.Shown.{IsIdle, Shows}
 use Rattle.office_store.proofs.Calls.{Settles, leaves_only}
-use Rattle.office_store.proofs.Committed.{survives_same}
 use Rattle.office_policy.specs.Callers.{caller_of}
 use Rattle.office_policy.specs.History.{Event, History}
 use Rattle.office_policy.specs.TablesOf.{tables_of}
@@ -26,19 +25,9 @@ use Rattle.journal_office.specs.Rebuilt.{IsRebuilt, IsRefused, IsUnreplayed, Ref
 use Rattle.journal_office.proofs.Replays.{goes_then}
 use Rattle.journal_verification.specs.declared.difference.Difference.{Difference}
 use Rattle.journal_verification.specs.Compared.{Differs}
-use Rattle.journal_verification.specs.Looked.{HasLooked}
 use Rattle.journal_verification.specs.Refused.{IsFirstUnlawful, IsNotRebuilt, IsWrongAt}
 use Rattle.journal_verification.specs.Verified.{IsOther, IsVerified}
 use Rattle.journal_verification.proofs.Differences.{differ}
-
-pub looked_itself : (s : State) → IsIdle s → HasLooked s s
-looked_itself s idle = record {
-  idle = idle;
-  clean = λ clean. clean;
-  same = λ settled clean is_open. (refl, refl);
-  shut = λ clean shut. shut;
-  survives = survives_same s _;
-}
 
 unsealed : (bytes : Option (List ℕ)) (h : History) (seal : List ℕ) → IfSome bytes (λ text. IsSealedJournal text h seal) → IfSome bytes (λ text. IsJournalOf text h)
 unsealed None h seal is = tt

@@ -31,3 +31,11 @@ pub record StandsFirst (width : ℕ) (left right : List Row) (row : Row) : Type 
 abbrev pub IsFirstDiffering : ℕ → List Row → List Row → Row → Type 0
 IsFirstDiffering width left right row =
     StandsFirst width left right row ⊎ StandsFirst width right left row
+
+-- of two rows, each of which may be wanting and which aren't one, it is one that the other doesn't
+-- come before
+abbrev pub IsEarlier : ℕ → Option Row → Option Row → Row → Type 0
+IsEarlier width left right row =
+    (left ≢ right)
+    × (((left ≡ Some row) × IsNoneBefore width row right)
+    ⊎ ((right ≡ Some row) × IsNoneBefore width row left))

@@ -4,7 +4,9 @@ pub mod Different
 pub mod Differing
 pub mod Looked
 pub mod Named
+pub mod Reading
 pub mod Refused
+pub mod Rising
 pub mod Same
 pub mod Schemas
 pub mod Texts

@@ -4,56 +4,55 @@ ghost use Rattle.std.specs.Prelude.{◌≡◌, ◌↔◌, [], IsTrue, IfErr, IfO
 ghost use Rattle.sqlite.specs.Held.{state};
 ghost use Rattle.sqlite.specs.State.{HasCleanDisk, IsLive, IsUnchanged};
 ghost use Rattle.office_rows.specs.Causes.{HasFailed};
-ghost use Rattle.office_rows.specs.Queries.{IsQuery};
-ghost use Rattle.office_rows.specs.Rows.{IsFaultOf};
 ghost use Rattle.office_store.specs.Schema.{office_schema};
 ghost use Rattle.office_store.specs.Shown.{IsIdle, Shows};
 ghost use Rattle.office_tables.specs.Tables.{Tables};
 ghost use Rattle.journal_verification.specs.Compared.{TellsOffice};
 ghost use Rattle.journal_verification.specs.Looked.{HasLooked};
-ghost use Rattle.journal_verification.specs.Same.{FaultsRowids, IsAnsweredBy, TellsRowids};
+ghost use Rattle.journal_verification.specs.Reading.{IsAt, IsGiving};
+ghost use Rattle.journal_verification.specs.Same.{FaultsRowids, TellsRowids};
 ghost use Rattle.journal_verification.specs.Same.{TellsRows, TellsTables};
 ghost use Rattle.journal_verification.specs.Same.{TellsTable};
-ghost use Rattle.journal_verification.specs.Texts.{rows_text};
+ghost use Rattle.journal_verification.specs.Texts.{rowids_text, rows_text};
 
 use crate::difference::Difference;
-use crate::naming::named;
-use crate::rows::{are_rising, first_differing};
+use crate::reading::read_on;
+use crate::rows::Rising;
 use crate::schema::is_same_schema;
+use crate::side_by_side::readings_differ;
 use crate::table::{FURTHER, Table};
-use office_rows::all_rows;
+use office_rows::fault_of_error;
 use review_policy::Fault;
-use sqlite::{Alter, Connection, Row};
+use sqlite::{Alter, Connection, Rows};
 use std::alloc::Global;
 
-// All rows that a query answers. Nothing is changed.
-fn read<S: Alter>(conn: &mut Connection<S>, sql: &str) -> Result<Vec<Row>, Fault>
-    requires idle { IsIdle (state S.Store conn.old) }
-    requires query { IsQuery sql.now }
-    ensures looked { HasLooked (state S.Store conn.old) (state S.Store conn.new) }
-    ensures answered { HasCleanDisk (state S.Store conn.new) → IfOk result (λ rows.
-        IsAnsweredBy S.Store sql.now (state S.Store conn.old).now rows.items) }
-    ensures unchanged { HasCleanDisk (state S.Store conn.new) → OnOk result
-        (IsUnchanged (state S.Store conn.old) (state S.Store conn.new)) }
-    ensures fault { HasCleanDisk (state S.Store conn.new) → IfErr result
-        (IsFaultOf sql.now [] (state S.Store conn.old) (state S.Store conn.new)) }
+// Whether the rowids that a reading from its start gives rise. No table has as many rows as the loop
+// could read.
+fn rowids_rise<S: Alter>(rows: &mut Rows<'_, S>) -> Result<bool, Fault>
+    requires { IsIdle (state S.Store rows.old.conn.now) }
+    ensures same_reference { rows.new.conn.ghost_name ≡ rows.old.conn.ghost_name }
+    ensures looked { HasLooked (state S.Store rows.old.conn.now)
+        (state S.Store rows.new.conn.now) }
+    ensures rowids { HasCleanDisk (state S.Store rows.new.conn.now) → (table : Table)
+        → IsAt S.Store (rowids_text table) rows.old.conn.now []
+        → IfOk result (TellsRowids S.Store table (state S.Store rows.old.conn.now).now) }
+    ensures unchanged { HasCleanDisk (state S.Store rows.new.conn.now)
+        → IsTrue (state S.Store rows.old.conn.now).is_open → OnOk result
+        (IsUnchanged (state S.Store rows.old.conn.now) (state S.Store rows.new.conn.now)) }
+    ensures cause { HasCleanDisk (state S.Store rows.new.conn.now)
+        → (state S.Store rows.old.conn.now).now.schema ≡ office_schema
+        → IsGiving S.Store rows.old.conn.now → IfErr result
+        (HasFailed (state S.Store rows.old.conn.now) (state S.Store rows.new.conn.now)) }
 {
-    all_rows(conn, sql, &[])
-}
-
-// The rows of a table, by their key.
-fn rows_of<S: Alter>(conn: &mut Connection<S>, table: Table) -> Result<Vec<Row>, Fault>
-    requires { IsIdle (state S.Store conn.old) }
-    ensures looked { HasLooked (state S.Store conn.old) (state S.Store conn.new) }
-    ensures answered { HasCleanDisk (state S.Store conn.new) → IfOk result (λ rows.
-        IsAnsweredBy S.Store (rows_text table) (state S.Store conn.old).now rows.items) }
-    ensures unchanged { HasCleanDisk (state S.Store conn.new) → OnOk result
-        (IsUnchanged (state S.Store conn.old) (state S.Store conn.new)) }
-    ensures cause { HasCleanDisk (state S.Store conn.new)
-        → (state S.Store conn.old).now.schema ≡ office_schema → IfErr result
-        (HasFailed (state S.Store conn.old) (state S.Store conn.new)) }
-{
-    read(conn, table.rows())
+    let mut rising = Rising::Empty;
+    'reading: for _ in 0..u64::MAX {
+        read_on(rows)?;
+        let Some(row) = rows.get() else {
+            return Ok(rising.rises());
+        };
+        rising = rising.with(row);
+    }
+    Err(Fault::NoMemory)
 }
 
 // Whether the rowids of a table rise.
@@ -68,8 +67,43 @@ fn have_rowids<S: Alter>(conn: &mut Connection<S>, table: Table) -> Result<bool,
         → (state S.Store conn.old).now.schema ≡ office_schema → IfErr result
         (HasFailed (state S.Store conn.old) (state S.Store conn.new)) }
 {
-    let rows = read(conn, table.rowids())?;
-    Ok(are_rising(rows.as_slice()))
+    match conn.query(table.rowids(), &[]) {
+        Ok(mut rows) => rowids_rise(&mut rows),
+        Err(error) => Err(fault_of_error(error)),
+    }
+}
+
+// The row by which a table differs, where its rows do, of a reading of the rows that were built.
+fn office_differs<S: Alter, T: Alter>(
+    alloc: Global,
+    built: &mut Rows<'_, S>,
+    office: &mut Connection<T>,
+    table: Table,
+) -> Result<Option<Difference>, Fault>
+    requires built { IsIdle (state S.Store built.old.conn.now) }
+    requires office { IsIdle (state T.Store office.old) }
+    ensures same_reference { built.new.conn.ghost_name ≡ built.old.conn.ghost_name }
+    ensures built { HasLooked (state S.Store built.old.conn.now)
+        (state S.Store built.new.conn.now) }
+    ensures office { HasLooked (state T.Store office.old) (state T.Store office.new) }
+    ensures told { HasCleanDisk (state S.Store built.new.conn.now)
+        → HasCleanDisk (state T.Store office.new)
+        → IsAt S.Store (rows_text table) built.old.conn.now [] → IfOk result
+        (TellsRows S.Store T.Store table (state S.Store built.old.conn.now).now
+        (state T.Store office.old).now) }
+    ensures unchanged { HasCleanDisk (state S.Store built.new.conn.now)
+        → IsTrue (state S.Store built.old.conn.now).is_open → OnOk result
+        (IsUnchanged (state S.Store built.old.conn.now) (state S.Store built.new.conn.now)) }
+    ensures same { HasCleanDisk (state T.Store office.new) → OnOk result
+        (IsUnchanged (state T.Store office.old) (state T.Store office.new)) }
+    ensures cause { HasCleanDisk (state T.Store office.new)
+        → (state T.Store office.old).now.schema ≡ office_schema → IfErr result
+        (HasFailed (state T.Store office.old) (state T.Store office.new)) }
+{
+    match office.query(table.rows(), &[]) {
+        Ok(mut rows) => readings_differ(alloc, built, &mut rows, table),
+        Err(error) => Err(fault_of_error(error)),
+    }
 }
 
 // The row by which a table differs, where its rows do. What was built is in memory, so what fails
@@ -95,13 +129,9 @@ fn rows_differ<S: Alter, T: Alter>(
         → (state T.Store office.old).now.schema ≡ office_schema → IfErr result
         (HasFailed (state T.Store office.old) (state T.Store office.new)) }
 {
-    let Ok(left) = rows_of(built, table) else {
-        return Err(Fault::NoMemory);
-    };
-    let right = rows_of(office, table)?;
-    match first_differing(left.as_slice(), right.as_slice(), table.key_width()) {
-        Some(row) => Ok(Some(named(alloc, table, row)?)),
-        None => Ok(None),
+    match built.query(table.rows(), &[]) {
+        Ok(mut rows) => office_differs(alloc, &mut rows, office, table),
+        Err(_) => Err(Fault::NoMemory),
     }
 }
 

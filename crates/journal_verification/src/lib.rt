@@ -4,8 +4,10 @@
 mod compare;
 mod difference;
 mod naming;
+mod reading;
 mod rows;
 mod schema;
+mod side_by_side;
 mod table;
 mod verification;
 

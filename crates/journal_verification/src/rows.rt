@@ -1,14 +1,17 @@
 //! The rows of two answers, compared.
 
-ghost use Rattle.std.specs.Prelude.{◌≡◌, ◌↔◌, ◌<◌, IsTrue, MatchOption, length};
+ghost use Rattle.std.specs.Prelude.{◌≡◌, ◌↔◌, ◌<◌, ◌++◌, [], ◌∷◌, List, false, IsTrue};
+ghost use Rattle.std.specs.Prelude.{MatchOption, length, option_copied};
+ghost use Rattle.sqlite.specs.declared.types.Value.TheVariants.{Int};
+ghost use Rattle.sqlite.specs.Order.{Row as Values};
 ghost use Rattle.sqlite_value.specs.Order.{column, value_cmp};
 ghost use Rattle.sqlite_value.specs.Value.{owned};
 ghost use Rattle.sqlite_trees.specs.View.{IsShaped, is_int};
 ghost use Rattle.sqlite_trees.specs.Tree.{rowid};
 ghost use Rattle.std.specs.declared.cmp.Ordering.TheVariants.{Less};
 ghost use Rattle.sqlite_trees.specs.declared.store.Shape.TheVariants.{Table as TableShape};
-ghost use Rattle.journal_verification.specs.Differing.{IsFirstDifference, IsFirstDiffering};
-ghost use Rattle.journal_verification.specs.Differing.{columns_cmp};
+ghost use Rattle.journal_verification.specs.Differing.{IsEarlier, columns_cmp};
+ghost use Rattle.journal_verification.specs.Rising.{IsTold};
 
 use sqlite::Row;
 use sqlite::types::ValueRef;
@@ -42,25 +45,6 @@ fn is_same_row(left: &Row, right: &Row) -> bool
     true
 }
 
-// The place of the first row that differs, where one does.
-fn first_difference(left: &[Row], right: &[Row]) -> Option<usize>
-    ensures { MatchOption result (left.now ≡ right.now)
-        (λ at. IsFirstDifference left.now right.now at) }
-{
-    let mut at = 0;
-    while at < left.len() && at < right.len() {
-        if !is_same_row(&left[at], &right[at]) {
-            return Some(at);
-        }
-        at += 1;
-    }
-    if at < left.len() || at < right.len() {
-        Some(at)
-    } else {
-        None
-    }
-}
-
 // How two rows compare by their first columns.
 fn compare_columns(left: &Row, right: &Row, width: usize) -> Ordering
     ensures { result ≡ columns_cmp width left.now right.now }
@@ -79,20 +63,21 @@ fn compare_columns(left: &Row, right: &Row, width: usize) -> Ordering
     Ordering::Equal
 }
 
-/// Of the rows at the first place where two lists differ the one that is no later than the other by
-/// its first columns.
-pub(crate) fn first_differing<'a>(
-    left: &'a [Row],
-    right: &'a [Row],
+/// Of two rows, each of which may be wanting, where they aren't one, the one that is no later than
+/// the other by its first columns.
+pub(crate) fn earlier<'a>(
+    left: Option<&'a Row>,
+    right: Option<&'a Row>,
     width: usize,
 ) -> Option<&'a Row>
-    ensures { MatchOption result (left.now ≡ right.now)
-        (λ row. IsFirstDiffering width left.now right.now row.now) }
+    ensures { MatchOption result (option_copied left.entry ≡ option_copied right.entry)
+        (λ row. IsEarlier width (option_copied left.entry) (option_copied right.entry) row.now) }
 {
-    let at = first_difference(left, right)?;
-    match (left.get(at), right.get(at)) {
+    match (left, right) {
         (Some(first), Some(second)) => {
-            if compare_columns(second, first, width) == Ordering::Less {
+            if is_same_row(first, second) {
+                None
+            } else if compare_columns(second, first, width) == Ordering::Less {
                 Some(second)
             } else {
                 Some(first)
@@ -114,31 +99,59 @@ fn first_value(row: &Row) -> ValueRef<'_>
     }
 }
 
-// Whether a row begins with a rowid.
-fn has_rowid(row: &Row) -> bool
-    ensures { IsTrue result ↔ IsTrue (is_int (rowid row.now)) }
+// Whether a row begins with a value that is above a rowid.
+fn is_above(row: &Row, before: i64) -> bool
+    ensures { IsTrue result ↔ value_cmp (Int before) (rowid row.now) ≡ Less }
 {
-    matches!(first_value(row), ValueRef::Int(_))
+    compare(ValueRef::Int(before), first_value(row)) == Ordering::Less
 }
 
-// Whether a row begins with a value that is above that of another.
-fn is_above(row: &Row, before: &Row) -> bool
-    ensures { IsTrue result ↔ value_cmp (rowid before.now) (rowid row.now) ≡ Less }
+// The rowid that a row begins with.
+fn rowid_of(row: &Row) -> Option<i64>
+    ensures { MatchOption result (is_int (rowid row.now) ≡ false) (λ id. rowid row.now ≡ Int id) }
 {
-    compare(first_value(before), first_value(row)) == Ordering::Less
+    match first_value(row) {
+        ValueRef::Int(id) => Some(id),
+        _ => None,
+    }
 }
 
-/// Whether each row begins with a rowid that is above that of the row before it.
-pub(crate) fn are_rising(rows: &[Row]) -> bool
-    ensures { IsTrue result ↔ IsShaped TableShape rows.now }
-{
-    for at in 0..rows.len() {
-        if !has_rowid(&rows[at]) {
-            return false;
-        }
-        if at > 0 && !is_above(&rows[at], &rows[at - 1]) {
-            return false;
+/// What is known of the rowids of rows that come one after the other.
+#[derive(Clone, Copy, Debug)]
+pub(crate) enum Rising {
+    /// There are none yet.
+    Empty,
+    /// Each is above the one before it, and the last is this.
+    UpTo(i64),
+    /// They don't rise.
+    Fallen,
+}
+
+impl Rising {
+    /// What is known with one more row.
+    pub(crate) fn with(self, row: &Row) -> Rising
+        ensures { (rows : List Values) → IsTold rows self → IsTold (rows ++ row.now ∷ []) result }
+    {
+        let Some(id) = rowid_of(row) else {
+            return Rising::Fallen;
+        };
+        match self {
+            Rising::Empty => Rising::UpTo(id),
+            Rising::UpTo(before) => {
+                if is_above(row, before) {
+                    Rising::UpTo(id)
+                } else {
+                    Rising::Fallen
+                }
+            }
+            Rising::Fallen => Rising::Fallen,
         }
     }
-    true
+
+    /// Whether they rise.
+    pub(crate) fn rises(self) -> bool
+        ensures { (rows : List Values) → IsTold rows self → IsTrue result ↔ IsShaped TableShape rows }
+    {
+        !matches!(self, Rising::Fallen)
+    }
 }

@@ -15,32 +15,32 @@ pub enum Table {
     Holds,
 }
 
-// The plus keeps the planner from the order of a key, so that the rows are put in order once read.
-const OFFICE: &str = "SELECT key, schema, listed FROM office ORDER BY +key";
+// The rows come in the order of an index, so that no more than one of them is held.
+const OFFICE: &str = "SELECT key, schema, listed FROM office ORDER BY key";
 
-const USERS: &str = "SELECT name, team, roles, token FROM users ORDER BY +name";
+const USERS: &str = "SELECT name, team, roles, token FROM users ORDER BY name";
 
 const REVISIONS: &str = "SELECT team, profile, number, author, state, body, digest FROM revisions \
-    ORDER BY +team, profile, number";
+    ORDER BY team, profile, number";
 
 const VOTES: &str = "SELECT team, profile, number, voter, approve, security FROM votes \
-    ORDER BY +team, profile, number, voter";
+    ORDER BY team, profile, number, voter";
 
-const BASELINES: &str = "SELECT team, profile, number FROM baselines ORDER BY +team";
+const BASELINES: &str = "SELECT team, profile, number FROM baselines ORDER BY team";
 
-const HOLDS: &str = "SELECT team, profile FROM holds ORDER BY +team, profile";
+const HOLDS: &str = "SELECT team, profile FROM holds ORDER BY team, profile";
 
-const OFFICE_ROWIDS: &str = "SELECT rowid FROM office ORDER BY +rowid";
+const OFFICE_ROWIDS: &str = "SELECT rowid FROM office ORDER BY rowid";
 
-const USERS_ROWIDS: &str = "SELECT rowid FROM users ORDER BY +rowid";
+const USERS_ROWIDS: &str = "SELECT rowid FROM users ORDER BY rowid";
 
-const REVISIONS_ROWIDS: &str = "SELECT rowid FROM revisions ORDER BY +rowid";
+const REVISIONS_ROWIDS: &str = "SELECT rowid FROM revisions ORDER BY rowid";
 
-const VOTES_ROWIDS: &str = "SELECT rowid FROM votes ORDER BY +rowid";
+const VOTES_ROWIDS: &str = "SELECT rowid FROM votes ORDER BY rowid";
 
-const BASELINES_ROWIDS: &str = "SELECT rowid FROM baselines ORDER BY +rowid";
+const BASELINES_ROWIDS: &str = "SELECT rowid FROM baselines ORDER BY rowid";
 
-const HOLDS_ROWIDS: &str = "SELECT rowid FROM holds ORDER BY +rowid";
+const HOLDS_ROWIDS: &str = "SELECT rowid FROM holds ORDER BY rowid";
 
 /// The tables but that of the office.
 pub(crate) const FURTHER: [Table; 5] = [

@@ -11,8 +11,8 @@ use Rattle.std.specs.Str.{is_utf8}
 use Rattle.serde_json.specs.Data.{Data}
 use Rattle.serde_json.specs.Find.{as_str}
 use Rattle.serde_json.specs.Read.{read}
-use Rattle.serde_json.specs.View.{view, items_view}
-use Rattle.serde_json.specs.declared.value.Value.{Value}
+use Rattle.json_tree.specs.View.{view, items_view}
+use Rattle.json_tree.specs.declared.tree.Tree.{Tree}
 use Rattle.review_policy.specs.Role.{place_of}
 use Rattle.review_policy.specs.WordTables.{role_of}
 use Rattle.review_policy.specs.declared.ask.Request.{Request}
@@ -72,12 +72,12 @@ with_rest : (roles one : ℕ) (rest : Option ℕ) → option_map (bit_or roles) 
 with_rest roles one None = refl
 with_rest roles one (Some n) = ap (λ x. Some x) (sym (or_assoc roles one n))
 
-pub roles_more : (values : List Value) (i roles : ℕ) (v : Value) (r : Role) → i < length values → v ≡ get_or values i v → option_and_then role_of (as_str (view v)) ≡ Some r
+pub roles_more : (values : List Tree) (i roles : ℕ) (v : Tree) (r : Role) → i < length values → v ≡ get_or values i v → option_and_then role_of (as_str (view v)) ≡ Some r
     → option_map (bit_or roles) (roles_of (items_view (drop i values))) ≡ option_map (bit_or (bit_or roles (2 ^ place_of r))) (roles_of (items_view (drop (i + 1) values)))
 roles_more values i roles v r lt at is =
     rw (drop_more values i v lt, ← at, is) (with_rest roles (2 ^ place_of r) (roles_of (items_view (drop (i + 1) values))))
 
-pub roles_end : (values : List Value) (i roles : ℕ) → length values ≤ i → option_map (bit_or roles) (roles_of (items_view (drop i values))) ≡ Some roles
+pub roles_end : (values : List Tree) (i roles : ℕ) → length values ≤ i → option_map (bit_or roles) (roles_of (items_view (drop i values))) ≡ Some roles
 roles_end values i roles ge = rw (drop_all i values ge) (ap (λ x. Some x) (or_zero_r roles))
 
 -- ---- a member that is none of the kind

@@ -9,8 +9,7 @@ ghost use Rattle.json_requests.specs.Answers.{reply_members};
 
 use crate::denial::write_denied;
 use crate::write::{write_digest, write_number, write_text};
-use json::Writer;
-use json_tree::written_text;
+use json_tree::{Writer, written_text};
 use review_policy::{Answer, Fault, ListedProfile, Reply};
 use std::alloc::{AllocError, Global};
 
@@ -118,7 +117,7 @@ fn write_answer(out: &mut Writer, alloc: Global, answer: &Answer) -> Result<(), 
 pub fn answer_text(alloc: Global, answer: &Answer) -> Result<String, AllocError>
     ensures { IfOk result (λ text. string_bytes text ≡ answer_text answer.now) }
 {
-    let mut out = Writer::new(Vec::with_capacity(alloc, FIRST_ROOM)?);
+    let mut out = Writer::with_capacity(alloc, FIRST_ROOM)?;
     write_answer(&mut out, alloc, answer)?;
     Ok(written_text(out))
 }

@@ -1,7 +1,7 @@
 //! What a line asks for, by its kind.
 
 ghost use Rattle.std.specs.Prelude.{ℕ};
-ghost use Rattle.serde_json.specs.View.{view};
+ghost use Rattle.json_tree.specs.View.{view};
 ghost use Rattle.review_policy.specs.declared.ask.ProfileName.{ProfileName};
 ghost use Rattle.json_requests.specs.Faults.{Gives};
 ghost use Rattle.json_requests.specs.Plain.{PlainAsk, plain_ask, issue, withdraw, adopt, show};
@@ -12,12 +12,12 @@ ghost use Rattle.json_requests.specs.Requests.{list_at, of_profile};
 use crate::fault::LineFault;
 use crate::kind::Kind;
 use crate::member::{digest_of, document_of, name_of, revision_of, roles_of, vote_of, word_of};
+use json_tree::Tree;
 use review_policy::{Ask, ProfileName};
-use serde_json::Value;
 use std::alloc::Global;
 
 /// What a line of this kind asks for.
-pub(crate) fn ask_of(alloc: Global, kind: Kind, value: &Value) -> Result<Ask, LineFault>
+pub(crate) fn ask_of(alloc: Global, kind: Kind, value: &Tree<'_>) -> Result<Ask, LineFault>
     ensures { Gives plain_ask result (ask_at kind (view value.now)) }
 {
     match kind {
@@ -37,7 +37,7 @@ pub(crate) fn ask_of(alloc: Global, kind: Kind, value: &Value) -> Result<Ask, Li
 }
 
 #[tactic(auto, unfolding(crate::specs::Requests::enrol_at))]
-pub(crate) fn enrol_of(alloc: Global, value: &Value) -> Result<Ask, LineFault>
+pub(crate) fn enrol_of(alloc: Global, value: &Tree<'_>) -> Result<Ask, LineFault>
     ensures { Gives plain_ask result (enrol_at (view value.now)) }
 {
     let user = word_of(alloc, value, "user")?;
@@ -53,7 +53,7 @@ pub(crate) fn enrol_of(alloc: Global, value: &Value) -> Result<Ask, LineFault>
 }
 
 #[tactic(auto, unfolding(crate::specs::Requests::submit_at))]
-fn submit_of(alloc: Global, value: &Value) -> Result<Ask, LineFault>
+fn submit_of(alloc: Global, value: &Tree<'_>) -> Result<Ask, LineFault>
     ensures { Gives plain_ask result (submit_at (view value.now)) }
 {
     let name = name_of(alloc, value)?;
@@ -62,7 +62,7 @@ fn submit_of(alloc: Global, value: &Value) -> Result<Ask, LineFault>
 }
 
 #[tactic(auto, unfolding(crate::specs::Requests::vote_on))]
-fn vote_on(alloc: Global, value: &Value) -> Result<Ask, LineFault>
+fn vote_on(alloc: Global, value: &Tree<'_>) -> Result<Ask, LineFault>
     ensures { Gives plain_ask result (vote_on (view value.now)) }
 {
     let name = name_of(alloc, value)?;
@@ -78,7 +78,7 @@ fn vote_on(alloc: Global, value: &Value) -> Result<Ask, LineFault>
 }
 
 #[tactic(auto, unfolding(crate::specs::Requests::list_at))]
-fn list_of(alloc: Global, value: &Value) -> Result<Ask, LineFault>
+fn list_of(alloc: Global, value: &Tree<'_>) -> Result<Ask, LineFault>
     ensures { Gives plain_ask result (list_at (view value.now)) }
 {
     let team = word_of(alloc, value, "team")?;
@@ -87,7 +87,7 @@ fn list_of(alloc: Global, value: &Value) -> Result<Ask, LineFault>
 
 // The revision that is named.
 #[tactic(auto, unfolding(crate::specs::Requests::of_revision))]
-fn revision_named(alloc: Global, value: &Value) -> Result<(ProfileName, u32), LineFault>
+fn revision_named(alloc: Global, value: &Tree<'_>) -> Result<(ProfileName, u32), LineFault>
     ensures { (ask : ProfileName → ℕ → PlainAsk) →
         Gives (λ named. ask named.0 named.1) result (of_revision ask (view value.now)) }
 {
@@ -96,35 +96,35 @@ fn revision_named(alloc: Global, value: &Value) -> Result<(ProfileName, u32), Li
     Ok((name, revision))
 }
 
-fn issue_of(alloc: Global, value: &Value) -> Result<Ask, LineFault>
+fn issue_of(alloc: Global, value: &Tree<'_>) -> Result<Ask, LineFault>
     ensures { Gives plain_ask result (of_revision issue (view value.now)) }
 {
     let (name, revision) = revision_named(alloc, value)?;
     Ok(Ask::Issue { name, revision })
 }
 
-fn withdraw_of(alloc: Global, value: &Value) -> Result<Ask, LineFault>
+fn withdraw_of(alloc: Global, value: &Tree<'_>) -> Result<Ask, LineFault>
     ensures { Gives plain_ask result (of_revision withdraw (view value.now)) }
 {
     let (name, revision) = revision_named(alloc, value)?;
     Ok(Ask::Withdraw { name, revision })
 }
 
-fn adopt_of(alloc: Global, value: &Value) -> Result<Ask, LineFault>
+fn adopt_of(alloc: Global, value: &Tree<'_>) -> Result<Ask, LineFault>
     ensures { Gives plain_ask result (of_revision adopt (view value.now)) }
 {
     let (name, revision) = revision_named(alloc, value)?;
     Ok(Ask::Adopt { name, revision })
 }
 
-fn show_of(alloc: Global, value: &Value) -> Result<Ask, LineFault>
+fn show_of(alloc: Global, value: &Tree<'_>) -> Result<Ask, LineFault>
     ensures { Gives plain_ask result (of_revision show (view value.now)) }
 {
     let (name, revision) = revision_named(alloc, value)?;
     Ok(Ask::Show { name, revision })
 }
 
-fn sheet_of(alloc: Global, value: &Value) -> Result<Ask, LineFault>
+fn sheet_of(alloc: Global, value: &Tree<'_>) -> Result<Ask, LineFault>
     ensures { Gives plain_ask result (of_revision sheet (view value.now)) }
 {
     let (name, revision) = revision_named(alloc, value)?;
@@ -132,7 +132,7 @@ fn sheet_of(alloc: Global, value: &Value) -> Result<Ask, LineFault>
 }
 
 #[tactic(auto, unfolding(crate::specs::Requests::of_profile))]
-fn fetch_of(alloc: Global, value: &Value) -> Result<Ask, LineFault>
+fn fetch_of(alloc: Global, value: &Tree<'_>) -> Result<Ask, LineFault>
     ensures { Gives plain_ask result (of_profile fetch (view value.now)) }
 {
     let name = name_of(alloc, value)?;
@@ -140,7 +140,7 @@ fn fetch_of(alloc: Global, value: &Value) -> Result<Ask, LineFault>
 }
 
 #[tactic(auto, unfolding(crate::specs::Requests::of_profile))]
-fn hold_of(alloc: Global, value: &Value) -> Result<Ask, LineFault>
+fn hold_of(alloc: Global, value: &Tree<'_>) -> Result<Ask, LineFault>
     ensures { Gives plain_ask result (of_profile hold (view value.now)) }
 {
     let name = name_of(alloc, value)?;
@@ -148,7 +148,7 @@ fn hold_of(alloc: Global, value: &Value) -> Result<Ask, LineFault>
 }
 
 #[tactic(auto, unfolding(crate::specs::Requests::of_profile))]
-fn release_of(alloc: Global, value: &Value) -> Result<Ask, LineFault>
+fn release_of(alloc: Global, value: &Tree<'_>) -> Result<Ask, LineFault>
     ensures { Gives plain_ask result (of_profile release (view value.now)) }
 {
     let name = name_of(alloc, value)?;

@@ -5,8 +5,7 @@ ghost use Rattle.json_tree.specs.Tokens.{Appends, tokens_of};
 ghost use Rattle.json_requests.specs.Bad.{bad_data, bad_text, bad_word, bad_line};
 
 use crate::write::write_text;
-use json::Writer;
-use json_tree::written_text;
+use json_tree::{Writer, written_text};
 use std::alloc::{AllocError, Global};
 
 /// Why a line is no request.
@@ -39,7 +38,7 @@ fn write_bad(out: &mut Writer, word: &str) -> Result<(), AllocError>
 pub fn bad_text(alloc: Global, word: &str) -> Result<String, AllocError>
     ensures { IfOk result (λ text. string_bytes text ≡ bad_text word.now) }
 {
-    let mut out = Writer::new(Vec::new(alloc));
+    let mut out = Writer::new(alloc);
     write_bad(&mut out, word)?;
     Ok(written_text(out))
 }

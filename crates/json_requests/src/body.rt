@@ -1,6 +1,6 @@
 //! The bodies of requests, with just the members that neither a path nor a field gives.
 
-ghost use Rattle.serde_json.specs.View.{view};
+ghost use Rattle.json_tree.specs.View.{view};
 ghost use Rattle.json_requests.specs.Bodies.{enrol_body, vote_body, enrol_in, vote_in};
 ghost use Rattle.json_requests.specs.Faults.{Gives};
 ghost use Rattle.json_requests.specs.Plain.{plain_ask};
@@ -10,29 +10,28 @@ use crate::ask::enrol_of;
 use crate::fault::LineFault;
 use crate::member::{digest_of, vote_of};
 use crate::shape::{Shape, has_no_other};
+use json_tree::{ReadFault, Scratch, Tree};
 use review_policy::{Ask, ProfileName};
-use serde_json::Value;
 use std::alloc::Global;
 
 // The value that a body is.
-fn value_of(alloc: Global, body: &[u8]) -> Result<Value, LineFault>
+fn value_of<'a>(
+    alloc: Global,
+    body: &'a [u8],
+    scratch: &'a mut Scratch,
+) -> Result<Tree<'a>, LineFault>
     ensures { Gives view result (value_of body.now) }
 {
-    match Value::from_slice(alloc, body) {
+    match Tree::from_slice(alloc, body, scratch) {
         Ok(value) => Ok(value),
-        Err(error) => {
-            if error.is_memory() {
-                Err(LineFault::NoMemory)
-            } else {
-                Err(LineFault::NotARequest)
-            }
-        }
+        Err(ReadFault::NotJson) => Err(LineFault::NotARequest),
+        Err(ReadFault::NoMemory) => Err(LineFault::NoMemory),
     }
 }
 
 // The enrolment that a value is.
 #[tactic(auto, unfolding(crate::specs::Bodies::enrol_body))]
-fn enrol_at(alloc: Global, value: &Value) -> Result<Ask, LineFault>
+fn enrol_at(alloc: Global, value: &Tree<'_>) -> Result<Ask, LineFault>
     ensures { Gives plain_ask result (enrol_body (view value.now)) }
 {
     if has_no_other(Shape::EnrolBody, value) {
@@ -44,7 +43,7 @@ fn enrol_at(alloc: Global, value: &Value) -> Result<Ask, LineFault>
 
 // The vote on a revision that a value is.
 #[tactic(auto, unfolding(crate::specs::Bodies::vote_body))]
-fn vote_at(name: ProfileName, revision: u32, value: &Value) -> Result<Ask, LineFault>
+fn vote_at(name: ProfileName, revision: u32, value: &Tree<'_>) -> Result<Ask, LineFault>
     ensures { Gives plain_ask result (vote_body name revision (view value.now)) }
 {
     let digest = digest_of(value)?;
@@ -71,7 +70,8 @@ fn vote_at(name: ProfileName, revision: u32, value: &Value) -> Result<Ask, LineF
 pub fn read_enrol(alloc: Global, body: &[u8]) -> Result<Ask, LineFault>
     ensures { Gives plain_ask result (enrol_in body.now) }
 {
-    let value = value_of(alloc, body)?;
+    let mut scratch = Scratch::new(alloc);
+    let value = value_of(alloc, body, &mut scratch)?;
     enrol_at(alloc, &value)
 }
 
@@ -90,6 +90,7 @@ pub fn read_vote(
 ) -> Result<Ask, LineFault>
     ensures { Gives plain_ask result (vote_in name revision body.now) }
 {
-    let value = value_of(alloc, body)?;
+    let mut scratch = Scratch::new(alloc);
+    let value = value_of(alloc, body, &mut scratch)?;
     vote_at(name, revision, &value)
 }

@@ -7,7 +7,7 @@ ghost use Rattle.json_requests.specs.Answers.{answer_members, denied_members, ne
 ghost use Rattle.json_requests.specs.Answers.{reason_members, rule_members, shortage_of};
 
 use crate::write::{write_number, write_text};
-use json::Writer;
+use json_tree::Writer;
 use review_policy::{Denial, Need, Rule, Text};
 use std::alloc::AllocError;
 

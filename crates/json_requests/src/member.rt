@@ -2,27 +2,27 @@
 
 ghost use Rattle.std.specs.Prelude.{◌≡◌, codes, option_and_then, option_map};
 ghost use Rattle.serde_json.specs.Find.{as_str};
-ghost use Rattle.serde_json.specs.View.{view, items_view};
+ghost use Rattle.json_tree.specs.View.{view, items_view};
 ghost use Rattle.review_policy.specs.WordTables.{role_of};
 ghost use Rattle.json_requests.specs.Faults.{Gives};
 ghost use Rattle.json_requests.specs.Members.{text_at, word_at, token_at, name_at, revision_at};
 ghost use Rattle.json_requests.specs.Members.{digest_at, vote_at, roles_of, roles_at};
 
 use crate::fault::LineFault;
+use json_tree::Tree;
 use review_policy::{ProfileName, Role, Roles, Token, Word, WordFault, digest_from_hex};
-use serde_json::Value;
 use std::alloc::Global;
 
 /// The text under a name; `None` where there is none.
-pub fn text_of<'v>(value: &'v Value, name: &str) -> Option<&'v str>
+pub fn text_of<'a>(value: &Tree<'a>, name: &str) -> Option<&'a str>
     ensures { option_map (λ text. text.now) result ≡ text_at name.now (view value.now) }
 {
-    value.get(name).and_then(Value::as_str)
+    value.get(name).and_then(Tree::as_str)
 }
 
 /// The word under a name.
 #[tactic(auto, unfolding(crate::specs::Members::word_at))]
-pub fn word_of(alloc: Global, value: &Value, name: &str) -> Result<Word, LineFault>
+pub fn word_of(alloc: Global, value: &Tree<'_>, name: &str) -> Result<Word, LineFault>
     ensures { Gives (λ word. word) result (word_at name.now (view value.now)) }
 {
     match text_of(value, name) {
@@ -37,7 +37,7 @@ pub fn word_of(alloc: Global, value: &Value, name: &str) -> Result<Word, LineFau
 
 /// The token that the caller shows.
 #[tactic(auto, unfolding(crate::specs::Members::token_at))]
-pub fn token_of(alloc: Global, value: &Value) -> Result<Token, LineFault>
+pub fn token_of(alloc: Global, value: &Tree<'_>) -> Result<Token, LineFault>
     ensures { Gives (λ token. token) result (token_at (view value.now)) }
 {
     match text_of(value, "token") {
@@ -52,7 +52,7 @@ pub fn token_of(alloc: Global, value: &Value) -> Result<Token, LineFault>
 
 /// The profile that is named.
 #[tactic(auto, unfolding(crate::specs::Members::name_at))]
-pub fn name_of(alloc: Global, value: &Value) -> Result<ProfileName, LineFault>
+pub fn name_of(alloc: Global, value: &Tree<'_>) -> Result<ProfileName, LineFault>
     ensures { Gives (λ name. name) result (name_at (view value.now)) }
 {
     let team = word_of(alloc, value, "team")?;
@@ -62,10 +62,10 @@ pub fn name_of(alloc: Global, value: &Value) -> Result<ProfileName, LineFault>
 
 /// The number of a revision, 1 to 9,999.
 #[tactic(auto, unfolding(crate::specs::Members::revision_at))]
-pub fn revision_of(value: &Value) -> Result<u32, LineFault>
+pub fn revision_of(value: &Tree<'_>) -> Result<u32, LineFault>
     ensures { Gives (λ number. number) result (revision_at (view value.now)) }
 {
-    match value.get("revision").and_then(Value::as_u64) {
+    match value.get("revision").and_then(Tree::as_u64) {
         None => Err(LineFault::NotARequest),
         Some(number) => {
             if 1 <= number && number <= 9999 {
@@ -79,7 +79,7 @@ pub fn revision_of(value: &Value) -> Result<u32, LineFault>
 
 /// A digest of 64 lower-case hexadecimal digits.
 #[tactic(auto, unfolding(crate::specs::Members::digest_at))]
-pub fn digest_of(value: &Value) -> Result<[u8; 32], LineFault>
+pub fn digest_of(value: &Tree<'_>) -> Result<[u8; 32], LineFault>
     ensures { Gives (λ digest. digest) result (digest_at (view value.now)) }
 {
     match text_of(value, "digest") {
@@ -93,7 +93,7 @@ pub fn digest_of(value: &Value) -> Result<[u8; 32], LineFault>
 
 /// Whether a vote approves.
 #[tactic(auto, unfolding(crate::specs::Members::vote_at))]
-pub fn vote_of(value: &Value) -> Result<bool, LineFault>
+pub fn vote_of(value: &Tree<'_>) -> Result<bool, LineFault>
     ensures { Gives (λ approve. approve) result (vote_at (view value.now)) }
 {
     match text_of(value, "vote") {
@@ -104,7 +104,7 @@ pub fn vote_of(value: &Value) -> Result<bool, LineFault>
 }
 
 /// The bytes of a document.
-pub fn document_of(alloc: Global, value: &Value) -> Result<Vec<u8>, LineFault>
+pub fn document_of(alloc: Global, value: &Tree<'_>) -> Result<Vec<u8>, LineFault>
     ensures { Gives (λ document. document.items) result
         (text_at (codes "document") (view value.now)) }
 {
@@ -115,14 +115,14 @@ pub fn document_of(alloc: Global, value: &Value) -> Result<Vec<u8>, LineFault>
 }
 
 // The role whose word a value is.
-fn role_of(value: &Value) -> Option<Role>
+fn role_of(value: &Tree<'_>) -> Option<Role>
     ensures { result ≡ option_and_then role_of (as_str (view value.now)) }
 {
     value.as_str().and_then(Role::from_word)
 }
 
 // The set of the roles whose words are listed.
-fn roles_in(values: &[Value]) -> Option<Roles>
+fn roles_in(values: &[Tree<'_>]) -> Option<Roles>
     ensures { result ≡ roles_of (items_view values.now) }
 {
     let mut roles = Roles::empty();
@@ -137,14 +137,15 @@ fn roles_in(values: &[Value]) -> Option<Roles>
 
 /// The roles that are listed.
 #[tactic(auto, unfolding(crate::specs::Members::roles_at))]
-pub fn roles_of(value: &Value) -> Result<Roles, LineFault>
+pub fn roles_of(value: &Tree<'_>) -> Result<Roles, LineFault>
     ensures { Gives (λ roles. roles) result (roles_at (view value.now)) }
 {
-    match value.get("roles") {
-        Some(Value::Array(values)) => match roles_in(values) {
-            Some(roles) => Ok(roles),
-            None => Err(LineFault::NotARequest),
-        },
-        _ => Err(LineFault::NotARequest),
+    match value
+        .get("roles")
+        .and_then(Tree::as_array)
+        .and_then(roles_in)
+    {
+        Some(roles) => Ok(roles),
+        None => Err(LineFault::NotARequest),
     }
 }

@@ -1,7 +1,7 @@
 //! The request of a line.
 
 ghost use Rattle.std.specs.Prelude.{◌≤◌, length};
-ghost use Rattle.serde_json.specs.View.{view};
+ghost use Rattle.json_tree.specs.View.{view};
 ghost use Rattle.json_requests.specs.Faults.{Gives, Reads};
 ghost use Rattle.json_requests.specs.Plain.{plain};
 ghost use Rattle.json_requests.specs.Requests.{asked, kind_at, request_at, request_in};
@@ -11,18 +11,18 @@ use crate::fault::LineFault;
 use crate::kind::Kind;
 use crate::member::token_of;
 use crate::shape::{Shape, has_no_other};
+use json_tree::{ReadFault, Scratch, Tree};
 use review_policy::Request;
-use serde_json::Value;
 use std::alloc::Global;
 
 // The kind that a line names.
 #[tactic(auto, unfolding(crate::specs::Requests::kind_at))]
-fn kind_of(value: &Value) -> Result<Kind, LineFault>
+fn kind_of(value: &Tree<'_>) -> Result<Kind, LineFault>
     ensures { Gives (λ kind. kind) result (kind_at (view value.now)) }
 {
     match value
         .get("ask")
-        .and_then(Value::as_str)
+        .and_then(Tree::as_str)
         .and_then(Kind::from_word)
     {
         Some(kind) => Ok(kind),
@@ -32,7 +32,7 @@ fn kind_of(value: &Value) -> Result<Kind, LineFault>
 
 // The request that a value is.
 #[tactic(auto, unfolding(crate::specs::Requests::request_at))]
-fn request_of(alloc: Global, value: &Value) -> Result<Request, LineFault>
+fn request_of(alloc: Global, value: &Tree<'_>) -> Result<Request, LineFault>
     ensures { Gives plain result (request_at (view value.now)) }
 {
     let kind = kind_of(value)?;
@@ -52,14 +52,10 @@ pub fn read_line(alloc: Global, line: &[u8]) -> Result<Request, LineFault>
     ensures request { Reads result (request_in line.now) }
     ensures asked { length line.now ≤ 300000 → Reads result (asked line.now) }
 {
-    match Value::from_slice(alloc, line) {
+    let mut scratch = Scratch::new(alloc);
+    match Tree::from_slice(alloc, line, &mut scratch) {
         Ok(value) => request_of(alloc, &value),
-        Err(error) => {
-            if error.is_memory() {
-                Err(LineFault::NoMemory)
-            } else {
-                Err(LineFault::NotJson)
-            }
-        }
+        Err(ReadFault::NotJson) => Err(LineFault::NotJson),
+        Err(ReadFault::NoMemory) => Err(LineFault::NoMemory),
     }
 }

@@ -1,11 +1,11 @@
 //! Objects with just the members that they should have.
 
 ghost use Rattle.std.specs.Prelude.{◌≡◌};
-ghost use Rattle.serde_json.specs.View.{view, members_view};
+ghost use Rattle.json_tree.specs.View.{view, members_view};
 ghost use Rattle.json_requests.specs.Shapes.{all_belong, has_no_other};
 
 use crate::kind::Kind;
-use serde_json::{Map, Value};
+use json_tree::Tree;
 
 /// What an object is read as.
 #[derive(Clone, Copy)]
@@ -34,11 +34,11 @@ impl Shape {
 }
 
 // Whether each member is one that such an object has.
-fn all_belong(shape: Shape, members: &Map<String, Value>) -> bool
-    ensures { result ≡ all_belong shape (members_view members.now.entries) }
+fn all_belong(shape: Shape, members: &[(&str, Tree<'_>)]) -> bool
+    ensures { result ≡ all_belong shape (members_view members.now) }
 {
     for (name, _value) in members {
-        if !shape.has_member(name.as_str()) {
+        if !shape.has_member(name) {
             return false;
         }
     }
@@ -46,11 +46,11 @@ fn all_belong(shape: Shape, members: &Map<String, Value>) -> bool
 }
 
 /// Whether it is an object with no member that such an object hasn't.
-pub(crate) fn has_no_other(shape: Shape, value: &Value) -> bool
+pub(crate) fn has_no_other(shape: Shape, value: &Tree<'_>) -> bool
     ensures { result ≡ has_no_other shape (view value.now) }
 {
-    match value {
-        Value::Object(members) => all_belong(shape, members),
-        _ => false,
+    match value.as_object() {
+        Some(members) => all_belong(shape, members),
+        None => false,
     }
 }

@@ -5,7 +5,7 @@ ghost use Rattle.serde_json.specs.Data.{member, no_members, number, string, unsi
 ghost use Rattle.json_tree.specs.Tokens.{Appends, open_tokens};
 ghost use Rattle.json_requests.specs.Answers.{digest_member};
 
-use json::Writer;
+use json_tree::Writer;
 use std::alloc::{AllocError, Global};
 
 /// A member that is a text.

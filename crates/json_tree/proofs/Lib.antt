@@ -1,4 +1,8 @@
+mod Escapes
+mod Lanes
 pub mod Views
+mod Looking
 mod Put
 mod Reading
+mod Writers
 pub mod Writing

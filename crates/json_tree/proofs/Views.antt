@@ -1,5 +1,5 @@
 -- A tree, level by level, and lists and maps beside the members that they stand for.
-use Rattle.std.proofs.Common.{◌≡◌, ℕ, List, [], ◌∷◌, ◌++◌, Vec, Global, Ordering, Less, Equal, Greater, nat_cmp, Bor, refl, ap, ◌∙◌, rules}
+use Rattle.std.proofs.Common.{◌≡◌, ℕ, List, [], ◌∷◌, ◌++◌, Ordering, Less, Equal, Greater, nat_cmp, Bor, refl, ap, ◌∙◌, rules}
 use Rattle.std.specs.Cmp.Lexicographic.{slice_cmp}
 use Rattle.std.specs.Ordering.{match_ordering, ordering_reverse}
 use Rattle.std.proofs.lemmas.Cmp.{nat_list_cmp_total}
@@ -12,10 +12,10 @@ use Rattle.json_tree.specs.declared.tree.Tree.{Tree, Array, Object, the_lemmas}
 abbrev pub Entry : Type 0
 Entry = Bor (List ℕ) × Tree
 
-pub view-Array : (v : Vec Tree Global) → view (Array v) ≡ array (items_view v.items)
+pub view-Array : (v : Bor (List Tree)) → view (Array v) ≡ array (items_view v.now)
 view-Array v = search (rules, the_lemmas)
 
-pub view-Object : (v : Vec Entry Global) → view (Object v) ≡ object (members_view v.items)
+pub view-Object : (v : Bor (List Entry)) → view (Object v) ≡ object (members_view v.now)
 view-Object v = search (rules, the_lemmas)
 
 -- ---- maps

@@ -4,7 +4,6 @@ use Rattle.std.proofs.lemmas.List.{drop_more, drop_all}
 use Rattle.std.specs.Prelude.{OnOk, flat_map}
 use Rattle.json.specs.Token.{Token}
 use Rattle.json.specs.Tree.{items_tokens}
-use Rattle.json.specs.Written.{Written, Writes}
 use Rattle.serde_json.specs.Data.{Data, array}
 use Rattle.serde_json.specs.View.{items_of}
 use Rattle.serde_json.specs.Written.{items_outline}
@@ -12,25 +11,14 @@ use Rattle.json_tree.specs.Tokens.{Appends, tokens_of}
 
 -- ---- one write after another
 
-pub nothing : (a : Written) → Appends a a []
-nothing a = record { before = refl; tokens = sym (append-nil a.tokens) }
+pub nothing : (a : List Token) → Appends a a []
+nothing a = record { tokens = sym (append-nil a) }
 
-pub after : {a b c : Written} {xs ys : List Token} → Appends a b xs → Appends b c ys → Appends a c (xs ++ ys)
-after {a} {b} {c} {xs} {ys} p q = record {
-  before = q.before ∙ p.before;
-  tokens = q.tokens ∙ ap (λ ts. ts ++ ys) p.tokens ∙ append_assoc a.tokens xs ys;
-}
+pub after : {a b c xs ys : List Token} → Appends a b xs → Appends b c ys → Appends a c (xs ++ ys)
+after {a} {b} {c} {xs} {ys} p q = record { tokens = q.tokens ∙ ap (λ ts. ts ++ ys) p.tokens ∙ append_assoc a xs ys }
 
--- a token was written
-pub wrote : {E : Type 0} {u : Unit {0}} {a b : Written} {t : Token} → Writes {E = E} (Ok u) a b t → Appends a b (t ∷ [])
-wrote w = record { before = w.room.0; tokens = w.ok }
-
--- the last call, which may have failed
-pub last : {E : Type 0} (r : Result (Unit {0}) E) {a b : Written} {t : Token} → Writes r a b t → OnOk r (Appends a b (t ∷ []))
-last (Ok u) w = record { before = w.room.0; tokens = w.ok }
-last (Err e) w = tt
-
-pub after_last : {E : Type 0} (r : Result (Unit {0}) E) {a b : Written} (c : Written) {xs : List Token} (ys : List Token) → Appends a b xs → OnOk r (Appends b c ys) → OnOk r (Appends a c (xs ++ ys))
+-- the last call may have failed
+pub after_last : {E : Type 0} (r : Result (Unit {0}) E) {a b : List Token} (c : List Token) {xs : List Token} (ys : List Token) → Appends a b xs → OnOk r (Appends b c ys) → OnOk r (Appends a c (xs ++ ys))
 after_last (Ok u) c ys p q = after p q
 after_last (Err e) c ys p q = tt
 
@@ -40,37 +28,34 @@ abbrev pub all_tokens : {X : Type 0} → (X → Data) → List X → List Token
 all_tokens shown xs = flat_map (λ x. tokens_of (shown x)) xs
 
 -- of all that is to be written, this is left
-pub record Leaves {X : Type 0} (shown : X → Data) (all left : List X) (a b : Written) : Type 0 where
-  pub before : b.before ≡ a.before
-  pub tokens : b.tokens ++ all_tokens shown left ≡ a.tokens ++ all_tokens shown all
+pub record Leaves {X : Type 0} (shown : X → Data) (all left : List X) (a b : List Token) : Type 0 where
+  pub tokens : b ++ all_tokens shown left ≡ a ++ all_tokens shown all
 
-pub leaves_all : {X : Type 0} (shown : X → Data) (all left : List X) (a : Written) → left ≡ all → Leaves shown all left a a
-leaves_all shown all left a is = record { before = refl; tokens = ap (λ xs. a.tokens ++ all_tokens shown xs) is }
+pub leaves_all : {X : Type 0} (shown : X → Data) (all left : List X) (a : List Token) → left ≡ all → Leaves shown all left a a
+leaves_all shown all left a is = record { tokens = ap (λ xs. a ++ all_tokens shown xs) is }
 
-pub leaves_rest : {X : Type 0} {shown : X → Data} {all left : List X} {a b c : Written} (x : X) (rest : List X) → Leaves shown all left a b → left ≡ x ∷ rest → Appends b c (tokens_of (shown x)) → Leaves shown all rest a c
+pub leaves_rest : {X : Type 0} {shown : X → Data} {all left : List X} {a b c : List Token} (x : X) (rest : List X) → Leaves shown all left a b → left ≡ x ∷ rest → Appends b c (tokens_of (shown x)) → Leaves shown all rest a c
 leaves_rest {X} {shown} {all} {left} {a} {b} {c} x rest before is more = record {
-  before = more.before ∙ before.before;
   tokens =
       ap (λ ts. ts ++ all_tokens shown rest) more.tokens
-      ∙ append_assoc b.tokens (tokens_of (shown x)) (all_tokens shown rest)
-      ∙ ap (λ xs. b.tokens ++ all_tokens shown xs) (sym is)
+      ∙ append_assoc b (tokens_of (shown x)) (all_tokens shown rest)
+      ∙ ap (λ xs. b ++ all_tokens shown xs) (sym is)
       ∙ before.tokens;
 }
 
-pub leaves_none : {X : Type 0} {shown : X → Data} {all left : List X} {a b : Written} → Leaves shown all left a b → left ≡ [] → Appends a b (all_tokens shown all)
+pub leaves_none : {X : Type 0} {shown : X → Data} {all left : List X} {a b : List Token} → Leaves shown all left a b → left ≡ [] → Appends a b (all_tokens shown all)
 leaves_none {X} {shown} {all} {left} {a} {b} before is = record {
-  before = before.before;
-  tokens = sym (append-nil b.tokens) ∙ ap (λ xs. b.tokens ++ all_tokens shown xs) (sym is) ∙ before.tokens;
+  tokens = sym (append-nil b) ∙ ap (λ xs. b ++ all_tokens shown xs) (sym is) ∙ before.tokens;
 }
 
 -- the same of the items of a slice, from a position on
-pub item_written : {X : Type 0} {shown : X → Data} {a b c : Written} (xs : List X) (i : ℕ) (d x : X) → i < length xs → x ≡ get_or xs i d
+pub item_written : {X : Type 0} {shown : X → Data} {a b c : List Token} (xs : List X) (i : ℕ) (d x : X) → i < length xs → x ≡ get_or xs i d
     → Leaves shown xs (drop i xs) a b → Appends b c (tokens_of (shown x)) → Leaves shown xs (drop (i + 1) xs) a c
 item_written {X} {shown} {a} {b} {c} xs i d x lt at before more =
     let here : drop i xs ≡ x ∷ drop (i + 1) xs = rw (drop_more xs i d lt, ← at) refl in
     leaves_rest x (drop (i + 1) xs) before here more
 
-pub items_written : {X : Type 0} {shown : X → Data} {a b : Written} (xs : List X) (i : ℕ) → length xs ≤ i → Leaves shown xs (drop i xs) a b → Appends a b (all_tokens shown xs)
+pub items_written : {X : Type 0} {shown : X → Data} {a b : List Token} (xs : List X) (i : ℕ) → length xs ≤ i → Leaves shown xs (drop i xs) a b → Appends a b (all_tokens shown xs)
 items_written xs i ge before = leaves_none before (drop_all i xs ge)
 
 items_end : {X : Type 0} (shown : X → Data) (xs : List X) → items_tokens (items_outline (items_of (map shown xs))) ≡ all_tokens shown xs ++ Token.end_array ∷ []

@@ -1,3 +1,4 @@
 pub mod View
 pub mod Gathered
 pub mod Tokens
+pub mod Writer

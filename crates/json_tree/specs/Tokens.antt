@@ -2,7 +2,6 @@
 use Rattle.std.specs.Prelude.{◌≡◌, ℕ, List, [], ◌∷◌, ◌++◌, Option, Some, None}
 use Rattle.json.specs.Token.{Token}
 use Rattle.json.specs.Tree.{json_tokens}
-use Rattle.json.specs.Written.{Written}
 use Rattle.serde_json.specs.Data.{Data, Members, no_members, member}
 use Rattle.serde_json.specs.Written.{outline}
 
@@ -20,7 +19,6 @@ abbrev pub open_tokens : Members → List Token
 open_tokens no_members = []
 open_tokens (member name d ms) = Token.key name ∷ (tokens_of d ++ open_tokens ms)
 
--- these tokens were written after what was there, and nothing else
-pub record Appends (old new : Written) (ts : List Token) : Type 0 where
-  pub before : new.before ≡ old.before
-  pub tokens : new.tokens ≡ old.tokens ++ ts
+-- these tokens were written after those that there were
+pub record Appends (old new : List Token) (ts : List Token) : Type 0 where
+  pub tokens : new ≡ old ++ ts

@@ -25,8 +25,8 @@ view_step Tree-F.Null = null
 view_step (Tree-F.Bool b) = boolean b
 view_step (Tree-F.Number n) = number (number_view n)
 view_step (Tree-F.String s) = string s.now
-view_step (Tree-F.Array v) = array (items_of v.items)
-view_step (Tree-F.Object v) = object (members_of v.items)
+view_step (Tree-F.Array v) = array (items_of v.now)
+view_step (Tree-F.Object v) = object (members_of v.now)
 
 abbrev pub view : Tree → Data
 view = fold-Tree Data view_step

@@ -3,15 +3,19 @@
 //! are written a token at a time.
 #![tactic(auto)]
 
+mod escape;
 mod fault;
+mod look;
 mod members;
 mod number;
 mod reader;
+mod scratch;
+mod token;
 mod tree;
-mod written;
+mod writer;
 
 pub use fault::ReadFault;
-pub use json::Scratch;
 pub use number::Number;
+pub use scratch::Scratch;
 pub use tree::Tree;
-pub use written::written_text;
+pub use writer::{Writer, written_text};

@@ -1,6 +1,6 @@
 //! The members of an object while they are read.
 
-ghost use Rattle.std.specs.Prelude.{◌≡◌, IfOk, OnOk};
+ghost use Rattle.std.specs.Prelude.{◌≡◌, [], IfOk, OnOk};
 ghost use Rattle.serde_json.specs.Data.{no_members, put as with_member};
 ghost use Rattle.json_tree.specs.Gathered.{IsOrdered, IsRising, gathered_view};
 ghost use Rattle.json_tree.specs.View.{members_view, view};
@@ -22,12 +22,13 @@ pub(crate) enum Gathered<'a> {
 }
 
 impl<'a> Gathered<'a> {
-    /// No members.
-    pub(crate) fn new(alloc: Global) -> Gathered<'a>
+    /// No members, in an empty list.
+    pub(crate) fn new(empty: Vec<(&'a str, Tree<'a>)>) -> Gathered<'a>
+        requires { empty.items ≡ [] }
         ensures members { gathered_view result ≡ no_members }
         ensures ordered { IsOrdered result }
     {
-        Gathered::Few(Vec::new(alloc))
+        Gathered::Few(empty)
     }
 
     /// The members with this value at this name.

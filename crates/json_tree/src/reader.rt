@@ -10,16 +10,18 @@ ghost use Rattle.json_tree.specs.View.{items_view, members_view, view};
 use crate::fault::ReadFault;
 use crate::members::Gathered;
 use crate::number::Number;
+use crate::scratch::{Lists, Scratch};
 use crate::tree::Tree;
-use json::{Reader, Scratch, Token};
+use bumpalo::Bump;
+use json::{Reader, Token};
 use std::alloc::Global;
 
 // How deep lists and objects may nest.
 const MAX_DEPTH: usize = 127;
 
 impl<'a> Tree<'a> {
-    /// The value that the bytes are. Texts with escapes are borrowed from `scratch`, and all others
-    /// from the bytes.
+    /// The value that the bytes are. Lists, and texts with escapes, are borrowed from `scratch`,
+    /// and all other texts from the bytes.
     ///
     /// # Errors
     ///
@@ -43,6 +45,22 @@ impl<'a> Tree<'a> {
     }
 }
 
+// The lists of a tree, while it is read.
+#[derive(Drop)]
+struct Room<'a> {
+    items: Lists<'a, Tree<'a>>,
+    members: Lists<'a, (&'a str, Tree<'a>)>,
+}
+
+impl<'a> Room<'a> {
+    fn new(alloc: Global, arena: &'a Bump) -> Room<'a> {
+        Room {
+            items: Lists::new(alloc, arena),
+            members: Lists::new(alloc, arena),
+        }
+    }
+}
+
 // The value that a text is.
 fn read_all<'a>(
     alloc: Global,
@@ -52,8 +70,11 @@ fn read_all<'a>(
     ensures ok { IfOk result (λ tree. read_text text.now ≡ Some (view tree)) }
     ensures not_json { result ≡ Err ReadFault.NotJson → read_text text.now ≡ None }
 {
-    let mut reader = Reader::new(text, scratch)?;
-    let tree = read(alloc, &mut reader, MAX_DEPTH)?;
+    let Scratch { texts, lists } = scratch;
+    drop(lists.reset());
+    let mut room = Room::new(alloc, lists);
+    let mut reader = Reader::new(text, texts)?;
+    let tree = read(alloc, &mut room, &mut reader, MAX_DEPTH)?;
     if reader.next().is_some() {
         return Err(ReadFault::NotJson);
     }
@@ -63,7 +84,12 @@ fn read_all<'a>(
 // The next value of the reader. Lists and objects may nest `depth` deep.
 #[cycle(read)]
 #[inline(always)]
-fn read<'a>(alloc: Global, reader: &mut Reader<'a>, depth: usize) -> Result<Tree<'a>, ReadFault>
+fn read<'a>(
+    alloc: Global,
+    room: &mut Room<'a>,
+    reader: &mut Reader<'a>,
+    depth: usize,
+) -> Result<Tree<'a>, ReadFault>
     ensures ok { IfOk result
         (λ tree. converted of_json (value depth reader.old) ≡ Some (view tree, reader.new)) }
     ensures shorter { OnOk result (length reader.new < length reader.old) }
@@ -84,13 +110,13 @@ fn read<'a>(alloc: Global, reader: &mut Reader<'a>, depth: usize) -> Result<Tree
             if depth == 0 {
                 return Err(ReadFault::NotJson);
             }
-            Ok(Tree::Array(read_items(alloc, reader, depth - 1)?))
+            Ok(Tree::Array(read_items(alloc, room, reader, depth - 1)?))
         }
         Token::BeginObject => {
             if depth == 0 {
                 return Err(ReadFault::NotJson);
             }
-            Ok(Tree::Object(read_members(alloc, reader, depth - 1)?))
+            Ok(Tree::Object(read_members(alloc, room, reader, depth - 1)?))
         }
     }
 }
@@ -100,22 +126,24 @@ fn read<'a>(alloc: Global, reader: &mut Reader<'a>, depth: usize) -> Result<Tree
 #[inline(never)]
 fn read_items<'a>(
     alloc: Global,
+    room: &mut Room<'a>,
     reader: &mut Reader<'a>,
     depth: usize,
-) -> Result<Vec<Tree<'a>>, ReadFault>
+) -> Result<&'a [Tree<'a>], ReadFault>
     ensures ok { IfOk result
         (λ found. converted of_items (items (value depth) (length reader.old) reader.old)
-        ≡ Some (items_view found.items, reader.new)) }
+        ≡ Some (items_view found.now, reader.new)) }
     ensures shorter { OnOk result (length reader.new < length reader.old) }
     ensures not_json { result ≡ Err ReadFault.NotJson
         → converted of_items (items (value depth) (length reader.old) reader.old) ≡ None }
 {
-    let mut found = Vec::new(alloc);
+    let mut found = room.items.start(alloc);
     'items: while !reader.take_end_array() {
-        let item = read(alloc, reader, depth)?;
+        let item = read(alloc, room, reader, depth)?;
         found.push(item)?;
     }
-    Ok(found)
+    let kept = room.items.keep(found)?;
+    Ok(kept)
 }
 
 // The members of an object, after its brace. The last value of a name stays.
@@ -123,23 +151,25 @@ fn read_items<'a>(
 #[inline(never)]
 fn read_members<'a>(
     alloc: Global,
+    room: &mut Room<'a>,
     reader: &mut Reader<'a>,
     depth: usize,
-) -> Result<Vec<(&'a str, Tree<'a>)>, ReadFault>
+) -> Result<&'a [(&'a str, Tree<'a>)], ReadFault>
     ensures ok { IfOk result
         (λ found. converted (λ ms. of_members ms no_members)
         (members (value depth) (length reader.old) reader.old)
-        ≡ Some (members_view found.items, reader.new)) }
+        ≡ Some (members_view found.now, reader.new)) }
     ensures shorter { OnOk result (length reader.new < length reader.old) }
     ensures not_json { result ≡ Err ReadFault.NotJson
         → converted (λ ms. of_members ms no_members)
         (members (value depth) (length reader.old) reader.old) ≡ None }
 {
-    let mut found = Gathered::new(alloc);
+    let mut found = Gathered::new(room.members.start(alloc));
     'members: while let Some(name) = reader.next_key()? {
-        let member = read(alloc, reader, depth)?;
+        let member = read(alloc, room, reader, depth)?;
         found = found.with(alloc, name, member)?;
     }
     let list = found.into_list(alloc)?;
-    Ok(list)
+    let kept = room.members.keep(list)?;
+    Ok(kept)
 }

@@ -2,14 +2,14 @@
 
 use crate::number::Number;
 
-/// A JSON value. Its texts are borrowed. The members of an object stand in byte order of their
+/// A JSON value. Its texts and its lists are borrowed. The members of an object stand in byte order of their
 /// names, each name once.
-#[derive(Drop)]
+#[derive(Clone, Copy)]
 pub enum Tree<'a> {
     Null,
     Bool(bool),
     Number(Number),
     String(&'a str),
-    Array(Vec<Tree<'a>>),
-    Object(Vec<(&'a str, Tree<'a>)>),
+    Array(&'a [Tree<'a>]),
+    Object(&'a [(&'a str, Tree<'a>)]),
 }

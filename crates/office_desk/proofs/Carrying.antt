@@ -49,7 +49,7 @@ use Rattle.office_desk.specs.Carries.{Asks, write_by, write_of}
 use Rattle.office_desk.specs.Offices.{IsOffice}
 use Rattle.office_desk.specs.Meant.{Keeps, meaning_over}
 use Rattle.office_desk.proofs.Handling.{caused, lawful_after, passing, was_open_by}
-use Rattle.office_desk.proofs.Judging.{never_both}
+use Rattle.office_judging.proofs.Judging.{never_both}
 
 -- ---- what is written
 

@@ -24,7 +24,7 @@ use Rattle.office_policy.specs.Users.{registrar_alone}
 use Rattle.office_desk.specs.Looking.{HasLooked, IsMetBetween}
 use Rattle.office_desk.specs.Meant.{meaning_over}
 use Rattle.office_desk.proofs.Handling.{was_open_by}
-use Rattle.office_desk.proofs.Judging.{never_both}
+use Rattle.office_judging.proofs.Judging.{never_both}
 
 -- ---- what was found
 

@@ -50,17 +50,18 @@ use Rattle.office_policy.proofs.Numbered.{number_there}
 use Rattle.office_policy.proofs.RuleFacts.{none_refuses}
 use Rattle.office_policy.proofs.SurvivalFacts.{survives_none}
 use Rattle.office_policy.proofs.UserFacts.{bytes_same, same_bytes, user_named}
-use Rattle.office_desk.specs.declared.refusal.Refusal.{Refusal}
-use Rattle.office_desk.specs.declared.refusal.Refusal.TheVariants as refusals
+use Rattle.office_judging.specs.declared.refusal.Refusal.{Refusal}
+use Rattle.office_judging.specs.declared.refusal.Refusal.TheVariants as refusals
 use Rattle.office_desk.specs.declared.replay.Unreplayed.{Unreplayed}
 use Rattle.office_desk.specs.declared.replay.Unreplayed.TheVariants as causes
 use Rattle.office_desk.specs.Carries.{Asks, write_of}
-use Rattle.office_desk.specs.Judged.{IsAskedBy, IsAskedIfAllowed, IsSettled}
+use Rattle.office_judging.specs.Judged.{IsAskedBy, IsAskedIfAllowed, IsSettled, JudgesNamed}
 use Rattle.office_desk.specs.Meant.{meaning_over}
 use Rattle.office_desk.specs.Offices.{IsOffice}
-use Rattle.office_desk.specs.Replayed.{HasNoAsk, HasOtherText, IsAskOf, IsDeniedBy, IsReplayed, JudgesNamed, LeavesWith, added, has_text, unreplayed_of, verdict_for}
+use Rattle.office_desk.specs.Replayed.{HasNoAsk, HasOtherText, IsAskOf, IsDeniedBy, IsReplayed, LeavesWith, added, has_text, unreplayed_of, verdict_for}
 use Rattle.office_desk.proofs.Carrying.{IsGranted, lawful_with, unwritten_cause, unwritten_kept, unwritten_memory, unwritten_office, written_crash, written_formed, written_stands, written_survives}
-use Rattle.office_desk.proofs.Handling.{allowed_is, caused_by, left_all}
+use Rattle.office_judging.proofs.Verdicts.{allowed_is}
+use Rattle.office_desk.proofs.Handling.{caused_by, left_all}
 
 -- ---- what an event asks
 

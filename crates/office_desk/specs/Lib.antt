@@ -1,15 +1,7 @@
 pub mod Offices
 pub mod Told
-pub mod Judged
-pub mod Steps
 pub mod Carries
 pub mod Replayed
-pub mod AtOnce
 pub mod Meant
 pub mod Opened
-pub mod Compared
-pub mod Issuing
-pub mod Listed
-pub mod Looked
 pub mod Looking
-pub mod Summarized

@@ -1,15 +1,11 @@
 -- What looking at an office comes to.
 use Rattle.std.specs.Prelude.{◌≡◌, ◌↔◌, Bool, true, List, ℕ, Option, Some, Result, IfOk, IfErr}
-use Rattle.std.specs.Prelude.{OnOk, option_map}
+use Rattle.std.specs.Prelude.{OnOk}
 use Rattle.review_policy.specs.declared.fault.Fault.{Fault}
 use Rattle.review_policy.specs.declared.fault.Fault.TheVariants as faults
-use Rattle.review_policy.specs.declared.ask.ProfileName.{ProfileName}
 use Rattle.review_policy.specs.declared.revision.State.TheVariants.{Open}
-use Rattle.review_sheet.specs.Sheet.{sheet_text}
 use Rattle.office_tables.specs.declared.row.RevisionRow.{RevisionRow}
 use Rattle.office_policy.specs.History.{Event, History}
-use Rattle.office_policy.specs.Revisions.{revision_of}
-use Rattle.office_policy.specs.Sheets.{sheet_of}
 use Rattle.office_policy.specs.TablesOf.{tables_of}
 use Rattle.office_policy.specs.ShowsEvent.{Shows}
 use Rattle.office_policy.specs.Meaning.{Meaning}
@@ -29,14 +25,6 @@ pub record IsOpenBy (found : Option RevisionRow) (caller text : List ℕ) : Type
 -- the tables of the history show the event just where that is the answer
 abbrev pub TellsWhether : Event → History → Bool → Type 0
 TellsWhether e h shown = shown ≡ true ↔ Shows (tables_of h) e
-
--- the text of the sheet of a revision, at this moment
-abbrev pub sheet_text_of : ProfileName → RevisionRow → History → List ℕ
-sheet_text_of p r h = sheet_text (sheet_of h p r)
-
--- and of the revision of this number, where that is there
-abbrev pub sheet_at : ProfileName → ℕ → History → Option (List ℕ)
-sheet_at p n h = option_map (λ r. sheet_text_of p r h) (revision_of h p n)
 
 -- ---- what looking leaves
 

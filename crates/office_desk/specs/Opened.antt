@@ -6,9 +6,9 @@ use Rattle.sqlite.specs.Store.{Ghosts}
 use Rattle.review_policy.specs.declared.ask.Request.{Request}
 use Rattle.review_policy.specs.declared.answer.Answer.{Answer}
 use Rattle.office_rows.specs.Queries.{IsAsItWas}
-use Rattle.office_store.specs.Migration.{IsMigration, ShowsOld}
+use Rattle.office_founding.specs.Migration.{IsMigration, ShowsOld}
 use Rattle.office_store.specs.Shown.{Shows}
-use Rattle.office_store.specs.declared.fault.MigrationFault.{MigrationFault}
+use Rattle.office_founding.specs.declared.fault.MigrationFault.{MigrationFault}
 use Rattle.office_policy.specs.Handled.{IsHandled, Stands}
 use Rattle.office_policy.specs.History.{History}
 use Rattle.office_policy.specs.Lawful.{IsLawfulHistory}

@@ -2,7 +2,6 @@
 use Rattle.std.specs.Prelude.{◌≡◌, ◌≢◌, ◌⊎◌, ◌∷◌, ℕ, List, Bool, true, Option, Some, None}
 use Rattle.std.specs.Prelude.{Result, Ok, Err, Vec, ⊤, option_and_then}
 use Rattle.std.specs.declared.alloc.Global.{Global}
-use Rattle.sqlite.specs.State.{State}
 use Rattle.profile_text.specs.Reading.{reading_of}
 use Rattle.profile_text.specs.Text.{text_of}
 use Rattle.profile_text.specs.declared.profile.Profile.{Profile}
@@ -16,11 +15,9 @@ use Rattle.review_policy.specs.declared.denial.Denial.{Denial}
 use Rattle.office_tables.specs.declared.row.RevisionRow.{RevisionRow}
 use Rattle.office_policy.specs.declared.change.Change.{Change}
 use Rattle.office_policy.specs.declared.change.Change.TheVariants as changes
-use Rattle.office_policy.specs.declared.judge.Judgement.{Judgement}
-use Rattle.office_policy.specs.declared.judge.Judgement.TheVariants as judgements
 use Rattle.office_policy.specs.Callers.{caller_of}
 use Rattle.office_policy.specs.Facts.{is_text_of}
-use Rattle.office_policy.specs.Handled.{HasRisen, IsUnwritten, Stands, Survives, only_reads}
+use Rattle.office_policy.specs.Handled.{HasRisen, IsUnwritten, Stands, Survives}
 use Rattle.office_policy.specs.History.{Event, founded, enrolled, submitted, voted, issued}
 use Rattle.office_policy.specs.History.{withdrawn, adopted, held, released, History}
 use Rattle.office_policy.specs.Judging.{LeavesAll}
@@ -28,11 +25,10 @@ use Rattle.office_policy.specs.Lawful.{IsAllowed}
 use Rattle.office_policy.specs.Meaning.{Meaning}
 use Rattle.office_policy.specs.Users.{user_of}
 use Rattle.office_policy.specs.Verdict.{Verdict, accepted, denied, verdict_of}
-use Rattle.office_desk.specs.declared.refusal.Refusal.{Refusal}
-use Rattle.office_desk.specs.declared.refusal.Refusal.TheVariants as refusals
+use Rattle.office_judging.specs.declared.refusal.Refusal.{Refusal}
+use Rattle.office_judging.specs.declared.refusal.Refusal.TheVariants as refusals
 use Rattle.office_desk.specs.declared.replay.Unreplayed.{Unreplayed}
 use Rattle.office_desk.specs.declared.replay.Unreplayed.TheVariants as causes
-use Rattle.office_desk.specs.Judged.{ComesTo, Judges}
 
 -- ---- what an event asks
 
@@ -62,19 +58,6 @@ added _ = None
 abbrev pub has_text : Event → Change → Bool
 has_text (submitted caller p text) change = is_text_of (Some text) (added change)
 has_text _ change = true
-
--- what only reads is asked, where it was answered
-abbrev pub ReadsIfAnswered : Ask → Result Judgement Refusal → Type 0
-ReadsIfAnswered a (Ok (judgements.Answered told)) = only_reads a ≡ true
-ReadsIfAnswered a (Ok (judgements.Allowed allowed)) = Unit {0}
-ReadsIfAnswered a (Err refusal) = Unit {0}
-
--- what the user of this name asks is judged
-abbrev pub JudgesNamed : (old new : State) → Result Judgement Refusal → (name : List ℕ) → Ask
-    → Type 0
-JudgesNamed old new result name a =
-    Judges old new result (λ h. verdict_of h (user_of h name) a)
-    (ComesTo (λ h. verdict_of h (user_of h name) a) (λ h user. user_of h name ≡ Some user))
 
 -- there is no ask of a founding; or memory was wanted to make one
 abbrev pub HasNoAsk : Event → Unreplayed → Type 0

@@ -4,8 +4,8 @@ use Rattle.review_policy.specs.declared.answer.Answer.{Answer}
 use Rattle.review_policy.specs.declared.answer.Answer.TheVariants.{Denied, Fault}
 use Rattle.office_policy.specs.declared.judge.Judgement.{Judgement}
 use Rattle.office_policy.specs.declared.judge.Judgement.TheVariants.{Answered}
-use Rattle.office_desk.specs.declared.refusal.Refusal.{Refusal}
-use Rattle.office_desk.specs.declared.refusal.Refusal.TheVariants as refusals
+use Rattle.office_judging.specs.declared.refusal.Refusal.{Refusal}
+use Rattle.office_judging.specs.declared.refusal.Refusal.TheVariants as refusals
 
 -- the answer to a request that was refused so
 abbrev pub answer_to : Refusal → Answer

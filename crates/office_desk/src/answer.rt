@@ -3,7 +3,7 @@
 ghost use Rattle.std.specs.Prelude.{◌≡◌};
 ghost use Rattle.office_desk.specs.Told.{answer_to, judgement_of};
 
-use crate::refusal::Refusal;
+use office_judging::Refusal;
 use office_policy::Judgement;
 use review_policy::Answer;
 

@@ -1,19 +1,116 @@
 // What was allowed is written.
 
 ghost use Rattle.sqlite.specs.Held.{state};
+ghost use Rattle.review_policy.specs.Role.{has_role};
+ghost use Rattle.office_store.specs.Entries.{vote_entry};
+ghost use Rattle.office_store.specs.Refusing.{puts_user, adds_revision, issues, withdraws};
+ghost use Rattle.office_store.specs.Refusing.{puts_vote, puts_baseline, puts_hold, deletes_hold};
 ghost use Rattle.office_store.specs.Shown.{IsIdle};
 ghost use Rattle.office_desk.specs.Carries.{Asks, write_of};
 
-use crate::adopt::write_adoption;
-use crate::enrol::write_enrolment;
-use crate::hold::{write_hold, write_release};
-use crate::issue::write_issue;
-use crate::submit::write_submission;
-use crate::vote::write_vote;
-use crate::withdraw::write_withdrawal;
 use office_policy::{Allowed, Change};
-use review_policy::Fault;
+use office_store::{
+    Ballot, add_revision, delete_hold, put_baseline, put_hold, put_user, put_vote, set_issued,
+    set_withdrawn,
+};
+use office_tables::{RevisionRow, UserRow};
+use review_policy::{Fault, ProfileName, Role};
 use sqlite::{Alter, Connection};
+
+// Enrols a user, or gives an enrolled one these roles and this token.
+fn write_enrolment<S: Alter>(conn: &mut Connection<S>, user: &UserRow) -> Result<(), Fault>
+    requires { IsIdle (state S.Store conn.old) }
+    ensures { Asks S.Store (puts_user user.now) conn.old conn.new result }
+{
+    put_user(conn, user)
+}
+
+// Adds the next revision of a profile.
+fn write_submission<S: Alter>(
+    conn: &mut Connection<S>,
+    name: &ProfileName,
+    revision: &RevisionRow,
+) -> Result<(), Fault>
+    requires { IsIdle (state S.Store conn.old) }
+    ensures { Asks S.Store (adds_revision name.now revision.now) conn.old conn.new result }
+{
+    add_revision(conn, name, revision)
+}
+
+// Writes a vote, in the place of any earlier vote of the caller there.
+fn write_vote<S: Alter>(
+    conn: &mut Connection<S>,
+    caller: &UserRow,
+    name: &ProfileName,
+    number: u32,
+    approves: bool,
+) -> Result<(), Fault>
+    requires { IsIdle (state S.Store conn.old) }
+    ensures { Asks S.Store
+        (puts_vote (vote_entry name.now number caller.now.name approves
+        (has_role caller.now.roles Role.Security))) conn.old conn.new result }
+{
+    let security = caller.roles.has(Role::Security);
+    put_vote(
+        conn,
+        name,
+        number,
+        &caller.name,
+        Ballot { approves, security },
+    )
+}
+
+// Issues a revision.
+fn write_issue<S: Alter>(
+    conn: &mut Connection<S>,
+    name: &ProfileName,
+    number: u32,
+) -> Result<(), Fault>
+    requires { IsIdle (state S.Store conn.old) }
+    ensures { Asks S.Store (issues name.now number) conn.old conn.new result }
+{
+    set_issued(conn, name, number)
+}
+
+// Takes a revision back.
+fn write_withdrawal<S: Alter>(
+    conn: &mut Connection<S>,
+    name: &ProfileName,
+    number: u32,
+) -> Result<(), Fault>
+    requires { IsIdle (state S.Store conn.old) }
+    ensures { Asks S.Store (withdraws name.now number) conn.old conn.new result }
+{
+    set_withdrawn(conn, name, number)
+}
+
+// Makes a revision the baseline of its team.
+fn write_adoption<S: Alter>(
+    conn: &mut Connection<S>,
+    name: &ProfileName,
+    number: u32,
+) -> Result<(), Fault>
+    requires { IsIdle (state S.Store conn.old) }
+    ensures { Asks S.Store (puts_baseline name.now number) conn.old conn.new result }
+{
+    put_baseline(conn, name, number)
+}
+
+// Holds a profile.
+fn write_hold<S: Alter>(conn: &mut Connection<S>, name: &ProfileName) -> Result<(), Fault>
+    requires { IsIdle (state S.Store conn.old) }
+    ensures { Asks S.Store (puts_hold name.now) conn.old conn.new result }
+{
+    put_hold(conn, name)
+}
+
+// Ends the hold of a profile.
+fn write_release<S: Alter>(conn: &mut Connection<S>, name: &ProfileName) -> Result<(), Fault>
+    requires { IsIdle (state S.Store conn.old) }
+    ensures { Asks S.Store (deletes_hold name.now) conn.old conn.new result }
+{
+    delete_hold(conn, name)
+}
 
 // Carries out what was allowed, by one call of the store.
 pub(crate) fn carry_out<S: Alter>(conn: &mut Connection<S>, allowed: &Allowed) -> Result<(), Fault>

@@ -4,8 +4,8 @@
 ghost use Rattle.std.specs.Prelude.{Ok};
 ghost use Rattle.sqlite.specs.Held.{Held, state};
 ghost use Rattle.sqlite.specs.State.{HasCleanDisk};
-ghost use Rattle.office_store.specs.Migration.{IsMigration, ShowsOld};
-ghost use Rattle.office_store.specs.declared.fault.MigrationFault.{MigrationFault};
+ghost use Rattle.office_founding.specs.Migration.{IsMigration, ShowsOld};
+ghost use Rattle.office_founding.specs.declared.fault.MigrationFault.{MigrationFault};
 ghost use Rattle.office_policy.specs.Handled.{Stands};
 ghost use Rattle.office_policy.specs.History.{History};
 ghost use Rattle.office_policy.specs.Lawful.{IsLawfulHistory};

@@ -8,7 +8,7 @@ ghost use Rattle.sqlite.specs.Closing.{IsCopied};
 ghost use Rattle.sqlite.specs.Files.{file_state, image_of, IsOpened};
 ghost use Rattle.sqlite.specs.Start.{FindsIn};
 ghost use Rattle.sqlite.specs.State.{HasCleanDisk};
-ghost use Rattle.office_store.specs.Reopening.{HoldsOffice};
+ghost use Rattle.office_founding.specs.Reopening.{HoldsOffice};
 ghost use Rattle.office_store.specs.Shown.{IsIdle};
 ghost use Rattle.office_policy.specs.History.{History};
 ghost use Rattle.office_policy.specs.Lawful.{IsLawfulHistory};

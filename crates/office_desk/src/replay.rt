@@ -12,9 +12,8 @@ ghost use Rattle.office_desk.specs.Replayed.{HasNoAsk, IsAskOf, IsReplayed, adde
 
 use crate::carry_out::carry_out;
 use crate::forms::ask_forms;
-use crate::judge::judge_named;
-use crate::names::same_name;
-use crate::refusal::Refusal;
+use office_judging::Refusal;
+use office_judging::judge::judge_named;
 use office_policy::{Change, Event, Judgement};
 use review_policy::{Ask, Denial, Fault, Text, Word};
 use sqlite::{Alter, Connection};
@@ -112,7 +111,7 @@ fn ask_of(alloc: Global, event: &Event) -> Result<Ask, Unreplayed>
             digest: *digest,
         }),
         Event::Submitted { name, text, .. } => Ok(Ask::Submit {
-            name: same_name(name)?,
+            name: name.clone()?,
             document: Vec::from_slice(alloc, text.as_str().as_bytes())?,
         }),
         Event::Voted {
@@ -122,28 +121,28 @@ fn ask_of(alloc: Global, event: &Event) -> Result<Ask, Unreplayed>
             approves,
             ..
         } => Ok(Ask::Vote {
-            name: same_name(name)?,
+            name: name.clone()?,
             revision: *revision,
             digest: *digest,
             approve: *approves,
         }),
         Event::Issued { name, revision, .. } => Ok(Ask::Issue {
-            name: same_name(name)?,
+            name: name.clone()?,
             revision: *revision,
         }),
         Event::Withdrawn { name, revision, .. } => Ok(Ask::Withdraw {
-            name: same_name(name)?,
+            name: name.clone()?,
             revision: *revision,
         }),
         Event::Adopted { name, revision, .. } => Ok(Ask::Adopt {
-            name: same_name(name)?,
+            name: name.clone()?,
             revision: *revision,
         }),
         Event::Held { name, .. } => Ok(Ask::Hold {
-            name: same_name(name)?,
+            name: name.clone()?,
         }),
         Event::Released { name, .. } => Ok(Ask::Release {
-            name: same_name(name)?,
+            name: name.clone()?,
         }),
     }
 }

@@ -13,14 +13,15 @@ ghost use Rattle.office_policy.specs.History.{founded};
 ghost use Rattle.office_policy.specs.Revisions.{state_in};
 ghost use Rattle.office_policy.specs.ShowsEvent.{HasUser, LastIsOpen, Shows};
 ghost use Rattle.office_policy.specs.Users.{registrar_alone};
+ghost use Rattle.office_judging.specs.Summarized.{as_asked};
 ghost use Rattle.office_desk.specs.Looking.{IsOpenBy};
-ghost use Rattle.office_desk.specs.Summarized.{as_asked};
 
-use crate::revisions::state_of;
 use cap_sets::Caps;
+use office_founding::listed;
+use office_judging::state_of;
 use office_policy::Event;
 use office_store::{
-    Adopted, Ballot, Summary, ballot_of, baseline, held, last, listed, summary_at, user_by_name,
+    Adopted, Ballot, Summary, ballot_of, baseline, held, last, summary_at, user_by_name,
 };
 use office_tables::{RevisionRow, UserRow};
 use review_policy::{Fault, ProfileName, Role, Roles, State, Text, Word};

@@ -6,7 +6,7 @@ use Rattle.profile_text.specs.Reading.{reading_of}
 use Rattle.profile_text.specs.Reads.{StandsFor, HasKnownCaps}
 use Rattle.profile_text.specs.Text.{text_of}
 use Rattle.profile_text.proofs.KnownCaps.{known_by}
-use Rattle.profile_text.proofs.ReadsFacts.{reads_from}
+use Rattle.profile_text.proofs.ReadsFacts.{reads_from, stored_from}
 use Rattle.office_tables.specs.Tables.{is_profile}
 use Rattle.office_policy.specs.History.{Event, founded, submitted, History}
 use Rattle.office_policy.specs.Revisions.{Submission, submission_of, revision_count}
@@ -18,7 +18,7 @@ use Rattle.office_policy.proofs.LawFacts.{Follows, allowed_follows}
 -- a text that is the canonical one of what it reads as
 read_back : (text : List ℕ) (profile : Profile) → reading_of text ≡ Ok profile → text ≡ text_of profile → (reading_of text ≡ Ok (document_of text)) × (text_of (document_of text) ≡ text)
 read_back text profile reads canonical =
-    let same : document_of text ≡ profile = ap read_or_closed reads in
+    let same : document_of text ≡ profile = ap read_or_closed (stored_from text profile reads).0 in
     (reads ∙ ap Ok (sym same), ap text_of same ∙ sym canonical)
 
 back_more : (h : History) (e : Event) → Follows h e → ReadsBack h → ReadsBack (e ∷ h)

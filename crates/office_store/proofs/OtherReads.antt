@@ -1,32 +1,27 @@
--- What the reads of baselines, holds and the listed capabilities find.
-use Rattle.std.proofs.Common.{◌≡◌, ◌<◌, ◌^◌, length, ℕ, ℤ, pos, List, [], ◌∷◌, codes, None, Some, Ok, Err, Result, Option, IfOk, Bool, true, false, refl, sym, ap, subst, ◌∙◌, inl, inr}
+-- What the reads of baselines and holds find.
+use Rattle.std.proofs.Common.{◌≡◌, ℕ, ℤ, List, [], ◌∷◌, codes, Some, Ok, Err, Result, Option, IfOk, Bool, true, false, refl, sym, ap, subst, ◌∙◌}
 use Rattle.std.specs.Prelude.{bytes_eq, option_map, find, is_some}
 use Rattle.std.specs.List.{list_all}
-use Rattle.std.proofs.lemmas.List.Sorted.{IsPermutation-refl}
 use Rattle.std.proofs.lemmas.Slice.Eq.{bytes_eq-Decides}
-use Rattle.sqlite.specs.declared.types.Value.TheVariants.{Null, Int, Text}
+use Rattle.sqlite.specs.declared.types.Value.TheVariants.{Text}
 use Rattle.sqlite.specs.Order.{Row}
-use Rattle.sqlite_value.specs.Order.{column}
 use Rattle.sqlite.specs.Term.{col, holds}
 use Rattle.sqlite.specs.Command.TheVariants.{Select}
 use Rattle.sqlite.specs.State.{State}
 use Rattle.sqlite_tied.specs.Compute.{everything}
 use Rattle.sqlite.specs.Listing.{understood}
-use Rattle.sqlite_rules.specs.Lists.{Has}
 use Rattle.sqlite_rules.proofs.ListLemmas.{all_has, has_found}
 use Rattle.review_policy.specs.declared.ask.ProfileName.{ProfileName}
 use Rattle.review_policy.specs.declared.fault.Fault.{Fault}
 use Rattle.office_tables.specs.Tables.{Tables, Baseline, is_profile}
-use Rattle.office_rows.specs.Entries.{Keeps, row_of}
+use Rattle.office_rows.specs.Entries.{row_of}
 use Rattle.office_rows.specs.Faults.{FindsRow}
 use Rattle.office_rows.proofs.Plain.{plain_query, Means}
-use Rattle.office_rows.proofs.Finding.{IsFound, finds_some, found_own}
+use Rattle.office_rows.proofs.Finding.{finds_some, found_own}
 use Rattle.office_store.specs.declared.baselines.TheConstants.{BASELINE_OF}
 use Rattle.office_store.specs.declared.holds.TheConstants.{HOLD_OF}
-use Rattle.office_store.specs.declared.office.TheConstants.{LISTED}
 use Rattle.office_store.specs.Schema.{office_schema}
 use Rattle.office_store.specs.Entries.{BaselineEntry, baseline_row, adopted_row, IsBaseline, hold_row, IsProfileName}
-use Rattle.office_store.specs.Reads.{IsRowListed}
 use Rattle.office_store.specs.Shown.{Shows}
 use Rattle.office_store.proofs.Columns.{column_is, one_is, text_is}
 use Rattle.office_store.proofs.Kept.{map_of_map, some_shown, some_mapped}
@@ -43,10 +38,6 @@ hold_means : Means office_schema HOLD_OF.now (Select (record { lets = []; body =
 unfolding understood everything
 hold_means = record { is = refl; plain = (refl, refl); unlisted = refl }
 
-listed_means : Means office_schema LISTED.now (Select (record { lets = []; body = plain_query (col 1 3 ∷ []) [] 0 }) (codes "listed" ∷ []))
-unfolding understood everything
-listed_means = record { is = refl; plain = (refl, refl); unlisted = refl }
-
 abbrev shown_baseline : BaselineEntry → Row
 shown_baseline e = adopted_row e.1
 
@@ -55,17 +46,6 @@ baseline_at team e = bytes_eq team e.0
 
 abbrev baseline_of : BaselineEntry → Baseline
 baseline_of e = e.1
-
--- the row of the office, as one entry
-
-abbrev pub office_columns : ℕ → Row
-office_columns listed = Null ∷ Int (pos 2) ∷ Int (pos listed) ∷ []
-
-abbrev shown_listed : ℕ → Row
-shown_listed listed = Int (pos listed) ∷ []
-
-abbrev any : ℕ → Bool
-any listed = true
 
 module _ (old new : State) (t : Tables) (shows : Shows old t) where
   pub baseline_formed : (team : List ℕ) (b : Baseline) → t.baselines team ≡ Some b → IsBaseline (team, b)
@@ -101,32 +81,8 @@ module _ (old new : State) (t : Tables) (shows : Shows old t) where
         held (Ok row) is = ap is_some is ∙ some_mapped hold_row _ ∙ sym (shows.office.holds_are p)
         held (Err f) is = is
 
-    abbrev pub one_office : Keeps office_columns (old.now.trees 0) (t.listed ∷ [])
-    one_office = record { kept = (pos 1, t.listed) ∷ []; rows_are = shows.office.office; apart = (tt, tt); same = IsPermutation-refl (t.listed ∷ []) }
-
-    listed_row : (r : Result (Option Row) Fault) → IfOk r (IsFound any shown_listed (t.listed ∷ [])) → IfOk r (IsRowListed t)
-    listed_row (Ok (Some row)) it = it.3 ∙ ap shown_listed (only it.0 it.1)
-      where
-        only : (x : ℕ) → Has (t.listed ∷ []) x → x ≡ t.listed
-        only x (inl is) = is
-        only x (inr none) = absurd none
-    listed_row (Ok None) none = none t.listed (inl refl) refl
-    listed_row (Err f) it = it
-
-    pub reads_listed : (r : Result (Option Row) Fault) → FindsRow LISTED.now [] old new r → IfOk r (IsRowListed t)
-    reads_listed r h =
-        let o = shows.office in
-        let it = finds_some office_columns shown_listed any (col 1 3 ∷ []) [] office_schema LISTED.now [] 0 (codes "listed" ∷ []) listed_means (λ k. refl) (λ k. refl) old new o.schema shows.settled idle (t.listed ∷ []) one_office r h in
-        listed_row r it.0
-
 pub same_adopted : (a b : Baseline) → adopted_row a ≡ adopted_row b → a ≡ b
 same_adopted a b same =
     let profile : a.profile ≡ b.profile = cc in
     let number : a.number ≡ b.number = cc in
     λ i. record { profile = profile i; number = number i }
-
-pub listed_is : (r : Result ℕ Fault) (row : Row) (n : ℕ) → row ≡ Int (pos n) ∷ [] → IfOk r (λ caps. (0 < length row) × (column row 0 ≡ Int (pos caps)) × (caps < 2 ^ 41)) → IfOk r (λ caps. caps ≡ n)
-listed_is (Ok caps) row n is h =
-    let same : Int (pos n) ≡ Int (pos caps) = ap (λ (r : Row). column r 0) (sym is) ∙ h.1 in
-    let k : caps ≡ n = cc in k
-listed_is (Err f) row n is h = h

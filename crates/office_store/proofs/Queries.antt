@@ -6,11 +6,9 @@ use Rattle.office_rows.specs.Queries.{IsQuery}
 use Rattle.office_rows.proofs.Queries.{is_query}
 use Rattle.office_store.specs.declared.author.TheConstants.{REVISION_BY, AUTHORS_OF}
 use Rattle.office_store.specs.declared.baselines.TheConstants.{BASELINE_OF}
-use Rattle.office_store.specs.declared.form.TheConstants.{OFFICE_ROW}
 use Rattle.office_store.specs.declared.holds.TheConstants.{HOLD_OF}
 use Rattle.office_store.specs.declared.listing.TheConstants.{REVISIONS_OF}
 use Rattle.office_store.specs.declared.numbers.TheConstants.{LAST_NUMBER, ISSUED_NUMBER}
-use Rattle.office_store.specs.declared.office.TheConstants.{LISTED}
 use Rattle.office_store.specs.declared.revisions.TheConstants.{REVISION_AT, REVISION_OF, ISSUED_OF, LAST_OF}
 use Rattle.office_store.specs.declared.standing_votes.TheConstants.{VOTES_ON}
 use Rattle.office_store.specs.declared.summaries.TheConstants.{STATE_AND_DIGEST}
@@ -53,14 +51,6 @@ baseline_of = is_query BASELINE_OF.now _ (record { is = refl; bare = λ schema b
 pub hold_of : IsQuery HOLD_OF.now
 unfolding everything first returning
 hold_of = is_query HOLD_OF.now _ (record { is = refl; bare = λ schema base. refl })
-
-pub listed : IsQuery LISTED.now
-unfolding everything first returning
-listed = is_query LISTED.now _ (record { is = refl; bare = λ schema base. refl })
-
-pub office_row : IsQuery OFFICE_ROW.now
-unfolding everything first returning
-office_row = is_query OFFICE_ROW.now _ (record { is = refl; bare = λ schema base. refl })
 
 pub revision_by : IsQuery REVISION_BY.now
 unfolding everything first returning

@@ -9,11 +9,9 @@ use Rattle.office_store.specs.Schema.{office_schema}
 use Rattle.office_store.specs.Keys.{profile_params, revision_params, author_params, vote_params}
 use Rattle.office_store.specs.declared.author.TheConstants.{REVISION_BY, AUTHORS_OF}
 use Rattle.office_store.specs.declared.baselines.TheConstants.{BASELINE_OF}
-use Rattle.office_store.specs.declared.form.TheConstants.{OFFICE_ROW}
 use Rattle.office_store.specs.declared.holds.TheConstants.{HOLD_OF}
 use Rattle.office_store.specs.declared.listing.TheConstants.{REVISIONS_OF}
 use Rattle.office_store.specs.declared.numbers.TheConstants.{LAST_NUMBER, ISSUED_NUMBER}
-use Rattle.office_store.specs.declared.office.TheConstants.{LISTED}
 use Rattle.office_store.specs.declared.revisions.TheConstants.{REVISION_AT, REVISION_OF, ISSUED_OF, LAST_OF}
 use Rattle.office_store.specs.declared.standing_votes.TheConstants.{VOTES_ON}
 use Rattle.office_store.specs.declared.summaries.TheConstants.{STATE_AND_DIGEST}
@@ -64,14 +62,6 @@ baseline_of team = record { text = record { whole = refl; given = refl; bare = r
 pub hold_of : (p : ProfileName) → IsSure office_schema HOLD_OF.now (profile_params p)
 unfolding understood everything
 hold_of p = record { text = record { whole = refl; given = refl; bare = refl; timeless = refl; query = (refl, refl, refl, refl) }; unlisted = refl }
-
-pub listed : IsSure office_schema LISTED.now []
-unfolding understood everything
-listed = record { text = record { whole = refl; given = refl; bare = refl; timeless = refl; query = (refl, refl, refl, refl) }; unlisted = refl }
-
-pub office_row : IsSure office_schema OFFICE_ROW.now []
-unfolding understood everything
-office_row = record { text = record { whole = refl; given = refl; bare = refl; timeless = refl; query = (refl, refl, refl, refl) }; unlisted = refl }
 
 pub revision_by : (p : ProfileName) (name : List ℕ) → IsSure office_schema REVISION_BY.now (author_params p name)
 unfolding understood everything

@@ -11,7 +11,6 @@ use Rattle.review_policy.specs.declared.fault.Fault.TheVariants.{NoMemory, NotAn
 use Rattle.office_tables.specs.Tables.{Tables}
 use Rattle.office_rows.specs.Faults.{fault_of_error}
 use Rattle.office_rows.specs.Told.{IsOfRow, IsTold, IsUnread, TellsOne, TellsOnly, TellsWhether}
-use Rattle.office_store.specs.Form.{listed_row}
 use Rattle.office_store.specs.Shown.{Shows}
 use Rattle.office_store.specs.Calls.{IsRead}
 use Rattle.office_store.proofs.Calls.{read_told}
@@ -78,8 +77,3 @@ pub whether_read : (old new : State) (FoundRow : Tables → Option Row → Type 
     → IsTold TellsWhether row r → ((t : Tables) (o : Option Row) → FoundRow t o → Found t (is_some o)) → IsRead old new r Found
 whether_read old new FoundRow Found row r read told finds =
     read_told TellsWhether old new FoundRow Found row r read told (λ t shows o found a tells. subst (Found t) (let same : is_some o ≡ a = cc in same) (finds t o found)) (λ t shows o found f tells. absurd cc)
-
--- ---- the rows of the office
-
-pub same_listed : (n m : ℕ) (row : Row) → row ≡ listed_row n → row ≡ listed_row m → m ≡ n
-same_listed n m row a b = let same : listed_row m ≡ listed_row n = sym b ∙ a in let k : m ≡ n = cc in k

@@ -1,5 +1,5 @@
--- What the writes of users make of the tables.
-use Rattle.std.proofs.Common.{◌≡◌, ℤ, pos, List, [], ◌∷◌, cond, None, Some, ℕ, refl, sym, ap, subst, ◌∙◌}
+-- What the write of a user makes of the tables.
+use Rattle.std.proofs.Common.{◌≡◌, ℤ, pos, List, [], ◌∷◌, cond, Some, ℕ, refl, sym, ap, subst, ◌∙◌}
 use Rattle.std.specs.Prelude.{bytes_eq}
 use Rattle.std.proofs.lemmas.Slice.Eq.{bytes_eq-Decides}
 use Rattle.sqlite.specs.declared.types.Value.TheVariants.{Null}
@@ -7,7 +7,7 @@ use Rattle.sqlite.specs.Order.{Row}
 use Rattle.sqlite.specs.Term.{Term, lit, col}
 use Rattle.sqlite.specs.Cast.{cast_row}
 use Rattle.sqlite.specs.Store.{Ghosts}
-use Rattle.sqlite.specs.Command.TheVariants.{Insert, InsertOr}
+use Rattle.sqlite.specs.Command.TheVariants.{InsertOr}
 use Rattle.sqlite_schema.specs.declared.command.Conflict.TheVariants.{Abort}
 use Rattle.sqlite_rules.specs.Keys.{conflicts}
 use Rattle.sqlite_value.specs.Keys.{first_key}
@@ -21,10 +21,9 @@ use Rattle.office_tables.specs.Changes.{with_user}
 use Rattle.office_rows.specs.Entries.{row_of}
 use Rattle.office_rows.specs.Statements.{Statement}
 use Rattle.office_rows.proofs.Plain.{plain_query, Means}
-use Rattle.office_rows.proofs.Failing.{insert_failed, upsert_failed}
-use Rattle.office_rows.proofs.Steps.{puts}
+use Rattle.office_rows.proofs.Failing.{upsert_failed}
 use Rattle.office_rows.proofs.Upserting.{upserted}
-use Rattle.office_store.specs.declared.users.TheConstants.{INSERT_USER, PUT_USER}
+use Rattle.office_store.specs.declared.users.TheConstants.{PUT_USER}
 use Rattle.office_store.specs.Schema.{office_schema, users_table}
 use Rattle.office_store.specs.Entries.{user_row, IsUser}
 use Rattle.office_store.specs.Steps.{statement, IsStep, AreSteps}
@@ -36,10 +35,6 @@ name_of u = u.name
 
 abbrev pub insert_terms : List Term
 insert_terms = lit Null ∷ col 0 0 ∷ col 0 1 ∷ col 0 2 ∷ col 0 3 ∷ []
-
-pub insert_means : Means office_schema INSERT_USER.now (Insert 1 (Values insert_terms 5))
-unfolding understood everything
-insert_means = record { is = refl; plain = (refl, refl); unlisted = refl }
 
 -- the columns of the user's row, where there is one
 abbrev pub put_columns : List Term
@@ -53,9 +48,6 @@ put_means = record { is = refl; plain = (refl, refl); unlisted = refl }
 abbrev pub put_user : UserRow → Statement
 put_user u = record { sql = PUT_USER.now; params = user_row u }
 
-abbrev pub insert_user : UserRow → Statement
-insert_user u = record { sql = INSERT_USER.now; params = user_row u }
-
 pub cast_user : (u : UserRow) → cast_row (users_table 1) (Null ∷ user_row u) ≡ Null ∷ user_row u
 cast_user u = rw (cast_null, cast_int (pos u.roles))
 
@@ -67,15 +59,6 @@ unfolding first_key
 user_agrees u id k = or_false _ ∙ one_is _ _ (text_is k.1.name u.name)
 
 module _ {S : Type 0} (g : Ghosts S) where
-  pub insert_step : (u : UserRow) (t : Tables) → IsUser u → t.users u.name ≡ None → IsStep g (insert_user u) t (with_user u t)
-  insert_step u t formed none = record {
-    ok = λ old new count o ran.
-        let it = puts bytes_eq bytes_eq-Decides name_of user_row IsUser office_schema 1 (users_table 1) is_users INSERT_USER.now (user_row u) (state g old) (state g new) count o.schema ran o.users
-        u formed (sym (o.users_are u.name) ∙ none) insert_terms 5 (Null ∷ user_row u) insert_means refl (cast_user u) in
-        with_users (state g old).now (state g new).now t o it.writes it.left _ (λ n. ap (cond (bytes_eq n u.name) (Some u)) (o.users_are n) ∙ sym (it.are n));
-    err = λ old new e o failed. insert_failed INSERT_USER.now (user_row u) 1 _ office_schema (state g old) (state g new) e o.schema insert_means failed;
-  }
-
   put_step : (u : UserRow) (t : Tables) → IsUser u → IsStep g (put_user u) t (with_user u t)
   put_step u t formed = record {
     ok = λ old new count o ran.

@@ -4,17 +4,11 @@ pub mod Keys
 pub mod Shown
 pub mod Calls
 pub mod Connections
-pub mod Form
 pub mod Reads
 pub mod Steps
 pub mod Writes
 pub mod Adopted
 pub mod Ballots
 pub mod Lists
-pub mod Founding
-pub mod Migration
-pub mod Reopening
 pub mod Refusing
-pub mod Faults
-pub mod Examples
 pub mod Summaries

@@ -1,6 +1,5 @@
 -- What the rows that a read found stand for.
-use Rattle.std.specs.Prelude.{◌≡◌, ℕ, pos, List, [], ◌∷◌, Option, None, Some}
-use Rattle.sqlite.specs.declared.types.Value.TheVariants.{Int}
+use Rattle.std.specs.Prelude.{◌≡◌, ℕ, List, Option, None, Some}
 use Rattle.sqlite.specs.Order.{Row}
 use Rattle.review_policy.specs.declared.ask.ProfileName.{ProfileName}
 use Rattle.office_tables.specs.declared.row.UserRow.{UserRow}
@@ -8,7 +7,6 @@ use Rattle.office_tables.specs.declared.row.RevisionRow.{RevisionRow}
 use Rattle.office_tables.specs.Tables.{Tables}
 use Rattle.office_tables.specs.Reads.{IsUserShowing, IsLast, IsIssued}
 use Rattle.office_store.specs.Entries.{user_row, revision_columns}
-use Rattle.office_store.specs.Form.{form_row}
 
 -- the row of a user who shows this digest, or that there is none
 abbrev pub IsRowShowing : Tables → List ℕ → Option Row → Type 0
@@ -25,13 +23,3 @@ IsIssuedRow t p (Some row) = (r : RevisionRow) × IsIssued t p (Some r) × (row 
 abbrev pub IsLastRow : Tables → ProfileName → Option Row → Type 0
 IsLastRow t p None = IsLast t p None
 IsLastRow t p (Some row) = (r : RevisionRow) × IsLast t p (Some r) × (row ≡ revision_columns r)
-
--- the row of the listed capabilities
-abbrev pub IsRowListed : Tables → Option Row → Type 0
-IsRowListed t None = ⊥
-IsRowListed t (Some row) = row ≡ Int (pos t.listed) ∷ []
-
--- the row of the office
-abbrev pub IsFormRow : Tables → Option Row → Type 0
-IsFormRow t None = ⊥
-IsFormRow t (Some row) = row ≡ form_row t.listed

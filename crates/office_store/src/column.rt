@@ -11,7 +11,6 @@ ghost use Rattle.review_policy.specs.declared.revision.State.{State as StateValu
 ghost use Rattle.office_rows.specs.Told.{IsOfRow};
 ghost use Rattle.office_store.specs.Entries.{bit, state_number};
 
-use cap_sets::Caps;
 use office_rows::fault_of_error;
 use review_policy::{Fault, Roles, State, Text, Word, WordFault};
 use sqlite::Row;
@@ -82,32 +81,6 @@ pub(crate) fn flag_at(row: &Row, at: usize) -> Result<bool, Fault>
     }
 }
 
-// The bits of a column.
-fn bits_at(row: &Row, at: usize) -> Result<u64, Fault>
-    ensures bits { IfOk result (λ bits.
-        (at < length row.now) × (column row.now at ≡ Int (pos bits))) }
-    ensures formed { (bits : ℕ) → at < length row.now → column row.now at ≡ Int (pos bits)
-        → result ≢ Err Fault.NotAnOffice }
-    ensures cause { IfErr result IsOfRow }
-{
-    row.get(at).map_err(fault_of_error)
-}
-
-/// The capabilities of a column.
-pub(crate) fn caps_at(row: &Row, at: usize) -> Result<Caps, Fault>
-    ensures caps { IfOk result (λ caps.
-        (at < length row.now) × (column row.now at ≡ Int (pos caps)) × (caps < 2 ^ 41)) }
-    ensures formed { (caps : ℕ) → at < length row.now
-        → column row.now at ≡ Int (pos caps) → caps < 2 ^ 41
-        → result ≢ Err Fault.NotAnOffice }
-    ensures cause { IfErr result IsOfRow }
-{
-    match Caps::from_bits(bits_at(row, at)?) {
-        Some(caps) => Ok(caps),
-        None => Err(Fault::NotAnOffice),
-    }
-}
-
 /// The digest of a column.
 pub(crate) fn digest_at(row: &Row, at: usize) -> Result<[u8; 32], Fault>
     ensures digest { IfOk result (λ digest.
@@ -125,7 +98,7 @@ pub(crate) fn digest_at(row: &Row, at: usize) -> Result<[u8; 32], Fault>
 }
 
 /// The bytes of a digest.
-pub(crate) fn bytes_of(digest: &[u8; 32]) -> &[u8]
+pub fn bytes_of(digest: &[u8; 32]) -> &[u8]
     ensures same { result.now ≡ digest.now }
     ensures long { length digest.now ≡ 32 }
 {

@@ -7,17 +7,10 @@ pub mod author;
 pub mod baselines;
 mod bind;
 mod column;
-pub mod examples;
-pub mod fault;
-pub mod form;
-pub mod founding;
 pub mod holds;
 pub mod listing;
-pub mod migration;
 pub mod numbers;
-pub mod office;
 pub mod refusing;
-pub mod reopening;
 pub mod revisions;
 pub mod schema;
 pub mod standing_votes;
@@ -29,15 +22,10 @@ mod write;
 
 pub use author::{authors, is_author};
 pub use baselines::{Adopted, baseline, put_baseline};
-pub use column::{number_at, word_at};
-pub use fault::{FoundingFault, MigrationFault, OpeningFault};
-pub use form::check_office;
-pub use founding::found;
+pub use column::{bytes_of, number_at, word_at};
 pub use holds::{delete_hold, held, put_hold};
 pub use listing::revisions_of;
-pub use migration::migrate;
 pub use numbers::{issued_number, last_number};
-pub use office::listed;
 pub use revisions::{
     add_revision, has_revision, issued, last, revision, set_issued, set_withdrawn,
 };

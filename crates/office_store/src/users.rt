@@ -28,9 +28,6 @@ pub(crate) const USER_BY_NAME: &str = "SELECT name, team, roles, token FROM user
 pub(crate) const USER_BY_TOKEN: &str =
     "SELECT name, team, roles, token FROM users WHERE token = ?1";
 
-pub(crate) const INSERT_USER: &str =
-    "INSERT INTO users (name, team, roles, token) VALUES (?1, ?2, ?3, ?4)";
-
 pub(crate) const PUT_USER: &str =
     "INSERT INTO users (name, team, roles, token) VALUES (?1, ?2, ?3, ?4) ON CONFLICT (name) DO UPDATE SET team = ?2, roles = ?3, token = ?4";
 

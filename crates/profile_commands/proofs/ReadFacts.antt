@@ -6,13 +6,13 @@ use Rattle.profile_text.specs.declared.document.Document.{Document}
 use Rattle.profile_text.specs.declared.fault.DocFault.{DocFault}
 use Rattle.profile_text.specs.declared.fault.DocFault.TheVariants.{TooLong}
 use Rattle.profile_text.specs.declared.profile.Profile.{Profile}
-use Rattle.profile_text.specs.Reading.{Gives, reading_of, most_bytes}
+use Rattle.profile_text.specs.Reading.{Gives, reading_of, stored_reading_of, most_bytes}
 use Rattle.profile_commands.specs.declared.fault.FileFault.{FileFault}
 use Rattle.profile_commands.specs.Refusal.{IsReadAs, IsRefusalOf, RefusesAs}
 
 -- bytes that are too many are no document
 too_long : (bytes : List ℕ) → most_bytes < length bytes → reading_of bytes ≡ Err TooLong
-unfolding reading_of
+unfolding reading_of stored_reading_of
 too_long bytes more = rw (lt-ltb most_bytes (length bytes) more) refl
 
 -- what was read of a file, all of it or its first 262,145 bytes, reads as the file does

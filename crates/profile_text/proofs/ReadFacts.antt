@@ -13,7 +13,7 @@ use Rattle.profile_text.specs.declared.document.Parts.{Parts}
 use Rattle.profile_text.specs.declared.sets.Sets.{Sets}
 use Rattle.profile_text.specs.Document.{document_rows}
 use Rattle.profile_text.specs.Parts.{found_in, found_with, parts_of}
-use Rattle.profile_text.specs.Reading.{Gives, unless_faulty, profile_of, profile_of_json, reading_of, most_bytes}
+use Rattle.profile_text.specs.Reading.{Gives, unless_faulty, profile_of, profile_of_json, stored_reading_of, most_bytes}
 use Rattle.profile_text.specs.Sets.{sets_of}
 use Rattle.profile_text.specs.Shape.{member_of, members_faults, members_over, missing_faults, object_faults}
 use Rattle.profile_text.proofs.GivesFacts.{gives_first, ok_parts}
@@ -48,18 +48,18 @@ document_missing ms found told none =
     rw (parts.0, absent) refl
 
 -- more bytes than a document may have
-pub too_long : (bytes : List ℕ) → most_bytes < length bytes → reading_of bytes ≡ Err TooLong
-unfolding reading_of
+pub too_long : (bytes : List ℕ) → most_bytes < length bytes → stored_reading_of bytes ≡ Err TooLong
+unfolding stored_reading_of
 too_long bytes more = rw (lt-ltb most_bytes (length bytes) more) refl
 
 -- the value of bytes that are text
-pub value_is : (bytes : List ℕ) (d : Data) → length bytes ≤ most_bytes → IsUtf8 bytes → read bytes ≡ Some d → reading_of bytes ≡ profile_of d
-unfolding reading_of
+pub value_is : (bytes : List ℕ) (d : Data) → length bytes ≤ most_bytes → IsUtf8 bytes → read bytes ≡ Some d → stored_reading_of bytes ≡ profile_of d
+unfolding stored_reading_of
 value_is bytes d small text e = rw (le-ltb most_bytes (length bytes) small, is_utf8-from_IsUtf8 bytes text, e) refl
 
 -- bytes that aren't JSON
-pub value_none : (bytes : List ℕ) → length bytes ≤ most_bytes → (IsUtf8 bytes → read bytes ≡ None) → reading_of bytes ≡ Err NotJson
-unfolding reading_of
+pub value_none : (bytes : List ℕ) → length bytes ≤ most_bytes → (IsUtf8 bytes → read bytes ≡ None) → stored_reading_of bytes ≡ Err NotJson
+unfolding stored_reading_of
 value_none bytes small h =
     rw (le-ltb most_bytes (length bytes) small) (elim (cases_Bool (is_utf8 bytes)) as (λ _. profile_of_json (cond (is_utf8 bytes) (read bytes) None) ≡ Err NotJson) [
       | inl text ↦ rw (text, h (IsUtf8-from_is_utf8 bytes text)) refl

@@ -22,7 +22,7 @@ use Rattle.profile_text.specs.Document.{document_rows, document_faults}
 use Rattle.profile_text.specs.FilterParts.{seccomp_in}
 use Rattle.profile_text.specs.FilterReads.{AllMembers, IsA, IsSeccomp, Makes, StandsForFilter}
 use Rattle.profile_text.specs.FilterShape.{seccomp_faults}
-use Rattle.profile_text.specs.Reading.{GivesAs, ◌>>=◌, unless_faulty, unless_unlawful, filter_or_fault, caps_or_fault, if_short, profile_of, profile_of_json, json_of, reading_of, most_bytes}
+use Rattle.profile_text.specs.Reading.{GivesAs, ◌>>=◌, unless_faulty, unless_unlawful, filter_or_fault, caps_or_fault, if_short, profile_of, profile_of_json, json_of, reading_of, stored_reading_of, most_bytes}
 use Rattle.profile_text.specs.Reads.{IsSetMember, IsCapsValue, IsDocumentMember, StandsForSet, StandsForCaps, MembersStandFor, StandsFor, Reads, state_set}
 use Rattle.profile_text.specs.Parts.{found_in, document_parts, parts_of}
 use Rattle.profile_text.specs.Sets.{set_name, set_in, set_of, sets_in, sets_of, no_sets}
@@ -38,6 +38,9 @@ use Rattle.profile_text.proofs.StateFacts.{state_told}
 bind_ok : {X Y : Type 0} (r : Result X DocFault) (next : X → Result Y DocFault) (y : Y) → (r >>= next) ≡ Ok y → (x : X) × (r ≡ Ok x) × (next x ≡ Ok y)
 bind_ok (Ok x) next y e = (x, refl, e)
 bind_ok (Err fault) next y e = absurd (cc)
+
+ok_same : (p q : Profile) → ◌≡◌ {A = Result Profile DocFault} (Ok p) (Ok q) → p ≡ q
+ok_same p q e = cc
 
 -- ---- the state of the sets
 
@@ -175,17 +178,15 @@ short_by false q p n is e = let same : q ≡ p = cc in (ltb-false most_bytes n i
 short_ok : (q p : Profile) → if_short q ≡ Ok p → (length (text_of q) ≤ most_bytes) × (q ≡ p)
 short_ok q p e = short_by (nat_lt most_bytes (length (text_of q))) q p (length (text_of q)) refl e
 
-profile_stands : (d : Data) (p : Profile) → profile_of d ≡ Ok p → StandsFor d p × (length (text_of p) ≤ most_bytes)
+profile_stands : (d : Data) (p : Profile) → profile_of d ≡ Ok p → StandsFor d p
 unfolding profile_of
 profile_stands d p e =
     let walk = bind_ok (unless_faulty (document_faults d) (document_parts d)) _ p e in
-    let told = bind_ok (caps_or_fault (state_of walk.0.sets)) (λ caps. filter_or_fault walk.0.filter >>= (λ filter. if_short (profile caps filter))) p walk.2 in
-    let made = bind_ok (filter_or_fault walk.0.filter) (λ filter. if_short (profile told.0 filter)) p told.2 in
-    let short = short_ok (profile told.0 made.0) p made.2 in
-    let has = state_has walk.0.sets told.0 (caps_ok (state_of walk.0.sets) told.0 told.1) in (
-      subst (StandsFor d) short.1 (stands d (profile told.0 made.0) walk.0 walk.1 has made.1),
-      subst (λ (q : Profile). length (text_of q) ≤ most_bytes) short.1 short.0,
-    )
+    let told = bind_ok (caps_or_fault (state_of walk.0.sets)) (λ caps. filter_or_fault walk.0.filter >>= (λ filter. Ok (profile caps filter))) p walk.2 in
+    let made = bind_ok (filter_or_fault walk.0.filter) (λ filter. Ok (profile told.0 filter)) p told.2 in
+    let same : profile told.0 made.0 ≡ p = ok_same (profile told.0 made.0) p made.2 in
+    let has = state_has walk.0.sets told.0 (caps_ok (state_of walk.0.sets) told.0 told.1) in
+    subst (StandsFor d) same (stands d (profile told.0 made.0) walk.0 walk.1 has made.1)
 
 filter_stood : (ms : Members) (filter : Option FilterValue) → StandsForFilter (member_of (codes "seccomp") ms) filter → filter_or_fault (found_in ms).filter ≡ Ok filter
 filter_stood ms filter h =
@@ -213,11 +214,11 @@ stood (number n) p h = absurd h
 stood (string s) p h = absurd h
 stood (array ds) p h = absurd h
 
-profile_stood : (d : Data) (p : Profile) → StandsFor d p → length (text_of p) ≤ most_bytes → profile_of d ≡ Ok p
+profile_stood : (d : Data) (p : Profile) → StandsFor d p → profile_of d ≡ Ok p
 unfolding profile_of
-profile_stood d p h short =
+profile_stood d p h =
     let walk = stood d p h in
-    rw (walk.1, state_from walk.0.sets p.caps walk.2, walk.3, le-ltb most_bytes (length (text_of p)) short) refl
+    rw (walk.1, state_from walk.0.sets p.caps walk.2, walk.3) refl
 
 -- ---- the bytes
 
@@ -229,17 +230,35 @@ reading_by : (b : Bool) (r : Result Profile DocFault) (p : Profile) (n : ℕ) �
 reading_by true r p n is e = absurd (cc)
 reading_by false r p n is e = (ltb-false most_bytes n is, e)
 
-pub reads_from : (bytes : List ℕ) (p : Profile) → reading_of bytes ≡ Ok p → Reads bytes p
-unfolding reading_of
-reads_from bytes p e =
+-- the bytes are few enough, and are a JSON value that stands for the profile
+stored_stands : (bytes : List ℕ) (p : Profile) → stored_reading_of bytes ≡ Ok p → (length bytes ≤ most_bytes) × ((d : Data) × (json_of bytes ≡ Some d) × StandsFor d p)
+unfolding stored_reading_of
+stored_stands bytes p e =
     let short = reading_by (nat_lt most_bytes (length bytes)) (profile_of_json (json_of bytes)) p (length bytes) refl e in
     let json = json_by (json_of bytes) p short.1 in
-    let found = profile_stands json.0 p json.2 in
-    record { short = short.0; stands = (json.0, json.1, found.0); text = found.1 }
+    (short.0, (json.0, json.1, profile_stands json.0 p json.2))
+
+stored_stood : (bytes : List ℕ) (p : Profile) → Reads bytes p → stored_reading_of bytes ≡ Ok p
+unfolding stored_reading_of
+stored_stood bytes p h = rw (le-ltb most_bytes (length bytes) h.short, h.stands.1) (profile_stood h.stands.0 p h.stands.2)
+
+-- what bytes read as is what they read as where they are kept, and its text is short enough
+pub stored_from : (bytes : List ℕ) (p : Profile) → reading_of bytes ≡ Ok p → (stored_reading_of bytes ≡ Ok p) × (length (text_of p) ≤ most_bytes)
+unfolding reading_of
+stored_from bytes p e =
+    let read = bind_ok (stored_reading_of bytes) if_short p e in
+    let short = short_ok read.0 p read.2 in
+    (read.1 ∙ ap (λ q. Ok q) short.1, subst (λ (q : Profile). length (text_of q) ≤ most_bytes) short.1 short.0)
+
+pub reads_from : (bytes : List ℕ) (p : Profile) → reading_of bytes ≡ Ok p → Reads bytes p
+reads_from bytes p e =
+    let stored = stored_from bytes p e in
+    let found = stored_stands bytes p stored.0 in
+    record { short = found.0; stands = found.1; text = stored.1 }
 
 pub reading_from : (bytes : List ℕ) (p : Profile) → Reads bytes p → reading_of bytes ≡ Ok p
 unfolding reading_of
-reading_from bytes p h = rw (le-ltb most_bytes (length bytes) h.short, h.stands.1) (profile_stood h.stands.0 p h.stands.2 h.text)
+reading_from bytes p h = rw (stored_stood bytes p h, le-ltb most_bytes (length (text_of p)) h.text) refl
 
 -- what a reader gives stands for the bytes
 pub stands_given : {X : Type 0} (seen : X → Profile) (bytes : List ℕ) (given : Result X DocFault) → GivesAs seen given (reading_of bytes)

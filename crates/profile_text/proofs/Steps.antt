@@ -73,6 +73,23 @@ member_read rows path name v rest x z y whole is told =
     let parts = ok_parts (row_faults (row_named rows name.now) (below path name.now) (view v)) x z told in
     (is ∙ rw (members_more rows path name v rest, parts.0) refl, parts.1)
 
+-- the same of the member at a place; it is there, so nothing stands in its place
+pub refused_at_place : {X : Type 0} (rows : List Row) (path : List ℕ) (with_one : List ℕ → Data → X → X) (ms : List (Bor (List ℕ) × Tree)) (i : ℕ) (d : Bor (List ℕ) × Tree) (found x : X) (whole : Result X DocFault) (fault : DocFault) → i < length ms
+    → whole ≡ members_left rows path with_one found (drop i ms)
+    → Gives {X = X} (Err fault) (unless_faulty (row_faults (row_named rows (get_or ms i d).0.now) (below path (get_or ms i d).0.now) (view (get_or ms i d).1)) x) → Gives {X = X} (Err fault) whole
+refused_at_place rows path with_one ms i d found x whole fault within is told =
+    let m = get_or ms i d in
+    member_refused rows path m.0 m.1 (drop (i + 1) ms) x _ whole fault (is ∙ ap (members_left rows path with_one found) (drop_more ms i d within)) told
+
+pub read_at_place : {X : Type 0} (rows : List Row) (path : List ℕ) (with_one : List ℕ → Data → X → X) (ms : List (Bor (List ℕ) × Tree)) (i : ℕ) (d : Bor (List ℕ) × Tree) (found z : X) (whole : Result X DocFault) → i < length ms
+    → whole ≡ members_left rows path with_one found (drop i ms)
+    → unless_faulty (row_faults (row_named rows (get_or ms i d).0.now) (below path (get_or ms i d).0.now) (view (get_or ms i d).1)) (with_one (get_or ms i d).0.now (view (get_or ms i d).1) found) ≡ Ok z
+    → whole ≡ members_left rows path with_one z (drop (i + 1) ms)
+read_at_place rows path with_one ms i d found z whole within is told =
+    let m = get_or ms i d in
+    let more = member_read rows path m.0 m.1 (drop (i + 1) ms) (with_one m.0.now (view m.1) found) z _ whole (is ∙ ap (members_left rows path with_one found) (drop_more ms i d within)) told in
+    more.0 ∙ ap (λ f. members_left rows path with_one f (drop (i + 1) ms)) more.1
+
 -- all members are read
 pub members_read : {Y : Type 0} (rows : List Row) (path : List ℕ) (y : Y) (whole : Result Y DocFault)
     → whole ≡ unless_faulty (members_faults rows path (members_view [])) y → whole ≡ Ok y

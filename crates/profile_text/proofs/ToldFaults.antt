@@ -18,7 +18,7 @@ use Rattle.profile_text.specs.Document.{caps_faults, caps_rows, document_faults,
 use Rattle.profile_text.specs.FilterParts.{u64_of}
 use Rattle.profile_text.specs.FilterShape.{action_faults, arg_rows, entry_rows, is_action_name, is_notify, is_text, number_faults, seccomp_rows, table_faults}
 use Rattle.profile_text.specs.Parts.{document_parts}
-use Rattle.profile_text.specs.Reading.{◌>>=◌, caps_or_fault, filter_or_fault, if_short, json_of, most_bytes, profile_of, profile_of_json, reading_of, unless_faulty, unless_unlawful}
+use Rattle.profile_text.specs.Reading.{◌>>=◌, caps_or_fault, filter_or_fault, if_short, json_of, most_bytes, profile_of, profile_of_json, reading_of, stored_reading_of, unless_faulty, unless_unlawful}
 use Rattle.profile_text.specs.Shape.{Row, Shape, below, items_faults, list_faults, member_of, members_faults, missing_faults, object_faults, optional_faults, refused_faults, row_faults, row_named, word_faults}
 use Rattle.profile_text.specs.State.{state_of}
 use Rattle.profile_text.specs.Text.{text_of}
@@ -250,8 +250,7 @@ unfolding profile_of
 profile_told d =
     after (unless_faulty (document_faults d) (document_parts d)) _ (walk_told (document_faults d) (document_parts d) (document_tells d)) (λ parts.
     after (caps_or_fault (state_of parts.sets)) _ (caps_told (state_of parts.sets)) (λ caps.
-    after (filter_or_fault parts.filter) (λ own. if_short (record { caps = caps; filter = own })) (filter_told parts.filter) (λ own.
-    short_told (nat_lt most_bytes (length (text_of (record { caps = caps; filter = own })))) (record { caps = caps; filter = own }))))
+    after (filter_or_fault parts.filter) _ (filter_told parts.filter) (λ own. tt)))
 
 json_told : (o : Option Data) → IfFault (profile_of_json o)
 json_told None = tt
@@ -261,9 +260,13 @@ long_told : (b : Bool) (r : Result Profile DocFault) → IfFault r → IfFault (
 long_told true r h = tt
 long_told false r h = h
 
+stored_told : (bytes : List ℕ) → IfFault (stored_reading_of bytes)
+unfolding stored_reading_of
+stored_told bytes = long_told (nat_lt most_bytes (length bytes)) (profile_of_json (json_of bytes)) (json_told (json_of bytes))
+
 reading_told : (bytes : List ℕ) → IfFault (reading_of bytes)
 unfolding reading_of
-reading_told bytes = long_told (nat_lt most_bytes (length bytes)) (profile_of_json (json_of bytes)) (json_told (json_of bytes))
+reading_told bytes = after (stored_reading_of bytes) if_short (stored_told bytes) (λ p. short_told (nat_lt most_bytes (length (text_of p))) p)
 
 pub never_memory : (bytes : List ℕ) → reading_of bytes ≡ Err faults.NoMemory → ⊥
 never_memory bytes e = subst IfFault e (reading_told bytes)

@@ -4,7 +4,6 @@ use Rattle.std.specs.Prelude.{◌==◌}
 use Rattle.json.specs.Print.{print}
 use Rattle.json.specs.Token.{Token}
 use Rattle.json.specs.Tree.{members_tokens}
-use Rattle.json.specs.Written.{Written}
 use Rattle.serde_json.proofs.Texts.{print-outline}
 use Rattle.serde_json.specs.Data.{Data, Members}
 use Rattle.serde_json.specs.Written.{members_outline}
@@ -36,6 +35,6 @@ not_empty (x ∷ xs) is not_b = λ none. absurd (omega arith)
 
 -- ---- the whole text
 
-pub text_is : (p : Profile) {a b : Written} {text : List ℕ} → a.tokens ≡ [] → Appends a b (tokens_of (profile_data p)) → text ≡ print b.tokens → text ≡ text_of p
+pub text_is : (p : Profile) {a b : List Token} {text : List ℕ} → a ≡ [] → Appends a b (tokens_of (profile_data p)) → text ≡ print b → text ≡ text_of p
 unfolding text_of
 text_is p start written is = is ∙ ap print (written.tokens ∙ ap (λ ts. ts ++ tokens_of (profile_data p)) start) ∙ print-outline (profile_data p)

@@ -58,22 +58,26 @@ filter_or_fault (Some parts) = unless_unlawful (fault_of parts) (filter_of parts
 abbrev pub if_short : Profile → Result Profile DocFault
 if_short p = if nat_lt most_bytes (length (text_of p)) then Err TextTooLong else Ok p
 
--- the profile of a JSON value: the walk, the state of the sets, the filter, the length of the text
+-- the profile of a JSON value: the walk, the state of the sets, the filter
 unfoldable pub profile_of : Data → Result Profile DocFault
 profile_of d = do
   parts ← unless_faulty (document_faults d) (document_parts d)
   caps ← caps_or_fault (state_of parts.sets)
   filter ← filter_or_fault parts.filter
-  if_short (record { caps = caps; filter = filter })
+  Ok (record { caps = caps; filter = filter })
 
 abbrev pub profile_of_json : Option Data → Result Profile DocFault
 profile_of_json None = Err NotJson
 profile_of_json (Some d) = profile_of d
 
+-- what the bytes read as, however long the canonical text is, or the first fault
+unfoldable pub stored_reading_of : List ℕ → Result Profile DocFault
+stored_reading_of bytes =
+    if nat_lt most_bytes (length bytes) then Err TooLong else profile_of_json (json_of bytes)
+
 -- what the bytes read as, or the first fault; it is never out of memory
 unfoldable pub reading_of : List ℕ → Result Profile DocFault
-reading_of bytes =
-    if nat_lt most_bytes (length bytes) then Err TooLong else profile_of_json (json_of bytes)
+reading_of bytes = stored_reading_of bytes >>= if_short
 
 -- what a reader gives is what is read; out of memory may stand in its place
 abbrev pub Gives : {X : Type 0} → Result X DocFault → Result X DocFault → Type 0

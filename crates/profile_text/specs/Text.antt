@@ -2,7 +2,7 @@
 -- their names.
 use Rattle.std.specs.Prelude.{ℕ, List, [], ◌∷◌, map, codes, Option, Some, None}
 use Rattle.serde_json.specs.Data.{Data, string, number, unsigned, array, object, Members}
-use Rattle.serde_json.specs.Data.{no_members, member, put}
+use Rattle.serde_json.specs.Data.{no_members, member}
 use Rattle.serde_json.specs.View.{items_of}
 use Rattle.serde_json.specs.Written.{compact_text}
 use Rattle.cap_sets.specs.Capability.{names_of}
@@ -36,11 +36,6 @@ caps_data state =
 abbrev pub member_if : List ℕ → Option Data → Members → Members
 member_if name None rest = rest
 member_if name (Some d) rest = member name d rest
-
--- the members with one in its place, where there is something to write
-abbrev pub put_if : List ℕ → Option Data → Members → Members
-put_if name None ms = ms
-put_if name (Some d) ms = put name d ms
 
 -- a list, where it isn't empty
 abbrev pub some_list : List Data → Option Data

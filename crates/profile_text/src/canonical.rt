@@ -7,13 +7,16 @@ ghost use Rattle.json_tree.specs.Tokens.{Appends, member_tokens, tokens_of};
 use crate::filter_text::write_filter;
 use crate::profile::Profile;
 use cap_sets::{CapState, Caps};
-use json::Writer;
-use json_tree::written_text;
+use json_tree::{Writer, written_text};
 use seccomp_doc::Filter;
 use std::alloc::{AllocError, Global};
 
-// The names of a set's members.
-fn write_set(out: &mut Writer, set: &str, caps: Caps) -> Result<(), AllocError>
+/// Writes a member with this name, whose value is the list of the set's names, by rising number.
+///
+/// # Errors
+///
+/// Memory was refused. No contract can say when.
+pub fn write_set(out: &mut Writer, set: &str, caps: Caps) -> Result<(), AllocError>
     ensures { OnOk result (Appends out.old out.new (member_tokens set.now (Some (set_data caps)))) }
 {
     out.key(set)?;
@@ -71,7 +74,7 @@ const FIRST_ROOM: usize = 8192;
 pub fn print(alloc: Global, profile: &Profile) -> Result<String, AllocError>
     ensures { IfOk result (λ text. string_bytes text ≡ text_of profile.now) }
 {
-    let mut out = Writer::new(Vec::with_capacity(alloc, FIRST_ROOM)?);
+    let mut out = Writer::with_capacity(alloc, FIRST_ROOM)?;
     write_profile(&mut out, profile)?;
     Ok(written_text(out))
 }

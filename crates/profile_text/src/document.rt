@@ -4,7 +4,8 @@ ghost use Rattle.std.specs.Prelude.{◌≡◌, ◌<◌, [], length, Err, IfOk};
 ghost use Rattle.json_tree.specs.View.{members_view, view};
 ghost use Rattle.profile_text.specs.Document.{document_faults, document_rows};
 ghost use Rattle.profile_text.specs.Reading.{Gives, GivesAs, HasItsText, if_short, most_bytes};
-ghost use Rattle.profile_text.specs.Reading.{profile_of, reading_of, unless_faulty};
+ghost use Rattle.profile_text.specs.Reading.{profile_of, reading_of, stored_reading_of};
+ghost use Rattle.profile_text.specs.Reading.{unless_faulty};
 ghost use Rattle.profile_text.specs.Reads.{Reads};
 ghost use Rattle.profile_text.specs.Parts.{document_parts, found_in, parts_of};
 ghost use Rattle.profile_text.specs.Shape.{object_faults};
@@ -128,21 +129,40 @@ fn with_text(alloc: Global, profile: Profile) -> Result<Document, DocFault>
     Ok(Document { profile, text })
 }
 
-// The profile and the canonical text of a JSON value.
+// The profile of a JSON value.
 #[tactic(auto, unfolding(crate::specs::Reading::profile_of))]
-fn document_of(alloc: Global, value: Tree<'_>) -> Result<Document, DocFault>
-    ensures reading { GivesAs (λ document. document.profile) result
-        (profile_of (view value.entry)) }
-    ensures text { IfOk result HasItsText }
+fn profile_of(alloc: Global, value: &Tree<'_>) -> Result<Profile, DocFault>
+    ensures { Gives result (profile_of (view value.now)) }
 {
-    let Parts { sets, filter } = parts_of(alloc, &value)?;
-    drop(value);
+    let Parts { sets, filter } = parts_of(alloc, value)?;
     match sets.state() {
         Ok(caps) => {
             let filter = filter_of(alloc, filter)?;
-            with_text(alloc, Profile::new(caps, filter))
+            Ok(Profile::new(caps, filter))
         }
         Err(fault) => Err(DocFault::Caps(fault)),
+    }
+}
+
+/// Reads a canonical text that was kept since its document was read: its profile, or its first
+/// fault in the order of `DocFault`. It prints nothing, so it never answers `TextTooLong`.
+///
+/// # Errors
+///
+/// Each other fault of `DocFault`; `NoMemory` is answered where memory is refused, and never for
+/// `TooLong`.
+pub fn read_stored(alloc: Global, bytes: &[u8]) -> Result<Profile, DocFault>
+    ensures reading { Gives result (stored_reading_of bytes.now) }
+    ensures too_long { most_bytes < length bytes.now → result ≡ Err DocFault.TooLong }
+{
+    if bytes.len() > MOST_BYTES {
+        return Err(DocFault::TooLong);
+    }
+    let mut scratch = Scratch::new(alloc);
+    match Tree::from_slice(alloc, bytes, &mut scratch) {
+        Ok(value) => profile_of(alloc, &value),
+        Err(ReadFault::NotJson) => Err(DocFault::NotJson),
+        Err(ReadFault::NoMemory) => Err(DocFault::NoMemory),
     }
 }
 
@@ -152,21 +172,15 @@ fn document_of(alloc: Global, value: Tree<'_>) -> Result<Document, DocFault>
 /// # Errors
 ///
 /// Each fault of `DocFault`; `NoMemory` is answered where memory is refused, and never for `TooLong`.
+#[tactic(auto, unfolding(crate::specs::Reading::reading_of))]
 pub fn read_with_text(alloc: Global, bytes: &[u8]) -> Result<Document, DocFault>
     ensures reading { GivesAs (λ document. document.profile) result (reading_of bytes.now) }
     ensures stands { IfOk result (λ document. Reads bytes.now document.profile) }
     ensures text { IfOk result HasItsText }
     ensures too_long { most_bytes < length bytes.now → result ≡ Err DocFault.TooLong }
 {
-    if bytes.len() > MOST_BYTES {
-        return Err(DocFault::TooLong);
-    }
-    let mut scratch = Scratch::new(alloc);
-    match Tree::from_slice(alloc, bytes, &mut scratch) {
-        Ok(value) => document_of(alloc, value),
-        Err(ReadFault::NotJson) => Err(DocFault::NotJson),
-        Err(ReadFault::NoMemory) => Err(DocFault::NoMemory),
-    }
+    let profile = read_stored(alloc, bytes)?;
+    with_text(alloc, profile)
 }
 
 /// Reads a document: its profile, or its first fault in the order of `DocFault`.
@@ -179,8 +193,5 @@ pub fn read(alloc: Global, bytes: &[u8]) -> Result<Profile, DocFault>
     ensures stands { IfOk result (Reads bytes.now) }
     ensures too_long { most_bytes < length bytes.now → result ≡ Err DocFault.TooLong }
 {
-    match read_with_text(alloc, bytes) {
-        Ok(document) => Ok(document.profile),
-        Err(fault) => Err(fault),
-    }
+    read_with_text(alloc, bytes).map(|document| document.profile)
 }

@@ -7,7 +7,7 @@ ghost use Rattle.profile_text.specs.Text.{arg_data, entry_data, errno_data, filt
 ghost use Rattle.profile_text.specs.Text.{texts_data, value_two_data};
 ghost use Rattle.json_tree.specs.Tokens.{Appends, member_tokens, tokens_of};
 
-use json::Writer;
+use json_tree::Writer;
 use seccomp_doc::{Action, Arch, CallName, Compare, Entry, Filter, ScmpFlag};
 use std::alloc::AllocError;
 

@@ -22,8 +22,8 @@ mod profile;
 mod sets;
 mod value;
 
-pub use canonical::print;
-pub use document::{Document, read, read_with_text};
+pub use canonical::{print, write_set};
+pub use document::{Document, read, read_stored, read_with_text};
 pub use fault::{DocFault, Path, fault_text};
 pub use hash::digest;
 pub use profile::Profile;

@@ -20,14 +20,9 @@ fn profile_of(alloc: Global, words: &EvidenceWords<'_>) -> Result<ProfileName, C
     ensures name { IfOk result (λ name. name ≡ profile_of words.now) }
     ensures none { IfErr result (IsNoProfile words.now) }
 {
-    let team = match word_of(alloc, words.team) {
-        Ok(team) => team,
-        Err(fault) => return Err(fault),
-    };
-    match word_of(alloc, words.profile) {
-        Ok(profile) => Ok(ProfileName { team, profile }),
-        Err(fault) => Err(fault),
-    }
+    let team = word_of(alloc, words.team)?;
+    let profile = word_of(alloc, words.profile)?;
+    Ok(ProfileName { team, profile })
 }
 
 /// The evidence of the revision and the event that words name, of the journal that they name.
@@ -44,14 +39,8 @@ pub(crate) fn evidence_at<F: PassFiles>(
     ensures evidence { IfOk result (IsEvidenceAt (F.opens files.now) F.gives F.File.remaining words.now) }
     ensures none { IfErr result (IsNoEvidenceAt (F.opens files.now) F.gives F.File.remaining words.now) }
 {
-    let name = match profile_of(alloc, words) {
-        Ok(name) => name,
-        Err(fault) => return Err(fault),
-    };
-    let mut text = match text_at(files, alloc, words.journal) {
-        Ok(text) => text,
-        Err(fault) => return Err(fault),
-    };
+    let name = profile_of(alloc, words)?;
+    let mut text = text_at(files, alloc, words.journal)?;
     let Ok(conn) = open_in_memory(alloc) else {
         return Err(CommandFault::NoMemory);
     };
@@ -77,12 +66,7 @@ pub fn run_evidence<F: PassFiles, O: Write>(
     ensures failed { IfErr result (FailsToProve (F.opens files.now) F.gives F.File.remaining O.contents
         output.old output.new words.now) }
 {
-    let text = match evidence_at(files, alloc, words) {
-        Ok(text) => text,
-        Err(fault) => return Err(fault),
-    };
-    match print(output, text.as_str()) {
-        Ok(()) => Ok(0),
-        Err(fault) => Err(fault),
-    }
+    let text = evidence_at(files, alloc, words)?;
+    print(output, text.as_str())?;
+    Ok(0)
 }

@@ -27,22 +27,14 @@ fn names_of(alloc: Global, words: &HistoryWords<'_>) -> Result<Names, CommandFau
     ensures names { IfOk result (HasNames words.now) }
     ensures none { IfErr result (NamesNone words.now) }
 {
-    let team = match name_of(alloc, words.team) {
-        Ok(team) => team,
-        Err(fault) => return Err(fault),
-    };
-    let profile = match name_of(alloc, words.profile) {
-        Ok(profile) => profile,
-        Err(fault) => return Err(fault),
-    };
-    match name_of(alloc, words.user) {
-        Ok(user) => Ok(Names {
-            team,
-            profile,
-            user,
-        }),
-        Err(fault) => Err(fault),
-    }
+    let team = name_of(alloc, words.team)?;
+    let profile = name_of(alloc, words.profile)?;
+    let user = name_of(alloc, words.user)?;
+    Ok(Names {
+        team,
+        profile,
+        user,
+    })
 }
 
 // Which events words ask for, by the names that they give.
@@ -76,14 +68,8 @@ pub fn run_history<F: PassFiles, O: Write>(
     ensures failed { IfErr result (IsUntoldAt (F.opens files.now) F.gives F.File.remaining O.contents
         output.old output.new words.now) }
 {
-    let names = match names_of(alloc, words) {
-        Ok(names) => names,
-        Err(fault) => return Err(fault),
-    };
-    let mut text = match text_at(files, alloc, words.journal) {
-        Ok(text) => text,
-        Err(fault) => return Err(fault),
-    };
+    let names = names_of(alloc, words)?;
+    let mut text = text_at(files, alloc, words.journal)?;
     let Ok(conn) = open_in_memory(alloc) else {
         return Err(CommandFault::NoMemory);
     };

@@ -36,10 +36,7 @@ pub(crate) fn line_at<F: PassFiles>(
     let Some(kept) = kept else {
         return Ok(Line::Same);
     };
-    let mut text = match text_at(files, alloc, path) {
-        Ok(text) => text,
-        Err(fault) => return Err(fault),
-    };
+    let mut text = text_at(files, alloc, path)?;
     match seal_at(alloc, &mut text, kept.line) {
         Ok(Some(seal)) if seal == kept.seal => Ok(Line::Same),
         Ok(_) => Ok(Line::Other),

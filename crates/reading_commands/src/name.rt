@@ -33,10 +33,7 @@ pub(crate) fn name_of(alloc: Global, given: Option<&str>) -> Result<Option<Word>
     ensures none { IfErr result (IsNoName (option_copied given.entry)) }
 {
     match given {
-        Some(text) => match word_of(alloc, text) {
-            Ok(word) => Ok(Some(word)),
-            Err(fault) => Err(fault),
-        },
+        Some(text) => Ok(Some(word_of(alloc, text)?)),
         None => Ok(None),
     }
 }

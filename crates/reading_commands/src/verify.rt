@@ -26,14 +26,8 @@ fn verify_at<F: PassFiles>(
     ensures failed { IfErr result (IsUnverifiedAt (F.opens files.now) F.gives F.File.remaining
         journal.now database.now) }
 {
-    let mut text = match text_at(files, alloc, journal) {
-        Ok(text) => text,
-        Err(fault) => return Err(fault),
-    };
-    let mut conn = match office_in_copy(files, alloc, database) {
-        Ok(conn) => conn,
-        Err(fault) => return Err(fault),
-    };
+    let mut text = text_at(files, alloc, journal)?;
+    let mut conn = office_in_copy(files, alloc, database)?;
     match verify(alloc, &mut text, &mut conn) {
         Ok(verified) => Ok(verified),
         Err(why) => Err(told_of_text(&text, CommandFault::Unverified(why))),
@@ -56,17 +50,13 @@ fn verify_with<F: PassFiles>(
     ensures failed { IfErr result (IsUnverifiedWith (F.opens files.now) F.gives F.File.remaining
         words.now.journal.now words.now.database.now words.now.seal) }
 {
-    match line_at(files, alloc, words.journal, words.seal) {
-        Ok(Line::Same) => match verify_at(files, alloc, words.database, words.journal) {
-            Ok(verified) => Ok(verified),
-            Err(fault) => Err(fault),
-        },
-        Ok(Line::Other) => Err(CommandFault::OtherSeal),
-        Ok(Line::Unread) => match verify_at(files, alloc, words.database, words.journal) {
-            Ok(_) => Err(CommandFault::Open),
-            Err(fault) => Err(fault),
-        },
-        Err(fault) => Err(fault),
+    match line_at(files, alloc, words.journal, words.seal)? {
+        Line::Same => verify_at(files, alloc, words.database, words.journal),
+        Line::Other => Err(CommandFault::OtherSeal),
+        Line::Unread => {
+            verify_at(files, alloc, words.database, words.journal)?;
+            Err(CommandFault::Open)
+        }
     }
 }
 
@@ -92,15 +82,10 @@ pub fn run_verify<F: PassFiles, O: Write>(
         words.now.journal.now words.now.database.now words.now.seal
         O.contents output.old output.new) }
 {
-    let verified = match verify_with(files, alloc, words) {
-        Ok(verified) => verified,
-        Err(fault) => return Err(fault),
-    };
+    let verified = verify_with(files, alloc, words)?;
     let Ok(line) = seal_line(alloc, "verified", verified.events, &verified.seal) else {
         return Err(CommandFault::NoMemory);
     };
-    match print_bytes(output, &line) {
-        Ok(()) => Ok(0),
-        Err(fault) => Err(fault),
-    }
+    print_bytes(output, &line)?;
+    Ok(0)
 }

@@ -5,7 +5,7 @@ ghost use Rattle.sqlite.specs.Held.{state};
 ghost use Rattle.office_store.specs.Shown.{IsIdle};
 
 use office_desk::Office;
-use office_store::migrate;
+use office_founding::migrate;
 use sqlite::{Alter, Connection};
 use std::alloc::Global;
 use std::test::Fail;

@@ -4,11 +4,11 @@ ghost use Rattle.sqlite.specs.Held.{state};
 ghost use Rattle.office_store.specs.Shown.{IsIdle};
 
 use cap_sets::Caps;
+use office_founding::{FoundingFault, check_office, found, listed, migrate};
 use office_store::{
-    Ballot, FoundingFault, add_revision, authors, baseline, check_office, delete_hold, found,
-    has_revision, held, is_author, issued, last, listed, migrate, put_baseline, put_hold, put_user,
-    put_vote, revision, revisions_of, set_issued, set_withdrawn, standing, tally, user_by_name,
-    user_by_token,
+    Ballot, add_revision, authors, baseline, delete_hold, has_revision, held, is_author, issued,
+    last, put_baseline, put_hold, put_user, put_vote, revision, revisions_of, set_issued,
+    set_withdrawn, standing, tally, user_by_name, user_by_token,
 };
 use office_tables::{RevisionRow, UserRow};
 use review_policy::{Fault, ProfileName, Roles, State, Text, Word, WordFault};
@@ -108,10 +108,7 @@ fn add<S: Alter>(alloc: Global, conn: &mut Connection<S>, subject: &Subject) -> 
 }
 
 fn bits<F>(answer: Result<Caps, F>) -> Result<u64, F> {
-    match answer {
-        Ok(listed) => Ok(listed.bits()),
-        Err(fault) => Err(fault),
-    }
+    answer.map(|listed| listed.bits())
 }
 
 fn text<T: Debug + Drop>(alloc: Global, answer: T) -> Result<String, AllocError> {

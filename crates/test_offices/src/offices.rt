@@ -6,7 +6,7 @@ ghost use Rattle.office_store.specs.Shown.{IsIdle};
 
 use cap_sets::Caps;
 use office_desk::Office;
-use office_store::FoundingFault;
+use office_founding::FoundingFault;
 use review_policy::{Word, digest_from_hex};
 use sqlite::{Alter, Connection, MemStore};
 use std::alloc::Global;

@@ -1,6 +1,6 @@
 -- What the entries of a name are told by, and entries that are grouped.
 use Rattle.std.proofs.Common.{◌≡◌, ◌∙◌, ap, refl, sym, ℕ, zero, suc, ◌+◌, ◌<◌, ◌≤◌, ◌⊎◌, List, [], ◌∷◌, ◌++◌, All, Bool, true, false, not, cond, ◌||◌, ◌&&◌, length, set, take, drop, get_or, nat_le, nat_lt, bytes_eq, append_assoc, arith, inl, inr, subst}
-use Rattle.std.specs.Prelude.{filter}
+use Rattle.std.specs.Prelude.{Some, filter}
 use Rattle.std.specs.Borrow.{Bor}
 use Rattle.std.specs.Cmp.Lexicographic.{slice_cmp}
 use Rattle.std.specs.List.{HoldsAt, list_all, list_any}
@@ -28,7 +28,7 @@ use Rattle.seccomp_doc.specs.Filter.{EntryValue, FilterValue}
 use Rattle.seccomp_doc.specs.Meaning.{has_name}
 use Rattle.implication.specs.Implication.{entry_implies}
 use Rattle.widening.specs.Calls.{entry_rank, is_at_most_entries, is_at_most_possible, is_covered, is_default_covered, is_kept, is_plain, keeps_to, permits_no_more, rules_of}
-use Rattle.widening.specs.Groups.{AddsPlace, AddsUnder, AreWithin, HasSameElements, IsGrouping, entries_at, group_at, name_at, places_from, places_of}
+use Rattle.widening.specs.Groups.{AddsPlace, AddsUnder, AreWithin, HasSameElements, IsGrouping, IsPlaceAmong, entries_at, group_at, name_at, places_from, places_of}
 use Rattle.widening.specs.Ranks.{rules_with}
 use Rattle.widening.specs.Texts.{AreInOrder, texts_in}
 use Rattle.widening.proofs.Searches.{list_any-flat_map, or_none}
@@ -213,6 +213,14 @@ none_added names groups name place none = (
 
 pub found_at : (names : List (Bor (List ℕ))) (name : List ℕ) (at : ℕ) → HoldsAt (λ y. slice_cmp nat_cmp y.now name ≡ Equal) names at → name ≡ name_at names at
 found_at names name at holds = sym (exact_bytes (get_or names at nothing).now name (holds nothing)) ∙ shown_at names at nothing
+
+-- so is a name that stands at a place
+pub named_here : (names : List (Bor (List ℕ))) (name : List ℕ) (at : ℕ) (other : Bor (List ℕ)) → at < length names →
+    bytes_eq (get_or names at other).now name ≡ true → IsPlaceAmong names name (Some at)
+named_here names name at other within same = (
+  within,
+  sym ((bytes_eq-Decides (get_or names at other).now name).0 same) ∙ ap (λ (own : Bor (List ℕ)). own.now) (get_or_default names at other nothing within) ∙ shown_at names at nothing,
+)
 
 pub place_added : (groups : List (SmallVec ℕ)) (at : ℕ) (group : SmallVec ℕ) (after : List ℕ) (place : ℕ) → at < length groups →
     AddsPlace (get_or groups at group).items after place → AddsPlace (group_at groups at) after place

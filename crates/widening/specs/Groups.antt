@@ -1,6 +1,7 @@
 -- Entries grouped by the names of their calls, each told by its place in the filter.
-use Rattle.std.specs.Prelude.{◌≡◌, ℕ, ◌+◌, ◌<◌, List, [], ◌∷◌, Bool, ◌&&◌, ◌||◌, if◌then◌else◌}
-use Rattle.std.specs.Prelude.{bytes_eq, take, drop, flat_map, All, get_or, length}
+use Rattle.std.specs.Prelude.{◌≡◌, ℕ, ◌+◌, ◌<◌, List, [], ◌∷◌, Bool, false, ◌&&◌, ◌||◌}
+use Rattle.std.specs.Prelude.{if◌then◌else◌}
+use Rattle.std.specs.Prelude.{Option, Some, None, bytes_eq, take, drop, flat_map, All, get_or, length}
 use Rattle.std.specs.Borrow.{Bor}
 use Rattle.std.specs.List.{list_any}
 use Rattle.smallvec.specs.SmallVec.{SmallVec}
@@ -29,6 +30,12 @@ AreWithin entries places = All (λ place. place < length entries) places
 -- the name at a place
 abbrev pub name_at : List (Bor (List ℕ)) → ℕ → List ℕ
 name_at names at = get_or (texts_in names) at []
+
+-- the place of a name among the names; none, where the name isn't there
+abbrev pub IsPlaceAmong : List (Bor (List ℕ)) → List ℕ → Option ℕ → Type 0
+IsPlaceAmong names name (Some at) = (at < length names) × (name ≡ name_at names at)
+IsPlaceAmong names name None =
+    (at : ℕ) → at < length names → bytes_eq (name_at names at) name ≡ false
 
 -- the places in the group at a place
 abbrev pub group_at : List (SmallVec ℕ) → ℕ → List ℕ

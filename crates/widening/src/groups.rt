@@ -1,10 +1,11 @@
 // Entries grouped by the names of their calls.
 
-ghost use Rattle.std.specs.Prelude.{◌≡◌, ◌<◌, [], ◌∷◌, filter, length, IfOk, OnOk};
+ghost use Rattle.std.specs.Prelude.{◌≡◌, ◌<◌, [], ◌∷◌, Some, filter, length, IfOk, OnOk};
+ghost use Rattle.std.specs.Bool.{OnTrue};
 ghost use Rattle.seccomp_doc.specs.Meaning.{has_name};
 ghost use Rattle.widening.specs.Calls.{keeps_to};
 ghost use Rattle.widening.specs.Groups.{AddsPlace, AddsUnder, AreWithin, HasSameElements};
-ghost use Rattle.widening.specs.Groups.{IsGrouping, entries_at, name_at};
+ghost use Rattle.widening.specs.Groups.{IsGrouping, IsPlaceAmong, entries_at, name_at};
 ghost use Rattle.widening.specs.Memo.{IsMemo};
 ghost use Rattle.widening.specs.Ranks.{AreRanksOf, rules_with};
 ghost use Rattle.widening.specs.Texts.{AreInOrder};
@@ -179,47 +180,73 @@ fn add_entries(
     requires none { IsGrouping [] names.now groups.old }
     ensures { OnOk result (IsGrouping entries.now names.now groups.new) }
 {
+    let mut guess = 0;
     for place in 0..entries.len() {
-        add_entry(groups, names, &entries[place], place)?;
+        guess = add_entry(groups, names, &entries[place], place, guess)?;
     }
     Ok(())
 }
 
-// Adds the place of an entry under each of its names.
+// Adds the place of an entry under each of its names, and gives where the next name is looked for.
 fn add_entry(
     groups: &mut [SmallVec<usize, 1>],
     names: &[&str],
     entry: &Entry,
     place: usize,
-) -> Result<(), AllocError>
+    first_guess: usize,
+) -> Result<usize, AllocError>
     requires order { AreInOrder names.now }
     requires count { length groups.old ≡ length names.now }
     ensures { OnOk result (AddsUnder names.now groups.old groups.new entry.now.names place) }
 {
+    let mut guess = first_guess;
     for name in entry.names() {
-        add_under(groups, names, name.as_str(), place)?;
+        guess = add_under(groups, names, name.as_str(), place, guess)?;
     }
-    Ok(())
+    Ok(guess)
 }
 
-// Adds a place under a name, where it is among the names.
+// Adds a place under a name, where it is among the names, and gives where the next one is looked
+// for: long lists of names mostly stand in byte order.
 fn add_under(
     groups: &mut [SmallVec<usize, 1>],
     names: &[&str],
     name: &str,
     place: usize,
-) -> Result<(), AllocError>
+    guess: usize,
+) -> Result<usize, AllocError>
     requires order { AreInOrder names.now }
     requires count { length groups.old ≡ length names.now }
     ensures { OnOk result (AddsUnder names.now groups.old groups.new (name.now ∷ []) place) }
 {
-    match names.binary_search(&name) {
-        Ok(at) => {
+    match find_name(names, name, guess) {
+        Some(at) => {
             add_place(&mut groups[at], place)?;
-            Ok(())
+            Ok(at + 1)
         }
-        Err(_) => Ok(()),
+        None => Ok(guess),
     }
+}
+
+// The place of a name among the names, which is looked for at the guess first.
+fn find_name(names: &[&str], name: &str, guess: usize) -> Option<usize>
+    requires { AreInOrder names.now }
+    ensures { IsPlaceAmong names.now name.now result }
+{
+    if is_at(names, name, guess) {
+        return Some(guess);
+    }
+    match names.binary_search(&name) {
+        Ok(at) => Some(at),
+        Err(_) => None,
+    }
+}
+
+// Whether the name stands at this place.
+fn is_at(names: &[&str], name: &str, at: usize) -> bool
+    ensures { OnTrue result (IsPlaceAmong names.now name.now (Some at)) }
+{
+    at < names.len() && names[at] == name
 }
 
 // Adds a place, unless it is the last: an entry that has a name twice stands under it once.

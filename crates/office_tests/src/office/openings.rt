@@ -6,7 +6,7 @@ ghost use Rattle.office_store.specs.Shown.{IsIdle};
 
 use crate::office::founded::{founded, reopened};
 use office_desk::Office;
-use office_store::{FoundingFault, OpeningFault};
+use office_founding::{FoundingFault, OpeningFault};
 use review_policy::Fault;
 use sqlite::{Alter, Connection};
 use std::alloc::Global;

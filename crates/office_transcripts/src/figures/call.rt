@@ -7,10 +7,11 @@ use crate::figures::figure::{Figure, STRIDE, times_of};
 use crate::figures::sample::{Profiles, Sample, Sizes, body, samples};
 use anyhow::Result;
 use cap_sets::Caps;
+use office_founding::{OpeningFault, check_office, listed};
 use office_store::{
-    Ballot, OpeningFault, add_revision, authors, baseline, check_office, delete_hold, has_revision,
-    held, is_author, issued, last, listed, put_baseline, put_hold, put_user, put_vote, revision,
-    revisions_of, set_issued, set_withdrawn, standing, tally, user_by_name, user_by_token,
+    Ballot, add_revision, authors, baseline, delete_hold, has_revision, held, is_author, issued,
+    last, put_baseline, put_hold, put_user, put_vote, revision, revisions_of, set_issued,
+    set_withdrawn, standing, tally, user_by_name, user_by_token,
 };
 use office_tables::{RevisionRow, Tally};
 use review_policy::{Fault, State, Text};

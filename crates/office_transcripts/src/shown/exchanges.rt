@@ -6,7 +6,7 @@ use cap_sets::Caps;
 use desk_http::serve_one;
 use http_requests::OfficeRouter;
 use office_desk::Office;
-use office_store::FoundingFault;
+use office_founding::FoundingFault;
 use profile_text::digest;
 use review_policy::Word;
 use sqlite::{Connection, MemStore};

@@ -9,4 +9,4 @@ returns-clause-failed g c =
     let k = known c.args.host.now in
     failed_without _ _ _ c.found_and_close.result (ap option_copied c.in-None.is)
     (subst (λ (d : Described). IfErr c.found_and_close.result (IsUnfounded k.store k.databases c.args.words.now.database.now d))
-    (sym c.in-Ok.ensures.described) c.found_and_close.ensures.failed)
+    (sym c.in_ok-founding.ensures.described) c.found_and_close.ensures.failed)

@@ -1,7 +1,7 @@
 use Rattle.std.proofs.Common.{OnOk, subst}
 use Rattle.std.specs.Prelude.{IfErr}
 use Rattle.sqlite.specs.Held.{state}
-use Rattle.office_store.specs.Migration.{FailsToMigrate, IsMigration, WasOld}
+use Rattle.office_founding.specs.Migration.{FailsToMigrate, IsMigration, WasOld}
 use Rattle.changing_commands.proofs.migrate.migrate_at.Goals as goal
 
 pub returns-in-Ok-Ok-clause-migrated : goal.returns-in-Ok-Ok-clause-migrated

@@ -1,45 +1,48 @@
-use Rattle.std.proofs.Common.{inl, inr, refl, subst}
+use Rattle.std.proofs.Common.{rules, ◌≡◌, Err, inl, inr, refl, subst}
 use Rattle.command_host.specs.FailedCalls.{IsToldOf}
 use Rattle.command_host.specs.declared.fault.CommandFault.{CommandFault}
 use Rattle.changing_commands.proofs.rebuild.rebuild_at.Goals as goal
 
+pub returns-in_err-text-clause-failed : goal.returns-in_err-text-clause-failed
+returns-in_err-text-clause-failed g c =
+    let told : c.from_residual.result ≡ Err c.in_err-text.field-0.0 = search rules in
+    rw told (inl c.in_err-text.ensures.none)
+
 pub returns-in-Err-clause-failed : goal.returns-in-Err-clause-failed
-returns-in-Err-clause-failed g c = inl c.in-Err.ensures.none
+returns-in-Err-clause-failed g c = inr (inl (c.in-Err.fault, c.in-Err.ensures.fault, refl))
 
-pub returns-in-Err-open-clause-failed : goal.returns-in-Err-open-clause-failed
-returns-in-Err-open-clause-failed g c = inr (inl (c.in-Err-open.fault, c.in-Err-open.ensures.fault, refl))
-
-pub returns-in-Ok-close-clause-rebuilt : goal.returns-in-Ok-close-clause-rebuilt
-returns-in-Ok-close-clause-rebuilt g c =
+pub returns-in-Ok-rebuild_as_read-clause-rebuilt : goal.returns-in-Ok-rebuild_as_read-clause-rebuilt
+returns-in-Ok-rebuild_as_read-clause-rebuilt g c =
     let made = c.in-Ok-rebuild_as_read in
     record {
       text = _;
-      journal = c.in-Ok.ensures.text;
-      was = c.in-Ok-open.conn;
-      opened = c.in-Ok-open.ensures.opened;
+      journal = c.in_ok-text.ensures.text;
+      was = c.in-Ok.conn;
+      opened = c.in-Ok.ensures.opened;
       empty = made.ensures.empty;
       office = made.rebuilt.office;
       rebuilt = made.ensures.built;
-      closed = c.in-Ok-close.ensures.closed;
+      closed = c.in_ok-close-in-Ok-rebuild_as_read.ensures.closed;
     }
 
-pub returns-in-Ok-rebuild_as_read-clause-failed : goal.returns-in-Ok-rebuild_as_read-clause-failed
-returns-in-Ok-rebuild_as_read-clause-failed g c =
-    let made = c.in-Ok-rebuild_as_read in
+pub returns-in_err-close-in-Ok-rebuild_as_read-clause-failed : goal.returns-in_err-close-in-Ok-rebuild_as_read-clause-failed
+returns-in_err-close-in-Ok-rebuild_as_read-clause-failed g c =
+    let told : c.from_residual-in_err-close-in-Ok-rebuild_as_read.result ≡ Err c.in_err-close-in-Ok-rebuild_as_read.field-0.0 = search rules in
+    rw told (let made = c.in-Ok-rebuild_as_read in
     inr (inr (inr (
       record { events = made.rebuilt.events; seal = made.rebuilt.seal },
       record {
         text = _;
-        journal = c.in-Ok.ensures.text;
-        was = c.in-Ok-open.conn;
-        opened = c.in-Ok-open.ensures.opened;
+        journal = c.in_ok-text.ensures.text;
+        was = c.in-Ok.conn;
+        opened = c.in-Ok.ensures.opened;
         empty = made.ensures.empty;
         office = made.rebuilt.office;
         rebuilt = made.ensures.built;
-        closed = c.in-Err-close.ensures.ended;
+        closed = c.in_err-close-in-Ok-rebuild_as_read.ensures.ended;
       },
-      c.in-Err-close.ensures.fault,
-    )))
+      c.in_err-close-in-Ok-rebuild_as_read.ensures.fault,
+    ))))
 
 pub returns-clause-failed : goal.returns-clause-failed
 returns-clause-failed g c =
@@ -48,10 +51,10 @@ returns-clause-failed g c =
       refused.refused,
       record {
         text = _;
-        journal = c.in-Ok.ensures.text;
-        was = c.in-Ok-open.conn;
+        journal = c.in_ok-text.ensures.text;
+        was = c.in-Ok.conn;
         left = refused.conn;
-        opened = c.in-Ok-open.ensures.opened;
+        opened = c.in-Ok.ensures.opened;
         unbuilt = refused.ensures.unbuilt;
         closed = (c.close-in-Err-rebuild_as_read.result, c.close-in-Err-rebuild_as_read.ensures.ended);
       },

@@ -1,16 +1,18 @@
-use Rattle.std.proofs.Common.{inl}
+use Rattle.std.proofs.Common.{rules, ◌≡◌, Err, inl}
 use Rattle.command_host.specs.Outside.{known}
 use Rattle.changing_commands.proofs.KeptFacts.{was_kept}
 use Rattle.changing_commands.proofs.ServingFacts.{begun_with, served_all}
 use Rattle.changing_commands.proofs.serve.serve_kept.Goals as goal
 
-pub returns-in-Err : goal.returns-in-Err
-returns-in-Err g c = inl c.in-Err.ensures.fault
+pub returns-in_err-kept : goal.returns-in_err-kept
+returns-in_err-kept g c =
+    let told : c.from_residual.result ≡ Err c.in_err-kept.field-0.0 = search rules in
+    rw told (inl c.in_err-kept.ensures.fault)
 
 pub returns : goal.returns
 returns g c =
     let k = known c.args.host.now in
-    was_kept k.store k.log _ k.databases _ _ _ c.in-Ok.kept c.serve_bound-served.new.office c.in-Ok.ensures.opened
+    was_kept k.store k.log _ k.databases _ _ _ c.in_ok-kept.kept c.serve_bound-served.new.office c.in_ok-kept.ensures.opened
     c.serve_bound-served.result c.close_kept-closed.result c.first_fault.result
     (served_all _ _ _ _ _ _ _ _ _ _ c.serve_bound-served.result c.serve_bound-served.ensures)
     (begun_with _ _ _ _ _ _ _ _ _ _ c.serve_bound-served.result c.serve_bound-served.ensures)

@@ -1,6 +1,6 @@
 use Rattle.std.proofs.Common.{refl}
 use Rattle.serde_json.specs.Data.{string}
-use Rattle.json_tree.proofs.Writing.{after_last, last, leaves_all, list_tokens, wrote}
+use Rattle.json_tree.proofs.Writing.{after_last, leaves_all, list_tokens}
 use Rattle.journal.specs.Lines.{words_among}
 use Rattle.journal.proofs.TextFacts.{role_written, roles_written}
 use Rattle.journal.proofs.members.write_among.Goals as goal
@@ -13,5 +13,5 @@ loop-role-preserved c = role_written c.args.roles c.args.among.now c.loop-role.r
 
 pub returns : goal.returns
 returns c =
-    rw (list_tokens string (words_among c.args.roles c.args.among.now)) (after_last _ _ _ (wrote c.in_ok-begin_array.ensures)
-    (after_last _ _ _ (roles_written c.args.roles c.args.among.now c.loop-role.role-index c.loop-role-test.false c.loop-role.invariant) (last _ c.end_array.ensures)))
+    rw (list_tokens string (words_among c.args.roles c.args.among.now)) (after_last _ _ _ c.in_ok-begin_array.ensures
+    (after_last _ _ _ (roles_written c.args.roles c.args.among.now c.loop-role.role-index c.loop-role-test.false c.loop-role.invariant) c.end_array.ensures))

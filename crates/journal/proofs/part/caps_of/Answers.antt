@@ -1,7 +1,7 @@
 use Rattle.std.proofs.Common.{◌∙◌, ◌+◌, ap, drop, sym}
 use Rattle.std.specs.Int.Bits.{or_zero_r}
 use Rattle.std.specs.Int.RustNames.{bit_or}
-use Rattle.serde_json.specs.View.{items_view, view}
+use Rattle.json_tree.specs.View.{items_view, view}
 use Rattle.profile_text.proofs.Bits.{or_assoc}
 use Rattle.profile_text.proofs.WalkFacts.{caps_end, caps_more}
 use Rattle.profile_text.specs.Sets.{cap_of, caps_of}

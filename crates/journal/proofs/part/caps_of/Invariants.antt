@@ -1,6 +1,6 @@
 use Rattle.std.proofs.Common.{◌≡◌, drop}
 use Rattle.std.specs.Int.RustNames.{bit_or}
-use Rattle.serde_json.specs.View.{items_view}
+use Rattle.json_tree.specs.View.{items_view}
 use Rattle.profile_text.specs.Sets.{caps_of}
 use Rattle.journal.proofs.part.caps_of.Given as goal
 

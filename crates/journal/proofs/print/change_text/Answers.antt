@@ -6,4 +6,4 @@ use Rattle.journal.proofs.print.change_text.Goals as goal
 pub returns-clause-text : goal.returns-clause-text
 unfolding text_of
 returns-clause-text c =
-    text_is (event_data (event_by c.args.caller.now c.args.change.now)) c.new-out.ensures.tokens c.in_ok-write_change.ensures c.written_text.ensures
+    text_is (event_data (event_by c.args.caller.now c.args.change.now)) c.in_ok-out.ensures c.in_ok-write_change.ensures c.written_text.ensures

@@ -5,4 +5,4 @@ use Rattle.journal.proofs.print.text.Goals as goal
 
 pub returns : goal.returns
 unfolding text_of
-returns c = text_is (line_data (shown c.args.line.now)) c.new-out.ensures.tokens c.in_ok-write_line.ensures c.written_text.ensures
+returns c = text_is (line_data (shown c.args.line.now)) c.in_ok-out.ensures c.in_ok-write_line.ensures c.written_text.ensures

@@ -1,7 +1,7 @@
-use Rattle.json_tree.proofs.Writing.{after_last, last, wrote}
+use Rattle.json_tree.proofs.Writing.{after_last}
 use Rattle.journal.proofs.print.write_submission.Goals as goal
 
 pub returns : goal.returns
 returns c =
-    after_last _ _ _ (wrote c.in_ok-begin_object.ensures) (after_last _ _ _ (rw c.as_str.ensures.text at c.in_ok-write_text.ensures) (after_last _ _ _ (rw c.as_str-2.ensures at c.in_ok-write_text-2.ensures)
-    (after_last _ _ _ c.in_ok-write_kind.ensures (after_last _ _ _ c.in_ok-write_profile.ensures (last _ c.end_object.ensures)))))
+    after_last _ _ _ c.in_ok-begin_object.ensures (after_last _ _ _ (rw c.as_str.ensures.text at c.in_ok-write_text.ensures) (after_last _ _ _ (rw c.as_str-2.ensures at c.in_ok-write_text-2.ensures)
+    (after_last _ _ _ c.in_ok-write_kind.ensures (after_last _ _ _ c.in_ok-write_profile.ensures c.end_object.ensures))))

@@ -1,4 +1,4 @@
-use Rattle.std.proofs.Common.{◌∙◌, ◌∷◌, [], ℕ, List, sym, subst}
+use Rattle.std.proofs.Common.{rules, ◌≡◌, Err, ◌∙◌, ◌∷◌, [], ℕ, List, sym, subst}
 use Rattle.office_desk.specs.Meant.{meaning_over}
 use Rattle.journal.specs.Told.{place, placed_meant}
 use Rattle.journal_office.specs.Rebuilt.{IsRebuilt, IsRefused}
@@ -6,34 +6,35 @@ use Rattle.journal_office.proofs.Refusals.{none_behind}
 use Rattle.journal_office.proofs.Unlawful.{refutes}
 use Rattle.journal_office.proofs.office.rebuild.Goals as goal
 
-pub returns-in-Err-clause-unlawful : goal.returns-in-Err-clause-unlawful
-returns-in-Err-clause-unlawful g c =
-    let refusal = c.in-Err.refusal in
-    refutes g.S.Store (g.R.Read.remaining c.args.journal) c.args.conn refusal.1 refusal.0.line refusal.0.why c.in-Err.ensures.refused
+pub returns-in_err-replay-clause-unlawful : goal.returns-in_err-replay-clause-unlawful
+returns-in_err-replay-clause-unlawful g c =
+    let told : c.from_residual.result ≡ Err c.in_err-replay.field-0.0 = search rules in
+    rw told (let refusal = c.in_err-replay.field-0.0 in
+    refutes g.S.Store (g.R.Read.remaining c.args.journal) c.args.conn refusal.1 refusal.0.line refusal.0.why c.in_err-replay.ensures.refused)
 
-pub returns-in-Ok-replayed-clause-rebuilt : goal.returns-in-Ok-replayed-clause-rebuilt
-returns-in-Ok-replayed-clause-rebuilt g c =
+pub returns-in-Ok-clause-rebuilt : goal.returns-in-Ok-clause-rebuilt
+returns-in-Ok-clause-rebuilt g c =
     let bytes = g.R.Read.remaining c.args.journal in
-    let rebuilt = c.in-Ok-replayed.ensures bytes (placed_meant c.in-Ok.begun.1 ∷ []) c.in-Ok.ensures.begun (sym c.in-Ok.ensures.count) in
+    let rebuilt = c.in-Ok.ensures bytes (placed_meant c.in_ok-replay.first ∷ []) c.in_ok-replay.ensures.begun (sym c.in_ok-replay.ensures.count) in
     let m = meaning_over g.S.Store in
     let office = c.into_office-office.result in
     subst (λ (n : ℕ). IsRebuilt bytes m n c.seal-seal.result office) (sym c.count-events.ensures)
     (subst (λ (s : List ℕ). IsRebuilt bytes m c.replay_rest-replayed.new.replay.count s office) (sym c.seal-seal.ensures)
     (subst (λ o. IsRebuilt bytes m c.replay_rest-replayed.new.replay.count (place g.R.Read.remaining c.replay_rest-replayed.new.replay.events).seal o) (sym c.into_office-office.ensures) rebuilt))
 
-pub returns-in-Err-replayed-clause-rebuilt : goal.returns-in-Err-replayed-clause-rebuilt
-returns-in-Err-replayed-clause-rebuilt g c =
+pub returns-in-Err-clause-rebuilt : goal.returns-in-Err-clause-rebuilt
+returns-in-Err-clause-rebuilt g c =
     let bytes = g.R.Read.remaining c.args.journal in
-    let refused = c.in-Err-replayed.refused in
-    let behind = c.in-Err-replayed.ensures bytes (placed_meant c.in-Ok.begun.1 ∷ []) c.in-Ok.ensures.begun (sym c.in-Ok.ensures.count) in
+    let refused = c.in-Err.refused in
+    let behind = c.in-Err.ensures bytes (placed_meant c.in_ok-replay.first ∷ []) c.in_ok-replay.ensures.begun (sym c.in_ok-replay.ensures.count) in
     subst (λ left. IsRefused bytes g.S.Store c.args.conn left refused.line refused.why) (sym (c.into_connection.ensures.connection ∙ c.into_office-office.ensures))
     (none_behind g.S.Store bytes c.args.conn c.replay_rest-replayed.new.replay.office refused.line refused.why behind)
 
-pub returns-in-Err-replayed-clause-unlawful : goal.returns-in-Err-replayed-clause-unlawful
-returns-in-Err-replayed-clause-unlawful g c =
+pub returns-in-Err-clause-unlawful : goal.returns-in-Err-clause-unlawful
+returns-in-Err-clause-unlawful g c =
     let bytes = g.R.Read.remaining c.args.journal in
-    let refused = c.in-Err-replayed.refused in
-    let behind = c.in-Err-replayed.ensures bytes (placed_meant c.in-Ok.begun.1 ∷ []) c.in-Ok.ensures.begun (sym c.in-Ok.ensures.count) in
+    let refused = c.in-Err.refused in
+    let behind = c.in-Err.ensures bytes (placed_meant c.in_ok-replay.first ∷ []) c.in_ok-replay.ensures.begun (sym c.in_ok-replay.ensures.count) in
     refutes g.S.Store bytes c.args.conn c.into_connection.result refused.line refused.why
     (subst (λ left. IsRefused bytes g.S.Store c.args.conn left refused.line refused.why) (sym (c.into_connection.ensures.connection ∙ c.into_office-office.ensures))
     (none_behind g.S.Store bytes c.args.conn c.replay_rest-replayed.new.replay.office refused.line refused.why behind))

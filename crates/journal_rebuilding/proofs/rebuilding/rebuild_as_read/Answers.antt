@@ -1,20 +1,22 @@
-use Rattle.std.proofs.Common.{◌∙◌, ◌+◌, ◌-◌, ◌^◌, ℕ, List, min, ap, ap₂, inl, inr, subst, sym}
+use Rattle.std.proofs.Common.{rules, ◌≡◌, Err, ◌∙◌, ◌+◌, ◌-◌, ◌^◌, ℕ, List, min, ap, ap₂, inl, inr, subst, sym}
 use Rattle.office_desk.specs.Meant.{meaning_over}
 use Rattle.journal.specs.Told.{place, placed_meant}
 use Rattle.journal_office.specs.Rebuilt.{IsRebuilt}
 use Rattle.journal_rebuilding.specs.Rebuilding.{IsHalted}
 use Rattle.journal_rebuilding.proofs.rebuilding.rebuild_as_read.Goals as goal
 
-pub returns-in-Err-clause-unbuilt : goal.returns-in-Err-clause-unbuilt
-returns-in-Err-clause-unbuilt g c = inl c.in-Err.ensures.unbegun
+pub returns-in_err-replay-clause-unbuilt : goal.returns-in_err-replay-clause-unbuilt
+returns-in_err-replay-clause-unbuilt g c =
+    let told : c.from_residual.result ≡ Err c.in_err-replay.field-0.0 = search rules in
+    rw told (inl c.in_err-replay.ensures.unbegun)
 
-pub returns-in-Ok-rebuilt-clause-built : goal.returns-in-Ok-rebuilt-clause-built
-returns-in-Ok-rebuilt-clause-built g c =
+pub returns-in-Ok-clause-built : goal.returns-in-Ok-clause-built
+returns-in-Ok-clause-built g c =
     let bytes = g.R.Read.remaining c.args.journal in
     let m = meaning_over g.S.Store in
-    let count = (c.rebuild_behind-rebuilt.new.replay.count - c.in-Ok.begun.0.count) + 1 in
+    let count = (c.rebuild_behind-rebuilt.new.replay.count - c.in_ok-replay.replay.count) + 1 in
     let end = (place g.R.Read.remaining c.rebuild_behind-rebuilt.new.replay.events).seal in
-    let built = c.in-Ok-rebuilt.ensures bytes (placed_meant c.in-Ok.begun.1) c.in-Ok.ensures.told c.in-Ok.ensures.founding c.in-Ok.ensures.stands in
+    let built = c.in-Ok.ensures bytes (placed_meant c.in_ok-replay.first) c.in_ok-replay.ensures.told c.in_ok-replay.ensures.founding c.in_ok-replay.ensures.stands in
     record {
       count = count;
       rebuilt = subst (λ (s : List ℕ). IsRebuilt bytes m count s c.into_office-office.result) (sym c.seal-seal.ensures)
@@ -23,13 +25,13 @@ returns-in-Ok-rebuilt-clause-built g c =
           ∙ ap (λ (n : ℕ). min (n + 1) (2 ^ 64 - 1)) (c.saturating_sub.ensures ∙ ap₂ (λ (a b : ℕ). a - b) c.count.ensures c.count-before.ensures);
     }
 
-pub returns-in-Err-rebuilt-clause-unbuilt : goal.returns-in-Err-rebuilt-clause-unbuilt
-returns-in-Err-rebuilt-clause-unbuilt g c =
+pub returns-in-Err-clause-unbuilt : goal.returns-in-Err-clause-unbuilt
+returns-in-Err-clause-unbuilt g c =
     let bytes = g.R.Read.remaining c.args.journal in
     let m = meaning_over g.S.Store in
-    let refused = c.in-Err-rebuilt.refused in
+    let refused = c.in-Err.refused in
     inr (
-      c.in-Ok.ensures.empty,
+      c.in_ok-replay.ensures.empty,
       subst (λ left. IsHalted bytes m left refused.line refused.why) (sym (c.into_connection.ensures.connection ∙ c.into_office-office.ensures))
-          (c.in-Err-rebuilt.ensures bytes (placed_meant c.in-Ok.begun.1) c.in-Ok.ensures.told c.in-Ok.ensures.founding c.in-Ok.ensures.stands),
+          (c.in-Err.ensures bytes (placed_meant c.in_ok-replay.first) c.in_ok-replay.ensures.told c.in_ok-replay.ensures.founding c.in_ok-replay.ensures.stands),
     )

@@ -1,4 +1,4 @@
-use Rattle.std.proofs.Common.{◌-◌, ◌∷◌, [], refl, subst}
+use Rattle.std.proofs.Common.{rules, ◌≡◌, Err, ◌-◌, ◌∷◌, [], refl, subst}
 use Rattle.std.specs.Io.KnownBytes.{Appends}
 use Rattle.office_desk.specs.Meant.{meaning_over}
 use Rattle.journal.specs.Told.{place, placed_meant, start}
@@ -17,8 +17,8 @@ returns-in-None g c = λ bytes first stands.
     let placed = placed_meant c.args.first in
     c.write_rest.ensures bytes from (placed ∷ [])
     (first_written (meaning_over g.S.Store) bytes c.args.filter.now from mid (g.W.Write.contents c.write_first.new.output.inner) here placed c.args.replay.now.office c.requires.founding stands
-    (subst (λ n. Appends from mid (struck_lines c.args.filter.now 0 (n - 0))) c.saturating_sub.ensures c.in-Ok.ensures)
-    (subst (λ halt. IsFirstRead (start bytes) here placed halt) c.in-None.is first) c.in-Ok-write_first.ensures)
+    (subst (λ n. Appends from mid (struck_lines c.args.filter.now 0 (n - 0))) c.saturating_sub.ensures c.in_ok-write_struck.ensures)
+    (subst (λ halt. IsFirstRead (start bytes) here placed halt) c.in-None.is first) c.in_ok-write_first.ensures)
     refl
 
 pub returns-in-Some : goal.returns-in-Some
@@ -28,24 +28,28 @@ returns-in-Some g c = λ bytes first stands.
     let here = place g.R.Read.remaining c.args.replay.now.events in
     let placed = placed_meant c.args.first in
     first_cut (meaning_over g.S.Store) bytes c.args.filter.now from mid (g.W.Write.contents c.write_first.new.output.inner) here placed c.args.replay.now.office c.requires.founding stands
-    (subst (λ n. Appends from mid (struck_lines c.args.filter.now 0 (n - 0))) c.saturating_sub.ensures c.in-Ok.ensures)
-    c.in-Some.refused.line c.in-Some.refused.why (subst (λ halt. IsFirstRead (start bytes) here placed halt) c.in-Some.is first) c.in-Ok-write_first.ensures
+    (subst (λ n. Appends from mid (struck_lines c.args.filter.now 0 (n - 0))) c.saturating_sub.ensures c.in_ok-write_struck.ensures)
+    c.in-Some.refused.line c.in-Some.refused.why (subst (λ halt. IsFirstRead (start bytes) here placed halt) c.in-Some.is first) c.in_ok-write_first.ensures
 
-pub returns-in-Err-write_first : goal.returns-in-Err-write_first
-returns-in-Err-write_first g c = λ bytes first stands.
+pub returns-in_err-write_first : goal.returns-in_err-write_first
+returns-in_err-write_first g c =
+    let told : c.from_residual-in_err-write_first.result ≡ Err c.in_err-write_first.field-0.0 = search rules in
+    rw told (λ bytes first stands.
     let from = g.W.Write.contents c.args.output.now.inner in
     let mid = g.W.Write.contents c.write_struck.new.output.inner in
     let here = place g.R.Read.remaining c.args.replay.now.events in
     let placed = placed_meant c.args.first in
     first_stopped (meaning_over g.S.Store) bytes c.args.filter.now from mid (g.W.Write.contents c.write_first.new.output.inner) here placed c.args.replay.now.office c.requires.founding stands
-    (subst (λ n. Appends from mid (struck_lines c.args.filter.now 0 (n - 0))) c.saturating_sub.ensures c.in-Ok.ensures)
-    (first_comes (start bytes) here placed c.args.halt first) c.in-Err-write_first.why c.in-Err-write_first.ensures
+    (subst (λ n. Appends from mid (struck_lines c.args.filter.now 0 (n - 0))) c.saturating_sub.ensures c.in_ok-write_struck.ensures)
+    (first_comes (start bytes) here placed c.args.halt first) c.in_err-write_first.field-0.0 c.in_err-write_first.ensures)
 
-pub returns-in-Err : goal.returns-in-Err
-returns-in-Err g c = λ bytes first stands.
+pub returns-in_err-write_struck : goal.returns-in_err-write_struck
+returns-in_err-write_struck g c =
+    let told : c.from_residual.result ≡ Err c.in_err-write_struck.field-0.0 = search rules in
+    rw told (λ bytes first stands.
     let from = g.W.Write.contents c.args.output.now.inner in
     let mid = g.W.Write.contents c.write_struck.new.output.inner in
     let here = place g.R.Read.remaining c.args.replay.now.events in
     let placed = placed_meant c.args.first in
-    none_first (meaning_over g.S.Store) bytes c.args.filter.now from mid placed c.args.replay.now.office (first_comes (start bytes) here placed c.args.halt first) c.in-Err.why
-    (subst (λ n. WritesPart from mid (struck_lines c.args.filter.now 0 (n - 0)) c.in-Err.why) c.saturating_sub.ensures c.in-Err.ensures)
+    none_first (meaning_over g.S.Store) bytes c.args.filter.now from mid placed c.args.replay.now.office (first_comes (start bytes) here placed c.args.halt first) c.in_err-write_struck.field-0.0
+    (subst (λ n. WritesPart from mid (struck_lines c.args.filter.now 0 (n - 0)) c.in_err-write_struck.field-0.0) c.saturating_sub.ensures c.in_err-write_struck.ensures))

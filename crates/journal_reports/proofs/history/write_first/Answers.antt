@@ -1,12 +1,13 @@
-use Rattle.std.proofs.Common.{refl}
+use Rattle.std.proofs.Common.{rules, ◌≡◌, Err, refl}
 use Rattle.std.specs.Prelude.{string_bytes}
 use Rattle.journal_reports.proofs.Writing.{first_none, first_text}
 use Rattle.journal_reports.proofs.history.write_first.Goals as goal
 
-pub returns-in-Ok : goal.returns-in-Ok
-returns-in-Ok g c =
-    first_text (g.W.Write.contents c.args.output.now.inner) (g.W.Write.contents c.write_line.new.output.inner) (string_bytes c.in-Ok.line) _ c.write_line.result c.in-Ok.ensures.line c.write_line.ensures
+pub returns : goal.returns
+returns g c =
+    first_text (g.W.Write.contents c.args.output.now.inner) (g.W.Write.contents c.write_line.new.output.inner) (string_bytes c.in_ok-made.field-0) _ c.write_line.result c.in_ok-made.ensures.line c.write_line.ensures
 
-pub returns-in-Err : goal.returns-in-Err
-returns-in-Err g c =
-    first_none (g.W.Write.contents c.args.output.now.inner) (g.W.Write.contents c.args.output.now.inner) _ c.in-Err.why c.in-Err.ensures.none refl
+pub returns-in_err-made : goal.returns-in_err-made
+returns-in_err-made g c =
+    let told : c.from_residual.result ≡ Err c.in_err-made.field-0.0 = search rules in
+    rw told (first_none (g.W.Write.contents c.args.output.now.inner) (g.W.Write.contents c.args.output.now.inner) _ c.in_err-made.field-0.0 c.in_err-made.ensures.none refl)

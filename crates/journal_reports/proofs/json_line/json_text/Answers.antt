@@ -9,5 +9,5 @@ pub returns : goal.returns
 unfolding json_of
 returns c =
     let d = data_of c.args.placed.now.line (event_meant c.args.placed.now.event) c.args.found.now in
-    let written = text_is d c.new-out.ensures.tokens c.in_ok-write_event.ensures c.written_text-text.ensures in
+    let written = text_is d c.in_ok-out.ensures c.in_ok-write_event.ensures c.written_text-text.ensures in
     c.in_ok-push.ensures.bytes ∙ ap (λ e. string_bytes c.written_text-text.result ++ e) (c.in_ok-push.ensures.ascii (omega arith)) ∙ ap (λ t. t ++ 10 ∷ []) written

@@ -4,7 +4,8 @@ use Rattle.memory_database.specs.MemoryStore.{MemoryStore, over_memory}
 use Rattle.memory_database.proofs.MemoryFacts.{memory_is_clean}
 use Rattle.office_policy.specs.TablesOf.{tables_of}
 use Rattle.journal_verification.specs.Compared.{Differs}
-use Rattle.journal_verification.proofs.Verifying.{looked_itself, not_rebuilt, other, still_shows, verified}
+use Rattle.journal_verification.proofs.Looks.{looked_itself}
+use Rattle.journal_verification.proofs.Verifying.{not_rebuilt, other, still_shows, verified}
 use Rattle.journal_verification.proofs.verification.verify.Goals as goal
 
 pub returns-in-Ok-None-clause-verified : goal.returns-in-Ok-None-clause-verified

@@ -1,6 +1,6 @@
 use Rattle.std.proofs.Common.{◌≡◌, drop, option_map}
 use Rattle.std.specs.Int.RustNames.{bit_or}
-use Rattle.serde_json.specs.View.{items_view}
+use Rattle.json_tree.specs.View.{items_view}
 use Rattle.json_requests.specs.Members.{roles_of}
 use Rattle.json_requests.proofs.member.roles_in.Given as goal
 

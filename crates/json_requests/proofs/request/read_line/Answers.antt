@@ -1,3 +1,4 @@
+use Rattle.std.proofs.Common.{◌∙◌, Err, ap}
 use Rattle.json_requests.proofs.RequestFacts.{asked_is, line_is, line_is_none, line_reads}
 use Rattle.json_requests.proofs.request.read_line.Goals as goal
 
@@ -8,11 +9,10 @@ pub returns-in-Ok-clause-asked : goal.returns-in-Ok-clause-asked
 returns-in-Ok-clause-asked c =
     λ small. rw (asked_is c.args.line.now small, line_is c.args.line.now _ c.in-Ok.ensures.ok.0 c.in-Ok.ensures.ok.1) (line_reads _ _ c.request_of.ensures)
 
-pub returns-else-is_memory-clause-request : goal.returns-else-is_memory-clause-request
-returns-else-is_memory-clause-request c =
-    line_is_none c.args.line.now (λ text. c.in-Err.ensures.err (λ memory. let yes = c.is_memory.ensures.1 memory in let no = c.if-is_memory.false in cc) text)
+pub returns-in-Err-NotJson-clause-request : goal.returns-in-Err-NotJson-clause-request
+returns-in-Err-NotJson-clause-request c = line_is_none c.args.line.now (λ text. c.from_slice.ensures.not_json (c.in-Err-NotJson.is ∙ ap Err c.in-Err-NotJson.field-0-is) text)
 
-pub returns-else-is_memory-clause-asked : goal.returns-else-is_memory-clause-asked
-returns-else-is_memory-clause-asked c =
+pub returns-in-Err-NotJson-clause-asked : goal.returns-in-Err-NotJson-clause-asked
+returns-in-Err-NotJson-clause-asked c =
     λ small. rw (asked_is c.args.line.now small)
-    (line_is_none c.args.line.now (λ text. c.in-Err.ensures.err (λ memory. let yes = c.is_memory.ensures.1 memory in let no = c.if-is_memory.false in cc) text))
+    (line_is_none c.args.line.now (λ text. c.from_slice.ensures.not_json (c.in-Err-NotJson.is ∙ ap Err c.in-Err-NotJson.field-0-is) text))

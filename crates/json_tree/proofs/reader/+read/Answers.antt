@@ -6,7 +6,7 @@ use Rattle.json.proofs.Grammar.{value_is, value-begin_array, value-begin_object,
 use Rattle.serde_json.specs.Data.{null, boolean, number, string, array, object}
 use Rattle.serde_json.specs.Read.{of_json, of_items, of_members, converted}
 use Rattle.json_tree.specs.Gathered.{gathered_view}
-use Rattle.json_tree.specs.View.{view, number_view}
+use Rattle.json_tree.specs.View.{view, items_view, members_view, number_view}
 use Rattle.json_tree.specs.declared.tree.Tree.{String, Number, Bool, Null, the_lemmas}
 use Rattle.json_tree.proofs.Views.{view-Array, view-Object}
 use Rattle.json_tree.proofs.Reading.{converted-array, converted-object, item_read, item_refused, items_over, member_read, member_refused, key_refused, members_over, items_before, items_before-no_items, one_more_item, none_before}
@@ -100,7 +100,7 @@ read-returns-in_ok-read_members-in-BeginObject-clause-ok t c =
 pub read_items-items-init : goal.read_items-items-init
 read_items-items-init t c =
     let all = converted of_items (items (value c.args.depth) (length c.args.reader.now) c.args.reader.now) in
-    (length c.args.reader.now, omega arith, none_before all ∙ ap (λ vs. parse_map (items_before vs) all) (sym c.new-found.ensures.items), omega arith)
+    (length c.args.reader.now, omega arith, none_before all ∙ ap (λ vs. parse_map (items_before vs) all) (sym c.start-found.ensures), omega arith)
 
 pub read_items-returns-in_err-item-clause-not_json : goal.read_items-returns-in_err-item-clause-not_json
 read_items-returns-in_err-item-clause-not_json t c refused =
@@ -134,7 +134,7 @@ read_items-returns-clause-ok t c =
     let l = c.items in
     let n = l.invariant.0 in
     let r = c.take_end_array.new.self in
-    l.invariant.2 ∙ ap (parse_map (items_before l.found.items)) (items_over p n l.reader r l.invariant.1 (grind arith)) ∙ ap (λ ds. Some (ds, r)) (items_before-no_items l.found.items)
+    l.invariant.2 ∙ ap (parse_map (items_before l.found.items)) (items_over p n l.reader r l.invariant.1 (grind arith)) ∙ ap (λ ds. Some (ds, r)) (items_before-no_items l.found.items ∙ ap items_view (sym c.in_ok-kept.ensures))
 
 pub read_members-members-init : goal.read_members-members-init
 read_members-members-init t c =
@@ -182,4 +182,4 @@ pub read_members-returns-clause-ok : goal.read_members-returns-clause-ok
 read_members-returns-clause-ok t c =
     let l = c.members in
     let r = c.next_key.new.self in
-    l.invariant.3 ∙ members_over (value c.args.depth) (gathered_view l.found) l.invariant.1 l.reader r l.invariant.2 (grind arith) ∙ ap (λ ms. Some (ms, r)) (sym c.in_ok-list.ensures)
+    l.invariant.3 ∙ members_over (value c.args.depth) (gathered_view l.found) l.invariant.1 l.reader r l.invariant.2 (grind arith) ∙ ap (λ ms. Some (ms, r)) (sym (ap members_view c.in_ok-kept.ensures ∙ c.in_ok-list.ensures))

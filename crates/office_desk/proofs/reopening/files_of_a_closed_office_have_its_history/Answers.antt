@@ -1,5 +1,5 @@
 use Rattle.office_policy.specs.TablesOf.{tables_of}
-use Rattle.office_store.proofs.Reopened.{closed_holds, crashed_holds}
+use Rattle.office_founding.proofs.Reopened.{closed_holds, crashed_holds}
 use Rattle.office_desk.proofs.reopening.files_of_a_closed_office_have_its_history.Goals as goal
 
 pub returns-clause-now : goal.returns-clause-now

@@ -1,5 +1,5 @@
 use Rattle.office_policy.specs.TablesOf.{tables_of}
-use Rattle.office_store.proofs.Reopened.{found_shows}
+use Rattle.office_founding.proofs.Reopened.{found_shows}
 use Rattle.office_desk.proofs.reopening.opened_files_of_a_history_are_its_office.Goals as goal
 
 pub returns : goal.returns

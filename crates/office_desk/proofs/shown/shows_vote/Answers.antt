@@ -1,5 +1,5 @@
 use Rattle.sqlite.specs.Held.{state}
-use Rattle.office_desk.proofs.Judging.{read_left, read_both, second_fails}
+use Rattle.office_judging.proofs.Judging.{read_left, read_both, second_fails}
 use Rattle.office_desk.proofs.Looking.{vote_shown}
 use Rattle.office_desk.proofs.shown.shows_vote.Goals as goal
 

@@ -5,4 +5,4 @@ use Rattle.profile_text.proofs.document.parts_of.Goals as goal
 
 pub returns-in-Object : goal.returns-in-Object
 unfolding document_faults document_parts
-returns-in-Object c = rw (c.in-Object.is, view-Object c.in-Object.members) (rw c.deref.ensures.value at c.parts_in.ensures)
+returns-in-Object c = rw (c.in-Object.is, view-Object c.in-Object.members) c.parts_in.ensures

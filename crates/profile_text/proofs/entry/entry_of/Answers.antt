@@ -5,4 +5,4 @@ use Rattle.profile_text.proofs.entry.entry_of.Goals as goal
 
 pub returns-in-Object : goal.returns-in-Object
 unfolding entry_in table_faults
-returns-in-Object c = rw (c.in-Object.is, view-Object c.in-Object.members) (rw c.deref.ensures.value at c.entry_at.ensures)
+returns-in-Object c = rw (c.in-Object.is, view-Object c.in-Object.members) c.entry_at.ensures

@@ -3,7 +3,7 @@ use Rattle.std.specs.Prelude.{codes}
 use Rattle.seccomp_doc.specs.declared.compare.Compare.{Compare}
 use Rattle.seccomp_doc.specs.declared.compare.Op.TheVariants.{NotEqual}
 use Rattle.profile_text.specs.Text.{arg_data}
-use Rattle.json_tree.proofs.Writing.{item_written, items_written, last, leaves_all, nothing, after_last, wrote}
+use Rattle.json_tree.proofs.Writing.{item_written, items_written, leaves_all, nothing, after_last}
 use Rattle.profile_text.proofs.Writing.{none_tokens, not_empty, some_tokens}
 use Rattle.profile_text.proofs.filter_text.write_args.Goals as goal
 
@@ -24,5 +24,5 @@ returns-then-is_empty c = rw (none_tokens (codes "args") arg_data c.args.args.no
 
 pub returns : goal.returns
 returns c =
-    rw (some_tokens (codes "args") arg_data c.args.args.now (not_empty c.args.args.now c.is_empty.ensures c.if-is_empty.false)) (after_last _ _ _ (wrote c.in_ok-key.ensures) (after_last _ _ _ (wrote c.in_ok-begin_array.ensures)
-    (after_last _ _ _ (items_written c.args.args.now c.loop-arg.arg-index c.loop-arg-test.false c.loop-arg.invariant) (last _ c.end_array.ensures))))
+    rw (some_tokens (codes "args") arg_data c.args.args.now (not_empty c.args.args.now c.is_empty.ensures c.if-is_empty.false)) (after_last _ _ _ c.in_ok-key.ensures (after_last _ _ _ c.in_ok-begin_array.ensures
+    (after_last _ _ _ (items_written c.args.args.now c.loop-arg.arg-index c.loop-arg-test.false c.loop-arg.invariant) c.end_array.ensures)))

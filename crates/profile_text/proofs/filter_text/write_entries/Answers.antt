@@ -1,7 +1,7 @@
 use Rattle.std.proofs.Common.{refl}
 use Rattle.std.specs.Prelude.{codes}
 use Rattle.profile_text.specs.Text.{entry_data}
-use Rattle.json_tree.proofs.Writing.{item_written, items_written, last, leaves_all, nothing, after_last, wrote}
+use Rattle.json_tree.proofs.Writing.{item_written, items_written, leaves_all, nothing, after_last}
 use Rattle.profile_text.proofs.Writing.{none_tokens, not_empty, some_tokens}
 use Rattle.profile_text.proofs.filter_text.write_entries.Goals as goal
 
@@ -16,5 +16,5 @@ returns-then-is_empty c = rw (none_tokens (codes "syscalls") entry_data c.args.e
 
 pub returns : goal.returns
 returns c =
-    rw (some_tokens (codes "syscalls") entry_data c.args.entries.now (not_empty c.args.entries.now c.is_empty.ensures c.if-is_empty.false)) (after_last _ _ _ (wrote c.in_ok-key.ensures) (after_last _ _ _ (wrote c.in_ok-begin_array.ensures)
-    (after_last _ _ _ (items_written c.args.entries.now c.loop-entry.entry-index c.loop-entry-test.false c.loop-entry.invariant) (last _ c.end_array.ensures))))
+    rw (some_tokens (codes "syscalls") entry_data c.args.entries.now (not_empty c.args.entries.now c.is_empty.ensures c.if-is_empty.false)) (after_last _ _ _ c.in_ok-key.ensures (after_last _ _ _ c.in_ok-begin_array.ensures
+    (after_last _ _ _ (items_written c.args.entries.now c.loop-entry.entry-index c.loop-entry-test.false c.loop-entry.invariant) c.end_array.ensures)))

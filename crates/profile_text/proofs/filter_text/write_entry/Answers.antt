@@ -3,7 +3,7 @@ use Rattle.std.specs.Prelude.{codes}
 use Rattle.serde_json.specs.Data.{member, no_members}
 use Rattle.seccomp_doc.specs.Action.{errno_of}
 use Rattle.profile_text.specs.Text.{arg_data, errno_data, member_if, some_list, texts_data}
-use Rattle.json_tree.proofs.Writing.{last, after_last, wrote}
+use Rattle.json_tree.proofs.Writing.{after_last}
 use Rattle.profile_text.proofs.Writing.{member_first}
 use Rattle.profile_text.proofs.filter_text.write_entry.Goals as goal
 
@@ -15,5 +15,5 @@ returns c =
       member_first (codes "args") (some_list (map arg_data e.args)) (member_if (codes "errnoRet") (errno_data (errno_of e.action)) names),
       member_first (codes "errnoRet") (errno_data (errno_of e.action)) names,
     )
-    (after_last _ _ _ (wrote c.in_ok-begin_object.ensures) (after_last _ _ _ (rw (c.word.ensures, c.action-action.ensures) at c.in_ok-write_text.ensures) (after_last _ _ _ (rw c.args-args.ensures.args at c.in_ok-write_args.ensures)
-    (after_last _ _ _ (rw c.action-action.ensures at c.in_ok-write_errno.ensures) (after_last _ _ _ (rw c.names.ensures.names at c.in_ok-write_names.ensures) (last _ c.end_object.ensures))))))
+    (after_last _ _ _ c.in_ok-begin_object.ensures (after_last _ _ _ (rw (c.word.ensures, c.action-action.ensures) at c.in_ok-write_text.ensures) (after_last _ _ _ (rw c.args-args.ensures.args at c.in_ok-write_args.ensures)
+    (after_last _ _ _ (rw c.action-action.ensures at c.in_ok-write_errno.ensures) (after_last _ _ _ (rw c.names.ensures.names at c.in_ok-write_names.ensures) c.end_object.ensures)))))

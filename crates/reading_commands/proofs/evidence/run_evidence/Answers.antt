@@ -1,5 +1,7 @@
-use Rattle.std.proofs.Common.{inl, refl}
+use Rattle.std.proofs.Common.{rules, ◌≡◌, Err, inl, refl}
 use Rattle.reading_commands.proofs.evidence.run_evidence.Goals as goal
 
-pub returns-in-Err-clause-failed : goal.returns-in-Err-clause-failed
-returns-in-Err-clause-failed g c = inl (c.in-Err.ensures.none, refl)
+pub returns-in_err-text-clause-failed : goal.returns-in_err-text-clause-failed
+returns-in_err-text-clause-failed g c =
+    let told : c.from_residual.result ≡ Err c.in_err-text.field-0.0 = search rules in
+    rw told (inl (c.in_err-text.ensures.none, refl))

@@ -8,11 +8,11 @@ use Rattle.reading_commands.proofs.history.run_history.Goals as goal
 
 pub returns-in-Ok-write_history-clause-done : goal.returns-in-Ok-write_history-clause-done
 returns-in-Ok-write_history-clause-done g c =
-    let bytes = reader_remaining (λ noted. g.F.File.Read.remaining noted.file) c.in-Ok-text_at.text in
+    let bytes = reader_remaining (λ noted. g.F.File.Read.remaining noted.file) c.in_ok-text.text in
     let left = c.in-Ok-write_history.field-0 in (
       record {
         bytes = bytes;
-        journal = c.in-Ok-text_at.ensures.text;
+        journal = c.in_ok-text.ensures.text;
         left = left;
         written = subst (λ (asked : Asked). IsWritten bytes asked (g.O.Write.contents c.args.output.now.inner) (g.O.Write.contents c.write_history.new.output.inner) (meaning_over over_memory) left)
             c.filter_of-filter.ensures c.in-Ok-write_history.ensures.written;
@@ -22,18 +22,18 @@ returns-in-Ok-write_history-clause-done g c =
 
 pub returns-clause-failed : goal.returns-clause-failed
 returns-clause-failed g c =
-    let bytes = reader_remaining (λ noted. g.F.File.Read.remaining noted.file) c.in-Ok-text_at.text in
-    let conn = c.in-Ok-open_in_memory.conn in
-    let left = c.in-Err-write_history.field-0-1 in
+    let bytes = reader_remaining (λ noted. g.F.File.Read.remaining noted.file) c.in_ok-text.text in
+    let conn = c.in-Ok.conn in
+    let left = c.in-Err.field-0-1 in
     inr (
-      c.in-Err-write_history.why,
+      c.in-Err.why,
       record {
         bytes = bytes;
-        journal = c.in-Ok-text_at.ensures.text;
+        journal = c.in_ok-text.ensures.text;
         conn = conn;
         left = left;
-        unwritten = subst (λ (asked : Asked). IsUnwritten bytes asked (g.O.Write.contents c.args.output.now.inner) (g.O.Write.contents c.write_history.new.output.inner) over_memory conn left c.in-Err-write_history.why)
-            c.filter_of-filter.ensures c.in-Err-write_history.ensures.unwritten;
+        unwritten = subst (λ (asked : Asked). IsUnwritten bytes asked (g.O.Write.contents c.args.output.now.inner) (g.O.Write.contents c.write_history.new.output.inner) over_memory conn left c.in-Err.why)
+            c.filter_of-filter.ensures c.in-Err.ensures.unwritten;
       },
       c.told_of_text.ensures,
     )

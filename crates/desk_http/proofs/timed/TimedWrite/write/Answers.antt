@@ -1,5 +1,7 @@
-use Rattle.std.proofs.Common.{inr, refl}
+use Rattle.std.proofs.Common.{rules, ◌≡◌, Err, inr, refl}
 use Rattle.desk_http.proofs.timed.TimedWrite.write.Goals as goal
 
-pub returns-in-Err-clause-timed : goal.returns-in-Err-clause-timed
-returns-in-Err-clause-timed g c = inr (c.in-Err.error, refl, inr (c.in_ok-left.left, c.in_ok-left.ensures, c.in-Err.ensures))
+pub returns-in_err-set_write_timeout-clause-timed : goal.returns-in_err-set_write_timeout-clause-timed
+returns-in_err-set_write_timeout-clause-timed g c =
+    let told : c.from_residual-in_err-set_write_timeout.result ≡ Err c.in_err-set_write_timeout.field-0.0 = search rules in
+    rw told (inr (c.in_err-set_write_timeout.field-0.0, refl, inr (c.in_ok-left.left, c.in_ok-left.ensures, c.in_err-set_write_timeout.ensures)))

@@ -1,10 +1,10 @@
 use Rattle.std.proofs.Common.{◌∙◌, ap}
 use Rattle.sqlite.specs.Held.{state}
 use Rattle.office_rows.specs.Queries.{IsAsItWas}
-use Rattle.office_store.specs.Form.{has_old_tables}
+use Rattle.office_founding.specs.Form.{has_old_tables}
 use Rattle.office_store.specs.Shown.{LeavesNoMore}
-use Rattle.office_store.proofs.Forms.{fails, old_tables}
-use Rattle.office_store.proofs.OldReads.{office_has_old_tables}
+use Rattle.office_founding.proofs.Forms.{fails, old_tables}
+use Rattle.office_founding.proofs.OldReads.{office_has_old_tables}
 use Rattle.office_policy.specs.TablesOf.{tables_of}
 use Rattle.office_desk.proofs.Openings.{either, is_as_it_was, leaves_no_more}
 use Rattle.office_desk.proofs.office.Office.over.Goals as goal

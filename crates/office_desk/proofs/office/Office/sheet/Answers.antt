@@ -1,6 +1,7 @@
 use Rattle.std.proofs.Common.{◌≡◌, refl, subst}
 use Rattle.office_policy.specs.LooksBack.{LooksBack}
-use Rattle.office_desk.specs.Looking.{HasLookedBack, sheet_at}
+use Rattle.office_judging.specs.Sheets.{sheet_at}
+use Rattle.office_desk.specs.Looking.{HasLookedBack}
 use Rattle.office_desk.specs.Meant.{meaning_over}
 use Rattle.office_desk.proofs.Looking.{looked}
 use Rattle.office_desk.proofs.office.Office.sheet.Goals as goal

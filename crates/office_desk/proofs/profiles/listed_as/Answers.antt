@@ -1,5 +1,0 @@
-use Rattle.office_desk.proofs.Standing.{stands_as}
-use Rattle.office_desk.proofs.profiles.listed_as.Goals as goal
-
-pub returns : goal.returns
-returns c h team is = stands_as h team c.args.name c.args.standing is

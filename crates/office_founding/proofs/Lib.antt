@@ -1,0 +1,14 @@
+pub mod Indexing
+pub mod FirstUser
+pub mod FoundingSteps
+pub mod Queries
+pub mod Sure
+pub mod OfficeReads
+pub mod FormReads
+pub mod OldReads
+pub mod MigrationSteps
+pub mod OldFounding
+pub mod OfficeRow
+pub mod Forms
+pub mod Migrating
+pub mod Reopened

@@ -1,0 +1,47 @@
+-- What is read for a sheet is the sheet of looking back, and what is answered of it.
+use Rattle.std.proofs.Common.{◌≡◌, ◌∙◌, ℕ, List, Option, Some, None, sym, ap, subst}
+use Rattle.std.specs.Prelude.{option_map}
+use Rattle.review_policy.specs.declared.ask.Ask.TheVariants as ask
+use Rattle.review_policy.specs.declared.ask.ProfileName.{ProfileName}
+use Rattle.review_policy.specs.declared.answer.Reply.TheVariants as reply
+use Rattle.review_policy.specs.declared.revision.VoteRow.{VoteRow}
+use Rattle.review_sheet.specs.Sheet.{sheet_text}
+use Rattle.office_tables.specs.declared.row.UserRow.{UserRow}
+use Rattle.office_tables.specs.declared.row.RevisionRow.{RevisionRow}
+use Rattle.office_tables.specs.Tables.{Tables}
+use Rattle.office_tables.specs.Lists.{AreStanding}
+use Rattle.office_policy.specs.History.{History}
+use Rattle.office_policy.specs.LooksBack.{LooksBack}
+use Rattle.office_policy.specs.Revisions.{revision_of}
+use Rattle.office_policy.specs.Sheets.{sheet_of}
+use Rattle.office_policy.specs.Verdict.{accepted, done_of, of_revision}
+use Rattle.office_judging.specs.declared.baseline.Comparison.{Comparison}
+use Rattle.office_policy.proofs.StandingFacts.{standing_is}
+use Rattle.office_judging.specs.Compared.{compared_at, sheet_against}
+use Rattle.office_judging.specs.Sheets.{sheet_at, sheet_text_of}
+
+-- the text is that of the sheet of looking back
+pub sheet_back : (p : ProfileName) (r : RevisionRow) (votes : List VoteRow) (compared : Comparison) (text : List ℕ) (t : Tables)
+    → AreStanding t p r.number votes → LooksBack (λ h. compared_at h p.team) t compared → text ≡ sheet_text (sheet_against compared votes p r)
+    → LooksBack (sheet_text_of p r) t text
+sheet_back p r votes compared text t are looks is h lawful same =
+    let votes_are = standing_is h p r.number votes (subst (λ u. AreStanding u p r.number votes) same are) in
+    let compared_is = looks h lawful same in
+    is ∙ (λ i. sheet_text (sheet_against (compared_is i) (votes_are i) p r))
+
+-- of the revision that was found
+pub sheet_there : (p : ProfileName) (n : ℕ) (r : RevisionRow) (text : List ℕ) (t : Tables) → Some r ≡ t.revisions p n → LooksBack (sheet_text_of p r) t text
+    → LooksBack (sheet_at p n) t (Some text)
+sheet_there p n r text t there looks h lawful same =
+    ap Some (looks h lawful same) ∙ ap (option_map (λ r. sheet_text_of p r h)) (there ∙ ap (λ u. u.revisions p n) same)
+
+-- and none of one that isn't there
+pub no_sheet : (p : ProfileName) (n : ℕ) (t : Tables) → None ≡ t.revisions p n → LooksBack (sheet_at p n) t None
+no_sheet p n t there h lawful same = ap (option_map (λ r. sheet_text_of p r h)) (there ∙ ap (λ u. u.revisions p n) same)
+
+-- the answer to who may see it
+pub sheet_told : (h : History) (caller : Option UserRow) (p : ProfileName) (n : ℕ) (r : RevisionRow) (text : List ℕ)
+    → revision_of h p n ≡ Some r → text ≡ sheet_text_of p r h → done_of h caller (ask.Sheet p n) ≡ accepted (reply.Sheet text) None
+sheet_told h caller p n r text there same =
+    ap (λ o. of_revision o (λ r. accepted (reply.Sheet (sheet_text (sheet_of h p r))) None)) there
+    ∙ ap (λ t. accepted (reply.Sheet t) None) (sym same)

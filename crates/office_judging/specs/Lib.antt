@@ -1,0 +1,9 @@
+pub mod Judged
+pub mod Steps
+pub mod AtOnce
+pub mod Compared
+pub mod Issuing
+pub mod Listed
+pub mod Looked
+pub mod Sheets
+pub mod Summarized

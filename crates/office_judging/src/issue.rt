@@ -1,0 +1,158 @@
+// Revisions that are issued.
+
+ghost use Rattle.std.specs.Prelude.{◌≡◌, Some, false, not, IfOk};
+ghost use Rattle.sqlite.specs.Held.{state};
+ghost use Rattle.review_policy.specs.declared.ask.Ask.TheVariants as ask;
+ghost use Rattle.review_policy.specs.declared.denial.Need.TheVariants as needs;
+ghost use Rattle.review_policy.specs.declared.facts.TheConstants.IssueFacts.{PASSING};
+ghost use Rattle.office_tables.specs.Lists.{holds_role};
+ghost use Rattle.office_store.specs.Shown.{IsIdle};
+ghost use Rattle.office_store.specs.Calls.{IsRead};
+ghost use Rattle.office_policy.specs.Baseline.{document_or_closed};
+ghost use Rattle.office_policy.specs.Documents.{document_of};
+ghost use Rattle.office_policy.specs.Facts.{issue_facts};
+ghost use Rattle.office_policy.specs.Need.{need_against};
+ghost use Rattle.office_policy.specs.LooksBack.{LooksBack};
+ghost use Rattle.office_judging.specs.Judged.{IsAskedBy, JudgesChange};
+ghost use Rattle.office_judging.specs.Issuing.{deciding_need, is_enough_for_any, looked_at};
+ghost use Rattle.office_judging.specs.Issuing.{one_approval};
+
+use crate::baseline::{Comparison, compared_with, need_of};
+use crate::refusal::Refusal;
+use crate::revisions::state_in;
+use office_policy::{Allowed, Change};
+use office_store::{held, is_author, revision, tally};
+use office_tables::{RevisionRow, Tally, UserRow};
+use review_policy::{Fault, IssueFacts, Need, ProfileName, Reply, Role, Text, decide_issue};
+use sqlite::{Alter, Connection};
+use std::alloc::{AllocError, Global};
+
+// What the rules ask of a revision, its profile and the caller, besides the need.
+#[derive(Drop)]
+struct Looked {
+    revision: Option<RevisionRow>,
+    by_author: bool,
+    tally: Tally,
+    held: bool,
+}
+
+// What is looked up of a revision, its profile and the caller.
+fn look_up<S: Alter>(
+    alloc: Global,
+    conn: &mut Connection<S>,
+    caller: &UserRow,
+    name: &ProfileName,
+    number: u32,
+) -> Result<Looked, Fault>
+    requires { IsIdle (state S.Store conn.old) }
+    ensures { IsRead (state S.Store conn.old) (state S.Store conn.new) result
+        (LooksBack (λ h. looked_at h name.now number caller.now.name)) }
+{
+    let revision = revision(alloc, conn, name, number)?;
+    let by_author = is_author(conn, name, &caller.name)?;
+    let tally = tally(alloc, conn, name, number)?;
+    let held = held(conn, name)?;
+    Ok(Looked {
+        revision,
+        by_author,
+        tally,
+        held,
+    })
+}
+
+// What the rules ask of a caller.
+fn facts_of_caller(caller: &UserRow) -> IssueFacts
+    ensures { result ≡ record PASSING {
+      role_missing = not (holds_role (Some caller.now) Role.Issuer);
+    } }
+{
+    IssueFacts {
+        role_missing: !caller.roles.has(Role::Issuer),
+        ..IssueFacts::PASSING
+    }
+}
+
+// What the rules ask before the approvals.
+fn facts_before_need(caller: &UserRow, looked: &Looked) -> IssueFacts
+    ensures { result ≡ issue_facts (Some caller.now) looked.now.revision looked.now.by_author
+        (one_approval looked.now.tally.rejections) needs.One false }
+{
+    IssueFacts {
+        state: state_in(&looked.revision),
+        author_issues: looked.by_author,
+        rejections: looked.tally.rejections,
+        ..facts_of_caller(caller)
+    }
+}
+
+// All that the rules ask.
+fn all_facts(caller: &UserRow, looked: &Looked, need: Need) -> IssueFacts
+    ensures { result ≡ issue_facts (Some caller.now) looked.now.revision looked.now.by_author
+        looked.now.tally need looked.now.held }
+{
+    IssueFacts {
+        approvals: looked.tally.approvals,
+        secure: looked.tally.secure,
+        need,
+        held: looked.held,
+        ..facts_before_need(caller, looked)
+    }
+}
+
+// Whether there are as many approvals as any revision needs, one of them with security.
+fn is_enough_for_any(tally: &Tally) -> bool
+    ensures { result ≡ is_enough_for_any tally.now }
+{
+    tally.approvals >= 2 && tally.secure > 0
+}
+
+// A need by which the rules decide as by that of the text, which is worked out only where it can
+// matter.
+fn deciding_need(
+    alloc: Global,
+    tally: &Tally,
+    compared: &Comparison,
+    body: &Text,
+) -> Result<Need, AllocError>
+    ensures { IfOk result (λ need. need ≡ deciding_need tally.now
+        (need_against compared.now.listed (document_or_closed compared.now.adopted)
+        (document_of body.now))) }
+{
+    if is_enough_for_any(tally) {
+        return Ok(Need::One);
+    }
+    need_of(alloc, compared, body)
+}
+
+// Judges an issue. The need of the revision is asked for where nothing else refuses it.
+pub(crate) fn judge_issue<S: Alter>(
+    alloc: Global,
+    conn: &mut Connection<S>,
+    caller: UserRow,
+    name: &ProfileName,
+    number: u32,
+) -> Result<Allowed, Refusal>
+    requires { IsIdle (state S.Store conn.old) }
+    ensures judged { JudgesChange (state S.Store conn.old) (state S.Store conn.new) result
+        caller (ask.Issue name.now number) }
+    ensures asked { IfOk result (IsAskedBy (ask.Issue name.now number)) }
+{
+    decide_issue(&facts_of_caller(&caller))?;
+    let looked = look_up(alloc, conn, &caller, name, number)?;
+    decide_issue(&facts_before_need(&caller, &looked))?;
+    let Some(row) = &looked.revision else {
+        unreachable!()
+    };
+    let compared = compared_with(alloc, conn, &name.team)?;
+    let need = deciding_need(alloc, &looked.tally, &compared, &row.body)?;
+    decide_issue(&all_facts(&caller, &looked, need))?;
+    let change = Change::Issue {
+        name: name.clone()?,
+        revision: number,
+    };
+    Ok(Allowed {
+        caller,
+        change,
+        reply: Reply::Issued { digest: row.digest },
+    })
+}

@@ -1,0 +1,52 @@
+// Why a request isn't carried out.
+
+ghost use Rattle.std.specs.Prelude.{◌≡◌};
+
+use review_policy::{Denial, Fault, Text};
+use std::alloc::AllocError;
+
+/// Why a request isn't carried out.
+#[derive(Debug, Drop)]
+pub enum Refusal {
+    /// The first rule that refuses it; for a document that doesn't read, with its fault.
+    Denied { denial: Denial, fault: Option<Text> },
+    /// A fault of the store, or there is no memory.
+    Fault(Fault),
+}
+
+impl From<Denial> for Refusal {
+    ghost use Rattle.std.specs.Prelude.{◌≡◌, None};
+    ghost use Rattle.office_judging.specs.declared.refusal.Refusal.TheVariants.{Denied};
+
+    ghost from_gives = { λ denial refusal. refusal ≡ Denied denial None };
+
+    fn from(denial: Denial) -> Refusal {
+        Refusal::Denied {
+            denial,
+            fault: None,
+        }
+    }
+}
+
+impl From<Fault> for Refusal {
+    ghost use Rattle.std.specs.Prelude.{◌≡◌};
+    ghost use Rattle.office_judging.specs.declared.refusal.Refusal.TheVariants.{Fault};
+
+    ghost from_gives = { λ fault refusal. refusal ≡ Fault fault };
+
+    fn from(fault: Fault) -> Refusal {
+        Refusal::Fault(fault)
+    }
+}
+
+impl From<AllocError> for Refusal {
+    ghost use Rattle.std.specs.Prelude.{◌≡◌};
+    ghost use Rattle.review_policy.specs.declared.fault.Fault.TheVariants.{NoMemory};
+    ghost use Rattle.office_judging.specs.declared.refusal.Refusal.TheVariants.{Fault};
+
+    ghost from_gives = { λ _ refusal. refusal ≡ Fault NoMemory };
+
+    fn from(_error: AllocError) -> Refusal {
+        Refusal::Fault(Fault::NoMemory)
+    }
+}

@@ -1,6 +1,0 @@
-use Rattle.sqlite.specs.Held.{state}
-use Rattle.office_store.proofs.Reopened.{opened_shows}
-use Rattle.office_store.proofs.reopening.opened_trees_of_an_office_show_it.Goals as goal
-
-pub returns : goal.returns
-returns g c t = opened_shows (state g.S.Store c.args.opened.now) t
