@@ -1,7 +1,7 @@
 -- A tree, level by level, and lists and maps beside the members that they stand for.
-use Rattle.std.proofs.Common.{◌≡◌, ℕ, List, [], ◌∷◌, ◌++◌, Ordering, Less, Equal, Greater, nat_cmp, Bor, refl, ap, ◌∙◌, rules}
+use Rattle.std.proofs.Common.{◌≡◌, ℕ, List, [], ◌∷◌, ◌++◌, true, Ordering, Less, Equal, Greater, nat_cmp, Bor, refl, ap, ◌∙◌, rules}
 use Rattle.std.specs.Cmp.Lexicographic.{slice_cmp}
-use Rattle.std.specs.Ordering.{match_ordering, ordering_reverse}
+use Rattle.std.specs.Ordering.{is_gt, match_ordering, ordering_reverse}
 use Rattle.std.proofs.lemmas.Cmp.{nat_list_cmp_total}
 use Rattle.std.specs.BTreeMap.{insert_entry}
 use Rattle.serde_json.specs.Data.{Data, Members, no_members, member, array, object, put}
@@ -79,3 +79,14 @@ rising_put_at Greater k l d e ms is rising later =
 pub rising_put : (k : List ℕ) (d : Data) (ms : Members) → IsRising ms → IsRising (put k d ms)
 rising_put k d no_members rising = (tt, tt)
 rising_put k d (member l e ms) rising = rising_put_at (slice_cmp nat_cmp k l) k l d e ms refl rising (rising_put k d ms rising.1)
+
+pub is_greater : (o : Ordering) → is_gt o ≡ true → o ≡ Greater
+is_greater Less e = absurd (cc)
+is_greater Equal e = absurd (cc)
+is_greater Greater e = refl
+
+-- a name above one is above each below that
+pub above_lower : (k l m : List ℕ) → slice_cmp nat_cmp l m ≡ Less → slice_cmp nat_cmp k m ≡ Greater → slice_cmp nat_cmp k l ≡ Greater
+above_lower k l m less above =
+    let under : slice_cmp nat_cmp m k ≡ Less = nat_list_cmp_total.antisymm m k ∙ ap ordering_reverse above in
+    nat_list_cmp_total.antisymm k l ∙ ap ordering_reverse (nat_list_cmp_total.trans l m k less under)

@@ -167,7 +167,7 @@ fn read_members<'a>(
     let mut found = Gathered::new(room.members.start(alloc));
     'members: while let Some(name) = reader.next_key()? {
         let member = read(alloc, room, reader, depth)?;
-        found = found.with(alloc, name, member)?;
+        found.put(alloc, name, member)?;
     }
     let list = found.into_list(alloc)?;
     let kept = room.members.keep(list)?;

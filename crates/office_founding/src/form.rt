@@ -171,10 +171,10 @@ fn opened(form: Result<Form, Fault>, added: Result<(), OpeningFault>) -> Result<
 {
     match form {
         Ok(form) if form.is_old => Err(OpeningFault::OldSchema),
-        Ok(form) => match added {
-            Ok(()) => Ok(form.listed),
-            Err(fault) => Err(fault),
-        },
+        Ok(form) => {
+            added?;
+            Ok(form.listed)
+        }
         Err(fault) => Err(OpeningFault::Store(fault)),
     }
 }

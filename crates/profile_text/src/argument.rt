@@ -15,6 +15,7 @@ use crate::place::Place;
 use crate::value::{number_of, op_of, optional_number_of};
 use json_tree::Tree;
 use seccomp_doc::{ArgParts, Op};
+use smallvec::SmallVec;
 use std::alloc::Global;
 
 // What the members of an argument give.
@@ -117,13 +118,17 @@ fn arg_of(alloc: Global, place: Place, value: &Tree<'_>) -> Result<ArgParts, Doc
 }
 
 // The arguments of a list.
-fn args_in(alloc: Global, entry: usize, values: &[Tree<'_>]) -> Result<Vec<ArgParts>, DocFault>
+fn args_in(
+    alloc: Global,
+    entry: usize,
+    values: &[Tree<'_>],
+) -> Result<SmallVec<ArgParts, 1>, DocFault>
     ensures { GivesAs (λ args. args.items) result (unless_faulty
         (items_faults arg_faults (below (path_of (Place.Entry entry)) (codes "args")) 0
         (items_view values.now))
         (items_as arg_in (items_view values.now))) }
 {
-    let mut args = Vec::with_capacity(alloc, values.len())?;
+    let mut args = SmallVec::with_capacity(alloc, values.len())?;
     for value in values {
         let place = Place::Argument {
             entry,
@@ -141,14 +146,14 @@ pub(crate) fn optional_args(
     alloc: Global,
     entry: usize,
     value: &Tree<'_>,
-) -> Result<Vec<ArgParts>, DocFault>
+) -> Result<SmallVec<ArgParts, 1>, DocFault>
     ensures { GivesAs (λ args. args.items) result (unless_faulty
         (optional_faults (list_faults arg_faults)
         (below (path_of (Place.Entry entry)) (codes "args")) (view value.now))
         (list_as arg_in (view value.now))) }
 {
     match value {
-        Tree::Null => Ok(Vec::new(alloc)),
+        Tree::Null => Ok(SmallVec::new(alloc)),
         Tree::Array(values) => args_in(alloc, entry, values),
         _ => Err(DocFault::WrongShape(Path::of_member(alloc, Place::Entry(entry), "args")?)),
     }

@@ -16,6 +16,7 @@ use crate::place::Place;
 use crate::value::{action_of, optional_number_of, text_of};
 use json_tree::Tree;
 use seccomp_doc::{ActionWord, ArgParts, EntryParts};
+use smallvec::SmallVec;
 use std::alloc::Global;
 
 // The texts of a list.
@@ -59,7 +60,7 @@ fn names_of(
 #[derive(Drop)]
 pub(crate) struct FoundEntry {
     word: Option<ActionWord>,
-    args: Vec<ArgParts>,
+    args: SmallVec<ArgParts, 1>,
     errno: Option<u64>,
     names: Option<Vec<String>>,
 }
@@ -123,7 +124,7 @@ fn entry_at(
 {
     let start = FoundEntry {
         word: None,
-        args: Vec::new(alloc),
+        args: SmallVec::new(alloc),
         errno: None,
         names: None,
     };

@@ -29,5 +29,22 @@ impl Form for CallForm {
 fn are_call_bytes(bytes: &[u8]) -> bool
     ensures { result ≡ list_all is_call_byte bytes.now }
 {
-    bytes.iter().all(|byte| byte.is_ascii_lowercase() || byte.is_ascii_digit() || *byte == b'_')
+    bytes.iter().all(|byte| is_call_byte(*byte))
+}
+
+// Each byte that the name of a call may have stands at its own place, and a comma at every other.
+static CALL_BYTES: [u8; 256] = *b"\
+    ,,,,,,,,,,,,,,,,,,,,,,,,,,,,,,,,\
+    ,,,,,,,,,,,,,,,,0123456789,,,,,,\
+    ,,,,,,,,,,,,,,,,,,,,,,,,,,,,,,,_\
+    ,abcdefghijklmnopqrstuvwxyz,,,,,\
+    ,,,,,,,,,,,,,,,,,,,,,,,,,,,,,,,,\
+    ,,,,,,,,,,,,,,,,,,,,,,,,,,,,,,,,\
+    ,,,,,,,,,,,,,,,,,,,,,,,,,,,,,,,,\
+    ,,,,,,,,,,,,,,,,,,,,,,,,,,,,,,,,";
+
+fn is_call_byte(byte: u8) -> bool
+    ensures { result ≡ is_call_byte byte }
+{
+    CALL_BYTES[usize::from(byte)] != b','
 }

@@ -14,6 +14,7 @@ use crate::call_name::CallName;
 use crate::compare::Compare;
 use crate::fault::FilterFault;
 use crate::parts::{ArgParts, EntryParts};
+use smallvec::SmallVec;
 use std::alloc::Global;
 use std::marker::Model;
 
@@ -23,7 +24,7 @@ use std::marker::Model;
 pub struct Entry {
     names: Vec<CallName>,
     action: Action,
-    args: Vec<Compare>,
+    args: SmallVec<Compare, 1>,
 }
 
 impl Model for Entry {
@@ -136,7 +137,7 @@ fn call_names(alloc: Global, texts: Vec<String>) -> Result<Vec<CallName>, Filter
 }
 
 // The comparisons, where each is of another of six arguments.
-fn compares(alloc: Global, parts: &[ArgParts]) -> Result<Vec<Compare>, FilterFault>
+fn compares(alloc: Global, parts: &[ArgParts]) -> Result<SmallVec<Compare, 1>, FilterFault>
     ensures ok { IfOk result (λ args. (args.items ≡ map compare_of parts.now)
         × (first_fault (arg_checks parts.now) ≡ None) × All IsLawfulCompare args.items) }
     ensures err { IfErr result (λ e. e ≢ FilterFault.NoMemory
@@ -148,7 +149,7 @@ fn compares(alloc: Global, parts: &[ArgParts]) -> Result<Vec<Compare>, FilterFau
     if has_index_twice(parts) {
         return Err(FilterFault::IndexTwice);
     }
-    let mut args = Vec::with_capacity(alloc, parts.len())?;
+    let mut args = SmallVec::with_capacity(alloc, parts.len())?;
     for arg in parts {
         args.push(compare_with(*arg))
             .map_err(|_| FilterFault::NoMemory)?;

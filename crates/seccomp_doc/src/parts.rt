@@ -4,10 +4,11 @@ use crate::action::ActionWord;
 use crate::arch::Arch;
 use crate::compare::Op;
 use crate::flag::ScmpFlag;
+use smallvec::SmallVec;
 use std::marker::Model;
 
 /// A comparison as a document has it.
-#[derive(Clone, Copy, PartialEq, Eq, Debug)]
+#[derive(Clone, Copy, Default, PartialEq, Eq, Debug)]
 pub struct ArgParts {
     /// Which argument, from 0.
     pub index: u64,
@@ -28,8 +29,8 @@ pub struct EntryParts {
     pub word: ActionWord,
     /// The number of the action, if one stands there.
     pub errno: Option<u64>,
-    /// The comparisons.
-    pub args: Vec<ArgParts>,
+    /// The comparisons. A single one takes no memory of its own.
+    pub args: SmallVec<ArgParts, 1>,
 }
 
 impl Model for EntryParts {

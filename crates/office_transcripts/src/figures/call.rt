@@ -9,9 +9,10 @@ use anyhow::Result;
 use cap_sets::Caps;
 use office_founding::{OpeningFault, check_office, listed};
 use office_store::{
-    Ballot, add_revision, authors, baseline, delete_hold, has_revision, held, is_author, issued,
-    last, put_baseline, put_hold, put_user, put_vote, revision, revisions_of, set_issued,
-    set_withdrawn, standing, tally, user_by_name, user_by_token,
+    Ballot, add_revision, baseline, delete_hold, first_listed, has_revision, held, is_author,
+    issued, issued_number, last, last_number, next_listed, put_baseline, put_hold, put_user,
+    put_vote, revision, set_issued, set_withdrawn, standing, summary_at, tally, user_by_name,
+    user_by_token,
 };
 use office_tables::{RevisionRow, Tally};
 use review_policy::{Fault, State, Text};
@@ -31,8 +32,11 @@ enum Call {
     Issued,
     HasRevision,
     IsAuthor,
-    Authors,
-    RevisionsOf,
+    SummaryAt,
+    LastNumber,
+    IssuedNumber,
+    FirstListed,
+    NextListed,
     Standing,
     Tally,
     Baseline,
@@ -48,7 +52,7 @@ enum Call {
 }
 
 /// All calls, the reads first.
-const CALLS: [Call; 23] = [
+const CALLS: [Call; 26] = [
     Call::CheckOffice,
     Call::Listed,
     Call::UserByName,
@@ -58,8 +62,11 @@ const CALLS: [Call; 23] = [
     Call::Issued,
     Call::HasRevision,
     Call::IsAuthor,
-    Call::Authors,
-    Call::RevisionsOf,
+    Call::SummaryAt,
+    Call::LastNumber,
+    Call::IssuedNumber,
+    Call::FirstListed,
+    Call::NextListed,
     Call::Standing,
     Call::Tally,
     Call::Baseline,
@@ -163,8 +170,11 @@ fn make<S: Alter>(
         Call::Issued => is_there(issued(alloc, conn, profile)),
         Call::HasRevision => has_revision(conn, profile),
         Call::IsAuthor => is_author(conn, profile, &user.name),
-        Call::Authors => are_there(authors(alloc, conn, profile)),
-        Call::RevisionsOf => are_there(revisions_of(alloc, conn, &profile.team)),
+        Call::SummaryAt => is_there(summary_at(conn, profile, 1)),
+        Call::LastNumber => is_there(last_number(conn, profile)),
+        Call::IssuedNumber => is_there(issued_number(conn, profile)),
+        Call::FirstListed => is_there(first_listed(alloc, conn, &profile.team)),
+        Call::NextListed => is_there(next_listed(alloc, conn, &profile.team, &profile.profile)),
         Call::Standing => are_there(standing(alloc, conn, profile, 1)),
         Call::Tally => is_approved(tally(alloc, conn, profile, 1)),
         Call::Baseline => is_there(baseline(alloc, conn, &profile.team)),

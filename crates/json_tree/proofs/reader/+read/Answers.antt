@@ -169,8 +169,8 @@ read_members-members-preserved t c =
     let r = c.read.new.reader in
     let less = read_key-shorter l.reader (Some k) s named in
     let lesser = done.shorter in
-    let gathered = c.in_ok-found.ensures.members in (
-      c.in_ok-found.ensures.ordered,
+    let gathered = c.in_ok-put.ensures.members in (
+      c.in_ok-put.ensures.ordered,
       n - 1,
       omega (arith, l.invariant.2),
       l.invariant.3 ∙ member_read p old n k l.reader s r (view v) (omega (arith, l.invariant.2)) named done.ok

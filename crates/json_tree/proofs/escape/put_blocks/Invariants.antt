@@ -1,6 +1,6 @@
 use Rattle.std.proofs.Common.{◌≡◌, ◌-◌, ◌≤◌, ◌++◌, length, drop}
 use Rattle.json.specs.Print.{escape}
-use Rattle.json_tree.proofs.escape.put_escaped.Given as goal
+use Rattle.json_tree.proofs.escape.put_blocks.Given as goal
 
 abbrev pub invariant-loop-at : goal.invariant-loop-at
 invariant-loop-at l = (l.at ≤ length l.text) × (l.out.items ++ escape (drop l.at l.text) ≡ l.fn.out.items ++ escape l.text)

@@ -2,7 +2,7 @@ use Rattle.std.proofs.Common.{◌≡◌, take, drop}
 use Rattle.serde_json.specs.Data.{put}
 use Rattle.json_tree.specs.View.{members_view, view}
 use Rattle.json_tree.proofs.Views.{members_before}
-use Rattle.json_tree.proofs.members.put.Given as goal
+use Rattle.json_tree.proofs.members.put_among.Given as goal
 
 abbrev pub invariant-loop-place : goal.invariant-loop-place
 invariant-loop-place l =

@@ -6,7 +6,7 @@ use Rattle.serde_json.specs.Data.{put}
 use Rattle.json_tree.specs.View.{view, members_view}
 use Rattle.json_tree.proofs.Views.{members_before}
 use Rattle.json_tree.proofs.Put.{same_item, put_before, put_there, put_after, put_last}
-use Rattle.json_tree.proofs.members.put.Goals as goal
+use Rattle.json_tree.proofs.members.put_among.Goals as goal
 
 pub returns-in-Less : goal.returns-in-Less
 returns-in-Less c =
