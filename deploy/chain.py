@@ -1,4 +1,4 @@
-"""What the tests of this folder share: nginx, HAProxy and offices of a test's own, after deploy/nginx.conf and deploy/haproxy.cfg."""
+"""What deploy/measure and the tests share: nginx, HAProxy and offices of their own, after nginx.conf and haproxy.cfg of this folder."""
 
 import os
 import re
@@ -14,8 +14,8 @@ import time
 from hashlib import sha256
 from http.client import HTTPConnection, HTTPSConnection
 
-TOP = os.path.dirname(os.path.dirname(os.path.dirname(os.path.abspath(__file__))))
-DEPLOY = f"{TOP}/deploy"
+DEPLOY = os.path.dirname(os.path.abspath(__file__))
+TOP = os.path.dirname(DEPLOY)
 NAME = os.path.basename(sys.argv[0])
 # Debian has both outside of a user's PATH
 os.environ["PATH"] += ":/usr/sbin:/sbin"
@@ -39,9 +39,12 @@ def need(*tools):
             sys.exit(77)
 
 
-# The program that ./office built, or the one that is named.
+# The program that is named, the one that tools/install put beside this folder, or the one that ./office built.
 def program_of(words):
-    program = words[0] if words else f"{TOP}/crates/office_program/out/office_program"
+    installed = f"{DEPLOY}/../../../bin/office"
+    program = installed if os.access(installed, os.X_OK) else f"{TOP}/crates/office_program/out/office_program"
+    if words:
+        program = words[0]
     if not os.access(program, os.X_OK):
         print(f"{NAME}: there is no program {program}: ./office builds it", file=sys.stderr)
         sys.exit(77)
@@ -154,8 +157,6 @@ class Chain:
     def haproxy(self, sections):
         text = open(f"{DEPLOY}/haproxy.cfg").read()
         text = replaced(text, r"^    (user|group) haproxy$", "")
-        # it asks for two files for each connection, and not every machine lets a test open so many
-        text = replaced(text, r"^global$", "global\n    no strict-limits")
         head, section = re.split(r"^# An office: .*\n(?:#.*\n)*", text, flags=re.M)
         section = section.split("\n#")[0]
         for number, (front, hosts, keep, office) in enumerate(sections, 1):
