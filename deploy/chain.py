@@ -188,7 +188,7 @@ class Chain:
         text = replaced(text, r"listen 443 ssl http2", f"listen 127.0.0.1:{port} ssl http2")
         text = replaced(text, r"/etc/nginx/office\.", f"{self.work}/office.")
         text = replaced(text, r"/var/log/nginx/office\.", f"{self.work}/nginx-office.")
-        text = replaced(text, r"/usr/local/share/office/web", f"{self.work}/web")
+        text = replaced(text, r"root /.*/share/office/web;", f"root {self.work}/web;")
         text = replaced(text, r"    # green .*", "".join(f"    {team} office_{n};\n" for team, n in (teams or {}).items()))
         if authority:
             text = replaced(text, r"# (ssl_client_certificate) .*", f"ssl_client_certificate {authority};")
