@@ -126,7 +126,7 @@ desk() {
 
 # Whether what the program said is of the files that it looked at, and not of this machine.
 is_of_files() {
-    case $1 in *": memory" | *": full" | *": disk" | *": read" | *": write" | *": busy") return 1 ;; esac
+    case ${1##*: } in memory | full | disk | read | write | busy | too-large | too-long | too-many-reads) return 1 ;; esac
 }
 
 # Whether FILE opens as an office, is the one that JOURNAL tells, and is sound. It says why not. What stands in its log is then in FILE, and the
