@@ -12,6 +12,20 @@ import time
 
 root, page, *headings = sys.argv[1:]
 LEFT_OUT = "apt update"
+# what has to hold behind all of it: no unit failed; the timers wait; the health is written; and where a unit fails, that is said
+BEHIND = [
+    "systemctl --failed --no-legend | { ! grep .; }",
+    "systemctl is-active office@team office-copy@team.timer office-health@team.timer",
+    "test $(ls /var/backups/office/team-*.db | wc -l) -ge 2",
+    "mkdir -p /var/lib/prometheus/node-exporter && systemctl start office-health@team",
+    "grep -x 'office_up{office=\"team\"} 1' /var/lib/prometheus/node-exporter/office-team.prom",
+    "grep -x 'office_journal_differs{office=\"team\"} 0' /var/lib/prometheus/node-exporter/office-team.prom",
+    "printf '#!/bin/sh\\necho $1 >/var/lib/office/failed\\n' >/etc/office/on-failure && chmod 755 /etc/office/on-failure",
+    "flock /var/lib/office/team/team.db.lock sh -c '! systemctl start office-copy@team'",
+    "sleep 2; journalctl -t office-failure | grep 'office-copy@team.service failed'",
+    "grep -x office-copy@team.service /var/lib/office/failed",
+    "journalctl -u office-copy@team | grep 'has the lock of this office'",
+]
 checks = []
 
 
@@ -133,8 +147,7 @@ try:
         check(command, status == 0 and missing is None, f"(status {status}, not printed: {missing})\n{printed}")
         if status is None:
             break
-    for command in ("systemctl --failed --no-legend | { ! grep .; }", "systemctl is-active office@team", "systemctl is-active office-copy@team.timer",
-                    "systemctl is-active office-health@team.timer", "test $(ls /var/backups/office/team-*.db | wc -l) -ge 2"):
+    for command in BEHIND:
         status, printed = machine.run(command)
         check(command, status == 0, printed)
 finally:
