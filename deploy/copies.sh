@@ -1,4 +1,4 @@
-# What backup, restore, verify and health have in common: they read this file, and it isn't run by itself.
+# What backup, restore, verify, health and others have in common: they read this file, and it isn't run by itself.
 
 fail() {
     echo "$tool: $*" >&2
@@ -26,6 +26,13 @@ journal_beside() {
     esac
 }
 
+# The value of a setting in a file, without its quotes: the last one, as systemd takes it. Fails where the file has none.
+setting() {
+    [ -r "$2" ] && grep -q "^[[:space:]]*$1[[:space:]]*=" "$2" || return 1
+    sed -n "s/^[[:space:]]*$1[[:space:]]*=[[:space:]]*//p" "$2" | tail -n 1 |
+        sed "s/[[:space:]]*\$//; s/^\"\(.*\)\"\$/\1/; s/^'\(.*\)'\$/\1/"
+}
+
 # The office's file and its journal, where they weren't named. The journal is the one that JOURNAL of the settings names, and else the one beside
 # the file; it is empty where the settings or --without-journal say that there is none.
 find_office() {
@@ -34,11 +41,24 @@ find_office() {
     [ -n "$db" ] || db=/var/lib/office/$name/team.db
     [ -z "$without" ] || [ -z "$journal" ] || fail "--journal and --without-journal"
     [ -z "$without" ] && [ -z "$journal" ] || return 0
-    if [ -n "$settings" ] && grep -q '^JOURNAL=' "$settings" 2>/dev/null; then
-        journal=$(sed -n "s/^JOURNAL=//p" "$settings" | tail -n 1 | tr -d "\"'" | sed 's/^ *--journal[ =]*//')
+    if [ -n "$settings" ] && words=$(setting JOURNAL "$settings"); then
+        journal=$(printf '%s\n' "$words" | sed 's/^--without-journal$//; s/^--journal[ =]*//')
     else
         journal=$(journal_beside "$db")
     fi
+}
+
+# The token in a file, which has it alone or in the line of a header, with an end of line or without one.
+token_of() {
+    [ -f "$1" ] && [ -r "$1" ] && tr -d '\r' <"$1" | sed 's/^[Aa]uthorization: *[Bb]earer *//; s/[[:blank:]]*$//'
+}
+
+# The file under which an office that stood at FILE is set aside at TIME: team-TIME.db of team.db.
+aside_of() {
+    case $1 in
+        *.db) echo "${1%.db}-$2.db" ;;
+        *) echo "$1-$2" ;;
+    esac
 }
 
 # The processes that have FILE open, whatever its name is to them, one to a line.
@@ -52,46 +72,96 @@ sees_holders() {
     [ "$(id -u)" -eq 0 ] || [ "$(stat -c %u -- "$1")" -eq "$(id -u)" ] || fail "run it as root, or as the owner of $1"
 }
 
+# The process that has FILE open: the first of those that it may have started.
+holder_of() {
+    all=$(holders "$1" | tr '\n' ' ')
+    for process in $all; do
+        parent=$(sed -n 's/^PPid:[[:space:]]*//p' "/proc/$process/status" 2>/dev/null) || continue
+        [ "$process" != $$ ] && [ "$parent" != $$ ] || continue
+        case " $all" in *" $parent "*) continue ;; esac
+        words=$(tr '\0' ' ' <"/proc/$process/cmdline" 2>/dev/null) || continue
+        echo "process $process (${words% })"
+        return
+    done
+    echo "a process that can't be seen from here"
+}
+
+# Lets one of backup, restore and verify at a time go on for each office, as long as this runs. The lock is that of the file FILE.lock, over the
+# descriptor 9: no program that goes on behind this may have it.
+take_lock() {
+    command -v flock >/dev/null 2>&1 || fail "there is no flock here (package util-linux)"
+    lock=$1.lock
+    # it is made anew, and opened to be read alone: so a link that somebody put there leads to no other file that is written
+    if (set -C && : >"$lock") 2>/dev/null && [ "$(id -u)" -eq 0 ]; then
+        chown -h --reference="$(dirname -- "$lock")" -- "$lock"
+    fi
+    [ -f "$lock" ] && [ -r "$lock" ] || fail "the lock $lock can't be made or read"
+    exec 9<"$lock"
+    flock -n 9 || fail "$(holder_of "$lock") has the lock of this office, $lock: nothing was done"
+}
+
+# The sizes of these files together. One that isn't there has none.
+bytes_of() {
+    stat -c %s -- "$@" 2>/dev/null | awk '{ all += $1 } END { print all + 0 }'
+}
+
+# How many bytes are free where FILE is.
+room_at() {
+    df -P -B 1 -- "$1" 2>/dev/null | awk 'NR == 2 { print $4 }'
+}
+
 # Milliseconds of a clock.
 now() {
     echo $(($(date +%s%N) / 1000000))
 }
 
-# A desk without a request: FILE is opened with JOURNAL, or without one where that is empty, and what a crash left is set right.
-settle() {
+# A desk at FILE with JOURNAL, or without one where that is empty, which answers what it reads. An opening sets right what a crash left.
+desk() {
     if [ -n "$2" ]; then
-        "$program" desk "$1" --journal "$2" </dev/null
+        "$program" desk "$1" --journal "$2"
     else
-        "$program" desk "$1" </dev/null
+        "$program" desk "$1"
     fi
 }
 
+# Whether what the program said is of the files that it looked at, and not of this machine.
+is_of_files() {
+    case ${1##*: } in memory | full | disk | read | write | busy | too-large | too-long | too-many-reads) return 1 ;; esac
+}
+
 # Whether FILE opens as an office, is the one that JOURNAL tells, and is sound. It says why not. What stands in its log is then in FILE, and the
-# log is gone. Sets verified to what `verify` said. JOURNAL is empty where the office has none.
+
+# Whether FILE opens as an office, is the one that JOURNAL tells, and is sound. It says why not. What stands in its log is then in FILE, and the
+# log is gone. Sets verified to what `verify` said, and differs where the two aren't one office. JOURNAL is empty where the office has none.
 opens() {
-    verified=
+    verified='' differs=''
     lines=0
     [ -z "$2" ] || lines=$(wc -l <"$2")
-    if ! said=$(settle "$1" "$2" 2>&1); then
+    if ! said=$(desk "$1" "$2" </dev/null 2>&1); then
+        [ -z "$2" ] || ! is_of_files "$said" || differs=$said
         echo "$tool: $1 doesn't open as an office${2:+ with the journal $2}: $said" >&2
         return 1
     fi
     if [ -n "$2" ]; then
         # an opening cuts off what a crash leaves of a line: where whole lines went with it, they weren't sealed any more
         if [ "$(wc -l <"$2")" -lt "$lines" ]; then
+            differs="lines that aren't sealed"
             echo "$tool: of the $lines lines of $2 some weren't sealed: a hand or its disk changed it" >&2
             return 1
         fi
         if ! verified=$("$program" verify "$1" "$2" 2>&1); then
+            ! is_of_files "$verified" || differs=$verified
             echo "$tool: $1 opens, and isn't the office that $2 tells: $verified" >&2
             return 1
         fi
     fi
     if [ -n "$look" ]; then
-        # a copy of the copy, so that no request changes what is kept
+        # a copy of the copy and of its journal, so that no request changes what is kept
+        look_journal=${2:+$1.look.journal}
         cp -- "$1" "$1.look"
-        said=$("$program" desk "$1.look" <"$look" 2>&1) || said="$said (status $?)"
-        rm -f -- "$1.look" "$1.look-wal"
+        [ -z "$2" ] || cp -- "$2" "$look_journal"
+        said=$(desk "$1.look" "$look_journal" <"$look" 2>&1) || said="$said (status $?)"
+        rm -f -- "$1.look" "$1.look-wal" "$1.look-shm" "$1.look.journal"
         if [ -z "$said" ] || printf '%s\n' "$said" | grep -qv '^{"answer":"done"'; then
             echo "$tool: $1 opens, but what --look asks is answered otherwise: $said" >&2
             return 1
@@ -110,13 +180,24 @@ opens() {
     rm -f -- "$1-wal"
 }
 
-# The number and the seal of the last line of a journal, as `verify --seal` takes them. The office may be copied between a line and its change: the
-# copy's desk strikes that line out then, and the office may not. So of a line that strikes the one before it, it is that of the line before.
+# The last line of a journal that the office itself wrote an event to, as `history` tells it: its number, and what it was. Behind it may stand
+# what an opening or an end adds, which the office may come not to have: it is copied between a line and its change.
+last_event() {
+    lines=$(wc -l <"$1")
+    "$program" history "$1" --json --since $((lines > 9 ? lines - 9 : 1)) 2>/dev/null | grep -v '"event":"strike"' | tail -n 1 |
+        sed -n 's/.*"event":"\([a-z]*\)".*"line":\([0-9]*\).*/\2 \1/p'
+}
+
+# The number and the seal of that line, as `verify --seal` takes them.
 last_seal() {
-    tail -n 2 -- "$1" | awk -v lines="$(wc -l <"$1")" '
-        { seal[NR] = substr($0, length($0) - 65, 64); strikes = /^\{"line":\{"event":"strike"\},/ }
-        END { print lines - strikes ":" seal[NR - strikes] }
-    '
+    number=$(last_event "$1" | cut -d ' ' -f 1)
+    seal=$(sed -n "${number:-1}{s/.*\"seal\":\"\([0-9a-f]*\)\"}\$/\1/p;q}" "$1")
+    [ -n "$number" ] && [ -n "$seal" ] && echo "$number:$seal"
+}
+
+# Writes down for deploy/health what was found of a copy last: that its journal tells it, or what differs.
+write_outcome() {
+    printf '%s %s\n' "$(date -u +%Y%m%dT%H%M%SZ)" "$2" >"$1.new" && mv -f -- "$1.new" "$1"
 }
 
 # Writes a seal down with the time and what it is of.

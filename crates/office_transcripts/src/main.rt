@@ -1,8 +1,8 @@
 //! Carries out what is shown of `office`, and prints what its calls take.
 //!
 //! Without words it carries out all that is shown, and then measures with small numbers. Where what is shown differs from what
-//! comes of it, it writes the whole text as it would have to be, and ends with status 1. With the words of `figures` it measures
-//! what they say.
+//! comes of it, it writes the lines that differ, and ends with status 1 before it measures. With the words of `figures` it
+//! measures what they say.
 #![tactic(auto)]
 
 mod figures;

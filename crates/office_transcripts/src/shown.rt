@@ -1,7 +1,7 @@
 //! What is shown of `office`, run and compared with what comes of it.
 //!
 //! The commands are what `.ci/shown` gathers: those of the documents and of the transcripts, each after `$ `, below each its
-//! input, if it is shown there, and the lines that it prints, and after `# ` the headings.
+//! input, if it is shown there, and the lines that it prints, and after `# ` the headings. A heading of one word names a file.
 //!
 //! The file `exchanges.http` has requests over HTTP. Below a heading, which stands after `# `, the requests to a new office in
 //! memory stand in a line each after `> `, and below a request the response to it after `< `, or why there is none after `! `; of
@@ -9,13 +9,11 @@
 
 mod bytes;
 mod exchanges;
+mod place;
 mod run;
 mod said;
 
-use crate::shown::exchanges::told_in;
-use crate::shown::said::said_in;
 use anyhow::{Result, bail};
-use std::io::Write;
 use std::{fs, io};
 
 // Removes a database.
@@ -42,35 +40,27 @@ fn forget_founded(rt: &HostRuntime, shown: &str) -> Result<()> {
     Ok(())
 }
 
-// Compares a text that is shown with the one that comes of it, and where they differ writes the whole of the other.
-fn compare(rt: &HostRuntime, shown: &str, told: &[u8]) -> Result<()> {
-    if told != shown.as_bytes() {
-        io::writer(rt).write_all(told)?;
-        bail!("something else comes of it than is shown");
-    }
-    Ok(())
-}
-
-// Compares what the commands of a text print with what is shown.
-fn compare_commands(rt: &HostRuntime) -> Result<()> {
+// Carries out the commands of standard input.
+fn commands_differing(rt: &HostRuntime) -> Result<usize> {
     let shown = io::read_to_string(rt.alloc(), rt.reader())?;
     forget_founded(rt, shown.as_str())?;
-    let said = said_in(rt, shown.as_str())?;
-    compare(rt, shown.as_str(), &said)
+    said::differing_in(rt, shown.as_str())
 }
 
-// Compares what the requests of a file are answered with what is shown.
-fn compare_exchanges(rt: &HostRuntime) -> Result<()> {
-    let shown = fs::read_to_string(rt, "exchanges.http")?;
-    let told = told_in(rt.alloc(), shown.as_str())?;
-    compare(rt, shown.as_str(), &told)
+// Sends the requests of a file.
+fn requests_differing(rt: &HostRuntime, file: &str) -> Result<usize> {
+    let shown = fs::read_to_string(rt, file)?;
+    exchanges::differing_in(rt, file, shown.as_str())
 }
 
 /// Carries all out, the commands of standard input first, and fails where anything differs from what is shown.
 pub fn carry_out(rt: &HostRuntime) -> Result<()> {
-    compare_commands(rt)?;
+    let commands = commands_differing(rt)?;
+    let requests = requests_differing(rt, "exchanges.http")?;
+    if commands > 0 || requests > 0 {
+        bail!("{commands} commands and {requests} requests come to something else than is shown");
+    }
     println!(rt; "each command prints what is shown")?;
-    compare_exchanges(rt)?;
     println!(rt; "each request is answered as shown")?;
     Ok(())
 }

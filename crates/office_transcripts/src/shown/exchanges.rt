@@ -1,6 +1,7 @@
 //! A transcript of exchanges over HTTP, and what is answered to its requests.
 
 use crate::shown::bytes::{bytes_of, push_response};
+use crate::shown::place::Place;
 use anyhow::{Result, bail};
 use cap_sets::Caps;
 use desk_http::serve_one;
@@ -57,74 +58,84 @@ fn lines_of(
 
 // A transcript up to some line of it.
 #[derive(Drop)]
-struct Transcript {
+struct Transcript<'a> {
     router: OfficeRouter,
     // That of the last heading.
     office: Office<MemStore>,
-    // The lines that show what is answered to the last request.
-    answer: Vec<u8>,
-    // The lines up to there, with what is answered.
-    told: Vec<u8>,
+    place: Place<'a>,
+    // The last requests, each with the lines of its response: what is shown of each of them is further below.
+    answered: Vec<(&'a str, Vec<u8>)>,
+    // The lines that are shown of the last requests.
+    shown: String,
 }
 
-impl Transcript {
-    // Tells what is answered to the last request where the next one is answered otherwise.
-    fn tell(&mut self, next: Vec<u8>) -> Result<()> {
-        if next != self.answer {
-            self.told.extend_from_slice(&self.answer)?;
-            self.answer = next;
+impl<'a> Transcript<'a> {
+    // Compares what the last requests are answered with what is shown of them.
+    fn compare(&mut self, rt: &HostRuntime) -> Result<()> {
+        for (request, response) in &self.answered {
+            self.place
+                .compare(rt, request, self.shown.as_str(), response)?;
         }
+        self.answered.clear();
+        self.shown.clear();
         Ok(())
     }
 
     // Sends a request to the office.
-    fn send(&mut self, alloc: Global, request: &str) -> Result<()> {
-        let request = bytes_of(alloc, request)?;
-        let next = lines_of(alloc, &mut self.office, &self.router, &request)?;
-        self.tell(next)
-    }
-
-    // Begins with another office.
-    fn begin(&mut self, alloc: Global) -> Result<()> {
-        self.tell(Vec::new(alloc))?;
-        self.office = found_office(alloc)?;
+    fn send(&mut self, rt: &HostRuntime, line: &'a str) -> Result<()> {
+        if !self.shown.is_empty() {
+            self.compare(rt)?;
+        }
+        let request = bytes_of(rt.alloc(), line)?;
+        let response = lines_of(rt.alloc(), &mut self.office, &self.router, &request)?;
+        self.answered.push((line, response))?;
         Ok(())
     }
 
-    // Takes the next line: a heading, a request, or what is answered.
-    fn take_line(&mut self, alloc: Global, line: &str) -> Result<()> {
+    // Begins with another office.
+    fn begin(&mut self, rt: &HostRuntime, heading: &'a str) -> Result<()> {
+        self.compare(rt)?;
+        self.office = found_office(rt.alloc())?;
+        self.place.enter(heading);
+        Ok(())
+    }
+
+    // Takes the next line: a heading, a request, or one of its response.
+    fn take_line(&mut self, rt: &HostRuntime, line: &'a str) -> Result<()> {
         if let Some(request) = line.strip_prefix("> ") {
-            self.send(alloc, request)?;
-        } else if line.starts_with("# ") {
-            self.begin(alloc)?;
-        } else {
-            return Ok(());
+            return self.send(rt, request);
         }
-        writeln!(self.told, "{line}")?;
+        if let Some(heading) = line.strip_prefix("# ") {
+            return self.begin(rt, heading);
+        }
+        self.shown.push_str(line)?;
+        self.shown.push('\n')?;
         Ok(())
     }
 }
 
-/// The headings and the requests of a transcript, with what is answered.
-pub fn told_in(alloc: Global, shown: &str) -> Result<Vec<u8>> {
-    let mut transcript = Transcript {
-        router: OfficeRouter::new(alloc)?,
-        office: found_office(alloc)?,
-        answer: Vec::new(alloc),
-        told: Vec::new(alloc),
-    };
-    for line in shown.lines() {
-        transcript.take_line(alloc, line)?;
-    }
-    transcript.tell(Vec::new(alloc))?;
-    if transcript.told.is_empty() {
+/// Sends the requests of a transcript, and gives how many are answered otherwise than is shown.
+pub fn differing_in(rt: &HostRuntime, file: &str, text: &str) -> Result<usize> {
+    if !text.contains("\n> ") {
         bail!("no request is shown");
     }
+    let mut transcript = Transcript {
+        router: OfficeRouter::new(rt.alloc())?,
+        office: found_office(rt.alloc())?,
+        place: Place::new(file, "> "),
+        answered: Vec::new(rt.alloc()),
+        shown: String::new(rt.alloc()),
+    };
+    for line in text.lines() {
+        transcript.take_line(rt, line)?;
+    }
+    transcript.compare(rt)?;
     let Transcript {
         router: _,
         office: _,
-        answer: _,
-        told,
+        place,
+        answered: _,
+        shown: _,
     } = transcript;
-    Ok(told)
+    Ok(place.differing())
 }

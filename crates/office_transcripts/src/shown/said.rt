@@ -1,7 +1,9 @@
 //! What commands print.
 
+use crate::shown::place::Place;
 use crate::shown::run::say_line;
 use anyhow::{Result, bail};
+use std::alloc::Global;
 use std::fs;
 use std::io::Write;
 
@@ -99,53 +101,71 @@ fn say(
     }
 }
 
-// The lines down to the line `END`, where a command is given such lines.
-fn given_below<'a>(command: &str, below: &'a str) -> Option<&'a str> {
-    match below.split_once("\nEND") {
-        Some((lines, _)) if command.contains(" <<'END'") => Some(lines),
-        _ => None,
-    }
+// A command, the lines that it is given, if it is given any, and those that are shown below, if there are any. The last of them
+// stands without its end.
+#[derive(Drop)]
+struct Step<'a> {
+    command: &'a str,
+    given: Option<&'a str>,
+    shown: Option<&'a str>,
 }
 
-// Writes a command with the lines that it is given, and says what it prints.
-fn say_command(
-    rt: &HostRuntime,
-    command: &str,
-    below: &str,
-    status: u8,
-    said: &mut Vec<u8>,
-) -> Result<u8> {
-    let lines = given_below(command, below);
-    writeln!(said, "$ {command}")?;
-    if let Some(lines) = lines {
-        writeln!(said, "{lines}\nEND")?;
-    }
-    say(rt, command, lines, status, said)
-}
-
-// Writes the headings among these lines.
-fn say_headings(lines: &str, said: &mut Vec<u8>) -> Result<()> {
-    for line in lines.lines() {
-        if line.starts_with("# ") {
-            writeln!(said, "{line}")?;
+impl<'a> Step<'a> {
+    fn of_text(text: &'a str) -> Step<'a> {
+        let Some((command, below)) = text.split_once('\n') else {
+            return Step {
+                command: text,
+                given: None,
+                shown: None,
+            };
+        };
+        match below.split_once("\nEND") {
+            Some((lines, rest)) if command.contains(" <<'END'") => Step {
+                command,
+                given: Some(lines),
+                shown: rest.strip_prefix('\n'),
+            },
+            _ => Step {
+                command,
+                given: None,
+                shown: Some(below),
+            },
         }
     }
-    Ok(())
+
+    // The lines that are shown, each with its end.
+    fn shown(&self, alloc: Global) -> Result<String> {
+        match self.shown {
+            Some(lines) => Ok(format!(in alloc; "{lines}\n")?),
+            None => Ok(String::new(alloc)),
+        }
+    }
 }
 
-/// The headings and the commands of a text, below each command what it prints. No line that a command is given begins with `# `,
-/// `$ ` or `END`.
-pub fn said_in(rt: &HostRuntime, shown: &str) -> Result<Vec<u8>> {
-    let Some((headings, commands)) = shown.split_once("\n$ ") else {
+// Carries out a command after one of this status, compares what it prints with what is shown, and gives its own.
+fn carry_out_step(rt: &HostRuntime, place: &mut Place, text: &str, status: u8) -> Result<u8> {
+    let step = Step::of_text(text);
+    let mut said = Vec::new(rt.alloc());
+    let status = say(rt, step.command, step.given, status, &mut said)?;
+    let shown = step.shown(rt.alloc())?;
+    place.compare(rt, step.command, shown.as_str(), &said)?;
+    Ok(status)
+}
+
+/// Carries out the commands of a text, and gives how many print something else than is shown. No line that a command is given
+/// begins with `# `, `$ ` or `END`.
+pub fn differing_in(rt: &HostRuntime, text: &str) -> Result<usize> {
+    let text = text.strip_suffix('\n').unwrap_or(text);
+    let Some((headings, commands)) = text.split_once("\n$ ") else {
         bail!("no command is shown");
     };
-    let mut said = Vec::new(rt.alloc());
+    let mut place = Place::new("", "$ ");
+    place.enter_all(headings.strip_prefix("# ").unwrap_or(headings))?;
     let mut status = 0u8;
-    say_headings(headings, &mut said)?;
     for part in commands.split("\n$ ") {
-        let (command, below) = part.split_once("\n").unwrap_or((part, ""));
-        status = say_command(rt, command, below, status, &mut said)?;
-        say_headings(below, &mut said)?;
+        let (step, headings) = part.split_once("\n# ").unwrap_or((part, ""));
+        status = carry_out_step(rt, &mut place, step, status)?;
+        place.enter_all(headings)?;
     }
-    Ok(said)
+    Ok(place.differing())
 }
