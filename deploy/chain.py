@@ -157,6 +157,8 @@ class Chain:
     def haproxy(self, sections):
         text = open(f"{DEPLOY}/haproxy.cfg").read()
         text = replaced(text, r"^    (user|group) haproxy$", "")
+        # as many connections as it takes where the files are to be had: one that waits takes one file of its two
+        text = replaced(text, r"fd-hard-limit \d+$", "maxconn 12000\n    no strict-limits")
         head, section = re.split(r"^# An office: .*\n(?:#.*\n)*", text, flags=re.M)
         section = section.split("\n#")[0]
         for number, (front, hosts, keep, office) in enumerate(sections, 1):
