@@ -33,6 +33,12 @@ setting() {
         sed "s/[[:space:]]*\$//; s/^\"\(.*\)\"\$/\1/; s/^'\(.*\)'\$/\1/"
 }
 
+# What the words of JOURNAL say: `--journal FILE`, or nothing of an office that has no journal, or `--without-journal` of one that goes on without.
+take_journal() {
+    journal=$(printf '%s\n' "$1" | sed 's/^--without-journal$//; s/^--journal[ =]*//')
+    [ "$1" != --without-journal ] || without=yes
+}
+
 # The office's file and its journal, where they weren't named. The journal is the one that JOURNAL of the settings names, and else the one beside
 # the file; it is empty where the settings or --without-journal say that there is none.
 find_office() {
@@ -42,7 +48,7 @@ find_office() {
     [ -z "$without" ] || [ -z "$journal" ] || fail "--journal and --without-journal"
     [ -z "$without" ] && [ -z "$journal" ] || return 0
     if [ -n "$settings" ] && words=$(setting JOURNAL "$settings"); then
-        journal=$(printf '%s\n' "$words" | sed 's/^--without-journal$//; s/^--journal[ =]*//')
+        take_journal "$words"
     else
         journal=$(journal_beside "$db")
     fi
@@ -115,12 +121,13 @@ now() {
     echo $(($(date +%s%N) / 1000000))
 }
 
-# A desk at FILE with JOURNAL, or without one where that is empty, which answers what it reads. An opening sets right what a crash left.
+# A desk at FILE with JOURNAL, or without one where that is empty, which answers what it reads. An opening sets right what a crash left. A file that
+# has a journal is opened without only where --without-journal was spelt out, as the unit has it, and then FILE says so no more.
 desk() {
     if [ -n "$2" ]; then
         "$program" desk "$1" --journal "$2"
     else
-        "$program" desk "$1"
+        "$program" desk "$1" ${without:+--without-journal}
     fi
 }
 
@@ -128,8 +135,6 @@ desk() {
 is_of_files() {
     case ${1##*: } in memory | full | disk | read | write | busy | too-large | too-long | too-many-reads) return 1 ;; esac
 }
-
-# Whether FILE opens as an office, is the one that JOURNAL tells, and is sound. It says why not. What stands in its log is then in FILE, and the
 
 # Whether FILE opens as an office, is the one that JOURNAL tells, and is sound. It says why not. What stands in its log is then in FILE, and the
 # log is gone. Sets verified to what `verify` said, and differs where the two aren't one office. JOURNAL is empty where the office has none.
@@ -162,6 +167,7 @@ opens() {
         [ -z "$2" ] || cp -- "$2" "$look_journal"
         said=$(desk "$1.look" "$look_journal" <"$look" 2>&1) || said="$said (status $?)"
         rm -f -- "$1.look" "$1.look-wal" "$1.look-shm" "$1.look.journal"
+        said=$(printf '%s\n' "$said" | sed '/^office: without its journal, /d')
         if [ -z "$said" ] || printf '%s\n' "$said" | grep -qv '^{"answer":"done"'; then
             echo "$tool: $1 opens, but what --look asks is answered otherwise: $said" >&2
             return 1

@@ -6,6 +6,7 @@ NO_SEAL = "0" * 64
 LONGEST = 2_097_152
 
 STRIKE = b'{"event":"strike"}'
+DONE = b'{"event":"done","of":'
 
 
 # The seal of each of these events, the first one behind what has the seal `prior`.
@@ -40,12 +41,41 @@ def read(journal):
     return events, seals, journal[at:]
 
 
-# Those of these events that the next one doesn't strike out.
+# The line that says that the event of the line of this number, which stands right before, was carried out.
+def done(of):
+    return DONE + str(of).encode() + b"}"
+
+
+def is_done(event):
+    return event.startswith(DONE)
+
+
+# Whether an event's line is the last of these, so that nothing says yet what became of it.
+def is_held(events):
+    return bool(events) and events[-1] != STRIKE and not is_done(events[-1])
+
+
+# What a clean end makes of these.
+def settled(events):
+    return [*events, done(len(events))] if is_held(events) else events
+
+
+# These, and each line that says of an event that it was carried out has the number of the line before it.
+def numbered(events):
+    return [done(at) if is_done(event) else event for at, event in enumerate(events)]
+
+
+# The events of these lines that the next one doesn't strike out.
 def standing(events):
     happened = []
     for event in events:
         if event == STRIKE:
             happened.pop()
-        else:
+        elif not is_done(event):
             happened.append(event)
     return happened
+
+
+# The mark of a database: of how many lines its journal was when the two were closed; 0 where it has none.
+def mark_of(database):
+    return int.from_bytes(database[60:64], "big")

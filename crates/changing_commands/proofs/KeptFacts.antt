@@ -1,5 +1,5 @@
 -- An office that is kept with a journal: what is known of it as it is founded, opened, served and closed.
-use Rattle.std.proofs.Common.{◌≡◌, ◌∙◌, ℕ, List, [], ◌∷◌, ◌++◌, arith, length, length-append, take, Option, None, Result, Ok, Err, IsTrue, true, inl, inr, refl, subst, sym, ap}
+use Rattle.std.proofs.Common.{◌≡◌, ◌∙◌, ℕ, Bool, List, [], ◌∷◌, ◌++◌, arith, length, length-append, take, Option, None, Result, Ok, Err, IsTrue, true, inl, inr, refl, subst, sym, ap}
 use Rattle.std.specs.Prelude.{IfErr, OnOk, ⊤}
 use Rattle.std.proofs.lemmas.List.Elements.{All-cons, All-nil}
 use Rattle.std.specs.declared.io.Error.{Error}
@@ -19,13 +19,17 @@ use Rattle.journal.specs.Journal.{IsEntry, Says}
 use Rattle.journal.specs.Lines.{happened, text_of}
 use Rattle.journal.proofs.Lengths.{founding_entry}
 use Rattle.office_policy.specs.History.{Event}
+use Rattle.journal.specs.Journals.{IsSettled}
+use Rattle.journal.specs.Logs.{in_log}
+use Rattle.office_desk.specs.Meant.{meaning_over}
+use Rattle.review_policy.specs.declared.fault.Fault.{Fault}
 use Rattle.journal.specs.declared.journaled.Journaled.{Journaled}
 use Rattle.command_host.specs.declared.fault.CommandFault.{CommandFault}
 use Rattle.command_host.specs.declared.fault.CommandFault.TheVariants as fault
 use Rattle.changing_commands.specs.declared.founding.Founding.{Founding}
 use Rattle.command_host.specs.declared.no_file.NoFile.{NoFile}
 use Rattle.changing_commands.specs.Foundings.{founding_event, IsFoundedIn}
-use Rattle.changing_commands.specs.Journals.{IfJournaled, IsBegunBy, IsKeptOffice, IsServedWith}
+use Rattle.changing_commands.specs.Journals.{begun_with, IfJournaled, IsBegunBy, IsClosedKept, IsKeptOffice, IsServedWith, mark_beside}
 use Rattle.changing_commands.specs.Journals.{IsUnfoundedBehind, WasFoundedBehind}
 use Rattle.command_host.specs.declared.databases.Databases as databases
 use Rattle.command_host.specs.Openings.{IsEnded, IsFirstOf}
@@ -72,6 +76,7 @@ begun_by f Created founding made log text created forms is is_open has = record 
   made = made;
   created = created;
   is_open = is_open;
+  forms = forms;
   line = λ clean. has clean ∙ ap (λ (t : List ℕ). t ∷ []) is;
   says = λ clean. says_one (founding_event founding) (bodies_of f log) (founding_is founding forms) (has clean ∙ ap (λ (t : List ℕ). t ∷ []) is);
 }
@@ -82,29 +87,61 @@ pub failed_without : (given : Option (List ℕ)) (Without : CommandFault → Typ
 failed_without given Without With (Ok done) is failed = tt
 failed_without given Without With (Err why) is failed = subst (λ (o : Option (List ℕ)). IfJournaled o (Without why) (λ file. With file why)) (sym is) failed
 
-module _ {S D L : Type 0} (g : Ghosts S) (f : DiskGhosts L) (Found : Result L NoFile → Type 0) (d : databases.Ghosts D (Held S)) (path : List ℕ)
+module _ {S D L : Type 0} (g : Ghosts S) (f : DiskGhosts L) (Found : Result L NoFile → Type 0) (d : databases.Ghosts D (Held S)) (path : List ℕ) (mark : ℕ) (is_marked : Bool)
     (Done : (old new : Journaled (Held S) (SealedLog L f)) → Type 0) (Stops : CommandFault → (old new : Journaled (Held S) (SealedLog L f)) → Type 0) where
-  pub was_kept : (old new : Journaled (Held S) (SealedLog L f)) → IsKeptOffice g f Found (d.opened path) old → (served closed result : Result (Unit {0}) CommandFault)
-      → OnOk served (Done old new) → IfErr served (λ why. Stops why old new) → OnOk closed (d.closed new.office) → IsEnded d new.office
-      → IfErr closed (λ why. why ≡ fault.Close) → IsFirstOf served closed result → IsServedWith g f Found d path Done Stops result
+  pub was_kept : (old new : Journaled (Held S) (SealedLog L f)) → IsKeptOffice g f Found (d.opened path) mark old → (served closed result : Result (Unit {0}) CommandFault)
+      → OnOk served (Done old new) → IfErr served (λ why. Stops why old new) → OnOk closed (IsClosedKept g f is_marked d.closed new) → IsClosedKept g f is_marked (IsEnded d) new
+      → IfErr closed (λ why. why ≡ fault.Close) → IsFirstOf served closed result → IsServedWith g f Found d path mark is_marked Done Stops result
   was_kept old new office (Ok a) (Ok b) result done stops closed ended why is =
-      subst (λ r. IsServedWith g f Found d path Done Stops r) (sym is) (record { old = old; new = new; office = office; done = done; closed = closed })
+      subst (λ r. IsServedWith g f Found d path mark is_marked Done Stops r) (sym is) (record { old = old; new = new; office = office; done = done; ended = closed })
   was_kept old new office (Ok a) (Err w) result done stops closed ended why is =
-      subst (λ r. IsServedWith g f Found d path Done Stops r) (sym is)
-      (inr (inr (why, record { old = old; new = new; office = office; done = done; closed = ended })))
+      subst (λ r. IsServedWith g f Found d path mark is_marked Done Stops r) (sym is)
+      (inr (inr (why, record { old = old; new = new; office = office; done = done; ended = ended })))
   was_kept old new office (Err w) closed result done stops _ ended why is =
-      subst (λ r. IsServedWith g f Found d path Done Stops r) (sym is)
-      (inr (inl (record { old = old; new = new; office = office; done = stops; closed = ended })))
+      subst (λ r. IsServedWith g f Found d path mark is_marked Done Stops r) (sym is)
+      (inr (inl (record { old = old; new = new; office = office; done = stops; ended = ended })))
+
+  -- nothing was done with it
+  pub was_only_kept : (x : Journaled (Held S) (SealedLog L f)) → IsKeptOffice g f Found (d.opened path) mark x → (closed : Result (Unit {0}) CommandFault)
+      → Done x x → OnOk closed (IsClosedKept g f is_marked d.closed x) → IsClosedKept g f is_marked (IsEnded d) x
+      → IfErr closed (λ why. why ≡ fault.Close) → IsServedWith g f Found d path mark is_marked Done Stops closed
+  was_only_kept x office closed done shut ended why = was_kept x x office (Ok (tt {0})) closed closed done (tt {0}) shut ended why refl
 
 module _ {S D L : Type 0} (g : Ghosts S) (f : DiskGhosts L) (Created : Result L NoFile → Type 0) (d : databases.Ghosts D (Held S)) (path : List ℕ) where
-  pub founded_behind : (founding : Founding) (log : SealedLog L f) (office : Held S) (r : Result (Unit {0}) CommandFault) → IsBegunBy f Created founding log
-      → IsFoundedIn g (d.opened path) (Ok founding) office → OnOk r (d.closed office) → OnOk r (WasFoundedBehind g f Created (d.opened path) d.closed founding)
-  founded_behind founding log office (Ok done) begun founded closed =
-      record { log = log; journal = begun; office = record { office = office; founded = founded; closed = closed } }
-  founded_behind founding log office (Err why) begun founded closed = tt
+  pub founded_behind : (founding : Founding) (log : SealedLog L f) (x : Journaled (Held S) (SealedLog L f)) (r : Result (Unit {0}) CommandFault) → IsBegunBy f Created founding log
+      → x ≡ begun_with x.office log → IsFoundedIn g (d.opened path) (Ok founding) x.office → OnOk r (IsClosedKept g f true d.closed x)
+      → OnOk r (WasFoundedBehind g f Created (d.opened path) d.closed founding)
+  founded_behind founding log x (Ok done) begun is founded closed = record {
+    log = log;
+    journal = begun;
+    office = x.office;
+    founded = founded;
+    ended = subst (λ (y : Journaled (Held S) (SealedLog L f)). IsClosedKept g f true d.closed y) is closed;
+  }
+  founded_behind founding log x (Err why) begun is founded closed = tt
 
-  pub behind_open : (Removed : Result ⊤ Error → Type 0) (founding : Founding) (log : SealedLog L f) (office : Held S) (r : Result (Unit {0}) CommandFault)
-      → IsBegunBy f Created founding log → IsFoundedIn g (d.opened path) (Ok founding) office → IsEnded d office → IfErr r (λ why. why ≡ fault.Close)
-      → IfErr r (IsUnfoundedBehind g f Created Removed d path founding)
-  behind_open Removed founding log office (Ok done) begun founded ended closed = tt
-  behind_open Removed founding log office (Err why) begun founded ended closed = inr (record { log = log; journal = begun; office = inr (closed, (office, founded, ended)) })
+  pub behind_open : (Removed : Result ⊤ Error → Type 0) (founding : Founding) (log : SealedLog L f) (x : Journaled (Held S) (SealedLog L f)) (r : Result (Unit {0}) CommandFault)
+      → IsBegunBy f Created founding log → x ≡ begun_with x.office log → IsFoundedIn g (d.opened path) (Ok founding) x.office → IsClosedKept g f true (IsEnded d) x
+      → IfErr r (λ why. why ≡ fault.Close) → IfErr r (IsUnfoundedBehind g f Created Removed d path founding)
+  behind_open Removed founding log x (Ok done) begun is founded ended closed = tt
+  behind_open Removed founding log x (Err why) begun is founded ended closed = inr (record {
+    log = log;
+    journal = begun;
+    office = inr (closed, (x.office, founded, subst (λ (y : Journaled (Held S) (SealedLog L f)). IsClosedKept g f true (IsEnded d) y) is ended));
+  })
+
+module _ {S L : Type 0} (g : Ghosts S) (f : DiskGhosts L) (is_marked : Bool) (Closed : Held S → Option ℕ → Type 0) (x last : Journaled (Held S) (SealedLog L f)) (came : Result ⊤ Fault)
+    (settled : IsSettled (meaning_over g) (in_log f) x last came) (parts : Held S × SealedLog L f) (are : parts ≡ (last.office, last.journal)) (mark : Option ℕ)
+    (is : mark ≡ mark_beside is_marked parts.1) where
+  -- an office with its journal was closed with the mark beside that
+  pub closed_kept : Closed parts.0 mark → IsClosedKept g f is_marked Closed x
+  closed_kept closed = record {
+    last = last;
+    came = came;
+    settled = settled;
+    closed = subst (λ (p : Held S × SealedLog L f). Closed p.0 (mark_beside is_marked p.1)) are (subst (λ (m : Option ℕ). Closed parts.0 m) is closed);
+  }
+
+  pub closed_kept_if : (r : Result (Unit {0}) CommandFault) → OnOk r (Closed parts.0 mark) → OnOk r (IsClosedKept g f is_marked Closed x)
+  closed_kept_if (Ok done) closed = closed_kept closed
+  closed_kept_if (Err why) closed = tt

@@ -1,6 +1,7 @@
 pub mod ServingFacts
 pub mod OpeningFacts
 pub mod KeptFacts
+pub mod MarkFacts
 pub mod LeftFacts
 pub mod KeptLeftFacts
 pub mod TrialFacts

@@ -1,5 +1,5 @@
 -- An office at a path: what is known of it as it is opened, served and closed.
-use Rattle.std.proofs.Common.{◌≡◌, ℕ, List, inl, inr, Result, Ok, Err, subst, sym}
+use Rattle.std.proofs.Common.{◌≡◌, ℕ, List, inl, inr, Option, None, Result, Ok, Err, subst, sym}
 use Rattle.std.specs.Prelude.{IfErr, OnOk}
 use Rattle.sqlite.specs.Held.{Held, state}
 use Rattle.sqlite.specs.State.{HasCleanDisk}
@@ -18,27 +18,27 @@ use Rattle.command_host.specs.declared.databases.Databases as databases
 use Rattle.command_host.specs.Openings.{IsEnded, IsFirstOf, IsOpenedOffice, IsServed}
 
 module _ {S D : Type 0} (g : Ghosts S) (d : databases.Ghosts D (Held S)) (path : List ℕ) where
-  module _ (Done : (old new : Held S) → Type 0) (Stops : CommandFault → (old new : Held S) → Type 0) where
+  module _ (Done : (old new : Held S) → Type 0) (Stops : CommandFault → (old new : Held S) → Type 0) (mark : Option ℕ) where
     pub was_served : (old new : Held S) → IsOpenedOffice g (d.opened path) old → (served closed result : Result (Unit {0}) CommandFault)
-        → OnOk served (Done old new) → IfErr served (λ why. Stops why old new) → OnOk closed (d.closed new) → IsEnded d new → IfErr closed (λ why. why ≡ fault.Close)
-        → IsFirstOf served closed result → IsServed g d path Done Stops result
+        → OnOk served (Done old new) → IfErr served (λ why. Stops why old new) → OnOk closed (d.closed new mark) → IsEnded d new mark → IfErr closed (λ why. why ≡ fault.Close)
+        → IsFirstOf served closed result → IsServed g d path Done Stops mark result
     was_served old new office (Ok a) (Ok b) result done stops closed ended why is =
-        subst (λ r. IsServed g d path Done Stops r) (sym is) (record { old = old; new = new; office = office; done = done; closed = closed })
+        subst (λ r. IsServed g d path Done Stops mark r) (sym is) (record { old = old; new = new; office = office; done = done; closed = closed })
     was_served old new office (Ok a) (Err f) result done stops closed ended why is =
-        subst (λ r. IsServed g d path Done Stops r) (sym is)
+        subst (λ r. IsServed g d path Done Stops mark r) (sym is)
         (inr (inr (why, record { old = old; new = new; office = office; done = done; closed = ended })))
     was_served old new office (Err f) closed result done stops _ ended why is =
-        subst (λ r. IsServed g d path Done Stops r) (sym is)
+        subst (λ r. IsServed g d path Done Stops mark r) (sym is)
         (inr (inl (record { old = old; new = new; office = office; done = stops; closed = ended })))
 
   pub founded_closed : (described : Result Founding FoundingWordsFault) (office : Held S) (r : Result (Unit {0}) CommandFault)
-      → IsFoundedIn g (d.opened path) described office → OnOk r (d.closed office) → OnOk r (WasFounded g (d.opened path) d.closed described)
+      → IsFoundedIn g (d.opened path) described office → OnOk r (d.closed office None) → OnOk r (WasFounded g (d.opened path) d.closed described)
   founded_closed described office (Ok done) founded closed = record { office = office; founded = founded; closed = closed }
   founded_closed described office (Err why) founded closed = tt
 
   -- what was founded and not closed
   pub founded_open : (described : Result Founding FoundingWordsFault) (office : Held S) (r : Result (Unit {0}) CommandFault)
-      → IsFoundedIn g (d.opened path) described office → IsEnded d office → IfErr r (λ why. why ≡ fault.Close)
+      → IsFoundedIn g (d.opened path) described office → IsEnded d office None → IfErr r (λ why. why ≡ fault.Close)
       → IfErr r (IsUnfounded g d path described)
   founded_open described office (Ok done) founded ended closed = tt
   founded_open described office (Err why) founded ended closed = inr (closed, office, founded, ended)

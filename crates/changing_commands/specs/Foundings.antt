@@ -85,12 +85,12 @@ pub record IsFoundedIn {S : Type 0} (g : Ghosts S) (Opened : Held S → Type 0)
   pub empty : (state g was).now.schema ≡ no_schema
   pub founded : IsFoundedAs g described office
 
--- and closed, of which this is known
-pub record WasFounded {S : Type 0} (g : Ghosts S) (Opened Closed : Held S → Type 0)
-    (described : Described) : Type 0 where
+-- and closed without a mark, of which this is known
+pub record WasFounded {S : Type 0} (g : Ghosts S) (Opened : Held S → Type 0)
+    (Closed : Held S → Option ℕ → Type 0) (described : Described) : Type 0 where
   pub office : Held S
   pub founded : IsFoundedIn g Opened described office
-  pub closed : Closed office
+  pub closed : Closed office None
 
 -- No office of a founding is founded over a connection, for this. What is left of that has what it had;
 -- and a crash leaves what it could leave before, or the office of just this founding.
@@ -105,12 +105,12 @@ pub record IsNotFounded {S : Type 0} (g : Ghosts S) (founding : Founding) (conn 
       (λ trees. AreOffice trees (tables_of (history_of founding)))
 
 -- the same of the founding that words describe, over a database that was opened, of which this is
--- known; and what is left was closed, of which that is known
-abbrev pub WasNotFounded : {S : Type 0} → Ghosts S → (Opened Closed : Held S → Type 0) → Described
-    → FoundingFault → Type 0
+-- known; and what is left was closed as it was marked, of which that is known
+abbrev pub WasNotFounded : {S : Type 0} → Ghosts S → (Opened : Held S → Type 0)
+    → (Closed : Held S → Option ℕ → Type 0) → Described → FoundingFault → Type 0
 WasNotFounded {S} g Opened Closed (Ok founding) why =
     (conn left : Held S) × IsUnlimited Opened conn × IsNotFounded g founding conn left why
-    × Closed left
+    × Closed left None
 WasNotFounded g Opened Closed (Err fault) why = ⊥
 
 -- words describe a founding
@@ -141,4 +141,4 @@ abbrev pub IsUnfounded : {S D : Type 0} → Ghosts S → databases.Ghosts D (Hel
 IsUnfounded {S} g d path described why =
     IsUnfoundedAs g d path described why
     ⊎ ((why ≡ fault.Close) × (office : Held S) × IsFoundedIn g (d.opened path) described office
-    × IsEnded d office)
+    × IsEnded d office None)

@@ -38,27 +38,29 @@ module _ {D : Type 0} (g : disk.Ghosts D) where
       → HoldHistory g it.closed.0 (history_of founding)
 
   -- A desk over files that hold the office of a history leaves files that hold the office of that
-  -- history and of what its lines were answered.
+  -- history and of what its lines were answered, with whatever mark they are closed.
   abbrev pub DeskIsLeft : Type 0
-  DeskIsLeft = (h : History) (image : Image) → IsLawfulHistory h → HoldsOffice image (tables_of h)
+  DeskIsLeft = (h : History) (image : Image) (mark : Option ℕ) → IsLawfulHistory h
+      → HoldsOffice image (tables_of h)
       → (it : WasServed (over_files {g = g}) (IsFoundIn image)
-      (HasHandled (meaning_over over_files)) IsClosedInto)
+      (HasHandled (meaning_over over_files)) mark IsClosedInto)
       → HoldHistory g it.closed.0 (history_after_lines h it.done.outcomes)
 
   -- and so do exchanges
   abbrev pub ExchangesAreLeft : Type 0
-  ExchangesAreLeft = (h : History) (image : Image) (most : _) → IsLawfulHistory h
-      → HoldsOffice image (tables_of h)
+  ExchangesAreLeft = (h : History) (image : Image) (most : _) (mark : Option ℕ)
+      → IsLawfulHistory h → HoldsOffice image (tables_of h)
       → (it : WasServed (over_files {g = g}) (IsFoundIn image)
-      (λ old new. HasServedUpTo (meaning_over over_files) old new most) IsClosedInto)
+      (λ old new. HasServedUpTo (meaning_over over_files) old new most) mark IsClosedInto)
       → HoldHistory g it.closed.0
       (history_after_all h (requests_in it.done.1.came) (answers_in it.done.1.came))
 
   -- where files hold, under schema 1, the tables of a history, `migrate` leaves files that hold the
   -- office of that history
   abbrev pub MigrationIsLeft : Type 0
-  MigrationIsLeft = (h : History) (image : Image) → HoldsOldOffice image (tables_of h)
-      → (it : WasMigrated (over_files {g = g}) (IsFoundIn image) IsClosedInto)
+  MigrationIsLeft = (h : History) (image : Image) (mark : Option ℕ)
+      → HoldsOldOffice image (tables_of h)
+      → (it : WasMigrated (over_files {g = g}) (IsFoundIn image) mark IsClosedInto)
       → HoldHistory g it.closed.0 h
 
   -- what was built anew of a journal, and closed, is left in its files: the office of the history that

@@ -1,6 +1,6 @@
 -- An office that is kept with a journal: how that is begun, and how the office is opened with it.
-use Rattle.std.specs.Prelude.{◌≡◌, ◌⊎◌, ℕ, List, [], ◌∷◌, Option, Some, None, Result, Ok, Err, ⊤}
-use Rattle.std.specs.Prelude.{IsTrue, true}
+use Rattle.std.specs.Prelude.{◌≡◌, ◌⊎◌, ◌-◌, ◌^◌, ℕ, min, List, [], ◌∷◌, Option, Some, None, Result}
+use Rattle.std.specs.Prelude.{Ok, Err, ⊤, Bool, ◌==◌, ◌&&◌, if◌then◌else◌, not, IsTrue, true, false}
 use Rattle.std.specs.declared.io.Error.{Error}
 use Rattle.sqlite.specs.Held.{Held}
 use Rattle.sqlite.specs.Store.{Ghosts}
@@ -11,17 +11,18 @@ use Rattle.journal.specs.Journal.{Says}
 use Rattle.journal.specs.Lines.{happened, text_of}
 use Rattle.office_policy.specs.Meaning.{Meaning}
 use Rattle.office_desk.specs.Meant.{meaning_over}
-use Rattle.journal.specs.Journals.{journaled}
+use Rattle.journal.specs.Forms.{HasForms}
+use Rattle.journal.specs.Journals.{IsSettled, journaled}
 use Rattle.journal.specs.Logs.{in_log}
 use Rattle.journal.specs.declared.journaled.Journaled.{Journaled}
 use Rattle.journal_office.specs.Opening.{IsHandedBack, IsReopened}
+use Rattle.review_policy.specs.declared.fault.Fault.{Fault}
 use Rattle.command_host.specs.declared.fault.CommandFault.{CommandFault}
 use Rattle.command_host.specs.declared.fault.CommandFault.TheVariants as fault
 use Rattle.changing_commands.specs.declared.founding.Founding.{Founding}
 use Rattle.command_host.specs.declared.no_file.NoFile.{NoFile}
 use Rattle.changing_commands.specs.Foundings.{founding_event, history_of, Described}
 use Rattle.changing_commands.specs.Foundings.{IsFoundedIn, IsUndescribed, IsUnfoundedAs}
-use Rattle.changing_commands.specs.Foundings.{WasFounded}
 use Rattle.command_host.specs.NoFiles.{file_fault}
 use Rattle.command_host.specs.Openings.{IsEnded, IsOfOpening, IsOpenedOffice}
 use Rattle.command_host.specs.declared.databases.Databases as databases
@@ -35,6 +36,20 @@ IfJournaled (Some path) Without With = With path
 abbrev pub journaled_over : {S L : Type 0} (g : Ghosts S) (f : DiskGhosts L)
     → Meaning (Journaled (Held S) (SealedLog L f))
 journaled_over g f = journaled (meaning_over g) (in_log f)
+
+-- the mark of a database whose journal has so many lines
+abbrev pub mark_of_lines : ℕ → ℕ
+mark_of_lines lines = min lines (2 ^ 32 - 1)
+
+-- the mark that is set beside a journal: that of its lines, where it is open and the database is
+-- marked
+abbrev pub mark_beside : {L : Type 0} {f : DiskGhosts L} → Bool → SealedLog L f → Option ℕ
+mark_beside is_marked log =
+    if is_marked && log.is_open then Some (mark_of_lines log.lines) else None
+
+-- a database of this mark is marked
+abbrev pub is_marked : ℕ → Bool
+is_marked mark = not (mark == 0)
 
 -- a file was removed, of which this is known, whatever came of that
 abbrev pub IsRemoved : (Result ⊤ Error → Type 0) → Type 0
@@ -52,6 +67,7 @@ pub record IsBegunBy {L : Type 0} (f : DiskGhosts L) (Created : Result L NoFile 
   pub made : L
   pub created : Created (Ok made)
   pub is_open : log.is_open ≡ true
+  pub forms : HasForms (founding_event founding)
   pub line : HasLine f founding log
   pub says : IsTrue (f.is_clean log.disk) → Says (bodies_of f log) (history_of founding)
 
@@ -64,16 +80,34 @@ IsUnbegun {L} Created Removed why =
     ⊎ ((why ≡ fault.Journal) × ((made : L) × Created (Ok made)) × IsRemoved Removed)
     ⊎ (why ≡ fault.NoMemory)
 
+-- an office with the journal that was begun for it
+abbrev pub begun_with : {S L : Type 0} {f : DiskGhosts L} → Held S → SealedLog L f
+    → Journaled (Held S) (SealedLog L f)
+begun_with office log =
+    record { office = office; journal = log; has_stray = false; is_settled = false }
+
+-- An office with a journal was closed, of which this is known: its last event was settled before, where
+-- that could be, and a database that is marked got the mark of the journal.
+pub record IsClosedKept {S L : Type 0} (g : Ghosts S) (f : DiskGhosts L) (is_marked : Bool)
+    (Closed : Held S → Option ℕ → Type 0) (x : Journaled (Held S) (SealedLog L f)) : Type 0 where
+  pub last : Journaled (Held S) (SealedLog L f)
+  pub came : Result ⊤ Fault
+  pub settled : IsSettled (meaning_over g) (in_log f) x last came
+  pub closed : Closed last.office (mark_beside is_marked last.journal)
+
 module _ {S L : Type 0} (g : Ghosts S) (f : DiskGhosts L) (Created : Result L NoFile → Type 0) where
-  -- a journal was begun by a founding, and then its office was founded and closed
-  pub record WasFoundedBehind (Opened Closed : Held S → Type 0) (founding : Founding) : Type 0 where
+  -- a journal was begun by a founding, and then its office was founded and closed with it
+  pub record WasFoundedBehind (Opened : Held S → Type 0) (Closed : Held S → Option ℕ → Type 0)
+      (founding : Founding) : Type 0 where
     pub log : SealedLog L f
     pub journal : IsBegunBy f Created founding log
-    pub office : WasFounded g Opened Closed (Ok founding)
+    pub office : Held S
+    pub founded : IsFoundedIn g Opened (Ok founding) office
+    pub ended : IsClosedKept g f true Closed (begun_with office log)
 
   -- the same of the founding that words describe
-  pub record WasFoundedWith (Opened Closed : Held S → Type 0) (described : Described)
-      : Type 0 where
+  pub record WasFoundedWith (Opened : Held S → Type 0) (Closed : Held S → Option ℕ → Type 0)
+      (described : Described) : Type 0 where
     pub founding : Founding
     pub is : described ≡ Ok founding
     pub founded : WasFoundedBehind Opened Closed founding
@@ -87,7 +121,8 @@ module _ {S L : Type 0} (g : Ghosts S) (f : DiskGhosts L) (Created : Result L No
       pub journal : IsBegunBy f Created founding log
       pub office : (IsUnfoundedAs g d path (Ok founding) why × IsRemoved Removed)
           ⊎ ((why ≡ fault.Close) × ((office : Held S)
-          × IsFoundedIn g (d.opened path) (Ok founding) office × IsEnded d office))
+          × IsFoundedIn g (d.opened path) (Ok founding) office
+          × IsClosedKept g f true (IsEnded d) (begun_with office log)))
 
     -- or the journal wasn't begun
     abbrev pub IsUnfoundedBehind : Founding → CommandFault → Type 0
@@ -101,58 +136,65 @@ module _ {S L : Type 0} (g : Ghosts S) (f : DiskGhosts L) (Created : Result L No
 
 module _ {S L : Type 0} (g : Ghosts S) (f : DiskGhosts L)
     (Found : Result L NoFile → Type 0) where
-  -- a file was opened, of which this is known, and an office was opened again with the log in it
-  pub record IsOpenedWith (old : Held S) (x : Journaled (Held S) (SealedLog L f)) : Type 0 where
+  -- a file was opened, of which this is known, and an office of this mark was opened again with the
+  -- log in it
+  pub record IsOpenedWith (mark : ℕ) (old : Held S) (x : Journaled (Held S) (SealedLog L f))
+      : Type 0 where
     pub log : SealedLog L f
     pub found : Found (Ok log.disk)
-    pub again : IsReopened g f old log x
+    pub again : IsReopened g f mark old log x
 
   -- why an office has no journal: none can be opened, or the office wasn't opened again with it
-  abbrev pub IsOfJournal : (old new : Held S) → CommandFault → Type 0
-  IsOfJournal old new (fault.Reopening why) =
-      (log after : SealedLog L f) × Found (Ok log.disk) × IsHandedBack g f old log why new after
-  IsOfJournal old new why =
+  abbrev pub IsOfJournal : (mark : ℕ) → (old new : Held S) → CommandFault → Type 0
+  IsOfJournal mark old new (fault.Reopening why) =
+      (log after : SealedLog L f) × Found (Ok log.disk)
+      × IsHandedBack g f mark old log why new after
+  IsOfJournal mark old new why =
       (e : NoFile) × Found (Err e) × (why ≡ file_fault e) × (new ≡ old)
 
-  module _ (Opened : Held S → Type 0) where
+  module _ (Opened : Held S → Type 0) (mark : ℕ) where
     -- the office over a database that was opened, of which this is known, was opened again so
     pub record IsKeptOffice (x : Journaled (Held S) (SealedLog L f)) : Type 0 where
       pub was : Held S
       pub office : IsOpenedOffice g Opened was
-      pub journal : IsOpenedWith was x
+      pub journal : IsOpenedWith mark was x
 
-    -- such an office was opened, this was done with it, and it was closed, of which this is known
-    pub record WasKept (Done : (old new : Journaled (Held S) (SealedLog L f)) → Type 0)
-        (Closed : Held S → Type 0) : Type 0 where
+    -- such an office was opened, this was done with it, and it was closed with its journal, of which
+    -- this is known
+    pub record WasKept (is_marked : Bool)
+        (Done : (old new : Journaled (Held S) (SealedLog L f)) → Type 0)
+        (Closed : Held S → Option ℕ → Type 0) : Type 0 where
       pub old : Journaled (Held S) (SealedLog L f)
       pub new : Journaled (Held S) (SealedLog L f)
       pub office : IsKeptOffice old
       pub done : Done old new
-      pub closed : Closed new.office
+      pub ended : IsClosedKept g f is_marked Closed new
 
-    -- an office was opened, has no journal for this, and was closed, of which this is known
-    pub record WasNotKept (Closed : Held S → Type 0) (why : CommandFault) : Type 0 where
+    -- an office was opened, has no journal for this, and was closed as it was marked, of which this is
+    -- known
+    pub record WasNotKept (Closed : Held S → Option ℕ → Type 0) (why : CommandFault)
+        : Type 0 where
       pub old : Held S
       pub new : Held S
       pub office : IsOpenedOffice g Opened old
-      pub none : IsOfJournal old new why
-      pub closed : Closed new
+      pub none : IsOfJournal mark old new why
+      pub closed : Closed new None
 
-  -- of databases of which this is known, at a path
-  module _ {D : Type 0} (d : databases.Ghosts D (Held S)) (path : List ℕ) where
+  -- of databases of which this is known, and the one at a path that has this mark
+  module _ {D : Type 0} (d : databases.Ghosts D (Held S)) (path : List ℕ) (mark : ℕ) where
     -- there is no office with its journal: no office, or one without, which was closed, whatever
     -- came of that
     abbrev pub IsUnkept : CommandFault → Type 0
-    IsUnkept why = IsOfOpening d path g why ⊎ WasNotKept (d.opened path) (IsEnded d) why
+    IsUnkept why = IsOfOpening d path g why ⊎ WasNotKept (d.opened path) mark (IsEnded d) why
 
     -- The same of a command that serves an office with its journal. Where it failed, there was no
     -- such office; or it stopped for this, and the office was closed, whatever came of that; or all
     -- was done and the office couldn't be closed.
-    abbrev pub IsServedWith :
-        (Done : (old new : Journaled (Held S) (SealedLog L f)) → Type 0)
+    abbrev pub IsServedWith : (is_marked : Bool)
+        → (Done : (old new : Journaled (Held S) (SealedLog L f)) → Type 0)
         → (Stops : CommandFault → (old new : Journaled (Held S) (SealedLog L f)) → Type 0)
         → Result (Unit {0}) CommandFault → Type 0
-    IsServedWith Done Stops (Ok done) = WasKept (d.opened path) Done d.closed
-    IsServedWith Done Stops (Err why) =
-        IsUnkept why ⊎ WasKept (d.opened path) (Stops why) (IsEnded d)
-        ⊎ ((why ≡ fault.Close) × WasKept (d.opened path) Done (IsEnded d))
+    IsServedWith is_marked Done Stops (Ok done) = WasKept (d.opened path) mark is_marked Done d.closed
+    IsServedWith is_marked Done Stops (Err why) =
+        IsUnkept why ⊎ WasKept (d.opened path) mark is_marked (Stops why) (IsEnded d)
+        ⊎ ((why ≡ fault.Close) × WasKept (d.opened path) mark is_marked Done (IsEnded d))

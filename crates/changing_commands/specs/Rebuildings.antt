@@ -1,5 +1,5 @@
 -- An office in a file that was built anew of a journal.
-use Rattle.std.specs.Prelude.{◌≡◌, ◌⊎◌, ℕ, List, codes, Option, Result}
+use Rattle.std.specs.Prelude.{◌≡◌, ◌⊎◌, ℕ, List, codes, Option, Some, None, Result}
 use Rattle.std.specs.declared.io.Error.{Error as IoError}
 use Rattle.sqlite.specs.Held.{Held, state}
 use Rattle.sqlite.specs.Store.{Ghosts}
@@ -14,6 +14,7 @@ use Rattle.review_policy.specs.declared.fault.Fault.{Fault}
 use Rattle.command_host.specs.declared.databases.Databases as databases
 use Rattle.command_host.specs.declared.fault.CommandFault.{CommandFault}
 use Rattle.command_host.specs.declared.fault.CommandFault.TheVariants as fault
+use Rattle.changing_commands.specs.Journals.{mark_of_lines}
 use Rattle.changing_commands.specs.declared.rebuild.Built.{Built}
 use Rattle.command_host.specs.FailedCalls.{IsToldOf}
 use Rattle.command_host.specs.JournalTexts.{IsNoText, IsTextAt}
@@ -32,9 +33,11 @@ told_of refused = told_by refused refused.why
 
 -- of journals of which this is known as they are opened, and whose bytes are these
 module _ {S F : Type 0} (g : Ghosts S) (Opens : Result F IoError → Type 0)
-    (bytes_of : F → Option (List ℕ)) (Opened Closed : Held S → Type 0) where
+    (bytes_of : F → Option (List ℕ)) (Opened : Held S → Type 0)
+    (Closed : Held S → Option ℕ → Type 0) where
   -- An office was built anew of all that a journal tells, in an empty database that was opened; it
-  -- has so many events, and this is the seal of the journal. It was closed, of which this is known.
+  -- has so many events, and this is the seal of the journal. It was closed with the mark of that, of
+  -- which this is known.
   pub record WasRebuilt (built : Built) : Type 0 where
     pub text : Option (List ℕ)
     pub journal : IsTextAt Opens bytes_of text
@@ -42,11 +45,12 @@ module _ {S F : Type 0} (g : Ghosts S) (Opens : Result F IoError → Type 0)
     pub opened : IsUnlimited Opened was
     pub empty : (state g was).now.schema ≡ no_schema
     pub office : Held S
-    pub rebuilt : IsBuilt text (meaning_over g) office built.events built.seal
-    pub closed : Closed office
+    pub lines : ℕ
+    pub rebuilt : IsBuilt text (meaning_over g) office built.events built.seal lines
+    pub closed : Closed office (Some (mark_of_lines lines))
 
   -- not all that it tells happened again over a database that was opened, for this; and that was
-  -- closed with what did, of which this is known
+  -- closed with what did and as it was marked, of which this is known
   pub record WasUnbuilt (refused : Refused) : Type 0 where
     pub text : Option (List ℕ)
     pub journal : IsTextAt Opens bytes_of text
@@ -54,7 +58,7 @@ module _ {S F : Type 0} (g : Ghosts S) (Opens : Result F IoError → Type 0)
     pub left : Held S
     pub opened : IsUnlimited Opened was
     pub unbuilt : IsUnbuilt text g was left refused
-    pub closed : Closed left
+    pub closed : Closed left None
 
 -- of databases of which this is known, and of the one at a path, and of journals as they are opened
 -- and read

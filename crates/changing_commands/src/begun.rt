@@ -13,7 +13,7 @@ ghost use Rattle.changing_commands.specs.Journals.{IsBegunBy, IsUnbegun};
 use crate::founding::Founding;
 use cap_sets::Caps;
 use command_host::{CommandFault, Journals, fault_of};
-use journal::{Line, text};
+use journal::{Line, LineSorts, text};
 use office_policy::Event;
 use review_policy::Word;
 use sealed_log::{LogFault, SealedLog};
@@ -73,7 +73,7 @@ fn put_first<D: Disk + Drop>(alloc: Global, file: D, body: &[u8]) -> Result<Seal
         → bodies_of D.Disk log ≡ body.now ∷ []) }
 {
     let mut log = SealedLog::new(file);
-    let found = log.read(alloc)?;
+    let found = log.read::<LineSorts>(alloc)?;
     if found.at() > 0 {
         return Err(LogFault::Disk);
     }

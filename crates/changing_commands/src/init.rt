@@ -10,11 +10,14 @@ ghost use Rattle.changing_commands.specs.Foundings.{founding_of_words, IsFounded
 ghost use Rattle.changing_commands.specs.Foundings.{IsNotFounded, IsUndescribed, IsUnfounded};
 ghost use Rattle.changing_commands.specs.Foundings.{IsUnfoundedAs, WasFounded};
 ghost use Rattle.changing_commands.specs.Journals.{HasLine, IsUnfoundedBehind, WasFoundedBehind};
+ghost use Rattle.changing_commands.specs.Journals.{begun_with};
 
 use crate::begun::begin_journal;
 use crate::founding::{Founding, founding_of};
+use crate::kept::{Kept, close_kept};
 use command_host::{CommandFault, Databases, Host, Journals, Outside, close, open};
 use command_line::InitWords;
+use journal::Journaled;
 use office_desk::Office;
 use office_founding::FoundingFault;
 use sealed_log::SealedLog;
@@ -77,27 +80,29 @@ fn founded_at<S: Alter + Drop, D: Databases<Database = Connection<S>>>(
         Ok(office) => Ok(office),
         Err((fault, conn)) => {
             // Why no office is founded is reported, and not whether this closed.
-            let _ = databases.close(conn);
+            let _ = databases.close(conn, None);
             Err(CommandFault::Founding(fault))
         }
     }
 }
 
-// The same, once the line of the founding stands in the file of a journal, which is then let go.
+// The same, once the line of the founding stands in the file of a journal, which is let go where
+// nothing is founded.
 fn founded_behind<S: Alter + Drop, D: Databases<Database = Connection<S>>, J: Disk + Drop>(
     databases: &D,
     path: &str,
     founding: &Founding,
     log: SealedLog<J>,
-) -> Result<Office<S>, CommandFault>
+) -> Result<Kept<S, J>, CommandFault>
     requires { HasLine J.Disk founding.now log }
-    ensures founded { IfOk result
-        (IsFoundedIn S.Store (D.opened path.now) (Ok founding.now)) }
+    ensures founded { IfOk result (λ kept. (kept ≡ begun_with kept.office log)
+        × IsFoundedIn S.Store (D.opened path.now) (Ok founding.now) kept.office) }
     ensures refused { IfErr result (IsUnfoundedAs S.Store D.Databases path.now (Ok founding.now)) }
 {
-    let founded = founded_at(databases, path, founding);
-    drop(log);
-    founded
+    match founded_at(databases, path, founding) {
+        Ok(office) => Ok(Journaled::new(office, log, false)),
+        Err(fault) => Err(fault),
+    }
 }
 
 // Founds the office of a founding in the database at a path, and closes it.
@@ -111,11 +116,12 @@ fn found_and_close<S: Alter + Drop, D: Databases<Database = Connection<S>>>(
     ensures failed { IfErr result (IsUnfounded S.Store D.Databases path.now (Ok founding.now)) }
 {
     let office = founded_at(databases, path, founding)?;
-    close(databases, office)
+    close(databases, office, None)
 }
 
-// Founds the office of a founding in the database at a path, and closes it. A journal is begun
-// before by the line of the founding, and removed again where nothing is founded.
+// Founds the office of a founding in the database at a path, and closes it with the mark of its
+// journal. That is begun before by the line of the founding, and removed again where nothing is
+// founded.
 fn found_behind<S: Alter + Drop, D: Databases<Database = Connection<S>>, J: Journals>(
     databases: &D,
     journals: &J,
@@ -132,7 +138,7 @@ fn found_behind<S: Alter + Drop, D: Databases<Database = Connection<S>>, J: Jour
 {
     let log = begin_journal(journals, alloc, journal, founding)?;
     match founded_behind(databases, path, founding, log) {
-        Ok(office) => close(databases, office),
+        Ok(kept) => close_kept(databases, alloc, kept, true),
         Err(fault) => {
             // Why no office is founded is reported, and not whether the file was removed.
             let _ = journals.remove(journal);

@@ -7,6 +7,7 @@ mod founding;
 mod init;
 mod kept;
 mod lines;
+mod marking;
 mod migrate;
 mod rebuild;
 mod reopening;
@@ -16,6 +17,7 @@ mod trial;
 
 pub use founding::{Founding, founding_of};
 pub use init::found_at;
+pub use marking::mark_stored;
 pub use migrate::migrate_at;
 pub use rebuild::run_rebuild;
 pub use reopening::{

@@ -4,6 +4,7 @@ ghost use Rattle.std.specs.Prelude.{◌≡◌, IfErr, IfOk};
 ghost use Rattle.changing_commands.specs.Rebuildings.{FailsToRebuild, HasRebuilt, IsUnrebuilt};
 ghost use Rattle.changing_commands.specs.Rebuildings.{WasRebuilt, told_of};
 
+use crate::kept::mark_of_lines;
 use command_host::{
     CommandFault, Databases, PassFiles, close, open, print_bytes, seal_line, text_at, told_of_text,
 };
@@ -59,13 +60,15 @@ fn rebuild_at<F: PassFiles, S: Alter + Drop, D: Databases<Database = Connection<
                 office,
                 events,
                 seal,
+                lines,
+                at: _,
             } = rebuilt;
-            close(databases, office)?;
+            close(databases, office, Some(mark_of_lines(lines)))?;
             Ok(Built { events, seal })
         }
         Err((refused, conn)) => {
             // Why it isn't built on is reported, and not whether this closed.
-            let _ = databases.close(conn);
+            let _ = databases.close(conn, None);
             Err(told_of_text(&text, fault_of(refused)))
         }
     }

@@ -5,6 +5,7 @@ ghost use Rattle.std.specs.Prelude.{ℕ, List};
 ghost use Rattle.changing_commands.specs.Hosts.{DeskIsLeft, ExchangesAreLeft, FoundingIsLeft};
 ghost use Rattle.changing_commands.specs.Hosts.{MigrationIsLeft, RebuildingIsLeft};
 ghost use Rattle.changing_commands.specs.KeptHosts.{KeptDeskIsLeft, KeptExchangesAreLeft};
+ghost use Rattle.changing_commands.specs.KeptHosts.{KeptFoundingIsLeft, MarkingIsLeft};
 
 use command_host::{Journals, PassFiles};
 use sqlite::{Connection, FileStore};
@@ -25,7 +26,8 @@ pub fn a_closed_office_is_left_in_its_files<D: Disk + Drop>(_conn: &Connection<F
 /// leave of that, `desk` and `serve` with this journal leave both of one history, with the events of
 /// what they carried out: the office as its files read now, and after a crash; and the journal,
 /// unless a fault has shut it, with just this history. It is the one before, or that and one event
-/// more, which changes none of its tables.
+/// more, which changes none of its tables. So `verify --mark` leaves both, and `init` with a journal
+/// those that it begins. A mark that is set is never above the lines of the journal.
 pub fn a_kept_office_is_left_with_its_journal<D: Disk + Drop, J: Journals>(
     _conn: &Connection<FileStore<D>>,
     _journals: &J,
@@ -34,6 +36,10 @@ pub fn a_kept_office_is_left_with_its_journal<D: Disk + Drop, J: Journals>(
         → KeptDeskIsLeft D.Disk J.File.Disk (J.opens journals path) }
     ensures exchanges { (journals : J) (path : List ℕ)
         → KeptExchangesAreLeft D.Disk J.File.Disk (J.opens journals path) }
+    ensures marking { (journals : J) (path : List ℕ)
+        → MarkingIsLeft D.Disk J.File.Disk (J.opens journals path) }
+    ensures founding { (journals : J) (path : List ℕ)
+        → KeptFoundingIsLeft D.Disk J.File.Disk (J.creates journals path) }
 {}
 
 /// What `rebuild` builds of a journal and closes is left in its files: the office of the history that

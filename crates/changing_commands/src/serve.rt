@@ -6,12 +6,16 @@ ghost use Rattle.std.specs.Net.Socket.{socket_ip, socket_port};
 ghost use Rattle.command_host.specs.Networks.{IsLoopback};
 ghost use Rattle.command_host.specs.Outside.{known};
 ghost use Rattle.changing_commands.specs.Served.{IsServedAlone, IsServedKept, IsServedOver};
+ghost use Rattle.changing_commands.specs.Served.{IsServedUnnamed};
 ghost use Rattle.changing_commands.specs.Serving.{IsAt, IsServing, IsTellingPort, IsUnbound};
 ghost use Rattle.changing_commands.specs.Serving.{listening_line, longest_exchange};
 
 use crate::kept::{close_kept, kept_office_at};
-use command_host::{CommandFault, Host, Network, Outside, close, first_fault, office_at, print};
-use command_line::ServeWords;
+use command_host::{
+    CommandFault, Host, Network, Outside, close, first_fault, look_for_mark, mark_at, office_at,
+    print,
+};
+use command_line::{JournalWords, ServeWords};
 use desk_http::Server;
 use office_policy::Handler;
 use std::alloc::{AllocError, Global};
@@ -84,19 +88,35 @@ fn serve_bound<N: Network, H: Handler, O: Write>(
     }
 }
 
-// The same of the office at a path, without a journal.
+// The same of the office at a path, without a journal. The database is closed with a mark, where one
+// is given.
 fn serve_alone<H: Host, O: Write>(
+    host: &Outside<'_, H>,
+    alloc: Global,
+    words: &ServeWords<'_>,
+    mark: Option<u32>,
+    output: &mut Counted<O>,
+) -> Result<(), CommandFault>
+    ensures { IsServedAlone (known host.now) O.contents output.old output.new words.now mark
+        result }
+{
+    let mut office = office_at(host.databases, words.database)?;
+    let served = serve_bound(host.network, &mut office, alloc, words, output);
+    let closed = close(host.databases, office, mark);
+    first_fault(served, closed)
+}
+
+// The same where the office has no journal.
+fn serve_unnamed<H: Host, O: Write>(
     host: &Outside<'_, H>,
     alloc: Global,
     words: &ServeWords<'_>,
     output: &mut Counted<O>,
 ) -> Result<(), CommandFault>
-    ensures { IsServedAlone (known host.now) O.contents output.old output.new words.now result }
+    ensures { IsServedUnnamed (known host.now) O.contents output.old output.new words.now result }
 {
-    let mut office = office_at(host.databases, words.database)?;
-    let served = serve_bound(host.network, &mut office, alloc, words, output);
-    let closed = close(host.databases, office);
-    first_fault(served, closed)
+    look_for_mark(host.databases, words.database)?;
+    serve_alone(host, alloc, words, None, output)
 }
 
 // The same with the journal at this path.
@@ -111,15 +131,17 @@ fn serve_kept<H: Host, O: Write>(
         journal.now result }
 {
     let path = words.database;
-    let mut kept = kept_office_at(host.databases, host.journals, alloc, path, journal)?;
+    let mark = mark_at(host.databases, path)?;
+    let mut kept = kept_office_at(host.databases, host.journals, alloc, path, journal, mark)?;
     let served = serve_bound(host.network, &mut kept, alloc, words, output);
-    let closed = close_kept(host.databases, kept);
+    let closed = close_kept(host.databases, alloc, kept, mark != 0);
     first_fault(served, closed)
 }
 
-/// Serves exchanges with the office at a path, with its journal where the words give one, and
+/// Serves exchanges with the office at a path, with its journal where the words name one, and
 /// closes it, also where that failed. Where closing fails too, the first fault is told. The port is
-/// bound last, so that nothing is heard where there is no office.
+/// bound last, so that nothing is heard where there is no office. An office that has a journal goes on
+/// without only where that is said.
 pub fn serve_http<H: Host, O: Write>(
     host: &Outside<'_, H>,
     alloc: Global,
@@ -129,7 +151,8 @@ pub fn serve_http<H: Host, O: Write>(
     ensures { IsServedOver (known host.now) O.contents output.old output.new words.now result }
 {
     match words.journal {
-        Some(file) => serve_kept(host, alloc, words, file, output),
-        None => serve_alone(host, alloc, words, output),
+        JournalWords::Named(file) => serve_kept(host, alloc, words, file, output),
+        JournalWords::Without => serve_alone(host, alloc, words, Some(0), output),
+        JournalWords::Unnamed => serve_unnamed(host, alloc, words, output),
     }
 }

@@ -1,18 +1,42 @@
 //! `desk`: the desk of an office in a file.
 
-ghost use Rattle.std.specs.Prelude.{◌^◌, ◌≤◌, option_copied};
+ghost use Rattle.std.specs.Prelude.{◌^◌, ◌≤◌};
 ghost use Rattle.command_host.specs.Outside.{known};
-ghost use Rattle.changing_commands.specs.Served.{IsDesk, IsDeskAlone, IsDeskKept};
+ghost use Rattle.changing_commands.specs.Served.{IsDesk, IsDeskAlone, IsDeskKept, IsDeskUnnamed};
 
 use crate::kept::{close_kept, kept_office_at};
 use crate::lines::answer_lines;
-use command_host::{CommandFault, Host, Outside, close, first_fault, office_at};
+use command_host::{
+    CommandFault, Host, Outside, close, first_fault, look_for_mark, mark_at, office_at,
+};
+use command_line::JournalWords;
 use std::alloc::Global;
 use std::io::{Read, Write};
 use streams::Counted;
 
-// The same without a journal.
+// The same without a journal. The database is closed with a mark, where one is given.
 fn serve_alone<H: Host, R: Read, W: Write>(
+    host: &Outside<'_, H>,
+    alloc: Global,
+    path: &str,
+    mark: Option<u32>,
+    input: &mut Counted<R>,
+    output: &mut Counted<W>,
+) -> Result<(), CommandFault>
+    requires reads { input.old.calls ≤ 2 ^ 62 }
+    requires read_faults { input.old.faults ≤ 2 ^ 62 }
+    requires write_faults { output.old.faults ≤ 2 ^ 62 }
+    ensures { IsDeskAlone (known host.now) W.contents output.old output.new
+        (R.remaining input.old.inner) (R.remaining input.new.inner) path.now mark result }
+{
+    let mut office = office_at(host.databases, path)?;
+    let answered = answer_lines(&mut office, alloc, input, output);
+    let closed = close(host.databases, office, mark);
+    first_fault(answered, closed)
+}
+
+// The same where the office has no journal.
+fn serve_unnamed<H: Host, R: Read, W: Write>(
     host: &Outside<'_, H>,
     alloc: Global,
     path: &str,
@@ -22,13 +46,11 @@ fn serve_alone<H: Host, R: Read, W: Write>(
     requires reads { input.old.calls ≤ 2 ^ 62 }
     requires read_faults { input.old.faults ≤ 2 ^ 62 }
     requires write_faults { output.old.faults ≤ 2 ^ 62 }
-    ensures { IsDeskAlone (known host.now) W.contents output.old output.new
+    ensures { IsDeskUnnamed (known host.now) W.contents output.old output.new
         (R.remaining input.old.inner) (R.remaining input.new.inner) path.now result }
 {
-    let mut office = office_at(host.databases, path)?;
-    let answered = answer_lines(&mut office, alloc, input, output);
-    let closed = close(host.databases, office);
-    first_fault(answered, closed)
+    look_for_mark(host.databases, path)?;
+    serve_alone(host, alloc, path, None, input, output)
 }
 
 // The same with the journal at this path.
@@ -46,20 +68,22 @@ fn serve_kept<H: Host, R: Read, W: Write>(
     ensures { IsDeskKept (known host.now) W.contents output.old output.new
         (R.remaining input.old.inner) (R.remaining input.new.inner) path.now journal.now result }
 {
-    let mut kept = kept_office_at(host.databases, host.journals, alloc, path, journal)?;
+    let mark = mark_at(host.databases, path)?;
+    let mut kept = kept_office_at(host.databases, host.journals, alloc, path, journal, mark)?;
     let answered = answer_lines(&mut kept, alloc, input, output);
-    let closed = close_kept(host.databases, kept);
+    let closed = close_kept(host.databases, alloc, kept, mark != 0);
     first_fault(answered, closed)
 }
 
 /// Answers the lines of a reader at the desk of the office at a path, with its journal at another
-/// where that is given, and closes the office, also after a fault of the desk. Where closing fails
-/// too, the desk's fault is told.
+/// where that is named, and closes the office, also after a fault of the desk. Where closing fails
+/// too, the desk's fault is told. An office that has a journal goes on without only where that is
+/// said.
 pub fn serve_stored<H: Host, R: Read, W: Write>(
     host: &Outside<'_, H>,
     alloc: Global,
     path: &str,
-    journal: Option<&str>,
+    journal: JournalWords<'_>,
     input: &mut Counted<R>,
     output: &mut Counted<W>,
 ) -> Result<(), CommandFault>
@@ -68,10 +92,11 @@ pub fn serve_stored<H: Host, R: Read, W: Write>(
     requires write_faults { output.old.faults ≤ 2 ^ 62 }
     ensures { IsDesk (known host.now) W.contents output.old output.new
         (R.remaining input.old.inner) (R.remaining input.new.inner) path.now
-        (option_copied journal.entry) result }
+        journal.entry result }
 {
     match journal {
-        Some(file) => serve_kept(host, alloc, path, file, input, output),
-        None => serve_alone(host, alloc, path, input, output),
+        JournalWords::Named(file) => serve_kept(host, alloc, path, file, input, output),
+        JournalWords::Without => serve_alone(host, alloc, path, Some(0), input, output),
+        JournalWords::Unnamed => serve_unnamed(host, alloc, path, input, output),
     }
 }

@@ -67,6 +67,7 @@ reopening_fault_text reopening.NoMemory = codes "memory"
 abbrev pub unverified_text : Unverified → List ℕ
 unverified_text (unverified.Refused refused) = refused_text refused
 unverified_text (unverified.Differs row) = codes "differs: " ++ difference_text row
+unverified_text unverified.OtherSeal = codes "other-seal"
 unverified_text (unverified.Fault why) = fault_word why
 
 -- why a command was refused or failed
@@ -84,11 +85,12 @@ command_fault_text fault.Close = codes "disk"
 command_fault_text fault.JournalThere = codes "journal-there"
 command_fault_text fault.JournalBusy = codes "busy"
 command_fault_text fault.Journal = codes "journal"
+command_fault_text fault.JournalUnnamed = codes "journal"
 command_fault_text (fault.Reopening why) = reopening_fault_text why
 command_fault_text fault.SameFile = codes "same-file"
 command_fault_text (fault.Unverified why) = unverified_text why
 command_fault_text (fault.Unbuilt refused) = refused_text refused
-command_fault_text fault.OtherSeal = codes "other-seal"
+command_fault_text fault.TooLarge = codes "too-large"
 command_fault_text (fault.Unwritten why) = unwritten_text why
 command_fault_text (fault.NoEvidence why) = no_evidence_text why
 command_fault_text fault.NotAWord = codes "bad-word"

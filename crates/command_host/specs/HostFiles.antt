@@ -1,10 +1,11 @@
 -- What the databases in the files of a host are known by.
+use Rattle.std.specs.Prelude.{ℕ, Option}
 use Rattle.sqlite_disk.specs.declared.Disk as disk
 use Rattle.sqlite_disk.specs.declared.Files.{Files}
 use Rattle.sqlite_wal.specs.Reads.{AreClean}
 use Rattle.sqlite_wal.specs.Recovery.{Image}
 use Rattle.sqlite_store.specs.declared.store.FileStore.{FileStore}
-use Rattle.sqlite.specs.Closing.{IsCopied}
+use Rattle.marked_store.specs.Marks.{IsCopiedAs}
 use Rattle.sqlite.specs.Files.{file_state, IsOpened}
 use Rattle.sqlite.specs.Held.{Held}
 use Rattle.sqlite.specs.Start.{FindsIn}
@@ -15,7 +16,8 @@ abbrev pub IsFoundIn : {D : Type 0} {g : disk.Ghosts D} → Image → Held (File
 IsFoundIn image conn =
     HasCleanDisk (file_state conn) → IsOpened conn × FindsIn image (file_state conn)
 
--- it was closed, and its files have all of it
-abbrev pub IsClosedInto : {D : Type 0} {g : disk.Ghosts D} → Held (FileStore D g) → Type 0
-IsClosedInto {D} {g} conn =
-    (files : Files D) × (AreClean g files.log files.db → IsCopied conn files)
+-- it was closed with a mark or as it was marked, and its files have all of it
+abbrev pub IsClosedInto : {D : Type 0} {g : disk.Ghosts D} → Held (FileStore D g) → Option ℕ
+    → Type 0
+IsClosedInto {D} {g} conn mark =
+    (files : Files D) × (AreClean g files.log files.db → IsCopiedAs conn mark files)

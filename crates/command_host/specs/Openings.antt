@@ -1,5 +1,5 @@
 -- What is opened at a path, and why it isn't.
-use Rattle.std.specs.Prelude.{◌≡◌, ◌⊎◌, ℕ, List, true, false, None, Result, Ok, Err}
+use Rattle.std.specs.Prelude.{◌≡◌, ◌⊎◌, ◌<◌, ℕ, List, true, false, Option, None, Result, Ok, Err}
 use Rattle.std.specs.declared.io.Error.{Error as IoError}
 use Rattle.sqlite.specs.Held.{Held, state}
 use Rattle.sqlite.specs.State.{HasCleanDisk}
@@ -38,9 +38,9 @@ pub record IsNoOffice {S : Type 0} (g : Ghosts S) (was new : Held S) (why : Open
 
 -- of databases of which this is known
 module _ {S D : Type 0} (d : databases.Ghosts D (Held S)) where
-  -- a database was closed, whatever came of that
-  abbrev pub IsEnded : Held S → Type 0
-  IsEnded conn = (told : Result (Unit {0}) Error) × d.ended conn told
+  -- a database was closed, with a mark or as it was marked, whatever came of that
+  abbrev pub IsEnded : Held S → Option ℕ → Type 0
+  IsEnded conn mark = (told : Result (Unit {0}) Error) × d.ended conn mark told
 
   module _ (path : List ℕ) where
     -- No database was opened at a path, for this: that failed so, or it has a transaction open as it
@@ -63,8 +63,18 @@ module _ {S D : Type 0} (d : databases.Ghosts D (Held S)) where
     IsOfOpening g (fault.Store why) = IsNotThere why
     IsOfOpening g (fault.Opening why) =
         (was new : Held S) × IsUnlimited (d.opened path) was × IsNoOffice g was new why
-        × IsEnded new
+        × IsEnded new None
     IsOfOpening g _ = ⊥
+
+    -- its mark couldn't be read
+    abbrev pub IsUnread : CommandFault → Type 0
+    IsUnread why = (why ≡ fault.Store Disk) × ((error : IoError) × d.marked path (Err error))
+
+    -- the same; or it has one, so that it wants a journal
+    abbrev pub IsWithJournal : CommandFault → Type 0
+    IsWithJournal why =
+        IsUnread why
+        ⊎ ((why ≡ fault.JournalUnnamed) × ((mark : ℕ) × d.marked path (Ok mark) × (0 < mark)))
 
 module _ {S : Type 0} (g : Ghosts S) (Opened : Held S → Type 0) where
   -- the office over a database that was opened, of which this is known
@@ -73,26 +83,27 @@ module _ {S : Type 0} (g : Ghosts S) (Opened : Held S → Type 0) where
     pub opened : Opened was
     pub over : IsOver g was office
 
-  -- such an office was opened, this was done with it, and it was closed, of which this is known
-  pub record WasServed
-      (Done : (old new : Held S) → Type 0) (Closed : Held S → Type 0) : Type 0 where
+  -- such an office was opened, this was done with it, and it was closed with this mark or as it was
+  -- marked, of which this is known
+  pub record WasServed (Done : (old new : Held S) → Type 0) (mark : Option ℕ)
+      (Closed : Held S → Option ℕ → Type 0) : Type 0 where
     pub old : Held S
     pub new : Held S
     pub office : IsOpenedOffice old
     pub done : Done old new
-    pub closed : Closed new
+    pub closed : Closed new mark
 
 -- The same of a command that serves the office at a path. Where it failed, there was no office; or
 -- it stopped for this, and the office was closed, whatever came of that; or all was done and the
 -- office couldn't be closed.
 abbrev pub IsServed : {S D : Type 0} → Ghosts S → (d : databases.Ghosts D (Held S))
     → (path : List ℕ) → (Done : (old new : Held S) → Type 0)
-    → (Stops : CommandFault → (old new : Held S) → Type 0)
+    → (Stops : CommandFault → (old new : Held S) → Type 0) → (mark : Option ℕ)
     → Result (Unit {0}) CommandFault → Type 0
-IsServed g d path Done Stops (Ok done) = WasServed g (d.opened path) Done d.closed
-IsServed g d path Done Stops (Err why) =
-    IsOfOpening d path g why ⊎ WasServed g (d.opened path) (Stops why) (IsEnded d)
-    ⊎ ((why ≡ fault.Close) × WasServed g (d.opened path) Done (IsEnded d))
+IsServed g d path Done Stops mark (Ok done) = WasServed g (d.opened path) Done mark d.closed
+IsServed g d path Done Stops mark (Err why) =
+    IsOfOpening d path g why ⊎ WasServed g (d.opened path) (Stops why) mark (IsEnded d)
+    ⊎ ((why ≡ fault.Close) × WasServed g (d.opened path) Done mark (IsEnded d))
 
 -- of serving and then closing the first fault is reported
 abbrev pub IsFirstOf : (served closed result : Result (Unit {0}) CommandFault) → Type 0

@@ -37,4 +37,7 @@ known {s = s} {d = d} {f = f} {b = b} {j = j} {l = l} {n = n} {c = c} host = rec
   shows = c.shows;
   binds = n.binds;
   tells = n.tells;
+  places = f.places host.files.now;
+  stamps = f.stamps host.files.now;
+  compares = j.compares host.journals.now;
 }

@@ -1,15 +1,15 @@
 //! Databases at paths.
 
-ghost use Rattle.std.specs.Prelude.{ℕ, List, Result, Bool, ⊤, IfErr, IfOk, OnOk};
+ghost use Rattle.std.specs.Prelude.{ℕ, List, Option, Result, Bool, ⊤, IfErr, IfOk, OnOk};
 ghost use Rattle.std.specs.declared.io.Error.{Error as IoError};
 ghost use Rattle.sqlite.specs.declared.error.Error.{Error};
 
 use sqlite::Error;
 use std::io;
 
-/// The databases of SQLite at paths, so that a test can stand in for files. Of `sees`, `refused` and
-/// `ended` nothing is known but that a call meets them, so that who promises them has called with
-/// just this path or database, and has what came of that.
+/// The databases of SQLite at paths, so that a test can stand in for files. Of `sees`, `marked`,
+/// `refused` and `ended` nothing is known but that a call meets them, so that who promises them has
+/// called with just this path or database, and has what came of that.
 pub trait Databases {
     /// A connection to one.
     type Database: Drop;
@@ -20,6 +20,14 @@ pub trait Databases {
     /// Whether something is at a path.
     fn is_there(&self, path: &str) -> io::Result<bool>
         ensures { sees path.now result };
+
+    /// What came of reading the mark of the database at a path.
+    ghost marked: { List ℕ → Result ℕ IoError → Type 0 } = { λ _ _. ⊤ };
+
+    /// The mark of the database at a path, which isn't opened: the number of lines that the journal of
+    /// its office had. 0 where it has no mark, and where no database is.
+    fn mark_at(&self, path: &str) -> io::Result<u32>
+        ensures { marked path.now result };
 
     /// What is known of the database that was opened at a path.
     ghost opened: { List ℕ → Self.Database → Type 0 } = { λ _ _. ⊤ };
@@ -33,14 +41,15 @@ pub trait Databases {
         ensures opened { IfOk result (λ database. opened path.now database) }
         ensures refused { IfErr result (λ error. refused path.now error) };
 
-    /// What is known of the database that was closed.
-    ghost closed: { Self.Database → Type 0 } = { λ _. ⊤ };
+    /// What is known of the database that was closed, with a mark or as it was marked.
+    ghost closed: { Self.Database → Option ℕ → Type 0 } = { λ _ _. ⊤ };
 
-    /// What came of closing a database.
-    ghost ended: { Self.Database → Result ⊤ Error → Type 0 } = { λ _ _. ⊤ };
+    /// What came of closing a database so.
+    ghost ended: { Self.Database → Option ℕ → Result ⊤ Error → Type 0 } = { λ _ _ _. ⊤ };
 
-    /// Closes a database, so that all of it stands in the one file at its path.
-    fn close(&self, database: Self::Database) -> Result<(), Error>
-        ensures closed { OnOk result (closed database) }
-        ensures ended { ended database result };
+    /// Closes a database, so that all of it stands in the one file at its path, and has this mark;
+    /// without one it keeps the one that it has.
+    fn close(&self, database: Self::Database, mark: Option<u32>) -> Result<(), Error>
+        ensures closed { OnOk result (closed database mark) }
+        ensures ended { ended database mark result };
 }

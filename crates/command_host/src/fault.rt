@@ -43,16 +43,18 @@ pub enum CommandFault {
     JournalBusy,
     /// A journal can't be begun, or can't be opened.
     Journal,
+    /// An office has a journal, and none was named.
+    JournalUnnamed,
     /// An office isn't opened again with its journal.
     Reopening(NotReopened),
-    /// A journal is the file of its database, or one of the files beside that, by its name.
+    /// A journal is the file of its database, or one of the two is what is made beside the other.
     SameFile,
     /// An office isn't the one of its journal.
     Unverified(Unverified),
     /// A journal isn't built on, at a line.
     Unbuilt(Refused),
-    /// A line of a journal hasn't the seal that was kept.
-    OtherSeal,
+    /// A file is longer than what is read of one.
+    TooLarge,
     /// The history of a journal wasn't written to its end.
     Unwritten(Unwritten),
     /// A journal has no evidence of the issue of a revision.
@@ -120,6 +122,7 @@ impl fmt::Display for CommandFault {
             CommandFault::Opening(fault) => write!(f, "{fault}"),
             CommandFault::Unverified(Unverified::Refused(refused)) => write!(f, "{refused}"),
             CommandFault::Unverified(Unverified::Differs(row)) => write!(f, "differs: {row}"),
+            CommandFault::Unverified(Unverified::OtherSeal) => f.write_str("other-seal"),
             CommandFault::Unverified(Unverified::Fault(fault)) => write!(f, "{fault}"),
             CommandFault::Unbuilt(refused) => write!(f, "{refused}"),
             CommandFault::Unwritten(why) => write!(f, "{why}"),
@@ -129,10 +132,10 @@ impl fmt::Display for CommandFault {
             CommandFault::Open => f.write_str("read"),
             CommandFault::Close => f.write_str("disk"),
             CommandFault::JournalThere => f.write_str("journal-there"),
-            CommandFault::Journal => f.write_str("journal"),
+            CommandFault::Journal | CommandFault::JournalUnnamed => f.write_str("journal"),
             CommandFault::JournalBusy => f.write_str("busy"),
             CommandFault::SameFile => f.write_str("same-file"),
-            CommandFault::OtherSeal => f.write_str("other-seal"),
+            CommandFault::TooLarge => f.write_str("too-large"),
             CommandFault::Reopening(NotReopened::Unsealed) => f.write_str("unsealed"),
             CommandFault::Reopening(NotReopened::NotALine) => f.write_str("not-a-journal"),
             CommandFault::Reopening(NotReopened::Changed { at }) => write!(f, "changed at {at}"),

@@ -5,9 +5,11 @@ ghost use Rattle.sqlite_wal.specs.Files.{image_at};
 ghost use Rattle.command_host.specs.HostFiles.{IsClosedInto, IsFoundIn};
 
 use crate::databases::Databases;
+use database_head::{HEAD, user_version};
+use marked_store::close_with;
 use sqlite::{Connection, Error, ErrorCode, FileFrom, FileStore, Start};
-use std::fs::{OpenOptions, Permissions};
-use std::io::ErrorKind;
+use std::fs::{File, OpenOptions, Permissions};
+use std::io::{ErrorKind, Read};
 use std::os::unix::fs::{OpenOptionsExt, PermissionsExt};
 use std::{fs, io};
 
@@ -45,6 +47,34 @@ fn have_file(rt: &HostRuntime, path: &str) -> Result<(), Error> {
     }
 }
 
+// The mark of the database in a file, by its first bytes.
+fn mark_in(rt: &HostRuntime, path: &str) -> io::Result<u32> {
+    let mut head = [0; HEAD];
+    let mut file = File::open(rt, path)?;
+    let mut count = 0;
+    for _ in 0..head.len() {
+        let read = file.read(&mut head[count..])?;
+        if read == 0 {
+            break;
+        }
+        count += read;
+    }
+    Ok(user_version(&head[..count]))
+}
+
+// The same where a path leads to a file that SQLite takes; else 0.
+fn mark_at(rt: &HostRuntime, path: &str) -> io::Result<u32> {
+    if !names_file(path) {
+        return Ok(0);
+    }
+    match fs::metadata(rt, path) {
+        Ok(metadata) if metadata.is_file() => mark_in(rt, path),
+        Ok(_) => Ok(0),
+        Err(error) if error.kind() == ErrorKind::NotFound => Ok(0),
+        Err(error) => Err(error),
+    }
+}
+
 /// The databases in the files of the host. `T` stands for what the files hold as they are opened:
 /// what is proved of a command over them is proved for all contents.
 #[derive(Drop)]
@@ -71,6 +101,10 @@ impl<T: Start + Copy> Databases for HostFiles<'_, T> {
         fs::exists(self.rt, path)
     }
 
+    fn mark_at(&self, path: &str) -> io::Result<u32> {
+        mark_at(self.rt, path)
+    }
+
     fn open(&self, path: &str) -> Result<Connection<FileStore<FileFrom<T>>>, Error> {
         have_file(self.rt, path)?;
         match Connection::open_from(self.rt, path, false, self.start) {
@@ -79,8 +113,12 @@ impl<T: Start + Copy> Databases for HostFiles<'_, T> {
         }
     }
 
-    fn close(&self, database: Connection<FileStore<FileFrom<T>>>) -> Result<(), Error> {
-        match database.close_files() {
+    fn close(
+        &self,
+        database: Connection<FileStore<FileFrom<T>>>,
+        mark: Option<u32>,
+    ) -> Result<(), Error> {
+        match close_with(database, mark) {
             Ok(_) => Ok(()),
             Err((error, store)) => {
                 drop(store.close());
@@ -114,11 +152,19 @@ impl Databases for HostRuntime {
         fs::exists(self, path)
     }
 
+    fn mark_at(&self, path: &str) -> io::Result<u32> {
+        mark_at(self, path)
+    }
+
     fn open(&self, path: &str) -> Result<Connection<FileStore<FileFrom<UnknownFiles>>>, Error> {
         HostFiles::new(self, UnknownFiles).open(path)
     }
 
-    fn close(&self, database: Connection<FileStore<FileFrom<UnknownFiles>>>) -> Result<(), Error> {
-        HostFiles::new(self, UnknownFiles).close(database)
+    fn close(
+        &self,
+        database: Connection<FileStore<FileFrom<UnknownFiles>>>,
+        mark: Option<u32>,
+    ) -> Result<(), Error> {
+        HostFiles::new(self, UnknownFiles).close(database, mark)
     }
 }

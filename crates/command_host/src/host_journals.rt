@@ -1,9 +1,11 @@
 //! The journals in the files of the host.
 
+use crate::file_id::{FileId, id_of, is_one_file};
 use crate::journals::Journals;
 use crate::no_file::NoFile;
+use named_disk::{Name, NamedDisk};
 use sqlite::{FileFrom, Start};
-use sqlite_disk::Files;
+use sqlite_disk::{Disk, Files};
 use sqlite_std_file::{OpenError, open};
 use std::fs::{File, OpenOptions, Permissions};
 use std::io::ErrorKind;
@@ -57,13 +59,63 @@ fn unopened(error: OpenError) -> NoFile {
     }
 }
 
-// Removes the empty file that was made beside a journal's. One that has bytes is another's, and
-// stays.
-fn remove_spare(rt: &HostRuntime, path: &str) -> io::Result<()> {
+// Why a file can't be looked at.
+fn unseen(error: &io::Error) -> NoFile {
+    match error.kind() {
+        ErrorKind::OutOfMemory => NoFile::NoMemory,
+        _ => NoFile::Failed,
+    }
+}
+
+/// The path by which the file of a journal was opened.
+#[derive(Drop)]
+pub struct HostName {
+    rt: HostRuntime,
+    path: String,
+    file: FileId,
+}
+
+impl HostName {
+    // The path of the file that is there.
+    fn new(rt: &HostRuntime, path: &str) -> io::Result<HostName> {
+        let file = id_of(&fs::metadata(rt, path)?);
+        let path = String::from_str(rt.alloc(), path)?;
+        Ok(HostName {
+            rt: *rt,
+            path,
+            file,
+        })
+    }
+}
+
+impl Name for HostName {
+    ghost use Rattle.std.specs.Prelude.{⊤};
+
+    ghost leads = { λ _ _ _. ⊤ };
+
+    // A file to which a path leads has a link, and while it is open no other gets its number.
+    fn leads_to_file(&self, len: usize) -> bool {
+        match fs::metadata(&self.rt, self.path.as_str()) {
+            Ok(found) => id_of(&found) == self.file && found.len() == len as u64,
+            Err(_) => false,
+        }
+    }
+}
+
+// The name of the file that opening a journal's makes beside it, where nothing has that name.
+fn free_spare(rt: &HostRuntime, path: &str) -> io::Result<Option<String>> {
     let real = fs::canonicalize(rt, path)?;
     let spare = format!(in rt.alloc(); "{}-wal", real.as_str())?;
-    if fs::symlink_metadata(rt, spare.as_str())?.len() == 0 {
-        fs::remove_file(rt, spare.as_str())?;
+    match fs::symlink_metadata(rt, spare.as_str()) {
+        Err(error) if error.kind() == ErrorKind::NotFound => Ok(Some(spare)),
+        _ => Ok(None),
+    }
+}
+
+// Removes the empty file that was made beside a journal's.
+fn remove_spare(rt: &HostRuntime, spare: &str) -> io::Result<()> {
+    if fs::symlink_metadata(rt, spare)?.len() == 0 {
+        fs::remove_file(rt, spare)?;
     }
     Ok(())
 }
@@ -84,13 +136,13 @@ impl<'r, T: Start + Copy> HostJournals<'r, T> {
 }
 
 impl<T: Start + Copy> Journals for HostJournals<'_, T> {
-    type File = FileFrom<T>;
+    type File = NamedDisk<FileFrom<T>, HostName>;
 
     ghost use Rattle.std.specs.Prelude.{⊤};
 
     ghost creates = { λ _ _ _. ⊤ };
 
-    fn create(&self, path: &str) -> Result<FileFrom<T>, NoFile> {
+    fn create(&self, path: &str) -> Result<Self::File, NoFile> {
         match make_file(self.rt, path) {
             Ok(()) => {}
             Err(error) => return Err(unmade(&error)),
@@ -109,18 +161,30 @@ impl<T: Start + Copy> Journals for HostJournals<'_, T> {
 
     ghost opens = { λ _ _ _. ⊤ };
 
-    // The kit's file takes the lock, and would be made where none is: so one is looked for first.
-    fn open(&self, path: &str) -> Result<FileFrom<T>, NoFile> {
-        if fs::metadata(self.rt, path).is_err() {
-            return Err(NoFile::Failed);
-        }
+    // The kit's file takes the lock, and would be made where none is: so one is looked for first. It
+    // was opened by this name where that led to one file before and after.
+    fn open(&self, path: &str) -> Result<Self::File, NoFile> {
+        let name = match HostName::new(self.rt, path) {
+            Ok(name) => name,
+            Err(error) => return Err(unseen(&error)),
+        };
+        let spare = match free_spare(self.rt, path) {
+            Ok(spare) => spare,
+            Err(error) => return Err(unseen(&error)),
+        };
         let Files { log: _spare, db } = match open(self.rt, path, self.start) {
             Ok(files) => files,
             Err(error) => return Err(unopened(error)),
         };
-        // It is no harm where it stays.
-        let _ = remove_spare(self.rt, path);
-        Ok(db)
+        if let Some(spare) = spare {
+            // It is no harm where it stays.
+            let _ = remove_spare(self.rt, spare.as_str());
+        }
+        let mut file = NamedDisk::new(db, name);
+        match file.len() {
+            Ok(_) => Ok(file),
+            Err(_) => Err(NoFile::Failed),
+        }
     }
 
     ghost removes = { λ _ _ _. ⊤ };
@@ -128,5 +192,11 @@ impl<T: Start + Copy> Journals for HostJournals<'_, T> {
     fn remove(&self, path: &str) -> io::Result<()> {
         fs::remove_file(self.rt, path)?;
         sync_entry(self.rt, path)
+    }
+
+    ghost compares = { λ _ _ _ _. ⊤ };
+
+    fn is_one_file(&self, path: &str, database: &str) -> io::Result<bool> {
+        is_one_file(self.rt, path, database)
     }
 }

@@ -1,6 +1,6 @@
 //! Journals at paths.
 
-ghost use Rattle.std.specs.Prelude.{ℕ, List, Result, ⊤, IfOk};
+ghost use Rattle.std.specs.Prelude.{ℕ, List, Bool, Result, ⊤, IfOk};
 ghost use Rattle.std.specs.declared.io.Error.{Error};
 ghost use Rattle.sqlite_disk.specs.Disk.{Only};
 ghost use Rattle.command_host.specs.declared.no_file.NoFile.{NoFile};
@@ -10,8 +10,8 @@ use sqlite_disk::Disk;
 use std::io;
 
 /// The files of journals at paths, so that a test can stand in for those of the host. Of `creates`,
-/// `opens` and `removes` nothing is known but that a call meets them, so that who promises them has
-/// called with just this path, and has what came of that.
+/// `opens`, `removes` and `compares` nothing is known but that a call meets them, so that who promises
+/// them has called with just this path, and has what came of that.
 pub trait Journals {
     /// A file, as a disk.
     type File: Disk + Drop;
@@ -46,4 +46,16 @@ pub trait Journals {
     /// Removes the file at a path.
     fn remove(&self, path: &str) -> io::Result<()>
         ensures { removes self.now path.now result };
+
+    /// What came of asking whether the file at a path and a database at another are one file.
+    ghost compares: { Self → List ℕ → List ℕ → Result Bool Error → Type 0 };
+
+    /// Whether the file at a path and the database at another are one file, or one of them is made
+    /// beside the other, by whatever names.
+    ///
+    /// # Errors
+    ///
+    /// Only where there is no memory.
+    fn is_one_file(&self, path: &str, database: &str) -> io::Result<bool>
+        ensures { compares self.now path.now database.now result };
 }

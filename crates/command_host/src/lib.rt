@@ -4,6 +4,7 @@
 
 mod databases;
 mod fault;
+mod file_id;
 mod files;
 mod founding_fault;
 mod host;
@@ -15,6 +16,7 @@ mod network;
 mod no_file;
 mod noted;
 mod opening;
+mod place;
 mod written;
 
 pub use databases::Databases;
@@ -23,11 +25,14 @@ pub use files::PassFiles;
 pub use founding_fault::FoundingWordsFault;
 pub use host::{Host, HostOf, Outside, gather};
 pub use host_files::{HostFiles, UnknownFiles};
-pub use host_journals::HostJournals;
+pub use host_journals::{HostJournals, HostName};
 pub use journal_text::{JournalText, text_at, told_of_text};
 pub use journals::Journals;
 pub use network::{Network, PassNet};
 pub use no_file::{NoFile, fault_of};
 pub use noted::Noted;
-pub use opening::{close, database_at, fault_of_opening, first_fault, office_at, open};
+pub use opening::{
+    close, database_at, fault_of_opening, first_fault, look_for_mark, mark_at, office_at, open,
+};
+pub use place::Stamp;
 pub use written::{print, print_bytes, refuse, say, seal_line};

@@ -1,10 +1,11 @@
 //! Opening what stands at a path, and closing an office.
 
-ghost use Rattle.std.specs.Prelude.{◌≡◌, IfErr, IfOk, OnOk};
+ghost use Rattle.std.specs.Prelude.{◌≡◌, IfErr, IfOk, Ok, OnOk};
 ghost use Rattle.sqlite.specs.Held.{state};
 ghost use Rattle.office_store.specs.Shown.{IsIdle};
 ghost use Rattle.command_host.specs.Openings.{fault_of_opening, IsEnded, IsFirstOf, IsNotThere};
 ghost use Rattle.command_host.specs.Openings.{IsOfOpening, IsOpenedOffice, IsUnlimited, IsUnopened};
+ghost use Rattle.command_host.specs.Openings.{IsUnread, IsWithJournal};
 
 use crate::databases::Databases;
 use crate::fault::CommandFault;
@@ -91,13 +92,51 @@ pub fn office_at<S: Alter + Drop, D: Databases<Database = Connection<S>>>(
         Ok(office) => Ok(office),
         Err((fault, conn)) => {
             // Why it is no office is reported, and not whether this closed.
-            let _ = databases.close(conn);
+            let _ = databases.close(conn, None);
             Err(CommandFault::Opening(fault))
         }
     }
 }
 
-/// Closes an office, so that all of it stands in one file.
+/// The mark of the database at a path, which isn't opened.
+///
+/// # Errors
+///
+/// `Store` where it can't be read.
+pub fn mark_at<S: Alter + Drop, D: Databases<Database = Connection<S>>>(
+    databases: &D,
+    path: &str,
+) -> Result<u32, CommandFault>
+    ensures read { IfOk result (λ mark. D.marked path.now (Ok mark)) }
+    ensures unread { IfErr result (IsUnread D.Databases path.now) }
+{
+    match databases.mark_at(path) {
+        Ok(mark) => Ok(mark),
+        Err(_) => Err(CommandFault::Store(Fault::Disk)),
+    }
+}
+
+/// Looks that no journal is wanted beside the database at a path, which isn't opened.
+///
+/// # Errors
+///
+/// `JournalUnnamed` where one is, and as of [`mark_at`].
+pub fn look_for_mark<S: Alter + Drop, D: Databases<Database = Connection<S>>>(
+    databases: &D,
+    path: &str,
+) -> Result<(), CommandFault>
+    ensures none { OnOk result (D.marked path.now (Ok 0)) }
+    ensures some { IfErr result (IsWithJournal D.Databases path.now) }
+{
+    match mark_at(databases, path) {
+        Ok(mark) if mark > 0 => Err(CommandFault::JournalUnnamed),
+        Ok(_) => Ok(()),
+        Err(fault) => Err(fault),
+    }
+}
+
+/// Closes an office, so that all of it stands in one file, and has this mark; without one it keeps the
+/// one that it has.
 ///
 /// # Errors
 ///
@@ -105,12 +144,13 @@ pub fn office_at<S: Alter + Drop, D: Databases<Database = Connection<S>>>(
 pub fn close<S: Alter, D: Databases<Database = Connection<S>>>(
     databases: &D,
     office: Office<S>,
+    mark: Option<u32>,
 ) -> Result<(), CommandFault>
-    ensures closed { OnOk result (D.closed office) }
-    ensures ended { IsEnded D.Databases office }
+    ensures closed { OnOk result (D.closed office mark) }
+    ensures ended { IsEnded D.Databases office mark }
     ensures fault { IfErr result (λ fault. fault ≡ CommandFault.Close) }
 {
-    match databases.close(office.into_connection()) {
+    match databases.close(office.into_connection(), mark) {
         Ok(()) => Ok(()),
         Err(_) => Err(CommandFault::Close),
     }

@@ -10,11 +10,13 @@ use Rattle.command_line.specs.declared.fault.WordsFault.TheVariants.{Help, Versi
 use Rattle.command_line.specs.declared.command.EvidenceWords.{EvidenceWords}
 use Rattle.command_line.specs.declared.command.HistoryWords.{HistoryWords}
 use Rattle.command_line.specs.declared.command.InitWords.{InitWords}
+use Rattle.command_line.specs.declared.command.JournalWords.{JournalWords}
+use Rattle.command_line.specs.declared.command.JournalWords.TheVariants.{Unnamed, Named, Without}
 use Rattle.command_line.specs.declared.command.Requests.TheVariants.{Count, UntilStopped}
 use Rattle.command_line.specs.declared.command.ServeWords.{ServeWords}
 use Rattle.command_line.specs.declared.command.VerifyWords.{VerifyWords}
-use Rattle.command_line.specs.Meaning.{HasCompareValues, HasEvidenceValues, HasHistoryValues, HasInitValues, HasRebuildValues, HasServeValues, HasVerifyValues, is_until_stopped}
-use Rattle.command_line.specs.Refusals.{IsRefused, IsTold, NoKeptSeal, NoLineGiven, NoNumberIn, NoRequests, NoSealGiven, NoneAskedFor}
+use Rattle.command_line.specs.Meaning.{HasCompareValues, HasEvidenceValues, HasHistoryValues, HasInitValues, HasRebuildValues, HasServeValues, HasVerifyValues, Gives, IsJournalGiven, is_set, is_until_stopped}
+use Rattle.command_line.specs.Refusals.{IsRefused, IsTold, NoJournalGiven, NoKeptSeal, NoLineGiven, NoNumberIn, NoRequests, NoSealGiven, NoneAskedFor}
 
 -- two texts that don't compare equal are two
 apart : (a b : Text) → bytes_eq a b ≡ false → a ≢ b
@@ -33,12 +35,28 @@ no_init rows lacks (Execve words) asked = apart _ _ refl asked.0
 no_init rows lacks (Init words) asked = lacks words asked.1
 no_init rows lacks (Desk database journal) asked = apart _ _ refl asked.0
 no_init rows lacks (Serve words) asked = apart _ _ refl asked.0
-no_init rows lacks (Migrate database) asked = apart _ _ refl asked.0
+no_init rows lacks (Migrate database without) asked = apart _ _ refl asked.0
 no_init rows lacks (Compare base new) asked = apart _ _ refl asked.0
 no_init rows lacks (Verify words) asked = apart _ _ refl asked.0
 no_init rows lacks (Rebuild database journal) asked = apart _ _ refl asked.0
 no_init rows lacks (History words) asked = apart _ _ refl asked.0
 no_init rows lacks (Evidence words) asked = apart _ _ refl asked.0
+
+-- `desk` asks for nothing where a value that it needs isn't there
+pub no_desk : (rows : List Row) → ((database : Text) (journal : JournalWords) → Gives rows (codes "database") database → ¬ IsJournalGiven rows journal)
+    → NoneAskedFor (codes "desk") rows
+no_desk rows lacks Trial asked = asked
+no_desk rows lacks (Check file) asked = apart _ _ refl asked.0
+no_desk rows lacks (Execve words) asked = apart _ _ refl asked.0
+no_desk rows lacks (Init words) asked = apart _ _ refl asked.0
+no_desk rows lacks (Desk database journal) asked = lacks database.now journal asked.1 asked.2
+no_desk rows lacks (Serve words) asked = apart _ _ refl asked.0
+no_desk rows lacks (Migrate database without) asked = apart _ _ refl asked.0
+no_desk rows lacks (Compare base new) asked = apart _ _ refl asked.0
+no_desk rows lacks (Verify words) asked = apart _ _ refl asked.0
+no_desk rows lacks (Rebuild database journal) asked = apart _ _ refl asked.0
+no_desk rows lacks (History words) asked = apart _ _ refl asked.0
+no_desk rows lacks (Evidence words) asked = apart _ _ refl asked.0
 
 -- `serve` asks for nothing where a value that it needs isn't there
 pub no_serve : (rows : List Row) → ((words : ServeWords) → ¬ HasServeValues rows words) → NoneAskedFor (codes "serve") rows
@@ -48,7 +66,7 @@ no_serve rows lacks (Execve words) asked = apart _ _ refl asked.0
 no_serve rows lacks (Init words) asked = apart _ _ refl asked.0
 no_serve rows lacks (Desk database journal) asked = apart _ _ refl asked.0
 no_serve rows lacks (Serve words) asked = lacks words asked.1
-no_serve rows lacks (Migrate database) asked = apart _ _ refl asked.0
+no_serve rows lacks (Migrate database without) asked = apart _ _ refl asked.0
 no_serve rows lacks (Compare base new) asked = apart _ _ refl asked.0
 no_serve rows lacks (Verify words) asked = apart _ _ refl asked.0
 no_serve rows lacks (Rebuild database journal) asked = apart _ _ refl asked.0
@@ -63,7 +81,7 @@ no_compare rows lacks (Execve words) asked = apart _ _ refl asked.0
 no_compare rows lacks (Init words) asked = apart _ _ refl asked.0
 no_compare rows lacks (Desk database journal) asked = apart _ _ refl asked.0
 no_compare rows lacks (Serve words) asked = apart _ _ refl asked.0
-no_compare rows lacks (Migrate database) asked = apart _ _ refl asked.0
+no_compare rows lacks (Migrate database without) asked = apart _ _ refl asked.0
 no_compare rows lacks (Compare base new) asked = lacks base.now new.now asked.1
 no_compare rows lacks (Verify words) asked = apart _ _ refl asked.0
 no_compare rows lacks (Rebuild database journal) asked = apart _ _ refl asked.0
@@ -78,7 +96,7 @@ no_verify rows lacks (Execve words) asked = apart _ _ refl asked.0
 no_verify rows lacks (Init words) asked = apart _ _ refl asked.0
 no_verify rows lacks (Desk database journal) asked = apart _ _ refl asked.0
 no_verify rows lacks (Serve words) asked = apart _ _ refl asked.0
-no_verify rows lacks (Migrate database) asked = apart _ _ refl asked.0
+no_verify rows lacks (Migrate database without) asked = apart _ _ refl asked.0
 no_verify rows lacks (Compare base new) asked = apart _ _ refl asked.0
 no_verify rows lacks (Verify words) asked = lacks words asked.1
 no_verify rows lacks (Rebuild database journal) asked = apart _ _ refl asked.0
@@ -93,7 +111,7 @@ no_rebuild rows lacks (Execve words) asked = apart _ _ refl asked.0
 no_rebuild rows lacks (Init words) asked = apart _ _ refl asked.0
 no_rebuild rows lacks (Desk database journal) asked = apart _ _ refl asked.0
 no_rebuild rows lacks (Serve words) asked = apart _ _ refl asked.0
-no_rebuild rows lacks (Migrate database) asked = apart _ _ refl asked.0
+no_rebuild rows lacks (Migrate database without) asked = apart _ _ refl asked.0
 no_rebuild rows lacks (Compare base new) asked = apart _ _ refl asked.0
 no_rebuild rows lacks (Verify words) asked = apart _ _ refl asked.0
 no_rebuild rows lacks (Rebuild database journal) asked = lacks database.now journal.now asked.1
@@ -108,7 +126,7 @@ no_history rows lacks (Execve words) asked = apart _ _ refl asked.0
 no_history rows lacks (Init words) asked = apart _ _ refl asked.0
 no_history rows lacks (Desk database journal) asked = apart _ _ refl asked.0
 no_history rows lacks (Serve words) asked = apart _ _ refl asked.0
-no_history rows lacks (Migrate database) asked = apart _ _ refl asked.0
+no_history rows lacks (Migrate database without) asked = apart _ _ refl asked.0
 no_history rows lacks (Compare base new) asked = apart _ _ refl asked.0
 no_history rows lacks (Verify words) asked = apart _ _ refl asked.0
 no_history rows lacks (Rebuild database journal) asked = apart _ _ refl asked.0
@@ -123,7 +141,7 @@ no_evidence rows lacks (Execve words) asked = apart _ _ refl asked.0
 no_evidence rows lacks (Init words) asked = apart _ _ refl asked.0
 no_evidence rows lacks (Desk database journal) asked = apart _ _ refl asked.0
 no_evidence rows lacks (Serve words) asked = apart _ _ refl asked.0
-no_evidence rows lacks (Migrate database) asked = apart _ _ refl asked.0
+no_evidence rows lacks (Migrate database without) asked = apart _ _ refl asked.0
 no_evidence rows lacks (Compare base new) asked = apart _ _ refl asked.0
 no_evidence rows lacks (Verify words) asked = apart _ _ refl asked.0
 no_evidence rows lacks (Rebuild database journal) asked = apart _ _ refl asked.0
@@ -167,3 +185,12 @@ none_given rows unset none (Count n) h = none n h.1
 none_given rows unset none UntilStopped h =
     let bad : false ≡ true = sym unset ∙ h.0 in
     cc
+
+-- where a journal is named and it is said that there is to be none, there is no such choice
+pub both_said : (rows : List Row) (text : Text) → first_of (codes "journal") rows ≡ Some text → is_set (first_of (codes "without-journal") rows) ≡ true
+    → NoJournalGiven rows
+both_said rows text given set Unnamed h = none≢some text (sym h.0 ∙ given)
+both_said rows text given set (Named file) h =
+    let bad : true ≡ false = sym set ∙ h.1 in
+    cc
+both_said rows text given set Without h = none≢some text (sym h.0 ∙ given)

@@ -27,27 +27,28 @@ init_app = with_rules (new_app (codes "init")) (needed_rule (codes "database")
     ∷ needed_rule (codes "name") ∷ needed_rule (codes "team") ∷ needed_rule (codes "digest")
     ∷ several_rule (codes "capability") ∷ option_rule (codes "journal") ∷ [])
 
--- `desk DB [--journal FILE]`
+-- `desk DB [--journal FILE | --without-journal]`: that not both are there, `IsJournalGiven` demands.
 abbrev pub desk_app : App
 desk_app = with_rules (new_app (codes "desk")) (needed_rule (codes "database")
-    ∷ option_rule (codes "journal") ∷ [])
+    ∷ option_rule (codes "journal") ∷ flag_rule (codes "without-journal") ∷ [])
 
--- `serve DB [--port P] (--requests N | --until-stopped) [--journal FILE]`: P is 0 where it isn't
--- given. That one of the two is there, and not both, `AreRequests` demands.
+-- `serve DB [--port P] (--requests N | --until-stopped) [--journal FILE | --without-journal]`: P is 0
+-- where it isn't given. That one of the two is there, and not both, `AreRequests` demands.
 abbrev pub serve_app : App
 serve_app = with_rules (new_app (codes "serve")) (needed_rule (codes "database")
     ∷ record (number_rule (codes "port") 0 65535) { defaults = codes "0" ∷ [] }
     ∷ number_rule (codes "requests") 1 1000000 ∷ flag_rule (codes "until-stopped")
-    ∷ option_rule (codes "journal") ∷ [])
+    ∷ option_rule (codes "journal") ∷ flag_rule (codes "without-journal") ∷ [])
 
--- `migrate DB`
+-- `migrate DB [--without-journal]`
 abbrev pub migrate_app : App
-migrate_app = with_rules (new_app (codes "migrate")) (needed_rule (codes "database") ∷ [])
+migrate_app = with_rules (new_app (codes "migrate")) (needed_rule (codes "database")
+    ∷ flag_rule (codes "without-journal") ∷ [])
 
--- `verify DB JOURNAL [--seal N:HEX]`
+-- `verify DB JOURNAL [--seal N:HEX] [--mark]`
 abbrev pub verify_app : App
 verify_app = with_rules (new_app (codes "verify")) (needed_rule (codes "database")
-    ∷ needed_rule (codes "journal") ∷ option_rule (codes "seal") ∷ [])
+    ∷ needed_rule (codes "journal") ∷ option_rule (codes "seal") ∷ flag_rule (codes "mark") ∷ [])
 
 -- `rebuild DB JOURNAL`
 abbrev pub rebuild_app : App

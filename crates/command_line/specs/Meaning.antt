@@ -15,6 +15,8 @@ use Rattle.command_line.specs.declared.command.EvidenceWords.{EvidenceWords}
 use Rattle.command_line.specs.declared.command.ExecveWords.{ExecveWords}
 use Rattle.command_line.specs.declared.command.HistoryWords.{HistoryWords}
 use Rattle.command_line.specs.declared.command.InitWords.{InitWords}
+use Rattle.command_line.specs.declared.command.JournalWords.{JournalWords}
+use Rattle.command_line.specs.declared.command.JournalWords.TheVariants.{Unnamed, Named, Without}
 use Rattle.command_line.specs.declared.command.KeptSeal.{KeptSeal}
 use Rattle.command_line.specs.declared.command.Requests.{Requests}
 use Rattle.command_line.specs.declared.command.Requests.TheVariants.{Count, UntilStopped}
@@ -86,12 +88,29 @@ AreRequests rows (Count n) =
 AreRequests rows UntilStopped =
     (is_until_stopped rows ≡ true) × (first_of (codes "requests") rows ≡ None)
 
+-- a journal is named, or it is said that there is to be none, or neither; both are never said
+abbrev pub IsJournalGiven : List Row → JournalWords → Type 0
+IsJournalGiven rows Unnamed =
+    (first_of (codes "journal") rows ≡ None)
+    × (is_set (first_of (codes "without-journal") rows) ≡ false)
+IsJournalGiven rows (Named file) =
+    Gives rows (codes "journal") file.now
+    × (is_set (first_of (codes "without-journal") rows) ≡ false)
+IsJournalGiven rows Without =
+    (first_of (codes "journal") rows ≡ None)
+    × (is_set (first_of (codes "without-journal") rows) ≡ true)
+
+-- the file of the journal that is named
+abbrev pub journal_named : JournalWords → Option Text
+journal_named (Named file) = Some file.now
+journal_named _ = None
+
 -- each value of serve is the one that the rows give for it, the numbers within their limits
 pub record HasServeValues (rows : List Row) (words : ServeWords) : Type 0 where
   pub database : Gives rows (codes "database") words.database.now
   pub port : IsNumberIn 0 65535 words.port (one_of (codes "port") rows)
   pub requests : AreRequests rows words.requests
-  pub journal : first_of (codes "journal") rows ≡ option_map (λ s. s.now) words.journal
+  pub journal : IsJournalGiven rows words.journal
 
 -- each value of compare is the one that the rows give for it
 pub record HasCompareValues (rows : List Row) (base_file new_file : Text) : Type 0 where
@@ -125,6 +144,7 @@ pub record HasVerifyValues (rows : List Row) (words : VerifyWords) : Type 0 wher
   pub database : Gives rows (codes "database") words.database.now
   pub journal : Gives rows (codes "journal") words.journal.now
   pub seal : IsSealGiven (first_of (codes "seal") rows) words.seal
+  pub mark : words.mark ≡ is_set (first_of (codes "mark") rows)
 
 -- each value of rebuild is the one that the rows give for it
 pub record HasRebuildValues (rows : List Row) (new_file journal_file : Text) : Type 0 where
@@ -161,10 +181,11 @@ AsksFor name rows (Execve words) = (name ≡ codes "execve") × HasValues rows w
 AsksFor name rows (Init words) = (name ≡ codes "init") × HasInitValues rows words
 AsksFor name rows (Desk database journal) =
     (name ≡ codes "desk") × Gives rows (codes "database") database.now
-    × (first_of (codes "journal") rows ≡ option_map (λ s. s.now) journal)
+    × IsJournalGiven rows journal
 AsksFor name rows (Serve words) = (name ≡ codes "serve") × HasServeValues rows words
-AsksFor name rows (Migrate database) =
+AsksFor name rows (Migrate database without) =
     (name ≡ codes "migrate") × Gives rows (codes "database") database.now
+    × (without ≡ is_set (first_of (codes "without-journal") rows))
 AsksFor name rows (Compare base new) =
     (name ≡ codes "compare") × HasCompareValues rows base.now new.now
 AsksFor name rows (Verify words) = (name ≡ codes "verify") × HasVerifyValues rows words

@@ -5,13 +5,14 @@ use Rattle.clap.specs.declared.error.kind.ErrorKind.{ErrorKind}
 use Rattle.clap.specs.declared.error.kind.ErrorKind.TheVariants.{DisplayHelp, DisplayVersion}
 use Rattle.clap.specs.declared.error.kind.ErrorKind.TheVariants.{OutOfMemory}
 use Rattle.command_line.specs.declared.command.Command.{Command}
+use Rattle.command_line.specs.declared.command.JournalWords.{JournalWords}
 use Rattle.command_line.specs.declared.command.KeptSeal.{KeptSeal}
 use Rattle.command_line.specs.declared.fault.WordsFault.{WordsFault}
 use Rattle.command_line.specs.declared.fault.WordsFault.TheVariants.{Help, Version, Refused}
 use Rattle.command_line.specs.declared.fault.WordsFault.TheVariants.{NoMemory}
 use Rattle.command_line.specs.declared.command.Requests.{Requests}
-use Rattle.command_line.specs.Meaning.{AreRequests, AsksFor, IsCommand, IsKeptSeal, IsLineGiven}
-use Rattle.command_line.specs.Meaning.{IsNumberIn, IsSealGiven}
+use Rattle.command_line.specs.Meaning.{AreRequests, AsksFor, IsCommand, IsJournalGiven, IsKeptSeal}
+use Rattle.command_line.specs.Meaning.{IsLineGiven, IsNumberIn, IsSealGiven}
 
 -- what is reported of an error of clap's by its kind; out of memory may stand in place of its text
 abbrev pub IsTold : ErrorKind → WordsFault → Type 0
@@ -27,6 +28,10 @@ NoNumberIn low high text = (n : ℕ) → ¬ IsNumberIn low high n text
 -- the rows give neither `--requests` with a number within its limits nor `--until-stopped`, or both
 abbrev pub NoRequests : List Row → Type 0
 NoRequests rows = (requests : Requests) → ¬ AreRequests rows requests
+
+-- the rows give both `--journal` and `--without-journal`
+abbrev pub NoJournalGiven : List Row → Type 0
+NoJournalGiven rows = (journal : JournalWords) → ¬ IsJournalGiven rows journal
 
 -- the text names no line with a seal
 abbrev pub NoKeptSeal : Text → Type 0

@@ -13,25 +13,27 @@ pub enum Command<'w> {
     Execve(ExecveWords<'w>),
     /// `init DB NAME TEAM DIGEST [CAP]... [--journal FILE]`: a new office in a file.
     Init(InitWords<'w>),
-    /// `desk DB [--journal FILE]`: the office in a file, over standard input and output.
+    /// `desk DB [--journal FILE | --without-journal]`: the office in a file, over standard input and
+    /// output.
     Desk {
         database: &'w str,
-        journal: Option<&'w str>,
+        journal: JournalWords<'w>,
     },
-    /// `migrate DB`: the office of schema 1 in a file is made one of schema 2.
+    /// `migrate DB [--without-journal]`: the office of schema 1 in a file is made one of schema 2.
     Migrate {
         database: &'w str,
+        without_journal: bool,
     },
-    /// `serve DB [--port P] (--requests N | --until-stopped) [--journal FILE]`: the office in a
-    /// file, over HTTP.
+    /// `serve DB [--port P] (--requests N | --until-stopped) [--journal FILE | --without-journal]`:
+    /// the office in a file, over HTTP.
     Serve(ServeWords<'w>),
     /// `compare BASE NEW`: what the document in one file permits more than that in another.
     Compare {
         base: &'w str,
         new: &'w str,
     },
-    /// `verify DB JOURNAL [--seal N:HEX]`: whether the office in a file is the one that a journal
-    /// tells.
+    /// `verify DB JOURNAL [--seal N:HEX] [--mark]`: whether the office in a file is the one that a
+    /// journal tells.
     Verify(VerifyWords<'w>),
     /// `rebuild DB JOURNAL`: a new office in a file, of what a journal tells.
     Rebuild {
@@ -61,6 +63,32 @@ pub struct ExecveWords<'w> {
     pub file_effective: bool,
 }
 
+/// What is said of the journal of an office that goes on.
+#[derive(Clone, Copy, Debug)]
+pub enum JournalWords<'w> {
+    /// Nothing: the office has none.
+    Unnamed,
+    /// `--journal FILE`: the journal in FILE, which goes on.
+    Named(&'w str),
+    /// `--without-journal`: the office goes on without the one that it has.
+    Without,
+}
+
+impl<'w> JournalWords<'w> {
+    ghost use Rattle.std.specs.Prelude.{◌≡◌, option_copied};
+    ghost use Rattle.command_line.specs.Meaning.{journal_named};
+
+    /// The FILE that is named.
+    pub fn file(self) -> Option<&'w str>
+        ensures { option_copied result ≡ journal_named self.entry }
+    {
+        match self {
+            JournalWords::Named(file) => Some(file),
+            _ => None,
+        }
+    }
+}
+
 /// The values of `verify`.
 #[derive(Clone, Copy, Debug)]
 pub struct VerifyWords<'w> {
@@ -70,6 +98,8 @@ pub struct VerifyWords<'w> {
     pub journal: &'w str,
     /// The N:HEX of `--seal`.
     pub seal: Option<KeptSeal>,
+    /// Whether there is `--mark`.
+    pub mark: bool,
 }
 
 /// The seal that a line of a journal had.
@@ -147,8 +177,8 @@ pub struct ServeWords<'w> {
     pub port: u16,
     /// How many exchanges are served.
     pub requests: Requests,
-    /// The FILE of `--journal`, which goes on.
-    pub journal: Option<&'w str>,
+    /// What is said of the journal.
+    pub journal: JournalWords<'w>,
 }
 
 /// The values of `init`.

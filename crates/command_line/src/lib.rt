@@ -13,6 +13,7 @@ mod execve;
 mod fault;
 mod history;
 mod init;
+mod journal;
 mod line;
 mod migrate;
 mod parts;
@@ -23,8 +24,8 @@ mod verify;
 mod words;
 
 pub use command::{
-    Command, EvidenceWords, ExecveWords, HistoryWords, InitWords, KeptSeal, Requests, ServeWords,
-    VerifyWords,
+    Command, EvidenceWords, ExecveWords, HistoryWords, InitWords, JournalWords, KeptSeal, Requests,
+    ServeWords, VerifyWords,
 };
 pub use fault::WordsFault;
 pub use words::read_words;

@@ -3,11 +3,12 @@
 ghost use Rattle.std.specs.Prelude.{◌≡◌, ℕ, IfOk, IfSome, IfNone, false, codes};
 ghost use Rattle.command_line.specs.Commands.{serve_app};
 ghost use Rattle.command_line.specs.Meaning.{AreRequests, AsksFor, IsNumberIn};
-ghost use Rattle.command_line.specs.Meaning.{is_until_stopped, value_of, values_of};
+ghost use Rattle.command_line.specs.Meaning.{value_of, values_of};
 ghost use Rattle.command_line.specs.Parts.{AddsCommand};
 ghost use Rattle.command_line.specs.Refusals.{NoNumberIn, NoRequests, NoneAskedFor};
 
 use crate::command::{Command, Requests, ServeWords};
+use crate::journal::{is_set, journal_of};
 use crate::parts::{Form, Parameter, add_command};
 use clap::ArgMatches;
 use std::alloc::{AllocError, Global};
@@ -24,7 +25,8 @@ port.
 
 It prints `listening 127.0.0.1:PORT` first, and then a line for each exchange: the status of its answer,
 or `fault WORD` where it failed. With `--journal`, what happens is written to FILE first, which
-`init --journal` began.
+`init --journal` began. An office that has a journal goes on without it only with `--without-journal`:
+what happens then isn't in the journal, and the two go on together no more.
 
 Statuses: 0, N exchanges are over; 1, it was refused or failed, which standard error says as
 `office: WORDS`.
@@ -33,7 +35,8 @@ Example:
   office serve team.db --port 8080 --requests 1000
   office serve team.db --port 8080 --until-stopped --journal team.journal";
 
-/// Adds `serve DB [--port P] (--requests N | --until-stopped) [--journal FILE]`.
+/// Adds `serve DB [--port P] (--requests N | --until-stopped) [--journal FILE |
+/// --without-journal]`.
 pub(crate) fn add_serve<'a>(
     alloc: Global,
     commands: &mut Vec<clap::Command<'a>>,
@@ -75,6 +78,11 @@ pub(crate) fn add_serve<'a>(
             form: Form::Valued("FILE"),
             help: "The journal of the office, which goes on",
         },
+        Parameter {
+            id: "without-journal",
+            form: Form::Flag,
+            help: "Goes on without the journal that the office has, which then tells it no more",
+        },
     ];
     add_command(alloc, commands, "serve", ABOUT, EXAMPLES, &parameters)
 }
@@ -102,22 +110,12 @@ fn count_of(given: &ArgMatches<'_>) -> Option<u32>
     }
 }
 
-// Whether `--until-stopped` is there.
-fn is_until_stopped(given: &ArgMatches<'_>) -> bool
-    ensures { result ≡ is_until_stopped (values_of given.now) }
-{
-    match given.get_str("until-stopped") {
-        Some(set) => set == "true",
-        None => false,
-    }
-}
-
 // One of the two; none where there is neither, or both.
 fn requests_of(given: &ArgMatches<'_>) -> Option<Requests>
     ensures asked { IfSome result (AreRequests (values_of given.now)) }
     ensures lacking { IfNone result (NoRequests (values_of given.now)) }
 {
-    if is_until_stopped(given) {
+    if is_set(given, "until-stopped") {
         match given.get_str("requests") {
             Some(_) => None,
             None => Some(Requests::UntilStopped),
@@ -131,7 +129,8 @@ fn requests_of(given: &ArgMatches<'_>) -> Option<Requests>
 }
 
 /// What `serve` asks for with these values; none without DB, P, and just one of N and
-/// `--until-stopped`, the numbers within their limits.
+/// `--until-stopped`, the numbers within their limits, or with both `--journal` and
+/// `--without-journal`.
 pub(crate) fn serve_of<'w>(given: &ArgMatches<'w>) -> Option<Command<'w>>
     ensures command { IfSome result (AsksFor (codes "serve") (values_of given.now)) }
     ensures lacking { IfNone result (NoneAskedFor (codes "serve") (values_of given.now)) }
@@ -139,7 +138,7 @@ pub(crate) fn serve_of<'w>(given: &ArgMatches<'w>) -> Option<Command<'w>>
     let database = given.get_str("database")?;
     let port = port_of(given)?;
     let requests = requests_of(given)?;
-    let journal = given.get_str("journal");
+    let journal = journal_of(given)?;
     Some(Command::Serve(ServeWords {
         database,
         port,

@@ -8,6 +8,7 @@ ghost use Rattle.command_line.specs.Parts.{AddsCommand};
 ghost use Rattle.command_line.specs.Refusals.{NoSealGiven, NoneAskedFor};
 
 use crate::command::{Command, KeptSeal, VerifyWords};
+use crate::journal::is_set;
 use crate::parts::{Form, Parameter, add_command};
 use crate::seal::kept_seal;
 use clap::ArgMatches;
@@ -23,6 +24,9 @@ Each line of a journal has a seal, which names all before it. With `--seal`, lin
 the seal HEX: that of the last line, as an earlier `verify` printed it, says that nothing up to there was
 changed since.
 
+An office that was founded with a journal is marked: `desk` and `serve` open it with that journal alone.
+With `--mark`, an office of before, or one that was restored, is marked so, once the two agree.
+
 Statuses: 0, it prints `verified N events, seal HEX`; 1, it was refused or failed, which standard error
 says as `office: WORDS`: the first line that no lawful history has, with the rule that refuses it, or
 the first row that differs, or `other-seal`.
@@ -31,7 +35,7 @@ Example:
   office verify team.db team.journal
   office verify team.db team.journal --seal 10:$(cat team.seal)";
 
-/// Adds `verify DB JOURNAL [--seal N:HEX]`.
+/// Adds `verify DB JOURNAL [--seal N:HEX] [--mark]`.
 pub(crate) fn add_verify<'a>(
     alloc: Global,
     commands: &mut Vec<clap::Command<'a>>,
@@ -53,6 +57,11 @@ pub(crate) fn add_verify<'a>(
             id: "seal",
             form: Form::Valued("N:HEX"),
             help: "The seal that line N of the journal has",
+        },
+        Parameter {
+            id: "mark",
+            form: Form::Flag,
+            help: "Marks the office as one of this journal, once both agree",
         },
     ];
     add_command(alloc, commands, "verify", ABOUT, EXAMPLES, &parameters)
@@ -82,9 +91,11 @@ pub(crate) fn verify_of<'w>(given: &ArgMatches<'w>) -> Option<Command<'w>>
     let database = given.get_str("database")?;
     let journal = given.get_str("journal")?;
     let seal = seal_of(given)?;
+    let mark = is_set(given, "mark");
     Some(Command::Verify(VerifyWords {
         database,
         journal,
         seal,
+        mark,
     }))
 }

@@ -17,6 +17,7 @@ use crate::execve::{add_execve, execve_of};
 use crate::fault::WordsFault;
 use crate::history::{add_history, history_of};
 use crate::init::{add_init, init_of};
+use crate::journal::journal_of;
 use crate::migrate::{add_migrate, migrate_of};
 use crate::rebuild::{add_rebuild, rebuild_of};
 use crate::serve::{add_serve, serve_of};
@@ -113,18 +114,19 @@ fn command_of<'w>(
 }
 
 // What is said of values that ask for no command. `clap` has seen to all but that N:HEX is of its
-// form, and that there is just one of `--requests` and `--until-stopped`.
+// form, that there is at most one of `--journal` and `--without-journal`, and just one of
+// `--requests` and `--until-stopped`.
 fn refusal_of(alloc: Global, given: &ArgMatches<'_>) -> Result<String, AllocError> {
-    match given.get_str("seal") {
-        Some(text) => format!(in alloc;
+    if let Some(text) = given.get_str("seal") {
+        return format!(in alloc;
             "error: invalid value '{text}' for '--seal <N:HEX>'\n\nFor more information, try '--help'.\n"
-        ),
-        None => String::from_str(
-            alloc,
-            "error: just one of '--requests <N>' and '--until-stopped' has to be there\n\n\
-             For more information, try '--help'.\n",
-        ),
+        );
     }
+    let what = match journal_of(given) {
+        Some(_) => "just one of '--requests <N>' and '--until-stopped' has to be there",
+        None => "the argument '--journal <FILE>' cannot be used with '--without-journal'",
+    };
+    format!(in alloc; "error: {what}\n\nFor more information, try '--help'.\n")
 }
 
 // What was found asks for; a refusal where it is no command.

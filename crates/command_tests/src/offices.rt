@@ -157,6 +157,10 @@ impl Databases for Unclosed {
         Ok(true)
     }
 
+    fn mark_at(&self, _path: &str) -> io::Result<u32> {
+        Ok(0)
+    }
+
     fn open(&self, _path: &str) -> Result<Connection<MemStore>, Error> {
         match Connection::open_in_memory(self.alloc) {
             Ok(conn) => Ok(conn),
@@ -164,7 +168,7 @@ impl Databases for Unclosed {
         }
     }
 
-    fn close(&self, _database: Connection<MemStore>) -> Result<(), Error> {
+    fn close(&self, _database: Connection<MemStore>, _mark: Option<u32>) -> Result<(), Error> {
         Err(Error::SqliteFailure(ErrorCode::SystemIoFailure))
     }
 }

@@ -17,14 +17,15 @@ use Rattle.office_policy.proofs.SurvivalFacts.{survives_on}
 use Rattle.office_policy.proofs.CauseFacts.{cause_before}
 use Rattle.sealed_log.specs.Sealed.{IsBody, sealed_text}
 use Rattle.journal.specs.Forms.{HasForms, HasNumber}
-use Rattle.journal.specs.Journal.{IsEntry, Says}
+use Rattle.journal.specs.Journal.{EndsWithEvent, IsEntry, Says}
 use Rattle.journal.specs.Lines.{happened, strike, text_of}
 use Rattle.journal.proofs.Lengths.{allowed_entry}
 use Rattle.journal.specs.declared.journaled.Journaled.{Journaled}
-use Rattle.journal.specs.Begun.{IsLeftOf}
-use Rattle.journal.specs.Journals.{HasStruck, IsHalfStruck, IsOf, IsStray, IsStruck, IsTakenBack, KeepsJournal, LeavesFile, LeavesOffice, goes_on, is_clean, journaled, stray_faults, struck_none, with_office}
+use Rattle.journal.specs.Begun.{IsLeftOf, done_bodies}
+use Rattle.journal.specs.Journals.{HasStruck, IsHalfStruck, IsOf, IsStray, IsStruck, IsTakenBack, KeepsJournal, LeavesFile, LeavesOffice, goes_on, is_clean, journaled, stray_faults, struck_body, struck_none, unsettled, with_office}
 use Rattle.journal.specs.Writing.{IsAppended, IsLeftIn, IsMet, Writing}
 use Rattle.journal.proofs.Offices.{all_left, caused, none_fewer, open_of, risen_first, risen_second, stands_with}
+use Rattle.journal.proofs.Settling.{settled_says}
 use Rattle.journal.proofs.Texts.{numbered_by, one_more, one_struck}
 
 by_flag : (b : Bool) → IsTrue (not b) → b ≡ false
@@ -70,6 +71,17 @@ module _ {O J : Type 0} (m : Meaning O) (w : Writing J) (x : Journaled O J) (goe
   abbrev event : Event
   event = event_for a
 
+  -- what goes before it: that the last event is carried out, where no line says so yet
+  abbrev settling : List (List ℕ)
+  settling = done_bodies (unsettled w x)
+
+  -- what it is written behind
+  abbrev base : List (List ℕ)
+  base = w.bodies x.journal ++ settling
+
+  behind_base : (body : List ℕ) (bodies : List (List ℕ)) → bodies ≡ w.bodies x.journal ++ (settling ++ body ∷ []) → bodies ≡ base ++ body ∷ []
+  behind_base body bodies is = is ∙ sym (append_assoc (w.bodies x.journal) settling (body ∷ []))
+
   module _ (body : List ℕ) (said : body ≡ text_of (happened event)) (own : HasNumber event → HasForms event) where
     module _ (h : History) (allowed : IsAllowedTo h r a) where
       formed : HasForms event
@@ -101,48 +113,55 @@ module _ {O J : Type 0} (m : Meaning O) (w : Writing J) (x : Journaled O J) (goe
       says : Says (w.bodies x.journal) h
       says = of.says (clean_at clean, clean_j) goes
 
+      says_base : Says base h
+      says_base = settled_says m w x goes h of (clean_at clean, clean_j)
+
       -- the bodies with that of the event say it too
-      with_line : (bodies : List (List ℕ)) → bodies ≡ w.bodies x.journal ++ body ∷ [] → Says bodies (event ∷ h)
+      with_line : (bodies : List (List ℕ)) → bodies ≡ base ++ body ∷ [] → Says bodies (event ∷ h)
       with_line bodies is =
-          subst (λ b. Says b (event ∷ h)) (sym (is ∙ ap (λ l. w.bodies x.journal ++ l ∷ []) said))
-          (one_more (w.bodies x.journal) h event (entry h allowed) says)
+          subst (λ b. Says b (event ∷ h)) (sym (is ∙ ap (λ l. base ++ l ∷ []) said))
+          (one_more base h event (entry h allowed) says_base)
 
       -- and say it no more where it is struck out
-      with_strike : (bodies : List (List ℕ)) → bodies ≡ (w.bodies x.journal ++ body ∷ []) ++ text_of strike ∷ [] → Says bodies h
+      with_strike : (bodies : List (List ℕ)) → bodies ≡ (base ++ body ∷ []) ++ text_of strike ∷ [] → Says bodies h
       with_strike bodies is =
-          subst (λ b. Says b h) (sym (is ∙ ap (λ l. (w.bodies x.journal ++ l ∷ []) ++ text_of strike ∷ []) said))
-          (one_struck (w.bodies x.journal) h event (entry h allowed) says)
+          subst (λ b. Says b h) (sym (is ∙ ap (λ l. (base ++ l ∷ []) ++ text_of strike ∷ []) said))
+          (one_struck base h event (entry h allowed) says_base)
 
-      -- the line is there, or what is left of it
-      first_part : (left : List ℕ) → IsLeftIn (w.bodies x.journal) body left → IsLeftOf h left
-      first_part left part = inr (record {
+      -- the lines are there, or what is left of them
+      first_part : (left : List ℕ) → IsLeftIn (w.bodies x.journal) settling body left → IsLeftOf h left
+      first_part left part = inr (inl (record {
         before = w.bodies x.journal;
         says = says;
+        settling = unsettled w x;
+        settled = says_base;
         event = event;
         allowed = allowed.lawful;
         forms = formed h allowed;
-        left = inl (subst (λ b. IsLeftIn (w.bodies x.journal) b left) said part);
-      })
+        left = inl (subst (λ b. IsLeftIn (w.bodies x.journal) settling b left) said part);
+      }))
 
       -- and behind it what is left of the line that strikes it out
-      half_line : (bodies : List (List ℕ)) (left : List ℕ) → bodies ≡ w.bodies x.journal ++ body ∷ [] → IsLeftIn bodies (text_of strike) left → IsLeftOf h left
-      half_line bodies left is part = inr (record {
+      half_line : (bodies : List (List ℕ)) (left : List ℕ) → bodies ≡ base ++ body ∷ [] → IsLeftIn bodies [] (text_of strike) left → IsLeftOf h left
+      half_line bodies left is part = inr (inl (record {
         before = w.bodies x.journal;
         says = says;
+        settling = unsettled w x;
+        settled = says_base;
         event = event;
         allowed = allowed.lawful;
         forms = formed h allowed;
-        left = inr (subst (λ b. IsLeftIn b (text_of strike) left) (is ∙ ap (λ l. w.bodies x.journal ++ l ∷ []) said) part);
-      })
+        left = inr (subst (λ b. IsLeftIn b [] (text_of strike) left) (is ∙ ap (λ l. base ++ l ∷ []) said) part);
+      }))
 
-      whole_line : (bodies : List (List ℕ)) (left : List ℕ) → bodies ≡ w.bodies x.journal ++ body ∷ [] → left ≡ sealed_text bodies → IsLeftOf h left
+      whole_line : (bodies : List (List ℕ)) (left : List ℕ) → bodies ≡ base ++ body ∷ [] → left ≡ sealed_text bodies → IsLeftOf h left
       whole_line bodies left is whole = half_line bodies left is (record { tail = []; short = none_below _; is = whole ∙ sym (append-nil (sealed_text bodies)) })
 
     -- ---- the line was not written
 
-    module _ (j : J) (fault : TheFault) (appended : IsAppended w x.journal j body (Err fault)) where
+    module _ (j : J) (fault : TheFault) (appended : IsAppended w x.journal j settling body (Err fault)) where
       abbrev unwritten : Journaled O J
-      unwritten = record { office = mid; journal = j; has_stray = x.has_stray }
+      unwritten = record { office = mid; journal = j; has_stray = x.has_stray; is_settled = x.is_settled }
 
       clean_both : is_clean m w unwritten → is_clean m w x
       clean_both clean = (clean_at clean.0, appended.clean clean.1)
@@ -151,6 +170,7 @@ module _ {O J : Type 0} (m : Meaning O) (w : Writing J) (x : Journaled O J) (goe
       unwritten_of h of = record {
         office = permitted.leaves.office h of.office;
         says = λ clean on. subst (λ b. Says b h) (sym (appended.written.0 clean.1 (open_of m w unwritten on))) (of.says (clean_both clean) goes);
+        ends = λ clean on unsettled. subst EndsWithEvent (sym (appended.written.0 clean.1 (open_of m w unwritten on))) (of.ends (clean_both clean) goes unsettled);
       }
 
       risen : HasRisen (w.faults x.journal) (w.faults j) → HasRisen (m.faults x.office + w.faults x.journal + stray_faults x.has_stray) (m.faults mid + w.faults j + stray_faults x.has_stray)
@@ -218,9 +238,12 @@ module _ {O J : Type 0} (m : Meaning O) (w : Writing J) (x : Journaled O J) (goe
 
     -- ---- the line was written
 
-    module _ (j : J) (appended : IsAppended w x.journal j body (Ok tt)) (o : O) (clean_mid : m.is_clean o → m.is_clean mid) where
+    module _ (j : J) (appended : IsAppended w x.journal j settling body (Ok tt)) (o : O) (clean_mid : m.is_clean o → m.is_clean mid) where
       abbrev written : Journaled O J
-      written = record { office = o; journal = j; has_stray = x.has_stray }
+      written = record { office = o; journal = j; has_stray = x.has_stray; is_settled = false }
+
+      line_there : w.is_clean j → w.bodies j ≡ base ++ body ∷ []
+      line_there clean = behind_base body (w.bodies j) (appended.written.1 clean)
 
       goes_still : IsTrue (goes_on m w written)
       goes_still = and_from (w.is_open j) _ appended.written.0 has_room
@@ -233,7 +256,13 @@ module _ {O J : Type 0} (m : Meaning O) (w : Writing J) (x : Journaled O J) (goe
           office = handled.office h of.office;
           says = λ clean on.
               subst (Says (w.bodies j)) (sym (after_is h (permitted.allowed h of.office (clean_mid clean.0))))
-              (with_line h of (clean_mid clean.0) (appended.clean clean.1) (w.bodies j) (appended.written.1 clean.1));
+              (with_line h of (clean_mid clean.0) (appended.clean clean.1) (w.bodies j) (line_there clean.1));
+          ends = λ clean on unsettled. record {
+            before = base;
+            event = event;
+            forms = formed h (permitted.allowed h of.office (clean_mid clean.0));
+            is = line_there clean.1 ∙ ap (λ l. base ++ l ∷ []) said;
+          };
         }
 
         done_stands : (h : History) → IsOf m w h x → is_clean m w written → Stands (journaled m w) (history_after h r (Done a.reply)) written
@@ -298,10 +327,10 @@ module _ {O J : Type 0} (m : Meaning O) (w : Writing J) (x : Journaled O J) (goe
         on_without on = by_flag z.has_stray (and_parts (w.is_open z.journal) _ on).1
 
         -- the bodies where the event is there, and where it is struck out
-        one_there : w.is_clean z.journal → w.bodies j ≡ w.bodies x.journal ++ body ∷ []
-        one_there clean = appended.written.1 (back.clean clean)
+        one_there : w.is_clean z.journal → w.bodies j ≡ base ++ body ∷ []
+        one_there clean = line_there (back.clean clean)
 
-        both_there : IsStruck m w written z → w.is_clean z.journal → w.bodies z.journal ≡ (w.bodies x.journal ++ body ∷ []) ++ text_of strike ∷ []
+        both_there : IsStruck m w written z → w.is_clean z.journal → w.bodies z.journal ≡ (base ++ body ∷ []) ++ text_of strike ∷ []
         both_there struck clean = struck.bodies clean ∙ ap (λ b. b ++ text_of strike ∷ []) (one_there clean)
 
         closes_by : IsStruck m w written z ⊎ (IsHalfStruck m w written z ⊎ IsStray m w written z) → m.is_clean z.office → m.is_open x.office
@@ -321,10 +350,17 @@ module _ {O J : Type 0} (m : Meaning O) (w : Writing J) (x : Journaled O J) (goe
         says_by (inr (inl half)) h of clean on = absurd (never_both z.has_stray half.stray (on_without on))
         says_by (inr (inr stray)) h of clean on = absurd (never_both z.has_stray stray.stray (on_without on))
 
+        -- the event of the last line is struck out
+        ends_by : IsStruck m w written z ⊎ (IsHalfStruck m w written z ⊎ IsStray m w written z) → IsTrue (goes_on m w z) → z.is_settled ≡ false → EndsWithEvent (w.bodies z.journal)
+        ends_by (inl struck) on unsettled = absurd (never_both z.is_settled struck.settled unsettled)
+        ends_by (inr (inl half)) on unsettled = absurd (never_both z.has_stray half.stray (on_without on))
+        ends_by (inr (inr stray)) on unsettled = absurd (never_both z.has_stray stray.stray (on_without on))
+
         back_of : (h : History) → IsOf m w h x → IsOf m w h z
         back_of h of = record {
           office = back.leaves.office h (handled.office h of.office);
           says = says_by back.journal h of;
+          ends = λ clean on unsettled. ends_by back.journal on unsettled;
         }
 
         -- an event that is struck out is all that the journal has more
@@ -332,9 +368,11 @@ module _ {O J : Type 0} (m : Meaning O) (w : Writing J) (x : Journaled O J) (goe
         keeps_by (inl struck) clean on = (
           goes,
           record {
-            events = event ∷ [];
-            is = both_there struck clean ∙ append_assoc (w.bodies x.journal) (body ∷ []) (text_of strike ∷ [])
-                ∙ ap (λ l. w.bodies x.journal ++ l ∷ text_of strike ∷ []) said;
+            events = (unsettled w x, event) ∷ [];
+            is = both_there struck clean ∙ append_assoc base (body ∷ []) (text_of strike ∷ [])
+                ∙ append_assoc (w.bodies x.journal) settling (body ∷ text_of strike ∷ [])
+                ∙ ap (λ l. w.bodies x.journal ++ (settling ++ l ∷ text_of strike ∷ [])) said
+                ∙ ap (λ l. w.bodies x.journal ++ l) (sym (append-nil (struck_body (unsettled w x, event))));
           },
         )
         keeps_by (inr (inl half)) clean on = absurd (never_both z.has_stray half.stray (on_without on))

@@ -10,20 +10,20 @@ use Rattle.journal.specs.Told.{standing, told}
 
 pub record IsFirst (before : ℕ) (held : Option Event) (line : Line) (lines : List Line) (es : List (ℕ × Event)) : Type 0 where
   pub by : Option Event × Option Event
-  pub taken : taken held line ≡ Some by
+  pub taken : taken before held line ≡ Some by
   pub rest : List (ℕ × Event)
   pub tells : told (before + 1) by.1 lines ≡ Some rest
   pub parts : es ≡ standing before by.0 ++ rest
 
 pub first_told : (before : ℕ) (held : Option Event) (line : Line) (lines : List Line) (es : List (ℕ × Event)) → told before held (line ∷ lines) ≡ Some es → IsFirst before held line lines es
-first_told before held line lines es tells = at (taken held line) refl tells
+first_told before held line lines es tells = at (taken before held line) refl tells
   where
-    of_rest : (t : Option Event × Option Event) → taken held line ≡ Some t → (rest : Option (List (ℕ × Event))) → told (before + 1) t.1 lines ≡ rest
+    of_rest : (t : Option Event × Option Event) → taken before held line ≡ Some t → (rest : Option (List (ℕ × Event))) → told (before + 1) t.1 lines ≡ rest
         → option_map (λ es. standing before t.0 ++ es) rest ≡ Some es → IsFirst before held line lines es
     of_rest t is None tells_none given = cc
     of_rest t is (Some rest) tells given = record { by = t; taken = is; rest = rest; tells = tells; parts = cc }
 
-    at : (o : Option (Option Event × Option Event)) → taken held line ≡ o
+    at : (o : Option (Option Event × Option Event)) → taken before held line ≡ o
         → option_and_then (λ t. option_map (λ es. standing before t.0 ++ es) (told (before + 1) t.1 lines)) o ≡ Some es → IsFirst before held line lines es
     at None is given = cc
     at (Some t) is given = of_rest t is (told (before + 1) t.1 lines) refl given

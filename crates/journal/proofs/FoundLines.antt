@@ -22,8 +22,8 @@ use Rattle.journal.specs.declared.kind.Kind.{Kind}
 use Rattle.journal.specs.declared.kind.Kind.TheVariants as kinds
 use Rattle.journal.specs.Forms.{IsFormed}
 use Rattle.review_sheet.specs.Review.{vote_word}
-use Rattle.journal.specs.Lines.{Line, happened, strike, line_data, of_profile, of_revision}
-use Rattle.journal.specs.Read.{caller_at, candidate_at, enrolled_at, founded_at, listed_at, profile_event_at, revision_event_at, submitted_at, voted_at}
+use Rattle.journal.specs.Lines.{Line, happened, strike, done, line_data, of_profile, of_revision}
+use Rattle.journal.specs.Read.{done_at, caller_at, candidate_at, enrolled_at, founded_at, listed_at, profile_event_at, revision_event_at, submitted_at, voted_at}
 use Rattle.journal.proofs.RoleFacts.{roles_back}
 use Rattle.journal.proofs.Tables.{each_below}
 
@@ -104,6 +104,10 @@ unfolding voted_at caller_at word_at name_at revision_at digest_at vote_at
 vote caller p n digest approves h =
     rw (h.0, h.1.0, h.1.1, number_back n h.2, digest_back digest h.3, vote_back approves) refl
 
+settled : (n : ℕ) → done_at (line_data (done n)) ≡ Some (done n)
+unfolding done_at
+settled n = refl
+
 pub found : (l : Line) → IsFormed l → candidate_at (line_data l) ≡ Some l
 unfolding candidate_at
 found (happened (founded name team digest listed)) h = founding name team digest listed h
@@ -116,3 +120,4 @@ found (happened (adopted caller p n)) h = on_revision adopted kinds.Adopt caller
 found (happened (held caller p)) h = on_profile held kinds.Hold caller p h.0 h.1
 found (happened (released caller p)) h = on_profile released kinds.Release caller p h.0 h.1
 found strike h = refl
+found (done n) h = settled n

@@ -29,14 +29,14 @@ joined number stands es h =
 -- what the lines from here on tell is what they add to the history
 abbrev Adds : List Line → Type 0
 Adds lines =
-    (before : ℕ) (held : Option Event) (es : List Placed) (h : History) → told before held lines ≡ Some es → history_from h held lines ≡ Some (history_told es ++ h)
+    (before : ℕ) (held : Option Event) (es : List Placed) (h : History) → told before held lines ≡ Some es → history_from before h held lines ≡ Some (history_told es ++ h)
 
 adds_rest : (lines : List Line) → Adds lines → (before : ℕ) (stands kept : Option Event) (es : List Placed) (h : History)
-    → option_map (λ es. standing before stands ++ es) (told (before + 1) kept lines) ≡ Some es → history_from (with_event stands h) kept lines ≡ Some (history_told es ++ h)
+    → option_map (λ es. standing before stands ++ es) (told (before + 1) kept lines) ≡ Some es → history_from (before + 1) (with_event stands h) kept lines ≡ Some (history_told es ++ h)
 adds_rest lines adds before stands kept es h tells = at (told (before + 1) kept lines) refl tells
   where
     at : (rest : Option (List Placed)) → told (before + 1) kept lines ≡ rest → option_map (λ es. standing before stands ++ es) rest ≡ Some es
-        → history_from (with_event stands h) kept lines ≡ Some (history_told es ++ h)
+        → history_from (before + 1) (with_event stands h) kept lines ≡ Some (history_told es ++ h)
     at None is given = cc
     at (Some rest) is given =
         let same : standing before stands ++ rest ≡ es = cc in
@@ -46,10 +46,10 @@ adds : (lines : List Line) → Adds lines
 adds [] before held es h tells =
     let same : standing before held ≡ es = cc in
     ap (λ l. Some l) (sym (one_more before held h) ∙ ap (λ l. history_told l ++ h) same)
-adds (line ∷ lines) before held es h tells = at (adds lines) (taken held line) tells
+adds (line ∷ lines) before held es h tells = at (adds lines) (taken before held line) tells
   where
     at : Adds lines → (t : Option (Option Event × Option Event)) → option_and_then (λ t. option_map (λ es. standing before t.0 ++ es) (told (before + 1) t.1 lines)) t ≡ Some es
-        → option_and_then (λ t. history_from (with_event t.0 h) t.1 lines) t ≡ Some (history_told es ++ h)
+        → option_and_then (λ t. history_from (before + 1) (with_event t.0 h) t.1 lines) t ≡ Some (history_told es ++ h)
     at rest None given = cc
     at rest (Some t) given = adds_rest lines rest before t.0 t.1 es h given
 
@@ -98,13 +98,13 @@ read_whole text here end es on ends =
 
 abbrev IsToldBy : List Line → Type 0
 IsToldBy lines =
-    (before : ℕ) (held : Option Event) (g h : History) → history_from g held lines ≡ Some h → (es : List Placed) × (told before held lines ≡ Some es)
+    (before : ℕ) (held : Option Event) (g h : History) → history_from before g held lines ≡ Some h → (es : List Placed) × (told before held lines ≡ Some es)
 
 told_by : (lines : List Line) → IsToldBy lines
 told_by [] before held g h is = (standing before held, refl)
-told_by (line ∷ lines) before held g h is = at (told_by lines) (taken held line) is
+told_by (line ∷ lines) before held g h is = at (told_by lines) (taken before held line) is
   where
-    at : IsToldBy lines → (t : Option (Option Event × Option Event)) → option_and_then (λ t. history_from (with_event t.0 g) t.1 lines) t ≡ Some h
+    at : IsToldBy lines → (t : Option (Option Event × Option Event)) → option_and_then (λ t. history_from (before + 1) (with_event t.0 g) t.1 lines) t ≡ Some h
         → (es : List Placed) × (option_and_then (λ t. option_map (λ es. standing before t.0 ++ es) (told (before + 1) t.1 lines)) t ≡ Some es)
     at further None given = cc
     at further (Some t) given =

@@ -1,9 +1,9 @@
 -- A line of what the policy allows is no longer than a line can be.
-use Rattle.std.proofs.Common.{inl, inr, ◌≡◌, ℕ, ◌+◌, ◌*◌, ◌≤◌, List, [], ◌∷◌, ◌++◌, length, map, None, Bool, true, false, ◌∙◌, ◌==◌, Ok, refl, sym, ap, arith, leb-true, le_refl, lit≤, length-append}
+use Rattle.std.proofs.Common.{inl, inr, ◌≡◌, ℕ, ◌+◌, ◌*◌, ◌≤◌, ◌<◌, ◌^◌, List, [], ◌∷◌, ◌++◌, length, map, None, Bool, true, false, ◌==◌, Ok, refl, ap, arith, leb-true, le_refl, lit≤, length-append}
 use Rattle.std.specs.Prelude.{◌&&◌, codes, nat_le}
 use Rattle.std.specs.List.{list_all}
 use Rattle.std.proofs.lemmas.Bool.{and_parts, cases_Bool, cases_lt}
-use Rattle.std.proofs.lemmas.Fmt.{length-decimal-le_succ}
+use Rattle.std.proofs.lemmas.Fmt.{length-decimal-le}
 use Rattle.hex.proofs.HexLemmas.{length-encode_with}
 use Rattle.hex.specs.Hex.{encode_lower, lower_digits}
 use Rattle.json.proofs.Printed.Strings.{escape_byte_plain}
@@ -20,7 +20,8 @@ use Rattle.review_policy.specs.Role.{has_role}
 use Rattle.review_policy.specs.WordTables.{all_roles, role_word}
 use Rattle.review_policy.specs.Words.{is_word, is_word_byte}
 use Rattle.review_policy.specs.declared.role.Role.{Role}
-use Rattle.sealed_log.specs.Sealed.{longest}
+use Rattle.sealed_log.specs.Sealed.{longest, seal_on, sealed_line, sealed_with}
+use Rattle.sealed_log.proofs.SealFacts.{length-sealed_line}
 use Rattle.office_policy.proofs.LawFacts.{allowed_follows}
 use Rattle.review_policy.specs.declared.ask.ProfileName.{ProfileName}
 use Rattle.office_policy.specs.Formed.{IsName, IsNumber, IsWord}
@@ -32,7 +33,7 @@ use Rattle.journal.specs.Kinds.{kind_word}
 use Rattle.journal.specs.Forms.{HasForms, IsFormed}
 use Rattle.journal.specs.Journal.{IsEntry}
 use Rattle.review_sheet.specs.Review.{vote_word}
-use Rattle.journal.specs.Lines.{Line, happened, strike, line_data, of_profile, of_revision, role_words, text_of, words_among}
+use Rattle.journal.specs.Lines.{Line, happened, strike, done, line_data, of_profile, of_revision, role_words, text_of, words_among}
 use Rattle.journal.proofs.NoFeeds.{HasSmall, ItemsHaveSmall, MembersHaveSmall, line_small, no_feed}
 use Rattle.journal.proofs.Tables.{holds_below, each_below}
 
@@ -65,7 +66,7 @@ abbrev mutual
   room : Data → ℕ
   room null = 4
   room (boolean b) = 5
-  room (number (unsigned n)) = n + 1
+  room (number (unsigned n)) = 20
   room (number (negative z)) = 0
   room (number (float x)) = 0
   room (string s) = 6 * length s + 2
@@ -89,7 +90,7 @@ mutual
   value_room null h = lit≤ tt
   value_room (boolean true) h = lit≤ tt
   value_room (boolean false) h = lit≤ tt
-  value_room (number (unsigned n)) h = length-decimal-le_succ n h
+  value_room (number (unsigned n)) h = length-decimal-le 20 n (omega arith) (omega arith) h
   value_room (number (negative z)) h = absurd h
   value_room (number (float x)) h = absurd h
   value_room (string s) h = quoted_room s
@@ -185,6 +186,7 @@ kind_room kinds.Adopt = lit≤ tt
 kind_room kinds.Hold = lit≤ tt
 kind_room kinds.Release = lit≤ tt
 kind_room kinds.Strike = lit≤ tt
+kind_room kinds.Done = lit≤ tt
 
 by_key : length (codes "by") ≡ 2
 by_key = refl
@@ -254,7 +256,8 @@ abbrev HasShortText : Event → Type 0
 HasShortText (submitted caller p text) = length text ≤ 262144
 HasShortText _ = Unit {0}
 
-fits : (e : Event) → HasForms e → HasShortText e → room (line_data (happened e)) + 84 ≤ longest
+-- a line of an event leaves room for more than one that says something of the event before
+fits : (e : Event) → HasForms e → HasShortText e → room (line_data (happened e)) + 84 + 1024 ≤ longest
 fits (founded name team digest listed) h short =
     omega (
       arith,
@@ -338,8 +341,14 @@ entry l formed small = record {
   };
 }
 
+event_entry : (e : Event) → HasForms e → HasShortText e → IsEntry (happened e)
+event_entry e forms short = let small = fits e forms short in entry (happened e) forms (omega (arith, small))
+
 pub strike_entry : IsEntry strike
 strike_entry = entry strike tt (lit≤ tt)
+
+pub done_entry : (n : ℕ) → n < 2 ^ 64 → IsEntry (done n)
+done_entry n h = entry (done n) h (lit≤ tt)
 
 short_document : (text : List ℕ) (profile : Profile) → reading_of text ≡ Ok profile → length text ≤ 262144
 short_document text profile reads = (reads_from text profile reads).short
@@ -358,11 +367,11 @@ allowed_text h (held caller p) is = tt
 allowed_text h (released caller p) is = tt
 
 pub allowed_entry : (h : History) (e : Event) → IsAllowed h e → HasForms e → IsEntry (happened e)
-allowed_entry h e is forms = entry (happened e) forms (fits e forms (allowed_text h e is))
+allowed_entry h e is forms = event_entry e forms (allowed_text h e is)
 
 pub founding_entry : (e : Event) → IsFounding e → HasForms e → IsEntry (happened e)
 founding_entry (founded name team digest listed) is forms =
-    entry (happened (founded name team digest listed)) forms (fits (founded name team digest listed) forms tt)
+    event_entry (founded name team digest listed) forms tt
 founding_entry (enrolled caller name team roles digest) is forms = absurd is
 founding_entry (submitted caller p text) is forms = absurd is
 founding_entry (voted caller p n digest approves) is forms = absurd is
@@ -371,3 +380,28 @@ founding_entry (withdrawn caller p n) is forms = absurd is
 founding_entry (adopted caller p n) is forms = absurd is
 founding_entry (held caller p) is forms = absurd is
 founding_entry (released caller p) is forms = absurd is
+
+-- nor are the line of an event and the one that goes before it, together
+done_room : (n : ℕ) → room (line_data (done n)) + 84 ≤ 1024
+done_room n = lit≤ tt
+
+line_room : (l : Line) → IsFormed l → length (text_of l) ≤ room (line_data l)
+unfolding text_of
+line_room l formed = value_room (line_data l) (line_small l formed)
+
+pub both_fit : (h : History) (e : Event) (n : ℕ) (prior : List ℕ) → IsAllowed h e → HasForms e → n < 2 ^ 64
+    → length (sealed_with prior (text_of (done n) ∷ []) (text_of (happened e))) ≤ longest
+both_fit h e n prior allowed forms small =
+    let first = text_of (done n) in
+    let body = text_of (happened e) in
+    omega (
+      arith,
+      fits e forms (allowed_text h e allowed),
+      done_room n,
+      line_room (done n) small,
+      line_room (happened e) forms,
+      length-sealed_line prior first,
+      length-sealed_line (seal_on prior first) body,
+      length-append (sealed_line prior first) [],
+      length-append (sealed_line prior first ++ []) (sealed_line (seal_on prior first) body),
+    )

@@ -12,9 +12,12 @@ pub mod JournalFacts
 pub mod FirstFacts
 pub mod ToldFacts
 pub mod StepFacts
+pub mod SeenFacts
 pub mod HistoryFacts
 pub mod FaultFacts
 pub mod Texts
 pub mod Offices
 pub mod Carried
 pub mod LogFacts
+pub mod KeptFacts
+pub mod Settling

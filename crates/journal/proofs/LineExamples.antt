@@ -4,7 +4,7 @@ use Rattle.std.specs.Fmt.{digits}
 use Rattle.hex.specs.Hex.{encode_with}
 use Rattle.json.specs.Print.{escape_byte}
 use Rattle.cap_sets.specs.Capability.{names_from}
-use Rattle.journal.specs.Examples.{founding, enrolment, submission, vote, issue, withdrawal, adoption, hold, release, founding_text, enrolment_text, submission_text, vote_text, issue_text, withdrawal_text, adoption_text, hold_text, release_text, strike_text}
+use Rattle.journal.specs.Examples.{founding, enrolment, submission, vote, issue, withdrawal, adoption, hold, release, settlement, founding_text, enrolment_text, submission_text, vote_text, issue_text, withdrawal_text, adoption_text, hold_text, release_text, strike_text, done_text}
 use Rattle.journal.specs.Lines.{strike, text_of}
 
 pub founding_is : text_of founding ≡ founding_text
@@ -46,3 +46,7 @@ release_is = refl
 pub strike_is : text_of strike ≡ strike_text
 unfolding text_of escape_byte names_from encode_with digits
 strike_is = refl
+
+pub done_is : text_of settlement ≡ done_text
+unfolding text_of escape_byte digits
+done_is = refl

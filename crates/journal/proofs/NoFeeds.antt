@@ -15,7 +15,7 @@ use Rattle.office_policy.specs.History.{founded, enrolled, submitted, voted, iss
 use Rattle.office_policy.specs.Formed.{IsNumber}
 use Rattle.streams.specs.Lines.{NoFeed}
 use Rattle.journal.specs.Forms.{IsFormed}
-use Rattle.journal.specs.Lines.{Line, happened, strike, line_data, role_words, text_of}
+use Rattle.journal.specs.Lines.{Line, happened, strike, done, line_data, role_words, text_of}
 use Rattle.journal.proofs.Tables.{holds_below, each_below}
 
 -- no byte is that of a control character
@@ -117,6 +117,7 @@ line_small (happened (adopted caller p n)) h = (tt, (tt, (tt, (number_small n h.
 line_small (happened (held caller p)) h = (tt, (tt, (tt, (tt, tt))))
 line_small (happened (released caller p)) h = (tt, (tt, (tt, (tt, tt))))
 line_small strike h = (tt, tt)
+line_small (done n) h = (tt, (h, tt))
 
 line_printed : (l : Line) → IsFormed l → are_printed (text_of l) ≡ true
 unfolding text_of

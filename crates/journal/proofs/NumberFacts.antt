@@ -13,7 +13,7 @@ use Rattle.journal.specs.declared.kind.Kind.TheVariants as kinds
 use Rattle.journal.specs.Forms.{HasNumber, IsNumbered}
 use Rattle.journal.specs.Kinds.{kind_of}
 use Rattle.journal.specs.Lines.{Line, strike}
-use Rattle.journal.specs.Read.{caller_at, candidate_at, candidate_in, enrolled_at, founded_at, line_at, listed_at, profile_event_at, revision_event_at, submitted_at, voted_at}
+use Rattle.journal.specs.Read.{caller_at, candidate_at, candidate_in, done_at, enrolled_at, founded_at, line_at, listed_at, profile_event_at, revision_event_at, submitted_at, voted_at}
 
 in_range : (m n : ℕ) → if_revision m ≡ Some n → IsNumber n
 in_range m n found = by_test (nat_le 1 m && nat_le m 9999) refl found
@@ -85,6 +85,10 @@ unfolding profile_event_at
 on_profile event numbered d =
     after (caller_at d) _ (λ caller is. after (name_at d) _ (λ name is. one_found _ (numbered caller name)))
 
+settled : (d : Data) → AllNumbered (done_at d)
+unfolding done_at
+settled d = after (whole_at (codes "of") d) _ (λ n is. one_found _ tt)
+
 by_kind : (kind : Kind) (d : Data) → AllNumbered (line_at kind d)
 by_kind kinds.Found d = founding d
 by_kind kinds.Enrol d = enrolment d
@@ -96,6 +100,7 @@ by_kind kinds.Adopt d = on_revision adopted (λ caller p n h. h) d
 by_kind kinds.Hold d = on_profile held (λ caller p. tt) d
 by_kind kinds.Release d = on_profile released (λ caller p. tt) d
 by_kind kinds.Strike d = one_found strike tt
+by_kind kinds.Done d = settled d
 
 in_object : (d : Data) → AllNumbered (candidate_at d)
 unfolding candidate_at

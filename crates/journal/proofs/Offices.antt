@@ -94,6 +94,7 @@ module _ {O J : Type 0} (m : Meaning O) (w : Writing J) where
     still_of h of = record {
       office = leaves.office h of.office;
       says = λ clean goes. of.says (leaves.survives.clean clean.0, clean.1) goes;
+      ends = λ clean goes unsettled. of.ends (leaves.survives.clean clean.0, clean.1) goes unsettled;
     }
 
     survives : Survives (journaled m w) x (with_office x office)
@@ -134,6 +135,7 @@ module _ {O J : Type 0} (m : Meaning O) (w : Writing J) where
       let of_after : (h : History) → IsOf m w h x → IsOf m w (history_after h r told) (with_office x office) = λ h of. record {
         office = is.handled.office h of.office;
         says = λ clean goes. subst (Says (w.bodies x.journal)) (sym (is.same h of.office clean.0)) (of.says (is.leaves.survives.clean clean.0, clean.1) goes);
+        ends = λ clean goes unsettled. of.ends (is.leaves.survives.clean clean.0, clean.1) goes unsettled;
       } in
       record {
         survives = all.survives;

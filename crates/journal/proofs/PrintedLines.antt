@@ -31,7 +31,7 @@ use Rattle.journal.specs.declared.kind.Kind.TheVariants as kinds
 use Rattle.journal.specs.Forms.{IsFormed}
 use Rattle.journal.specs.Kinds.{kind_word}
 use Rattle.review_sheet.specs.Review.{vote_word}
-use Rattle.journal.specs.Lines.{Line, happened, strike, line_data, of_profile, of_revision, role_words, words_among}
+use Rattle.journal.specs.Lines.{Line, happened, strike, done, line_data, of_profile, of_revision, role_words, words_among}
 
 -- ---- parts
 
@@ -69,6 +69,7 @@ kind_utf8 kind = IsUtf8-are_ascii (kind_word kind) (ascii kind)
     ascii kinds.Hold = refl
     ascii kinds.Release = refl
     ascii kinds.Strike = refl
+    ascii kinds.Done = refl
 
 vote_utf8 : (approves : Bool) → IsUtf8 (vote_word approves)
 vote_utf8 true = IsUtf8-are_ascii (vote_word true) refl
@@ -173,6 +174,11 @@ voted_back : (caller digest profile team vote : List ℕ) (n : Data) → of_json
     ≡ Some (object (member (codes "by") (string caller) (member (codes "digest") (string digest) (member (codes "event") (string (codes "vote")) (member (codes "profile") (string profile) (member (codes "revision") n (member (codes "team") (string team) (member (codes "vote") (string vote) no_members))))))))
 voted_back caller digest profile team vote n is = rw is refl
 
+done_back : (n : Data) → of_json (outline n) ≡ Some n
+    → of_json (outline (object (member (codes "event") (string (codes "done")) (member (codes "of") n no_members))))
+    ≡ Some (object (member (codes "event") (string (codes "done")) (member (codes "of") n no_members)))
+done_back n is = rw is refl
+
 pub line_prints : (l : Line) → IsFormed l → Prints 2 (line_data l)
 line_prints (happened (founded name team digest listed)) h =
     object_prints 1 _
@@ -215,3 +221,8 @@ line_prints (happened (adopted caller p n)) h = of_revision_prints kinds.Adopt c
 line_prints (happened (held caller p)) h = profile_prints kinds.Hold caller p h.0 h.1
 line_prints (happened (released caller p)) h = profile_prints kinds.Release caller p h.0 h.1
 line_prints strike h = object_prints 1 _ (text_part (codes "event") (kind_word kinds.Strike) no_members refl (kind_utf8 kinds.Strike) (end_prints 1)) refl
+line_prints (done n) h =
+    object_prints 1 _
+    (text_part (codes "event") (kind_word kinds.Done) _ refl (kind_utf8 kinds.Done)
+    (list_part (codes "of") (number (unsigned n)) no_members refl (deeper 0 1 (Some (number (unsigned n))) (lit≤ tt) (number_prints n h)) (end_prints 1)))
+    (done_back _ (number_prints n h).back)

@@ -1,16 +1,15 @@
 -- What comes of a line of a journal that is read as a stream.
-use Rattle.std.proofs.Common.{inl, inr, refl, ◌≡◌, ◌∙◌, ℕ, ◌+◌, List, ◌++◌, Bool, true, false, Option, Some, None, IfSome, Result, Ok, Err, sym, subst}
+use Rattle.std.proofs.Common.{inl, inr, refl, ◌≡◌, ◌∙◌, ℕ, ◌+◌, List, Bool, true, false, Option, Some, None, IfSome, Result, Ok, Err, sym, subst}
 use Rattle.std.specs.Prelude.{IfErr, IsErrAnd}
 use Rattle.sealed_log.specs.Input.{HasNoBody, ReadsBody}
 use Rattle.sealed_log.specs.declared.input.NoBody.{NoBody}
 use Rattle.sealed_log.specs.declared.input.NoBody.TheVariants as bodies
-use Rattle.sealed_log.specs.Sealed.{IsBody, sealed_line}
 use Rattle.office_policy.specs.History.{Event}
 use Rattle.journal.specs.declared.events.Step.{Step}
 use Rattle.journal.specs.declared.events.Step.TheVariants.{Stands, Passed, Ended}
 use Rattle.journal.specs.declared.events.Unreadable.{Unreadable}
 use Rattle.journal.specs.declared.reader.Faulty.{Faulty}
-use Rattle.journal.specs.declared.reader.Faulty.TheVariants.{NotALine, NothingToStrike, NoMemory}
+use Rattle.journal.specs.declared.reader.Faulty.TheVariants.{NotALine, NoEventBefore, NoMemory}
 use Rattle.journal.specs.declared.reader.Reader.{Reader}
 use Rattle.journal.specs.Reading.{IsTaken, Takes, held}
 use Rattle.journal.specs.Steps.{IsLast, Steps, body_fault, line_fault}
@@ -23,18 +22,18 @@ step_left old new (Ok step) fault is stops = absurd is
 step_left old new (Err e) fault is stops = subst (λ (f : Unreadable). Stops old new.taken f) (sym is) stops
 
 -- no body is read
-cannot_read : (held : Option Event) (prior : List ℕ) (old : Option (List ℕ)) (fault : NoBody) → IfSome old (λ bytes. HasNoBody fault prior bytes)
-    → IfSome old (λ bytes. CannotTake (body_fault fault) held prior bytes)
-cannot_read held prior None fault h = tt
-cannot_read held prior (Some bytes) bodies.Unsealed h = h
-cannot_read held prior (Some bytes) bodies.TooLong h = inr h
-cannot_read held prior (Some bytes) bodies.Torn h = h
-cannot_read held prior (Some bytes) bodies.Read h = tt
-cannot_read held prior (Some bytes) bodies.NoMemory h = tt
+cannot_read : (before : ℕ) (held : Option Event) (prior : List ℕ) (old : Option (List ℕ)) (fault : NoBody) → IfSome old (λ bytes. HasNoBody fault prior bytes)
+    → IfSome old (λ bytes. CannotTake (body_fault fault) before held prior bytes)
+cannot_read before held prior None fault h = tt
+cannot_read before held prior (Some bytes) bodies.Unsealed h = h
+cannot_read before held prior (Some bytes) bodies.TooLong h = inr (inl h)
+cannot_read before held prior (Some bytes) bodies.Torn h = h
+cannot_read before held prior (Some bytes) bodies.Read h = tt
+cannot_read before held prior (Some bytes) bodies.NoMemory h = tt
 
 pub no_body : (before : ℕ) (held : Option Event) (prior : List ℕ) (old : Option (List ℕ)) (fault : NoBody) → IfSome old (λ bytes. HasNoBody fault prior bytes)
     → Stops (record { taken = before; held = held; seal = prior; left = old }) before (body_fault fault)
-no_body before held prior old fault none = stops_here before held prior old (body_fault fault) (cannot_read held prior old fault none)
+no_body before held prior old fault none = stops_here before held prior old (body_fault fault) (cannot_read before held prior old fault none)
 
 -- so it is left there
 leaves_at : (old new : Place) (result : Result Step Unreadable) (fault : Unreadable) → IsErrAnd result (λ e. e ≡ fault) → CannotGoOn fault old → new.taken ≡ old.taken → new.held ≡ old.held
@@ -48,7 +47,7 @@ pub no_body_left : (before : ℕ) (held : Option Event) (prior seal : List ℕ) 
     → IfErr result (Leaves (record { taken = before; held = held; seal = prior; left = old }) (record { taken = before; held = held; seal = seal; left = new }))
 no_body_left before held prior seal old new result fault is none =
     leaves_at (record { taken = before; held = held; seal = prior; left = old }) (record { taken = before; held = held; seal = seal; left = new }) result (body_fault fault) is
-    (cannot_read held prior old fault none) refl refl
+    (cannot_read before held prior old fault none) refl refl
 
 text_there : (old new : Option (List ℕ)) (prior seal text given : List ℕ) (more : Bool) → ReadsBody old new prior seal text (Ok more) → more ≡ true → given ≡ text
     → IsTextOf old new prior seal given
@@ -56,38 +55,41 @@ text_there old new prior seal text given more read there same =
     subst (λ (t : List ℕ). IsTextOf old new prior seal t) (sym same) (subst (λ (b : Bool). ReadsBody old new prior seal text (Ok b)) there read)
 
 pub step_taken : (before : ℕ) (held kept stands : Option Event) (old new : Option (List ℕ)) (prior seal text given : List ℕ) (more : Bool) → ReadsBody old new prior seal text (Ok more)
-    → more ≡ true → given ≡ text → IsTaken held kept given stands
+    → more ≡ true → given ≡ text → IsTaken before held kept given stands
     → GoesOn (record { taken = before; held = held; seal = prior; left = old }) (record { taken = before + 1; held = kept; seal = seal; left = new }) (standing before stands)
 step_taken before held kept stands old new prior seal text given more read there same is =
     line_taken before held kept stands old new prior seal given (text_there old new prior seal text given more read there same) is
 
 -- no line is taken
-cannot_take : (was kept : Reader) (old new : Option (List ℕ)) (prior seal given : List ℕ) → IsTextOf old new prior seal given → (fault : Faulty) → Takes was kept given (Err fault)
-    → IfSome old (λ bytes. CannotTake (line_fault fault) (held was) prior bytes)
-cannot_take was kept None new prior seal given text_is fault h = tt
-cannot_take was kept (Some bytes) new prior seal given text_is NotALine h = inl (record { body = given; rest = text_is.rest; is = text_is.is; is_body = text_is.is_body; other = h.0 })
-cannot_take was kept (Some bytes) new prior seal given text_is NothingToStrike h =
-    (record { rest = text_is.rest; is = subst (λ (b : List ℕ). bytes ≡ sealed_line prior b ++ text_is.rest) h.0 text_is.is; is_body = subst IsBody h.0 text_is.is_body }, h.1)
-cannot_take was kept (Some bytes) new prior seal given text_is NoMemory h = tt
+cannot_take : (before : ℕ) (was kept : Reader) (old new : Option (List ℕ)) (prior seal given : List ℕ) → IsTextOf old new prior seal given → (fault : Faulty) → Takes before was kept given (Err fault)
+    → IfSome old (λ bytes. CannotTake (line_fault fault) before (held was) prior bytes)
+cannot_take before was kept None new prior seal given text_is fault h = tt
+cannot_take before was kept (Some bytes) new prior seal given text_is NotALine h = elim h.0 [
+  | inl other ↦ inl (record { body = given; rest = text_is.rest; is = text_is.is; is_body = text_is.is_body; other = other })
+  | inr of ↦ inr (inr (record { body = given; rest = text_is.rest; is = text_is.is; is_body = text_is.is_body; of = of }))
+]
+cannot_take before was kept (Some bytes) new prior seal given text_is NoEventBefore h =
+    (record { body = given; rest = text_is.rest; is = text_is.is; is_body = text_is.is_body; on = h.0 }, h.1)
+cannot_take before was kept (Some bytes) new prior seal given text_is NoMemory h = tt
 
 pub step_refused : (before : ℕ) (was kept : Reader) (old new : Option (List ℕ)) (prior seal text given : List ℕ) (more : Bool) (fault : Faulty)
-    → ReadsBody old new prior seal text (Ok more) → more ≡ true → given ≡ text → Takes was kept given (Err fault)
+    → ReadsBody old new prior seal text (Ok more) → more ≡ true → given ≡ text → Takes before was kept given (Err fault)
     → Stops (record { taken = before; held = held was; seal = prior; left = old }) before (line_fault fault)
 step_refused before was kept old new prior seal text given more fault read there same refused =
-    stops_here before (held was) prior old (line_fault fault) (cannot_take was kept old new prior seal given (text_there old new prior seal text given more read there same) fault refused)
+    stops_here before (held was) prior old (line_fault fault) (cannot_take before was kept old new prior seal given (text_there old new prior seal text given more read there same) fault refused)
 
 -- the event that was held back still is
-held_still : (was kept : Reader) (given : List ℕ) (fault : Faulty) → Takes was kept given (Err fault) → held kept ≡ held was
-held_still was kept given NotALine h = h.1
-held_still was kept given NothingToStrike h = h.2 ∙ sym h.1
-held_still was kept given NoMemory h = h
+held_still : (before : ℕ) (was kept : Reader) (given : List ℕ) (fault : Faulty) → Takes before was kept given (Err fault) → held kept ≡ held was
+held_still before was kept given NotALine h = h.1
+held_still before was kept given NoEventBefore h = h.2 ∙ sym h.1
+held_still before was kept given NoMemory h = h
 
 pub refused_left : (before : ℕ) (was kept : Reader) (old new : Option (List ℕ)) (prior seal text given : List ℕ) (more : Bool) (result : Result Step Unreadable) (fault : Faulty)
-    → IsErrAnd result (λ e. e ≡ line_fault fault) → ReadsBody old new prior seal text (Ok more) → more ≡ true → given ≡ text → Takes was kept given (Err fault)
+    → IsErrAnd result (λ e. e ≡ line_fault fault) → ReadsBody old new prior seal text (Ok more) → more ≡ true → given ≡ text → Takes before was kept given (Err fault)
     → IfErr result (Leaves (record { taken = before; held = held was; seal = prior; left = old }) (record { taken = before; held = held kept; seal = seal; left = new }))
 refused_left before was kept old new prior seal text given more result fault is read there same refused =
     leaves_at (record { taken = before; held = held was; seal = prior; left = old }) (record { taken = before; held = held kept; seal = seal; left = new }) result (line_fault fault) is
-    (cannot_take was kept old new prior seal given (text_there old new prior seal text given more read there same) fault refused) refl (held_still was kept given fault refused)
+    (cannot_take before was kept old new prior seal given (text_there old new prior seal text given more read there same) fault refused) refl (held_still before was kept given fault refused)
 
 pub step_last : (before : ℕ) (held kept : Option Event) (old new : Option (List ℕ)) (prior seal text : List ℕ) (more : Bool) (step : Step) → ReadsBody old new prior seal text (Ok more)
     → more ≡ false → kept ≡ None → IsLast before held step

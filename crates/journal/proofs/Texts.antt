@@ -1,7 +1,9 @@
 -- What a line more makes of the text of a journal.
-use Rattle.std.proofs.Common.{◌≡◌, ◌∙◌, ℕ, List, [], ◌∷◌, ◌++◌, Option, Some, None, codes, sym, ap, subst, append_assoc}
-use Rattle.std.proofs.lemmas.List.{map-append}
-use Rattle.std.proofs.lemmas.List.Elements.{All-append, All-cons, All-nil, All-push}
+use Rattle.std.proofs.Common.{◌≡◌, ◌∙◌, ◌+◌, ◌<◌, ◌^◌, ◌==◌, ℕ, List, [], ◌∷◌, ◌++◌, All, true, length, map, Option, Some, None, codes, refl, sym, ap, subst, arith, append_assoc, length-append}
+use Rattle.std.specs.Prelude.{option_and_then}
+use Rattle.std.proofs.lemmas.Bool.{eq-eqb}
+use Rattle.std.proofs.lemmas.List.{length-map, map-append}
+use Rattle.std.proofs.lemmas.List.Elements.{All-append, All-cons, All-head, All-nil, All-push, All-tail}
 use Rattle.review_policy.specs.declared.ask.Ask.{Ask}
 use Rattle.review_policy.specs.declared.ask.Ask.TheVariants as ask
 use Rattle.profile_text.specs.Text.{text_of as profile_text}
@@ -10,30 +12,92 @@ use Rattle.office_policy.specs.Formed.{HasNumber as AskHasNumber}
 use Rattle.office_policy.specs.History.{Event, enrolled, submitted, voted, issued, withdrawn, adopted, held, released, History}
 use Rattle.office_policy.specs.Runs.{with_event as with_was}
 use Rattle.journal.specs.Forms.{HasNumber}
-use Rattle.journal.specs.Journal.{IsEntry, Says, history_from}
-use Rattle.journal.specs.Lines.{Line, happened, strike, text_of}
+use Rattle.journal.specs.Journal.{EndsWithEvent, IsEntry, Says, history_from, history_in, settled_if, taken}
+use Rattle.journal.specs.Lines.{Line, done, happened, strike, text_of}
 use Rattle.sealed_log.specs.Sealed.{IsBody}
-use Rattle.journal.proofs.Lengths.{strike_entry}
+use Rattle.journal.proofs.Lengths.{done_entry, strike_entry}
 use Rattle.journal.proofs.LineExamples.{strike_is}
+use Rattle.journal.proofs.LineFacts.{same_line}
 use Rattle.journal.specs.Begun.{with_event, with_struck}
+
+-- ---- the last of lines
+
+-- there is none, or one behind others
+pub data HasLast (ls : List Line) : Type 0 where
+  no_line : ls ≡ [] → HasLast ls
+  last_line : (before : List Line) (l : Line) → ls ≡ before ++ l ∷ [] → HasLast ls
+
+pub last_of : (ls : List Line) → HasLast ls
+last_of [] = no_line refl
+last_of (l ∷ ls) = onto (last_of ls)
+  where
+    onto : HasLast ls → HasLast (l ∷ ls)
+    onto (no_line none) = last_line [] l (ap (λ k. l ∷ k) none)
+    onto (last_line before last is) = last_line (l ∷ before) last (ap (λ k. l ∷ k) is)
+
+pub last_entry : (before : List Line) (l : Line) → All IsEntry (before ++ l ∷ []) → IsEntry l
+last_entry [] l entries = All-head IsEntry l [] entries
+last_entry (b ∷ before) l entries = last_entry before l (All-tail IsEntry b (before ++ l ∷ []) entries)
+
+abbrev last_from : List ℕ → List (List ℕ) → List ℕ
+last_from a [] = a
+last_from a (x ∷ xs) = last_from x xs
+
+last_from-push : (a : List ℕ) (xs : List (List ℕ)) (x : List ℕ) → last_from a (xs ++ x ∷ []) ≡ x
+last_from-push a [] x = refl
+last_from-push a (y ∷ xs) x = last_from-push y xs x
+
+pub last_same : (xs ys : List (List ℕ)) (x y : List ℕ) → xs ++ x ∷ [] ≡ ys ++ y ∷ [] → x ≡ y
+last_same xs ys x y same = sym (last_from-push [] xs x) ∙ ap (last_from []) same ∙ last_from-push [] ys y
 
 -- ---- the events that stand
 
 -- one event more stands
-with_line : (g : History) (was : Option Event) (lines : List Line) (h : History) (e : Event) → history_from g was lines ≡ Some h
-    → history_from g was (lines ++ happened e ∷ []) ≡ Some (e ∷ h)
-with_line g was [] h e is = let same : with_was was g ≡ h = cc in ap (λ k. Some (e ∷ k)) same
-with_line g was (happened f ∷ lines) h e is = with_line (with_was was g) (Some f) lines h e is
-with_line g None (strike ∷ lines) h e is = absurd cc
-with_line g (Some f) (strike ∷ lines) h e is = with_line g None lines h e is
+abbrev WithLine : List Line → Type 0
+WithLine lines =
+    (before : ℕ) (g : History) (was : Option Event) (h : History) (e : Event) → history_from before g was lines ≡ Some h
+    → history_from before g was (lines ++ happened e ∷ []) ≡ Some (e ∷ h)
+
+with_line : (lines : List Line) → WithLine lines
+with_line [] before g was h e is = let same : with_was was g ≡ h = cc in ap (λ k. Some (e ∷ k)) same
+with_line (l ∷ lines) before g was h e is = at (with_line lines) (taken before was l) is
+  where
+    at : WithLine lines → (o : Option (Option Event × Option Event)) → option_and_then (λ t. history_from (before + 1) (with_was t.0 g) t.1 lines) o ≡ Some h
+        → option_and_then (λ t. history_from (before + 1) (with_was t.0 g) t.1 (lines ++ happened e ∷ [])) o ≡ Some (e ∷ h)
+    at rest None given = cc
+    at rest (Some t) given = rest (before + 1) (with_was t.0 g) t.1 h e given
 
 -- and none, where it is struck out
-with_struck_out : (g : History) (was : Option Event) (lines : List Line) (h : History) (e : Event) → history_from g was lines ≡ Some h
-    → history_from g was (lines ++ happened e ∷ strike ∷ []) ≡ Some h
-with_struck_out g was [] h e is = is
-with_struck_out g was (happened f ∷ lines) h e is = with_struck_out (with_was was g) (Some f) lines h e is
-with_struck_out g None (strike ∷ lines) h e is = absurd cc
-with_struck_out g (Some f) (strike ∷ lines) h e is = with_struck_out g None lines h e is
+abbrev WithStruck : List Line → Type 0
+WithStruck lines =
+    (before : ℕ) (g : History) (was : Option Event) (h : History) (e : Event) → history_from before g was lines ≡ Some h
+    → history_from before g was (lines ++ happened e ∷ strike ∷ []) ≡ Some h
+
+with_struck_out : (lines : List Line) → WithStruck lines
+with_struck_out [] before g was h e is = is
+with_struck_out (l ∷ lines) before g was h e is = at (with_struck_out lines) (taken before was l) is
+  where
+    at : WithStruck lines → (o : Option (Option Event × Option Event)) → option_and_then (λ t. history_from (before + 1) (with_was t.0 g) t.1 lines) o ≡ Some h
+        → option_and_then (λ t. history_from (before + 1) (with_was t.0 g) t.1 (lines ++ happened e ∷ strike ∷ [])) o ≡ Some h
+    at rest None given = cc
+    at rest (Some t) given = rest (before + 1) (with_was t.0 g) t.1 h e given
+
+-- an event that is said to be carried out stands as it did
+abbrev WithDone : List Line → Type 0
+WithDone lines =
+    (before n : ℕ) (g : History) (was : Option Event) (h : History) (e : Event) → n ≡ before + length lines + 1 → history_from before g was (lines ++ happened e ∷ []) ≡ Some h
+    → history_from before g was (lines ++ happened e ∷ done n ∷ []) ≡ Some h
+
+with_done : (lines : List Line) → WithDone lines
+with_done [] before n g was h e counted is =
+    let same : (n == before + 1) ≡ true = eq-eqb n (before + 1) (omega (arith, counted)) in
+    ap (λ b. option_and_then (λ (t : Option Event × Option Event). Some (with_was t.1 (with_was t.0 (with_was was g)))) (settled_if b e)) same ∙ is
+with_done (l ∷ lines) before n g was h e counted is = at (with_done lines) (taken before was l) is
+  where
+    at : WithDone lines → (o : Option (Option Event × Option Event)) → option_and_then (λ t. history_from (before + 1) (with_was t.0 g) t.1 (lines ++ happened e ∷ [])) o ≡ Some h
+        → option_and_then (λ t. history_from (before + 1) (with_was t.0 g) t.1 (lines ++ happened e ∷ done n ∷ [])) o ≡ Some h
+    at rest None given = cc
+    at rest (Some t) given = rest (before + 1) n (with_was t.0 g) t.1 h e (omega (arith, counted)) given
 
 -- the bodies with that of one event more
 pub one_more : (bodies : List (List ℕ)) (h : History) (e : Event) → IsEntry (happened e) → Says bodies h → Says (with_event bodies e) (e ∷ h)
@@ -41,7 +105,7 @@ one_more bodies h e entry is = record {
   lines = is.lines ++ happened e ∷ [];
   entries = All-push IsEntry is.lines (happened e) is.entries entry;
   are = ap (λ l. l ++ text_of (happened e) ∷ []) is.are ∙ sym (map-append text_of is.lines (happened e ∷ []));
-  history = with_line [] None is.lines h e is.history;
+  history = with_line is.lines 0 [] None h e is.history;
 }
 
 -- and with that of the line that strikes it out
@@ -51,8 +115,33 @@ one_struck bodies h e entry is = record {
   entries = All-append IsEntry is.lines (happened e ∷ strike ∷ []) is.entries (All-cons IsEntry (happened e) (strike ∷ []) entry (All-cons IsEntry strike [] strike_entry (All-nil IsEntry)));
   are = append_assoc bodies (text_of (happened e) ∷ []) (text_of strike ∷ []) ∙ ap (λ l. l ++ text_of (happened e) ∷ text_of strike ∷ []) is.are
       ∙ sym (map-append text_of is.lines (happened e ∷ strike ∷ []));
-  history = with_struck_out [] None is.lines h e is.history;
+  history = with_struck_out is.lines 0 [] None h e is.history;
 }
+
+-- and with that of the line that says that the last event is carried out
+pub one_done : (bodies : List (List ℕ)) (h : History) → Says bodies h → EndsWithEvent bodies → length bodies < 2 ^ 64 → Says (bodies ++ text_of (done (length bodies)) ∷ []) h
+one_done bodies h is ends few = at (last_of is.lines)
+  where
+    at : HasLast is.lines → Says (bodies ++ text_of (done (length bodies)) ∷ []) h
+    at (no_line none) =
+        let empty : bodies ≡ [] = is.are ∙ ap (map text_of) none in
+        let size = ap length (sym empty ∙ ends.is) in
+        absurd (omega (arith, size, length-append ends.before (text_of (happened ends.event) ∷ [])))
+    at (last_line before l split) =
+        let here : bodies ≡ map text_of before ++ text_of l ∷ [] = is.are ∙ ap (map text_of) split ∙ map-append text_of before (l ∷ []) in
+        let texts : text_of l ≡ text_of (happened ends.event) = last_same (map text_of before) ends.before (text_of l) (text_of (happened ends.event)) (sym here ∙ ends.is) in
+        let entry : IsEntry l = last_entry before l (subst (All IsEntry) split is.entries) in
+        let same : l ≡ happened ends.event = same_line l (happened ends.event) entry.formed ends.forms texts in
+        let lines : is.lines ≡ before ++ happened ends.event ∷ [] = split ∙ ap (λ k. before ++ k ∷ []) same in
+        let count : length bodies ≡ 0 + length before + 1 =
+        omega (arith, ap length is.are, length-map is.lines text_of, ap length lines, length-append before (happened ends.event ∷ [])) in
+        record {
+          lines = is.lines ++ done (length bodies) ∷ [];
+          entries = All-push IsEntry is.lines (done (length bodies)) is.entries (done_entry (length bodies) few);
+          are = ap (λ b. b ++ text_of (done (length bodies)) ∷ []) is.are ∙ sym (map-append text_of is.lines (done (length bodies) ∷ []));
+          history = ap history_in (ap (λ k. k ++ done (length bodies) ∷ []) lines ∙ append_assoc before (happened ends.event ∷ []) (done (length bodies) ∷ []))
+              ∙ with_done before 0 (length bodies) [] None h ends.event count (ap history_in (sym lines) ∙ is.history);
+        }
 
 -- the text of the line that strikes out
 pub strike_body : IsBody (codes "{\"event\":\"strike\"}")

@@ -6,9 +6,9 @@ use Rattle.sealed_log.specs.Input.{IsBodyOf, IsTooLong, IsUnsealed}
 use Rattle.sealed_log.specs.Sealed.{IsBody, seal_on, sealed_line}
 use Rattle.office_policy.specs.History.{Event}
 use Rattle.journal.specs.declared.events.Unreadable.{Unreadable}
-use Rattle.journal.specs.declared.events.Unreadable.TheVariants.{NotALine, NothingToStrike, Unsealed, TornLine, Read, NoMemory}
+use Rattle.journal.specs.declared.events.Unreadable.TheVariants.{NotALine, NoEventBefore, Unsealed, TornLine, Read, NoMemory}
 use Rattle.journal.specs.Journal.{IsEntry, taken}
-use Rattle.journal.specs.Lines.{Line, strike, text_of}
+use Rattle.journal.specs.Lines.{Line, text_of}
 use Rattle.journal.specs.Reading.{IsTaken}
 use Rattle.journal.specs.Told.{Begins, CannotTake, Ends, GoesOn, IsBegun, IsStopped, IsThen, IsTold, Leaves, Place, Stops, seal_behind, standing, text_behind, told}
 use Rattle.journal.proofs.FirstFacts.{first_told}
@@ -49,7 +49,7 @@ begins_first old new first on = subst (Begins old new) (append-nil first) (on.be
 -- ---- a line more
 
 module _ (before : ℕ) (held kept stands : Option Event) (prior bytes rest : List ℕ) (line : Line) (entry : IsEntry line)
-    (front : bytes ≡ sealed_line prior (text_of line) ++ rest) (is : taken held line ≡ Some (stands, kept)) where
+    (front : bytes ≡ sealed_line prior (text_of line) ++ rest) (is : taken before held line ≡ Some (stands, kept)) where
   abbrev next : List ℕ
   next = seal_on prior (text_of line)
 
@@ -99,7 +99,7 @@ module _ (before : ℕ) (held kept stands : Option Event) (prior bytes rest : Li
           let same = same_sealed prior (text_of line) (text_of m) rest (text_behind (seal_on prior (text_of m)) ms) entry.body m_is.body both in
           let one : line ≡ m = same_line line m entry.formed m_is.formed same.bodies in
           let first = first_told before held m ms all tells in
-          let taken_is : Some first.by ≡ Some (stands, kept) = sym first.taken ∙ ap (taken held) (sym one) ∙ is in
+          let taken_is : Some first.by ≡ Some (stands, kept) = sym first.taken ∙ ap (taken before held) (sym one) ∙ is in
           let by : first.by ≡ (stands, kept) = cc in
           record {
             bytes = rest;
@@ -119,7 +119,7 @@ abbrev pub IsTextOf : (old new : Option (List ℕ)) → (prior seal text : List 
 IsTextOf old new prior seal text = IfSome old (λ bytes. IsBodyOf prior seal text bytes new)
 
 pub line_taken : (before : ℕ) (held kept stands : Option Event) (old new : Option (List ℕ)) (prior seal text : List ℕ) → IsTextOf old new prior seal text
-    → IsTaken held kept text stands
+    → IsTaken before held kept text stands
     → GoesOn (record { taken = before; held = held; seal = prior; left = old }) (record { taken = before + 1; held = kept; seal = seal; left = new }) (standing before stands)
 line_taken before held kept stands None new prior seal text read is = record { tells = λ es t. tt; begins = λ later es b. tt; stops = λ after fault s. tt; only = λ xs all known t. cc }
 line_taken before held kept stands (Some bytes) new prior seal text read is =
@@ -208,14 +208,15 @@ pub unsealed_none : (prior : List ℕ) → IsUnsealed prior [] → ⊥
 unsealed_none prior h = omega (arith, ap length h.is, length-append h.line (10 ∷ h.rest))
 
 -- nothing is wrong with no bytes
-no_line_there : (fault : Unreadable) (held kept : Option Event) (prior : List ℕ) → CannotTake fault held prior [] → CannotTake fault kept prior []
-no_line_there NotALine held kept prior (inl h) = absurd (no_line prior h.body h.rest h.is)
-no_line_there NotALine held kept prior (inr h) = absurd (too_short h)
-no_line_there NothingToStrike held kept prior h = absurd (no_line prior (text_of strike) h.0.rest h.0.is)
-no_line_there Unsealed held kept prior h = absurd (unsealed_none prior h)
-no_line_there TornLine held kept prior h = absurd (h.1 refl)
-no_line_there Read held kept prior h = tt
-no_line_there NoMemory held kept prior h = tt
+no_line_there : (fault : Unreadable) (n k : ℕ) (held kept : Option Event) (prior : List ℕ) → CannotTake fault n held prior [] → CannotTake fault k kept prior []
+no_line_there NotALine n k held kept prior (inl h) = absurd (no_line prior h.body h.rest h.is)
+no_line_there NotALine n k held kept prior (inr (inl h)) = absurd (too_short h)
+no_line_there NotALine n k held kept prior (inr (inr h)) = absurd (no_line prior h.body h.rest h.is)
+no_line_there NoEventBefore n k held kept prior h = absurd (no_line prior h.0.body h.0.rest h.0.is)
+no_line_there Unsealed n k held kept prior h = absurd (unsealed_none prior h)
+no_line_there TornLine n k held kept prior h = absurd (h.1 refl)
+no_line_there Read n k held kept prior h = tt
+no_line_there NoMemory n k held kept prior h = tt
 
 -- and only a failing input or memory keeps from it
 stopped_none : (before : ℕ) (prior bytes : List ℕ) (e : Event) (after : ℕ) (fault : Unreadable) → bytes ≡ [] → IsStopped before None prior [] after fault
@@ -230,9 +231,9 @@ stopped_none before prior bytes e after fault none s =
       counted = s.counted ∙ ap (λ (lines : List Line). before + length lines) left.0;
       last = Some e;
       holds = refl;
-      cannot = no_line_there fault s.last (Some e) prior
-          (subst (λ (p : List ℕ). CannotTake fault s.last p []) (ap (seal_behind prior) left.0)
-          (subst (CannotTake fault s.last (seal_behind prior s.lines)) left.1 s.cannot));
+      cannot = no_line_there fault after after s.last (Some e) prior
+          (subst (λ (p : List ℕ). CannotTake fault after s.last p []) (ap (seal_behind prior) left.0)
+          (subst (CannotTake fault after s.last (seal_behind prior s.lines)) left.1 s.cannot));
     }
 
 pub ends_told : (before : ℕ) (e : Event) (prior : List ℕ) (old new : Option (List ℕ)) → IsEnd old new
@@ -260,7 +261,7 @@ ends_told before e prior (Some bytes) new end =
 
 -- ---- where no line is taken
 
-pub stops_here : (before : ℕ) (held : Option Event) (prior : List ℕ) (old : Option (List ℕ)) (fault : Unreadable) → IfSome old (λ bytes. CannotTake fault held prior bytes)
+pub stops_here : (before : ℕ) (held : Option Event) (prior : List ℕ) (old : Option (List ℕ)) (fault : Unreadable) → IfSome old (λ bytes. CannotTake fault before held prior bytes)
     → Stops (record { taken = before; held = held; seal = prior; left = old }) before fault
 stops_here before held prior None fault h = tt
 stops_here before held prior (Some bytes) fault h = record {
@@ -291,7 +292,7 @@ leaves_further a b c fault on l = record { last = l.last; on = goes_further a b 
 pub input_leaves : (p : Place) → Leaves p p Read
 input_leaves p = record { last = p; on = stays p; cannot = at p.left; taken = refl; held = refl }
   where
-    at : (left : Option (List ℕ)) → IfSome left (λ bytes. CannotTake Read p.held p.seal bytes)
+    at : (left : Option (List ℕ)) → IfSome left (λ bytes. CannotTake Read p.taken p.held p.seal bytes)
     at None = tt
     at (Some bytes) = tt
 

@@ -4,7 +4,7 @@ use Rattle.std.specs.Prelude.{ℕ, ◌+◌, ◌^◌, List, [], ◌∷◌, ◌++�
 use Rattle.review_policy.specs.declared.ask.ProfileName.{ProfileName}
 use Rattle.office_policy.specs.History.{founded, enrolled, submitted, voted, issued, withdrawn}
 use Rattle.office_policy.specs.History.{adopted, held, released}
-use Rattle.journal.specs.Lines.{Line, happened}
+use Rattle.journal.specs.Lines.{Line, done, happened}
 
 abbrev pub web : ProfileName
 web = record { team = codes "blue"; profile = codes "web" }
@@ -43,6 +43,9 @@ hold = happened (held (codes "sec") web)
 
 abbrev pub release : Line
 release = happened (released (codes "sec") web)
+
+abbrev pub settlement : Line
+settlement = done 1234
 
 abbrev pub founding_text : List ℕ
 founding_text =
@@ -96,3 +99,7 @@ release_text =
 abbrev pub strike_text : List ℕ
 strike_text =
     codes "{\"event\":\"strike\"}"
+
+abbrev pub done_text : List ℕ
+done_text =
+    codes "{\"event\":\"done\",\"of\":1234}"

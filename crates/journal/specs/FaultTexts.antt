@@ -5,7 +5,7 @@ use Rattle.journal.specs.declared.events.Unreadable.TheVariants as unreadable
 
 abbrev pub unreadable_word : Unreadable → List ℕ
 unreadable_word unreadable.NotALine = codes "not-a-line"
-unreadable_word unreadable.NothingToStrike = codes "nothing-to-strike"
+unreadable_word unreadable.NoEventBefore = codes "no-event-before"
 unreadable_word unreadable.Unsealed = codes "unsealed"
 unreadable_word unreadable.TornLine = codes "torn-line"
 unreadable_word unreadable.Read = codes "read"

@@ -3,7 +3,7 @@ use Rattle.std.specs.Prelude.{◌<◌, ◌^◌, IsUtf8}
 use Rattle.office_policy.specs.History.{Event, founded, enrolled, submitted, voted, issued}
 use Rattle.office_policy.specs.History.{withdrawn, adopted, held, released}
 use Rattle.office_policy.specs.Formed.{IsWord, IsDigest, IsRoles, IsName, IsNumber}
-use Rattle.journal.specs.Lines.{Line, happened, strike}
+use Rattle.journal.specs.Lines.{Line, happened, strike, done}
 
 abbrev pub HasForms : Event → Type 0
 HasForms (founded name team digest listed) =
@@ -31,8 +31,10 @@ HasNumber _ = Unit {0}
 abbrev pub IsFormed : Line → Type 0
 IsFormed (happened e) = HasForms e
 IsFormed strike = Unit {0}
+IsFormed (done n) = n < 2 ^ 64
 
 -- so has the one that a line names
 abbrev pub IsNumbered : Line → Type 0
 IsNumbered (happened e) = HasNumber e
 IsNumbered strike = Unit {0}
+IsNumbered (done n) = Unit {0}

@@ -1,16 +1,18 @@
 -- What an office with a journal is to those who see neither store nor file.
-use Rattle.std.proofs.Common.{◌≡◌, ◌⊎◌, ◌∙◌, ◌+◌, [], ◌∷◌, ◌++◌, ◌≤◌, ◌&&◌, ℕ, List, Bool, true}
-use Rattle.std.proofs.Common.{false, not, flat_map, if◌then◌else◌, IsTrue, ap, sym, append-nil}
-use Rattle.std.proofs.Common.{append_assoc}
+use Rattle.std.proofs.Common.{◌≡◌, ◌⊎◌, ◌∙◌, ◌+◌, ◌-◌, ◌^◌, [], ◌∷◌, ◌++◌, ◌≤◌, ◌&&◌, ℕ, List}
+use Rattle.std.proofs.Common.{Bool, true, false, not, length, flat_map, if◌then◌else◌, IsTrue, ap}
+use Rattle.std.proofs.Common.{sym, append-nil, append_assoc, ◌==◌, Option, Some, None}
+use Rattle.std.specs.Prelude.{Result, ⊤, IfErr, OnOk}
 use Rattle.std.proofs.lemmas.Grind.{flat_map-append}
+use Rattle.review_policy.specs.declared.fault.Fault.{Fault}
 use Rattle.office_policy.specs.History.{Event, History}
 use Rattle.office_policy.specs.Meaning.{Meaning}
-use Rattle.office_policy.specs.Handled.{Stands}
+use Rattle.office_policy.specs.Handled.{Stands, Survives}
 use Rattle.office_policy.specs.Judging.{LeavesAll}
-use Rattle.journal.specs.Journal.{Says}
-use Rattle.journal.specs.Lines.{happened, strike, text_of}
+use Rattle.journal.specs.Journal.{EndsWithEvent, Says}
+use Rattle.journal.specs.Lines.{done, happened, strike, text_of}
 use Rattle.journal.specs.declared.journaled.Journaled.{Journaled}
-use Rattle.journal.specs.Begun.{IsLeftOf}
+use Rattle.journal.specs.Begun.{IsLeftOf, done_bodies}
 use Rattle.journal.specs.Writing.{Writing, IsLeftInPart}
 
 -- an event that didn't happen, and couldn't be struck out, is a fault too
@@ -23,18 +25,20 @@ with_office x office = record {
   office = office;
   journal = x.journal;
   has_stray = x.has_stray;
+  is_settled = x.is_settled;
 }
 
--- events that didn't happen, each with the line that strikes it out
-abbrev pub struck_body : Event → List (List ℕ)
-struck_body e = text_of (happened e) ∷ text_of strike ∷ []
+-- events that didn't happen, each with the line that strikes it out; and before it, where it has a
+-- number, the line which says of the event of that number that it is carried out
+abbrev pub struck_body : Option ℕ × Event → List (List ℕ)
+struck_body s = done_bodies s.0 ++ text_of (happened s.1) ∷ text_of strike ∷ []
 
-abbrev pub struck_bodies : List Event → List (List ℕ)
-struck_bodies es = flat_map struck_body es
+abbrev pub struck_bodies : List (Option ℕ × Event) → List (List ℕ)
+struck_bodies events = flat_map struck_body events
 
 -- the second are the first, and such events behind them
 pub record HasStruck (old new : List (List ℕ)) : Type 0 where
-  pub events : List Event
+  pub events : List (Option ℕ × Event)
   pub is : new ≡ old ++ struck_bodies events
 
 pub struck_none : (bodies : List (List ℕ)) → HasStruck bodies bodies
@@ -47,6 +51,13 @@ struck_on a b c first then_ = record {
       ∙ append_assoc a (struck_bodies first.events) (struck_bodies then_.events)
       ∙ ap (λ l. a ++ l) (sym (flat_map-append struck_body first.events then_.events));
 }
+
+-- the number of the line of the last event, where no line says yet what became of that and the number
+-- can be told
+abbrev pub unsettled : {O J : Type 0} (w : Writing J) → Journaled O J → Option ℕ
+unsettled w x =
+    if x.is_settled then None
+    else if w.lines x.journal == 2 ^ 64 - 1 then None else Some (w.lines x.journal)
 
 module _ {O J : Type 0} (m : Meaning O) (w : Writing J) where
   -- its journal is open, and has no event that didn't happen
@@ -61,9 +72,12 @@ module _ {O J : Type 0} (m : Meaning O) (w : Writing J) where
   pub record IsOf (h : History) (x : Journaled O J) : Type 0 where
     pub office : m.is_of h x.office
     pub says : is_clean x → IsTrue (goes_on x) → Says (w.bodies x.journal) h
+    -- where its last event isn't settled, the last line has it
+    pub ends : is_clean x → IsTrue (goes_on x) → x.is_settled ≡ false
+        → EndsWithEvent (w.bodies x.journal)
 
   -- where the journal goes on it went on before, and has what it had, and behind that at most events
-  -- that are struck out
+  -- that are struck out, and what says of the ones before them that they are carried out
   abbrev pub KeepsJournal : (old new : Journaled O J) → Type 0
   KeepsJournal old new = IsTrue (goes_on new)
       → IsTrue (goes_on old) × HasStruck (w.bodies old.journal) (w.bodies new.journal)
@@ -106,6 +120,13 @@ module _ {O J : Type 0} (m : Meaning O) (w : Writing J) where
     );
   }
 
+  -- the line of an event was written, and before it the one that says that the last event is carried
+  -- out, where no line said yet what became of that; none says what became of this one
+  pub record HasWritten (old new : Journaled O J) (e : Event) : Type 0 where
+    pub bodies : w.is_clean new.journal → w.bodies new.journal
+        ≡ w.bodies old.journal ++ (done_bodies (unsettled w old) ++ text_of (happened e) ∷ [])
+    pub unsaid : new.is_settled ≡ false
+
   -- the office stands as it did before, of each history that it was of
   abbrev pub StandsStill : (old new : Journaled O J) → Type 0
   StandsStill old new =
@@ -115,6 +136,7 @@ module _ {O J : Type 0} (m : Meaning O) (w : Writing J) where
   pub record IsStruck (old new : Journaled O J) : Type 0 where
     pub stands : StandsStill old new
     pub no_stray : new.has_stray ≡ false
+    pub settled : new.is_settled ≡ true
     pub is_open : IsTrue (w.is_open new.journal)
     pub bodies : w.is_clean new.journal
         → w.bodies new.journal ≡ w.bodies old.journal ++ text_of strike ∷ []
@@ -124,7 +146,7 @@ module _ {O J : Type 0} (m : Meaning O) (w : Writing J) where
     pub stands : StandsStill old new
     pub stray : new.has_stray ≡ true
     pub crash : w.is_clean new.journal → (left : List ℕ) → w.may_leave new.journal left
-        → w.may_leave old.journal left ⊎ IsLeftInPart w old.journal (text_of strike) left
+        → w.may_leave old.journal left ⊎ IsLeftInPart w old.journal [] (text_of strike) left
 
   -- or wasn't, as the office may not stand as it did
   pub record IsStray (old new : Journaled O J) : Type 0 where
@@ -136,3 +158,27 @@ module _ {O J : Type 0} (m : Meaning O) (w : Writing J) where
     pub clean : w.is_clean new.journal → w.is_clean old.journal
     pub counts : w.faults old.journal ≤ w.faults new.journal
     pub journal : IsStruck old new ⊎ IsHalfStruck old new ⊎ IsStray old new
+
+  -- the second are the first, or these and the line that says that their last event is carried out
+  abbrev pub HasSettled : (old new : List (List ℕ)) → Type 0
+  HasSettled old new = (new ≡ old) ⊎ (new ≡ old ++ text_of (done (length old)) ∷ [])
+
+  -- the last event is settled, where it wasn't and the journal goes on
+  pub record IsSettled (old new : Journaled O J) (result : Result ⊤ Fault) : Type 0 where
+    -- the office is as it was, and nothing of it was asked
+    pub office : new.office ≡ old.office
+    pub survives : Survives journaled old new
+    -- of each history that it was of it is still
+    pub of : (h : History) → IsOf h old → IsOf h new
+    -- a journal that goes on still does, and its last event is settled, unless its lines are more than
+    -- can be counted
+    pub settled : OnOk result (IsTrue (goes_on old) → IsTrue (goes_on new)
+        × ((new.is_settled ≡ true) ⊎ (2 ^ 64 - 1 ≤ w.lines old.journal)))
+    -- it has what it had, or one line more; after a fault what still goes on has what it had
+    pub bodies : w.is_clean new.journal → IsTrue (goes_on new)
+        → HasSettled (w.bodies old.journal) (w.bodies new.journal)
+    pub failed : IfErr result (λ fault. w.is_clean new.journal → IsTrue (goes_on new)
+        → w.bodies new.journal ≡ w.bodies old.journal)
+    -- a crash leaves what it could leave before, or a journal that goes on with a part of that line
+    pub crash : is_clean new → (left : m.Left × List ℕ) → journaled.may_leave new left
+        → journaled.may_leave old left

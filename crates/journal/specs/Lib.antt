@@ -8,8 +8,10 @@ pub mod Examples
 pub mod Journal
 pub mod Reading
 pub mod Told
+pub mod SealsAt
 pub mod Steps
 pub mod FaultTexts
+pub mod Sorts
 pub mod Writing
 pub mod Begun
 pub mod Journals

@@ -17,13 +17,15 @@ use Rattle.office_policy.specs.History.{withdrawn, adopted, held, released}
 use Rattle.journal.specs.declared.kind.Kind.{Kind}
 use Rattle.journal.specs.declared.kind.Kind.TheVariants.{Found, Enrol, Submit, Vote, Issue}
 use Rattle.journal.specs.declared.kind.Kind.TheVariants.{Withdraw, Adopt, Hold, Release}
-use Rattle.journal.specs.declared.kind.Kind.TheVariants.{Strike}
+use Rattle.journal.specs.declared.kind.Kind.TheVariants.{Strike, Done}
 use Rattle.journal.specs.Kinds.{kind_word}
 
--- a line says what happened, or strikes out the event of the line before it, which didn't happen
+-- a line says what happened, or strikes out the event of the line before it, which didn't happen, or
+-- says that this one, which has the number, is carried out
 pub data Line : Type 0 where
   happened : Event → Line
   strike : Line
+  done : ℕ → Line
 
 -- the words of those of these roles that are in a set
 abbrev pub words_among : ℕ → List Role → List (List ℕ)
@@ -111,6 +113,7 @@ event_data (released caller p) = of_profile None Release caller p
 abbrev pub line_data : Line → Data
 line_data (happened e) = event_data e
 line_data strike = object (kind_members Strike None no_members)
+line_data (done n) = object (kind_members Done None (number_member (codes "of") n no_members))
 
 -- the text of a line, which is the body of a sealed one
 unfoldable pub text_of : Line → List ℕ

@@ -25,7 +25,9 @@ in_log g = record {
   is_clean = λ j. IsTrue (g.is_clean j.disk);
   bodies = bodies_of g;
   is_open = λ j. j.is_open;
+  lines = λ j. j.lines;
   faults = λ j. g.faults j.disk;
   may_leave = λ j left. g.may_leave j.disk left;
   settled = λ j clean is_open left may. j.settled is_open left may ∙ (j.whole is_open clean).text;
+  counted = λ j clean is_open. (j.whole is_open clean).counted;
 }

@@ -6,16 +6,16 @@ use Rattle.serde_json.specs.Find.{get, as_array}
 use Rattle.profile_text.specs.Sets.{caps_of}
 use Rattle.review_policy.specs.declared.ask.ProfileName.{ProfileName}
 use Rattle.json_requests.specs.Members.{◌>>=◌, text_at, word_at, name_at, revision_at, digest_at}
-use Rattle.json_requests.specs.Members.{vote_at, roles_at}
+use Rattle.json_requests.specs.Members.{vote_at, roles_at, whole_at}
 use Rattle.json_requests.specs.Requests.{value_of}
 use Rattle.office_policy.specs.History.{Event, founded, enrolled, submitted, voted, issued}
 use Rattle.office_policy.specs.History.{withdrawn, adopted, held, released}
 use Rattle.journal.specs.declared.kind.Kind.{Kind}
 use Rattle.journal.specs.declared.kind.Kind.TheVariants.{Found, Enrol, Submit, Vote, Issue}
 use Rattle.journal.specs.declared.kind.Kind.TheVariants.{Withdraw, Adopt, Hold, Release}
-use Rattle.journal.specs.declared.kind.Kind.TheVariants.{Strike}
+use Rattle.journal.specs.declared.kind.Kind.TheVariants.{Strike, Done}
 use Rattle.journal.specs.Kinds.{kind_of}
-use Rattle.journal.specs.Lines.{Line, happened, strike}
+use Rattle.journal.specs.Lines.{Line, happened, strike, done}
 
 -- the listed capabilities
 unfoldable pub listed_at : Data → Option ℕ
@@ -75,6 +75,12 @@ profile_event_at event d = do
   name ← name_at d
   Some (happened (event caller name))
 
+-- the line that says that the one before it is carried out
+unfoldable pub done_at : Data → Option Line
+done_at d = do
+  n ← whole_at (codes "of") d
+  Some (done n)
+
 abbrev pub line_at : Kind → Data → Option Line
 line_at Found d = founded_at d
 line_at Enrol d = enrolled_at d
@@ -86,6 +92,7 @@ line_at Adopt d = revision_event_at adopted d
 line_at Hold d = profile_event_at held d
 line_at Release d = profile_event_at released d
 line_at Strike d = Some strike
+line_at Done d = done_at d
 
 -- what an object may be the line of
 unfoldable pub candidate_at : Data → Option Line

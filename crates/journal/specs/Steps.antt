@@ -23,7 +23,7 @@ body_fault bodies.NoMemory = unreadable.NoMemory
 -- why a line isn't taken
 abbrev pub line_fault : Faulty → Unreadable
 line_fault faulty.NotALine = unreadable.NotALine
-line_fault faulty.NothingToStrike = unreadable.NothingToStrike
+line_fault faulty.NoEventBefore = unreadable.NoEventBefore
 line_fault faulty.NoMemory = unreadable.NoMemory
 
 -- the event that was held back stands, where one was, at the line of this number

@@ -11,13 +11,13 @@ use Rattle.office_policy.specs.Happened.{event_meant}
 use Rattle.journal.specs.declared.events.Events.{Events}
 use Rattle.journal.specs.declared.events.Placed.{Placed}
 use Rattle.journal.specs.declared.events.Unreadable.{Unreadable}
-use Rattle.journal.specs.declared.events.Unreadable.TheVariants.{NotALine, NothingToStrike}
+use Rattle.journal.specs.declared.events.Unreadable.TheVariants.{NotALine, NoEventBefore}
 use Rattle.journal.specs.declared.events.Unreadable.TheVariants.{Unsealed, TornLine, Read}
 use Rattle.journal.specs.declared.events.Unreadable.TheVariants.{NoMemory}
 use Rattle.journal.specs.Forms.{IsFormed}
 use Rattle.journal.specs.Journal.{IsEntry, IsJournalOf, taken}
-use Rattle.journal.specs.Lines.{Line, strike, text_of}
-use Rattle.journal.specs.Reading.{held}
+use Rattle.journal.specs.Lines.{Line, text_of}
+use Rattle.journal.specs.Reading.{IsOfOther, IsOnEvent, held}
 
 -- the event that stands, where one does, with the number of its line
 abbrev pub standing : ℕ → Option Event → List (ℕ × Event)
@@ -31,16 +31,17 @@ told before held [] = Some (standing before held)
 told before held (line ∷ lines) =
     option_and_then
     (λ t. option_map (λ es. standing before t.0 ++ es) (told (before + 1) t.1 lines))
-    (taken held line)
+    (taken before held line)
 
 -- the history of what is told: its events, the newest first
 abbrev pub history_told : List (ℕ × Event) → History
 history_told es = reverse (map (λ p. p.1) es)
 
--- the event that is held back after these lines; none where a line strikes out nothing
-abbrev pub held_after : Option Event → List Line → Option (Option Event)
-held_after held [] = Some held
-held_after held (line ∷ lines) = option_and_then (λ t. held_after t.1 lines) (taken held line)
+-- the event that is held back after these lines, behind so many; none where one can't be taken
+abbrev pub held_after : ℕ → Option Event → List Line → Option (Option Event)
+held_after before held [] = Some held
+held_after before held (line ∷ lines) =
+    option_and_then (λ t. held_after (before + 1) t.1 lines) (taken before held line)
 
 -- how far a journal was read: how many lines were taken, the event that is held back, the seal of
 -- these lines, and the bytes that are left, where they are known
@@ -116,27 +117,39 @@ pub record HasOther (prior bytes : List ℕ) : Type 0 where
   pub is_body : IsBody body
   pub other : (line : Line) → IsFormed line → body ≢ text_of line
 
--- the first line is the one that strikes out the one before it
-pub record HasStrike (prior bytes : List ℕ) : Type 0 where
+-- the first line says of a line that it is carried out, and that isn't the one before
+pub record HasOtherNumber (before : ℕ) (prior bytes : List ℕ) : Type 0 where
+  pub body : List ℕ
   pub rest : List ℕ
-  pub is : bytes ≡ sealed_line prior (text_of strike) ++ rest
-  pub is_body : IsBody (text_of strike)
+  pub is : bytes ≡ sealed_line prior body ++ rest
+  pub is_body : IsBody body
+  pub of : IsOfOther before body
 
--- why no line is taken of bytes: the first line is too long or its body is none, it strikes out
--- nothing, it isn't sealed, or the bytes end within it; when the input fails, or memory, no contract
--- can say
-abbrev pub CannotTake : Unreadable → Option Event → (prior bytes : List ℕ) → Type 0
-CannotTake NotALine held prior bytes = HasOther prior bytes ⊎ IsTooLong bytes
-CannotTake NothingToStrike held prior bytes = HasStrike prior bytes × (held ≡ None)
-CannotTake Unsealed held prior bytes = IsUnsealed prior bytes
-CannotTake TornLine held prior bytes = NoFeed bytes × (bytes ≢ [])
-CannotTake Read held prior bytes = Unit {0}
-CannotTake NoMemory held prior bytes = Unit {0}
+-- the first line is one that says something of the event of the line before it
+pub record HasOnEvent (prior bytes : List ℕ) : Type 0 where
+  pub body : List ℕ
+  pub rest : List ℕ
+  pub is : bytes ≡ sealed_line prior body ++ rest
+  pub is_body : IsBody body
+  pub on : IsOnEvent body
+
+-- why no line is taken of bytes, behind so many lines: the first line is too long, its body is none, or
+-- it says of another line than the one before that it is carried out; it says something of the event
+-- before it, and there is none; it isn't sealed; or the bytes end within it; when the input fails, or
+-- memory, no contract can say
+abbrev pub CannotTake : Unreadable → ℕ → Option Event → (prior bytes : List ℕ) → Type 0
+CannotTake NotALine before held prior bytes =
+    HasOther prior bytes ⊎ IsTooLong bytes ⊎ HasOtherNumber before prior bytes
+CannotTake NoEventBefore before held prior bytes = HasOnEvent prior bytes × (held ≡ None)
+CannotTake Unsealed before held prior bytes = IsUnsealed prior bytes
+CannotTake TornLine before held prior bytes = NoFeed bytes × (bytes ≢ [])
+CannotTake Read before held prior bytes = Unit {0}
+CannotTake NoMemory before held prior bytes = Unit {0}
 
 -- the input or memory failed, and not the journal
 abbrev pub IsOutside : Unreadable → Type 0
 IsOutside NotALine = ⊥
-IsOutside NothingToStrike = ⊥
+IsOutside NoEventBefore = ⊥
 IsOutside Unsealed = ⊥
 IsOutside TornLine = ⊥
 IsOutside Read = Unit {0}
@@ -152,8 +165,8 @@ pub record IsStopped (before : ℕ) (held : Option Event) (prior bytes : List �
   pub says : bytes ≡ text_behind prior lines ++ rest
   pub counted : after ≡ before + length lines
   pub last : Option Event
-  pub holds : held_after held lines ≡ Some last
-  pub cannot : CannotTake fault last (seal_behind prior lines) rest
+  pub holds : held_after before held lines ≡ Some last
+  pub cannot : CannotTake fault after last (seal_behind prior lines) rest
 
 -- what is left can't be taken further than to this number of lines
 abbrev pub Stops : Place → ℕ → Unreadable → Type 0
@@ -197,7 +210,7 @@ Gives old new (Err fault) = Stops old new.taken fault
 
 -- no line can be taken of what is left at a place
 abbrev pub CannotGoOn : Unreadable → Place → Type 0
-CannotGoOn fault p = IfSome p.left (λ bytes. CannotTake fault p.held p.seal bytes)
+CannotGoOn fault p = IfSome p.left (λ bytes. CannotTake fault p.taken p.held p.seal bytes)
 
 -- lines are taken to the last place where one can be, by which no event stands; so many were taken
 -- then, and the event that was held back there still is

@@ -1,7 +1,7 @@
 -- What a journal is to those who write it.
-use Rattle.std.specs.Prelude.{◌≡◌, ◌⊎◌, ◌≤◌, ℕ, List, [], ◌∷◌, ◌++◌, length, Bool, Result, Ok, Err}
-use Rattle.std.specs.Prelude.{IsTrue, ⊤}
-use Rattle.sealed_log.specs.Sealed.{sealed_line, sealed_text, seal_of}
+use Rattle.std.specs.Prelude.{◌≡◌, ◌⊎◌, ◌≤◌, ◌-◌, ◌^◌, ℕ, min, List, [], ◌∷◌, ◌++◌, length, Bool}
+use Rattle.std.specs.Prelude.{Result, Ok, Err, IsTrue, ⊤}
+use Rattle.sealed_log.specs.Sealed.{sealed_text, sealed_with, seal_of}
 use Rattle.sealed_log.specs.Told.{HasTail}
 use Rattle.review_policy.specs.declared.fault.Fault.{Fault}
 use Rattle.review_policy.specs.declared.fault.Fault.TheVariants as faults
@@ -15,6 +15,8 @@ pub record Writing (X : Type 0) : Type 1 where
   pub bodies : X → List (List ℕ)
   -- no call has left a part of a line
   pub is_open : X → Bool
+  -- how many lines it has, up to the greatest u64
+  pub lines : X → ℕ
   -- how many calls failed, up to the greatest u64
   pub faults : X → ℕ
   -- what a crash may leave of its file
@@ -22,11 +24,15 @@ pub record Writing (X : Type 0) : Type 1 where
   -- of an open one those are just its bodies, sealed
   pub settled : (x : X) → is_clean x → IsTrue (is_open x) → (left : List ℕ) → may_leave x left
       → left ≡ sealed_text (bodies x)
+  -- and its lines are so many
+  pub counted : (x : X) → is_clean x → IsTrue (is_open x)
+      → lines x ≡ min (length (bodies x)) (2 ^ 64 - 1)
 
--- the bodies, sealed, and behind them what may be left of the line of one more, whatever that is
-abbrev pub IsLeftIn : List (List ℕ) → List ℕ → List ℕ → Type 0
-IsLeftIn bodies body left =
-    HasTail (sealed_text bodies) (length (sealed_line (seal_of bodies) body)) left
+-- the bodies, sealed, and behind them what may be left of the line of one more and of those that go
+-- before it, whatever that is
+abbrev pub IsLeftIn : (bodies settling : List (List ℕ)) → (body left : List ℕ) → Type 0
+IsLeftIn bodies settling body left =
+    HasTail (sealed_text bodies) (length (sealed_with (seal_of bodies) settling body)) left
 
 module _ {X : Type 0} (w : Writing X) where
   -- a fault other than `memory` was met, or it is `disk` and the value was shut before
@@ -36,21 +42,26 @@ module _ {X : Type 0} (w : Writing X) where
   IsMet old new faults.Full = HasRisen (w.faults old) (w.faults new)
   IsMet old new faults.NotAnOffice = ⊥
 
-  -- the body is there; or there was a fault, and what is still open has what it had
-  abbrev pub IsWritten : (old new : X) → List ℕ → Result ⊤ Fault → Type 0
-  IsWritten old new body (Ok done) =
-      IsTrue (w.is_open new) × (w.is_clean new → w.bodies new ≡ w.bodies old ++ body ∷ [])
-  IsWritten old new body (Err fault) =
+  -- the body is there, behind those that go before it; or there was a fault, and what is still open
+  -- has what it had
+  abbrev pub IsWritten : (old new : X) → (settling : List (List ℕ)) → (body : List ℕ)
+      → Result ⊤ Fault → Type 0
+  IsWritten old new settling body (Ok done) =
+      IsTrue (w.is_open new)
+      × (w.is_clean new → w.bodies new ≡ w.bodies old ++ (settling ++ body ∷ []))
+  IsWritten old new settling body (Err fault) =
       (w.is_clean new → IsTrue (w.is_open new) → w.bodies new ≡ w.bodies old)
       × (w.is_clean new → IsMet old new fault)
 
-  -- it was open, and the line of this body is left behind its bodies, or a part of it
-  pub record IsLeftInPart (x : X) (body file : List ℕ) : Type 0 where
+  -- it was open, and these lines are left behind its bodies, or a part of them
+  pub record IsLeftInPart (x : X) (settling : List (List ℕ)) (body file : List ℕ) : Type 0 where
     pub is_open : IsTrue (w.is_open x)
-    pub left : IsLeftIn (w.bodies x) body file
+    pub left : IsLeftIn (w.bodies x) settling body file
 
-  -- the line of this body was written behind all that is there, or there was a fault
-  pub record IsAppended (old new : X) (body : List ℕ) (result : Result ⊤ Fault) : Type 0 where
+  -- the line of this body was written behind all that is there, and before it those that go before
+  -- it; or there was a fault
+  pub record IsAppended (old new : X) (settling : List (List ℕ)) (body : List ℕ)
+      (result : Result ⊤ Fault) : Type 0 where
     -- what is clean was clean before
     pub clean : w.is_clean new → w.is_clean old
     -- no fault is forgotten
@@ -58,7 +69,7 @@ module _ {X : Type 0} (w : Writing X) where
     -- only a fault shuts it
     pub closes : w.is_clean new → IsTrue (w.is_open old)
         → IsTrue (w.is_open new) ⊎ HasRisen (w.faults old) (w.faults new)
-    pub written : IsWritten old new body result
-    -- a crash may leave what it could leave before, or all of it and a part of the line
+    pub written : IsWritten old new settling body result
+    -- a crash may leave what it could leave before, or all of it and a part of the lines
     pub crash : w.is_clean new → (left : List ℕ) → w.may_leave new left
-        → w.may_leave old left ⊎ IsLeftInPart old body left
+        → w.may_leave old left ⊎ IsLeftInPart old settling body left

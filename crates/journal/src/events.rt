@@ -1,12 +1,15 @@
 //! A journal, read as a stream: its events that stand, the oldest first.
 
-ghost use Rattle.std.specs.Prelude.{◌≡◌, ◌<◌, ◌^◌, ◌-◌, IfErr, None, option_map};
+ghost use Rattle.std.specs.Prelude.{◌≡◌, ◌<◌, ◌^◌, ◌-◌, ℕ, List, Option, IfErr, IfOk, None};
+ghost use Rattle.std.specs.Prelude.{option_map};
 ghost use Rattle.journal.specs.Reading.{held};
+ghost use Rattle.journal.specs.SealsAt.{Finds, IsSeen};
 ghost use Rattle.journal.specs.Steps.{IsLast, Steps, body_fault, line_fault};
 ghost use Rattle.journal.specs.Told.{Gives, KeepsFault, Leaves, held_at, place};
 ghost use Rattle.journal.specs.Told.{placed_meant, start, without_held};
 
 use crate::reader::{Faulty, Reader};
+use crate::seal_at::SealAt;
 use office_policy::Event;
 use sealed_log::{NoBody, Seal, no_seal, read_body};
 use std::alloc::Global;
@@ -18,10 +21,12 @@ use std::mem::replace;
 /// Why a journal can't be read on. Its text is one word.
 #[derive(Clone, Copy, Debug, Drop, PartialEq, Eq)]
 pub enum Unreadable {
-    /// The line is too long, or its body is that of none.
+    /// The line is too long, its body is that of none, or it says of another line than the one
+    /// before that it is carried out.
     NotALine,
-    /// The line strikes out the one before it, which says nothing that happened.
-    NothingToStrike,
+    /// The line strikes out the one before it, or says that it is carried out, and that one says
+    /// nothing that happened.
+    NoEventBefore,
     /// The line isn't sealed behind those before it.
     Unsealed,
     /// The journal ends within the line: it has no line feed.
@@ -41,7 +46,7 @@ impl fmt::Display for Unreadable {
     fn fmt<W: fmt::Write>(&self, f: &mut fmt::Formatter<W>) -> fmt::Result {
         f.write_str(match self {
             Unreadable::NotALine => "not-a-line",
-            Unreadable::NothingToStrike => "nothing-to-strike",
+            Unreadable::NoEventBefore => "no-event-before",
             Unreadable::Unsealed => "unsealed",
             Unreadable::TornLine => "torn-line",
             Unreadable::Read => "read",
@@ -58,7 +63,7 @@ impl From<Faulty> for Unreadable {
     fn from(fault: Faulty) -> Unreadable {
         match fault {
             Faulty::NotALine => Unreadable::NotALine,
-            Faulty::NothingToStrike => Unreadable::NothingToStrike,
+            Faulty::NoEventBefore => Unreadable::NoEventBefore,
             Faulty::NoMemory => Unreadable::NoMemory,
         }
     }
@@ -115,14 +120,17 @@ pub struct Events<R> {
     seal: Seal,
     text: Vec<u8>,
     taken: u64,
+    at: SealAt,
     fault: Option<Unreadable>,
 }
 
 impl<R: BufRead> Events<R> {
-    /// Before the first line of the input.
-    pub fn new(alloc: Global, input: R) -> Events<R>
+    /// Before the first line of the input, of which the seal of the first so many lines is kept.
+    pub fn new(alloc: Global, input: R, line: u64) -> Events<R>
         ensures place { place R.remaining result ≡ start (R.remaining input) }
         ensures fault { result.fault ≡ None }
+        ensures seen { IsSeen (R.remaining input) (place R.remaining result) result.at }
+        ensures line { result.at.line ≡ line }
     {
         Events {
             input,
@@ -130,6 +138,7 @@ impl<R: BufRead> Events<R> {
             seal: no_seal(),
             text: Vec::new(alloc),
             taken: 0,
+            at: SealAt::new(line),
             fault: None,
         }
     }
@@ -148,20 +157,32 @@ impl<R: BufRead> Events<R> {
         self.seal
     }
 
+    /// The seal of the first so many lines as were asked for; `None` where fewer were taken.
+    pub fn seal_at(&self) -> Option<Seal>
+        ensures { Finds self.now.at (place R.remaining self.now).taken result }
+    {
+        self.at.find(self.taken)
+    }
+
     // Takes the next line.
     fn step(&mut self, alloc: Global) -> Result<Step, Unreadable>
         requires { self.old.taken < 2 ^ 64 - 1 }
         ensures told { Steps (place R.remaining self.old) (place R.remaining self.new) result }
         ensures leaves { IfErr result
             (Leaves (place R.remaining self.old) (place R.remaining self.new)) }
+        ensures seen { (bytes : Option (List ℕ))
+            → IsSeen bytes (place R.remaining self.old) self.old.at → IfOk result
+            (λ _. IsSeen bytes (place R.remaining self.new) self.new.at) }
+        ensures line { self.new.at.line ≡ self.old.at.line }
         ensures fault { self.new.fault ≡ self.old.fault }
     {
         if !read_body(alloc, &mut self.input, &mut self.seal, &mut self.text)? {
             return Ok(last(&mut self.reader, self.taken));
         }
         let line = self.taken;
-        let stands = self.reader.take(alloc, &self.text)?;
+        let stands = self.reader.take(alloc, line, &self.text)?;
         self.taken = line + 1;
+        self.at.see(self.taken, self.seal);
         match stands {
             Some(event) => Ok(Step::Stands(Placed { line, event })),
             None => Ok(Step::Passed),
@@ -173,6 +194,10 @@ impl<R: BufRead> Events<R> {
         ensures told { Gives (place R.remaining self.old) (place R.remaining self.new) result }
         ensures leaves { IfErr result
             (Leaves (place R.remaining self.old) (place R.remaining self.new)) }
+        ensures seen { (bytes : Option (List ℕ))
+            → IsSeen bytes (place R.remaining self.old) self.old.at → IfOk result
+            (λ _. IsSeen bytes (place R.remaining self.new) self.new.at) }
+        ensures line { self.new.at.line ≡ self.old.at.line }
         ensures fault { self.new.fault ≡ self.old.fault }
     {
         while self.taken < u64::MAX {
@@ -196,6 +221,10 @@ impl<R: BufRead> Events<R> {
             → Gives (place R.remaining self.old) (place R.remaining self.new) result }
         ensures leaves { self.old.fault ≡ None → IfErr result
             (Leaves (place R.remaining self.old) (place R.remaining self.new)) }
+        ensures seen { (bytes : Option (List ℕ))
+            → IsSeen bytes (place R.remaining self.old) self.old.at → IfOk result
+            (λ _. IsSeen bytes (place R.remaining self.new) self.new.at) }
+        ensures line { self.new.at.line ≡ self.old.at.line }
         ensures fault { KeepsFault self.old.fault self.new.fault result }
     {
         match self.fault {

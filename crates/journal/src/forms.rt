@@ -145,5 +145,8 @@ pub(crate) fn line_forms(line: &Line)
     match line {
         Line::Event(event) => event_forms(event),
         Line::Strike => {}
+        Line::Done { of } => {
+            let _number = *of;
+        }
     }
 }

@@ -1,7 +1,11 @@
 //! An office with its journal.
 
-use crate::change_text;
+ghost use Rattle.sealed_log.specs.Sealed.{IsBody};
+ghost use Rattle.journal.specs.Begun.{done_bodies};
+ghost use Rattle.journal.specs.Writing.{IsAppended};
+
 use crate::journal::Journal;
+use crate::print::{change_text, done_text};
 use office_policy::{Allowed, Handler, Judge, Judgement};
 use review_policy::{Answer, Fault, Request};
 use sealed_log::is_body;
@@ -15,25 +19,58 @@ pub struct Journaled<O: Judge, J: Journal> {
     office: O,
     journal: J,
     has_stray: bool,
+    // Whether a line behind that of its last event says what became of that.
+    is_settled: bool,
 }
 
 // The text of the line that strikes out the one before it.
 const STRIKE: &str = "{\"event\":\"strike\"}";
 
-impl<O: Judge, J: Journal> Journaled<O, J> {
-    ghost use Rattle.std.specs.Prelude.{◌≡◌, false, IsTrue};
-    ghost use Rattle.office_policy.specs.Handled.{IsHandled};
-    ghost use Rattle.office_policy.specs.Judging.{IsPermitted, answer_in};
-    ghost use Rattle.journal.specs.Journals.{IsTakenBack, goes_on, journaled, with_office};
+// Writes the line of an event; and before it, by the same write, the one that says that the event of
+// the last line is carried out, where that line's number is given.
+fn write_event<J: Journal>(
+    alloc: Global,
+    journal: &mut J,
+    last: Option<u64>,
+    body: &[u8],
+) -> Result<(), Fault>
+    requires { IsBody body.now }
+    ensures { IsAppended J.Journal.writing journal.old journal.new
+        (done_bodies last) body.now result }
+{
+    match last {
+        None => journal.append(alloc, body),
+        Some(of) => {
+            let Ok(done) = done_text(alloc, of) else {
+                return Err(Fault::NoMemory);
+            };
+            journal.append_both(alloc, done.as_str().as_bytes(), body)
+        }
+    }
+}
 
-    /// The office with the journal that says its history.
-    pub fn new(office: O, journal: J) -> Journaled<O, J>
-        ensures { result ≡ record { office = office; journal = journal; has_stray = false } }
+impl<O: Judge, J: Journal> Journaled<O, J> {
+    ghost use Rattle.std.specs.Prelude.{◌≡◌, false, IsTrue, OnOk};
+    ghost use Rattle.office_policy.specs.Handled.{IsHandled};
+    ghost use Rattle.office_policy.specs.Judging.{IsPermitted, answer_in, event_for};
+    ghost use Rattle.journal.specs.Journals.{HasWritten, IsSettled, IsTakenBack, goes_on};
+    ghost use Rattle.journal.specs.Journals.{journaled, unsettled, with_office};
+
+    /// The office with the journal that says its history; and whether a line behind that of the last
+    /// event strikes it out, or says that it is carried out.
+    pub fn new(office: O, journal: J, is_settled: bool) -> Journaled<O, J>
+        ensures { result ≡ record {
+          office = office;
+          journal = journal;
+          has_stray = false;
+          is_settled = is_settled;
+        } }
     {
         Journaled {
             office,
             journal,
             has_stray: false,
+            is_settled,
         }
     }
 
@@ -56,6 +93,42 @@ impl<O: Judge, J: Journal> Journaled<O, J> {
         self.journal.takes_lines() && !self.has_stray
     }
 
+    // The number of its last line, where that has the last event, no line says yet what became of
+    // that, and the number can be told.
+    fn unsettled(&self) -> Option<u64>
+        ensures { result ≡ unsettled J.Journal.writing self.now }
+    {
+        if self.is_settled {
+            return None;
+        }
+        let lines = self.journal.lines();
+        if lines == u64::MAX { None } else { Some(lines) }
+    }
+
+    /// Writes the line that says that the event of the last line is carried out, where the journal goes
+    /// on and no line says so yet. So no opening strikes it out.
+    ///
+    /// # Errors
+    ///
+    /// The fault that was met. A journal that still goes on has what it had.
+    pub fn settle(&mut self, alloc: Global) -> Result<(), Fault>
+        ensures { IsSettled O.Handler.meaning J.Journal.writing self.old self.new result }
+    {
+        if !self.goes_on() {
+            return Ok(());
+        }
+        let Some(of) = self.unsettled() else {
+            return Ok(());
+        };
+        let Ok(text) = done_text(alloc, of) else {
+            return Err(Fault::NoMemory);
+        };
+        let body = text.as_str().as_bytes();
+        self.journal.append(alloc, body)?;
+        self.is_settled = true;
+        Ok(())
+    }
+
     // Strikes out the event of the last line, where the office stands as it did before. Else that
     // event is a stray.
     #[tactic(auto, using(crate::proofs::Texts::strike_body))]
@@ -66,13 +139,17 @@ impl<O: Judge, J: Journal> Journaled<O, J> {
         match self.office.judge(alloc, request) {
             Judgement::Answered(_) => {}
             Judgement::Allowed(_) => match self.journal.append(alloc, STRIKE.as_bytes()) {
-                Ok(()) => self.has_stray = false,
+                Ok(()) => {
+                    self.has_stray = false;
+                    self.is_settled = true;
+                }
                 Err(_) => {}
             },
         }
     }
 
-    // Writes down what was allowed, and carries it out.
+    // Writes down what was allowed, and before it that what was allowed last was carried out, and
+    // carries it out.
     fn do_allowed(
         &mut self,
         alloc: Global,
@@ -81,10 +158,13 @@ impl<O: Judge, J: Journal> Journaled<O, J> {
     ) -> Result<(), Fault>
         requires { (before : O)
             × IsPermitted O.Handler.meaning before self.old.office request.now allowed.now }
-        ensures { (before : O) → IsTrue (goes_on O.Handler.meaning J.Journal.writing self.old)
+        ensures handled { (before : O)
+            → IsTrue (goes_on O.Handler.meaning J.Journal.writing self.old)
             → IsPermitted O.Handler.meaning before self.old.office request.now allowed.now
             → IsHandled (journaled O.Handler.meaning J.Journal.writing)
             (with_office self.old before) self.new request.now (answer_in allowed.now result) }
+        ensures written { OnOk result (HasWritten O.Handler.meaning J.Journal.writing
+            self.old self.new (event_for allowed.now)) }
     {
         let Ok(text) = change_text(alloc, &allowed.caller.name, &allowed.change) else {
             return Err(Fault::NoMemory);
@@ -93,7 +173,9 @@ impl<O: Judge, J: Journal> Journaled<O, J> {
             // No event that the policy allows is too long for a line.
             return Err(Fault::Disk);
         }
-        self.journal.append(alloc, text.as_str().as_bytes())?;
+        let last = self.unsettled();
+        write_event(alloc, &mut self.journal, last, text.as_str().as_bytes())?;
+        self.is_settled = false;
         match self.office.carry_out(alloc, allowed) {
             Ok(()) => Ok(()),
             Err(fault) => {

@@ -3,7 +3,7 @@
 ghost use Rattle.std.specs.Prelude.{◌≡◌};
 ghost use Rattle.journal.specs.Kinds.{kind_of, kind_word};
 
-/// What a line says that happened, or that it strikes out the line before it.
+/// What a line says that happened, or what it says of the line before it.
 #[derive(Clone, Copy)]
 pub enum Kind {
     Found,
@@ -16,6 +16,7 @@ pub enum Kind {
     Hold,
     Release,
     Strike,
+    Done,
 }
 
 impl Kind {
@@ -34,6 +35,7 @@ impl Kind {
             Kind::Hold => "hold",
             Kind::Release => "release",
             Kind::Strike => "strike",
+            Kind::Done => "done",
         }
     }
 
@@ -52,6 +54,7 @@ impl Kind {
             "hold" => Some(Kind::Hold),
             "release" => Some(Kind::Release),
             "strike" => Some(Kind::Strike),
+            "done" => Some(Kind::Done),
             _ => None,
         }
     }

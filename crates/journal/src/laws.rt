@@ -1,7 +1,10 @@
 //! What holds of lines, apart from any call. Each is a function without a parameter whose contract
 //! is the law; it does nothing.
 
-ghost use Rattle.std.specs.Prelude.{◌≡◌, ◌≤◌, [], ◌∷◌, ◌++◌, ℕ, List, All, IfSome, Some, None};
+ghost use Rattle.std.specs.Prelude.{◌≡◌, ◌≢◌, ◌≤◌, ◌<◌, ◌^◌, [], ◌∷◌, ◌++◌, ℕ, List, All, length};
+ghost use Rattle.std.specs.Prelude.{IfSome, Some, None};
+ghost use Rattle.sealed_log.specs.Sealed.{longest, sealed_with};
+ghost use Rattle.sealed_log.specs.declared.sorts.Sort.TheVariants.{Adds};
 ghost use Rattle.office_policy.specs.History.{Event, History};
 ghost use Rattle.office_policy.specs.Lawful.{IsAllowed, IsFounding};
 ghost use Rattle.journal.specs.declared.events.Unreadable.{Unreadable};
@@ -9,10 +12,12 @@ ghost use Rattle.journal.specs.Examples.{founding, enrolment, submission, vote, 
 ghost use Rattle.journal.specs.Examples.{withdrawal, adoption, hold, release, founding_text};
 ghost use Rattle.journal.specs.Examples.{enrolment_text, submission_text, vote_text};
 ghost use Rattle.journal.specs.Examples.{issue_text, withdrawal_text, adoption_text};
-ghost use Rattle.journal.specs.Examples.{hold_text, release_text, strike_text};
+ghost use Rattle.journal.specs.Examples.{hold_text, release_text, settlement, strike_text, done_text};
 ghost use Rattle.journal.specs.Forms.{HasForms, IsFormed};
-ghost use Rattle.journal.specs.Journal.{IsEntry, IsJournalOf, IsSealedJournal, history_in};
-ghost use Rattle.journal.specs.Lines.{Line, happened, strike, text_of};
+ghost use Rattle.journal.specs.Journal.{EndsWithEvent, IsEntry, IsJournalOf, IsSealedJournal};
+ghost use Rattle.journal.specs.Journal.{Says, history_in};
+ghost use Rattle.journal.specs.Lines.{Line, done, happened, strike, text_of};
+ghost use Rattle.journal.specs.Sorts.{kept_lines, line_sort, newest_text, sort_of};
 ghost use Rattle.journal.specs.Told.{Begins, Ends, GoesOn, IsJournalTo, IsOutside, Place};
 ghost use Rattle.journal.specs.Told.{Stops, Tells, history_told, standing, start, told};
 
@@ -27,13 +32,36 @@ pub fn no_line_feed_stands_in_a_text()
     ensures { (line : Line) → IsFormed line → All (λ byte. 32 ≤ byte) (text_of line) }
 {}
 
-/// The line of what the policy allows, of a founding, and the one that strikes out, are no longer than
-/// a line can be: so no crash leaves more than that behind a journal.
+/// The line of what the policy allows, of a founding, and those on the one before, are no longer than a
+/// line can be; nor is the first together with the one that goes before it by the same write. So no
+/// crash leaves more than that behind a journal.
 pub fn what_is_allowed_can_be_written()
     ensures allowed { (h : History) (e : Event) → IsAllowed h e → HasForms e
         → IsEntry (happened e) }
     ensures founding { (e : Event) → IsFounding e → HasForms e → IsEntry (happened e) }
     ensures strike { IsEntry strike }
+    ensures done { (n : ℕ) → n < 2 ^ 64 → IsEntry (done n) }
+    ensures both { (h : History) (e : Event) (n : ℕ) (prior : List ℕ) → IsAllowed h e
+        → HasForms e → n < 2 ^ 64
+        → length (sealed_with prior (text_of (done n) ∷ []) (text_of (happened e))) ≤ longest }
+{}
+
+/// The line that says that the last event is carried out changes nothing of what a journal says.
+pub fn a_done_line_changes_nothing()
+    ensures { (bodies : List (List ℕ)) (h : History) → Says bodies h → EndsWithEvent bodies
+        → length bodies < 2 ^ 64 → Says (bodies ++ text_of (done (length bodies)) ∷ []) h }
+{}
+
+/// What is kept of the lines of a journal tells which event is the newest that no further line can
+/// strike out.
+pub fn what_is_kept_has_the_newest()
+    ensures sort { (line : Line) → IsFormed line → sort_of (text_of line) ≡ line_sort line }
+    ensures event { (bodies : List (List ℕ)) (h : History) (e : Event) → HasForms e
+        → Says (bodies ++ text_of (happened e) ∷ []) (e ∷ h)
+        → kept_lines (bodies ++ text_of (happened e) ∷ []) ≡ (newest_text h, Some (text_of (happened e))) }
+    ensures settled { (bodies : List (List ℕ)) (line : Line) (h : History) → IsFormed line
+        → (line_sort line ≢ Adds) → Says (bodies ++ text_of line ∷ []) h
+        → kept_lines (bodies ++ text_of line ∷ []) ≡ (newest_text h, Some (text_of line)) }
 {}
 
 /// A text is the journal of one history at most.
@@ -52,6 +80,19 @@ pub fn examples_of_histories()
     ensures struck_out_at_last { (a b : Event) → history_in (happened a ∷ happened b ∷ strike ∷ [])
         ≡ Some (a ∷ []) }
     ensures nothing_to_strike { history_in (strike ∷ []) ≡ None }
+    ensures carried_out { (a b : Event)
+        → history_in (happened a ∷ done 1 ∷ happened b ∷ []) ≡ Some (b ∷ a ∷ []) }
+    ensures carried_out_at_last { (a b : Event)
+        → history_in (happened a ∷ happened b ∷ done 2 ∷ []) ≡ Some (b ∷ a ∷ []) }
+    ensures nothing_carried_out { history_in (done 0 ∷ []) ≡ None }
+    ensures of_another_number { (a b : Event)
+        → history_in (happened a ∷ happened b ∷ done 1 ∷ []) ≡ None }
+    ensures carried_out_twice { (a : Event)
+        → history_in (happened a ∷ done 1 ∷ done 1 ∷ []) ≡ None }
+    ensures carried_out_behind_a_strike { (a : Event)
+        → history_in (happened a ∷ strike ∷ done 1 ∷ []) ≡ None }
+    ensures struck_out_when_carried_out { (a : Event)
+        → history_in (happened a ∷ done 1 ∷ strike ∷ []) ≡ None }
     ensures struck_out_twice { (a b : Event)
         → history_in (happened a ∷ happened b ∷ strike ∷ strike ∷ []) ≡ None }
 {}
@@ -99,6 +140,8 @@ pub fn examples_of_what_is_told()
         ≡ Some ((1, a) ∷ (4, c) ∷ []) }
     ensures further_on { (a b : Event) → told 7 (Some a) (happened b ∷ [])
         ≡ Some ((7, a) ∷ (8, b) ∷ []) }
+    ensures carried_out { (a b : Event) → told 7 (Some a) (done 7 ∷ happened b ∷ [])
+        ≡ Some ((7, a) ∷ (9, b) ∷ []) }
     ensures nothing_to_strike { told 0 None (strike ∷ []) ≡ None }
 {}
 
@@ -114,4 +157,5 @@ pub fn examples_of_lines()
     ensures hold { text_of hold ≡ hold_text }
     ensures release { text_of release ≡ release_text }
     ensures strike { text_of strike ≡ strike_text }
+    ensures done { text_of settlement ≡ done_text }
 {}

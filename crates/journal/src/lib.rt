@@ -16,6 +16,8 @@ mod part;
 mod print;
 pub mod read;
 pub mod reader;
+mod seal_at;
+mod sorts;
 
 pub use events::{Events, Placed, Unreadable};
 pub use fault::UnreadLine;
@@ -26,3 +28,4 @@ pub use line::Line;
 pub use print::{change_text, text};
 pub use read::read_line;
 pub use reader::{Faulty, Reader};
+pub use sorts::LineSorts;

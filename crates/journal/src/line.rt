@@ -9,4 +9,6 @@ pub enum Line {
     Event(Event),
     /// The event of the line before didn't happen, and is struck out.
     Strike,
+    /// The event of the line before, which has this number, is carried out. It stands from then on.
+    Done { of: u64 },
 }

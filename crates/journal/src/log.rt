@@ -30,8 +30,17 @@ impl<D: Disk> Journal for SealedLog<D> {
         self.is_open()
     }
 
+    fn lines(&self) -> u64 {
+        SealedLog::lines(self)
+    }
+
     fn append(&mut self, alloc: Global, body: &[u8]) -> Result<(), Fault> {
         let done = self.put(alloc, body);
+        told(done)
+    }
+
+    fn append_both(&mut self, alloc: Global, first: &[u8], body: &[u8]) -> Result<(), Fault> {
+        let done = self.put_both(alloc, first, body);
         told(done)
     }
 }

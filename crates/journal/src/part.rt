@@ -9,7 +9,7 @@ ghost use Rattle.json_requests.specs.Members.{text_at};
 ghost use Rattle.office_policy.specs.History.{Event as Happening, issued, withdrawn, adopted, held};
 ghost use Rattle.office_policy.specs.History.{released};
 ghost use Rattle.journal.specs.Lines.{happened};
-ghost use Rattle.journal.specs.Read.{caller_at, candidate_at, enrolled_at, founded_at};
+ghost use Rattle.journal.specs.Read.{caller_at, candidate_at, done_at, enrolled_at, founded_at};
 ghost use Rattle.journal.specs.Read.{line_at, listed_at, profile_event_at, revision_event_at};
 ghost use Rattle.journal.specs.Read.{submitted_at, voted_at};
 ghost use Rattle.journal.specs.Shown.{shown};
@@ -208,6 +208,16 @@ fn released_of(alloc: Global, value: &Tree<'_>) -> Result<Line, LineFault>
     Ok(Line::Event(Event::Released { caller, name }))
 }
 
+#[tactic(auto, unfolding(crate::specs::Read::done_at))]
+fn done_of(value: &Tree<'_>) -> Result<Line, LineFault>
+    ensures { Gives shown result (done_at (view value.now)) }
+{
+    match value.get("of").and_then(Tree::as_u64) {
+        Some(of) => Ok(Line::Done { of }),
+        None => Err(LineFault::NotARequest),
+    }
+}
+
 // The line of this kind.
 fn line_of(alloc: Global, kind: Kind, value: &Tree<'_>) -> Result<Line, LineFault>
     ensures { Gives shown result (line_at kind (view value.now)) }
@@ -223,6 +233,7 @@ fn line_of(alloc: Global, kind: Kind, value: &Tree<'_>) -> Result<Line, LineFaul
         Kind::Hold => held_of(alloc, value),
         Kind::Release => released_of(alloc, value),
         Kind::Strike => Ok(Line::Strike),
+        Kind::Done => done_of(value),
     }
 }
 

@@ -5,7 +5,8 @@ ghost use Rattle.json_tree.specs.Tokens.{Appends, tokens_of};
 ghost use Rattle.office_policy.specs.History.{submitted};
 ghost use Rattle.office_policy.specs.Happened.{event_by, event_meant};
 ghost use Rattle.journal.specs.Forms.{HasForms, HasNumber};
-ghost use Rattle.journal.specs.Lines.{event_data, happened, line_data, of_revision, strike};
+ghost use Rattle.journal.specs.Journal.{IsEntry};
+ghost use Rattle.journal.specs.Lines.{done, event_data, happened, line_data, of_revision, strike};
 ghost use Rattle.journal.specs.Lines.{text_of};
 ghost use Rattle.journal.specs.Shown.{shown};
 
@@ -16,7 +17,7 @@ use crate::members::{
     write_enrolment, write_founding, write_kind, write_on_profile, write_on_revision,
     write_profile, write_vote,
 };
-use json_requests::write::write_text;
+use json_requests::write::{write_number, write_text};
 use json_tree::{Writer, written_text};
 use office_policy::{Change, Event};
 use review_policy::{ProfileName, Text, Word};
@@ -163,6 +164,16 @@ fn write_strike(out: &mut Writer) -> Result<(), AllocError>
     out.end_object()
 }
 
+// The line that says that the one before it, which has this number, is carried out.
+fn write_done(out: &mut Writer, of: u64) -> Result<(), AllocError>
+    ensures { OnOk result (Appends out.old out.new (tokens_of (line_data (done of)))) }
+{
+    out.begin_object()?;
+    write_kind(out, Kind::Done, None)?;
+    write_number(out, "of", of)?;
+    out.end_object()
+}
+
 // A line.
 fn write_line(out: &mut Writer, alloc: Global, line: &Line) -> Result<(), AllocError>
     ensures { OnOk result (Appends out.old out.new (tokens_of (line_data (shown line.now)))) }
@@ -170,6 +181,7 @@ fn write_line(out: &mut Writer, alloc: Global, line: &Line) -> Result<(), AllocE
     match line {
         Line::Event(event) => write_event(out, alloc, event),
         Line::Strike => write_strike(out),
+        Line::Done { of } => write_done(out, *of),
     }
 }
 
@@ -193,5 +205,16 @@ pub fn text(alloc: Global, line: &Line) -> Result<String, AllocError>
 {
     let mut out = Writer::with_capacity(alloc, FIRST_ROOM)?;
     write_line(&mut out, alloc, line)?;
+    Ok(written_text(out))
+}
+
+/// The text of the line that says that the event of the line of this number is carried out. That can
+/// stand in a journal.
+pub(crate) fn done_text(alloc: Global, of: u64) -> Result<String, AllocError>
+    ensures text { IfOk result (λ text. string_bytes text ≡ text_of (done of)) }
+    ensures entry { IfOk result (λ _. IsEntry (done of)) }
+{
+    let mut out = Writer::with_capacity(alloc, FIRST_ROOM)?;
+    write_done(&mut out, of)?;
     Ok(written_text(out))
 }

@@ -1,43 +1,49 @@
 -- What becomes of a journal that a crash left, by what its last line says.
-use Rattle.std.proofs.Common.{◌≡◌, ◌≢◌, ◌∙◌, ◌⊎◌, ℕ, ◌+◌, ◌≤◌, ◌<◌, List, [], ◌∷◌, ◌++◌, Bool, true, false, not, Result, Ok, Err, IfErr, IsTrue, length, refl, sym, ap, subst, arith, inl, inr, append_assoc, length-append}
-use Rattle.std.specs.Prelude.{OnOk, IsErrAnd, ⊤}
-use Rattle.std.proofs.lemmas.List.{append_cancel_right}
+use Rattle.std.proofs.Common.{◌≡◌, ◌≢◌, ◌∙◌, ◌⊎◌, ℕ, ◌+◌, ◌≤◌, ◌<◌, List, [], ◌∷◌, ◌++◌, Bool, true, false, Option, Some, None, option_map, Result, Ok, Err, IfErr, IsTrue, length, refl, sym, ap, subst, arith, inl, inr, length-append}
+use Rattle.std.specs.Prelude.{OnOk, IsErrAnd}
 use Rattle.sqlite_disk.specs.declared.Disk.{Ghosts}
 use Rattle.sealed_log.specs.Disks.{LeavesTail}
 use Rattle.sealed_log.specs.Log.{bodies_of}
-use Rattle.sealed_log.specs.Reading.{IsThrough, last_two}
-use Rattle.sealed_log.specs.Sealed.{longest, no_seal, seal_on, sealed_line, sealed_lines, sealed_text}
-use Rattle.sealed_log.proofs.SealFacts.{length-sealed_line}
+use Rattle.sealed_log.specs.Reading.{IsThrough, Keeps}
+use Rattle.sealed_log.specs.Sealed.{longest, sealed_text}
+use Rattle.sealed_log.specs.Sorts.{added_by, settled_by}
 use Rattle.sealed_log.specs.Told.{HasMore, HasTail, told}
 use Rattle.sealed_log.specs.declared.log.SealedLog.{SealedLog}
+use Rattle.sealed_log.specs.declared.sorts.Sort.{Sort}
+use Rattle.sealed_log.specs.declared.sorts.Sort.TheVariants.{Adds, TakesBack, Settles}
 use Rattle.sealed_log.specs.declared.through.Through.{Through}
 use Rattle.sealed_log.proofs.LogFacts.{all_told, length-through, more_behind}
 use Rattle.sealed_log.proofs.ToldFacts.{told_text}
+use Rattle.office_tables.specs.Tables.{Tables}
 use Rattle.office_policy.proofs.ShownFacts.{last_shown, shown_unchanged}
 use Rattle.office_policy.proofs.SurvivalFacts.{survives_none, survives_on}
 use Rattle.review_policy.specs.declared.fault.Fault.{Fault}
 use Rattle.review_policy.specs.declared.fault.Fault.TheVariants as faults
 use Rattle.office_desk.specs.Looking.{HasLooked, IsMetBetween, TellsWhether}
 use Rattle.office_policy.specs.History.{Event, History}
-use Rattle.office_policy.specs.Handled.{HasRisen, Stands}
+use Rattle.office_policy.specs.Handled.{HasRisen}
 use Rattle.office_policy.specs.Judging.{LeavesAll}
 use Rattle.office_policy.specs.Lawful.{IsAllowed, IsLawfulHistory}
 use Rattle.office_policy.specs.Meaning.{Meaning}
 use Rattle.office_policy.specs.ShowsEvent.{Shows}
 use Rattle.office_policy.specs.TablesOf.{tables_of}
 use Rattle.journal.specs.Forms.{HasForms, IsFormed}
-use Rattle.journal.specs.Journal.{Says}
-use Rattle.journal.specs.Lines.{Line, happened, strike, text_of}
+use Rattle.journal.specs.Journal.{EndsWithEvent, Says}
+use Rattle.journal.specs.Lines.{Line, done, happened, strike, text_of}
+use Rattle.journal.specs.Sorts.{kept_lines, line_sort, newest_text, sort_of}
+use Rattle.journal.proofs.KeptFacts.{kept_more, says_newest}
 use Rattle.journal.proofs.Lengths.{allowed_entry}
 use Rattle.journal.proofs.LineFacts.{same_line}
 use Rattle.journal.proofs.Texts.{one_more, one_struck}
+use Rattle.journal_office.specs.declared.mending.Last.{Last}
+use Rattle.journal_office.specs.declared.mending.Last.TheVariants as last
 use Rattle.journal_office.specs.declared.not_reopened.NotReopened.{NotReopened}
 use Rattle.journal_office.specs.declared.not_reopened.NotReopened.TheVariants.{Unsealed, NotALine, Changed, OtherJournal, Office, Log, NoMemory}
 use Rattle.sealed_log.specs.declared.fault.LogFault.{LogFault}
 use Rattle.sealed_log.specs.declared.fault.LogFault.TheVariants as logs
 use Rattle.journal_office.specs.Faults.{IsOutside, IsRefusal, log_fault}
-use Rattle.journal_office.specs.Mending.{AsksLast, EndsWithLine, HasOfficeCause, HasReached, HasTablesOf, IsAsked, IsAskedLast, IsMended, IsMissing, IsOneMore, IsOther, IsStruckOut, LooksFor, Mends, SaysNow, SaysOther, TellsOf}
-use Rattle.journal_office.proofs.Ends.{EndsBy, IsNewest, has_end, last_is, last_push, newest_of, second_of, two_lines, two_push, with_line}
+use Rattle.journal_office.specs.Mending.{event_shown, Asks, AsksLast, EndsWithLine, HasOfficeCause, HasTablesOf, IsAsked, IsAskedLast, IsLastOf, IsMended, IsOneMore, IsShown, IsStruckOut, IsUnshown, LooksFor, Mends, SaysNow, SaysOther, ShowsText, TellsOf}
+use Rattle.journal_office.proofs.Ends.{EndsBy, EndsIn, IsFormedNewest, IsNewest, event_last, has_end, last_is, newest_formed, none_kept, with_line}
 
 -- ---- what the tables tell of it
 
@@ -65,42 +71,70 @@ struck_says h bodies new e more is =
 itself : (h : History) → HasTablesOf h h
 itself h = record { grown = inl refl; tables = refl }
 
+-- an event with its forms is that of a text with its own
+same_event : (e f : Event) → HasForms e → HasForms f → text_of (happened e) ≡ text_of (happened f) → e ≡ f
+same_event e f forms others is = let same = same_line (happened e) (happened f) forms others is in cc
+
+same_some : (a b : List ℕ) → Some a ≡ Some b → a ≡ b
+same_some a b same = cc
+
 module _ {X : Type 0} (m : Meaning X) (old new : X) (h : History) (of : m.is_of h old) (clean : m.is_clean new) where
-  says_reached : (bodies : List (List ℕ)) (l : Line) (reached : Bool) → HasReached m l old new reached → EndsBy h bodies l → reached ≡ true → SaysNow h bodies
-  says_reached bodies strike reached has by is = record { now = h; tables = itself h; says = by }
-  says_reached bodies (happened e) reached has (inl kept) is = record { now = h; tables = itself h; says = kept.1 }
-  says_reached bodies (happened e) reached has (inr more) is = record {
+  shown_event : (e : Event) → HasForms e → IsShown m old new (Some (text_of (happened e))) → Shows (tables_of h) e
+  shown_event e forms shown =
+      let is = shown h of clean in
+      subst (Shows (tables_of h)) (sym (same_event e is.event forms is.forms (same_some _ _ is.says))) is.shows
+
+  says_stays : (bodies : List (List ℕ)) (l : Line) (answer : Last) → IsFormed l → IsLastOf m old new l answer → EndsBy h bodies l → answer ≢ last.Unshown → SaysNow h bodies
+  says_stays bodies strike answer formed found by other = record { now = h; tables = itself h; says = by }
+  says_stays bodies (done n) answer formed found by other = record { now = h; tables = itself h; says = by }
+  says_stays bodies (happened e) answer formed found (inl kept) other = record { now = h; tables = itself h; says = kept.1 }
+  says_stays bodies (happened e) last.Shown formed found (inr more) other = record {
     now = e ∷ h;
     tables = record {
       grown = inr (e, refl, more.allowed);
-      tables = shown_unchanged h e (lawful_more h e (m.lawful h old of) more.allowed) ((has h of clean).0 is);
+      tables = shown_unchanged h e (lawful_more h e (m.lawful h old of) more.allowed) (shown_event e formed found.1);
     };
     says = more_says h bodies e more;
   }
+  says_stays bodies (happened e) last.Unshown formed found (inr more) other = absurd (other refl)
+  says_stays bodies (happened e) last.Settled formed found (inr more) other = absurd (found refl)
 
-  more_unreached : (bodies : List (List ℕ)) (l : Line) (reached : Bool) → HasReached m l old new reached → EndsBy h bodies l → reached ≡ false → (e : Event) × IsOneMore h bodies e
-  more_unreached bodies strike reached has by is = absurd (never_both reached has is)
-  more_unreached bodies (happened e) reached has (inl kept) is =
-      absurd (never_both reached ((has h of clean).1 (newest_shown h e (m.lawful h old of) kept.0)) is)
-  more_unreached bodies (happened e) reached has (inr more) is = (e, more)
+  more_unshown : (bodies : List (List ℕ)) (l : Line) → IsFormed l → IsLastOf m old new l last.Unshown → EndsBy h bodies l → (e : Event) × IsOneMore h bodies e
+  more_unshown bodies strike formed found by = absurd (let same : TakesBack ≡ Adds = found.0 in cc)
+  more_unshown bodies (done n) formed found by = absurd (let same : Settles ≡ Adds = found.0 in cc)
+  more_unshown bodies (happened e) formed found (inl kept) =
+      absurd (found.1 h of clean (record { event = e; forms = formed; says = refl; shows = newest_shown h e (m.lawful h old of) kept.0 }))
+  more_unshown bodies (happened e) formed found (inr more) = (e, more)
+
+-- the newest event of a history is shown
+newest_has : (h : History) (text : Option (List ℕ)) → IsLawfulHistory h → IsFormedNewest h → text ≡ newest_text h → ShowsText (tables_of h) text
+newest_has [] text lawful formed is = absurd lawful
+newest_has (e ∷ h) text lawful formed is = record { event = e; forms = formed; says = is; shows = newest_shown (e ∷ h) e lawful (h, refl) }
+
+one_of : (settled : Option (List ℕ)) (last : Option (List ℕ)) → (settled_by sort_of settled last ≡ settled) ⊎ (settled_by sort_of settled last ≡ last)
+one_of settled None = inl refl
+one_of settled (Some last) = at (sort_of last)
+  where
+    at : (sort : Sort) → (added_by sort_of sort settled last ≡ settled) ⊎ (added_by sort_of sort settled last ≡ Some last)
+    at Adds = inr refl
+    at TakesBack = inl refl
+    at Settles = inl refl
 
 -- what a crash may leave a file telling isn't another's
-pub left_ours : (h : History) (bodies : List (List ℕ)) → IsLawfulHistory h → TellsOf h bodies → SaysOther h bodies → ⊥
-left_ours h bodies lawful (inl says) other =
-    let joined : bodies ≡ (other.before ++ text_of (happened other.first) ∷ []) ++ text_of (happened other.second) ∷ [] =
-    other.is ∙ sym (append_assoc other.before (text_of (happened other.first) ∷ []) (text_of (happened other.second) ∷ [])) in
-    other.second_unshown (newest_shown h other.second lawful
-    (newest_of h bodies (other.before ++ text_of (happened other.first) ∷ []) other.second says lawful other.second_forms joined))
-left_ours h bodies lawful (inr one) other =
+pub left_ours : (mark : ℕ) (h : History) (bodies : List (List ℕ)) → IsLawfulHistory h → TellsOf h bodies → mark ≤ length bodies → SaysOther mark h bodies → ⊥
+left_ours mark h bodies lawful tells enough (inl ahead) = omega (arith, enough, ahead)
+left_ours mark h bodies lawful (inl says) enough (inr unshown) =
+    let new = says_newest bodies h says in
+    let formed = newest_formed bodies h says in
+    elim (one_of (kept_lines bodies).0 (kept_lines bodies).1) [
+      | inl settled ↦ unshown.0 (newest_has h (kept_lines bodies).0 lawful formed (sym settled ∙ new))
+      | inr held ↦ unshown.1 (newest_has h (kept_lines bodies).1 lawful formed (sym held ∙ new))
+    ]
+left_ours mark h bodies lawful (inr one) enough (inr unshown) =
     let more = one.1 in
-    let front = other.before ++ text_of (happened other.first) ∷ [] in
-    let joined : bodies ≡ front ++ text_of (happened other.second) ∷ [] =
-    other.is ∙ sym (append_assoc other.before (text_of (happened other.first) ∷ []) (text_of (happened other.second) ∷ [])) in
-    let texts : text_of (happened one.0) ≡ text_of (happened other.second) =
-    sym (last_push [] [] more.before (text_of (happened one.0))) ∙ ap (λ l. (last_two [] [] l).1) (sym more.is ∙ joined) ∙ last_push [] [] front (text_of (happened other.second)) in
-    let same : more.before ≡ front =
-    append_cancel_right more.before front (text_of (happened other.second) ∷ []) (ap (λ b. more.before ++ b ∷ []) (sym texts) ∙ sym more.is ∙ joined) in
-    other.first_unshown (newest_shown h other.first lawful (newest_of h more.before other.before other.first more.says lawful other.first_forms same))
+    let kept : (kept_lines bodies).0 ≡ newest_text h =
+    ap (λ b. (kept_lines b).0) more.is ∙ ap (λ (k : Option (List ℕ) × Option (List ℕ)). k.0) (kept_more more.before h one.0 more.forms more.says) in
+    unshown.0 (newest_has h (kept_lines bodies).0 lawful (newest_formed more.before h more.says) kept)
 
 -- ---- faults
 
@@ -149,115 +183,127 @@ met_on m old mid new faults.Disk counts closes rest met = λ is_open. elim (clos
 met_on m old mid new faults.Full counts closes rest met = omega (arith, counts, met)
 met_on m old mid new faults.NotAnOffice counts closes rest met = met
 
-module _ {X : Type 0} (m : Meaning X) (old mid new : X) (last : Through) (first : LeavesAll m old mid) (asks : IsAsked m old mid last.last.items false) (then : LeavesAll m mid new) where
+module _ {X : Type 0} (m : Meaning X) (old mid new : X) (first : LeavesAll m old mid) (then : LeavesAll m mid new) where
   pub leaves_both : LeavesAll m old new
   leaves_both = left_on m old mid new first then
 
-  missing_text : (l : Line) → HasReached m l old mid false → IsFormed l → last.last.items ≡ text_of l → IsMissing m old new last.last.items
-  missing_text strike reached formed says = absurd (never_both false reached refl)
-  missing_text (happened e) reached formed says = record {
-    event = e;
-    says = says;
-    forms = formed;
-    unshown = λ h of clean shows. let yes = (reached h of (then.survives.clean clean)).1 shows in never_both false yes refl;
-  }
+  unshown_on : (text : Option (List ℕ)) → IsUnshown m old mid text → IsUnshown m old new text
+  unshown_on text unshown h of clean = unshown h of (then.survives.clean clean)
 
-  -- neither is in the tables
-  pub is_other : LooksFor m mid new last.before.items (Ok true) → IsOther m old new last
-  is_other missing = record {
-    first = record {
-      event = missing.event;
-      says = missing.says;
-      forms = missing.forms;
-      unshown = λ h of clean. missing.unshown h (first.office h of) clean;
-    };
-    second = missing_text asks.line asks.reached asks.formed asks.says;
-  }
+  last_on : (l : Line) (answer : Last) → IsLastOf m old mid l answer → IsLastOf m old new l answer
+  last_on l last.Shown found = (found.0, λ h of clean. found.1 h of (then.survives.clean clean))
+  last_on l last.Unshown found = (found.0, λ h of clean. found.1 h of (then.survives.clean clean))
+  last_on l last.Settled found = found
 
-  still_reached : (l : Line) → HasReached m l old mid false → HasReached m l old new false
-  still_reached strike reached = reached
-  still_reached (happened e) reached = λ h of clean. reached h of (then.survives.clean clean)
+  module _ (settled : Option (List ℕ)) (text : List ℕ) (answer : Last) (asks : IsAsked m old mid text answer) where
+    -- neither is in the tables
+    pub is_other : answer ≢ last.Shown → LooksFor m mid new settled (Ok false) → AsksLast m old new settled text (Err OtherJournal)
+    is_other other looks = record {
+      settled_unshown = λ h of clean. looks.0 h (first.office h of) clean;
+      last_unshown = λ h of clean shows. at answer asks.found other h of (then.survives.clean clean) (text_shown shows);
+    }
+      where
+        text_shown : {t : Tables} → ShowsText t (Some text) → ShowsText t (Some (text_of asks.line))
+        text_shown shows = record { event = shows.event; forms = shows.forms; says = ap (λ x. Some x) (sym asks.says) ∙ shows.says; shows = shows.shows }
 
-  -- the first is
-  pub is_last : LooksFor m mid new last.before.items (Ok false) → IsAskedLast m old new last false
-  is_last not_missing = record {
-    asked = record {
-      line = asks.line;
-      says = asks.says;
-      formed = asks.formed;
-      reached = still_reached asks.line asks.reached;
-      stands = λ h was clean. not_missing.stands h (asks.stands h was (then.survives.clean clean)) clean;
-    };
-    ours = λ h of clean first_event second forms more is_first is_second first_unshown unshown. first_unshown (not_missing.shown first_event forms is_first h (first.office h of) clean);
-  }
+        at : (a : Last) → IsLastOf m old mid asks.line a → a ≢ last.Shown → (h : History) → m.is_of h old → m.is_clean mid → ShowsText (tables_of h) (Some (text_of asks.line)) → ⊥
+        at last.Shown found other_one h of clean shows = other_one refl
+        at last.Unshown found other_one h of clean shows = found.1 h of clean shows
+        at last.Settled found other_one h of clean shows =
+            found (ap line_sort (same_line asks.line (happened shows.event) asks.formed shows.forms (same_some _ _ shows.says)))
 
-  pub not_looked : (why : NotReopened) → LooksFor m mid new last.before.items (Err why) → AsksLast m old new last (Err why)
-  not_looked Unsealed looks = absurd looks
-  not_looked (Changed at) looks = absurd looks
-  not_looked NotALine looks = absurd looks
-  not_looked OtherJournal looks = absurd looks
-  not_looked (Office fault) looks = λ h of clean.
-      let before = then.survives.clean clean in
-      met_on m old mid new fault first.survives.counts (first.survives.closes before) then.survives.counts (looks h (first.office h of) clean)
-  not_looked Log looks = absurd looks
-  not_looked NoMemory looks = tt
+    -- the settled one is
+    pub is_last : LooksFor m mid new settled (Ok true) → AsksLast m old new settled text (Ok answer)
+    is_last looks = record {
+      asked = record {
+        line = asks.line;
+        says = asks.says;
+        formed = asks.formed;
+        found = last_on asks.line answer asks.found;
+        stands = λ h was clean. looks.1 h (asks.stands h was (then.survives.clean clean)) clean;
+      };
+      ours = λ h of clean settled_unshown unshown. settled_unshown (looks.0 h (first.office h of) clean);
+    }
 
--- whether a text is that of the line of an event that the tables don't show
-module _ {X : Type 0} (m : Meaning X) (old new : X) (text : List ℕ) where
-  same_event : (e f : Event) → HasForms e → HasForms f → text ≡ text_of (happened e) → text ≡ text_of (happened f) → e ≡ f
-  same_event e f forms others is_e is_f = let same = same_line (happened e) (happened f) forms others (sym is_e ∙ is_f) in cc
-
-  pub shown_event : (e : Event) → HasForms e → text ≡ text_of (happened e) → (shown : Bool) → HasLooked m old new (TellsWhether e) (Ok shown) → LooksFor m old new text (Ok (not shown))
-  shown_event e forms says true look = record {
-    shown = λ event others is h of clean. subst (Shows (tables_of h)) (same_event e event forms others says is) ((look.found h of clean).0 refl);
-    stands = λ h stands clean. look.stands h stands.is_of clean;
-  }
-  shown_event e forms says false look = record {
-    event = e;
-    says = says;
-    forms = forms;
-    unshown = λ h of clean shows. never_both false ((look.found h of clean).1 shows) refl;
-  }
-
-  pub look_failed : (e : Event) (fault : Fault) → HasLooked m old new (TellsWhether e) (Err fault) → LooksFor m old new text (Err (Office fault))
-  look_failed e fault look = look.cause
-
-module _ {X : Type 0} (m : Meaning X) (x : X) (text : List ℕ) where
-  pub not_a_line : ((line : Line) → IsFormed line → text ≢ text_of line) → LooksFor m x x text (Ok false)
-  not_a_line none = record {
-    shown = λ event forms is. absurd (none (happened event) forms is);
-    stands = λ h stands clean. stands;
-  }
-
-  pub strikes_out : text ≡ text_of strike → LooksFor m x x text (Ok false)
-  strikes_out says = record {
-    shown = λ event forms is. absurd (let same = same_line strike (happened event) tt forms (sym says ∙ is) in cc);
-    stands = λ h stands clean. stands;
-  }
+    pub not_looked : (why : NotReopened) → LooksFor m mid new settled (Err why) → AsksLast m old new settled text (Err why)
+    not_looked Unsealed looks = absurd looks
+    not_looked (Changed at) looks = absurd looks
+    not_looked NotALine looks = absurd looks
+    not_looked OtherJournal looks = absurd looks
+    not_looked (Office fault) looks = λ h of clean.
+        let before = then.survives.clean clean in
+        met_on m old mid new fault first.survives.counts (first.survives.closes before) then.survives.counts (looks h (first.office h of) clean)
+    not_looked Log looks = absurd looks
+    not_looked NoMemory looks = tt
 
 -- the last line says what is in the tables
-reached_line : {X : Type 0} (m : Meaning X) (old new : X) (l : Line) (e : Event) → HasReached m l old new true → l ≡ happened e → (h : History) → m.is_of h old → m.is_clean new → Shows (tables_of h) e
-reached_line m old new l e reached is h of clean = ((subst (λ k. HasReached m k old new true) is reached) h of clean).0 refl
-
-pub is_reached : {X : Type 0} (m : Meaning X) (old new : X) (last : Through) → IsAsked m old new last.last.items true → IsAskedLast m old new last true
-is_reached m old new last asks = record {
+pub is_reached : {X : Type 0} (m : Meaning X) (old new : X) (settled : Option (List ℕ)) (text : List ℕ) → IsAsked m old new text last.Shown → AsksLast m old new settled text (Ok last.Shown)
+is_reached m old new settled text asks = record {
   asked = asks;
-  ours = λ h of clean first second forms more is_first is_second first_unshown unshown. unshown (reached_line m old new asks.line second asks.reached (same_line asks.line (happened second) asks.formed more (sym asks.says ∙ is_second)) h of clean);
+  ours = λ h of clean settled_unshown unshown.
+      let shown = asks.found.1 h of clean in
+      unshown (record { event = shown.event; forms = shown.forms; says = ap (λ x. Some x) asks.says ∙ shown.says; shows = shown.shows });
 }
 
--- ---- results
+-- the last line wasn't read, or the office wasn't asked
+pub not_last : {X : Type 0} (m : Meaning X) (old new : X) (settled : Option (List ℕ)) (text : List ℕ) (why : NotReopened) → Asks m old new text (Err why)
+    → AsksLast m old new settled text (Err why)
+not_last m old new settled text Unsealed asks = asks
+not_last m old new settled text NotALine asks = asks
+not_last m old new settled text (Changed at) asks = asks
+not_last m old new settled text OtherJournal asks = absurd asks
+not_last m old new settled text (Office fault) asks = asks
+not_last m old new settled text Log asks = asks
+not_last m old new settled text NoMemory asks = asks
 
-on_ok : {A E : Type 0} (r : Result A E) (P : Type 0) → P → OnOk r P
-on_ok (Ok a) P p = p
-on_ok (Err e) P p = tt
+-- whether a text is that of the line of an event that the tables show
+module _ {X : Type 0} (m : Meaning X) (old new : X) (text : List ℕ) where
+  module _ (e : Event) (forms : HasForms e) (says : text ≡ text_of (happened e)) where
+    pub shown_text : HasLooked m old new (TellsWhether e) (Ok true) → IsShown m old new (Some text)
+    shown_text look = λ h of clean. record { event = e; forms = forms; says = ap (λ x. Some x) says; shows = (look.found h of clean).0 refl }
 
-ok_on : {A E : Type 0} (r : Result A E) (P Q : Type 0) → (P → Q) → OnOk r P → OnOk r Q
-ok_on (Ok a) P Q to p = to p
-ok_on (Err e) P Q to p = tt
+    pub unshown_text : HasLooked m old new (TellsWhether e) (Ok false) → IsUnshown m old new (Some text)
+    unshown_text look = λ h of clean shows.
+        let same : shows.event ≡ e = same_event shows.event e shows.forms forms (sym (same_some _ _ shows.says) ∙ says) in
+        never_both false ((look.found h of clean).1 (subst (Shows (tables_of h)) same shows.shows)) refl
 
-if_err : {A E : Type 0} (r : Result A E) (P Q : E → Type 0) → ((e : E) → P e → Q e) → IfErr r P → IfErr r Q
-if_err (Ok a) P Q to p = tt
-if_err (Err e) P Q to p = to e p
+    pub looked_for : (shown : Bool) → HasLooked m old new (TellsWhether e) (Ok shown) → LooksFor m old new (Some text) (Ok shown)
+    looked_for true look = (shown_text look, λ h stands clean. look.stands h stands.is_of clean)
+    looked_for false look = (unshown_text look, λ h stands clean. look.stands h stands.is_of clean)
+
+    pub asked_event : (shown : Bool) → HasLooked m old new (TellsWhether e) (Ok shown) → Asks m old new text (Ok (event_shown shown))
+    asked_event true look = record {
+      line = happened e;
+      says = says;
+      formed = forms;
+      found = (refl, subst (λ t. IsShown m old new (Some t)) says (shown_text look));
+      stands = λ h stands clean. look.stands h stands.is_of clean;
+    }
+    asked_event false look = record {
+      line = happened e;
+      says = says;
+      formed = forms;
+      found = (refl, subst (λ t. IsUnshown m old new (Some t)) says (unshown_text look));
+      stands = λ h stands clean. look.stands h stands.is_of clean;
+    }
+
+  pub look_failed : (e : Event) (fault : Fault) → HasLooked m old new (TellsWhether e) (Err fault) → LooksFor m old new (Some text) (Err (Office fault))
+  look_failed e fault look = look.cause
+
+-- a line on the one before it has no event
+pub no_event_there : (text : List ℕ) (l : Line) → IsFormed l → line_sort l ≢ Adds → text ≡ text_of l → (e : Event) → HasForms e → text ≢ text_of (happened e)
+no_event_there text l formed other says e forms is = other (ap line_sort (same_line l (happened e) formed forms (sym says ∙ is)))
+
+module _ {X : Type 0} (m : Meaning X) (x : X) (text : List ℕ) where
+  -- a text of no event's line shows none
+  pub no_event : ((e : Event) → HasForms e → text ≢ text_of (happened e)) → LooksFor m x x (Some text) (Ok false)
+  no_event none = (λ h of clean shows. none shows.event shows.forms (same_some _ _ shows.says), λ h stands clean. stands)
+
+  pub asked_settled : (l : Line) → IsFormed l → line_sort l ≢ Adds → text ≡ text_of l → Asks m x x text (Ok last.Settled)
+  asked_settled l formed other says = record { line = l; says = says; formed = formed; found = other; stands = λ h stands clean. stands }
+
+pub no_settled : {X : Type 0} (m : Meaning X) (x : X) → LooksFor m x x None (Ok false)
+no_settled m x = (λ h of clean shows. let both : ◌≡◌ {A = Option (List ℕ)} None (Some (text_of (happened shows.event))) = shows.says in cc, λ h stands clean. stands)
 
 -- a `?` that leaves with this fault
 pub left_with : {A : Type 0} (P : Result A NotReopened → Type 0) (r : Result A NotReopened) (why : NotReopened) → IsErrAnd r (λ e. e ≡ why) → P (Err why) → P r
@@ -268,11 +314,6 @@ left_with P (Err e) why is p = subst (λ w. P (Err w)) (sym is) p
 pub same_bodies : {D : Type 0} (g : Ghosts D) (old new : SealedLog D g) → g.seen new.disk ≡ sealed_text (bodies_of g old) → bodies_of g new ≡ bodies_of g old
 same_bodies g old new has = ap told has ∙ told_text (bodies_of g old) (all_told (g.seen old.disk))
 
--- a text of no length tells nothing
-nothing_told : (bodies : List (List ℕ)) → length (sealed_text bodies) ≡ 0 → bodies ≡ []
-nothing_told [] none = refl
-nothing_told (body ∷ more) none = absurd (omega (arith, none, length-append (sealed_line no_seal body) (sealed_lines (seal_on no_seal body) more), length-sealed_line no_seal body))
-
 -- what a crash may leave tells something
 told_some : (h : History) (bodies : List (List ℕ)) → IsLawfulHistory h → TellsOf h bodies → bodies ≡ [] → ⊥
 told_some h bodies lawful tells none =
@@ -281,7 +322,7 @@ told_some h bodies lawful tells none =
 
 -- ---- the file
 
-module _ {X D : Type 0} (m : Meaning X) (g : Ghosts D) where
+module _ {X D : Type 0} (m : Meaning X) (g : Ghosts D) (mark : ℕ) where
   same_office : (x : X) → LeavesAll m x x
   same_office x = record { survives = survives_none m x; office = λ h of. of; kept = λ clean. m.keeps_itself x; crash = λ clean left may. may }
 
@@ -293,7 +334,7 @@ module _ {X D : Type 0} (m : Meaning X) (g : Ghosts D) where
 
   module _ (x : X) (before after : SealedLog D g) (read : IsSeen before after) where
     -- it can't be read
-    pub not_read : (why : NotReopened) → IsOutside why → Mends m g x x before after (Err why)
+    pub not_read : (why : NotReopened) → IsOutside why → Mends m g mark x x before after (Err why)
     not_read why outside = record {
       leaves = same_office x;
       stands = λ h stands clean. tt;
@@ -301,6 +342,8 @@ module _ {X D : Type 0} (m : Meaning X) (g : Ghosts D) where
       opened = tt;
       bodies = λ clean. tt;
       journal = λ clean h of tells is_clean. tt;
+      ends = λ clean. tt;
+      marked = λ clean. tt;
       unsealed = λ clean same. refused_by why Unsealed outside tt same;
       changed = λ clean at same. refused_by why (Changed at) outside tt same;
       whole = λ clean. tt;
@@ -313,12 +356,13 @@ module _ {X D : Type 0} (m : Meaning X) (g : Ghosts D) where
       crash = λ clean leaves left may. leaves left (read.crash left may);
     }
 
-    module _ (found : Through) (through : IsTrue (g.is_clean after.disk) → IsThrough (g.seen before.disk) found) where
-      none_told : found.at ≡ 0 → IsTrue (g.is_clean after.disk) → bodies_of g before ≡ []
-      none_told none clean = nothing_told (bodies_of g before) (sym (length-through (g.seen before.disk) found (through clean)) ∙ none)
+    module _ (found : Through) (through : IsTrue (g.is_clean after.disk) → IsThrough (g.seen before.disk) found) (keeps : IsTrue (g.is_clean after.disk) → Keeps sort_of (g.seen before.disk) found) where
+      none_told : found.last ≡ None → IsTrue (g.is_clean after.disk) → bodies_of g before ≡ []
+      none_told none clean =
+          none_kept (bodies_of g before) (ap (λ (k : Option (List ℕ) × Option (List ℕ)). k.1) (keeps clean) ∙ ap (option_map (λ v. v.items)) none)
 
       -- none of its lines is sealed
-      pub no_seal_there : found.at ≡ 0 → Mends m g x x before after (Err Unsealed)
+      pub no_seal_there : found.last ≡ None → Mends m g mark x x before after (Err Unsealed)
       no_seal_there none = record {
         leaves = same_office x;
         stands = λ h stands clean. tt;
@@ -326,6 +370,8 @@ module _ {X D : Type 0} (m : Meaning X) (g : Ghosts D) where
         opened = tt;
         bodies = λ clean. tt;
         journal = λ clean h of tells is_clean. tt;
+        ends = λ clean. tt;
+        marked = λ clean. tt;
         unsealed = λ clean same. none_told none clean;
         changed = λ clean at same. absurd cc;
         whole = λ clean. tt;
@@ -339,7 +385,7 @@ module _ {X D : Type 0} (m : Meaning X) (g : Ghosts D) where
       }
 
       -- too much stands behind those that are
-      pub was_changed : found.at + longest < found.len → Mends m g x x before after (Err (Changed found.at))
+      pub was_changed : found.at + longest < found.len → Mends m g mark x x before after (Err (Changed found.at))
       was_changed more = record {
         leaves = same_office x;
         stands = λ h stands clean. tt;
@@ -347,6 +393,8 @@ module _ {X D : Type 0} (m : Meaning X) (g : Ghosts D) where
         opened = tt;
         bodies = λ clean. tt;
         journal = λ clean h of tells is_clean. tt;
+        ends = λ clean. tt;
+        marked = λ clean. tt;
         unsealed = λ clean same. absurd cc;
         changed = λ clean at same.
             let here : found.at ≡ at = cc in
@@ -361,9 +409,32 @@ module _ {X D : Type 0} (m : Meaning X) (g : Ghosts D) where
         crash = λ clean leaves left may. leaves left (read.crash left may);
       }
 
+      -- it has fewer lines than the mark
+      pub too_few : found.lines < mark → Mends m g mark x x before after (Err OtherJournal)
+      too_few few = record {
+        leaves = same_office x;
+        stands = λ h stands clean. tt;
+        clean = read.clean;
+        opened = tt;
+        bodies = λ clean. tt;
+        journal = λ clean h of tells is_clean. tt;
+        ends = λ clean. tt;
+        marked = λ clean. tt;
+        unsealed = λ clean same. absurd cc;
+        changed = λ clean at same. absurd cc;
+        whole = λ clean. tt;
+        no_line = λ clean same. absurd cc;
+        line = λ clean h lawful tells. (λ same. cc, λ same. cc);
+        other = λ clean h of is_clean same. inl (let all = (through clean).lines in omega (arith, all, few));
+        ours = λ clean h of is_clean. tt;
+        untouched = λ refusal. read.seen;
+        cause = λ h of clean. tt;
+        crash = λ clean leaves left may. leaves left (read.crash left may);
+      }
+
   -- a file that was read first
-  pub seen_on : (old new : X) (before mid after : SealedLog D g) (result : Result ⊤ NotReopened) → IsSeen before mid → Mends m g old new mid after result
-      → Mends m g old new before after result
+  pub seen_on : (old new : X) (before mid after : SealedLog D g) (result : Result Bool NotReopened) → IsSeen before mid → Mends m g mark old new mid after result
+      → Mends m g mark old new before after result
   seen_on old new before mid after result read mends =
       let same : bodies_of g mid ≡ bodies_of g before = ap told read.seen in
       record {
@@ -373,14 +444,16 @@ module _ {X D : Type 0} (m : Meaning X) (g : Ghosts D) where
         opened = mends.opened;
         bodies = λ clean. subst (λ (b : List (List ℕ)). OnOk result (IsMended b (bodies_of g after))) same (mends.bodies clean);
         journal = λ clean h of tells is_clean. mends.journal clean h of (subst (TellsOf h) (sym same) tells) is_clean;
+        ends = mends.ends;
+        marked = λ clean. subst (λ (b : List (List ℕ)). OnOk result (mark ≤ length b)) same (mends.marked clean);
         unsealed = λ clean. subst (λ (b : List (List ℕ)). IfErr result (λ why. why ≡ Unsealed → b ≡ [])) same (mends.unsealed clean);
         changed = λ clean.
             subst (λ (f : List ℕ). IfErr result (λ why. (at : ℕ) → why ≡ Changed at → HasMore f × (at ≡ length (sealed_text (told f))))) read.seen (mends.changed clean);
         whole = λ clean. subst (λ (f : List ℕ). OnOk result (HasMore f → ⊥)) read.seen (mends.whole clean);
         no_line = λ clean. subst (λ (b : List (List ℕ)). IfErr result (λ why. why ≡ NotALine → EndsWithLine b → ⊥)) same (mends.no_line clean);
         line = λ clean h lawful tells. mends.line clean h lawful (subst (TellsOf h) (sym same) tells);
-        other = λ clean h of is_clean. subst (λ (b : List (List ℕ)). IfErr result (λ why. why ≡ OtherJournal → SaysOther h b)) same (mends.other clean h of is_clean);
-        ours = λ clean h of is_clean. subst (λ (b : List (List ℕ)). OnOk result (SaysOther h b → ⊥)) same (mends.ours clean h of is_clean);
+        other = λ clean h of is_clean. subst (λ (b : List (List ℕ)). IfErr result (λ why. why ≡ OtherJournal → SaysOther mark h b)) same (mends.other clean h of is_clean);
+        ours = λ clean h of is_clean. subst (λ (b : List (List ℕ)). OnOk result (SaysOther mark h b → ⊥)) same (mends.ours clean h of is_clean);
         untouched = subst (λ (f : List ℕ). IfErr result (λ why. IsRefusal why → g.seen after.disk ≡ f)) read.seen mends.untouched;
         cause = mends.cause;
         crash = λ clean leaves.
@@ -390,35 +463,38 @@ module _ {X D : Type 0} (m : Meaning X) (g : Ghosts D) where
 
   -- ---- the office is asked
 
-  module _ (old new : X) (before : SealedLog D g) (found : Through) (leaves : LeavesAll m old new)
-      (through : IsTrue (g.is_clean before.disk) → IsThrough (g.seen before.disk) found) where
-    two : IsTrue (g.is_clean before.disk) → last_two [] [] (bodies_of g before) ≡ (found.before.items, found.last.items)
-    two clean = (through clean).two
+  module _ (old new : X) (before : SealedLog D g) (settled : Option (List ℕ)) (text : List ℕ) (leaves : LeavesAll m old new)
+      (keeps : IsTrue (g.is_clean before.disk) → kept_lines (bodies_of g before) ≡ (settled, Some text)) where
+    the_last : IsTrue (g.is_clean before.disk) → (kept_lines (bodies_of g before)).1 ≡ Some text
+    the_last clean = ap (λ (k : Option (List ℕ) × Option (List ℕ)). k.1) (keeps clean)
+
+    the_settled : IsTrue (g.is_clean before.disk) → (kept_lines (bodies_of g before)).0 ≡ settled
+    the_settled clean = ap (λ (k : Option (List ℕ) × Option (List ℕ)). k.0) (keeps clean)
 
     -- the last line of what a crash may leave is a line
-    asked_line : (why : NotReopened) → AsksLast m old new found (Err why) → IsTrue (g.is_clean before.disk) → (h : History) → IsLawfulHistory h → TellsOf h (bodies_of g before)
+    asked_line : (why : NotReopened) → AsksLast m old new settled text (Err why) → IsTrue (g.is_clean before.disk) → (h : History) → IsLawfulHistory h → TellsOf h (bodies_of g before)
         → (why ≢ NotALine) × (why ≢ Unsealed)
     asked_line Unsealed asks clean h lawful tells = absurd asks
     asked_line NotALine asks clean h lawful tells =
         let end = has_end h (bodies_of g before) lawful tells in
-        absurd (asks end.line end.formed (last_is (bodies_of g before) end.before found.before.items found.last.items (text_of end.line) (two clean) end.is))
+        absurd (asks end.line end.formed (last_is (bodies_of g before) end.before text (text_of end.line) (the_last clean) end.is))
     asked_line (Changed at) asks clean h lawful tells = absurd asks
     asked_line OtherJournal asks clean h lawful tells = (λ same. cc, λ same. cc)
     asked_line (Office fault) asks clean h lawful tells = (λ same. cc, λ same. cc)
     asked_line Log asks clean h lawful tells = absurd asks
     asked_line NoMemory asks clean h lawful tells = (λ same. cc, λ same. cc)
 
-    asked_no_line : (why : NotReopened) → AsksLast m old new found (Err why) → IsTrue (g.is_clean before.disk) → why ≡ NotALine → EndsWithLine (bodies_of g before) → ⊥
+    asked_no_line : (why : NotReopened) → AsksLast m old new settled text (Err why) → IsTrue (g.is_clean before.disk) → why ≡ NotALine → EndsWithLine (bodies_of g before) → ⊥
     asked_no_line Unsealed asks clean same = absurd asks
     asked_no_line NotALine asks clean same = λ e.
-        asks e.line e.formed (last_is (bodies_of g before) e.before found.before.items found.last.items (text_of e.line) (two clean) e.is)
+        asks e.line e.formed (last_is (bodies_of g before) e.before text (text_of e.line) (the_last clean) e.is)
     asked_no_line (Changed at) asks clean same = absurd asks
     asked_no_line OtherJournal asks clean same = absurd cc
     asked_no_line (Office fault) asks clean same = absurd cc
     asked_no_line Log asks clean same = absurd asks
     asked_no_line NoMemory asks clean same = absurd cc
 
-    asked_cause : (why : NotReopened) → AsksLast m old new found (Err why) → (h : History) → m.is_of h old → m.is_clean new → HasOfficeCause m old new why
+    asked_cause : (why : NotReopened) → AsksLast m old new settled text (Err why) → (h : History) → m.is_of h old → m.is_clean new → HasOfficeCause m old new why
     asked_cause Unsealed asks h of clean = tt
     asked_cause NotALine asks h of clean = tt
     asked_cause (Changed at) asks h of clean = tt
@@ -428,28 +504,20 @@ module _ {X D : Type 0} (m : Meaning X) (g : Ghosts D) where
     asked_cause NoMemory asks h of clean = tt
 
     -- another office's journal
-    asked_other : (why : NotReopened) → AsksLast m old new found (Err why) → IsTrue (g.is_clean before.disk) → (h : History) → m.is_of h old → m.is_clean new → why ≡ OtherJournal
-        → SaysOther h (bodies_of g before)
+    asked_other : (why : NotReopened) → AsksLast m old new settled text (Err why) → IsTrue (g.is_clean before.disk) → (h : History) → m.is_of h old → m.is_clean new → why ≡ OtherJournal
+        → SaysOther mark h (bodies_of g before)
     asked_other Unsealed asks clean h of is_clean same = absurd asks
     asked_other NotALine asks clean h of is_clean same = absurd cc
     asked_other (Changed at) asks clean h of is_clean same = absurd asks
-    asked_other OtherJournal asks clean h of is_clean same =
-        let lines = two_lines (bodies_of g before) found.before.items found.last.items asks.first.event asks.second.event (two clean) asks.first.says asks.second.says in
-        record {
-          before = lines.earlier;
-          first = asks.first.event;
-          first_forms = asks.first.forms;
-          second = asks.second.event;
-          second_forms = asks.second.forms;
-          is = lines.is;
-          first_unshown = asks.first.unshown h of is_clean;
-          second_unshown = asks.second.unshown h of is_clean;
-        }
+    asked_other OtherJournal asks clean h of is_clean same = inr (
+      subst (λ s. ShowsText (tables_of h) s → ⊥) (sym (the_settled clean)) (asks.settled_unshown h of is_clean),
+      subst (λ s. ShowsText (tables_of h) s → ⊥) (sym (the_last clean)) (asks.last_unshown h of is_clean),
+    )
     asked_other (Office fault) asks clean h of is_clean same = absurd cc
     asked_other Log asks clean h of is_clean same = absurd asks
     asked_other NoMemory asks clean h of is_clean same = absurd cc
 
-    never_unsealed : (why : NotReopened) → AsksLast m old new found (Err why) → why ≡ Unsealed → ⊥
+    never_unsealed : (why : NotReopened) → AsksLast m old new settled text (Err why) → why ≡ Unsealed → ⊥
     never_unsealed Unsealed asks same = asks
     never_unsealed NotALine asks same = cc
     never_unsealed (Changed at) asks same = cc
@@ -458,7 +526,7 @@ module _ {X D : Type 0} (m : Meaning X) (g : Ghosts D) where
     never_unsealed Log asks same = cc
     never_unsealed NoMemory asks same = cc
 
-    never_changed : (why : NotReopened) (at : ℕ) → AsksLast m old new found (Err why) → why ≡ Changed at → ⊥
+    never_changed : (why : NotReopened) (at : ℕ) → AsksLast m old new settled text (Err why) → why ≡ Changed at → ⊥
     never_changed Unsealed at asks same = cc
     never_changed NotALine at asks same = cc
     never_changed (Changed there) at asks same = asks
@@ -467,7 +535,7 @@ module _ {X D : Type 0} (m : Meaning X) (g : Ghosts D) where
     never_changed Log at asks same = cc
     never_changed NoMemory at asks same = cc
 
-    pub not_asked : (why : NotReopened) → AsksLast m old new found (Err why) → Mends m g old new before before (Err why)
+    pub not_asked : (why : NotReopened) → AsksLast m old new settled text (Err why) → Mends m g mark old new before before (Err why)
     not_asked why asks = record {
       leaves = leaves;
       stands = λ h stands clean. tt;
@@ -475,6 +543,8 @@ module _ {X D : Type 0} (m : Meaning X) (g : Ghosts D) where
       opened = tt;
       bodies = λ clean. tt;
       journal = λ clean h of tells is_clean. tt;
+      ends = λ clean. tt;
+      marked = λ clean. tt;
       unsealed = λ clean same. absurd (never_unsealed why asks same);
       changed = λ clean at same. absurd (never_changed why at asks same);
       whole = λ clean. tt;
@@ -493,7 +563,7 @@ module _ {X D : Type 0} (m : Meaning X) (g : Ghosts D) where
     module _ (mid : SealedLog D g) (cut_clean : IsTrue (g.is_clean mid.disk) → IsTrue (g.is_clean before.disk))
         (cut_crash : IsTrue (g.is_clean mid.disk) → LeavesTail g before.disk (sealed_text (bodies_of g before)) longest
         → LeavesTail g mid.disk (sealed_text (bodies_of g before)) longest) where
-      pub not_cut : (why : NotReopened) → IsOutside why → Mends m g old new before mid (Err why)
+      pub not_cut : (why : NotReopened) → IsOutside why → Mends m g mark old new before mid (Err why)
       not_cut why outside = record {
         leaves = leaves;
         stands = λ h stands clean. tt;
@@ -501,6 +571,8 @@ module _ {X D : Type 0} (m : Meaning X) (g : Ghosts D) where
         opened = tt;
         bodies = λ clean. tt;
         journal = λ clean h of tells is_clean. tt;
+        ends = λ clean. tt;
+        marked = λ clean. tt;
         unsealed = λ clean same. refused_by why Unsealed outside tt same;
         changed = λ clean at same. refused_by why (Changed at) outside tt same;
         whole = λ clean. tt;
@@ -514,28 +586,32 @@ module _ {X D : Type 0} (m : Meaning X) (g : Ghosts D) where
       }
 
       module _ (is_open : mid.is_open ≡ true) (same : IsTrue (g.is_clean mid.disk) → bodies_of g mid ≡ bodies_of g before)
-          (no_more_there : IsTrue (g.is_clean mid.disk) → HasMore (g.seen before.disk) → ⊥) (reached : Bool) (asks : IsAskedLast m old new found reached) where
-        asked : IsAsked m old new found.last.items reached
+          (no_more_there : IsTrue (g.is_clean mid.disk) → HasMore (g.seen before.disk) → ⊥) (enough : IsTrue (g.is_clean before.disk) → mark ≤ length (bodies_of g before)) (answer : Last)
+          (asks : IsAskedLast m old new settled text answer) where
+        pub asked : IsAsked m old new text answer
         asked = asks.asked
 
-        never_other : IsTrue (g.is_clean mid.disk) → (h : History) → m.is_of h old → m.is_clean new → SaysOther h (bodies_of g before) → ⊥
-        never_other clean h of is_clean other =
-            let texts = second_of (bodies_of g before) found.before.items found.last.items (text_of (happened other.first)) (text_of (happened other.second)) (two (cut_clean clean))
-            (ap (last_two [] []) other.is ∙ two_push [] [] other.before (text_of (happened other.first)) (text_of (happened other.second))) in
-            asks.ours h of is_clean other.first other.second other.first_forms other.second_forms (sym texts.0) (sym texts.1) other.first_unshown other.second_unshown
+        never_other : IsTrue (g.is_clean mid.disk) → (h : History) → m.is_of h old → m.is_clean new → SaysOther mark h (bodies_of g before) → ⊥
+        never_other clean h of is_clean (inl ahead) = let all = enough (cut_clean clean) in omega (arith, all, ahead)
+        never_other clean h of is_clean (inr unshown) =
+            asks.ours h of is_clean (subst (λ s. ShowsText (tables_of h) s → ⊥) (the_settled (cut_clean clean)) unshown.0)
+            (subst (λ s. ShowsText (tables_of h) s → ⊥) (the_last (cut_clean clean)) unshown.1)
+
+        ends_in : IsTrue (g.is_clean mid.disk) → EndsIn (bodies_of g before) asked.line
+        ends_in clean = with_line (bodies_of g before) text asked.line (the_last (cut_clean clean)) asked.says
 
         ends_line : IsTrue (g.is_clean mid.disk) → EndsWithLine (bodies_of g before)
-        ends_line clean = with_line (bodies_of g before) found.before.items found.last.items asked.line (two (cut_clean clean)) asked.formed asked.says
+        ends_line clean = record { before = (ends_in clean).before; line = asked.line; formed = asked.formed; is = (ends_in clean).is }
 
         -- the line that was asked about is the last one
         ends_by : IsTrue (g.is_clean mid.disk) → (h : History) → IsLawfulHistory h → TellsOf h (bodies_of g before) → EndsBy h (bodies_of g before) asked.line
         ends_by clean h lawful tells =
             let end = has_end h (bodies_of g before) lawful tells in
-            let texts = last_is (bodies_of g before) end.before found.before.items found.last.items (text_of end.line) (two (cut_clean clean)) end.is in
+            let texts = last_is (bodies_of g before) end.before text (text_of end.line) (the_last (cut_clean clean)) end.is in
             subst (EndsBy h (bodies_of g before)) (same_line end.line asked.line end.formed asked.formed (sym texts ∙ asked.says)) end.by
 
-        pub stays : reached ≡ true → Mends m g old new before mid (Ok tt)
-        stays is = record {
+        pub stays : answer ≢ last.Unshown → (settled_is : Bool) → (settled_is ≡ false → line_sort asked.line ≡ Adds) → Mends m g mark old new before mid (Ok settled_is)
+        stays is settled_is ends_with = record {
           leaves = leaves;
           stands = asked.stands;
           clean = cut_clean;
@@ -543,7 +619,9 @@ module _ {X D : Type 0} (m : Meaning X) (g : Ghosts D) where
           bodies = λ clean. record { last = ends_line clean; is = inl (same clean) };
           journal = λ clean h of tells is_clean.
               subst (SaysNow h) (sym (same clean))
-              (says_reached m old new h of is_clean (bodies_of g before) asked.line reached asked.reached (ends_by clean h (m.lawful h old of) tells) is);
+              (says_stays m old new h of is_clean (bodies_of g before) asked.line answer asked.formed asked.found (ends_by clean h (m.lawful h old of) tells) is);
+          ends = λ clean unsettled. subst EndsWithEvent (sym (same clean)) (event_last (bodies_of g before) asked.line (ends_in clean) asked.formed (ends_with unsettled));
+          marked = λ clean. enough (cut_clean clean);
           unsealed = λ clean. tt;
           changed = λ clean. tt;
           whole = no_more_there;
@@ -556,36 +634,71 @@ module _ {X D : Type 0} (m : Meaning X) (g : Ghosts D) where
           crash = cut_crash;
         }
 
+        pub stays_shown : answer ≡ last.Shown → Mends m g mark old new before mid (Ok false)
+        stays_shown is =
+            stays (λ same. let both : last.Shown ≡ last.Unshown = sym is ∙ same in cc) false (λ _. (subst (IsLastOf m old new asked.line) is asked.found).0)
+
+        pub stays_settled : answer ≡ last.Settled → Mends m g mark old new before mid (Ok true)
+        stays_settled is = stays (λ same. let both : last.Settled ≡ last.Unshown = sym is ∙ same in cc) true (λ unsettled. absurd (let c : true ≡ false = unsettled in cc))
+
         -- and the last line is struck out
-        module _ (after : SealedLog D g) (result : Result ⊤ NotReopened) (struck : IsStruckOut g mid after result) (is : reached ≡ false) where
-          more : IsTrue (g.is_clean after.disk) → (h : History) → m.is_of h old → TellsOf h (bodies_of g before) → m.is_clean new → (e : Event) × IsOneMore h (bodies_of g before) e
-          more clean h of tells is_clean =
-              more_unreached m old new h of is_clean (bodies_of g before) asked.line reached asked.reached (ends_by (struck.clean clean) h (m.lawful h old of) tells) is
+        module _ (after : SealedLog D g) (is : answer ≡ last.Unshown) where
+          found_unshown : IsLastOf m old new asked.line last.Unshown
+          found_unshown = subst (IsLastOf m old new asked.line) is asked.found
 
-          both : (clean : IsTrue (g.is_clean after.disk)) → bodies_of g after ≡ bodies_of g mid ++ text_of strike ∷ [] → bodies_of g after ≡ bodies_of g before ++ text_of strike ∷ []
-          both clean bodies = bodies ∙ ap (λ b. b ++ text_of strike ∷ []) (same (struck.clean clean))
+          module _ (struck : IsStruckOut g mid after (Ok tt)) where
+            more : IsTrue (g.is_clean after.disk) → (h : History) → m.is_of h old → TellsOf h (bodies_of g before) → m.is_clean new → (e : Event) × IsOneMore h (bodies_of g before) e
+            more clean h of tells is_clean =
+                more_unshown m old new h of is_clean (bodies_of g before) asked.line asked.formed found_unshown (ends_by (struck.clean clean) h (m.lawful h old of) tells)
 
-          pub struck_out : Mends m g old new before after result
-          struck_out = record {
-            leaves = leaves;
-            stands = λ h stands clean. on_ok result (Stands m h new) (asked.stands h stands clean);
-            clean = λ clean. cut_clean (struck.clean clean);
-            opened = struck.opened;
-            bodies = λ clean. ok_on result _ _ (λ bodies. record { last = ends_line (struck.clean clean); is = inr (both clean bodies) }) (struck.bodies clean);
-            journal = λ clean h of tells is_clean. let e = more clean h of tells is_clean in
-                ok_on result _ _ (λ bodies. record { now = h; tables = itself h; says = struck_says h (bodies_of g before) (bodies_of g after) e.0 e.1 (both clean bodies) })
-                (struck.bodies clean);
-            unsealed = λ clean. if_err result IsOutside (λ why. why ≡ Unsealed → bodies_of g before ≡ []) (λ why outside same. refused_by why Unsealed outside tt same) struck.why;
-            changed = λ clean. if_err result IsOutside (λ why. (at : ℕ) → why ≡ Changed at → HasMore (g.seen before.disk) × (at ≡ length (sealed_text (bodies_of g before))))
-                (λ why outside at same. refused_by why (Changed at) outside tt same) struck.why;
-            whole = λ clean. on_ok result (HasMore (g.seen before.disk) → ⊥) (no_more_there (struck.clean clean));
-            no_line = λ clean. if_err result IsOutside (λ why. why ≡ NotALine → EndsWithLine (bodies_of g before) → ⊥) (λ why outside same. refused_by why NotALine outside tt same) struck.why;
-            line = λ clean h lawful tells. if_err result IsOutside (λ why. (why ≢ NotALine) × (why ≢ Unsealed))
-                (λ why outside. (λ same. refused_by why NotALine outside tt same, λ same. refused_by why Unsealed outside tt same)) struck.why;
-            other = λ clean h of is_clean. if_err result IsOutside (λ why. why ≡ OtherJournal → SaysOther h (bodies_of g before)) (λ why outside same. refused_by why OtherJournal outside tt same) struck.why;
-            ours = λ clean h of is_clean. on_ok result (SaysOther h (bodies_of g before) → ⊥) (never_other (struck.clean clean) h of is_clean);
-            untouched = if_err result IsOutside (λ why. IsRefusal why → g.seen after.disk ≡ g.seen before.disk) (λ why outside refusal. outside_no_refusal why outside refusal) struck.why;
-            cause = λ h of clean. if_err result IsOutside (HasOfficeCause m old new) (outside_cause m old new) struck.why;
-            crash = λ clean leaves.
-                subst (λ (b : List (List ℕ)). LeavesTail g after.disk (sealed_text b) longest) (same (struck.clean clean)) (struck.crash is_open clean);
-          }
+            both : IsTrue (g.is_clean after.disk) → bodies_of g after ≡ bodies_of g before ++ text_of strike ∷ []
+            both clean = struck.bodies clean ∙ ap (λ b. b ++ text_of strike ∷ []) (same (struck.clean clean))
+
+            pub struck_out : Mends m g mark old new before after (Ok true)
+            struck_out = record {
+              leaves = leaves;
+              stands = asked.stands;
+              clean = λ clean. cut_clean (struck.clean clean);
+              opened = struck.opened;
+              bodies = λ clean. record { last = ends_line (struck.clean clean); is = inr (both clean) };
+              journal = λ clean h of tells is_clean.
+                  let e = more clean h of tells is_clean in
+                  record { now = h; tables = itself h; says = struck_says h (bodies_of g before) (bodies_of g after) e.0 e.1 (both clean) };
+              ends = λ clean unsettled. absurd (let c : true ≡ false = unsettled in cc);
+              marked = λ clean. enough (cut_clean (struck.clean clean));
+              unsealed = λ clean. tt;
+              changed = λ clean. tt;
+              whole = λ clean. no_more_there (struck.clean clean);
+              no_line = λ clean. tt;
+              line = λ clean h lawful tells. tt;
+              other = λ clean h of is_clean. tt;
+              ours = λ clean h of is_clean. never_other (struck.clean clean) h of is_clean;
+              untouched = tt;
+              cause = λ h of clean. tt;
+              crash = λ clean leaves.
+                  subst (λ (b : List (List ℕ)). LeavesTail g after.disk (sealed_text b) longest) (same (struck.clean clean)) (struck.crash is_open clean);
+            }
+
+        -- or it couldn't be
+        pub not_struck : (after : SealedLog D g) (why : NotReopened) → IsStruckOut g mid after (Err why) → Mends m g mark old new before after (Err why)
+        not_struck after why struck = record {
+          leaves = leaves;
+          stands = λ h stands clean. tt;
+          clean = λ clean. cut_clean (struck.clean clean);
+          opened = tt;
+          bodies = λ clean. tt;
+          journal = λ clean h of tells is_clean. tt;
+          ends = λ clean. tt;
+          marked = λ clean. tt;
+          unsealed = λ clean same. refused_by why Unsealed struck.why tt same;
+          changed = λ clean at same. refused_by why (Changed at) struck.why tt same;
+          whole = λ clean. tt;
+          no_line = λ clean same. refused_by why NotALine struck.why tt same;
+          line = λ clean h lawful tells. (λ same. refused_by why NotALine struck.why tt same, λ same. refused_by why Unsealed struck.why tt same);
+          other = λ clean h of is_clean same. refused_by why OtherJournal struck.why tt same;
+          ours = λ clean h of is_clean. tt;
+          untouched = λ refusal. outside_no_refusal why struck.why refusal;
+          cause = λ h of clean. outside_cause m old new why struck.why;
+          crash = λ clean leaves.
+              subst (λ (b : List (List ℕ)). LeavesTail g after.disk (sealed_text b) longest) (same (struck.clean clean)) (struck.crash is_open clean);
+        }

@@ -1,5 +1,5 @@
 -- An office that is opened again with its journal.
-use Rattle.std.proofs.Common.{◌≡◌, inl, inr, false, not, IsTrue, Ok, Err, refl, sym, subst}
+use Rattle.std.proofs.Common.{◌≡◌, inl, inr, ℕ, Bool, false, not, IsTrue, Ok, Err, refl, sym, subst}
 use Rattle.std.proofs.lemmas.Bool.{and_from}
 use Rattle.sqlite.specs.Held.{Held, state}
 use Rattle.sqlite.specs.State.{State}
@@ -15,6 +15,7 @@ use Rattle.journal.specs.Logs.{in_log}
 use Rattle.sqlite_disk.specs.declared.Disk.{Ghosts as DiskGhosts}
 use Rattle.sealed_log.specs.Log.{bodies_of}
 use Rattle.sealed_log.specs.declared.log.SealedLog.{SealedLog}
+use Rattle.journal.specs.Journal.{EndsWithEvent}
 use Rattle.journal.specs.Journals.{IsOf, goes_on}
 use Rattle.journal.proofs.Offices.{stands_with}
 use Rattle.journal_office.specs.declared.not_reopened.NotReopened.{NotReopened}
@@ -46,11 +47,12 @@ module _ {S D : Type 0} (s : Ghosts S) (g : DiskGhosts D) where
 
   of_now : (h : History) (old : Held S) (x : Journaled (Held S) (SealedLog D g)) → (meaning_over s).is_of h x.office → (meaning_over s).is_clean x.office
       → IsTrue (g.is_clean x.journal.disk) → IsTrue (goes_on (meaning_over s) (in_log g) x) → (Stands (meaning_over s) h old → Stands (meaning_over s) h x.office)
-      → SaysNow h (bodies_of g x.journal) → IsOfNow s g h old x
-  of_now h old x of clean clean_log goes kept says =
+      → (x.is_settled ≡ false → EndsWithEvent (bodies_of g x.journal)) → SaysNow h (bodies_of g x.journal) → IsOfNow s g h old x
+  of_now h old x of clean clean_log goes kept ends says =
       let is_of_now : IsOf (meaning_over s) (in_log g) says.now x = record {
         office = office_now h says.now (state s x.office) says.tables of;
         says = λ clean goes. says.says;
+        ends = λ clean goes unsettled. ends unsettled;
       } in
       record {
         now = says.now;
@@ -60,26 +62,28 @@ module _ {S D : Type 0} (s : Ghosts S) (g : DiskGhosts D) where
       }
 
   -- what `new` made of the office and of the journal
-  pub opened : (old office : Held S) (before log : SealedLog D g) (x : Journaled (Held S) (SealedLog D g)) → x ≡ record { office = office; journal = log; has_stray = false }
-      → Mends (meaning_over s) g old office before log (Ok tt) → IsReopened s g old before x
-  opened old office before log x is mends =
-      let made : Journaled (Held S) (SealedLog D g) = record { office = office; journal = log; has_stray = false } in
+  pub opened : (mark : ℕ) (old office : Held S) (before log : SealedLog D g) (settled : Bool) (x : Journaled (Held S) (SealedLog D g))
+      → x ≡ record { office = office; journal = log; has_stray = false; is_settled = settled }
+      → Mends (meaning_over s) g mark old office before log (Ok settled) → IsReopened s g mark old before x
+  opened mark old office before log settled x is mends =
+      let made : Journaled (Held S) (SealedLog D g) = record { office = office; journal = log; has_stray = false; is_settled = settled } in
       let goes : IsTrue (goes_on (meaning_over s) (in_log g) made) = and_from log.is_open (not false) mends.opened refl in
-      subst (IsReopened s g old before) (sym is) (record {
+      subst (IsReopened s g mark old before) (sym is) (record {
         office = mends.leaves;
         goes_on = goes;
         clean = mends.clean;
         bodies = mends.bodies;
         whole = mends.whole;
         journal = λ clean h of tells is_clean.
-            of_now h old made (mends.leaves.office h of) is_clean clean goes (λ stands. mends.stands h stands is_clean) (mends.journal clean h of tells is_clean);
+            of_now h old made (mends.leaves.office h of) is_clean clean goes (λ stands. mends.stands h stands is_clean) (mends.ends clean) (mends.journal clean h of tells is_clean);
         ours = mends.ours;
+        marked = mends.marked;
         crash = mends.crash;
       })
 
-  pub handed_back : (old office : Held S) (before log : SealedLog D g) (why : NotReopened) → Mends (meaning_over s) g old office before log (Err why)
-      → IsHandedBack s g old before why office log
-  handed_back old office before log why mends = record {
+  pub handed_back : (mark : ℕ) (old office : Held S) (before log : SealedLog D g) (why : NotReopened) → Mends (meaning_over s) g mark old office before log (Err why)
+      → IsHandedBack s g mark old before why office log
+  handed_back mark old office before log why mends = record {
     unchanged = mends.leaves;
     clean = mends.clean;
     unsealed = mends.unsealed;
@@ -87,8 +91,8 @@ module _ {S D : Type 0} (s : Ghosts S) (g : DiskGhosts D) where
     no_line = mends.no_line;
     line = mends.line;
     other = mends.other;
-    own = λ clean h of is_clean tells same.
-        left_ours h (bodies_of g before) ((meaning_over s).lawful h old of) tells (mends.other clean h of is_clean same);
+    own = λ clean h of is_clean tells enough same.
+        left_ours mark h (bodies_of g before) ((meaning_over s).lawful h old of) tells enough (mends.other clean h of is_clean same);
     untouched = mends.untouched;
     cause = mends.cause;
     crash = mends.crash;

@@ -87,10 +87,10 @@ module _ {X : Type 0} (m : Meaning X) (bytes : Option (List ℕ)) where
   left_behind here after es office left line (why.Unreplayed cause) same all at = absurd at
 
   -- a `?` that leaves with it
-  pub left_by : (left : X) (count : ℕ) (seal : List ℕ) (result : Result ⊤ Refused) (refused : Refused) → IsErrAnd result (λ e. e ≡ refused) → IsLeftBehind m bytes left refused.line refused.why
-      → Continues m bytes left count seal result
-  left_by left count seal (Ok done) refused is at = absurd is
-  left_by left count seal (Err r) refused is at = subst (λ (r : Refused). IsLeftBehind m bytes left r.line r.why) (sym is) at
+  pub left_by : (left : X) (count : ℕ) (seal : List ℕ) (lines : ℕ) (result : Result ⊤ Refused) (refused : Refused) → IsErrAnd result (λ e. e ≡ refused) → IsLeftBehind m bytes left refused.line refused.why
+      → Continues m bytes left count seal lines result
+  left_by left count seal lines (Ok done) refused is at = absurd is
+  left_by left count seal lines (Err r) refused is at = subst (λ (r : Refused). IsLeftBehind m bytes left r.line r.why) (sym is) at
 
   -- the next event doesn't happen again
   pub kept_out : (here after : Place) (es : List (ℕ × Event)) (placed : ℕ × Event) (old left : X) (line : ℕ) (w : Why) → HasReplayed bytes m here es old → GoesOn here after (placed ∷ [])

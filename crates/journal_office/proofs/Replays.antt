@@ -1,5 +1,5 @@
 -- Events that happen again, one after the other.
-use Rattle.std.proofs.Common.{◌≡◌, ◌∙◌, ℕ, List, [], ◌∷◌, ◌++◌, length, Option, Some, None, IfSome, sym, ap, subst, append_assoc, map}
+use Rattle.std.proofs.Common.{◌≡◌, ◌∙◌, ℕ, List, [], ◌∷◌, ◌++◌, length, Option, Some, None, IfSome, sym, ap, subst, arith, append_assoc, append-nil, map}
 use Rattle.std.specs.Prelude.{reverse}
 use Rattle.std.proofs.lemmas.List.{map-append, reverse-append, length-map, length-reverse}
 use Rattle.office_policy.specs.History.{Event, History}
@@ -8,7 +8,13 @@ use Rattle.office_policy.specs.Handled.{Stands}
 use Rattle.office_policy.specs.Meaning.{Meaning}
 use Rattle.office_desk.specs.Replayed.{HasHappened}
 use Rattle.journal.specs.Journal.{IsSealedJournal}
-use Rattle.journal.specs.Told.{Begins, Ends, GoesOn, Place, Tells, history_told, start}
+use Rattle.journal.specs.Told.{Begins, Ends, GoesOn, IsBegun, Place, Tells, history_told, start, text_behind}
+use Rattle.journal.specs.Lines.{text_of}
+use Rattle.journal.proofs.JournalFacts.{all_bodies}
+use Rattle.journal.proofs.ToldFacts.{still_known}
+use Rattle.sealed_log.specs.Sealed.{no_seal, sealed_text}
+use Rattle.sealed_log.specs.Told.{told}
+use Rattle.sealed_log.proofs.ToldFacts.{told_text}
 use Rattle.journal.proofs.HistoryFacts.{read_whole}
 use Rattle.journal_office.specs.Rebuilt.{HasReplayed, IsRebuilt}
 
@@ -51,6 +57,19 @@ lawful_more : (h : History) (e : Event) → IsAllowed h e → IsLawfulHistory h 
 lawful_more [] e allowed lawful = absurd lawful
 lawful_more (f ∷ h) e allowed lawful = (allowed, lawful)
 
+-- what was read to the end are all of its lines
+lines_whole : (text : List ℕ) (here end : Place) (es : List (ℕ × Event)) → GoesOn (start (Some text)) here es → Ends here end → end.taken ≡ length (told text)
+lines_whole text here end es on ends =
+    let begun : IsBegun 0 None no_seal text end (es ++ []) = on.begins end [] ends.begins in
+    let left : end.left ≡ Some [] = still_known (start (Some text)) here es (end.left ≡ Some []) on ends.left in
+    let none : begun.rest ≡ [] = let both : ◌≡◌ {A = Option (List ℕ)} (Some begun.rest) (Some []) = sym begun.left ∙ left in cc in
+    let is : text ≡ sealed_text (map text_of begun.lines) =
+    begun.says ∙ ap (λ (l : List ℕ). text_behind no_seal begun.lines ++ l) none ∙ append-nil (text_behind no_seal begun.lines) in
+    let size : length (told text) ≡ length begun.lines =
+    ap length (ap told is ∙ told_text (map text_of begun.lines) (all_bodies begun.lines begun.entries)) ∙ length-map begun.lines text_of in
+    let counted = begun.counted in
+    omega (arith, counted, size)
+
 module _ {X : Type 0} (m : Meaning X) (bytes : Option (List ℕ)) where
   -- an event that happens again
   module _ (here : Place) (es : List (ℕ × Event)) (line : ℕ) (e : Event) (old new : X) (before : HasReplayed bytes m here es old) (happened : HasHappened m old new e) where
@@ -75,10 +94,11 @@ module _ {X : Type 0} (m : Meaning X) (bytes : Option (List ℕ)) where
 
   -- the journal is at its end
   pub ended : (here end : Place) (es : List (ℕ × Event)) (count : ℕ) (office : X) → HasReplayed bytes m here es office → Ends here end → count ≡ length es
-      → IsRebuilt bytes m count end.seal office
+      → IsRebuilt bytes m count end.seal end.taken office
   ended here end es count office all ends counted = record {
     history = history_told es;
     journal = journal bytes all.told;
+    lined = lined bytes all.told;
     counted = counted ∙ sym (told_length es);
     lawful = all.lawful;
     stands = all.stands;
@@ -87,3 +107,7 @@ module _ {X : Type 0} (m : Meaning X) (bytes : Option (List ℕ)) where
       journal : (bytes : Option (List ℕ)) → GoesOn (start bytes) here es → IfSome bytes (λ text. IsSealedJournal text (history_told es) end.seal)
       journal None told = tt
       journal (Some text) told = read_whole text here end es told ends
+
+      lined : (bytes : Option (List ℕ)) → GoesOn (start bytes) here es → IfSome bytes (λ text. end.taken ≡ length (told text))
+      lined None goes = tt
+      lined (Some text) goes = lines_whole text here end es goes ends

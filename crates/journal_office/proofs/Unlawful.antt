@@ -79,7 +79,7 @@ module _ {X : Type 0} (m : Meaning X) where
 pub refutes : {S : Type 0} (g : Ghosts S) (bytes : Option (List ℕ)) (conn left : Held S) (line : ℕ) (w : Why) → IsRefused bytes g conn left line w
     → Refutes bytes (HasCleanDisk (state g left)) w
 refutes g bytes conn left line (why.Unread unreadable.NotALine) is = of_line bytes (HasCleanDisk (state g left)) line unreadable.NotALine is (λ x. x)
-refutes g bytes conn left line (why.Unread unreadable.NothingToStrike) is = of_line bytes (HasCleanDisk (state g left)) line unreadable.NothingToStrike is (λ x. x)
+refutes g bytes conn left line (why.Unread unreadable.NoEventBefore) is = of_line bytes (HasCleanDisk (state g left)) line unreadable.NoEventBefore is (λ x. x)
 refutes g bytes conn left line (why.Unread unreadable.Unsealed) is = of_line bytes (HasCleanDisk (state g left)) line unreadable.Unsealed is (λ x. x)
 refutes g bytes conn left line (why.Unread unreadable.TornLine) is = of_line bytes (HasCleanDisk (state g left)) line unreadable.TornLine is (λ x. x)
 refutes g bytes conn left line (why.Unread unreadable.Read) is = tt

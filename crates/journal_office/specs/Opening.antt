@@ -1,5 +1,5 @@
 -- An office that was opened again with the journal that a crash left of it, or wasn't.
-use Rattle.std.specs.Prelude.{◌≡◌, ◌≢◌, ℕ, [], length, IsTrue}
+use Rattle.std.specs.Prelude.{◌≡◌, ◌≢◌, ◌≤◌, ℕ, [], length, IsTrue}
 use Rattle.sqlite.specs.Held.{Held}
 use Rattle.sqlite.specs.Store.{Ghosts}
 use Rattle.sqlite_disk.specs.declared.Disk.{Ghosts as DiskGhosts}
@@ -41,8 +41,8 @@ module _ {S D : Type 0} (s : Ghosts S) (g : DiskGhosts D) where
       LeavesTail g before.disk (sealed_text (bodies_of g before)) longest
       → LeavesTail g after.disk (sealed_text (bodies_of g before)) longest
 
-  -- both were opened again
-  pub record IsReopened (old : Held S) (before : SealedLog D g)
+  -- both were opened again, the office with this mark in its tables
+  pub record IsReopened (mark : ℕ) (old : Held S) (before : SealedLog D g)
       (x : Journaled (Held S) (SealedLog D g)) : Type 0 where
     pub office : LeavesAll (meaning_over s) old x.office
     pub goes_on : IsTrue (goes_on (meaning_over s) (in_log g) x)
@@ -55,12 +55,13 @@ module _ {S D : Type 0} (s : Ghosts S) (g : DiskGhosts D) where
         → (meaning_over s).is_clean x.office → IsOfNow h old x
     pub ours : IsTrue (g.is_clean x.journal.disk) → (h : History)
         → (meaning_over s).is_of h old → (meaning_over s).is_clean x.office
-        → SaysOther h (bodies_of g before) → ⊥
+        → SaysOther mark h (bodies_of g before) → ⊥
+    pub marked : IsTrue (g.is_clean x.journal.disk) → mark ≤ length (bodies_of g before)
     pub crash : IsTrue (g.is_clean x.journal.disk) → LeavesTold before x.journal
 
   -- why not, and both are handed back: the office with nothing of it changed, and the file as it was
   -- where it is no journal of this office
-  pub record IsHandedBack (old : Held S) (before : SealedLog D g) (why : NotReopened)
+  pub record IsHandedBack (mark : ℕ) (old : Held S) (before : SealedLog D g) (why : NotReopened)
       (office : Held S) (log : SealedLog D g) : Type 0 where
     pub unchanged : LeavesAll (meaning_over s) old office
     pub clean : IsTrue (g.is_clean log.disk) → IsTrue (g.is_clean before.disk)
@@ -72,9 +73,11 @@ module _ {S D : Type 0} (s : Ghosts S) (g : DiskGhosts D) where
     pub line : IsTrue (g.is_clean log.disk) → (h : History) → IsLawfulHistory h
         → TellsOf h (bodies_of g before) → (why ≢ NotALine) × (why ≢ Unsealed)
     pub other : IsTrue (g.is_clean log.disk) → (h : History) → (meaning_over s).is_of h old
-        → (meaning_over s).is_clean office → why ≡ OtherJournal → SaysOther h (bodies_of g before)
+        → (meaning_over s).is_clean office → why ≡ OtherJournal
+        → SaysOther mark h (bodies_of g before)
     pub own : IsTrue (g.is_clean log.disk) → (h : History) → (meaning_over s).is_of h old
-        → (meaning_over s).is_clean office → TellsOf h (bodies_of g before) → why ≢ OtherJournal
+        → (meaning_over s).is_clean office → TellsOf h (bodies_of g before)
+        → mark ≤ length (bodies_of g before) → why ≢ OtherJournal
     pub untouched : IsRefusal why → g.seen log.disk ≡ g.seen before.disk
     pub cause : (h : History) → (meaning_over s).is_of h old → (meaning_over s).is_clean office
         → HasOfficeCause (meaning_over s) old office why

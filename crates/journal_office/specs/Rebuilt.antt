@@ -4,6 +4,7 @@ use Rattle.std.specs.Prelude.{Option, Result, Ok, Err, IfSome, IsTrue}
 use Rattle.sqlite.specs.Held.{Held, state}
 use Rattle.sqlite.specs.State.{HasCleanDisk}
 use Rattle.sqlite.specs.Store.{Ghosts}
+use Rattle.sealed_log.specs.Told.{told}
 use Rattle.office_founding.specs.declared.fault.FoundingFault.{FoundingFault}
 use Rattle.office_founding.specs.declared.fault.FoundingFault.TheVariants.{AlreadyFounded}
 use Rattle.office_founding.specs.Founding.{FailsToFound, first_user, has_table}
@@ -87,10 +88,11 @@ module _ (bytes : Option (List ℕ)) where
       pub refused : IsReplayed m old left event (Err cause)
 
     -- the office is of the history that the journal is of, which is lawful and has so many events;
-    -- and the seal is the journal's
-    pub record IsRebuilt (count : ℕ) (seal : List ℕ) (office : X) : Type 0 where
+    -- and the seal and the number of lines are the journal's
+    pub record IsRebuilt (count : ℕ) (seal : List ℕ) (lines : ℕ) (office : X) : Type 0 where
       pub history : History
       pub journal : IfSome bytes (λ text. IsSealedJournal text history seal)
+      pub lined : IfSome bytes (λ text. lines ≡ length (told text))
       pub counted : count ≡ length history
       pub lawful : m.is_clean office → IsLawfulHistory history
       pub stands : m.is_clean office → Stands m history office
@@ -105,10 +107,11 @@ module _ (bytes : Option (List ℕ)) where
   IsRefused g conn left line (why.Unfounded fault) = IsUnfounded g conn left line fault
   IsRefused g conn left line (why.Unreplayed cause) = IsUnreplayed (meaning_over g) left line cause
 
-  -- the office with the number of its events and the seal of its journal, or why there is none
+  -- the office with the number of its events, the seal of its journal and the number of its lines, or
+  -- why there is none
   abbrev pub Rebuilds : {S : Type 0} → Ghosts S → (conn : Held S)
       → Result (Rebuilt S) (Refused × Held S) → Type 0
-  Rebuilds g conn (Ok built) = IsRebuilt (meaning_over g) built.events built.seal built.office
+  Rebuilds g conn (Ok built) = IsRebuilt (meaning_over g) built.events built.seal built.lines built.office
   Rebuilds g conn (Err refusal) =
       IsRefused g conn refusal.1 refusal.0.line refusal.0.why
 
@@ -120,7 +123,7 @@ module _ (bytes : Option (List ℕ)) where
   -- store has a fault, or founds no office, this isn't known
   abbrev pub Refutes : (clean : Type 0) → Why → Type 0
   Refutes clean (why.Unread unreadable.NotALine) = IsUnlawful
-  Refutes clean (why.Unread unreadable.NothingToStrike) = IsUnlawful
+  Refutes clean (why.Unread unreadable.NoEventBefore) = IsUnlawful
   Refutes clean (why.Unread unreadable.Unsealed) = IsUnlawful
   Refutes clean (why.Unread unreadable.TornLine) = IsUnlawful
   Refutes clean (why.Unread unreadable.Read) = Unit {0}

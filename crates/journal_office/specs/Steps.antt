@@ -157,7 +157,8 @@ module _ {X : Type 0} (m : Meaning X) (bytes : Option (List ℕ)) (left : X) whe
   IsLeftBehind line (why.Unfounded fault) = ⊥
   IsLeftBehind line (why.Unreplayed cause) = IsUnreplayed bytes m left line cause
 
-  -- they all do, with the first they are so many, and this is the seal of the journal; or not
-  abbrev pub Continues : ℕ → List ℕ → Result ⊤ Refused → Type 0
-  Continues count seal (Ok done) = IsRebuilt bytes m count seal left
-  Continues count seal (Err refused) = IsLeftBehind refused.line refused.why
+  -- they all do, with the first they are so many, and these are the seal of the journal and the number
+  -- of its lines; or not
+  abbrev pub Continues : ℕ → List ℕ → (lines : ℕ) → Result ⊤ Refused → Type 0
+  Continues count seal lines (Ok done) = IsRebuilt bytes m count seal lines left
+  Continues count seal lines (Err refused) = IsLeftBehind refused.line refused.why

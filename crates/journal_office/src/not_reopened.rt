@@ -18,8 +18,8 @@ pub enum NotReopened {
     /// More stands behind what is sealed, which ends at this offset, than a line: no crash left that.
     #[error("changed at {at}")]
     Changed { at: usize },
-    /// The last two lines have events, and the tables show neither: the journal is of another
-    /// office, or of this one at another time.
+    /// The journal has fewer lines than the mark of the tables; or these show neither the event of its
+    /// last line, nor the last one that stands: it is of another office, or of this one at another time.
     #[error("other-journal")]
     OtherJournal,
     /// The office met this fault when it was asked about the last lines.

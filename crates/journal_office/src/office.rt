@@ -1,11 +1,14 @@
 //! An office, built anew from its journal.
 
-ghost use Rattle.std.specs.Prelude.{◌≡◌, ◌-◌, ◌^◌, ℕ, List, Option, None, IfErr, OnOk, length};
+ghost use Rattle.std.specs.Prelude.{◌≡◌, ◌-◌, ◌^◌, [], ℕ, List, Option, None, Some, IfErr, IfOk};
+ghost use Rattle.std.specs.Prelude.{IfSome, OnOk, length};
 ghost use Rattle.sqlite.specs.Held.{state};
 ghost use Rattle.sqlite.specs.State.{HasCleanDisk};
 ghost use Rattle.office_store.specs.Schema.{no_schema};
 ghost use Rattle.office_store.specs.Shown.{IsIdle};
 ghost use Rattle.office_policy.specs.History.{Event as TheEvent};
+ghost use Rattle.sealed_log.specs.Told.{told};
+ghost use Rattle.journal.specs.SealsAt.{IsSealAt, IsSeen};
 ghost use Rattle.journal.specs.Told.{place};
 ghost use Rattle.office_desk.specs.Meant.{meaning_over};
 ghost use Rattle.journal_office.specs.Rebuilt.{HasReplayed, Rebuilds, Refutes};
@@ -25,12 +28,18 @@ fn replay_rest<S: Alter, R: BufRead>(
     replay: &mut Replay<S, R>,
 ) -> Result<(), Refused>
     requires { replay.old.events.fault ≡ None }
-    ensures { (bytes : Option (List ℕ)) (es : List (ℕ × TheEvent))
+    ensures replayed { (bytes : Option (List ℕ)) (es : List (ℕ × TheEvent))
         → HasReplayed bytes (meaning_over S.Store)
         (place R.remaining replay.old.events) es replay.old.office
         → length es ≡ replay.old.count
         → Continues (meaning_over S.Store) bytes replay.new.office replay.new.count
-        (place R.remaining replay.new.events).seal result }
+        (place R.remaining replay.new.events).seal
+        (place R.remaining replay.new.events).taken result }
+    ensures seen { (bytes : Option (List ℕ))
+        → IsSeen bytes (place R.remaining replay.old.events) replay.old.events.at → IfOk result
+        (λ _. IsSeen bytes (place R.remaining replay.new.events) replay.new.events.at
+        × IfSome bytes (λ _. (place R.remaining replay.new.events).left ≡ Some [])) }
+    ensures line { replay.new.events.at.line ≡ replay.old.events.at.line }
 {
     'events: while let Some(placed) = replay.next(alloc)? {
         replay.happen(alloc, placed)?;
@@ -46,11 +55,16 @@ pub struct Rebuilt<S: Alter> {
     pub events: u64,
     /// The seal of the journal, which names all of it.
     pub seal: Seal,
+    /// How many lines the journal has.
+    pub lines: u64,
+    /// The seal of the first so many lines as were asked for; `None` where it has fewer, or
+    /// none were asked for.
+    pub at: Option<Seal>,
 }
 
 /// Builds an office anew over a connection to an empty store: the first event of a journal founds
 /// it, and each later one happens again in it, where the policy allows it to the caller that it
-/// names.
+/// names. The seal of the first so many lines is kept.
 ///
 /// # Errors
 ///
@@ -61,25 +75,32 @@ pub fn rebuild<S: Alter, R: BufRead + Drop>(
     alloc: Global,
     conn: Connection<S>,
     journal: R,
+    line: u64,
 ) -> Result<Rebuilt<S>, (Refused, Connection<S>)>
     requires { IsIdle (state S.Store conn) }
     ensures rebuilt { Rebuilds (R.remaining journal) S.Store conn result }
+    ensures at { IfOk result (λ built. IfSome (R.remaining journal)
+        (λ text. IsSealAt line (told text) built.at)) }
     ensures unlawful { IfErr result (λ refusal. Refutes (R.remaining journal)
         (HasCleanDisk (state S.Store refusal.1)) refusal.0.why) }
     ensures empty { OnOk result ((state S.Store conn).now.schema ≡ no_schema) }
     ensures idle { IfErr result (λ refusal. IsIdle (state S.Store refusal.1)) }
 {
-    let (mut replay, first) = Replay::begin(alloc, conn, journal)?;
+    let (mut replay, first) = Replay::begin(alloc, conn, journal, line)?;
     drop(first);
     let replayed = replay_rest(alloc, &mut replay);
     let events = replay.count();
     let seal = replay.seal();
+    let lines = replay.taken();
+    let at = replay.seal_at();
     let office = replay.into_office();
     match replayed {
         Ok(()) => Ok(Rebuilt {
             office,
             events,
             seal,
+            lines,
+            at,
         }),
         Err(refused) => Err((refused, office.into_connection())),
     }

@@ -28,8 +28,8 @@ pub type Reopened<S, D> = Result<
     (NotReopened, Office<S>, SealedLog<D>),
 >;
 
-/// Opens an office again with the journal that a crash left of it, which is mended first, as `mend`
-/// has it.
+/// Opens an office again, whose tables have this mark, with the journal that a crash left of it, which
+/// is mended first, as `mend` has it.
 ///
 /// # Errors
 ///
@@ -39,15 +39,16 @@ pub fn reopen<S: Alter + Drop, D: Disk + Drop>(
     alloc: Global,
     office: Office<S>,
     log: SealedLog<D>,
+    mark: u32,
 ) -> Reopened<S, D>
-    ensures opened { IfOk result (λ x. IsReopened S.Store D.Disk office log x) }
+    ensures opened { IfOk result (λ x. IsReopened S.Store D.Disk mark office log x) }
     ensures back { IfErr result (λ refusal.
-        IsHandedBack S.Store D.Disk office log refusal.0 refusal.1 refusal.2) }
+        IsHandedBack S.Store D.Disk mark office log refusal.0 refusal.1 refusal.2) }
 {
     let mut office = office;
     let mut log = log;
-    match mend(alloc, &mut office, &mut log) {
-        Ok(()) => Ok(Journaled::new(office, log)),
+    match mend(alloc, &mut office, &mut log, mark) {
+        Ok(is_settled) => Ok(Journaled::new(office, log, is_settled)),
         Err(why) => Err((why, office, log)),
     }
 }

@@ -1,7 +1,7 @@
 //! What happened in an office, let happen again event by event.
 
-ghost use Rattle.std.specs.Prelude.{◌≡◌, [], ◌∷◌, ◌+◌, ◌-◌, ◌^◌, ◌<◌, None, IfErr, IfOk, OnOk};
-ghost use Rattle.std.specs.Prelude.{option_map};
+ghost use Rattle.std.specs.Prelude.{◌≡◌, [], ◌∷◌, ◌+◌, ◌-◌, ◌^◌, ◌<◌, ℕ, List, Option, None, IfErr};
+ghost use Rattle.std.specs.Prelude.{IfOk, OnOk, option_map};
 ghost use Rattle.sqlite.specs.Held.{state};
 ghost use Rattle.sqlite.specs.State.{HasCleanDisk};
 ghost use Rattle.office_store.specs.Schema.{no_schema};
@@ -9,6 +9,7 @@ ghost use Rattle.office_store.specs.Shown.{IsIdle};
 ghost use Rattle.office_policy.specs.Handled.{Stands, Survives};
 ghost use Rattle.office_policy.specs.Happened.{event_meant};
 ghost use Rattle.office_policy.specs.Lawful.{IsFounding};
+ghost use Rattle.journal.specs.SealsAt.{Finds, IsSeen};
 ghost use Rattle.journal.specs.Told.{held_at, place, placed_meant, start, without_held};
 ghost use Rattle.office_desk.specs.Meant.{meaning_over};
 ghost use Rattle.journal_office.specs.Rebuilt.{HasReplayed, IsRefused, line_behind};
@@ -52,6 +53,10 @@ fn unread<R: BufRead>(events: &Events<R>, fault: Unreadable) -> Refused
 fn next<R: BufRead>(alloc: Global, events: &mut Events<R>) -> Result<Option<Placed>, Refused>
     ensures next { events.old.fault ≡ None
         → IsNext (place R.remaining events.old) (place R.remaining events.new) result }
+    ensures seen { (bytes : Option (List ℕ))
+        → IsSeen bytes (place R.remaining events.old) events.old.at → IfOk result
+        (λ _. IsSeen bytes (place R.remaining events.new) events.new.at) }
+    ensures line { events.new.at.line ≡ events.old.at.line }
     ensures fault { IfOk result (λ _. events.new.fault ≡ None) }
 {
     match events.next(alloc) {
@@ -64,6 +69,10 @@ fn next<R: BufRead>(alloc: Global, events: &mut Events<R>) -> Result<Option<Plac
 fn first<R: BufRead>(alloc: Global, events: &mut Events<R>) -> Result<Placed, Refused>
     requires { events.old.fault ≡ None }
     ensures first { IsFirst (place R.remaining events.old) (place R.remaining events.new) result }
+    ensures seen { (bytes : Option (List ℕ))
+        → IsSeen bytes (place R.remaining events.old) events.old.at → IfOk result
+        (λ _. IsSeen bytes (place R.remaining events.new) events.new.at) }
+    ensures line { events.new.at.line ≡ events.old.at.line }
     ensures fault { IfOk result (λ _. events.new.fault ≡ None) }
 {
     match next(alloc, events)? {
@@ -126,7 +135,7 @@ fn found<S: Alter>(conn: Connection<S>, event: &Event) -> Result<Office<S>, (Why
 
 impl<S: Alter, R: BufRead + Drop> Replay<S, R> {
     /// Founds an office over a connection to an empty store, by the first event of a journal; with
-    /// that event.
+    /// that event. Of the journal the seal of the first so many lines is kept.
     ///
     /// # Errors
     ///
@@ -136,6 +145,7 @@ impl<S: Alter, R: BufRead + Drop> Replay<S, R> {
         alloc: Global,
         conn: Connection<S>,
         journal: R,
+        line: u64,
     ) -> Result<(Replay<S, R>, Placed), (Refused, Connection<S>)>
         requires { IsIdle (state S.Store conn) }
         ensures begun { IfOk result (λ begun.
@@ -144,12 +154,15 @@ impl<S: Alter, R: BufRead + Drop> Replay<S, R> {
         ensures founding { IfOk result (λ begun. IsFounding (event_meant begun.1.event)) }
         ensures fault { IfOk result (λ begun. begun.0.events.fault ≡ None) }
         ensures count { IfOk result (λ begun. begun.0.count ≡ 1) }
+        ensures seen { IfOk result (λ begun. IsSeen (R.remaining journal)
+            (place R.remaining begun.0.events) begun.0.events.at) }
+        ensures line { IfOk result (λ begun. begun.0.events.at.line ≡ line) }
         ensures refused { IfErr result (λ refusal. IsRefused (R.remaining journal)
             S.Store conn refusal.1 refusal.0.line refusal.0.why) }
         ensures empty { OnOk result ((state S.Store conn).now.schema ≡ no_schema) }
         ensures idle { IfErr result (λ refusal. IsIdle (state S.Store refusal.1)) }
     {
-        let mut events = Events::new(alloc, journal);
+        let mut events = Events::new(alloc, journal, line);
         let placed = match first(alloc, &mut events) {
             Ok(placed) => placed,
             Err(refused) => return Err((refused, conn)),
@@ -195,7 +208,7 @@ impl<S: Alter, R: BufRead + Drop> Replay<S, R> {
         ensures empty { OnOk result ((state S.Store conn).now.schema ≡ no_schema) }
         ensures idle { IfErr result (λ refusal. IsIdle (state S.Store refusal.1)) }
     {
-        let mut events = Events::new(alloc, journal);
+        let mut events = Events::new(alloc, journal, 0);
         let (placed, halt) = match first_read(alloc, &mut events) {
             Ok(found) => found,
             Err(refused) => return Err((refused, conn)),
@@ -257,6 +270,13 @@ impl<S: Alter, R: BufRead> Replay<S, R> {
         self.events.seal()
     }
 
+    /// The seal of the first so many lines as `begin` was to keep; `None` where fewer were taken.
+    pub fn seal_at(&self) -> Option<Seal>
+        ensures { Finds self.now.events.at (place R.remaining self.now.events).taken result }
+    {
+        self.events.seal_at()
+    }
+
     /// The next event that stands, which hasn't happened again yet; `None` at the end of the
     /// journal.
     ///
@@ -267,6 +287,10 @@ impl<S: Alter, R: BufRead> Replay<S, R> {
         ensures office { self.new.office ≡ self.old.office }
         ensures next { self.old.events.fault ≡ None → IsNext
             (place R.remaining self.old.events) (place R.remaining self.new.events) result }
+        ensures seen { (bytes : Option (List ℕ))
+            → IsSeen bytes (place R.remaining self.old.events) self.old.events.at → IfOk result
+            (λ _. IsSeen bytes (place R.remaining self.new.events) self.new.events.at) }
+        ensures line { self.new.events.at.line ≡ self.old.events.at.line }
         ensures fault { IfOk result (λ _. self.new.events.fault ≡ None) }
         ensures count { IfOk result (CountsNext self.old.count self.new.count) }
     {

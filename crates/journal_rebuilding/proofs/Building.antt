@@ -72,7 +72,7 @@ module _ {X : Type 0} (m : Meaning X) (bytes : Option (List ℕ)) where
   pub outside : (here after : Place) (es : List (ℕ × Event)) (office : X) (line : ℕ) (w : Why) → ends_there w ≡ false → HasReplayed bytes m here es office → IsLeft here after line w
       → IsHalted bytes m office line w
   outside here after es office line (halt.Unread unreadable.NotALine) ends before at = absurd cc
-  outside here after es office line (halt.Unread unreadable.NothingToStrike) ends before at = absurd cc
+  outside here after es office line (halt.Unread unreadable.NoEventBefore) ends before at = absurd cc
   outside here after es office line (halt.Unread unreadable.Unsealed) ends before at = absurd cc
   outside here after es office line (halt.Unread unreadable.TornLine) ends before at = absurd cc
   outside here after es office line (halt.Unread unreadable.Read) ends before at = built_alone here after es office office line unreadable.Read refl before at (inr (tt, refl))
@@ -119,7 +119,7 @@ module _ {X : Type 0} (m : Meaning X) (bytes : Option (List ℕ)) where
   founded_only here first office line (halt.Unreplayed cause) at founding stands = absurd at
 
   -- a `?` that leaves with this
-  pub left_by : (left : X) (before after : ℕ) (seal : List ℕ) (result : Result ⊤ Refused) (refused : Refused) → IsErrAnd result (λ e. e ≡ refused) → IsHalted bytes m left refused.line refused.why
-      → BuildsOn bytes m left before after seal result
-  left_by left before after seal (Ok done) refused is at = absurd is
-  left_by left before after seal (Err r) refused is at = subst (λ (r : Refused). IsHalted bytes m left r.line r.why) (sym is) at
+  pub left_by : (left : X) (before after : ℕ) (seal : List ℕ) (lines : ℕ) (result : Result ⊤ Refused) (refused : Refused) → IsErrAnd result (λ e. e ≡ refused) → IsHalted bytes m left refused.line refused.why
+      → BuildsOn bytes m left before after seal lines result
+  left_by left before after seal lines (Ok done) refused is at = absurd is
+  left_by left before after seal lines (Err r) refused is at = subst (λ (r : Refused). IsHalted bytes m left r.line r.why) (sym is) at

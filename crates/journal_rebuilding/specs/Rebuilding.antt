@@ -1,6 +1,6 @@
 -- An office that is built anew as far as its journal can be read.
 use Rattle.std.specs.Prelude.{◌≡◌, ◌⊎◌, ◌+◌, ◌-◌, ◌^◌, ◌++◌, [], ℕ, min, Bool, true, false}
-use Rattle.std.specs.Prelude.{List, Option, Some, Result, Ok, Err, ⊤}
+use Rattle.std.specs.Prelude.{List, Option, Result, Ok, Err, ⊤}
 use Rattle.sqlite.specs.Held.{Held, state}
 use Rattle.sqlite.specs.Store.{Ghosts}
 use Rattle.office_store.specs.Schema.{no_schema}
@@ -32,9 +32,9 @@ ends_there _ = true
 module _ (bytes : Option (List ℕ)) {X : Type 0} (m : Meaning X) (left : X) where
   -- The office is of the history that the journal is of, as in `IsRebuilt`; it has so many events,
   -- up to the greatest u64.
-  pub record IsBuilt (events : ℕ) (seal : List ℕ) : Type 0 where
+  pub record IsBuilt (events : ℕ) (seal : List ℕ) (lines : ℕ) : Type 0 where
     pub count : ℕ
-    pub rebuilt : IsRebuilt bytes m count seal left
+    pub rebuilt : IsRebuilt bytes m count seal lines left
     pub shown : events ≡ min count (2 ^ 64 - 1)
 
   -- The line of this number can't be read, for this fault. The office stands of the events of all
@@ -69,9 +69,10 @@ module _ (bytes : Option (List ℕ)) {X : Type 0} (m : Meaning X) (left : X) whe
   IsHalted line (halt.Unreplayed cause) = IsKeptOut line cause
 
   -- all of it does, one event and as many as were counted from before to after; or not
-  abbrev pub BuildsOn : (before after : ℕ) → List ℕ → Result ⊤ Refused → Type 0
-  BuildsOn before after seal (Ok done) = IsRebuilt bytes m ((after - before) + 1) seal left
-  BuildsOn before after seal (Err refused) = IsHalted refused.line refused.why
+  abbrev pub BuildsOn : (before after : ℕ) → List ℕ → (lines : ℕ) → Result ⊤ Refused → Type 0
+  BuildsOn before after seal lines (Ok done) =
+      IsRebuilt bytes m ((after - before) + 1) seal lines left
+  BuildsOn before after seal lines (Err refused) = IsHalted refused.line refused.why
 
 -- why the office isn't of all that the journal tells: none is founded over the connection; or one is
 -- over an empty store, and no more happens again in it

@@ -92,7 +92,8 @@ fn rebuild_rest<S: Alter, R: BufRead>(
         (place R.remaining replay.old.events) es replay.old.office
         → length es ≡ 1
         → BuildsOn bytes (meaning_over S.Store) replay.new.office replay.old.count replay.new.count
-        (place R.remaining replay.new.events).seal result }
+        (place R.remaining replay.new.events).seal
+        (place R.remaining replay.new.events).taken result }
 {
     'events: while let Some(placed) = next_event(alloc, replay)? {
         replay.happen(alloc, placed)?;
@@ -113,7 +114,8 @@ fn rebuild_behind<S: Alter, R: BufRead>(
         → (HasCleanDisk (state S.Store replay.old.office)
         → Stands (meaning_over S.Store) (first.1 ∷ []) replay.old.office)
         → BuildsOn bytes (meaning_over S.Store) replay.new.office replay.old.count replay.new.count
-        (place R.remaining replay.new.events).seal result }
+        (place R.remaining replay.new.events).seal
+        (place R.remaining replay.new.events).taken result }
 {
     match halt {
         None => rebuild_rest(alloc, replay),
@@ -138,7 +140,8 @@ pub fn rebuild_as_read<S: Alter, R: BufRead + Drop>(
 ) -> Result<Rebuilt<S>, (Refused, Connection<S>)>
     requires { IsIdle (state S.Store conn) }
     ensures built { IfOk result (λ built. IsBuilt (R.remaining journal) (meaning_over S.Store)
-        built.office built.events built.seal) }
+        built.office built.events built.seal built.lines) }
+    ensures at { IfOk result (λ built. built.at ≡ None) }
     ensures unbuilt { IfErr result (λ refusal. IsUnbuilt (R.remaining journal)
         S.Store conn refusal.1 refusal.0) }
     ensures empty { OnOk result ((state S.Store conn).now.schema ≡ no_schema) }
@@ -150,12 +153,15 @@ pub fn rebuild_as_read<S: Alter, R: BufRead + Drop>(
     let rebuilt = rebuild_behind(alloc, &mut replay, halt);
     let events = replay.count().saturating_sub(before).saturating_add(1);
     let seal = replay.seal();
+    let lines = replay.taken();
     let office = replay.into_office();
     match rebuilt {
         Ok(()) => Ok(Rebuilt {
             office,
             events,
             seal,
+            lines,
+            at: None,
         }),
         Err(refused) => Err((refused, office.into_connection())),
     }

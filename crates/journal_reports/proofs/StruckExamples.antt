@@ -24,3 +24,7 @@ pub whole_are : lines_for (record each { since = 2 }) 1 [] (happened founding �
     ≡ codes "2  didn't happen\n3  struck out line 2\n" ++ codes "4  root enrolled ann of blue: author reviewer (67d596..)\n"
 unfolding digits names_from encode_with
 whole_are = refl
+
+pub three_are : struck_lines each 7 3 ≡ codes "9  didn't happen\n10  struck out line 9\n"
+unfolding digits names_from
+three_are = refl

@@ -1,6 +1,6 @@
 -- The lines of a history for what was struck out: that a line's event didn't happen, and that the
 -- next line says so.
-use Rattle.std.specs.Prelude.{ℕ, ◌+◌, ◌-◌, zero, suc, List, [], ◌++◌, Bool, true, false, ◌&&◌}
+use Rattle.std.specs.Prelude.{ℕ, ◌+◌, ◌-◌, ◌%◌, zero, suc, List, [], ◌++◌, Bool, true, false, ◌&&◌}
 use Rattle.std.specs.Prelude.{codes, decimal, if◌then◌else◌, is_none, nat_le}
 use Rattle.journal_reports.specs.Passing.{Asked}
 
@@ -29,11 +29,16 @@ struck_of asked line = if shows_struck asked line then struck_text asked.json li
 abbrev pub strike_of : Asked → (line : ℕ) → List ℕ
 strike_of asked line = if shows_struck asked line then strike_text asked.json line else []
 
--- the lines for so many of the journal behind one, by none of which an event stands: of each two
--- the second strikes out the first
-abbrev pub struck_lines : Asked → (behind : ℕ) → (count : ℕ) → List ℕ
-struck_lines asked behind zero = []
-struck_lines asked behind (suc zero) = []
-struck_lines asked behind (suc (suc count)) =
+-- the lines for so many of the journal behind one: of each two the second strikes out the first
+abbrev pub pair_lines : Asked → (behind : ℕ) → (count : ℕ) → List ℕ
+pair_lines asked behind zero = []
+pair_lines asked behind (suc zero) = []
+pair_lines asked behind (suc (suc count)) =
     struck_of asked (behind + 1) ++ strike_of asked (behind + 2)
-    ++ struck_lines asked (behind + 2) count
+    ++ pair_lines asked (behind + 2) count
+
+-- the lines for so many of the journal behind one that has an event which stands, by none of which one
+-- stands: where their number is odd, the first says that this event is carried out, and is left out
+abbrev pub struck_lines : Asked → (behind : ℕ) → (count : ℕ) → List ℕ
+struck_lines asked behind count =
+    pair_lines asked (behind + count % 2) (count - count % 2)

@@ -80,6 +80,9 @@ pub fn examples_of_struck_lines()
     ensures four { struck_lines (record each { since = 9 }) 7 4
         ≡ codes "9  struck out line 8\n10  didn't happen\n11  struck out line 10\n" }
     ensures none { struck_lines each 7 0 ≡ [] }
+    ensures carried_out { struck_lines each 7 1 ≡ [] }
+    ensures carried_out_first { struck_lines each 7 3
+        ≡ codes "9  didn't happen\n10  struck out line 9\n" }
     ensures team { struck_lines (record each { team = Some (codes "blue") }) 7 2 ≡ [] }
     ensures whole { lines_for (record each { since = 2 }) 1 []
         (happened founding ∷ happened enrolment ∷ strike ∷ happened enrolment ∷ [])

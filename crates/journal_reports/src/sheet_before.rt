@@ -281,7 +281,7 @@ pub fn evidence<S: Alter, R: BufRead + Drop>(
     ensures idle { IfOk result (λ found. IsIdle (state S.Store found.1)) }
     ensures idle_on_error { IfErr result (λ none. IsIdle (state S.Store none.1)) }
 {
-    let (mut replay, first) = match Replay::begin(alloc, conn, journal) {
+    let (mut replay, first) = match Replay::begin(alloc, conn, journal, 0) {
         Ok(begun) => begun,
         Err((refused, conn)) => return Err((NoEvidence::Refused(refused), conn)),
     };

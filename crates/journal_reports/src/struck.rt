@@ -1,9 +1,9 @@
 //! The lines for what was struck out.
 
-ghost use Rattle.std.specs.Prelude.{◌≡◌, ◌++◌, ◌+◌, ◌-◌, ◌<◌, ◌^◌, IfErr, IfOk, OnOk, string_bytes};
+ghost use Rattle.std.specs.Prelude.{◌≡◌, ◌++◌, ◌+◌, ◌-◌, ◌%◌, ◌<◌, ◌^◌, IfErr, IfOk, OnOk, string_bytes};
 ghost use Rattle.review_sheet.specs.Layout.{Adds};
-ghost use Rattle.journal_reports.specs.Struck.{strike_of, strike_text, struck_lines, struck_of};
-ghost use Rattle.journal_reports.specs.Struck.{struck_text};
+ghost use Rattle.journal_reports.specs.Struck.{pair_lines, strike_of, strike_text, struck_lines};
+ghost use Rattle.journal_reports.specs.Struck.{struck_of, struck_text};
 ghost use Rattle.journal_reports.specs.declared.fault.Unwritten.TheVariants.{NoMemory};
 
 use crate::fault::Unwritten;
@@ -66,7 +66,14 @@ fn push_pair(text: &mut String, filter: &Filter<'_>, behind: u64) -> Result<(), 
     Ok(())
 }
 
-// Adds the lines for those of the journal behind one, up to the last.
+// Where the pairs begin among the lines behind one, up to the last.
+fn first_pair(behind: u64, last: u64) -> u64
+    ensures { result ≡ behind + (last - behind) % 2 }
+{
+    behind + last.saturating_sub(behind) % 2
+}
+
+// Adds the lines for those of the journal behind one, up to the last, two after two.
 fn push_struck_lines(
     text: &mut String,
     filter: &Filter<'_>,
@@ -74,7 +81,7 @@ fn push_struck_lines(
     last: u64,
 ) -> Result<(), AllocError>
     ensures { OnOk result
-        (Adds text.old text.new (struck_lines filter.now behind (last - behind))) }
+        (Adds text.old text.new (pair_lines filter.now behind (last - behind))) }
 {
     let mut at = behind;
     'pairs: while last.saturating_sub(at) > 1 {
@@ -84,7 +91,8 @@ fn push_struck_lines(
     Ok(())
 }
 
-/// The lines for those of the journal behind one, up to the last: by none of them an event stands.
+/// The lines for those of the journal behind one whose event stands, up to the last: by none of them
+/// an event stands. One that says that the event before is carried out is left out.
 ///
 /// # Errors
 ///
@@ -100,7 +108,8 @@ pub(crate) fn struck(
     ensures none { IfErr result (λ why. why ≡ NoMemory) }
 {
     let mut text = String::new(alloc);
-    match push_struck_lines(&mut text, filter, behind, last) {
+    let first = first_pair(behind, last);
+    match push_struck_lines(&mut text, filter, first, last) {
         Ok(()) => Ok(text),
         Err(_) => Err(Unwritten::NoMemory),
     }

@@ -20,7 +20,7 @@ fn push_logs(text: &mut String) -> Result<(), AllocError> {
 // And those of journals and their lines.
 fn push_journals(text: &mut String) -> Result<(), AllocError> {
     writeln!(text, "{} {}", UnreadLine::NotALine, UnreadLine::NoMemory)?;
-    let (not_a_line, nothing) = (Faulty::NotALine, Faulty::NothingToStrike);
+    let (not_a_line, nothing) = (Faulty::NotALine, Faulty::NoEventBefore);
     writeln!(text, "{not_a_line} {nothing} {}", Faulty::NoMemory)?;
     let (read, memory) = (Unreadable::Read, Unreadable::NoMemory);
     writeln!(text, "{read} {memory}")
@@ -30,7 +30,7 @@ const WORDS: &str = "\
      memory disk full\n\
      unsealed too-long torn-line read memory\n\
      not-a-line memory\n\
-     not-a-line nothing-to-strike memory\n\
+     not-a-line no-event-before memory\n\
      read memory\n";
 
 #[test]

@@ -34,7 +34,7 @@ fn read_on(alloc: Global, events: &mut Events<&[u8]>) -> Result<(u64, Option<Pla
 
 // The same, as the last event's line with its number, and the digits of the seal.
 fn told(alloc: Global, journal: &str) -> Result<(u64, String, String), Fail> {
-    let mut events = Events::new(alloc, journal.as_bytes());
+    let mut events = Events::new(alloc, journal.as_bytes(), 0);
     let (count, last) = read_on(alloc, &mut events)?;
     let digits = String::from_utf8_lossy(alloc, &events.seal())?;
     let Some(Placed { line, event }) = last else {

@@ -1,5 +1,6 @@
 //! Sealed logs, on disks that fail from some call on and then crash, and read as streams.
 
+use journal::LineSorts;
 use sealed_log::{LogFault, NoBody, Reader, SealedLog, is_body, no_seal, read_body};
 use sqlite_disk::{Crash, Disk, Fuse, Memory};
 use std::alloc::Global;
@@ -18,6 +19,9 @@ const TEXT: &str = "{\"line\":\"one\",\
 // How many calls of the disk the trial below makes where none fails.
 const CALLS: u64 = 9;
 
+// And how many where both are put by one write.
+const CALLS_FOR_BOTH: u64 = 6;
+
 fn put<D: Disk>(log: &mut SealedLog<D>, alloc: Global, body: &str) -> Result<(), LogFault> {
     if is_body(body.as_bytes()) {
         log.put(alloc, body.as_bytes())
@@ -27,7 +31,7 @@ fn put<D: Disk>(log: &mut SealedLog<D>, alloc: Global, body: &str) -> Result<(),
 }
 
 fn open<D: Disk>(log: &mut SealedLog<D>, alloc: Global) -> Result<(), LogFault> {
-    let found = log.read(alloc)?;
+    let found = log.read::<LineSorts>(alloc)?;
     log.open_at(&found)
 }
 
@@ -83,6 +87,62 @@ fn a_crash_at_each_call_leaves_what_was_acknowledged(rt: HostRuntime) -> Result<
     for calls in 0..14 {
         assert!(rt; stops_at(&rt, calls)?);
     }
+    Ok(())
+}
+
+fn put_both<D: Disk>(log: &mut SealedLog<D>, alloc: Global) -> Result<(), LogFault> {
+    if is_body(FIRST.as_bytes()) && is_body(SECOND.as_bytes()) {
+        log.put_both(alloc, FIRST.as_bytes(), SECOND.as_bytes())
+    } else {
+        Err(LogFault::Disk)
+    }
+}
+
+// Such a trial with both bodies put by one write.
+fn both_stop_at(rt: &HostRuntime, calls: u64) -> Result<bool, Fail> {
+    let alloc = rt.alloc();
+    let mut log = SealedLog::new(Fuse::new(Memory::new(alloc), calls));
+    let opened = open(&mut log, alloc).is_ok();
+    let both = put_both(&mut log, alloc).is_ok();
+    let mut disk = log.into_disk();
+    disk.crash();
+    let mut log = SealedLog::new(disk);
+    open(&mut log, alloc)?;
+    let lines = log.lines();
+    let mut disk = log.into_disk();
+    if !disk.may_be_used() {
+        return Ok(false);
+    }
+    let len = disk.len()?;
+    let mut reader = Reader::new(len);
+    if lines > 0 && !gives(&mut reader, alloc, &mut disk, Some(FIRST))? {
+        return Ok(false);
+    }
+    if lines > 1 && !gives(&mut reader, alloc, &mut disk, Some(SECOND))? {
+        return Ok(false);
+    }
+    if !gives(&mut reader, alloc, &mut disk, None)? {
+        return Ok(false);
+    }
+    let is_there = lines == 2 || !both;
+    Ok(is_there && (opened || !both) && (both == (calls >= CALLS_FOR_BOTH)))
+}
+
+#[test]
+fn a_crash_leaves_both_where_both_were_acknowledged(rt: HostRuntime) -> Result<(), Fail> {
+    for calls in 0..14 {
+        assert!(rt; both_stop_at(&rt, calls)?);
+    }
+    Ok(())
+}
+
+#[test]
+fn both_are_sealed_by_one_write_as_they_are_by_two(rt: HostRuntime) -> Result<(), Fail> {
+    let alloc = rt.alloc();
+    let mut log = SealedLog::new(Memory::new(alloc));
+    open(&mut log, alloc)?;
+    put_both(&mut log, alloc)?;
+    assert_eq!(rt; log.into_disk().bytes(), TEXT.as_bytes());
     Ok(())
 }
 

@@ -1,7 +1,6 @@
-//! Sealed lines of a stream: where they are as long as a line can be, where one never ends, and the
-//! seal at a line.
+//! Sealed lines of a stream: where they are as long as a line can be, and where one never ends.
 
-use sealed_log::{NoBody, is_body, no_seal, read_body, seal, seal_at};
+use sealed_log::{NoBody, is_body, no_seal, read_body, seal};
 use std::alloc::{AllocError, Global};
 use std::io;
 use std::io::{BufReader, Read};
@@ -84,47 +83,4 @@ fn a_line_of_2097152_bytes_is_read_and_none_longer(rt: HostRuntime) -> Result<()
     assert_read(&rt, alloc, LONGEST_BODY, fits, Ok(true))?;
     let longer = "451360a20653d79cb3495aa06a9e6ab70621d22a818875bfde85146742f372ea";
     assert_read(&rt, alloc, LONGEST_BODY + 1, longer, Err(NoBody::TooLong))
-}
-
-const ONE: &str = "1c22783921fcbb8eba8ed8d23f46ae0be13518bff5f204b0649aaa8e5e7bc49f";
-
-const TWO: &str = "fbce8a12d9cc5cab3fbf8ad5e07e177fdcb89764c23895aacd98f17001d23927";
-
-// What is found as the seal of so many lines: its digits, that there are fewer, or why not.
-fn found(alloc: Global, text: &str, lines: u64) -> Result<String, AllocError> {
-    let mut input = text.as_bytes();
-    match seal_at(alloc, &mut input, lines) {
-        Ok(Some(seal)) => String::from_utf8_lossy(alloc, &seal),
-        Ok(None) => String::from_str(alloc, "fewer"),
-        Err(why) => format!(in alloc; "{why}"),
-    }
-}
-
-#[test]
-fn the_seal_at_a_line_is_that_of_the_lines_down_to_it(rt: HostRuntime) -> Result<(), Fail> {
-    let alloc = rt.alloc();
-    let first = line_of(alloc, "\"one\"", ONE)?;
-    let second = line_of(alloc, "\"two\"", TWO)?;
-    let both = format!(in alloc; "{first}{second}")?;
-    let torn = format!(in alloc; "{both}{{\"line\":")?;
-    let other = format!(in alloc; "{first}{first}")?;
-    for (text, lines, wanted) in [
-        (both.as_str(), 1, ONE),
-        (both.as_str(), 2, TWO),
-        (both.as_str(), 3, "fewer"),
-        (both.as_str(), u64::MAX, "fewer"),
-        ("", 1, "fewer"),
-        (torn.as_str(), 2, TWO),
-        (torn.as_str(), 3, "torn-line"),
-        (other.as_str(), 1, ONE),
-        (other.as_str(), 2, "unsealed"),
-        (second.as_str(), 1, "unsealed"),
-    ] {
-        assert_eq!(rt;
-            found(alloc, text, lines)?.as_str(),
-            wanted,
-            "{lines}: {text}"
-        );
-    }
-    Ok(())
 }

@@ -27,6 +27,7 @@ use Rattle.journal_verification.proofs.Telling.{only_in}
 
 back : (t u : Tables) (d : Difference) → DifferAt u t d → DifferAt t u d
 back t u difference.Schema h = h
+back t u difference.Line h = h
 back t u difference.Office h = λ equal. h (sym equal)
 back t u (difference.User name) h = λ equal. h (sym equal)
 back t u (difference.Revision p number) h = λ equal. h (sym equal)
@@ -38,6 +39,7 @@ back t u (difference.Row s) h = tt
 module _ {S T : Type 0} (g : Ghosts S) (f : Ghosts T) (a b : Database) (t u : Tables) (o : IsOffice a t) (p : IsOffice b u) (left right : List Row) (row : Row) where
   office_named : IsAnsweredBy g (rows_text table.Office) a left → IsAnsweredBy f (rows_text table.Office) b right → StandsFirst (key_width table.Office) left right row → (d : Difference) → IsKeyOf table.Office row d → DifferAt t u d
   office_named in_a in_b stands difference.Schema h = absurd h
+  office_named in_a in_b stands difference.Line h = absurd h
   office_named in_a in_b stands difference.Office h = λ equal.
       let first = one_permuted (office_columns t.listed) left (subst (λ l. IsPermutation (map (shown table.Office) l) left) o.office (rows_shown g a o.schema table.Office left in_a)) in
       let second = one_permuted (office_columns u.listed) right (subst (λ l. IsPermutation (map (shown table.Office) l) right) p.office (rows_shown f b p.schema table.Office right in_b)) in

@@ -177,6 +177,7 @@ both_there (Some x) (Some y) e = refl
 module _ (a b : Database) (t u : Tables) (o : IsOffice a t) (p : IsOffice b u) (row : Row) (only : IsOnlyIn user_row o.users.entries p.users.entries row) where
   pub user_named : (d : Difference) → IsKeyOf table.Users row d → DifferAt t u d
   user_named difference.Schema h = absurd h
+  user_named difference.Line h = absurd h
   user_named difference.Office h = absurd cc
   user_named (difference.User name) h = λ equal.
       let name_is = text_is row (user_row only.entry) 0 only.entry.name name only.row_is refl h.1 in
@@ -193,6 +194,7 @@ module _ (a b : Database) (t u : Tables) (o : IsOffice a t) (p : IsOffice b u) (
 module _ (a b : Database) (t u : Tables) (o : IsOffice a t) (p : IsOffice b u) (row : Row) (only : IsOnlyIn revision_row o.revisions.entries p.revisions.entries row) where
   pub revision_named : (d : Difference) → IsKeyOf table.Revisions row d → DifferAt t u d
   revision_named difference.Schema h = absurd h
+  revision_named difference.Line h = absurd h
   revision_named difference.Office h = absurd cc
   revision_named (difference.User name) h = absurd (let k = h.0 in cc)
   revision_named (difference.Revision named number) h = λ equal.
@@ -211,6 +213,7 @@ module _ (a b : Database) (t u : Tables) (o : IsOffice a t) (p : IsOffice b u) (
 module _ (a b : Database) (t u : Tables) (o : IsOffice a t) (p : IsOffice b u) (row : Row) (only : IsOnlyIn vote_row o.votes.entries p.votes.entries row) where
   pub vote_named : (d : Difference) → IsKeyOf table.Votes row d → DifferAt t u d
   vote_named difference.Schema h = absurd h
+  vote_named difference.Line h = absurd h
   vote_named difference.Office h = absurd cc
   vote_named (difference.User name) h = absurd (let k = h.0 in cc)
   vote_named (difference.Revision p number) h = absurd (let k = h.0 in cc)
@@ -230,6 +233,7 @@ module _ (a b : Database) (t u : Tables) (o : IsOffice a t) (p : IsOffice b u) (
 module _ (a b : Database) (t u : Tables) (o : IsOffice a t) (p : IsOffice b u) (row : Row) (only : IsOnlyIn baseline_row o.baselines.entries p.baselines.entries row) where
   pub baseline_named : (d : Difference) → IsKeyOf table.Baselines row d → DifferAt t u d
   baseline_named difference.Schema h = absurd h
+  baseline_named difference.Line h = absurd h
   baseline_named difference.Office h = absurd cc
   baseline_named (difference.User name) h = absurd (let k = h.0 in cc)
   baseline_named (difference.Revision p number) h = absurd (let k = h.0 in cc)
@@ -245,6 +249,7 @@ module _ (a b : Database) (t u : Tables) (o : IsOffice a t) (p : IsOffice b u) (
 module _ (a b : Database) (t u : Tables) (o : IsOffice a t) (p : IsOffice b u) (row : Row) (only : IsOnlyIn hold_row o.holds.entries p.holds.entries row) where
   pub hold_named : (d : Difference) → IsKeyOf table.Holds row d → DifferAt t u d
   hold_named difference.Schema h = absurd h
+  hold_named difference.Line h = absurd h
   hold_named difference.Office h = absurd cc
   hold_named (difference.User name) h = absurd (let k = h.0 in cc)
   hold_named (difference.Revision p number) h = absurd (let k = h.0 in cc)

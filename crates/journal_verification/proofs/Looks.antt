@@ -1,20 +1,18 @@
 -- What looking at a connection leaves of it.
-use Rattle.std.proofs.Common.{◌≡◌, ℕ, ◌+◌, ◌<◌, List, [], ◌∷◌, ◌++◌, take, drop, get_or, length, false, Result, Ok, Err, Some, IfOk, IfErr, refl, sym, ap, subst, ◌∙◌, arith}
-use Rattle.std.specs.Prelude.{OnOk}
+use Rattle.std.proofs.Common.{◌≡◌, ℕ, ◌+◌, ◌<◌, List, [], ◌∷◌, ◌++◌, take, drop, get_or, length, false, Result, Some, IfOk, IfErr, refl, sym, ap, subst, ◌∙◌, arith}
 use Rattle.std.specs.List.{AllByRecursion}
 use Rattle.std.proofs.lemmas.List.{drop_more, take-append-drop, take_more}
 use Rattle.std.proofs.lemmas.List.Elements.{All-from_recursion, All-nil}
 use Rattle.sqlite.specs.Effect.{Database}
 use Rattle.sqlite.proofs.StateLemmas.{survives_then}
 use Rattle.sqlite_trees.proofs.ListLemmas.{all-append}
-use Rattle.sqlite.specs.Held.{Held, state}
 use Rattle.sqlite.specs.Order.{Row}
-use Rattle.sqlite.specs.State.{State, HasCleanDisk, Survives, CommitsShowing, IsUnchanged, Shown}
+use Rattle.sqlite.specs.State.{State, HasCleanDisk, Survives, CommitsShowing, Shown}
 use Rattle.sqlite.specs.Store.{Ghosts}
 use Rattle.review_policy.specs.declared.fault.Fault.{Fault}
 use Rattle.office_rows.specs.Queries.{IsQuery}
 use Rattle.office_rows.specs.Rows.{IsFaultOf}
-use Rattle.office_rows.proofs.Queries.{rows_asked, shown_left}
+use Rattle.office_rows.proofs.Queries.{rows_asked}
 use Rattle.office_store.specs.Shown.{IsIdle}
 use Rattle.office_store.proofs.Calls.{opened}
 use Rattle.office_store.proofs.Committed.{survives_same}
@@ -23,7 +21,7 @@ use Rattle.journal_verification.specs.declared.table.Table.{Table}
 use Rattle.journal_verification.specs.declared.table.Table.TheVariants as table
 use Rattle.journal_verification.specs.declared.table.TheConstants.{FURTHER}
 use Rattle.journal_verification.specs.Looked.{HasLooked}
-use Rattle.journal_verification.specs.Same.{IsAnsweredBy, DiffersFirst, HaveSame, HaveSameTables, TellsTable}
+use Rattle.journal_verification.specs.Same.{DiffersFirst, HaveSame, HaveSameTables, TellsTable}
 
 pub has_looked : (sql : List ℕ) → IsQuery sql → (params : Row) (old new : State) {X : Type 0} (items : X → List Row) (r : Result X Fault) → IsIdle old → (old.in_transaction ≡ false → new.in_transaction ≡ false)
     → (HasCleanDisk new → IfOk r (λ x. Shown sql params old new (items x))) → (HasCleanDisk new → IfErr r (IsFaultOf sql params old new)) → Survives old new (CommitsShowing sql params old) → HasLooked old new

@@ -1,8 +1,7 @@
 -- Reading the rows of an answer one at a time.
-use Rattle.std.proofs.Common.{inl, inr, ◌≡◌, ◌⊎◌, ℕ, List, [], ◌∷◌, ◌++◌, Bool, true, false, Option, None, Some, Result, Ok, Err, IfErr, IfOk, IsTrue, refl, sym, ap, subst, ◌∙◌, append-nil, append_assoc, arith}
+use Rattle.std.proofs.Common.{inl, inr, ◌≡◌, ◌⊎◌, ℕ, List, [], ◌∷◌, ◌++◌, Bool, true, false, Option, None, Some, Result, Ok, Err, IfErr, IsTrue, refl, sym, subst, ◌∙◌, append-nil, append_assoc, arith}
 use Rattle.std.specs.Prelude.{OnErr, OnOk}
 use Rattle.sqlite.specs.declared.error.Error.{Error}
-use Rattle.sqlite.specs.Effect.{Database}
 use Rattle.sqlite.specs.Given.{Advances, FailsToAdvance, HasBegun, HasGiven, IsRefused, Returns, row_if}
 use Rattle.sqlite.specs.Held.{Held, state}
 use Rattle.sqlite.specs.Listing.{understood}
@@ -22,11 +21,9 @@ use Rattle.office_store.specs.Schema.{office_schema}
 use Rattle.office_store.specs.Shown.{IsIdle}
 use Rattle.office_store.proofs.Calls.{never_both}
 use Rattle.journal_verification.specs.Looked.{HasLooked}
-use Rattle.journal_verification.specs.Reading.{GivesNext, GivesRest, HasNext, IsAt, IsGiving, IsOfTable}
-use Rattle.journal_verification.specs.Same.{IsAnsweredBy}
+use Rattle.journal_verification.specs.Reading.{GivesNext, GivesRest, IsAt, IsGiving}
 use Rattle.journal_verification.proofs.Faults.{rowids_failed, rows_failed}
 use Rattle.journal_verification.proofs.Looks.{has_looked}
-use Rattle.journal_verification.proofs.Queries.{rowids_are_asked, rows_are_asked}
 
 pub looked_so : (old new : State) → IsIdle old → (old.in_transaction ≡ false → new.in_transaction ≡ false) → Survives old new (λ _. ⊥) → (HasCleanDisk new → IsUnchanged old new ⊎ IsRolledBack old new) → HasLooked old new
 looked_so old new idle mode survives left = record {

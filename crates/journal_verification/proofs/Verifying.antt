@@ -1,7 +1,7 @@
 -- What it takes for an office to be verified.
-use Rattle.std.proofs.Common.{◌≡◌, ℕ, List, [], ◌∷◌, Option, Some, None, IfSome, refl, sym, subst}
+use Rattle.std.proofs.Common.{◌≡◌, ◌↔◌, ◌∙◌, ◌≤◌, ◌<◌, ℕ, List, [], ◌∷◌, Bool, true, false, Option, Some, None, IfSome, IsTrue, length, sym, subst, arith}
 use Rattle.sqlite.specs.Held.{Held, state}
-use Rattle.sqlite.specs.State.{State, HasCleanDisk}
+use Rattle.sqlite.specs.State.{HasCleanDisk}
 use Rattle.sqlite.specs.Steps.{IsEmpty}
 use Rattle.sqlite.specs.Store.{Ghosts}
 use Rattle.memory_database.specs.MemoryStore.{MemoryStore, over_memory}
@@ -17,6 +17,7 @@ use Rattle.office_desk.specs.Meant.{meaning_over}
 use Rattle.office_desk.specs.Replayed.{HasOtherText, IsDeniedBy, IsRefused as IsDenied}
 use Rattle.journal.specs.declared.events.Unreadable.TheVariants as unreadable
 use Rattle.journal.specs.Journal.{IsJournalOf, IsSealedJournal}
+use Rattle.journal.specs.SealsAt.{IsSealAt}
 use Rattle.journal.specs.Told.{history_told, start}
 use Rattle.journal_office.specs.declared.refused.Refused.{Refused}
 use Rattle.journal_office.specs.declared.refused.Why.{Why}
@@ -26,17 +27,26 @@ use Rattle.journal_office.proofs.Replays.{goes_then}
 use Rattle.journal_verification.specs.declared.difference.Difference.{Difference}
 use Rattle.journal_verification.specs.Compared.{Differs}
 use Rattle.journal_verification.specs.Refused.{IsFirstUnlawful, IsNotRebuilt, IsWrongAt}
-use Rattle.journal_verification.specs.Verified.{IsOther, IsVerified}
+use Rattle.journal_verification.specs.declared.verification.KeptSeal.{KeptSeal}
+use Rattle.journal_verification.specs.KeptSeals.{HaveSeal, line_of}
+use Rattle.journal_verification.specs.Verified.{HasOtherSeal, IsAhead, IsOther, IsVerified}
+use Rattle.sealed_log.specs.Told.{told}
 use Rattle.journal_verification.proofs.Differences.{differ}
 
 unsealed : (bytes : Option (List ℕ)) (h : History) (seal : List ℕ) → IfSome bytes (λ text. IsSealedJournal text h seal) → IfSome bytes (λ text. IsJournalOf text h)
 unsealed None h seal is = tt
 unsealed (Some text) h seal is = is.journal
 
+-- the seal at its line is the one that was kept
+pub same_seal : (bytes : Option (List ℕ)) (kept : Option KeptSeal) (at : Option (List ℕ)) (is : Bool) → IfSome bytes (λ text. IsSealAt (line_of kept) (told text) at)
+    → ((bodies : List (List ℕ)) → IsSealAt (line_of kept) bodies at → IsTrue is ↔ HaveSeal kept bodies) → is ≡ true → IfSome bytes (λ text. HaveSeal kept (told text))
+same_seal None kept at is there tells same = tt
+same_seal (Some text) kept at is there tells same = (tells (told text) there).0 same
+
 module _ (bytes : Option (List ℕ)) where
   refuted : (Clean : Type 0) → Clean → (w : Why) → Refutes bytes Clean w → Refutes bytes (Unit {0}) w
   refuted Clean clean (why.Unread unreadable.NotALine) h = h
-  refuted Clean clean (why.Unread unreadable.NothingToStrike) h = h
+  refuted Clean clean (why.Unread unreadable.NoEventBefore) h = h
   refuted Clean clean (why.Unread unreadable.Unsealed) h = h
   refuted Clean clean (why.Unread unreadable.TornLine) h = h
   refuted Clean clean (why.Unread unreadable.Read) h = h
@@ -92,7 +102,7 @@ module _ (bytes : Option (List ℕ)) where
     unlawful = refuted (HasCleanDisk (state over_memory left)) (memory_is_clean left) refused.why unlawful;
   }
 
-  module _ (built : Held MemoryStore) (count : ℕ) (seal : List ℕ) (rebuilt : IsRebuilt bytes (meaning_over over_memory) count seal built) where
+  module _ (built : Held MemoryStore) (count : ℕ) (seal : List ℕ) (lines : ℕ) (rebuilt : IsRebuilt bytes (meaning_over over_memory) count seal lines built) where
     built_shows : Shows (state over_memory built) (tables_of rebuilt.history)
     built_shows =
         let clean = memory_is_clean built in
@@ -103,14 +113,32 @@ module _ (bytes : Option (List ℕ)) where
     pub still_shows : (conn : Held MemoryStore) → conn ≡ built → Shows (state over_memory conn) (tables_of rebuilt.history)
     still_shows conn is = subst (λ (b : Held MemoryStore). Shows (state over_memory b) (tables_of rebuilt.history)) (sym is) built_shows
 
+    -- its lines haven't the seal that was kept
+    pub other_seal : (kept : Option KeptSeal) (at : Option (List ℕ)) (is : Bool) → IfSome bytes (λ text. IsSealAt (line_of kept) (told text) at)
+        → ((bodies : List (List ℕ)) → IsSealAt (line_of kept) bodies at → IsTrue is ↔ HaveSeal kept bodies) → is ≡ false → HasOtherSeal bytes kept
+    other_seal kept at is there tells none = record {
+      history = rebuilt.history;
+      journal = unsealed bytes rebuilt.history seal rebuilt.journal;
+      lawful = rebuilt.lawful (memory_is_clean built);
+      other = none_of bytes there;
+    }
+      where
+        none_of : (bytes : Option (List ℕ)) → IfSome bytes (λ text. IsSealAt (line_of kept) (told text) at) → IfSome bytes (λ text. HaveSeal kept (told text) → ⊥)
+        none_of None there = tt
+        none_of (Some text) there = λ has. (let yes : IsTrue is = (tells (told text) there).1 has in let no : false ≡ true = sym none ∙ yes in absurd (let c : false ≡ true = no in cc))
+
     module _ {T : Type 0} (f : Ghosts T) where
-      pub verified : (office : Held T) → IsIdle (state f office) → Settles (state f office) → Shows (state f office) (tables_of rebuilt.history) → IsVerified bytes f office (record { events = count; seal = seal })
-      verified office idle law shows =
+      pub verified : (office : Held T) → IsIdle (state f office) → Settles (state f office) → Shows (state f office) (tables_of rebuilt.history) → (kept : Option KeptSeal) → IfSome bytes (λ text. HaveSeal kept (told text)) → (mark : ℕ) → mark ≤ lines
+          → IsVerified bytes f kept mark office (record { events = count; seal = seal; lines = lines })
+      verified office idle law shows kept same mark enough =
           let lawful = rebuilt.lawful (memory_is_clean built) in
           record {
             history = rebuilt.history;
             journal = rebuilt.journal;
             counted = rebuilt.counted;
+            lined = rebuilt.lined;
+            same_seal = same;
+            marked = enough;
             lawful = lawful;
             shows = shows;
             stands = record {
@@ -119,6 +147,20 @@ module _ (bytes : Option (List ℕ)) where
               leaves = leaves_only (state f office) law (tables_of rebuilt.history) shows;
             };
           }
+
+      -- its mark is above the number of lines
+      pub ahead : (office : Held T) → Shows (state f office) (tables_of rebuilt.history) → (mark : ℕ) → lines < mark → IsAhead bytes f mark office
+      ahead office shows mark few = record {
+        history = rebuilt.history;
+        journal = unsealed bytes rebuilt.history seal rebuilt.journal;
+        lawful = rebuilt.lawful (memory_is_clean built);
+        shows = shows;
+        ahead = above bytes rebuilt.lined;
+      }
+        where
+          above : (bytes : Option (List ℕ)) → IfSome bytes (λ text. lines ≡ length (told text)) → IfSome bytes (λ text. length (told text) < mark)
+          above None lined = tt
+          above (Some text) lined = omega (arith, lined, few)
 
       pub other : (office : Held T) (d : Difference) → Differs over_memory f built office d → IsOther bytes f office d
       other office d differs = record {

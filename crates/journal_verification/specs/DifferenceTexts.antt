@@ -26,3 +26,4 @@ difference_text (difference.Vote p number voter) =
 difference_text (difference.Baseline team) = codes "baselines " ++ team
 difference_text (difference.Hold p) = codes "holds " ++ p.team ++ codes "/" ++ p.profile
 difference_text (difference.Row t) = table_name t
+difference_text difference.Line = codes "line"

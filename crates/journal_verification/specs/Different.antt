@@ -4,8 +4,8 @@ use Rattle.office_tables.specs.Tables.{Tables}
 use Rattle.journal_verification.specs.declared.difference.Difference.{Difference}
 use Rattle.journal_verification.specs.declared.difference.Difference.TheVariants as difference
 
--- at the key that the difference names; no two offices differ in their schema, and of a row that has
--- no key nothing is said
+-- at the key that the difference names; no two offices differ in their schema, nor in what isn't a
+-- table, and of a row that has no key nothing is said
 abbrev pub DifferAt : Tables → Tables → Difference → Type 0
 DifferAt t u difference.Schema = ⊥
 DifferAt t u difference.Office = t.listed ≢ u.listed
@@ -15,3 +15,4 @@ DifferAt t u (difference.Vote p number voter) = t.votes p number voter ≢ u.vot
 DifferAt t u (difference.Baseline team) = t.baselines team ≢ u.baselines team
 DifferAt t u (difference.Hold p) = t.holds p ≢ u.holds p
 DifferAt t u (difference.Row table) = Unit {0}
+DifferAt t u difference.Line = ⊥

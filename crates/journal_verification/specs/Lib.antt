@@ -2,6 +2,7 @@ pub mod Compared
 pub mod DifferenceTexts
 pub mod Different
 pub mod Differing
+pub mod KeptSeals
 pub mod Looked
 pub mod Named
 pub mod Reading

@@ -27,6 +27,7 @@ IsKeyOf t row (difference.Vote p number voter) =
 IsKeyOf t row (difference.Baseline team) = (t ≡ table.Baselines) × (column row 0 ≡ Text team)
 IsKeyOf t row (difference.Hold p) = (t ≡ table.Holds) × IsProfileAt row p
 IsKeyOf t row (difference.Row s) = ⊥
+IsKeyOf t row difference.Line = ⊥
 
 -- a word or a number stands in this column
 abbrev pub HasWord : Row → ℕ → Type 0

@@ -1,5 +1,5 @@
 -- When an office is the one of a journal.
-use Rattle.std.specs.Prelude.{◌≡◌, ℕ, List, length, Option, IfSome}
+use Rattle.std.specs.Prelude.{◌≡◌, ◌⊎◌, ◌≤◌, ◌<◌, ℕ, List, length, Option, IfSome}
 use Rattle.sqlite.specs.Held.{Held, state}
 use Rattle.sqlite.specs.Store.{Ghosts}
 use Rattle.memory_database.specs.MemoryStore.{MemoryStore, over_memory}
@@ -12,22 +12,40 @@ use Rattle.office_policy.specs.Lawful.{IsLawfulHistory}
 use Rattle.office_policy.specs.TablesOf.{tables_of}
 use Rattle.office_desk.specs.Meant.{meaning_over}
 use Rattle.journal.specs.Journal.{IsJournalOf, IsSealedJournal}
+use Rattle.sealed_log.specs.Told.{told}
 use Rattle.journal_verification.specs.declared.difference.Difference.{Difference}
+use Rattle.journal_verification.specs.declared.difference.Difference.TheVariants as difference
+use Rattle.journal_verification.specs.declared.verification.KeptSeal.{KeptSeal}
 use Rattle.journal_verification.specs.declared.verification.Unverified.{Unverified}
 use Rattle.journal_verification.specs.declared.verification.Unverified.TheVariants as unverified
 use Rattle.journal_verification.specs.declared.verification.Verified.{Verified}
 use Rattle.journal_verification.specs.Compared.{Differs}
 use Rattle.journal_verification.specs.Different.{DifferAt}
+use Rattle.journal_verification.specs.KeptSeals.{HaveSeal}
 use Rattle.journal_verification.specs.Refused.{IsNotRebuilt}
 
 -- of a journal with these bytes, where they are known
+module _ (bytes : Option (List ℕ)) where
+  -- A lawful history has the journal, but its lines haven't the seal that was kept.
+  pub record HasOtherSeal (kept : Option KeptSeal) : Type 0 where
+    pub history : History
+    pub journal : IfSome bytes (λ text. IsJournalOf text history)
+    pub lawful : IsLawfulHistory history
+    pub other : IfSome bytes (λ text. HaveSeal kept (told text) → ⊥)
+
+-- the same, and an office
 module _ (bytes : Option (List ℕ)) {T : Type 0} (f : Ghosts T) where
   -- the office is that of the history that the journal is of, which is lawful and has so many
-  -- events, and the seal is the journal's
-  pub record IsVerified (office : Held T) (verified : Verified) : Type 0 where
+  -- events, the seal and the number of lines are the journal's, its lines have the seal that was
+  -- kept, and the mark isn't above their number
+  pub record IsVerified (kept : Option KeptSeal) (mark : ℕ) (office : Held T) (verified : Verified)
+      : Type 0 where
     pub history : History
     pub journal : IfSome bytes (λ text. IsSealedJournal text history verified.seal)
     pub counted : verified.events ≡ length history
+    pub lined : IfSome bytes (λ text. verified.lines ≡ length (told text))
+    pub same_seal : IfSome bytes (λ text. HaveSeal kept (told text))
+    pub marked : mark ≤ verified.lines
     pub lawful : IsLawfulHistory history
     pub shows : Shows (state f office) (tables_of history)
     pub stands : Stands (meaning_over f) history office
@@ -43,9 +61,19 @@ module _ (bytes : Option (List ℕ)) {T : Type 0} (f : Ghosts T) where
     pub differs : Differs over_memory f built office d
     pub differ : (u : Tables) → Shows (state f office) u → DifferAt (tables_of history) u d
 
-  -- no lawful history has the journal, by this line; the office is another; or the office can't be
-  -- read, or there is no memory
-  abbrev pub IsUnverified : (old new : Held T) → Unverified → Type 0
-  IsUnverified old new (unverified.Refused refused) = IsNotRebuilt bytes refused
-  IsUnverified old new (unverified.Differs d) = IsOther old d
-  IsUnverified old new (unverified.Fault fault) = HasFailed (state f old) (state f new) fault
+  -- The office is that of the journal, but for the mark, which is above the number of its lines.
+  pub record IsAhead (mark : ℕ) (office : Held T) : Type 0 where
+    pub history : History
+    pub journal : IfSome bytes (λ text. IsJournalOf text history)
+    pub lawful : IsLawfulHistory history
+    pub shows : Shows (state f office) (tables_of history)
+    pub ahead : IfSome bytes (λ text. length (told text) < mark)
+
+  -- no lawful history has the journal, by this line; its seal is another; the office is another, or
+  -- its mark is; or the office can't be read, or there is no memory
+  abbrev pub IsUnverified : Option KeptSeal → (mark : ℕ) → (old new : Held T) → Unverified → Type 0
+  IsUnverified kept mark old new (unverified.Refused refused) = IsNotRebuilt bytes refused
+  IsUnverified kept mark old new unverified.OtherSeal = HasOtherSeal bytes kept
+  IsUnverified kept mark old new (unverified.Differs d) =
+      IsOther old d ⊎ ((d ≡ difference.Line) × IsAhead mark new)
+  IsUnverified kept mark old new (unverified.Fault fault) = HasFailed (state f old) (state f new) fault

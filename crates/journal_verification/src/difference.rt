@@ -6,8 +6,8 @@ use std::error::Error;
 use std::fmt;
 
 /// Where an office differs from the one of its journal: its schema, or a row, by its table and its
-/// key, which one of the two has and the other hasn't, or has otherwise. Its text is the table and
-/// the key.
+/// key, which one of the two has and the other hasn't, or has otherwise; or its mark. Its text is the
+/// table and the key.
 #[derive(Debug, Drop)]
 pub enum Difference {
     /// The tables and indexes aren't those of an office.
@@ -33,6 +33,8 @@ pub enum Difference {
     Hold(ProfileName),
     /// A row of a table whose key no office has, or rowids that don't rise.
     Row(Table),
+    /// The mark of the tables: it is above the number of the lines of the journal.
+    Line,
 }
 
 impl fmt::Display for Difference {
@@ -68,6 +70,7 @@ impl fmt::Display for Difference {
                 write!(f, "holds {team}/{profile}")
             }
             Difference::Row(table) => f.write_str(table.name()),
+            Difference::Line => f.write_str("line"),
         }
     }
 }

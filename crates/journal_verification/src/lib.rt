@@ -13,4 +13,4 @@ mod verification;
 
 pub use difference::Difference;
 pub use table::Table;
-pub use verification::{Unverified, Verified, verify};
+pub use verification::{KeptSeal, Unverified, Verified, verify};

@@ -1,9 +1,11 @@
 //! Whether an office is the one of a journal.
 
-ghost use Rattle.std.specs.Prelude.{IfErr, IfOk};
+ghost use Rattle.std.specs.Prelude.{◌≡◌, ◌↔◌, ℕ, List, IfErr, IfOk, IsTrue};
 ghost use Rattle.sqlite.specs.Held.{state};
 ghost use Rattle.sqlite.specs.State.{HasCleanDisk};
 ghost use Rattle.office_store.specs.Shown.{IsIdle};
+ghost use Rattle.journal.specs.SealsAt.{IsSealAt};
+ghost use Rattle.journal_verification.specs.KeptSeals.{HaveSeal, line_of};
 ghost use Rattle.journal_verification.specs.Looked.{HasLooked};
 ghost use Rattle.journal_verification.specs.Verified.{IsUnverified, IsVerified};
 
@@ -24,6 +26,16 @@ pub struct Verified {
     pub events: u64,
     /// The seal of the last line of the journal, which names the whole of it.
     pub seal: Seal,
+    /// The number of the lines of the journal.
+    pub lines: u64,
+}
+
+/// The seal that a line of a journal had.
+#[derive(Clone, Copy, Debug, Drop, PartialEq, Eq)]
+pub struct KeptSeal {
+    /// The number of the line, from 1.
+    pub line: u64,
+    pub seal: Seal,
 }
 
 /// Why an office isn't verified.
@@ -31,42 +43,84 @@ pub struct Verified {
 pub enum Unverified {
     /// No office is built anew from the journal.
     Refused(Refused),
+    /// The journal hasn't the seal that was kept, or has fewer lines.
+    OtherSeal,
     /// The office differs from the one of the journal.
     Differs(Difference),
     /// One of the two can't be read, or there is no memory.
     Fault(Fault),
 }
 
-/// Whether an office is the one of a journal: built anew from it in memory and compared with it
-/// table by table, its tables are the same. The number of its events, and the seal of the journal.
-/// Nothing of the office is changed.
+// The line of which the seal is asked for.
+fn line_of(kept: Option<KeptSeal>) -> u64
+    ensures { result ≡ line_of kept }
+{
+    match kept {
+        Some(kept) => kept.line,
+        None => 0,
+    }
+}
+
+// Whether that seal is the one that was kept.
+fn is_kept(kept: Option<KeptSeal>, at: Option<Seal>) -> bool
+    ensures { (bodies : List (List ℕ)) → IsSealAt (line_of kept) bodies at
+        → IsTrue result ↔ HaveSeal kept bodies }
+{
+    match (kept, at) {
+        (None, _) => true,
+        (Some(kept), Some(seal)) => kept.seal == seal,
+        (Some(_), None) => false,
+    }
+}
+
+/// Whether an office, whose tables have this mark, is the one of a journal: that has the seal that was
+/// kept, where one was; built anew from it in memory and compared with it table by table, the office's
+/// tables are the same; and the mark isn't above the number of the lines. The number of its events, the
+/// seal of the journal and the number of its lines. Nothing of the office is changed.
 ///
 /// # Errors
 ///
-/// `Refused` with the first line by which no office is built anew, and why; `Differs` with the
-/// first row that one of the two has and the other hasn't, or has otherwise; else the fault.
+/// `Refused` with the first line by which no office is built anew, and why; else `OtherSeal`; else
+/// `Differs` with the first row that one of the two has and the other hasn't, or has otherwise, or
+/// with the mark; else the fault.
 pub fn verify<T: Alter, R: BufRead + Drop>(
     alloc: Global,
     journal: R,
     office: &mut Connection<T>,
+    kept: Option<KeptSeal>,
+    mark: u32,
 ) -> Result<Verified, Unverified>
     requires { IsIdle (state T.Store office.old) }
     ensures looked { HasLooked (state T.Store office.old) (state T.Store office.new) }
     ensures verified { HasCleanDisk (state T.Store office.new) → IfOk result
-        (IsVerified (R.remaining journal) T.Store office.new) }
+        (IsVerified (R.remaining journal) T.Store kept mark office.new) }
     ensures unverified { HasCleanDisk (state T.Store office.new) → IfErr result
-        (IsUnverified (R.remaining journal) T.Store office.old office.new) }
+        (IsUnverified (R.remaining journal) T.Store kept mark office.old office.new) }
 {
     let Ok(conn) = open_in_memory(alloc) else {
         return Err(Unverified::Fault(Fault::NoMemory));
     };
-    match rebuild(alloc, conn, journal) {
+    match rebuild(alloc, conn, journal, line_of(kept)) {
         Ok(rebuilt) => {
+            if !is_kept(kept, rebuilt.at) {
+                return Err(Unverified::OtherSeal);
+            }
             let events = rebuilt.events;
             let seal = rebuilt.seal;
+            let lines = rebuilt.lines;
             let mut built = rebuilt.office.into_connection();
             match compare(alloc, &mut built, office) {
-                Ok(None) => Ok(Verified { events, seal }),
+                Ok(None) => {
+                    if lines < mark as u64 {
+                        Err(Unverified::Differs(Difference::Line))
+                    } else {
+                        Ok(Verified {
+                            events,
+                            seal,
+                            lines,
+                        })
+                    }
+                }
                 Ok(Some(difference)) => Err(Unverified::Differs(difference)),
                 Err(fault) => Err(Unverified::Fault(fault)),
             }

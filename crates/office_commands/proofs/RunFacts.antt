@@ -1,13 +1,15 @@
 -- What was done by a command, by the words that it was.
-use Rattle.std.proofs.Common.{◌≡◌, ℕ, List, Option, Result, Ok, Err, inl, inr, subst, sym}
+use Rattle.std.proofs.Common.{◌≡◌, ℕ, List, Bool, true, false, Option, Result, Ok, Err, inl, inr, subst, sym}
 use Rattle.std.specs.Prelude.{IfErr, IfOk, MatchResult}
 use Rattle.command_line.specs.declared.command.Command.{Command}
+use Rattle.command_line.specs.declared.command.Command.TheVariants as command
 use Rattle.streams.specs.declared.counted.Counted.{Counted}
 use Rattle.command_host.specs.Known.{Known}
 use Rattle.command_host.specs.Said.{IsRefusal}
 use Rattle.command_host.specs.declared.fault.CommandFault.{CommandFault}
-use Rattle.office_commands.specs.Commands.{failed_status, HasEnded, HasRun}
+use Rattle.office_commands.specs.Commands.{failed_status, HasEnded, HasRun, IfSet}
 use Rattle.office_commands.specs.Failing.{HasFailed}
+use Rattle.office_commands.specs.Notes.{HasNoted}
 
 module _ {S D F L N O : Type 0} (k : Known S D F L N) (contents : O → Option (List ℕ)) where
   -- what was done by a command was done by whatever is the same command
@@ -27,9 +29,37 @@ module _ {E : Type 0} (said_of : E → Option (List ℕ)) (errors said : Counted
   pub refusal_as : (why other : CommandFault) → why ≡ other → IsRefusal said_of errors said why → IsRefusal said_of errors said other
   refusal_as why other same refusal = subst (λ (w : CommandFault). IsRefusal said_of errors said w) same refusal
 
-  -- how a command ended is how the program does
-  pub has_ended : (asked : Command) (Run : ℕ → Type 0) (Fails : CommandFault → Type 0) (ended : Result ℕ CommandFault) (failed status : ℕ) → IfOk ended Run → IfErr ended Fails → failed ≡ failed_status asked
-      → MatchResult ended (λ s. (status ≡ s) × (said ≡ errors)) (λ why. (status ≡ failed) × IsRefusal said_of errors said why)
-      → HasEnded said_of errors said asked Run Fails status
-  has_ended asked Run Fails (Ok s) failed status run fails is how = inl (subst Run (sym how.0) run, how.1)
-  has_ended asked Run Fails (Err why) failed status run fails is how = inr (why, fails, subst (λ n. status ≡ n) is how.0, how.1)
+-- of what was noted before a command ended
+module _ {E : Type 0} (said_of : E → Option (List ℕ)) (noted said : Counted E) where
+  -- how it ended is how the program does
+  pub has_ended : (asked : Command) (Notes : Counted E → Type 0) (Run : ℕ → Type 0) (Fails : CommandFault → Type 0) (ended : Result ℕ CommandFault) (failed status : ℕ)
+      → Notes noted → IfOk ended Run → IfErr ended Fails → failed ≡ failed_status asked
+      → MatchResult ended (λ s. (status ≡ s) × (said ≡ noted)) (λ why. (status ≡ failed) × IsRefusal said_of noted said why)
+      → HasEnded said_of said asked Notes Run Fails status
+  has_ended asked Notes Run Fails (Ok s) failed status notes run fails is how = inl (subst Run (sym how.0) run, subst Notes (sym how.1) notes)
+  has_ended asked Notes Run Fails (Err why) failed status notes run fails is how = inr (why, fails, subst (λ n. status ≡ n) is how.0, (noted, notes, how.1))
+
+-- where nothing was said, a command noted nothing
+pub nothing_noted : {S D F L N E : Type 0} (k : Known S D F L N) (said_of : E → Option (List ℕ)) (errors noted : Counted E) (asked : Command) → noted ≡ errors
+    → HasNoted k said_of errors noted asked
+nothing_noted k said_of errors noted command.Trial same = same
+nothing_noted k said_of errors noted (command.Check file) same = same
+nothing_noted k said_of errors noted (command.Execve words) same = same
+nothing_noted k said_of errors noted (command.Init words) same = same
+nothing_noted k said_of errors noted (command.Desk database journal) same = same
+nothing_noted k said_of errors noted (command.Serve words) same = same
+nothing_noted k said_of errors noted (command.Migrate database without) same = same
+nothing_noted k said_of errors noted (command.Compare base new) same = same
+nothing_noted k said_of errors noted (command.Verify words) same = inl same
+nothing_noted k said_of errors noted (command.Rebuild database journal) same = same
+nothing_noted k said_of errors noted (command.History words) same = same
+nothing_noted k said_of errors noted (command.Evidence words) same = same
+
+-- where a flag is set this holds, and where it isn't nothing is asked
+pub if_set : (b : Bool) (Holds : Type 0) → b ≡ true → Holds → IfSet b Holds
+if_set true Holds is holds = holds
+if_set false Holds is holds = tt
+
+pub if_unset : (b : Bool) (Holds : Type 0) → b ≡ false → IfSet b Holds
+if_unset true Holds is = absurd (let c : true ≡ false = is in cc)
+if_unset false Holds is = tt

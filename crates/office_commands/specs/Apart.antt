@@ -7,24 +7,27 @@ use Rattle.command_host.specs.Known.{Known}
 use Rattle.command_host.specs.declared.fault.CommandFault.{CommandFault}
 use Rattle.office_commands.specs.Commands.{HasRun, HasRunWords}
 use Rattle.office_commands.specs.Failing.{HasFailed}
+use Rattle.office_commands.specs.Notes.{HasNotedAll}
 use Rattle.office_commands.specs.SameFiles.{FailsApart, WasApart}
 
 -- over input that was to come and what of it is left, an output, and of what this is known that the
 -- program gets from outside
 module _ {S D F L N O : Type 0} (k : Known S D F L N) (contents : O → Option (List ℕ))
     (came left : Option (List ℕ)) (output wrote : Counted O) where
-  -- a command ended well, and named no file of its database for its journal
+  -- a command ended well, and its journal and its database were apart
   abbrev pub HasRunApart : Command → ℕ → Type 0
   HasRunApart asked status =
-      WasApart asked (HasRun k contents asked came left output wrote status)
+      WasApart k.compares asked (HasRun k contents asked came left output wrote status)
 
-  -- it failed; or it named one, and is refused for that
+  -- it failed; or they weren't, and it is refused for that
   abbrev pub HasFailedApart : Command → CommandFault → Type 0
   HasFailedApart asked why =
-      FailsApart asked (HasFailed k contents asked came left output wrote) why
+      FailsApart k.compares asked (HasFailed k contents asked came left output wrote) why
 
   -- words were carried out, with what was said on standard error
   abbrev pub HasCarriedOut : {E : Type 0} (said_of : E → Option (List ℕ)) (errors said : Counted E)
       → List (String Global) → ℕ → Type 0
   HasCarriedOut said_of errors said words status =
-      HasRunWords said_of errors said contents output wrote HasRunApart HasFailedApart words status
+      HasRunWords said_of errors said contents output wrote
+      (λ asked noted. HasNotedAll k said_of errors noted asked)
+      HasRunApart HasFailedApart words status

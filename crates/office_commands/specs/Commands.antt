@@ -1,13 +1,14 @@
 -- What each command has done, by the outcome: what it printed of which bytes, what it said on
 -- standard error, and the status that it ended with.
 use Rattle.std.specs.Prelude.{◌≡◌, ◌⊎◌, ℕ, List, Option, Ok}
-use Rattle.std.specs.Prelude.{String, codes, string_bytes, option_copied}
+use Rattle.std.specs.Prelude.{String, Bool, true, false, codes, string_bytes}
 use Rattle.std.specs.declared.alloc.Global.{Global}
 use Rattle.command_line.specs.Words.{AskFor, AskForNone}
 use Rattle.command_line.specs.declared.fault.WordsFault.{WordsFault}
 use Rattle.command_line.specs.declared.fault.WordsFault.TheVariants.{Help, Version, Refused}
 use Rattle.command_line.specs.declared.fault.WordsFault.TheVariants.{NoMemory}
 use Rattle.command_line.specs.declared.command.Command.{Command}
+use Rattle.command_line.specs.declared.command.VerifyWords.{VerifyWords}
 use Rattle.command_line.specs.declared.command.Command.TheVariants as command
 use Rattle.desk_http.specs.Lines.{IsCut, IsWhole}
 use Rattle.streams.specs.declared.counted.Counted.{Counted}
@@ -16,13 +17,18 @@ use Rattle.command_host.specs.Said.{IsRefusal, IsSaid}
 use Rattle.command_host.specs.declared.fault.CommandFault.{CommandFault}
 use Rattle.command_host.specs.declared.fault.CommandFault.TheVariants as fault
 use Rattle.changing_commands.specs.Founded.{HasFounded}
-use Rattle.changing_commands.specs.Migrations.{WasMigrated}
+use Rattle.changing_commands.specs.Migrations.{HasMigrated}
 use Rattle.changing_commands.specs.Rebuildings.{HasRebuilt}
-use Rattle.changing_commands.specs.Served.{IsDesk, IsServedOver}
+use Rattle.changing_commands.specs.Served.{IsDesk, IsMarkedWith, IsServedOver}
 use Rattle.changing_commands.specs.Trials.{IsTrial}
 use Rattle.reading_commands.specs.Documents.{HasChecked, HasCompared, HasExecuted}
 use Rattle.reading_commands.specs.Reports.{HasProved, WasToldAt}
 use Rattle.reading_commands.specs.Verifications.{HasVerified}
+
+-- this holds where a flag is set
+abbrev pub IfSet : Bool → Type 0 → Type 0
+IfSet true Holds = Holds
+IfSet false Holds = Unit {0}
 
 -- the status of a command that was refused or failed
 abbrev pub failed_status : Command → ℕ
@@ -32,6 +38,13 @@ failed_status _ = 1
 -- What a command did that ended well with this status, over input that was to come and what of it is
 -- left, and of what this is known that the program gets from outside.
 module _ {S D F L N O : Type 0} (k : Known S D F L N) (contents : O → Option (List ℕ)) where
+  -- the two agree, and the line was printed; and the database was marked, where the words say so
+  abbrev pub HasVerifiedAll : (output wrote : Counted O) → VerifyWords → Type 0
+  HasVerifiedAll output wrote words =
+      HasVerified k.opens k.places k.bytes_of words.journal.now words.database.now
+      words.seal contents output wrote
+      × IfSet words.mark (IsMarkedWith k words.database.now words.journal.now (Ok (tt {0})))
+
   abbrev pub HasRun : Command → (came left : Option (List ℕ)) (output wrote : Counted O) → ℕ
       → Type 0
   HasRun command.Trial came left output wrote status =
@@ -43,16 +56,15 @@ module _ {S D F L N O : Type 0} (k : Known S D F L N) (contents : O → Option (
   HasRun (command.Init words) came left output wrote status =
       HasFounded k words × IsWhole contents output wrote (codes "founded\n") × (status ≡ 0)
   HasRun (command.Desk database journal) came left output wrote status =
-      IsDesk k contents output wrote came left database.now (option_copied journal) (Ok (tt {0}))
+      IsDesk k contents output wrote came left database.now journal (Ok (tt {0}))
       × (status ≡ 0)
   HasRun (command.Serve words) came left output wrote status =
       IsServedOver k contents output wrote words (Ok (tt {0})) × (status ≡ 0)
-  HasRun (command.Migrate database) came left output wrote status =
-      WasMigrated k.store (k.databases.opened database.now) k.databases.closed
+  HasRun (command.Migrate database without) came left output wrote status =
+      HasMigrated k.store k.databases database.now without
       × IsWhole contents output wrote (codes "migrated\n") × (status ≡ 0)
   HasRun (command.Verify words) came left output wrote status =
-      HasVerified k.opens k.gives k.bytes_of words.journal.now words.database.now words.seal
-      contents output wrote × (status ≡ 0)
+      HasVerifiedAll output wrote words × (status ≡ 0)
   HasRun (command.Rebuild database journal) came left output wrote status =
       HasRebuilt k.store k.databases database.now (k.opens journal.now) k.gives k.bytes_of
       contents output wrote × (status ≡ 0)
@@ -63,15 +75,19 @@ module _ {S D F L N O : Type 0} (k : Known S D F L N) (contents : O → Option (
   HasRun (command.Compare base new) came left output wrote status =
       HasCompared k.opens k.bytes_of contents output wrote base.now new.now status
 
--- what was said on standard error
-module _ {E : Type 0} (said_of : E → Option (List ℕ)) (errors said : Counted E) where
-  -- A command ended with this status: well, as this says, with nothing said; or it was refused or
-  -- failed, as that says, and why was said.
-  abbrev pub HasEnded : Command → (Run : ℕ → Type 0) → (Fails : CommandFault → Type 0) → ℕ → Type 0
-  HasEnded asked Run Fails status = (Run status × (said ≡ errors))
+-- what was said on standard error at the end
+module _ {E : Type 0} (said_of : E → Option (List ℕ)) (said : Counted E) where
+  -- A command ended with this status: well, as this says, with nothing said but what it noted; or it
+  -- was refused or failed, as that says, and then why was said.
+  abbrev pub HasEnded : Command → (Notes : Counted E → Type 0) → (Run : ℕ → Type 0)
+      → (Fails : CommandFault → Type 0) → ℕ → Type 0
+  HasEnded asked Notes Run Fails status =
+      (Run status × Notes said)
       ⊎ ((why : CommandFault) × Fails why × (status ≡ failed_status asked)
-      × IsRefusal said_of errors said why)
+      × ((noted : Counted E) × Notes noted × IsRefusal said_of noted said why))
 
+-- what was said there
+module _ {E : Type 0} (said_of : E → Option (List ℕ)) (errors said : Counted E) where
   module _ {O : Type 0} (contents : O → Option (List ℕ)) (output wrote : Counted O) where
     -- a text was printed, with nothing said; or it couldn't be printed whole, which was said
     abbrev pub IsPrinted : List ℕ → ℕ → Type 0
@@ -90,11 +106,12 @@ module _ {E : Type 0} (said_of : E → Option (List ℕ)) (errors said : Counted
     HasTold NoMemory status =
         (wrote ≡ output) × IsRefusal said_of errors said fault.NoMemory × (status ≡ 1)
 
-    -- Words were carried out: the command that they ask for, with this done where it ended well and
-    -- that where it failed, or why they ask for none was told.
-    abbrev pub HasRunWords : (Run : Command → ℕ → Type 0)
+    -- Words were carried out: the command that they ask for, with this noted, this done where it ended
+    -- well and that where it failed, or why they ask for none was told.
+    abbrev pub HasRunWords : (Notes : Command → Counted E → Type 0) → (Run : Command → ℕ → Type 0)
         → (Fails : Command → CommandFault → Type 0)
         → List (String Global) → ℕ → Type 0
-    HasRunWords Run Fails words status =
-        ((asked : Command) × AskFor words asked × HasEnded asked (Run asked) (Fails asked) status)
+    HasRunWords Notes Run Fails words status =
+        ((asked : Command) × AskFor words asked
+        × HasEnded said_of said asked (Notes asked) (Run asked) (Fails asked) status)
         ⊎ ((why : WordsFault) × AskForNone words why × HasTold why status)

@@ -1,6 +1,7 @@
 -- Why each command fails, by the words that it was, and what it then has done.
-use Rattle.std.specs.Prelude.{◌≡◌, ◌⊎◌, ℕ, List, Option, Err, codes, option_copied}
+use Rattle.std.specs.Prelude.{◌≡◌, ◌⊎◌, ℕ, List, true, Option, Err, codes}
 use Rattle.command_line.specs.declared.command.Command.{Command}
+use Rattle.command_line.specs.declared.command.VerifyWords.{VerifyWords}
 use Rattle.command_line.specs.declared.command.Command.TheVariants as command
 use Rattle.desk_http.specs.Lines.{IsCut}
 use Rattle.streams.specs.declared.counted.Counted.{Counted}
@@ -8,13 +9,13 @@ use Rattle.command_host.specs.Known.{Known}
 use Rattle.command_host.specs.declared.fault.CommandFault.{CommandFault}
 use Rattle.command_host.specs.declared.fault.CommandFault.TheVariants as fault
 use Rattle.changing_commands.specs.Founded.{FailsToInit, HasFounded}
-use Rattle.changing_commands.specs.Migrations.{IsUnmigrated, WasMigrated}
+use Rattle.changing_commands.specs.Migrations.{FailsToMigrateAt, HasMigrated}
 use Rattle.changing_commands.specs.Rebuildings.{FailsToRebuild}
-use Rattle.changing_commands.specs.Served.{IsDesk, IsServedOver}
+use Rattle.changing_commands.specs.Served.{IsDesk, IsMarkedWith, IsServedOver}
 use Rattle.changing_commands.specs.Trials.{IsTrial}
 use Rattle.reading_commands.specs.DocumentFailures.{FailsToCheck, FailsToCompare, FailsToExecute}
 use Rattle.reading_commands.specs.Reports.{FailsToProve, IsUntoldAt}
-use Rattle.reading_commands.specs.Verifications.{FailsToVerify}
+use Rattle.reading_commands.specs.Verifications.{FailsToVerify, HasVerified}
 
 -- what an output has after what it had
 module _ {O : Type 0} (contents : O → Option (List ℕ)) (output wrote : Counted O) where
@@ -25,6 +26,17 @@ module _ {O : Type 0} (contents : O → Option (List ℕ)) (output wrote : Count
 
 -- What a command did that failed so, over the same as one that ended well.
 module _ {S D F L N O : Type 0} (k : Known S D F L N) (contents : O → Option (List ℕ)) where
+  -- the two don't agree, or the line wasn't printed; or they do and it was, and the database wasn't
+  -- marked
+  abbrev pub FailsToVerifyAll : (output wrote : Counted O) → VerifyWords → CommandFault → Type 0
+  FailsToVerifyAll output wrote words why =
+      FailsToVerify k.opens k.places k.gives k.bytes_of words.journal.now words.database.now
+      words.seal contents output wrote why
+      ⊎ ((words.mark ≡ true)
+      × HasVerified k.opens k.places k.bytes_of words.journal.now words.database.now
+      words.seal contents output wrote
+      × IsMarkedWith k words.database.now words.journal.now (Err why))
+
   abbrev pub HasFailed : Command → (came left : Option (List ℕ)) (output wrote : Counted O)
       → CommandFault → Type 0
   HasFailed command.Trial came left output wrote why =
@@ -37,16 +49,15 @@ module _ {S D F L N O : Type 0} (k : Known S D F L N) (contents : O → Option (
       FailsToSay contents output wrote (codes "founded\n") (HasFounded k words)
       (FailsToInit k words why) why
   HasFailed (command.Desk database journal) came left output wrote why =
-      IsDesk k contents output wrote came left database.now (option_copied journal) (Err why)
+      IsDesk k contents output wrote came left database.now journal (Err why)
   HasFailed (command.Serve words) came left output wrote why =
       IsServedOver k contents output wrote words (Err why)
-  HasFailed (command.Migrate database) came left output wrote why =
+  HasFailed (command.Migrate database without) came left output wrote why =
       FailsToSay contents output wrote (codes "migrated\n")
-      (WasMigrated k.store (k.databases.opened database.now) k.databases.closed)
-      (IsUnmigrated k.store k.databases database.now why) why
+      (HasMigrated k.store k.databases database.now without)
+      (FailsToMigrateAt k.store k.databases database.now without why) why
   HasFailed (command.Verify words) came left output wrote why =
-      FailsToVerify k.opens k.gives k.bytes_of words.journal.now words.database.now words.seal
-      contents output wrote why
+      FailsToVerifyAll output wrote words why
   HasFailed (command.Rebuild database journal) came left output wrote why =
       FailsToRebuild k.store k.databases database.now (k.opens journal.now) k.gives k.bytes_of
       contents output wrote why

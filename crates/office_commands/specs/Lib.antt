@@ -1,4 +1,5 @@
 pub mod Commands
 pub mod Failing
+pub mod Notes
 pub mod SameFiles
 pub mod Apart

@@ -1,46 +1,57 @@
--- A command whose journal and database are one file, or of which one is a file beside the other, by
--- their names.
-use Rattle.std.specs.Prelude.{◌≡◌, ◌||◌, ℕ, List, ◌++◌, Bool, true, false, Option, Some, None}
-use Rattle.std.specs.Prelude.{bytes_eq, codes, option_copied}
+-- A command whose journal and database are one file, or of which one is made beside the other.
+use Rattle.std.specs.Prelude.{◌≡◌, ◌⊎◌, ℕ, List, Bool, true, false, Option, Some, None, Result, Ok}
+use Rattle.std.specs.Prelude.{Err, option_copied}
+use Rattle.std.proofs.Common.{Bor}
+use Rattle.std.specs.declared.io.Error.{Error}
+use Rattle.command_line.specs.Meaning.{journal_named}
 use Rattle.command_line.specs.declared.command.Command.{Command}
 use Rattle.command_line.specs.declared.command.Command.TheVariants as command
 use Rattle.command_host.specs.declared.fault.CommandFault.{CommandFault}
 use Rattle.command_host.specs.declared.fault.CommandFault.TheVariants as fault
 
--- a path is that of the log of a file, or of the journal that SQLite may leave of it
-abbrev pub is_beside : (path file : List ℕ) → Bool
-is_beside path file =
-    bytes_eq path (file ++ codes "-wal") || bytes_eq path (file ++ codes "-journal")
+-- the texts of two paths that may be given
+abbrev pub texts_of : Option (Bor (List ℕ) × Bor (List ℕ)) → Option (List ℕ × List ℕ)
+texts_of None = None
+texts_of (Some paths) = Some (paths.0.now, paths.1.now)
 
--- two paths are one, or the one stands beside the other
-abbrev pub are_of_one_file : (path database : List ℕ) → Bool
-are_of_one_file path database =
-    bytes_eq path database || is_beside path database || is_beside database path
+-- a journal and a database, where a journal is named
+abbrev pub given_with : (journal : Option (List ℕ)) (database : List ℕ) → Option (List ℕ × List ℕ)
+given_with (Some journal) database = Some (journal, database)
+given_with None database = None
 
--- the same of a path that may be given
-abbrev pub is_given_of_one_file : (path : Option (List ℕ)) (database : List ℕ) → Bool
-is_given_of_one_file None database = false
-is_given_of_one_file (Some path) database = are_of_one_file path database
+-- those that a command writes, where it names both
+abbrev pub files_named : Command → Option (List ℕ × List ℕ)
+files_named (command.Init words) = given_with (option_copied words.journal) words.database.now
+files_named (command.Desk database journal) = given_with (journal_named journal) database.now
+files_named (command.Serve words) = given_with (journal_named words.journal) words.database.now
+files_named (command.Rebuild database journal) = Some (journal.now, database.now)
+files_named _ = None
 
--- the command names such a path for its journal
-abbrev pub names_one_file : Command → Bool
-names_one_file (command.Init words) =
-    is_given_of_one_file (option_copied words.journal) words.database.now
-names_one_file (command.Desk database journal) =
-    is_given_of_one_file (option_copied journal) database.now
-names_one_file (command.Serve words) =
-    is_given_of_one_file (option_copied words.journal) words.database.now
-names_one_file (command.Rebuild database journal) =
-    are_of_one_file journal.now database.now
-names_one_file _ = false
+-- what came of asking whether the file of a journal and a database are one
+module _ (Compares : (journal database : List ℕ) → Result Bool Error → Type 0) where
+  -- a command names no two such files; or they aren't one
+  abbrev pub AreApart : Option (List ℕ × List ℕ) → Type 0
+  AreApart None = Unit {0}
+  AreApart (Some files) = Compares files.0 files.1 (Ok false)
 
--- a command that ended well named none, and this was done
-pub record WasApart (asked : Command) (Done : Type 0) : Type 0 where
-  pub apart : names_one_file asked ≡ false
-  pub done : Done
+  abbrev pub IsApart : Command → Type 0
+  IsApart asked = AreApart (files_named asked)
 
--- a command that names one is refused for that, and one that names none fails so
-pub record FailsApart (asked : Command) (Fails : CommandFault → Type 0) (why : CommandFault)
-    : Type 0 where
-  pub one : names_one_file asked ≡ true → why ≡ fault.SameFile
-  pub apart : names_one_file asked ≡ false → Fails why
+  -- it names two, which are one; or that couldn't be said for want of memory
+  abbrev pub AreUnapart : Option (List ℕ × List ℕ) → CommandFault → Type 0
+  AreUnapart None why = ⊥
+  AreUnapart (Some files) why =
+      ((why ≡ fault.SameFile) × Compares files.0 files.1 (Ok true))
+      ⊎ ((why ≡ fault.NoMemory) × ((e : Error) × Compares files.0 files.1 (Err e)))
+
+  abbrev pub IsUnapart : Command → CommandFault → Type 0
+  IsUnapart asked = AreUnapart (files_named asked)
+
+  -- a command that ended well named no such files, and this was done
+  pub record WasApart (asked : Command) (Done : Type 0) : Type 0 where
+    pub apart : IsApart asked
+    pub done : Done
+
+  -- a command whose files are one is refused for that; or it fails so
+  abbrev pub FailsApart : Command → (Fails : CommandFault → Type 0) → CommandFault → Type 0
+  FailsApart asked Fails why = IsUnapart asked why ⊎ (IsApart asked × Fails why)

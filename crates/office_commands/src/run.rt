@@ -4,13 +4,19 @@ ghost use Rattle.std.specs.Prelude.{◌≡◌, ◌^◌, ◌≤◌, IfErr, IfOk, 
 ghost use Rattle.command_host.specs.Outside.{known};
 ghost use Rattle.command_host.specs.Said.{IsRefusal};
 ghost use Rattle.office_commands.specs.Apart.{HasCarriedOut, HasFailedApart, HasRunApart};
-ghost use Rattle.office_commands.specs.Commands.{failed_status, HasRun, HasTold, IsPrinted};
-ghost use Rattle.office_commands.specs.Failing.{HasFailed};
+ghost use Rattle.office_commands.specs.Commands.{failed_status, HasRun, HasTold, HasVerifiedAll};
+ghost use Rattle.office_commands.specs.Commands.{IsPrinted};
+ghost use Rattle.office_commands.specs.Failing.{FailsToVerifyAll, HasFailed};
+ghost use Rattle.office_commands.specs.Notes.{goes_without, is_without, HasNoted, HasNotedAll};
+ghost use Rattle.office_commands.specs.Notes.{WarnsIf};
+ghost use Rattle.reading_commands.specs.Moments.{MayHaveNoted};
 
-use crate::same_file::names_one_file;
-use changing_commands::{found_at, migrate_at, run_rebuild, serve_http, serve_stored, serve_trial};
+use crate::same_file::see_apart;
+use changing_commands::{
+    found_at, mark_stored, migrate_at, run_rebuild, serve_http, serve_stored, serve_trial,
+};
 use command_host::{CommandFault, Host, Outside, print, refuse, say};
-use command_line::{Command, WordsFault, read_words};
+use command_line::{Command, JournalWords, VerifyWords, WordsFault, read_words};
 use reading_commands::{run_check, run_compare, run_evidence, run_execve, run_history, run_verify};
 use std::alloc::Global;
 use std::io::{Read, Write};
@@ -26,13 +32,38 @@ fn failed_status(command: &Command<'_>) -> u8
     }
 }
 
+// Compares the office in a database with the one that a journal tells, and then marks it, where the
+// words say so.
+fn verify_and_mark<H: Host, O: Write, E: Write>(
+    host: &Outside<'_, H>,
+    alloc: Global,
+    words: &VerifyWords<'_>,
+    output: &mut Counted<O>,
+    errors: &mut Counted<E>,
+) -> Result<u8, CommandFault>
+    ensures done { IfOk result (λ status. HasVerifiedAll (known host.now) O.contents
+        output.old output.new words.now × (status ≡ 0)) }
+    ensures failed { IfErr result (FailsToVerifyAll (known host.now) O.contents
+        output.old output.new words.now) }
+    ensures noted { MayHaveNoted E.contents errors.old errors.new
+        ((known host.now).places words.now.database.now) (known host.now).stamps
+        words.now.journal.now }
+{
+    let status = run_verify(host.files, alloc, words, output, errors)?;
+    if words.mark {
+        mark_stored(host, alloc, words.database, words.journal)?;
+    }
+    Ok(status)
+}
+
 // Carries a command out, and says with which status that ends the program.
-fn run<H: Host, I: Read, O: Write>(
+fn run<H: Host, I: Read, O: Write, E: Write>(
     host: &Outside<'_, H>,
     alloc: Global,
     command: Command<'_>,
     input: &mut Counted<I>,
     output: &mut Counted<O>,
+    errors: &mut Counted<E>,
 ) -> Result<u8, CommandFault>
     requires reads { input.old.calls ≤ 2 ^ 62 }
     requires read_faults { input.old.faults ≤ 2 ^ 62 }
@@ -41,6 +72,7 @@ fn run<H: Host, I: Read, O: Write>(
         (I.remaining input.old.inner) (I.remaining input.new.inner) output.old output.new) }
     ensures failed { IfErr result (HasFailed (known host.now) O.contents command.entry
         (I.remaining input.old.inner) (I.remaining input.new.inner) output.old output.new) }
+    ensures noted { HasNoted (known host.now) E.contents errors.old errors.new command.entry }
 {
     match command {
         Command::Trial => {
@@ -58,8 +90,11 @@ fn run<H: Host, I: Read, O: Write>(
             serve_http(host, alloc, &words, output)?;
             Ok(0)
         }
-        Command::Migrate { database } => {
-            migrate_at(host.databases, database)?;
+        Command::Migrate {
+            database,
+            without_journal,
+        } => {
+            migrate_at(host.databases, database, without_journal)?;
             print(output, "migrated\n")?;
             Ok(0)
         }
@@ -68,7 +103,7 @@ fn run<H: Host, I: Read, O: Write>(
             Ok(0)
         }
         Command::Compare { base, new } => run_compare(host.files, alloc, base, new, output),
-        Command::Verify(words) => run_verify(host.files, alloc, &words, output),
+        Command::Verify(words) => verify_and_mark(host, alloc, &words, output, errors),
         Command::Rebuild { database, journal } => {
             run_rebuild(host.files, host.databases, alloc, database, journal, output)
         }
@@ -77,14 +112,53 @@ fn run<H: Host, I: Read, O: Write>(
     }
 }
 
-// The same, where the journal that the command names is no file of its database. Else that is told,
-// and nothing is opened.
-fn run_apart<H: Host, I: Read, O: Write>(
+// The line that says that an office goes on without its journal.
+const WITHOUT: &str =
+    "office: without its journal, which tells nothing of what happens from now on\n";
+
+// Whether words say so.
+fn is_without(journal: JournalWords<'_>) -> bool
+    ensures { result ≡ is_without journal.entry }
+{
+    match journal {
+        JournalWords::Without => true,
+        _ => false,
+    }
+}
+
+// Whether a command says so.
+fn goes_without(command: &Command<'_>) -> bool
+    ensures { result ≡ goes_without command.now }
+{
+    match command {
+        Command::Desk { journal, .. } => is_without(*journal),
+        Command::Serve(words) => is_without(words.journal),
+        Command::Migrate {
+            without_journal,
+            ..
+        } => *without_journal,
+        _ => false,
+    }
+}
+
+// Says of a command that the office goes on without its journal, where it does.
+fn warn<E: Write>(command: &Command<'_>, errors: &mut Counted<E>)
+    ensures { WarnsIf E.contents errors.old errors.new (goes_without command.now) }
+{
+    if goes_without(command) {
+        say(errors, WITHOUT);
+    }
+}
+
+// The same, where the journal that the command names and its database are apart. Else that is told, and
+// nothing is opened.
+fn run_apart<H: Host, I: Read, O: Write, E: Write>(
     host: &Outside<'_, H>,
     alloc: Global,
     command: Command<'_>,
     input: &mut Counted<I>,
     output: &mut Counted<O>,
+    errors: &mut Counted<E>,
 ) -> Result<u8, CommandFault>
     requires reads { input.old.calls ≤ 2 ^ 62 }
     requires read_faults { input.old.faults ≤ 2 ^ 62 }
@@ -95,11 +169,11 @@ fn run_apart<H: Host, I: Read, O: Write>(
     ensures failed { IfErr result (HasFailedApart (known host.now) O.contents
         (I.remaining input.old.inner) (I.remaining input.new.inner)
         output.old output.new command.entry) }
+    ensures noted { HasNotedAll (known host.now) E.contents errors.old errors.new command.entry }
 {
-    if names_one_file(&command) {
-        return Err(CommandFault::SameFile);
-    }
-    run(host, alloc, command, input, output)
+    see_apart(host.journals, &command)?;
+    warn(&command, errors);
+    run(host, alloc, command, input, output, errors)
 }
 
 // Prints a text, or says that it couldn't be printed.
@@ -189,7 +263,7 @@ pub fn run_words<H: Host, I: Read, O: Write, E: Write>(
     match read_words(alloc, words) {
         Ok(command) => {
             let failed = failed_status(&command);
-            let ended = run_apart(host, alloc, command, input, output);
+            let ended = run_apart(host, alloc, command, input, output, errors);
             status_of(alloc, errors, ended, failed)
         }
         Err(fault) => tell(alloc, &fault, output, errors),

@@ -6,10 +6,11 @@ use std::alloc::Allocator;
 use std::fs::{Files, Metadata, OpenOptions};
 use std::io;
 use std::io::Eprint;
+use std::path::PathBuf;
 use std::time::Clock;
 
 /// The same files, of which a [`Meter`] is told how much of each was read. What [`Files`] lets its
-/// implementors leave out, as links and modes, they leave out.
+/// implementors leave out, as modes and the making of links, they leave out.
 #[derive(Drop)]
 pub struct MeasuredFiles<'m, R: Clock + Eprint, F: Files> {
     files: F,
@@ -66,5 +67,9 @@ impl<'m, R: Clock + Eprint, F: Files> Files for MeasuredFiles<'m, R, F> {
 
     fn remove_dir_all<B: Allocator>(&self, alloc: B, path: &str) -> io::Result<()> {
         self.files.remove_dir_all(alloc, path)
+    }
+
+    fn canonicalize<B: Allocator>(&self, alloc: B, path: &str) -> io::Result<PathBuf<B>> {
+        self.files.canonicalize(alloc, path)
     }
 }

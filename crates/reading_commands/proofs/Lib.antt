@@ -1,1 +1,3 @@
 pub mod FailingFacts
+mod FrontFacts
+mod ResultFacts

@@ -1,91 +1,97 @@
--- An office in a copy of the files at a path: that of its database, and the log beside it.
-use Rattle.std.specs.Prelude.{◌≡◌, ◌≢◌, ◌⊎◌, ℕ, List, [], ◌++◌, codes, Option, Result, Ok, Err, IfSome}
+-- An office in a copy of the two files of a database.
+use Rattle.std.specs.Prelude.{◌≡◌, ◌≢◌, ◌⊎◌, ◌<◌, ◌≤◌, ℕ, List, [], length, take}
+use Rattle.std.specs.Prelude.{Option, Some, None, Result, Ok, Err, IfSome, string_bytes}
 use Rattle.std.specs.IoError.{error_kind}
+use Rattle.std.specs.Path.{path_buf_bytes}
 use Rattle.std.specs.declared.io.Error.{Error}
 use Rattle.std.specs.declared.io.ErrorKind.TheVariants as kind
 use Rattle.sqlite.specs.Held.{Held}
 use Rattle.sqlite.specs.declared.error.Error.{Error as SqliteError}
 use Rattle.memory_database.specs.Copies.{CopyStore, over_copy, FailsToCopy, IsCopyOf}
 use Rattle.review_policy.specs.declared.fault.Fault.{Fault}
-use Rattle.review_policy.specs.declared.fault.Fault.TheVariants.{NoMemory, Disk, Full, NotAnOffice}
+use Rattle.review_policy.specs.declared.fault.Fault.TheVariants.{NoMemory, Disk, NotAnOffice}
+use Rattle.database_head.specs.Extents.{database_extent, head_bytes, log_extent, most_bytes}
 use Rattle.command_host.specs.FailedCalls.{CallFailed}
 use Rattle.command_host.specs.Openings.{fault_of_opening, IsNoOffice, IsOpenedOffice}
 use Rattle.command_host.specs.declared.fault.CommandFault.{CommandFault}
 use Rattle.command_host.specs.declared.fault.CommandFault.TheVariants as fault
+use Rattle.reading_commands.specs.Places.{IsMissing}
+use Rattle.reading_commands.specs.declared.place.Place.{Place}
 
--- nothing is there
-abbrev pub IsMissing : Error → Type 0
-IsMissing e = error_kind e ≡ kind.NotFound
+-- how far a file is read whose first bytes these are: a log, or a database beside one
+abbrev pub extent_of : (log : Option (List ℕ)) (head : List ℕ) → ℕ
+extent_of None head = log_extent head
+extent_of (Some log) head = database_extent log head
 
--- the log beside a database
-abbrev pub log_path : List ℕ → List ℕ
-log_path path = path ++ codes "-wal"
-
--- a file was opened, of which this is known, and gave these bytes, all of its own where they are
--- known
-abbrev pub Gave : {F : Type 0} → (Result F Error → Type 0) → (F → Option (List ℕ)) → List ℕ
-    → Type 0
-Gave {F} Opened bytes_of bytes =
-    (file : F) × Opened (Ok file) × IfSome (bytes_of file) (λ all. bytes ≡ all)
+-- the front of a file that is read
+abbrev pub front_of : (log : Option (List ℕ)) (all : List ℕ) → List ℕ
+front_of log all = take (extent_of log (take head_bytes all)) all
 
 -- why a file that was opened gives no bytes
-abbrev pub IsOfReading : {F : Type 0} (Gives : F → F → Result ℕ Error → List ℕ → Type 0) → Fault
-    → Type 0
-IsOfReading Gives Disk = ∥ CallFailed Gives ∥₁
-IsOfReading Gives NoMemory = Unit {0}
+abbrev pub IsOfReading : {F : Type 0} (Gives : F → F → Result ℕ Error → List ℕ → Type 0)
+    → CommandFault → Type 0
+IsOfReading Gives (fault.Store Disk) = ∥ CallFailed Gives ∥₁
+IsOfReading Gives (fault.Store NoMemory) = Unit {0}
 IsOfReading Gives _ = ⊥
 
--- It gave none, for this: nothing is there; something is and can't be opened, or a call of read on it
--- failed; or there was no memory.
-abbrev pub GaveNone : {F : Type 0} → (Result F Error → Type 0)
-    → (Gives : F → F → Result ℕ Error → List ℕ → Type 0) → Fault → Type 0
-GaveNone Opened Gives NotAnOffice = (e : Error) × Opened (Err e) × IsMissing e
-GaveNone {F} Opened Gives Disk = ((e : Error) × Opened (Err e) × (error_kind e ≢ kind.NotFound))
-    ⊎ ((file : F) × Opened (Ok file) × ∥ CallFailed Gives ∥₁)
-GaveNone {F} Opened Gives NoMemory = (file : F) × Opened (Ok file)
-GaveNone Opened Gives Full = ⊥
+-- of a file of which this is known as it is opened, and whose bytes are these: a log, or a database
+-- beside one
+module _ {F : Type 0} (Opened : Result F Error → Type 0) where
+  -- it was opened and gave these bytes, the front of its own where they are known
+  abbrev pub Gave : (F → Option (List ℕ)) → Option (List ℕ) → List ℕ → Type 0
+  Gave bytes_of log bytes = (file : F) × Opened (Ok file)
+      × IfSome (bytes_of file) (λ all. bytes ≡ front_of log all)
+
+  -- It gave none, for this: nothing is there; something is and can't be opened, or a call of read on
+  -- it failed; there was no memory; or more of it was wanted than is read.
+  abbrev pub GaveNone : (Gives : F → F → Result ℕ Error → List ℕ → Type 0)
+      → (F → Option (List ℕ)) → Option (List ℕ) → CommandFault → Type 0
+  GaveNone Gives bytes_of log (fault.Store NotAnOffice) =
+      (e : Error) × Opened (Err e) × IsMissing e
+  GaveNone Gives bytes_of log (fault.Store Disk) =
+      ((e : Error) × Opened (Err e) × (error_kind e ≢ kind.NotFound))
+      ⊎ ((file : F) × Opened (Ok file) × ∥ CallFailed Gives ∥₁)
+  GaveNone Gives bytes_of log (fault.Store NoMemory) = (file : F) × Opened (Ok file)
+  GaveNone Gives bytes_of log fault.TooLarge = (file : F) × Opened (Ok file)
+      × IfSome (bytes_of file) (λ all. most_bytes < length (front_of log all))
+  GaveNone Gives bytes_of log _ = ⊥
+
+  -- the log beside a database gave these bytes; or none is there, and there are none
+  abbrev pub GaveLog : (F → Option (List ℕ)) → List ℕ → Type 0
+  GaveLog bytes_of bytes = Gave bytes_of None bytes
+      ⊎ (((e : Error) × Opened (Err e) × IsMissing e) × (bytes ≡ []))
 
 -- of files of which this is known as they are opened and read, and whose bytes are these
-module _ {F : Type 0} (Opens : List ℕ → Result F Error → Type 0)
-    (Gives : F → F → Result ℕ Error → List ℕ → Type 0) (bytes_of : F → Option (List ℕ))
-    (path : List ℕ) where
-  -- the log beside the database gave these bytes; or none is there, and there are none
-  abbrev pub GaveLog : List ℕ → Type 0
-  GaveLog bytes = Gave (Opens (log_path path)) bytes_of bytes
-      ⊎ (((e : Error) × Opens (log_path path) (Err e) × IsMissing e) × (bytes ≡ []))
+module _ {F : Type 0} (Opens : List ℕ → Result F Error → Type 0) where
+  -- the two files of a database that lies there gave these bytes
+  pub record HaveGiven (bytes_of : F → Option (List ℕ)) (place : Place) (log database : List ℕ)
+      : Type 0 where
+    pub from_log : GaveLog (Opens (string_bytes place.log)) bytes_of log
+    pub from_database : Gave (Opens (path_buf_bytes place.database)) bytes_of (Some log) database
 
-  -- a connection that was just opened has the database that the bytes of the two files hold
-  pub record IsCopyAt (conn : Held CopyStore) : Type 0 where
-    pub log : List ℕ
-    pub database : List ℕ
-    pub from_log : GaveLog log
-    pub from_database : Gave (Opens path) bytes_of database
-    pub copy : IsCopyOf log database conn
+  -- one of them gave none, for this; that no log is there is no cause
+  abbrev pub HaveGivenNone : (Gives : F → F → Result ℕ Error → List ℕ → Type 0)
+      → (F → Option (List ℕ)) → Place → CommandFault → Type 0
+  HaveGivenNone Gives bytes_of place why =
+      ((why ≢ fault.Store NotAnOffice)
+      × GaveNone (Opens (string_bytes place.log)) Gives bytes_of None why)
+      ⊎ ((log : List ℕ) × GaveLog (Opens (string_bytes place.log)) bytes_of log
+      × GaveNone (Opens (path_buf_bytes place.database)) Gives bytes_of (Some log) why)
 
-  -- the office in such a copy
+-- of two files that gave these bytes
+module _ (log database : List ℕ) where
+  -- the office in a copy of them
   abbrev pub IsCopiedOffice : Held CopyStore → Type 0
-  IsCopiedOffice = IsOpenedOffice over_copy IsCopyAt
+  IsCopiedOffice = IsOpenedOffice over_copy (IsCopyOf log database)
 
-  -- the two files gave bytes of which no database is opened in a copy, for this
-  pub record IsUncopied (why : Fault) : Type 0 where
-    pub log : List ℕ
-    pub database : List ℕ
-    pub from_log : GaveLog log
-    pub from_database : Gave (Opens path) bytes_of database
-    pub error : SqliteError
-    pub fails : FailsToCopy log database error
-    pub told : why ≡ fault_of_opening error
-
-  -- There is none, for this: one of the two files gave no bytes, where the log has no part in that
-  -- it isn't there; the bytes are no database; or there was no memory.
-  abbrev pub IsNoCopy : Fault → Type 0
-  IsNoCopy why = GaveNone (Opens path) Gives why
-      ⊎ ((why ≢ NotAnOffice) × GaveNone (Opens (log_path path)) Gives why)
-      ⊎ IsUncopied why ⊎ (why ≡ NoMemory)
+  -- there is no copy, for this
+  abbrev pub IsUncopied : Fault → Type 0
+  IsUncopied why = (error : SqliteError) × FailsToCopy log database error
+      × (why ≡ fault_of_opening error)
 
   -- there is no copy; or what is in it is no office of this schema
   abbrev pub IsNoCopiedOffice : CommandFault → Type 0
-  IsNoCopiedOffice (fault.Store why) = IsNoCopy why
+  IsNoCopiedOffice (fault.Store why) = IsUncopied why
   IsNoCopiedOffice (fault.Opening why) =
-      (was new : Held CopyStore) × IsCopyAt was × IsNoOffice over_copy was new why
+      (was new : Held CopyStore) × IsCopyOf log database was × IsNoOffice over_copy was new why
   IsNoCopiedOffice _ = ⊥

@@ -1,6 +1,7 @@
+pub mod Places
 pub mod Copied
+pub mod Moments
 pub mod Documents
 pub mod DocumentFailures
-pub mod KeptSeals
 pub mod Verifications
 pub mod Reports

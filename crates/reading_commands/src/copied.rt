@@ -1,104 +1,171 @@
-//! An office in a copy, in memory, of the files at a path.
+//! The bytes of the two files of a database, and the office in a copy of them in memory.
 
-ghost use Rattle.std.specs.Prelude.{◌≡◌, IfErr, IfOk, IfSome};
+ghost use Rattle.std.specs.Prelude.{◌↔◌, ◌≡◌, ◌≢◌, ◌+◌, ◌≤◌, None, IfErr, IfOk, IfSome, IsTrue};
+ghost use Rattle.std.specs.Prelude.{option_copied};
+ghost use Rattle.std.specs.Path.{path_buf_bytes};
 ghost use Rattle.sqlite.specs.Held.{state};
-ghost use Rattle.memory_database.specs.Copies.{over_copy};
+ghost use Rattle.memory_database.specs.Copies.{over_copy, IsCopyOf};
 ghost use Rattle.office_store.specs.Shown.{IsIdle};
-ghost use Rattle.reading_commands.specs.Copied.{Gave, GaveLog, GaveNone, IsCopiedOffice};
-ghost use Rattle.reading_commands.specs.Copied.{IsCopyAt, IsNoCopiedOffice, IsNoCopy};
-ghost use Rattle.reading_commands.specs.Copied.{IsOfReading};
+ghost use Rattle.database_head.specs.Extents.{head_bytes, most_bytes};
+ghost use Rattle.reading_commands.specs.Copied.{extent_of, front_of, Gave, GaveLog, GaveNone};
+ghost use Rattle.reading_commands.specs.Copied.{HaveGiven, HaveGivenNone, IsCopiedOffice};
+ghost use Rattle.reading_commands.specs.Copied.{IsNoCopiedOffice, IsOfReading, IsUncopied};
 
+use crate::place::Place;
 use command_host::{CommandFault, Noted, PassFiles, fault_of_opening};
+use database_head::{HEAD, MOST, database_extent, log_extent};
 use memory_database::{CopyStore, open_copy};
 use office_desk::Office;
 use review_policy::Fault;
 use sqlite::Connection;
 use std::alloc::Global;
 use std::io::{ErrorKind, Read};
+use streams::{Counted, read_up_to};
 
-// All bytes of a file that was opened.
-fn bytes_in<F: PassFiles>(alloc: Global, file: &mut Noted<'_, F>) -> Result<Vec<u8>, Fault>
-    ensures bytes { IfOk result (λ bytes.
-        IfSome (F.File.remaining file.old.file) (λ all. bytes.items ≡ all)) }
-    ensures fault { IfErr result (IsOfReading F.gives) }
+// The most calls of read for the head of a file.
+const MOST_READS: u64 = 1 << 62;
+
+/// The bytes that the two files of a database gave.
+#[derive(Drop)]
+pub(crate) struct Given {
+    pub log: Vec<u8>,
+    pub database: Vec<u8>,
+}
+
+// How far a file is read whose first bytes these are: a log, or a database beside one.
+fn extent_of(log: Option<&[u8]>, head: &[u8]) -> u64
+    ensures value { result ≡ extent_of (option_copied log.entry) head.now }
+    ensures least { head_bytes ≤ result }
+    ensures most { result ≤ most_bytes + 1 }
 {
-    let mut bytes = Vec::new(alloc);
-    match file.read_to_end(&mut bytes) {
-        Ok(_) => Ok(bytes),
-        Err(_) if file.has_failed() => Err(Fault::Disk),
-        Err(_) => Err(Fault::NoMemory),
+    match log {
+        Some(log) => database_extent(log, head),
+        None => log_extent(head),
     }
 }
 
-// The bytes of the file at a path.
-fn bytes_at<F: PassFiles>(files: &F, alloc: Global, path: &str) -> Result<Vec<u8>, Fault>
-    ensures bytes { IfOk result (λ bytes.
-        Gave (F.opens files.now path.now) F.File.remaining bytes.items) }
-    ensures none { IfErr result (GaveNone (F.opens files.now path.now) F.gives) }
+// Why a file gave no bytes.
+fn unread<F: PassFiles>(file: &Noted<'_, F>) -> CommandFault
+    ensures { IsOfReading F.gives result }
 {
-    match files.open_at(path) {
-        Ok(file) => bytes_in(alloc, &mut Noted::new(files, file)),
-        Err(error) if error.kind() == ErrorKind::NotFound => Err(Fault::NotAnOffice),
-        Err(_) => Err(Fault::Disk),
+    if file.has_failed() {
+        CommandFault::Store(Fault::Disk)
+    } else {
+        CommandFault::Store(Fault::NoMemory)
     }
+}
+
+// The front of a file that was opened, as far as it says itself: a log, or a database beside one.
+fn front_in<F: PassFiles>(
+    alloc: Global,
+    file: Noted<'_, F>,
+    log: Option<&[u8]>,
+) -> Result<Vec<u8>, CommandFault>
+    ensures bytes { IfOk result (λ bytes. IfSome (F.File.remaining file.entry.file)
+        (λ all. bytes.items ≡ front_of (option_copied log.entry) all)) }
+    ensures fault { IfErr result (IsOfReading F.gives) }
+{
+    let mut counted = Counted::new(file);
+    let mut bytes = match read_up_to(alloc, &mut counted, HEAD, MOST_READS) {
+        Ok(bytes) => bytes,
+        Err(_) => return Err(unread(&counted.into_inner())),
+    };
+    let rest = extent_of(log, &bytes) - HEAD as u64;
+    let mut file = counted.into_inner().take(rest);
+    match file.read_to_end(&mut bytes) {
+        Ok(_) => Ok(bytes),
+        Err(_) => Err(unread(&file.into_inner())),
+    }
+}
+
+// The same of the file at a path, where it isn't longer than what is read of one.
+fn front_at<F: PassFiles>(
+    files: &F,
+    alloc: Global,
+    path: &str,
+    log: Option<&[u8]>,
+) -> Result<Vec<u8>, CommandFault>
+    ensures bytes { IfOk result (λ bytes. Gave (F.opens files.now path.now) F.File.remaining
+        (option_copied log.entry) bytes.items) }
+    ensures none { IfErr result (GaveNone (F.opens files.now path.now) F.gives F.File.remaining
+        (option_copied log.entry)) }
+{
+    let file = match files.open_at(path) {
+        Ok(file) => file,
+        Err(error) if error.kind() == ErrorKind::NotFound => {
+            return Err(CommandFault::Store(Fault::NotAnOffice));
+        }
+        Err(_) => return Err(CommandFault::Store(Fault::Disk)),
+    };
+    let bytes = front_in(alloc, Noted::new(files, file), log)?;
+    if bytes.len() > MOST {
+        return Err(CommandFault::TooLarge);
+    }
+    Ok(bytes)
+}
+
+// Whether it is told that nothing is there.
+fn is_missing(fault: &CommandFault) -> bool
+    ensures { IsTrue result ↔ (fault.now ≡ CommandFault.Store Fault.NotAnOffice) }
+{
+    matches!(fault, CommandFault::Store(Fault::NotAnOffice))
 }
 
 // The bytes of the log beside a database; none where no log is there.
-fn log_at<F: PassFiles>(files: &F, alloc: Global, path: &str) -> Result<Vec<u8>, Fault>
+fn log_at<F: PassFiles>(files: &F, alloc: Global, path: &str) -> Result<Vec<u8>, CommandFault>
     ensures bytes { IfOk result (λ bytes.
-        GaveLog (F.opens files.now) F.gives F.File.remaining path.now bytes.items) }
-    ensures none { IfErr result (IsNoCopy (F.opens files.now) F.gives F.File.remaining path.now) }
+        GaveLog (F.opens files.now path.now) F.File.remaining bytes.items) }
+    ensures none { IfErr result (GaveNone (F.opens files.now path.now) F.gives F.File.remaining None) }
+    ensures there { IfErr result (λ why. why ≢ CommandFault.Store Fault.NotAnOffice) }
 {
-    let Ok(log) = format!(in alloc; "{path}-wal") else {
-        return Err(Fault::NoMemory);
-    };
-    match bytes_at(files, alloc, log.as_str()) {
+    match front_at(files, alloc, path, None) {
         Ok(bytes) => Ok(bytes),
-        Err(fault) => match fault {
-            Fault::NotAnOffice => Ok(Vec::new(alloc)),
-            _ => Err(fault),
-        },
+        Err(fault) if is_missing(&fault) => Ok(Vec::new(alloc)),
+        Err(fault) => Err(fault),
     }
 }
 
-// The database in a copy of the files at a path.
-fn copy_at<F: PassFiles>(
-    files: &F,
-    alloc: Global,
-    path: &str,
-) -> Result<Connection<CopyStore>, Fault>
-    ensures copy { IfOk result (IsCopyAt (F.opens files.now) F.gives F.File.remaining path.now) }
-    ensures none { IfErr result (IsNoCopy (F.opens files.now) F.gives F.File.remaining path.now) }
-{
-    let database = bytes_at(files, alloc, path)?;
-    let log = log_at(files, alloc, path)?;
-    match open_copy(alloc, log, database) {
-        Ok(conn) => Ok(conn),
-        Err(error) => Err(fault_of_opening(error)),
-    }
-}
-
-/// The office in a copy of the files at a path. Nothing is written to them, and no lock is asked
-/// for: who may only read them can do this, also while another command has them open.
+/// The bytes of the two files of a database: of each its front, as far as it says itself. Nothing is
+/// written to them, and no lock is asked for: who may only read them can do this, also while another
+/// command has them open.
 ///
 /// # Errors
 ///
-/// `Store` where there is no copy: `NotAnOffice` where nothing is at the path, or what is there is no
-/// database, `Disk` where a file can't be read, or has a database that is damaged. `Opening` where
-/// what is in it is no office.
-pub(crate) fn office_in_copy<F: PassFiles>(
+/// `Store`: `NotAnOffice` where no database is there, and `Disk` where a file can't be read; `TooLarge`
+/// where more of one is wanted than is read.
+pub(crate) fn bytes_at<F: PassFiles>(
     files: &F,
     alloc: Global,
-    path: &str,
-) -> Result<Connection<CopyStore>, CommandFault>
-    ensures office { IfOk result (IsCopiedOffice (F.opens files.now) F.gives F.File.remaining path.now) }
-    ensures idle { IfOk result (λ conn. IsIdle (state over_copy conn)) }
+    place: &Place,
+) -> Result<Given, CommandFault>
+    ensures given { IfOk result (λ given. HaveGiven (F.opens files.now) F.File.remaining place.now
+        given.log.items given.database.items) }
     ensures none { IfErr result
-        (IsNoCopiedOffice (F.opens files.now) F.gives F.File.remaining path.now) }
+        (HaveGivenNone (F.opens files.now) F.gives F.File.remaining place.now) }
 {
-    let conn = match copy_at(files, alloc, path) {
+    let log = log_at(files, alloc, place.log.as_str())?;
+    let database = front_at(files, alloc, place.database.as_str(), Some(&log))?;
+    Ok(Given { log, database })
+}
+
+/// The office in a copy of the two files of a database that gave these bytes.
+///
+/// # Errors
+///
+/// `Store` where there is no copy: `NotAnOffice` where the bytes are no database, `Disk` where they
+/// have one that is damaged. `Opening` where what is in it is no office.
+pub(crate) fn office_in_copy(
+    alloc: Global,
+    given: Given,
+) -> Result<Connection<CopyStore>, CommandFault>
+    ensures office { IfOk result (IsCopiedOffice given.log.items given.database.items) }
+    ensures idle { IfOk result (λ conn. IsIdle (state over_copy conn)) }
+    ensures none { IfErr result (IsNoCopiedOffice given.log.items given.database.items) }
+{
+    let Given { log, database } = given;
+    let conn = match open_copy(alloc, log, database) {
         Ok(conn) => conn,
-        Err(fault) => return Err(CommandFault::Store(fault)),
+        Err(error) => return Err(CommandFault::Store(fault_of_opening(error))),
     };
     match Office::over(conn) {
         Ok(office) => Ok(office.into_connection()),

@@ -7,11 +7,13 @@ mod copied;
 mod documents;
 mod evidence;
 mod history;
-mod kept_seal;
+mod moment;
 mod name;
+mod place;
 mod verify;
 
 pub use documents::{run_check, run_compare, run_execve};
 pub use evidence::run_evidence;
 pub use history::run_history;
+pub use moment::Moment;
 pub use verify::run_verify;

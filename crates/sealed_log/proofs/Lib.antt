@@ -7,4 +7,3 @@ pub mod LogFacts
 pub mod NameFacts
 mod PieceFacts
 mod InputFacts
-mod AtFacts

@@ -1,13 +1,14 @@
 -- What a log has.
-use Rattle.std.proofs.Common.{◌≡◌, ℕ, ◌+◌, List, [], ◌∷◌, ◌++◌, All, length, sym, ap, ◌∙◌, arith, length-append, ◌<◌, ◌-◌, ◌^◌, min}
-use Rattle.std.proofs.lemmas.List.{length-take-le}
-use Rattle.std.proofs.lemmas.List.Elements.{All-push}
-use Rattle.sealed_log.specs.Sealed.{IsBody, longest, no_seal, seal_on, sealed_line, sealed_text, seal_of}
+use Rattle.std.proofs.Common.{◌≡◌, ℕ, ◌+◌, List, [], ◌∷◌, ◌++◌, All, length, refl, sym, ap, ◌∙◌, arith, length-append, ◌<◌, ◌-◌, ◌^◌, min}
+use Rattle.std.proofs.lemmas.List.{append-nil, length-take-le}
+use Rattle.std.proofs.lemmas.List.Elements.{All-append, All-cons, All-nil, All-push}
+use Rattle.sealed_log.specs.Sealed.{IsBody, last_seal, longest, no_seal, seal_on, sealed_line, sealed_lines, sealed_text, sealed_with, seal_of, wrapped}
 use Rattle.sealed_log.specs.Told.{HasTail, HasMore, told}
 use Rattle.sealed_log.specs.Whole.{IsWhole}
+use Rattle.sealed_log.specs.Log.{AreLines}
 use Rattle.sealed_log.specs.Reading.{IsThrough}
 use Rattle.sealed_log.specs.declared.through.Through.{Through}
-use Rattle.sealed_log.proofs.SealFacts.{sealed_lines-push, last_seal-push}
+use Rattle.sealed_log.proofs.SealFacts.{last_seal-append, last_seal-push, length-sealed_line, sealed_lines-append, sealed_lines-push}
 use Rattle.sealed_log.proofs.ToldFacts.{told_begins, told_text}
 
 -- a file has a tail behind what it tells
@@ -40,47 +41,88 @@ no_more file found is none more =
     let whole = is.len in
     none (omega (arith, long, whole, more))
 
--- ---- one body more
+-- ---- one body more, and such that go before it
 
-pub text_more : (bodies : List (List ℕ)) (body : List ℕ) → sealed_text bodies ++ sealed_line (seal_of bodies) body ≡ sealed_text (bodies ++ body ∷ [])
-text_more bodies body = sym (sealed_lines-push no_seal bodies body)
+pub text_more : (bodies settling : List (List ℕ)) (body : List ℕ)
+    → sealed_text bodies ++ sealed_with (seal_of bodies) settling body ≡ sealed_text (bodies ++ (settling ++ body ∷ []))
+text_more bodies settling body =
+    sym (sealed_lines-append no_seal bodies (settling ++ body ∷ []) ∙ ap (λ (l : List ℕ). sealed_text bodies ++ l) (sealed_lines-push (seal_of bodies) settling body))
 
-pub told_more : (bodies : List (List ℕ)) (body file : List ℕ) → All IsBody bodies → IsBody body
-    → file ≡ sealed_text bodies ++ sealed_line (seal_of bodies) body → told file ≡ bodies ++ body ∷ []
-told_more bodies body file are is_body has =
-    ap told (has ∙ text_more bodies body) ∙ told_text (bodies ++ body ∷ []) (All-push IsBody bodies body are is_body)
+seal_more : (bodies settling : List (List ℕ)) (body : List ℕ) → seal_of (bodies ++ (settling ++ body ∷ [])) ≡ seal_on (last_seal (seal_of bodies) settling) body
+seal_more bodies settling body = last_seal-append no_seal bodies (settling ++ body ∷ []) ∙ last_seal-push (seal_of bodies) settling body
 
--- a file of which nothing stands behind what it tells
-pub told_whole : (old new body prior : List ℕ) (end : ℕ) → IsWhole old end prior → IsBody body → new ≡ old ++ sealed_line prior body
-    → told new ≡ told old ++ body ∷ []
-told_whole old new body prior end whole is_body has =
-    told_more (told old) body new (all_told old) is_body
-    (has ∙ ap (λ (l : List ℕ). l ++ sealed_line prior body) whole.text
-    ∙ ap (λ (s : List ℕ). sealed_text (told old) ++ sealed_line s body) whole.seal)
+length-settling : (settling : List (List ℕ)) (body : List ℕ) → length (settling ++ body ∷ []) ≡ length settling + 1
+length-settling settling body = length-append settling (body ∷ [])
 
--- one that ends here, of which the count may be the greatest
-pub whole_more : (old new body prior seal : List ℕ) (end more : ℕ) → IsWhole old end prior → IsBody body
-    → new ≡ old ++ sealed_line prior body → more ≡ min (end + length (sealed_line prior body)) (2 ^ 64 - 1) → seal ≡ seal_on prior body
-    → IsWhole new more seal
-whole_more old new body prior seal end more whole is_body has counted sealed =
-    let bodies = told old in
-    let line = sealed_line prior body in
-    let file : new ≡ sealed_text bodies ++ sealed_line (seal_of bodies) body =
-    has ∙ ap (λ (l : List ℕ). l ++ line) whole.text ∙ ap (λ (s : List ℕ). sealed_text bodies ++ sealed_line s body) whole.seal in
-    let tells : told new ≡ bodies ++ body ∷ [] = told_whole old new body prior end whole is_body has in
+-- the line of a body alone
+pub one_is : (prior body text last : List ℕ) → IsBody body → last ≡ seal_on prior body → text ≡ wrapped body last ++ 10 ∷ [] → AreLines prior [] body text last 1
+one_is prior body text last is_body sealed is = record {
+  are = All-nil IsBody;
+  is_body = is_body;
+  is = is ∙ ap (λ (s : List ℕ). wrapped body s ++ 10 ∷ []) sealed;
+  sealed = sealed;
+  counted = refl;
+}
+
+-- and those of two
+pub both_are : (prior first between body text last : List ℕ) → IsBody first → IsBody body → between ≡ seal_on prior first → last ≡ seal_on between body
+    → text ≡ (wrapped first between ++ 10 ∷ []) ++ (wrapped body last ++ 10 ∷ []) → AreLines prior (first ∷ []) body text last 2
+both_are prior first between body text last is_first is_body sealed_first sealed is =
+    let behind : last ≡ seal_on (seal_on prior first) body = sealed ∙ ap (λ (s : List ℕ). seal_on s body) sealed_first in
     record {
-      text = file ∙ text_more bodies body ∙ ap sealed_text (sym tells);
-      end =
-          let size = ap length has ∙ length-append old line in
-          let was = whole.end in
-          omega (arith, size, was, counted);
-      seal = sealed ∙ ap (λ (s : List ℕ). seal_on s body) whole.seal ∙ sym (last_seal-push no_seal bodies body) ∙ ap seal_of (sym tells);
+      are = All-cons IsBody first [] is_first (All-nil IsBody);
+      is_body = is_body;
+      is = is ∙ ap (λ (s : List ℕ). (wrapped first s ++ 10 ∷ []) ++ (wrapped body last ++ 10 ∷ [])) sealed_first
+          ∙ ap (λ (s : List ℕ). sealed_line prior first ++ (wrapped body s ++ 10 ∷ [])) behind
+          ∙ ap (λ (l : List ℕ). l ++ sealed_line (seal_on prior first) body) (sym (append-nil (sealed_line prior first)));
+      sealed = behind;
+      counted = refl;
     }
 
+-- a line is there
+pub has_bytes : (prior : List ℕ) (settling : List (List ℕ)) (body text seal : List ℕ) (lines : ℕ) → AreLines prior settling body text seal lines → 0 < length text
+has_bytes prior settling body text seal lines are =
+    omega (
+      arith,
+      ap length are.is,
+      length-append (sealed_lines prior settling) (sealed_line (last_seal prior settling) body),
+      length-sealed_line (last_seal prior settling) body,
+    )
+
+module _ (old new prior : List ℕ) (settling : List (List ℕ)) (body text seal : List ℕ) (end lines more : ℕ) (whole : IsWhole old end prior lines)
+    (are : AreLines prior settling body text seal more) (has : new ≡ old ++ text) where
+  file_more : new ≡ sealed_text (told old) ++ sealed_with (seal_of (told old)) settling body
+  file_more =
+      has ∙ ap (λ (l : List ℕ). l ++ text) whole.text ∙ ap (λ (l : List ℕ). sealed_text (told old) ++ l) are.is
+      ∙ ap (λ (s : List ℕ). sealed_text (told old) ++ sealed_with s settling body) whole.seal
+
+  -- a file of which nothing stands behind what it tells
+  pub told_whole : told new ≡ told old ++ (settling ++ body ∷ [])
+  told_whole =
+      let all = told old ++ (settling ++ body ∷ []) in
+      ap told (file_more ∙ text_more (told old) settling body)
+      ∙ told_text all (All-append IsBody (told old) (settling ++ body ∷ []) (all_told old) (All-push IsBody settling body are.are are.is_body))
+
+  -- one that ends here, of which the count may be the greatest
+  pub whole_more : (here all : ℕ) → here ≡ min (end + length text) (2 ^ 64 - 1) → all ≡ min (lines + more) (2 ^ 64 - 1) → IsWhole new here seal all
+  whole_more here all counted line_counted = record {
+    text = file_more ∙ text_more (told old) settling body ∙ ap sealed_text (sym told_whole);
+    end =
+        let size = ap length has ∙ length-append old text in
+        let was = whole.end in
+        omega (arith, size, was, counted);
+    seal = are.sealed ∙ ap (λ (s : List ℕ). seal_on (last_seal s settling) body) whole.seal ∙ sym (seal_more (told old) settling body) ∙ ap seal_of (sym told_whole);
+    counted =
+        let size = ap length told_whole ∙ length-append (told old) (settling ++ body ∷ []) in
+        let was = whole.counted in
+        let number = are.counted in
+        omega (arith, size, length-settling settling body, was, number, line_counted);
+  }
+
 -- a file that was cut where what it tells ends
-pub whole_cut : (old new seal : List ℕ) (end : ℕ) (found : Through) → IsThrough old found → new ≡ sealed_text (told old) → end ≡ found.at → seal ≡ found.seal
-    → IsWhole new end seal
-whole_cut old new seal end found is has here sealed =
+pub whole_cut : (old new seal : List ℕ) (end lines : ℕ) (found : Through) → IsThrough old found → new ≡ sealed_text (told old) → end ≡ found.at → seal ≡ found.seal
+    → lines ≡ found.lines → IsWhole new end seal lines
+whole_cut old new seal end lines found is has here sealed counted =
     let bodies = told old in
     let tells : told new ≡ bodies = ap told has ∙ told_text bodies (all_told old) in
     record {
@@ -92,4 +134,9 @@ whole_cut old new seal end found is has here sealed =
           let small = found.small in
           omega (arith, size, long, within, small, here);
       seal = sealed ∙ is.seal ∙ ap seal_of (sym tells);
+      counted =
+          let size = ap length tells in
+          let all = is.lines in
+          let low = found.counted in
+          omega (arith, size, all, counted, low);
     }

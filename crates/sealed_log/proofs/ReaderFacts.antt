@@ -1,11 +1,15 @@
 -- What a reader finds.
-use Rattle.std.proofs.Common.{◌≡◌, ℕ, ◌+◌, ◌-◌, false, List, [], ◌∷◌, ◌++◌, length, take, drop, sym, ap, ap₂, subst, refl, ◌∙◌, arith, append_assoc, length-drop}
+use Rattle.std.proofs.Common.{◌≡◌, ℕ, ◌+◌, ◌-◌, false, List, [], ◌∷◌, ◌++◌, length, take, drop, Option, Some, None, option_map, sym, ap, ap₂, subst, refl, ◌∙◌, arith, append_assoc, length-drop}
+use Rattle.std.specs.Prelude.{Vec}
+use Rattle.std.specs.declared.alloc.Global.{Global}
 use Rattle.std.proofs.lemmas.List.{append-nil, length-take-le, take_at}
 use Rattle.std.proofs.Math.Seq.{take-add}
 use Rattle.sealed_log.specs.Sealed.{IsBody, seal_on, no_seal, sealed_line, sealed_lines, last_seal}
 use Rattle.sealed_log.specs.Told.{IsSeal, IsUnended, told, body_in, is_sealed, told_behind}
 use Rattle.sealed_log.specs.Lines.{IsLine}
-use Rattle.sealed_log.specs.Reading.{IsStep, IsSoFar, IsThrough, last_two, told_at}
+use Rattle.sealed_log.specs.Reading.{IsStep, IsSoFar, IsThrough, Keeps, KeepsSoFar, told_at}
+use Rattle.sealed_log.specs.Sorts.{kept_from, settled_more}
+use Rattle.sealed_log.specs.declared.sorts.Sort.{Sort}
 use Rattle.sealed_log.specs.declared.through.Through.{Through}
 use Rattle.sealed_log.specs.declared.reader.Reader.{Reader}
 use Rattle.sealed_log.proofs.LineFacts.{line_text, line_told}
@@ -38,19 +42,25 @@ stopped bytes line reader found is =
 pub ended : (bytes : List ℕ) (reader : Reader) → IsUnended (drop reader.at bytes) → told_at reader bytes ≡ []
 ended bytes reader is = told_nowhere reader.seal (drop reader.at bytes) is
 
-pub begun : (bytes : List ℕ) (reader : Reader) → reader.at ≡ 0 → reader.seal ≡ no_seal → IsSoFar bytes reader [] []
+-- before the first line a reader has all before it
+told_here : (bytes : List ℕ) (reader : Reader) → reader.at ≡ 0 → reader.seal ≡ no_seal → told bytes ≡ told_at reader bytes
+told_here bytes reader at seal = ap (λ s. told_behind s bytes) (sym seal) ∙ ap (λ n. told_behind reader.seal (drop n bytes)) (sym at)
+
+pub begun : (bytes : List ℕ) (reader : Reader) → reader.at ≡ 0 → reader.seal ≡ no_seal → IsSoFar bytes reader 0
 begun bytes reader at seal =
-    let here : told bytes ≡ told_at reader bytes = ap (λ s. told_behind s bytes) (sym seal) ∙ ap (λ n. told_behind reader.seal (drop n bytes)) (sym at) in
     record {
       text = ap (λ s. sealed_lines s (told_behind s bytes)) (sym seal)
           ∙ ap (λ n. take n bytes ++ sealed_lines reader.seal (told_behind reader.seal (drop n bytes))) (sym at);
       seal = ap (λ s. last_seal s (told_behind s bytes)) (sym seal)
           ∙ ap (λ n. last_seal reader.seal (told_behind reader.seal (drop n bytes))) (sym at);
-      two = ap (last_two [] []) here;
+      counted = let size = ap length (told_here bytes reader at seal) in omega (arith, size);
     }
 
-pub gone_on : (bytes before last body : List ℕ) (old new : Reader) → IsSoFar bytes old before last → IsStep bytes old new body → IsSoFar bytes new last body
-gone_on bytes before last body old new so_far step =
+pub kept_begun : (sort : List ℕ → Sort) (bytes : List ℕ) (reader : Reader) → reader.at ≡ 0 → reader.seal ≡ no_seal → KeepsSoFar sort bytes reader None None
+kept_begun sort bytes reader at seal = ap (kept_from sort None None) (told_here bytes reader at seal)
+
+pub gone_on : (bytes body : List ℕ) (lines : ℕ) (old new : Reader) → IsSoFar bytes old lines → IsStep bytes old new body → IsSoFar bytes new (lines + 1)
+gone_on bytes body lines old new so_far step =
     let line = sealed_line old.seal body in
     let more = told_at new bytes in
     let front : take new.at bytes ≡ take old.at bytes ++ line =
@@ -65,17 +75,28 @@ gone_on bytes before last body old new so_far step =
       seal = so_far.seal
           ∙ ap (λ (l : List (List ℕ)). last_seal old.seal l) step.told
           ∙ ap (λ (s : List ℕ). last_seal s more) (sym step.seal);
-      two = so_far.two ∙ ap (last_two before last) step.told;
+      counted = let so = so_far.counted in let told = ap length step.told in omega (arith, so, told);
     }
 
-pub through : (bytes before last : List ℕ) (reader : Reader) (found : Through) → IsSoFar bytes reader before last → reader.len ≡ length bytes
-    → told_at reader bytes ≡ [] → found.before.items ≡ before → found.last.items ≡ last → found.len ≡ reader.len → found.at ≡ reader.at → found.seal ≡ reader.seal
+pub kept_on : (sort : List ℕ → Sort) (bytes body : List ℕ) (settled last : Option (List ℕ)) (old new : Reader) → KeepsSoFar sort bytes old settled last → IsStep bytes old new body
+    → KeepsSoFar sort bytes new (settled_more sort settled last body) (Some body)
+kept_on sort bytes body settled last old new so_far step = so_far ∙ ap (kept_from sort settled last) step.told
+
+pub through : (bytes : List ℕ) (lines : ℕ) (reader : Reader) (found : Through) → IsSoFar bytes reader lines → reader.len ≡ length bytes
+    → told_at reader bytes ≡ [] → found.len ≡ reader.len → found.at ≡ reader.at → found.seal ≡ reader.seal → found.lines ≡ lines
     → IsThrough bytes found
-through bytes before last reader found so_far len none same_before same_last same_len same_at same_seal = record {
+through bytes lines reader found so_far len none same_len same_at same_seal same_lines = record {
   text = so_far.text ∙ ap (λ (l : List (List ℕ)). take reader.at bytes ++ sealed_lines reader.seal l) none ∙ append-nil (take reader.at bytes)
       ∙ ap (λ n. take n bytes) (sym same_at);
   seal = same_seal ∙ sym (so_far.seal ∙ ap (λ (l : List (List ℕ)). last_seal reader.seal l) none);
   len = same_len ∙ len;
   within = let in_file = reader.within in omega (arith, in_file, len, same_at);
-  two = so_far.two ∙ ap (last_two before last) none ∙ ap₂ (λ (a b : List ℕ). (a, b)) (sym same_before) (sym same_last);
+  lines = let so = so_far.counted in let told = ap length none in omega (arith, so, told, same_lines);
 }
+
+pub kept_through : (sort : List ℕ → Sort) (bytes : List ℕ) (settled last : Option (Vec ℕ Global)) (reader : Reader) (found : Through)
+    → KeepsSoFar sort bytes reader (option_map (λ v. v.items) settled) (option_map (λ v. v.items) last) → told_at reader bytes ≡ []
+    → found.settled ≡ settled → found.last ≡ last → Keeps sort bytes found
+kept_through sort bytes settled last reader found so_far none same_settled same_last =
+    so_far ∙ ap (kept_from sort (option_map (λ v. v.items) settled) (option_map (λ v. v.items) last)) none
+    ∙ ap₂ (λ (a b : Option (List ℕ)). (a, b)) (ap (option_map (λ v. v.items)) (sym same_settled)) (ap (option_map (λ v. v.items)) (sym same_last))

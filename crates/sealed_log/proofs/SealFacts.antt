@@ -109,6 +109,16 @@ pub last_seal-push : (prior : List ℕ) (bodies : List (List ℕ)) (body : List 
 last_seal-push prior [] body = refl
 last_seal-push prior (first ∷ more) body = last_seal-push (seal_on prior first) more body
 
+pub sealed_lines-append : (prior : List ℕ) (a b : List (List ℕ)) → sealed_lines prior (a ++ b) ≡ sealed_lines prior a ++ sealed_lines (last_seal prior a) b
+sealed_lines-append prior [] b = refl
+sealed_lines-append prior (first ∷ more) b =
+    ap (λ (l : List ℕ). sealed_line prior first ++ l) (sealed_lines-append (seal_on prior first) more b)
+    ∙ sym (append_assoc (sealed_line prior first) (sealed_lines (seal_on prior first) more) (sealed_lines (last_seal (seal_on prior first) more) b))
+
+pub last_seal-append : (prior : List ℕ) (a b : List (List ℕ)) → last_seal prior (a ++ b) ≡ last_seal (last_seal prior a) b
+last_seal-append prior [] b = refl
+last_seal-append prior (first ∷ more) b = last_seal-append (seal_on prior first) more b
+
 pub length-last_seal : (prior : List ℕ) (bodies : List (List ℕ)) → length prior ≡ 64 → length (last_seal prior bodies) ≡ 64
 length-last_seal prior [] whole = whole
 length-last_seal prior (body ∷ more) whole = length-last_seal (seal_on prior body) more (length-seal_on prior body)

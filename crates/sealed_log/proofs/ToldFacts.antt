@@ -6,9 +6,9 @@ use Rattle.std.specs.Prelude.{nat_lt, bytes_eq}
 use Rattle.std.proofs.lemmas.Bool.{and_parts, and_from, cases_eq, cases_Bool}
 use Rattle.std.proofs.lemmas.Slice.Eq.{bytes_eq-Decides}
 use Rattle.streams.specs.Lines.{NoFeed}
-use Rattle.sealed_log.specs.Sealed.{IsBody, longest, before_body, before_seal, behind_seal, wrapped, seal_on, no_seal, sealed_line, sealed_lines, last_seal, sealed_text, seal_of}
+use Rattle.sealed_log.specs.Sealed.{IsBody, longest, before_body, before_seal, behind_seal, wrapped, seal_on, no_seal, sealed_line, sealed_lines, sealed_with, last_seal, sealed_text, seal_of}
 use Rattle.sealed_log.specs.Told.{body_in, is_sealed, told_from, told_behind, told, IsUnended, HasTail, HasMore, HasNoOther, HasNone}
-use Rattle.sealed_log.proofs.SealFacts.{length-before_body, length-wrapped, NoFeed-wrapped, length-seal_on, length-sealed_line}
+use Rattle.sealed_log.proofs.SealFacts.{length-before_body, length-wrapped, NoFeed-wrapped, length-seal_on, length-sealed_line, last_seal-push, sealed_lines-push}
 
 -- a byte that is no line feed goes on with its line
 told_byte : (prior line : List ℕ) (byte : ℕ) (bytes : List ℕ) → byte ≢ 10 → told_from prior line (byte ∷ bytes) ≡ told_from prior (line ++ byte ∷ []) bytes
@@ -269,6 +269,43 @@ told_after_crash bodies body file are left no_other =
           (next.tells ∙ ap (λ (l : List ℕ). next.body ∷ told_behind (seal_on seal next.body) l) ended
           ∙ ap (λ (l : List (List ℕ)). next.body ∷ l) (told_none (seal_on seal next.body) []) ∙ ap (λ (b : List ℕ). b ∷ []) same))
     ]
+
+-- a line that goes before others isn't told, or it is there, and behind it what is left of them
+pub told_or_behind : (bodies settling : List (List ℕ)) (first body file : List ℕ) → All IsBody bodies
+    → HasTail (sealed_text bodies) (length (sealed_with (seal_of bodies) (first ∷ settling) body)) file → HasNoOther bodies first file
+    → (told file ≡ bodies) ⊎ HasTail (sealed_text (bodies ++ first ∷ [])) (length (sealed_with (seal_of (bodies ++ first ∷ [])) settling body)) file
+told_or_behind bodies settling first body file are left no_other =
+    let seal = seal_of bodies in
+    let tail = left.tail in
+    let line = sealed_line seal first in
+    elim (told_next seal tail) [
+      | inl none ↦ inl (ap told left.is ∙ told_tail bodies tail are ∙ ap (λ (l : List (List ℕ)). bodies ++ l) none ∙ append-nil bodies)
+      | inr next ↦
+          let same : next.body ≡ first = no_other next.body next.rest next.is_body (left.is ∙ ap (λ (l : List ℕ). sealed_text bodies ++ l) next.is) in
+          let parts : tail ≡ line ++ next.rest = next.is ∙ ap (λ (b : List ℕ). sealed_line seal b ++ next.rest) same in
+          let rest = sealed_with (seal_on seal first) settling body in
+          let whole : sealed_with seal (first ∷ settling) body ≡ line ++ rest =
+          append_assoc line (sealed_lines (seal_on seal first) settling) (sealed_line (last_seal (seal_on seal first) settling) body) in
+          let seals : seal_of (bodies ++ first ∷ []) ≡ seal_on seal first = last_seal-push no_seal bodies first in
+          let short : length next.rest ≤ length rest =
+          omega (arith, left.short, ap length parts, length-append line next.rest, ap length whole, length-append line rest) in
+          inr (record {
+            tail = next.rest;
+            short = subst (λ (s : List ℕ). length next.rest ≤ length (sealed_with s settling body)) (sym seals) short;
+            is = left.is ∙ ap (λ (l : List ℕ). sealed_text bodies ++ l) parts ∙ sym (append_assoc (sealed_text bodies) line next.rest)
+                ∙ ap (λ (l : List ℕ). l ++ next.rest) (sym (sealed_lines-push no_seal bodies first));
+          })
+    ]
+
+-- what a crash leaves of two lines
+pub told_after_both : (bodies : List (List ℕ)) (first body file : List ℕ) → All IsBody bodies → IsBody first
+    → HasTail (sealed_text bodies) (length (sealed_with (seal_of bodies) (first ∷ []) body)) file → HasNoOther bodies first file
+    → HasNoOther (bodies ++ first ∷ []) body file
+    → (told file ≡ bodies) ⊎ (told file ≡ bodies ++ first ∷ []) ⊎ (told file ≡ (bodies ++ first ∷ []) ++ body ∷ [])
+told_after_both bodies first body file are is_first left no_other none_behind = elim (told_or_behind bodies [] first body file are left no_other) [
+  | inl none ↦ inl none
+  | inr behind ↦ inr (told_after_crash (bodies ++ first ∷ []) body file (All-push IsBody bodies first are is_first) behind none_behind)
+]
 
 longer : (prior : List ℕ) (a b : List (List ℕ)) → length (sealed_lines prior a) ≤ length (sealed_lines prior (a ++ b))
 longer prior [] b = omega arith

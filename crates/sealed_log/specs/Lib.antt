@@ -3,8 +3,8 @@ pub mod Told
 pub mod Whole
 pub mod Disks
 pub mod Lines
+pub mod Sorts
 pub mod Reading
 pub mod Log
 pub mod Names
 pub mod Input
-pub mod At

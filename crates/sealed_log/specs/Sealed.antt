@@ -49,6 +49,11 @@ abbrev pub last_seal : List ℕ → List (List ℕ) → List ℕ
 last_seal prior [] = prior
 last_seal prior (body ∷ more) = last_seal (seal_on prior body) more
 
+-- a body behind such that go before it, as they stand there
+abbrev pub sealed_with : (prior : List ℕ) → (settling : List (List ℕ)) → (body : List ℕ) → List ℕ
+sealed_with prior settling body =
+    sealed_lines prior settling ++ sealed_line (last_seal prior settling) body
+
 -- the text of a log, and its seal, which names all of it
 abbrev pub sealed_text : List (List ℕ) → List ℕ
 sealed_text bodies = sealed_lines no_seal bodies

@@ -7,8 +7,13 @@ use Rattle.sealed_log.specs.Told.{told}
 abbrev pub IsEnd : List ℕ → ℕ → Type 0
 IsEnd file end = end ≡ min (length file) (2 ^ 64 - 1)
 
--- the file has just what it tells, and ends here, with this seal
-pub record IsWhole (file : List ℕ) (here : ℕ) (last : List ℕ) : Type 0 where
+-- it tells so many bodies, or more than a u64 counts
+abbrev pub HasLines : List ℕ → ℕ → Type 0
+HasLines file lines = lines ≡ min (length (told file)) (2 ^ 64 - 1)
+
+-- the file has just what it tells, and ends here, with this seal and so many lines
+pub record IsWhole (file : List ℕ) (here : ℕ) (last : List ℕ) (lines : ℕ) : Type 0 where
   pub text : file ≡ sealed_text (told file)
   pub end : IsEnd file here
   pub seal : last ≡ seal_of (told file)
+  pub counted : HasLines file lines

@@ -2,7 +2,8 @@
 //! contract is the law; it does nothing.
 
 ghost use Rattle.std.specs.Prelude.{◌≡◌, ◌∷◌, ◌++◌, ◌⊎◌, [], ℕ, List, All, length};
-ghost use Rattle.sealed_log.specs.Sealed.{IsBody, longest, sealed_text, sealed_line, seal_of};
+ghost use Rattle.sealed_log.specs.Sealed.{IsBody, longest, sealed_text, sealed_line};
+ghost use Rattle.sealed_log.specs.Sealed.{sealed_with, seal_of};
 ghost use Rattle.sealed_log.specs.Told.{HasTail, HasMore, HasNone, HasNoOther, told, told_behind};
 ghost use Rattle.sealed_log.specs.Names.{HasClash};
 
@@ -36,6 +37,17 @@ pub fn a_crash_takes_no_more_than_the_line()
         → HasTail (sealed_text bodies) (length (sealed_line (seal_of bodies) body)) file
         → HasNoOther bodies body file
         → (told file ≡ bodies) ⊎ (told file ≡ bodies ++ body ∷ []) }
+{}
+
+/// What it leaves while two are put there by one write tells the bodies before them; these and the
+/// first; or these and both, where no other body is sealed in the place of one of them.
+pub fn a_crash_takes_no_more_than_both_lines()
+    ensures { (bodies : List (List ℕ)) (first body file : List ℕ) → All IsBody bodies
+        → IsBody first → HasTail (sealed_text bodies)
+        (length (sealed_with (seal_of bodies) (first ∷ []) body)) file
+        → HasNoOther bodies first file → HasNoOther (bodies ++ first ∷ []) body file
+        → (told file ≡ bodies) ⊎ (told file ≡ bodies ++ first ∷ [])
+        ⊎ (told file ≡ (bodies ++ first ∷ []) ++ body ∷ []) }
 {}
 
 /// What a crash leaves of a log has no more behind what it tells than the longest line.

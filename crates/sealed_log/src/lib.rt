@@ -1,7 +1,6 @@
 //! A log whose lines are sealed, in a file of which a crash may leave what a disk may leave.
 #![tactic(auto)]
 
-mod at;
 mod fault;
 mod input;
 pub mod laws;
@@ -10,10 +9,10 @@ mod log;
 mod read;
 mod reader;
 mod seals;
+mod sorts;
 mod through;
 mod written;
 
-pub use at::seal_at;
 pub use fault::LogFault;
 pub use input::{NoBody, read_body};
 pub use lines::{LONGEST, is_body};
@@ -21,4 +20,5 @@ pub use log::SealedLog;
 pub use read::read_through;
 pub use reader::Reader;
 pub use seals::{Seal, no_seal, seal, seal_in};
+pub use sorts::{Sort, Sorts};
 pub use through::Through;

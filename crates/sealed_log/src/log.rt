@@ -6,7 +6,8 @@ ghost use Rattle.sealed_log.specs.Whole.{IsWhole};
 
 use crate::fault::LogFault;
 use crate::read::read_through;
-use crate::seals::{self, Seal, line_of, seal};
+use crate::seals::{self, Seal, both_lines, line_of, seal};
+use crate::sorts::Sorts;
 use crate::through::Through;
 use crate::written::{Written, add_line, cut};
 use sqlite_disk::Disk;
@@ -17,24 +18,27 @@ use std::alloc::Global;
 #[derive(Drop)]
 pub struct SealedLog<D: Disk> {
     disk: D,
-    // How many bytes the file has, up to the greatest usize, and its seal.
+    // How many bytes the file has, up to the greatest usize, its seal, and how many lines it has, up
+    // to the greatest u64.
     end: usize,
     seal: Seal,
+    lines: u64,
     is_open: bool,
     ghost usable: { is_open ≡ true → IsTrue (D.is_usable disk) },
     ghost settled: { is_open ≡ true → Only (D.seen disk) (D.may_leave disk) },
     ghost whole: { is_open ≡ true → IsTrue (D.is_clean disk)
-        → IsWhole (D.seen disk) end seal },
+        → IsWhole (D.seen disk) end seal lines },
 }
 
 impl<D: Disk> SealedLog<D> {
-    ghost use Rattle.std.specs.Prelude.{◌≡◌, ◌⊎◌, ◌≤◌, ◌+◌, ℕ, List, length, true, false};
+    ghost use Rattle.std.specs.Prelude.{◌≡◌, ◌⊎◌, ◌≤◌, ℕ, List, [], ◌∷◌, length, true, false};
     ghost use Rattle.std.specs.Prelude.{IsTrue, IfErr, IfOk, OnErr, OnOk};
     ghost use Rattle.sqlite_disk.specs.Disk.{Only, MoreFaults};
-    ghost use Rattle.sealed_log.specs.Sealed.{IsBody, sealed_text, sealed_line, seal_of};
+    ghost use Rattle.sealed_log.specs.Sealed.{IsBody, sealed_text, sealed_line};
+    ghost use Rattle.sealed_log.specs.Sealed.{sealed_with, seal_of};
     ghost use Rattle.sealed_log.specs.Disks.{HasFailedTwice, LeavesTail};
-    ghost use Rattle.sealed_log.specs.Log.{IsAppended, IsMet, bodies_of};
-    ghost use Rattle.sealed_log.specs.Reading.{IsThrough};
+    ghost use Rattle.sealed_log.specs.Log.{AreLines, IsAppended, IsMet, bodies_of};
+    ghost use Rattle.sealed_log.specs.Reading.{IsThrough, Keeps};
 
     /// A log in a file, still to be opened.
     pub fn new(disk: D) -> SealedLog<D>
@@ -45,6 +49,7 @@ impl<D: Disk> SealedLog<D> {
             disk,
             end: 0,
             seal: seals::no_seal(),
+            lines: 0,
             is_open: false,
         }
     }
@@ -71,14 +76,23 @@ impl<D: Disk> SealedLog<D> {
         self.seal
     }
 
+    /// How many lines it has, up to the greatest u64.
+    pub fn lines(&self) -> u64
+        ensures { result ≡ self.now.lines }
+    {
+        self.lines
+    }
+
     /// Reads what its file tells. The log is shut until it is opened.
     ///
     /// # Errors
     ///
     /// The fault that was met.
-    pub fn read(&mut self, alloc: Global) -> Result<Through, LogFault>
+    pub fn read<S: Sorts>(&mut self, alloc: Global) -> Result<Through, LogFault>
         ensures through { IfOk result (λ through. IsTrue (D.is_clean self.new.disk)
             → IsThrough (D.seen self.old.disk) through) }
+        ensures keeps { IfOk result (λ through. IsTrue (D.is_clean self.new.disk)
+            → Keeps S.sort (D.seen self.old.disk) through) }
         ensures seen { D.seen self.new.disk ≡ D.seen self.old.disk }
         ensures clean { IsTrue (D.is_clean self.new.disk) → IsTrue (D.is_clean self.old.disk) }
         ensures crash { (left : List ℕ)
@@ -88,7 +102,7 @@ impl<D: Disk> SealedLog<D> {
         if !self.disk.may_be_used() {
             return Err(LogFault::Disk);
         }
-        read_through(alloc, &mut self.disk)
+        read_through::<S, D>(alloc, &mut self.disk)
     }
 
     /// Opens the log of what its file was found to tell, and cuts off what stands behind that. Of
@@ -116,8 +130,46 @@ impl<D: Disk> SealedLog<D> {
         cut(&mut self.disk, found.at())?;
         self.end = found.at();
         self.seal = found.seal();
+        self.lines = found.lines();
         self.is_open = true;
         Ok(())
+    }
+
+    // Writes the text of lines behind all that is there, so that a crash leaves them. A file whose
+    // length another hand changed is not written to, and shuts the log.
+    fn put_lines(&mut self, text: &[u8], seal: Seal, lines: u64) -> Result<(), LogFault>
+        requires is_open { self.old.is_open ≡ true }
+        requires lines { (settling : List (List ℕ)) × (body : List ℕ)
+            × AreLines self.old.seal settling body text.now seal lines }
+        ensures clean { IsTrue (D.is_clean self.new.disk) → IsTrue (D.is_clean self.old.disk) }
+        ensures counts { D.faults self.old.disk ≤ D.faults self.new.disk }
+        ensures closes { IsTrue (D.is_clean self.new.disk) → (self.new.is_open ≡ true)
+            ⊎ MoreFaults (D.faults self.old.disk) (D.faults self.new.disk) }
+        ensures lost { IsTrue (D.is_clean self.new.disk)
+            → (self.new.is_open ≡ true) ⊎ HasFailedTwice D.Disk self.old.disk self.new.disk }
+        ensures met { IfErr result (IsMet D.Disk self.old self.new) }
+        ensures appended { (settling : List (List ℕ)) (body : List ℕ)
+            → AreLines self.old.seal settling body text.now seal lines
+            → IsAppended D.Disk self.old self.new settling body result }
+        ensures crash { IsTrue (D.is_clean self.new.disk)
+            → LeavesTail D.Disk self.new.disk (sealed_text (bodies_of D.Disk self.old))
+            (length text.now) }
+    {
+        self.is_open = false;
+        match add_line(&mut self.disk, self.end, text) {
+            Written::Whole => {
+                self.end = self.end.saturating_add(text.len());
+                self.seal = seal;
+                self.lines = self.lines.saturating_add(lines);
+                self.is_open = true;
+                Ok(())
+            }
+            Written::Undone(fault) => {
+                self.is_open = true;
+                Err(fault)
+            }
+            Written::Lost(fault) => Err(fault),
+        }
     }
 
     /// Puts a body behind all that is there, so that a crash leaves it. A file whose length another
@@ -137,7 +189,7 @@ impl<D: Disk> SealedLog<D> {
         ensures lost { IsTrue (D.is_clean self.new.disk) → self.old.is_open ≡ true
             → (self.new.is_open ≡ true) ⊎ HasFailedTwice D.Disk self.old.disk self.new.disk }
         ensures met { IfErr result (IsMet D.Disk self.old self.new) }
-        ensures appended { IsAppended D.Disk self.old self.new body.now result }
+        ensures appended { IsAppended D.Disk self.old self.new [] body.now result }
         ensures crash { self.old.is_open ≡ true → IsTrue (D.is_clean self.new.disk)
             → LeavesTail D.Disk self.new.disk (sealed_text (bodies_of D.Disk self.old))
             (length (sealed_line (seal_of (bodies_of D.Disk self.old)) body.now)) }
@@ -147,19 +199,39 @@ impl<D: Disk> SealedLog<D> {
         }
         let seal = seal(&self.seal, body);
         let line = line_of(alloc, body, &seal)?;
-        self.is_open = false;
-        match add_line(&mut self.disk, self.end, &line) {
-            Written::Whole => {
-                self.end = self.end.saturating_add(line.len());
-                self.seal = seal;
-                self.is_open = true;
-                Ok(())
-            }
-            Written::Undone(fault) => {
-                self.is_open = true;
-                Err(fault)
-            }
-            Written::Lost(fault) => Err(fault),
+        self.put_lines(&line, seal, 1)
+    }
+
+    /// Puts two bodies behind all that is there by one write, so that a crash leaves both. A file whose
+    /// length another hand changed is not written to, and shuts the log.
+    ///
+    /// # Errors
+    ///
+    /// The fault that was met. A log that is still open has what it had.
+    pub fn put_both(&mut self, alloc: Global, first: &[u8], body: &[u8]) -> Result<(), LogFault>
+        requires first { IsBody first.now }
+        requires body { IsBody body.now }
+        ensures clean { IsTrue (D.is_clean self.new.disk) → IsTrue (D.is_clean self.old.disk) }
+        ensures counts { D.faults self.old.disk ≤ D.faults self.new.disk }
+        ensures shut { self.old.is_open ≡ false → self.new ≡ self.old }
+        ensures closes { IsTrue (D.is_clean self.new.disk) → self.old.is_open ≡ true
+            → (self.new.is_open ≡ true)
+            ⊎ MoreFaults (D.faults self.old.disk) (D.faults self.new.disk) }
+        ensures lost { IsTrue (D.is_clean self.new.disk) → self.old.is_open ≡ true
+            → (self.new.is_open ≡ true) ⊎ HasFailedTwice D.Disk self.old.disk self.new.disk }
+        ensures met { IfErr result (IsMet D.Disk self.old self.new) }
+        ensures appended { IsAppended D.Disk self.old self.new (first.now ∷ []) body.now result }
+        ensures crash { self.old.is_open ≡ true → IsTrue (D.is_clean self.new.disk)
+            → LeavesTail D.Disk self.new.disk (sealed_text (bodies_of D.Disk self.old))
+            (length (sealed_with (seal_of (bodies_of D.Disk self.old))
+            (first.now ∷ []) body.now)) }
+    {
+        if !self.is_open {
+            return Err(LogFault::Disk);
         }
+        let between = seal(&self.seal, first);
+        let last = seal(&between, body);
+        let text = both_lines(alloc, first, &between, body, &last)?;
+        self.put_lines(&text, last, 2)
     }
 }

@@ -1,6 +1,6 @@
 //! Reading the bodies of a log, one by one, up to the first byte that isn't sealed.
 
-ghost use Rattle.std.specs.Prelude.{◌≤◌};
+ghost use Rattle.std.specs.Prelude.{◌≤◌, ◌<◌, ◌^◌};
 
 use crate::fault::LogFault;
 use crate::lines::read_line;
@@ -18,6 +18,7 @@ pub struct Reader {
     // The seal of what stands before that.
     seal: Seal,
     ghost within: { at ≤ len },
+    ghost small: { len < 2 ^ 64 },
 }
 
 impl Reader {
@@ -53,15 +54,21 @@ impl Reader {
         self.seal
     }
 
-    // What it found, where it stands at the end, and the last two bodies are these.
-    pub(crate) fn through(self, before: Vec<u8>, last: Vec<u8>) -> Through
-        ensures before { result.before ≡ before }
+    // What it found, where it stands at the end, read so many lines, and these bodies are kept.
+    pub(crate) fn through(
+        self,
+        settled: Option<Vec<u8>>,
+        last: Option<Vec<u8>>,
+        lines: u64,
+    ) -> Through
+        ensures settled { result.settled ≡ settled }
         ensures last { result.last ≡ last }
         ensures len { result.len ≡ self.len }
         ensures at { result.at ≡ self.at }
         ensures seal { result.seal ≡ self.seal }
+        ensures lines { result.lines ≡ lines }
     {
-        Through::new(before, last, self.len, self.at, self.seal)
+        Through::new(settled, last, self.len, self.at, self.seal, lines)
     }
 
     /// The next body, or `None` where what stands there isn't sealed.

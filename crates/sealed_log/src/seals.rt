@@ -88,6 +88,23 @@ pub(crate) fn line_of(alloc: Global, body: &[u8], seal: &[u8]) -> Result<Vec<u8>
     Ok(line)
 }
 
+// Two bodies with their seals, as lines.
+pub(crate) fn both_lines(
+    alloc: Global,
+    first: &[u8],
+    between: &[u8],
+    body: &[u8],
+    last: &[u8],
+) -> Result<Vec<u8>, AllocError>
+    ensures { IfOk result (λ lines. lines.items ≡ (wrapped first.now between.now ++ 10 ∷ [])
+        ++ (wrapped body.now last.now ++ 10 ∷ [])) }
+{
+    let mut lines = line_of(alloc, first, between)?;
+    let line = line_of(alloc, body, last)?;
+    lines.extend_from_slice(&line)?;
+    Ok(lines)
+}
+
 /// The seal of a line, where that is the line of its body behind what has the seal `prior`.
 pub fn seal_in(alloc: Global, prior: &[u8], line: &[u8]) -> Result<Option<Seal>, AllocError>
     ensures { IfOk result (λ found. MatchOption found

@@ -8,15 +8,17 @@ use crate::seals::Seal;
 /// What a log was found to tell.
 #[derive(Drop)]
 pub struct Through {
-    /// Its last two bodies; where there are fewer, empty.
-    pub before: Vec<u8>,
-    pub last: Vec<u8>,
-    // How long the file is, where what is sealed ends, and its seal.
+    /// The body that was settled last, and the last one.
+    pub settled: Option<Vec<u8>>,
+    pub last: Option<Vec<u8>>,
+    // How long the file is, where what is sealed ends, its seal, and how many lines it has.
     len: usize,
     at: usize,
     seal: Seal,
+    lines: u64,
     ghost within: { at ≤ len },
     ghost small: { len < 2 ^ 64 },
+    ghost counted: { lines < 2 ^ 64 },
 }
 
 impl Through {
@@ -24,20 +26,29 @@ impl Through {
     ghost use Rattle.sealed_log.specs.Sealed.{longest};
 
     // What a reader found that stands at `at` of a file of so many bytes.
-    pub(crate) fn new(before: Vec<u8>, last: Vec<u8>, len: usize, at: usize, seal: Seal) -> Through
+    pub(crate) fn new(
+        settled: Option<Vec<u8>>,
+        last: Option<Vec<u8>>,
+        len: usize,
+        at: usize,
+        seal: Seal,
+        lines: u64,
+    ) -> Through
         requires { at ≤ len }
-        ensures before { result.before ≡ before }
+        ensures settled { result.settled ≡ settled }
         ensures last { result.last ≡ last }
         ensures len { result.len ≡ len }
         ensures at { result.at ≡ at }
         ensures seal { result.seal ≡ seal }
+        ensures lines { result.lines ≡ lines }
     {
         Through {
-            before,
+            settled,
             last,
             len,
             at,
             seal,
+            lines,
         }
     }
 
@@ -53,6 +64,13 @@ impl Through {
         ensures { result ≡ self.now.seal }
     {
         self.seal
+    }
+
+    /// How many lines it has.
+    pub fn lines(&self) -> u64
+        ensures { result ≡ self.now.lines }
+    {
+        self.lines
     }
 
     /// Whether more stands behind it than the longest line, which no crash leaves.

@@ -37,13 +37,15 @@ struct Told {
 impl Told {
     fn of(alloc: Global, text: &[u8]) -> Result<Told, Fail> {
         let conn = at_rest(Connection::open_in_memory(alloc)?)?;
-        match rebuild(alloc, conn, text) {
+        match rebuild(alloc, conn, text, 0) {
             Ok(rebuilt) => {
                 let seal = rebuilt.seal;
                 let Rebuilt {
                     office,
                     events,
                     seal: _,
+                    lines: _,
+                    at: _,
                 } = rebuilt;
                 Ok(Told {
                     text: Vec::from_slice(alloc, text)?,
@@ -97,7 +99,7 @@ fn reopened<D: Disk + Drop>(
     let Ok(office) = Office::over(at_rest(conn)?) else {
         return Err(Fail::from("an office again"));
     };
-    match reopen(alloc, office, SealedLog::new(synced(alloc, journal)?)) {
+    match reopen(alloc, office, SealedLog::new(synced(alloc, journal)?), 0) {
         Ok(office) => Ok(office),
         Err((why, _, _)) => Err(Fail::from(why)),
     }

@@ -179,7 +179,7 @@ fn run(
         Ok(office) => office,
         Err((_, conn)) => return Ok(unopened(conn.into_store().close(), log)),
     };
-    match reopen(alloc, office, SealedLog::new(log)) {
+    match reopen(alloc, office, SealedLog::new(log), 0) {
         Ok(office) => converse(alloc, office, requests),
         Err((_, office, log)) => Ok(unopened(
             office.into_connection().into_store().close(),

@@ -1,5 +1,6 @@
-use Rattle.std.proofs.Common.{rules, ◌≡◌, Err, inl, inr, refl, subst}
+use Rattle.std.proofs.Common.{rules, ◌≡◌, ℕ, Err, Some, inl, inr, refl, subst}
 use Rattle.command_host.specs.FailedCalls.{IsToldOf}
+use Rattle.command_host.specs.Openings.{IsEnded}
 use Rattle.command_host.specs.declared.fault.CommandFault.{CommandFault}
 use Rattle.changing_commands.proofs.rebuild.rebuild_at.Goals as goal
 
@@ -21,8 +22,9 @@ returns-in-Ok-rebuild_as_read-clause-rebuilt g c =
       opened = c.in-Ok.ensures.opened;
       empty = made.ensures.empty;
       office = made.rebuilt.office;
+      lines = made.rebuilt.lines;
       rebuilt = made.ensures.built;
-      closed = c.in_ok-close-in-Ok-rebuild_as_read.ensures.closed;
+      closed = subst (λ (n : ℕ). g.D.Databases.closed made.rebuilt.office (Some n)) c.mark_of_lines.ensures c.in_ok-close-in-Ok-rebuild_as_read.ensures.closed;
     }
 
 pub returns-in_err-close-in-Ok-rebuild_as_read-clause-failed : goal.returns-in_err-close-in-Ok-rebuild_as_read-clause-failed
@@ -38,8 +40,9 @@ returns-in_err-close-in-Ok-rebuild_as_read-clause-failed g c =
         opened = c.in-Ok.ensures.opened;
         empty = made.ensures.empty;
         office = made.rebuilt.office;
+        lines = made.rebuilt.lines;
         rebuilt = made.ensures.built;
-        closed = c.in_err-close-in-Ok-rebuild_as_read.ensures.ended;
+        closed = subst (λ (n : ℕ). IsEnded g.D.Databases made.rebuilt.office (Some n)) c.mark_of_lines.ensures c.in_err-close-in-Ok-rebuild_as_read.ensures.ended;
       },
       c.in_err-close-in-Ok-rebuild_as_read.ensures.fault,
     ))))

@@ -12,7 +12,7 @@ returns-in_err-office g c =
 pub returns : goal.returns
 returns g c =
     let k = known c.args.host.now in
-    was_served k.store k.databases _ _ _ c.in_ok-office.office c.serve_bound-served.new.office c.in_ok-office.ensures.opened
+    was_served k.store k.databases _ _ _ _ c.in_ok-office.office c.serve_bound-served.new.office c.in_ok-office.ensures.opened
     c.serve_bound-served.result c.close-closed.result c.first_fault.result
     (served_all _ _ _ _ _ _ _ _ _ _ c.serve_bound-served.result c.serve_bound-served.ensures)
     (begun_with _ _ _ _ _ _ _ _ _ _ c.serve_bound-served.result c.serve_bound-served.ensures)

@@ -11,7 +11,7 @@ returns-in_err-office g c =
 pub returns : goal.returns
 returns g c =
     let k = known c.args.host.now in
-    was_served k.store k.databases _ _ _ c.in_ok-office.office c.answer_lines-answered.new.office c.in_ok-office.ensures.opened
+    was_served k.store k.databases _ _ _ _ c.in_ok-office.office c.answer_lines-answered.new.office c.in_ok-office.ensures.opened
     c.answer_lines-answered.result c.close-closed.result c.first_fault.result
     c.answer_lines-answered.ensures.answered c.answer_lines-answered.ensures.stopped
     c.close-closed.ensures.closed c.close-closed.ensures.ended c.close-closed.ensures.fault c.first_fault.ensures

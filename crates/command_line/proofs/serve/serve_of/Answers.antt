@@ -12,7 +12,7 @@ returns-clause-command c =
         database = text_is f (codes "database") _ c.in_ok-database.ensures;
         port = c.in_ok-port.ensures.number;
         requests = c.in_ok-requests.ensures.asked;
-        journal = text_is f (codes "journal") _ c.get_str-journal.ensures;
+        journal = c.in_ok-journal.ensures.said;
       },
     )
 
@@ -30,3 +30,8 @@ pub returns-in_err-requests-clause-lacking : goal.returns-in_err-requests-clause
 returns-in_err-requests-clause-lacking c =
     let f = found_of c.args.given.now in
     lacks _ _ (no_serve (rows_of f) (λ words h. c.in_err-requests.ensures.lacking words.requests h.requests))
+
+pub returns-in_err-journal-clause-lacking : goal.returns-in_err-journal-clause-lacking
+returns-in_err-journal-clause-lacking c =
+    let f = found_of c.args.given.now in
+    lacks _ _ (no_serve (rows_of f) (λ words h. c.in_err-journal.ensures.both words.journal h.journal))

@@ -12,6 +12,7 @@ returns-clause-command c =
         database = text_is f (codes "database") _ c.in_ok-database.ensures;
         journal = text_is f (codes "journal") _ c.in_ok-journal.ensures;
         seal = c.in_ok-seal.ensures.seal;
+        mark = c.is_set-mark.ensures;
       },
     )
 

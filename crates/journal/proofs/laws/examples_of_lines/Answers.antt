@@ -1,4 +1,4 @@
-use Rattle.journal.proofs.LineExamples.{founding_is, enrolment_is, submission_is, vote_is, issue_is, withdrawal_is, adoption_is, hold_is, release_is, strike_is}
+use Rattle.journal.proofs.LineExamples.{founding_is, enrolment_is, submission_is, vote_is, issue_is, withdrawal_is, adoption_is, hold_is, release_is, strike_is, done_is}
 use Rattle.journal.proofs.laws.examples_of_lines.Goals as goal
 
 pub returns-clause-founding : goal.returns-clause-founding
@@ -30,3 +30,6 @@ returns-clause-release c = release_is
 
 pub returns-clause-strike : goal.returns-clause-strike
 returns-clause-strike c = strike_is
+
+pub returns-clause-done : goal.returns-clause-done
+returns-clause-done c = done_is

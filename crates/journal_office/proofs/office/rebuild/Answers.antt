@@ -1,6 +1,7 @@
 use Rattle.std.proofs.Common.{rules, ◌≡◌, Err, ◌∙◌, ◌∷◌, [], ℕ, List, sym, subst}
 use Rattle.office_desk.specs.Meant.{meaning_over}
 use Rattle.journal.specs.Told.{place, placed_meant}
+use Rattle.journal.proofs.SeenFacts.{seen_whole}
 use Rattle.journal_office.specs.Rebuilt.{IsRebuilt, IsRefused}
 use Rattle.journal_office.proofs.Refusals.{none_behind}
 use Rattle.journal_office.proofs.Unlawful.{refutes}
@@ -15,18 +16,20 @@ returns-in_err-replay-clause-unlawful g c =
 pub returns-in-Ok-clause-rebuilt : goal.returns-in-Ok-clause-rebuilt
 returns-in-Ok-clause-rebuilt g c =
     let bytes = g.R.Read.remaining c.args.journal in
-    let rebuilt = c.in-Ok.ensures bytes (placed_meant c.in_ok-replay.first ∷ []) c.in_ok-replay.ensures.begun (sym c.in_ok-replay.ensures.count) in
+    let rebuilt = c.in-Ok.ensures.replayed bytes (placed_meant c.in_ok-replay.first ∷ []) c.in_ok-replay.ensures.begun (sym c.in_ok-replay.ensures.count) in
     let m = meaning_over g.S.Store in
     let office = c.into_office-office.result in
-    subst (λ (n : ℕ). IsRebuilt bytes m n c.seal-seal.result office) (sym c.count-events.ensures)
-    (subst (λ (s : List ℕ). IsRebuilt bytes m c.replay_rest-replayed.new.replay.count s office) (sym c.seal-seal.ensures)
-    (subst (λ o. IsRebuilt bytes m c.replay_rest-replayed.new.replay.count (place g.R.Read.remaining c.replay_rest-replayed.new.replay.events).seal o) (sym c.into_office-office.ensures) rebuilt))
+    let end = place g.R.Read.remaining c.replay_rest-replayed.new.replay.events in
+    subst (λ (n : ℕ). IsRebuilt bytes m n c.seal-seal.result c.taken-lines.result office) (sym c.count-events.ensures)
+    (subst (λ (s : List ℕ). IsRebuilt bytes m c.replay_rest-replayed.new.replay.count s c.taken-lines.result office) (sym c.seal-seal.ensures)
+    (subst (λ (n : ℕ). IsRebuilt bytes m c.replay_rest-replayed.new.replay.count end.seal n office) (sym c.taken-lines.ensures)
+    (subst (λ o. IsRebuilt bytes m c.replay_rest-replayed.new.replay.count end.seal end.taken o) (sym c.into_office-office.ensures) rebuilt)))
 
 pub returns-in-Err-clause-rebuilt : goal.returns-in-Err-clause-rebuilt
 returns-in-Err-clause-rebuilt g c =
     let bytes = g.R.Read.remaining c.args.journal in
     let refused = c.in-Err.refused in
-    let behind = c.in-Err.ensures bytes (placed_meant c.in_ok-replay.first ∷ []) c.in_ok-replay.ensures.begun (sym c.in_ok-replay.ensures.count) in
+    let behind = c.in-Err.ensures.replayed bytes (placed_meant c.in_ok-replay.first ∷ []) c.in_ok-replay.ensures.begun (sym c.in_ok-replay.ensures.count) in
     subst (λ left. IsRefused bytes g.S.Store c.args.conn left refused.line refused.why) (sym (c.into_connection.ensures.connection ∙ c.into_office-office.ensures))
     (none_behind g.S.Store bytes c.args.conn c.replay_rest-replayed.new.replay.office refused.line refused.why behind)
 
@@ -34,7 +37,14 @@ pub returns-in-Err-clause-unlawful : goal.returns-in-Err-clause-unlawful
 returns-in-Err-clause-unlawful g c =
     let bytes = g.R.Read.remaining c.args.journal in
     let refused = c.in-Err.refused in
-    let behind = c.in-Err.ensures bytes (placed_meant c.in_ok-replay.first ∷ []) c.in_ok-replay.ensures.begun (sym c.in_ok-replay.ensures.count) in
+    let behind = c.in-Err.ensures.replayed bytes (placed_meant c.in_ok-replay.first ∷ []) c.in_ok-replay.ensures.begun (sym c.in_ok-replay.ensures.count) in
     refutes g.S.Store bytes c.args.conn c.into_connection.result refused.line refused.why
     (subst (λ left. IsRefused bytes g.S.Store c.args.conn left refused.line refused.why) (sym (c.into_connection.ensures.connection ∙ c.into_office-office.ensures))
     (none_behind g.S.Store bytes c.args.conn c.replay_rest-replayed.new.replay.office refused.line refused.why behind))
+
+pub returns-in-Ok-clause-at : goal.returns-in-Ok-clause-at
+returns-in-Ok-clause-at g c =
+    let bytes = g.R.Read.remaining c.args.journal in
+    let end = c.replay_rest-replayed.new.replay.events in
+    let seen = c.in-Ok.ensures.seen bytes c.in_ok-replay.ensures.seen in
+    seen_whole bytes (place g.R.Read.remaining end) end.at c.args.line c.seal_at-at.result (c.in-Ok.ensures.line ∙ c.in_ok-replay.ensures.line) seen.1 seen.0 c.seal_at-at.ensures

@@ -1,6 +1,8 @@
-use Rattle.std.proofs.Common.{arith, ◌≡◌, ◌∙◌, ◌+◌, ◌++◌, ◌∷◌, [], ℕ, Some, ap, sym, subst, length-append}
+use Rattle.std.proofs.Common.{arith, refl, ◌≡◌, ◌∙◌, ◌+◌, ◌++◌, ◌∷◌, [], ℕ, Some, ap, sym, subst, length-append}
 use Rattle.office_desk.specs.Meant.{meaning_over}
+use Rattle.journal.specs.SealsAt.{IsSeen}
 use Rattle.journal.specs.Told.{place, placed_meant}
+use Rattle.journal.proofs.SeenFacts.{seen_to_end}
 use Rattle.journal_office.specs.Rebuilt.{HasReplayed}
 use Rattle.journal_office.specs.Steps.{CountsNext}
 use Rattle.journal_office.proofs.Refusals.{kept_out, left_behind, left_by}
@@ -8,24 +10,24 @@ use Rattle.journal_office.proofs.Replays.{ended, more}
 use Rattle.journal_office.proofs.office.replay_rest.Goals as goal
 
 pub events-init : goal.events-init
-events-init g c = record { fault = c.requires; replayed = λ bytes es all one. (es, all, one) }
+events-init g c = record { fault = c.requires; replayed = λ bytes es all one. (es, all, one); seen = λ bytes seen. seen; line = refl }
 
-pub returns-in_err-placed : goal.returns-in_err-placed
-returns-in_err-placed g c = λ bytes es all one.
+pub returns-in_err-placed-clause-replayed : goal.returns-in_err-placed-clause-replayed
+returns-in_err-placed-clause-replayed g c = λ bytes es all one.
     let m = meaning_over g.S.Store in
     let before = c.events.invariant.replayed bytes es all one in
     let refused = c.in_err-placed.field-0.0 in
-    left_by m bytes _ _ _ c.from_residual.result refused c.from_residual.ensures.1
+    left_by m bytes _ _ _ _ c.from_residual.result refused c.from_residual.ensures.1
     (left_behind m bytes (place g.R.Read.remaining c.events.replay.events) _ before.0 c.events.replay.office _ refused.line refused.why c.in_err-placed.ensures.office before.1
     (c.in_err-placed.ensures.next c.events.invariant.fault))
 
-pub returns-in_err-happen : goal.returns-in_err-happen
-returns-in_err-happen g c = λ bytes es all one.
+pub returns-in_err-happen-clause-replayed : goal.returns-in_err-happen-clause-replayed
+returns-in_err-happen-clause-replayed g c = λ bytes es all one.
     let m = meaning_over g.S.Store in
     let here = place g.R.Read.remaining c.events.replay.events in
     let before = c.events.invariant.replayed bytes es all one in
     let refused = c.in_err-happen.field-0.0 in
-    left_by m bytes _ _ _ c.from_residual-in_err-happen.result refused c.from_residual-in_err-happen.ensures.1
+    left_by m bytes _ _ _ _ c.from_residual-in_err-happen.result refused c.from_residual-in_err-happen.ensures.1
     (kept_out m bytes here (place g.R.Read.remaining c.next.new.self.events) before.0 (placed_meant c.in-Some.placed) c.next.new.self.office _ refused.line refused.why
     (subst (λ office. HasReplayed bytes m here before.0 office) (sym c.in_ok-placed.ensures.office) before.1)
     (rw c.in-Some.is at (c.in_ok-placed.ensures.next c.events.invariant.fault)) c.in_err-happen.ensures.happened)
@@ -47,6 +49,10 @@ events-preserved g c = record {
             (rw c.in-Some.is at (c.in_ok-placed.ensures.next c.events.invariant.fault)) c.in_ok-happen.ensures.happened),
         length-append before.0 (placed ∷ []) ∙ ap (λ (n : ℕ). n + 1) before.2 ∙ sym counted.0 ∙ sym c.in_ok-happen.ensures.count,
       );
+  seen = λ bytes seen.
+      subst (λ e. IsSeen bytes (place g.R.Read.remaining e) e.at) (sym c.in_ok-happen.ensures.events)
+      (c.in_ok-placed.ensures.seen bytes (c.events.invariant.seen bytes seen));
+  line = ap (λ e. e.at.line) c.in_ok-happen.ensures.events ∙ c.in_ok-placed.ensures.line ∙ c.events.invariant.line;
 }
 
 pub events-smaller : goal.events-smaller
@@ -54,8 +60,8 @@ events-smaller g c =
     let counted : CountsNext c.events.replay.count c.next.new.self.count (Some c.in-Some.placed) = rw c.in-Some.is at c.in_ok-placed.ensures.count in
     omega (arith, counted.0, counted.1, c.in_ok-happen.ensures.count)
 
-pub returns : goal.returns
-returns g c = λ bytes es all one.
+pub returns-clause-replayed : goal.returns-clause-replayed
+returns-clause-replayed g c = λ bytes es all one.
     let m = meaning_over g.S.Store in
     let here = place g.R.Read.remaining c.events.replay.events in
     let before = c.events.invariant.replayed bytes es all one in
@@ -63,3 +69,12 @@ returns g c = λ bytes es all one.
     ended m bytes here (place g.R.Read.remaining c.next.new.self.events) before.0 c.next.new.self.count c.next.new.self.office
     (subst (λ office. HasReplayed bytes m here before.0 office) (sym c.in_ok-placed.ensures.office) before.1)
     (rw c.in_default.is at (c.in_ok-placed.ensures.next c.events.invariant.fault)) (counted ∙ sym before.2)
+
+pub returns-clause-seen : goal.returns-clause-seen
+returns-clause-seen g c = λ bytes seen.
+    let here = place g.R.Read.remaining c.events.replay.events in
+    let before = c.events.invariant.seen bytes seen in (
+      c.in_ok-placed.ensures.seen bytes before,
+      seen_to_end bytes here (place g.R.Read.remaining c.next.new.self.events) c.events.replay.events.at before
+          (rw c.in_default.is at (c.in_ok-placed.ensures.next c.events.invariant.fault)),
+    )

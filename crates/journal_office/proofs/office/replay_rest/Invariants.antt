@@ -1,6 +1,7 @@
 use Rattle.std.proofs.Common.{◌≡◌, ◌-◌, ℕ, List, None, Option, length}
 use Rattle.office_policy.specs.History.{Event}
 use Rattle.office_desk.specs.Meant.{meaning_over}
+use Rattle.journal.specs.SealsAt.{IsSeen}
 use Rattle.journal.specs.Told.{place}
 use Rattle.journal_office.specs.Rebuilt.{HasReplayed}
 use Rattle.journal_office.proofs.office.replay_rest.Given as goal
@@ -11,6 +12,9 @@ invariant-events g l = record {
   replayed : (bytes : Option (List ℕ)) (es : List (ℕ × Event))
       → HasReplayed bytes (meaning_over g.S.Store) (place g.R.Read.remaining l.fn.replay.events) es l.fn.replay.office → length es ≡ l.fn.replay.count
       → (all : List (ℕ × Event)) × HasReplayed bytes (meaning_over g.S.Store) (place g.R.Read.remaining l.replay.events) all l.replay.office × (length all ≡ l.replay.count);
+  seen : (bytes : Option (List ℕ)) → IsSeen bytes (place g.R.Read.remaining l.fn.replay.events) l.fn.replay.events.at
+      → IsSeen bytes (place g.R.Read.remaining l.replay.events) l.replay.events.at;
+  line : l.replay.events.at.line ≡ l.fn.replay.events.at.line;
 }
 
 abbrev pub decreases-events : goal.decreases-events

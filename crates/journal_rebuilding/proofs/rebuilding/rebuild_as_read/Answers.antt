@@ -15,12 +15,13 @@ returns-in-Ok-clause-built g c =
     let bytes = g.R.Read.remaining c.args.journal in
     let m = meaning_over g.S.Store in
     let count = (c.rebuild_behind-rebuilt.new.replay.count - c.in_ok-replay.replay.count) + 1 in
-    let end = (place g.R.Read.remaining c.rebuild_behind-rebuilt.new.replay.events).seal in
+    let end = place g.R.Read.remaining c.rebuild_behind-rebuilt.new.replay.events in
     let built = c.in-Ok.ensures bytes (placed_meant c.in_ok-replay.first) c.in_ok-replay.ensures.told c.in_ok-replay.ensures.founding c.in_ok-replay.ensures.stands in
     record {
       count = count;
-      rebuilt = subst (λ (s : List ℕ). IsRebuilt bytes m count s c.into_office-office.result) (sym c.seal-seal.ensures)
-          (subst (λ o. IsRebuilt bytes m count end o) (sym c.into_office-office.ensures) built);
+      rebuilt = subst (λ (s : List ℕ). IsRebuilt bytes m count s c.taken-lines.result c.into_office-office.result) (sym c.seal-seal.ensures)
+          (subst (λ (n : ℕ). IsRebuilt bytes m count end.seal n c.into_office-office.result) (sym c.taken-lines.ensures)
+          (subst (λ o. IsRebuilt bytes m count end.seal end.taken o) (sym c.into_office-office.ensures) built));
       shown = c.saturating_add-events.ensures
           ∙ ap (λ (n : ℕ). min (n + 1) (2 ^ 64 - 1)) (c.saturating_sub.ensures ∙ ap₂ (λ (a b : ℕ). a - b) c.count.ensures c.count-before.ensures);
     }

@@ -13,7 +13,7 @@ events-init g c = record { fault = c.requires; grows = omega arith; replayed = �
 pub returns-in_err-placed : goal.returns-in_err-placed
 returns-in_err-placed g c = λ bytes es all one.
     let before = c.events.invariant.replayed bytes es all one in
-    left_by (meaning_over g.S.Store) bytes _ _ _ _ c.from_residual.result c.in_err-placed.field-0.0 c.from_residual.ensures.1
+    left_by (meaning_over g.S.Store) bytes _ _ _ _ _ c.from_residual.result c.in_err-placed.field-0.0 c.from_residual.ensures.1
     (c.in_err-placed.ensures.halted bytes before.0 before.1)
 
 pub returns-in_err-happen : goal.returns-in_err-happen
@@ -22,7 +22,7 @@ returns-in_err-happen g c = λ bytes es all one.
     let here = place g.R.Read.remaining c.events.replay.events in
     let before = c.events.invariant.replayed bytes es all one in
     let refused = c.in_err-happen.field-0.0 in
-    left_by m bytes _ _ _ _ c.from_residual-in_err-happen.result refused c.from_residual-in_err-happen.ensures.1
+    left_by m bytes _ _ _ _ _ c.from_residual-in_err-happen.result refused c.from_residual-in_err-happen.ensures.1
     (kept_out m bytes here before.0 c.next_event.new.replay.office _ (placed_meant c.in-Some.placed) refused.line refused.why
     (subst (λ office. HasReplayed bytes m here before.0 office) (sym c.in_ok-placed.ensures.office) before.1)
     (inl (place g.R.Read.remaining c.next_event.new.replay.events, rw c.in-Some.is at c.in_ok-placed.ensures.next)) c.in_err-happen.ensures.happened)

@@ -1,5 +1,4 @@
-use Rattle.std.proofs.Common.{refl, subst}
-use Rattle.std.specs.Prelude.{OnOk}
+use Rattle.std.proofs.Common.{subst}
 use Rattle.sqlite.specs.Held.{state}
 use Rattle.journal_verification.specs.Reading.{GivesBehind}
 use Rattle.journal_verification.proofs.Firsts.{end_behind, rest_ok}

@@ -1,6 +1,5 @@
-use Rattle.std.proofs.Common.{◌≡◌, List, subst, sym, ◌∙◌}
+use Rattle.std.proofs.Common.{◌≡◌, subst, sym, ◌∙◌}
 use Rattle.sqlite.specs.Effect.{Database}
-use Rattle.sqlite.specs.Given.{row_if}
 use Rattle.sqlite.specs.Held.{state}
 use Rattle.sqlite.proofs.Callers.{unchanged_then}
 use Rattle.office_rows.specs.Causes.{HasFailed}

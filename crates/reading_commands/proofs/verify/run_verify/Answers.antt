@@ -25,6 +25,5 @@ returns-in_err-print_bytes-clause-failed g c =
     inr (
       c.in_ok-verified.verified,
       c.in_ok-verified.ensures.verified,
-      subst (λ (why : CommandFault). IsUnsaid (g.F.PassFiles.opens c.args.files.now) g.F.PassFiles.gives g.F.File.Read.remaining c.args.words.now.journal.now c.args.words.now.database.now c.args.words.now.seal
-          g.O.Write.contents c.args.output.now c.print_bytes.new.output c.in_ok-verified.verified why) (sym failed.0) (rw c.in-Ok.ensures at (rw c.deref.ensures.value at failed.1)),
+      subst (λ (why : CommandFault). IsUnsaid (g.F.PassFiles.opens c.args.files.now) (g.F.PassFiles.places c.args.files.now) g.O.Write.contents c.args.output.now c.print_bytes.new.output c.in_ok-verified.verified why) (sym failed.0) (rw c.in-Ok.ensures at (rw c.deref.ensures.value at failed.1)),
     ))

@@ -1,23 +1,37 @@
-use Rattle.std.proofs.Common.{◌≡◌, ◌∙◌, [], ap, sym, subst, length}
-use Rattle.sealed_log.specs.Reading.{IsNext, IsStep, told_at}
+use Rattle.std.proofs.Common.{◌≡◌, ◌∙◌, ◌<◌, [], Some, IfSome, IsTrue, ap, sym, subst, length, arith}
+use Rattle.sealed_log.specs.Reading.{IsNext, IsStep, KeepsSoFar, told_at}
+use Rattle.sealed_log.specs.Sorts.{settled_more}
 use Rattle.sealed_log.proofs.LineFacts.{IsRead-trans}
-use Rattle.sealed_log.proofs.ReaderFacts.{gone_on, through}
+use Rattle.sealed_log.proofs.ReaderFacts.{begun, gone_on, kept_begun, kept_on, kept_through, through}
 use Rattle.sealed_log.proofs.read.read_through.Goals as goal
+
+pub overflow_add-lines : goal.overflow_add-lines
+overflow_add-lines g c =
+    let before = c.lines.invariant.counted in
+    let further = subst (λ f. IfSome f (λ _. c.lines.reader.at < c.next.new.self.at)) c.in-Some.is c.in_ok-body.ensures.further in
+    let within = c.next.new.self.within in
+    let small = c.next.new.self.small in
+    omega (arith, before, further, within, small)
 
 pub lines-preserved : goal.lines-preserved
 lines-preserved g c =
     let before = c.lines.invariant in
     let seen = g.D.Disk.seen c.args.disk.now in
     let body = c.in-Some.body.items in
+    let further = subst (λ f. IfSome f (λ _. c.lines.reader.at < c.next.new.self.at)) c.in-Some.is c.in_ok-body.ensures.further in
+    let stepped : IsTrue (g.D.Disk.is_clean c.next.new.disk) → IsStep seen c.lines.reader c.next.new.self body = λ clean.
+    let was = c.next.ensures.read.clean clean in
+    let next = c.in_ok-body.ensures.next clean (before.len was ∙ ap length (sym before.read.seen)) in
+    let step = subst (IsNext (g.D.Disk.seen c.lines.disk) c.lines.reader c.next.new.self) c.in-Some.is next in
+    subst (λ f. IsStep f c.lines.reader c.next.new.self body) before.read.seen step in
     record {
       read = IsRead-trans g.D.Disk c.args.disk.now c.lines.disk c.next.new.disk before.read c.next.ensures.read;
       len = λ clean. c.next.ensures.len ∙ before.len (c.next.ensures.read.clean clean);
-      so_far = λ clean.
-          let was = c.next.ensures.read.clean clean in
-          let next = c.in_ok-body.ensures.next clean (before.len was ∙ ap length (sym before.read.seen)) in
-          let step = subst (IsNext (g.D.Disk.seen c.lines.disk) c.lines.reader c.next.new.self) c.in-Some.is next in
-          gone_on seen c.lines.before.items c.lines.last.items body c.lines.reader c.next.new.self (before.so_far was)
-          (subst (λ f. IsStep f c.lines.reader c.next.new.self body) before.read.seen step);
+      counted = let low = before.counted in omega (arith, low, further);
+      so_far = λ clean. gone_on seen body c.lines.lines c.lines.reader c.next.new.self (before.so_far (c.next.ensures.read.clean clean)) (stepped clean);
+      keeps = λ clean.
+          subst (λ s. KeepsSoFar g.S.Sorts.sort seen c.next.new.self s (Some body)) (sym (c.settled_more-settled.ensures ∙ ap (settled_more g.S.Sorts.sort _ _) c.deref.ensures.value))
+          (kept_on g.S.Sorts.sort seen body _ _ c.lines.reader c.next.new.self (before.keeps (c.next.ensures.read.clean clean)) (stepped clean));
     }
 
 pub returns-clause-through : goal.returns-clause-through
@@ -29,5 +43,16 @@ returns-clause-through g c = λ clean.
     let stops = subst (IsNext (g.D.Disk.seen c.lines.disk) c.lines.reader c.next.new.self) c.in_default.is next in
     let none = subst (λ f. told_at c.lines.reader f ≡ []) before.read.seen stops.1 in
     let made = c.through.ensures in
-    through seen c.lines.before.items c.lines.last.items c.lines.reader c.through.result (before.so_far was) (before.len was) none
-    (ap (λ v. v.items) made.before) (ap (λ v. v.items) made.last) (made.len ∙ ap (λ r. r.len) stops.0) (made.at ∙ ap (λ r. r.at) stops.0) (made.seal ∙ ap (λ r. r.seal) stops.0)
+    through seen c.lines.lines c.lines.reader c.through.result (before.so_far was) (before.len was) none
+    (made.len ∙ ap (λ r. r.len) stops.0) (made.at ∙ ap (λ r. r.at) stops.0) (made.seal ∙ ap (λ r. r.seal) stops.0) made.lines
+
+pub returns-clause-keeps : goal.returns-clause-keeps
+returns-clause-keeps g c = λ clean.
+    let before = c.lines.invariant in
+    let seen = g.D.Disk.seen c.args.disk.now in
+    let was = c.next.ensures.read.clean clean in
+    let next = c.in_ok-body.ensures.next clean (before.len was ∙ ap length (sym before.read.seen)) in
+    let stops = subst (IsNext (g.D.Disk.seen c.lines.disk) c.lines.reader c.next.new.self) c.in_default.is next in
+    let none = subst (λ f. told_at c.lines.reader f ≡ []) before.read.seen stops.1 in
+    let made = c.through.ensures in
+    kept_through g.S.Sorts.sort seen c.lines.settled c.lines.last c.lines.reader c.through.result (before.keeps was) none made.settled made.last

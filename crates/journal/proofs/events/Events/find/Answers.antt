@@ -8,7 +8,12 @@ returns-in-Stands-clause-told g c = goes_further _ _ _ _ c.loop-self.invariant.t
 pub loop-self-preserved : goal.loop-self-preserved
 loop-self-preserved g c =
     let passed = rw c.in-Passed.is at c.in_ok-placed.ensures.told in
-    record { told = goes_further _ _ _ _ c.loop-self.invariant.told passed.0; fault = c.in_ok-placed.ensures.fault ∙ c.loop-self.invariant.fault }
+    record {
+      told = goes_further _ _ _ _ c.loop-self.invariant.told passed.0;
+      fault = c.in_ok-placed.ensures.fault ∙ c.loop-self.invariant.fault;
+      seen = λ bytes seen. c.in_ok-placed.ensures.seen bytes (c.loop-self.invariant.seen bytes seen);
+      line = c.in_ok-placed.ensures.line ∙ c.loop-self.invariant.line;
+    }
 
 pub returns-clause-told : goal.returns-clause-told
 returns-clause-told g c = c.loop-self.invariant.told.stops _ _ (input_stops _ _ _ _)

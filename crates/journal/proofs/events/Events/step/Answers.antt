@@ -1,5 +1,6 @@
 use Rattle.std.proofs.Common.{refl}
 use Rattle.journal.specs.Reading.{held}
+use Rattle.journal.proofs.SeenFacts.{seen_end, seen_more}
 use Rattle.journal.proofs.StepFacts.{no_body, no_body_left, refused_left, step_last, step_left, step_refused, step_taken}
 use Rattle.journal.proofs.events.Events.step.Goals as goal
 
@@ -31,3 +32,15 @@ returns-in-Some-clause-told g c =
 pub returns-in-None-clause-told : goal.returns-in-None-clause-told
 returns-in-None-clause-told g c =
     (step_taken _ _ _ _ _ _ _ _ _ _ _ c.in_ok-read_body.ensures c.if-not-branch.false c.deref.ensures.value (rw c.in-None.is at c.in_ok-stands.ensures), refl)
+
+pub returns-then-not-branch-clause-seen : goal.returns-then-not-branch-clause-seen
+returns-then-not-branch-clause-seen g c = λ bytes seen.
+    seen_end bytes _ _ _ _ _ _ _ _ _ _ c.in_ok-read_body.ensures c.if-not-branch.true seen
+
+pub returns-in-Some-clause-seen : goal.returns-in-Some-clause-seen
+returns-in-Some-clause-seen g c = λ bytes seen.
+    seen_more bytes _ _ _ _ _ _ _ _ _ _ _ c.in_ok-read_body.ensures c.if-not-branch.false c.see.ensures seen
+
+pub returns-in-None-clause-seen : goal.returns-in-None-clause-seen
+returns-in-None-clause-seen g c = λ bytes seen.
+    seen_more bytes _ _ _ _ _ _ _ _ _ _ _ c.in_ok-read_body.ensures c.if-not-branch.false c.see.ensures seen

@@ -11,6 +11,7 @@ returns-in-Ok g c = record {
   journal = inl (record {
     stands = c.in-Allowed.ensures.stands;
     no_stray = refl;
+    settled = refl;
     is_open = c.in-Ok.ensures.written.0;
     bodies = λ clean. c.in-Ok.ensures.written.1 clean
         ∙ ap (λ body. g.J.Journal.writing.bodies c.args.self.now.journal ++ body ∷ []) (c.as_bytes.ensures.value ∙ sym strike_is);
@@ -29,7 +30,7 @@ returns g c = record {
       | inl before ↦ inl before
       | inr part ↦ inr (record {
         is_open = part.is_open;
-        left = subst (λ body. IsLeftIn (g.J.Journal.writing.bodies c.args.self.now.journal) body left) (c.as_bytes.ensures.value ∙ sym strike_is) part.left;
+        left = subst (λ body. IsLeftIn (g.J.Journal.writing.bodies c.args.self.now.journal) [] body left) (c.as_bytes.ensures.value ∙ sym strike_is) part.left;
       })
     ];
   }));

@@ -9,11 +9,11 @@ returns-in-Answered g c =
 
 pub returns-in-Ok : goal.returns-in-Ok
 returns-in-Ok g c =
-    c.in-Ok.ensures c.args.self.now.office (sym c.goes_on.ensures ∙ c.if-not-goes_on.false) c.in-Allowed.ensures
+    c.in-Ok.ensures.handled c.args.self.now.office (sym c.goes_on.ensures ∙ c.if-not-goes_on.false) c.in-Allowed.ensures
 
 pub returns-in-Err : goal.returns-in-Err
 returns-in-Err g c =
-    c.in-Err.ensures c.args.self.now.office (sym c.goes_on.ensures ∙ c.if-not-goes_on.false) c.in-Allowed.ensures
+    c.in-Err.ensures.handled c.args.self.now.office (sym c.goes_on.ensures ∙ c.if-not-goes_on.false) c.in-Allowed.ensures
 
 pub do_allowed-requires : goal.do_allowed-requires
 do_allowed-requires g c = (c.args.self.now.office, c.in-Allowed.ensures)

@@ -15,7 +15,7 @@ invariant_of-self-2 g c =
           let through = c.requires (c.cut.ensures.clean clean) in
           let has : g.D.Disk.seen c.cut.new.disk ≡ sealed_text (told seen) =
           (c.in_ok-cut.ensures.cut (sealed_text (told seen)) (length seen) (c.at.ensures ∙ length-through seen found through) (told_tail_of seen)).seen in
-          whole_cut seen (g.D.Disk.seen c.cut.new.disk) c.seal-self.result c.at-self.result found through has c.at-self.ensures c.seal-self.ensures;
+          whole_cut seen (g.D.Disk.seen c.cut.new.disk) c.seal-self.result c.at-self.result c.lines-self.result found through has c.at-self.ensures c.seal-self.ensures c.lines-self.ensures;
     }
 
 pub returns-clause-has : goal.returns-clause-has

@@ -1,0 +1,218 @@
+-- The line that says that the last event is carried out, behind that of the event.
+use Rattle.std.proofs.Common.{inl, inr, ◌⊎◌, ◌≡◌, ◌≢◌, ◌∙◌, ◌≤◌, ◌<◌, ◌-◌, ◌^◌, ◌==◌, [], ◌∷◌, ◌++◌, ℕ, List, Bool, true, false, not, if◌then◌else◌, Option, Some, None, Result, Ok, Err, IsTrue, length, refl, sym, ap, subst, arith, append-nil}
+use Rattle.std.specs.Prelude.{⊤, IfErr, OnOk}
+use Rattle.std.proofs.lemmas.Bool.{and_parts, and_from, eq-eqb, eqb-true}
+use Rattle.review_policy.specs.declared.fault.Fault.{Fault}
+use Rattle.review_policy.specs.declared.fault.Fault.TheVariants as faults
+use Rattle.office_policy.specs.History.{History}
+use Rattle.office_policy.specs.Meaning.{Meaning}
+use Rattle.office_policy.specs.Handled.{Survives}
+use Rattle.office_policy.proofs.SurvivalFacts.{survives_none}
+use Rattle.journal.specs.Journal.{EndsWithEvent, Says}
+use Rattle.journal.specs.Lines.{done, text_of}
+use Rattle.journal.specs.declared.journaled.Journaled.{Journaled}
+use Rattle.journal.specs.Begun.{IsLeftOf, done_bodies}
+use Rattle.journal.specs.Journals.{IsOf, IsSettled, LeavesFile, LeavesOffice, goes_on, is_clean, journaled, stray_faults, unsettled}
+use Rattle.journal.specs.Writing.{IsAppended, IsLeftIn, IsLeftInPart, Writing}
+use Rattle.journal.proofs.Offices.{none_fewer, open_of, risen_second}
+use Rattle.journal.proofs.Texts.{one_done}
+
+-- ---- which line says it
+
+-- where a line has a number it is that of the last one, and no line says what became of its event
+pub record IsLast {O J : Type 0} (w : Writing J) (x : Journaled O J) (number : ℕ) : Type 0 where
+  pub unsaid : x.is_settled ≡ false
+  pub counted : number ≡ w.lines x.journal
+  pub few : number ≢ 2 ^ 64 - 1
+
+-- and where none has, one says so, or they are more than can be counted
+abbrev pub IsNotLast : {O J : Type 0} (w : Writing J) (x : Journaled O J) → Type 0
+IsNotLast w x = (x.is_settled ≡ true) ⊎ (2 ^ 64 - 1 ≤ w.lines x.journal)
+
+abbrev IsLastOrNot : {O J : Type 0} (w : Writing J) (x : Journaled O J) → Option ℕ → Type 0
+IsLastOrNot w x None = IsNotLast w x
+IsLastOrNot w x (Some number) = IsLast w x number
+
+last_or_not : {O J : Type 0} (w : Writing J) (x : Journaled O J) (settled full : Bool) → x.is_settled ≡ settled → (w.lines x.journal == 2 ^ 64 - 1) ≡ full
+    → IsLastOrNot w x (if settled then None else if full then None else Some (w.lines x.journal))
+last_or_not w x true full is all = inl is
+last_or_not w x false true is all =
+    let same : w.lines x.journal ≡ 2 ^ 64 - 1 = eqb-true (w.lines x.journal) (2 ^ 64 - 1) all in
+    inr (omega (arith, same))
+last_or_not w x false false is all = record {
+  unsaid = is;
+  counted = refl;
+  few = λ same. absurd (let c : true ≡ false = sym (eq-eqb (w.lines x.journal) (2 ^ 64 - 1) same) ∙ all in cc);
+}
+
+found : {O J : Type 0} (w : Writing J) (x : Journaled O J) → IsLastOrNot w x (unsettled w x)
+found w x = last_or_not w x x.is_settled (w.lines x.journal == 2 ^ 64 - 1) refl refl
+
+pub is_last : {O J : Type 0} (w : Writing J) (x : Journaled O J) (number : ℕ) → Some number ≡ unsettled w x → IsLast w x number
+is_last w x number is = subst (IsLastOrNot w x) (sym is) (found w x)
+
+pub is_not_last : {O J : Type 0} (w : Writing J) (x : Journaled O J) → None ≡ unsettled w x → IsNotLast w x
+is_not_last w x is = subst (IsLastOrNot w x) (sym is) (found w x)
+
+-- ---- what is said with it
+
+module _ {O J : Type 0} (m : Meaning O) (w : Writing J) (x : Journaled O J) (goes : IsTrue (goes_on m w x)) (h : History) (of : IsOf m w h x) (clean : is_clean m w x) where
+  said_with : (last : Option ℕ) → IsLastOrNot w x last → Says (w.bodies x.journal ++ done_bodies last) h
+  said_with None is = subst (λ (b : List (List ℕ)). Says b h) (sym (append-nil (w.bodies x.journal))) (of.says clean goes)
+  said_with (Some number) is =
+      let all = w.counted x.journal clean.1 (open_of m w x goes) in
+      let same = is.counted in
+      let few = is.few in
+      let counted : number ≡ length (w.bodies x.journal) = omega (arith, all, same, few) in
+      let small : length (w.bodies x.journal) < 2 ^ 64 = omega (arith, all, same, few) in
+      subst (λ n. Says (w.bodies x.journal ++ text_of (done n) ∷ []) h) (sym counted)
+      (one_done (w.bodies x.journal) h (of.says clean goes) (of.ends clean goes is.unsaid) small)
+
+  -- the history, where the last event is said to be carried out
+  pub settled_says : Says (w.bodies x.journal ++ done_bodies (unsettled w x)) h
+  settled_says = said_with (unsettled w x) (found w x)
+
+module _ {O J : Type 0} (m : Meaning O) (w : Writing J) (x : Journaled O J) where
+  -- nothing is written
+  unchanged : (result : Result ⊤ Fault) → (IsTrue (goes_on m w x) → (x.is_settled ≡ true) ⊎ (2 ^ 64 - 1 ≤ w.lines x.journal)) → IsSettled m w x x result
+  unchanged result settled = record {
+    office = refl;
+    survives = survives_none (journaled m w) x;
+    of = λ h of. of;
+    settled = on_ok result;
+    bodies = λ clean goes. inl refl;
+    failed = if_err result;
+    crash = λ clean left may. may;
+  }
+    where
+      on_ok : (r : Result ⊤ Fault) → OnOk r (IsTrue (goes_on m w x) → IsTrue (goes_on m w x) × ((x.is_settled ≡ true) ⊎ (2 ^ 64 - 1 ≤ w.lines x.journal)))
+      on_ok (Ok well) = λ goes. (goes, settled goes)
+      on_ok (Err fault) = tt
+
+      if_err : (r : Result ⊤ Fault) → IfErr r (λ fault. w.is_clean x.journal → IsTrue (goes_on m w x) → w.bodies x.journal ≡ w.bodies x.journal)
+      if_err (Ok well) = tt
+      if_err (Err fault) = λ clean goes. refl
+
+  pub is_shut : goes_on m w x ≡ false → IsSettled m w x x (Ok tt)
+  is_shut ends = unchanged (Ok tt) (λ goes. absurd (let k : goes_on m w x ≡ true = goes in let c : true ≡ false = sym k ∙ ends in cc))
+
+  pub none_last : None ≡ unsettled w x → IsSettled m w x x (Ok tt)
+  none_last none = unchanged (Ok tt) (λ goes. is_not_last w x none)
+
+  pub no_text : IsSettled m w x x (Err faults.NoMemory)
+  no_text = record {
+    office = refl;
+    survives = survives_none (journaled m w) x;
+    of = λ h of. of;
+    settled = tt;
+    bodies = λ clean goes. inl refl;
+    failed = λ clean goes. refl;
+    crash = λ clean left may. may;
+  }
+
+  module _ (goes : IsTrue (goes_on m w x)) (of_line : ℕ) (last : IsLast w x of_line) (fits : of_line < 2 ^ 64) (body : List ℕ) (said : body ≡ text_of (done of_line)) where
+    is_open : IsTrue (w.is_open x.journal)
+    is_open = open_of m w x goes
+
+    has_room : IsTrue (not x.has_stray)
+    has_room = (and_parts (w.is_open x.journal) _ goes).1
+
+    -- the number of the last line
+    number : w.is_clean x.journal → of_line ≡ length (w.bodies x.journal)
+    number clean =
+        let all = w.counted x.journal clean is_open in
+        let counted = last.counted in
+        let few = last.few in
+        omega (arith, all, counted, few, fits)
+
+    small : w.is_clean x.journal → length (w.bodies x.journal) < 2 ^ 64
+    small clean = let all = number clean in omega (arith, all, fits)
+
+    with_body : w.is_clean x.journal → (bodies : List (List ℕ)) → bodies ≡ w.bodies x.journal ++ body ∷ [] → bodies ≡ w.bodies x.journal ++ text_of (done (length (w.bodies x.journal))) ∷ []
+    with_body clean bodies is = is ∙ ap (λ b. w.bodies x.journal ++ b ∷ []) (said ∙ ap (λ n. text_of (done n)) (number clean))
+
+    says_on : (h : History) → IsOf m w h x → is_clean m w x → (bodies : List (List ℕ)) → bodies ≡ w.bodies x.journal ++ body ∷ [] → Says bodies h
+    says_on h of clean bodies is =
+        subst (λ (b : List (List ℕ)). Says b h) (sym (with_body clean.1 bodies is))
+        (one_done (w.bodies x.journal) h (of.says clean goes) (of.ends clean goes last.unsaid) (small clean.1))
+
+    -- what is left of the line
+    part_left : (h : History) → IsOf m w h x → is_clean m w x → (file : List ℕ) → IsLeftInPart w x.journal [] body file → IsLeftOf h file
+    part_left h of clean file part = inr (inr (record {
+      before = w.bodies x.journal;
+      says = of.says clean goes;
+      number = of_line;
+      with_done = says_on h of clean (w.bodies x.journal ++ text_of (done of_line) ∷ []) (ap (λ b. w.bodies x.journal ++ b ∷ []) (sym said));
+      left = subst (λ b. IsLeftIn (w.bodies x.journal) [] b file) said part.left;
+    }))
+
+    module _ (j : J) (settled : Bool) (result : Result ⊤ Fault) (appended : IsAppended w x.journal j [] body result) where
+      abbrev new : Journaled O J
+      new = record { office = x.office; journal = j; has_stray = x.has_stray; is_settled = settled }
+
+      survives : Survives (journaled m w) x new
+      survives = record {
+        clean = λ clean. (clean.0, appended.clean clean.1);
+        counts = let counts = appended.counts in omega (arith, counts);
+        closes = λ clean stood. elim (appended.closes clean.1 is_open) [
+          | inl stays ↦ inl (stood.0, and_from (w.is_open j) _ stays has_room)
+          | inr more ↦ inr
+              (risen_second (m.faults x.office) (w.faults x.journal) (stray_faults x.has_stray) (m.faults x.office) (w.faults j) (stray_faults x.has_stray) (none_fewer (m.faults x.office)) more
+              (none_fewer (stray_faults x.has_stray)))
+        ];
+        shut = λ clean stood. (stood.0, goes);
+      }
+
+      module _ (still_of : (h : History) → IsOf m w h x → IsOf m w h new) where
+        left_before : is_clean m w new → (left : m.Left × List ℕ) → (journaled m w).may_leave new left → (journaled m w).may_leave x left
+        left_before clean left may = (office may.0, file may.1)
+          where
+            office : LeavesOffice m w new left.0 → LeavesOffice m w x left.0
+            office (inl may) = inl may
+            office (inr each) = inr (λ h of. each h (still_of h of))
+
+            file : LeavesFile m w new left.1 → LeavesFile m w x left.1
+            file (inl may) = elim (appended.crash clean.1 left.1 may) [
+              | inl before ↦ inl before
+              | inr part ↦ inr (goes, λ h of. part_left h of (clean.0, appended.clean clean.1) left.1 part)
+            ]
+            file (inr each) = inr (goes, λ h of. each.1 h (still_of h of))
+
+    pub not_written : (j : J) (fault : Fault) (appended : IsAppended w x.journal j [] body (Err fault))
+        → IsSettled m w x (record { office = x.office; journal = j; has_stray = x.has_stray; is_settled = x.is_settled }) (Err fault)
+    not_written j fault appended =
+        let left : Journaled O J = record { office = x.office; journal = j; has_stray = x.has_stray; is_settled = x.is_settled } in
+        let same : w.is_clean j → IsTrue (goes_on m w left) → w.bodies j ≡ w.bodies x.journal = λ clean on. appended.written.0 clean (open_of m w left on) in
+        let still : (h : History) → IsOf m w h x → IsOf m w h left = λ h of. record {
+          office = of.office;
+          says = λ clean on. subst (λ b. Says b h) (sym (same clean.1 on)) (of.says (clean.0, appended.clean clean.1) goes);
+          ends = λ clean on is. subst EndsWithEvent (sym (same clean.1 on)) (of.ends (clean.0, appended.clean clean.1) goes is);
+        } in
+        record {
+          office = refl;
+          survives = survives j x.is_settled (Err fault) appended;
+          of = still;
+          settled = tt;
+          bodies = λ clean on. inl (same clean on);
+          failed = same;
+          crash = left_before j x.is_settled (Err fault) appended still;
+        }
+
+    pub written : (j : J) (appended : IsAppended w x.journal j [] body (Ok tt))
+        → IsSettled m w x (record { office = x.office; journal = j; has_stray = x.has_stray; is_settled = true }) (Ok tt)
+    written j appended =
+        let left : Journaled O J = record { office = x.office; journal = j; has_stray = x.has_stray; is_settled = true } in
+        let still : (h : History) → IsOf m w h x → IsOf m w h left = λ h of. record {
+          office = of.office;
+          says = λ clean on. says_on h of (clean.0, appended.clean clean.1) (w.bodies j) (appended.written.1 clean.1);
+          ends = λ clean on is. absurd (let c : true ≡ false = is in cc);
+        } in
+        record {
+          office = refl;
+          survives = survives j true (Ok tt) appended;
+          of = still;
+          settled = λ on. (and_from (w.is_open j) _ appended.written.0 has_room, inl refl);
+          bodies = λ clean on. inr (with_body (appended.clean clean) (w.bodies j) (appended.written.1 clean));
+          failed = tt;
+          crash = left_before j true (Ok tt) appended still;
+        }

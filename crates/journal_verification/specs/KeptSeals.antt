@@ -1,0 +1,15 @@
+-- A seal that was kept of a journal.
+use Rattle.std.specs.Prelude.{◌≡◌, ◌≤◌, ℕ, List, length, take, Option, Some, None}
+use Rattle.sealed_log.specs.Sealed.{seal_of}
+use Rattle.journal_verification.specs.declared.verification.KeptSeal.{KeptSeal}
+
+-- these lines are as many, and the first so many of them have the seal
+abbrev pub HaveSeal : Option KeptSeal → List (List ℕ) → Type 0
+HaveSeal None bodies = Unit {0}
+HaveSeal (Some kept) bodies =
+    (kept.line ≤ length bodies) × (kept.seal ≡ seal_of (take kept.line bodies))
+
+-- the line that is asked for; none is before the first
+abbrev pub line_of : Option KeptSeal → ℕ
+line_of None = 0
+line_of (Some kept) = kept.line
