@@ -25,6 +25,45 @@ export const NEEDED = [
 ];
 
 /**
+ * The capabilities that give the most power, each with what a process may do by it; the greatest come first.
+ * @type {[string, string][]}
+ */
+export const CAPS_DANGEROUS = [
+  ['CAP_SYS_ADMIN', 'mounts, enters namespaces, and does much else of what root does'],
+  ['CAP_SYS_MODULE', 'loads code into the kernel'],
+  ['CAP_BPF', 'loads programs into the kernel'],
+  ['CAP_SYS_RAWIO', 'reaches the memory and the ports of devices'],
+  ['CAP_SYS_PTRACE', 'reads and changes the memory of other processes'],
+  ['CAP_PERFMON', 'sees what the kernel and other processes do'],
+  ['CAP_SYS_BOOT', 'restarts the machine, or starts another kernel'],
+  ['CAP_MKNOD', 'makes device files, by which disks are read and written'],
+  ['CAP_DAC_OVERRIDE', 'reads and writes any file, whatever its mode'],
+  ['CAP_DAC_READ_SEARCH', 'reads any file, and opens files outside of its own tree by their handles'],
+  ['CAP_SETUID', 'becomes any user, root too'],
+  ['CAP_SETGID', 'becomes a member of any group'],
+  ['CAP_SETFCAP', 'gives files capabilities, which whoever starts them gets'],
+  ['CAP_CHOWN', 'changes the owner of any file'],
+  ['CAP_FOWNER', 'changes the mode of any file'],
+  ['CAP_MAC_ADMIN', 'changes the rules of a security module'],
+  ['CAP_MAC_OVERRIDE', 'passes by the rules of a security module'],
+  ['CAP_NET_ADMIN', 'changes interfaces, routes and firewalls'],
+  ['CAP_NET_RAW', 'reads and forges packets of its network'],
+  ['CAP_SYS_TIME', 'sets the clock of the whole machine'],
+];
+
+/**
+ * The groups of calls that give the most power, each with what its calls do.
+ * @type {[string, string][]}
+ */
+export const CALLS_DANGEROUS = [
+  ['@module', 'they load code into the kernel'],
+  ['@raw-io', 'they reach the memory and the ports of devices'],
+  ['@mount', 'they change which files a process sees, and may lead out of its tree'],
+  ['@debug', 'they read and change other processes, and look into the kernel'],
+  ['@setuid', 'they change as whom a process acts'],
+];
+
+/**
  * Words in a row, the last behind `and` or another word.
  * @param {string[]} words
  */

@@ -1,15 +1,15 @@
 // A profile: its sheet with the findings first, its document, what differs from what is issued, the votes, and the decision.
 
 import { sha256 } from '../api.js';
-import { byKind } from '../calls.js';
 import { SETS } from '../document.js';
-import { at, badge, button, chips, code, el, folded, link, notice, some } from '../elements.js';
+import { at, badge, button, chips, code, el, link, notice, some } from '../elements.js';
 import { indented, squeezed } from '../json.js';
 import { memory, read, to } from '../page.js';
 import { against, holds, readSheet, sheetOf, still, voteSaid } from '../sheet.js';
-import { CLOSED, permits } from '../widening.js';
+import { CLOSED } from '../widening.js';
 import { decideCard } from './decide.js';
 import { differing, documentOf, opened } from './differing.js';
+import { findingsList } from './findings.js';
 import { heldBadge, refused } from './teams.js';
 
 /** @typedef {import('../document.js').Profile} Profile */
@@ -124,37 +124,7 @@ function baselineSaid(sheet, about) {
 
 const words = (text) => chips(text === 'none' || text === '' ? [] : text.split(' '));
 
-// Calls that are found, by what becomes of them and by their kinds.
-function callsSaid(calls, profile, base) {
-  /** @type {[string, (now: string, old: string) => boolean][]} */
-  const groups = [
-    ['permitted now, and not before', (now, old) => now === 'always' && old === 'never'],
-    ['permitted now with some arguments, and not at all before', (now, old) => now === 'sometimes' && old === 'never'],
-    ['permitted with more arguments, perhaps', (now, old) => now !== 'never' && old !== 'never'],
-    ['still refused, by a milder action', (now) => now === 'never'],
-  ];
-  return groups.map(([text, is]) => {
-    const own = calls.filter((call) => is(permits(profile, call), permits(base, call)));
-    return own.length > 0 && el('li', { class: 'calls' }, el('span', { class: 'tag' },
-      `${some(own.length, 'call')} ${text}`), el('dl', { class: 'kinds' }, byKind(own).map((kind) => el('div', {},
-      el('dt', {}, `${kind.title}${kind.group && ` (${kind.group})`}, ${kind.calls.length}`), el('dd', {}, folded(kind.calls, 'calls'))))));
-  });
-}
-
 function findingsCard(sheet, reading, profile, base) {
-  const calls = sheet.findings.filter((line) => line.startsWith('call ')).map((line) => line.slice(5));
-  const sets = SETS.map((set) => [set,
-    sheet.findings.filter((line) => line.startsWith(`capability ${set} `)).map((line) => line.split(' ')[2])])
-    .filter((one) => one[1].length);
-  const others = sheet.findings.filter((line) => !line.startsWith('call ') && !line.startsWith('capability '));
-  const said = (line) => {
-    if (line === 'no-seccomp') return 'There is no filter, and the baseline has one: every call is allowed.';
-    if (line === 'default') return 'The default action permits more.';
-    if (line === 'architecture any') return 'No architecture is listed, and the baseline lists some.';
-    if (line.startsWith('architecture ')) return ['The architecture ', code(line.slice(13)), ' is listed.'];
-    if (line.startsWith('flag ')) return ['The flag ', code(line.slice(5)), ' is set.'];
-    return line;
-  };
   const wrong = isWrong(reading);
   const calm = !sheet.findings.length && !wrong && !reading.unseen;
   return el('section', { class: `card findings ${calm ? 'calm' : ''}`, 'aria-labelledby': 'findings-title' },
@@ -163,11 +133,7 @@ function findingsCard(sheet, reading, profile, base) {
     reading.unseen && notice('plain', [reading.unseen], { id: 'unseen' }),
     el('p', { class: 'lead', id: 'findings-count' }, sheet.findings.length ? `${some(sheet.findings.length, 'finding')}.`
       : calm ? 'Nothing: no capability and no call is permitted more.' : 'The sheet has no finding.'),
-    el('ul', { class: 'plain' },
-      sets.map(([set, caps]) => el('li', {}, el('span', { class: 'tag' }, `Capabilities, ${set}`), chips(caps))),
-      others.map((line) => el('li', {}, said(line))),
-      profile && base ? callsSaid(calls, profile, base) : calls.length > 0 && el('li', {},
-        el('span', { class: 'tag' }, `${some(calls.length, 'call')} that may be permitted more`), folded(calls, 'calls'))),
+    findingsList(sheet.findings, profile, base),
     sheet.value('listed') !== 'none' && el('p', {}, el('span', { class: 'tag' },
       'Listed by this office, so two approvals are needed whatever is new'), words(sheet.value('listed'))));
 }
