@@ -164,6 +164,18 @@ export function still(sheet) {
   return { ready: true, text: 'It has the approvals that it needs: an issuer who is no author of it may issue it.' };
 }
 
+/**
+ * How many approvals a document would need, in words. What the office has listed is known here as far as sheets have shown it.
+ * @param {number} found how many findings it has
+ * @param {string[]} inList what it has that is known to be listed
+ */
+export function wouldNeed(found, inList) {
+  const two = 'so it would need two approvals, at least one with security.';
+  if (found) return `${found} ${found === 1 ? 'finding' : 'findings'}, ${two}`;
+  if (inList.length) return `Nothing new, but ${listed(inList)} ${inList.length === 1 ? 'is' : 'are'} listed by this office, ${two}`;
+  return 'Nothing new, so one approval would do, unless this office has listed a capability that the document has.';
+}
+
 /** @param {Vote} vote */
 export function voteSaid(vote) {
   const word = vote.vote === 'approve' ? 'approves' : 'rejects';

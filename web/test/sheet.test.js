@@ -2,7 +2,7 @@ import assert from 'node:assert/strict';
 import { readFileSync } from 'node:fs';
 import test from 'node:test';
 import { readDocument } from '../document.js';
-import { against, changes, readSheet, sheetOf, still } from '../sheet.js';
+import { against, changes, readSheet, sheetOf, still, wouldNeed } from '../sheet.js';
 import { CLOSED } from '../widening.js';
 
 // The sheet of docs/http.md, as the office answered it.
@@ -75,6 +75,14 @@ test('what a revision still needs', () => {
     'bea rejects it: it can’t be issued while that stands.');
   assert.equal(said('votes: 0\napprovals: 0\nrejections: 0', TEXT.replace('state: open', 'state: issued')).text,
     'Revision 1 is issued: it takes no votes.');
+});
+
+test('what a document would need', () => {
+  assert.equal(wouldNeed(1, []), '1 finding, so it would need two approvals, at least one with security.');
+  assert.equal(wouldNeed(3, ['CAP_SYS_ADMIN']), '3 findings, so it would need two approvals, at least one with security.');
+  assert.equal(wouldNeed(0, ['CAP_SYS_ADMIN']),
+    'Nothing new, but CAP_SYS_ADMIN is listed by this office, so it would need two approvals, at least one with security.');
+  assert.equal(wouldNeed(0, []), 'Nothing new, so one approval would do, unless this office has listed a capability that the document has.');
 });
 
 test('what is no sheet is none', () => {

@@ -6,6 +6,7 @@ import { Fault, profileOf } from '../document.js';
 import { code, el, folded } from '../elements.js';
 import { readJson } from '../json.js';
 import { read } from '../page.js';
+import { CLOSED } from '../widening.js';
 import { refused } from './teams.js';
 
 /** @typedef {import('../document.js').Profile} Profile */
@@ -44,6 +45,19 @@ export async function documentOf(about, asking = read) {
   const { profile } = opened(text);
   return profile ? { profile, instead: null, digest, state } : wrong(el('p', { class: 'notice refused inline' },
     `The text of ${name} is no document, so the page can’t compare it.`));
+}
+
+/**
+ * The baseline that a sheet names, or what to show in its place.
+ * @param {string} team
+ * @param {import('../sheet.js').Sheet} sheet
+ * @param {typeof read} asking
+ * @returns {Promise<{ profile: Profile | null, instead: any }>}
+ */
+export async function baselineOf(team, sheet, asking = read) {
+  const [profile, number] = sheet.value('baseline').split(' ');
+  if (number === undefined) return { profile: CLOSED, instead: null };
+  return documentOf({ team, profile, revision: Number(number) }, asking);
 }
 
 /**

@@ -4,15 +4,15 @@ import { sha256 } from '../api.js';
 import { Fault, MOST_BYTES, readDocument } from '../document.js';
 import { at, el, field, link, notice, some } from '../elements.js';
 import { indented, readJson } from '../json.js';
-import { WORD, alone, areNames, ask, memory, say, sent } from '../page.js';
-import { faultSaid, lostSaid, refusal } from '../refusals.js';
-import { differing, documentOf } from './differing.js';
-import { holdSaid } from './teams.js';
+import { WORD, alone, areNames, memory, say, sent } from '../page.js';
+import { faultSaid, refusal } from '../refusals.js';
+import { foreseen } from './foreseen.js';
 
 /** What was looked at last, so that an older look says nothing. */
 let look = 0;
 
-// Reads the chosen file as the office does, and shows it as it will stand, beside what differs from what is issued.
+// Reads the chosen file as the office does, and shows it as it will stand, with what the office would find and what differs from what is
+// issued.
 async function check() {
   const mine = ++look;
   const file = at('hand-file').files[0];
@@ -37,22 +37,7 @@ async function check() {
         indented(readJson(made.text))))];
   show(stands);
   if (!WORD.test(team) || !WORD.test(profile)) return;
-  show(stands, await comparedWithIssued({ team, profile }, made.profile));
-}
-
-// What differs from the revision that is issued, or why that isn't known.
-async function comparedWithIssued(about, profile) {
-  const list = await ask('list', about);
-  if (list.lost) return notice('plain', [`${lostSaid(list.lost, list.seconds)} So it isn’t compared with what is issued.`]);
-  if (!list.done) return notice('plain', [`It isn’t compared with what is issued. ${refusal('list', list, about)[0]}`]);
-  const own = list.json.profiles.find((one) => one.profile === about.profile);
-  if (!own) return el('p', { id: 'hand-differs' }, `${about.team}/${about.profile} is a new profile.`);
-  if (!own.issued) return el('p', { id: 'hand-differs' }, `It will be revision ${own.revisions + 1}. No revision is issued, so there is `
-    + 'nothing to compare.');
-  const issued = await documentOf({ ...about, revision: own.issued }, ask);
-  return [el('h2', {}, `What differs from revision ${own.issued}, which is issued`),
-    memory.known.hold(about)?.held && el('p', { class: 'hint' }, holdSaid(about)),
-    el('div', { id: 'hand-differs' }, issued.profile ? differing(issued.profile, profile) : issued.instead)];
+  show(stands, await foreseen({ team, profile }, made.profile));
 }
 
 async function send() {
@@ -71,17 +56,17 @@ async function send() {
     return after.replaceChildren();
   }
   const { revision, digest } = answer.json;
-  const foreseen = at('hand-digest')?.textContent;
+  const own = at('hand-digest')?.textContent;
   say('done', `${file.name} is revision ${revision} of ${team}/${profile}. It is open, and its canonical text has the digest ${digest}.`, '',
-    foreseen && foreseen !== digest ? 'That isn’t the digest that the page worked out: look at what stands there.' : '');
+    own && own !== digest ? 'That isn’t the digest that the page worked out: look at what stands there.' : '');
   after.replaceChildren(el('p', {}, link(`profile/${team}/${profile}/${revision}`, `Look at revision ${revision}`, { id: 'hand-look' })));
 }
 
 /** @param {import('../page.js').Place} now */
 export function handInView(now) {
   return el('section', { class: 'card narrow' }, el('h1', { tabindex: '-1', 'data-first': true }, 'Hand in a document'),
-    el('p', {}, 'The page reads the file before it is sent, and shows it as it will stand. The office reads it again: one that reads is the '
-      + 'next revision of the profile at once; else nothing changes, and you are told its first fault.'),
+    el('p', {}, 'The page reads the file before it is sent, and shows how it will stand and what the office would find. The office reads it '
+      + 'again: one that reads is the next revision of the profile at once; else nothing changes, and you are told its first fault.'),
     el('form', { id: 'hand-in', submit: (event) => { event.preventDefault(); alone(send); } },
       field('hand-team', 'Team', null, { value: now.team || (memory.teams.length === 1 ? memory.teams[0] : ''), required: true,
         maxlength: '64', change: check }),

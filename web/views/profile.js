@@ -6,9 +6,8 @@ import { at, badge, button, chips, code, el, link, notice, some } from '../eleme
 import { indented, squeezed } from '../json.js';
 import { memory, read, to } from '../page.js';
 import { against, holds, readSheet, sheetOf, still, voteSaid } from '../sheet.js';
-import { CLOSED } from '../widening.js';
 import { decideCard } from './decide.js';
-import { differing, documentOf, opened } from './differing.js';
+import { baselineOf, differing, documentOf, opened } from './differing.js';
 import { findingsList } from './findings.js';
 import { heldBadge, refused } from './teams.js';
 
@@ -37,7 +36,7 @@ export async function profileView(now) {
   const { node, profile, wrong } = opened(text);
   const pre = el('pre', { id: 'document', tabindex: '0', role: 'region', 'aria-label': 'The document as indented JSON' },
     node ? indented(node) : text);
-  const base = await baseOf(about.team, sheet);
+  const base = await baselineOf(about.team, sheet);
   const reading = await verified(about, shown.json, sheet, profile, base, pre, text);
   const state = shown.json.state;
   // what a false sheet says of its need isn't shown as what is needed
@@ -75,13 +74,6 @@ export async function profileView(now) {
 
 // Whether the sheet isn't the one that the page works out.
 const isWrong = (reading) => reading.left.length > 0 || reading.beyond.length > 0;
-
-// The baseline that a sheet names, or why the page doesn't have it.
-async function baseOf(team, sheet) {
-  const [profile, number] = sheet.value('baseline').split(' ');
-  if (number === undefined) return { profile: CLOSED, instead: null };
-  return documentOf({ team, profile, revision: Number(number) });
-}
 
 /**
  * Whether the text on the screen is the one that the sheet names, and what of the sheet isn't what the page works out of the document.
