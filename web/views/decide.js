@@ -50,7 +50,7 @@ export function decideCard(about, state, sheet, reading, own) {
     el('div', { class: 'groups' },
       group('vote', 'Reviewers vote', state !== 'open' ? hint(`It is ${state}, so there is nothing to vote on.`)
         : instead ? hint('No vote is offered.') : [lacks(['reviewer']),
-          hint('A vote is of the very text above, by its digest. The sheet is read again before it is sent.'),
+          hint('A vote is of the very text that is shown, by its digest. The sheet is read again before it is sent.'),
           vote('approve', 'Approve this text', 'main'), vote('reject', 'Reject this text', 'danger')]),
       group('issue', 'An issuer issues', state !== 'open' ? hint(`It is ${state}; only an open revision is issued.`)
         : instead ? hint('No issue is offered.') : [lacks(['issuer']), held && hint(holdSaid(about)),

@@ -44,31 +44,16 @@ export async function profileView(now) {
   return [
     el('p', { class: 'crumbs' }, link(`profiles/${about.team}`, `Team ${about.team}`)),
     el('div', { class: 'title' }, title, badge(state), heldBadge(about)),
-    el('section', { class: 'card summary', 'aria-label': 'In short' },
-      revisionChoice(about, own),
-      el('dl', {},
-        el('div', {}, el('dt', {}, 'Still needed'), el('dd', { id: 'needed', class: needs.ready ? 'ready' : '' }, needs.text)),
-        el('div', {}, el('dt', {}, 'Issued now'), el('dd', {},
-          own.issued ? own.issued === about.revision ? 'this revision'
-            : ['revision ', link(`profile/${about.team}/${about.profile}/${own.issued}`, String(own.issued))] : 'no revision')),
-        el('div', {}, el('dt', {}, 'Compared with'), el('dd', { id: 'baseline' }, baselineSaid(sheet, about))),
-        el('div', { class: 'wide' }, el('dt', {}, 'SHA-256 of the text below'),
-          el('dd', {}, el('code', { id: 'digest', class: 'digest' }, reading.digest),
-            el('span', { class: `told ${reading.same ? 'ready' : 'wrong'}` },
-              reading.same ? 'It is the digest that the sheet names.' : reading.own
-                ? 'It is not the digest that the sheet names.' : 'The sheet is of another revision.')))),
-      el('p', { class: 'jump' }, button('to-decide', 'To the decision',
-        () => { at('decide').scrollIntoView(); at('decide').focus({ preventScroll: true }); }, 'quiet'))),
-    el('div', { class: 'beside' },
-      el('div', {}, findingsCard(sheet, reading, profile, base.profile), keepsCard(sheet)),
-      el('div', {}, await differsCard(about, own, profile), votesCard(sheet, needs, isWrong(reading)))),
-    grantsCard(sheet),
-    el('section', { class: 'card', 'aria-labelledby': 'document-title' }, el('h2', { id: 'document-title' }, 'The document'),
-      el('p', { class: 'hint' },
-        wrong || `${some(new TextEncoder().encode(text).length, 'byte')}; only line feeds and indents are added here.`), pre),
-    decideCard(about, state, sheet, reading, own),
-    el('details', { class: 'card' }, el('summary', {}, 'The sheet as the office wrote it'),
-      el('pre', { id: 'sheet', tabindex: '0', role: 'region', 'aria-label': 'The sheet as the office wrote it' }, sheet.text)),
+    el('div', { class: 'deciding' },
+      el('div', { class: 'read' },
+        summaryCard(about, own, sheet, reading, needs),
+        el('div', { class: 'beside' },
+          el('div', {}, findingsCard(sheet, reading, profile, base.profile), keepsCard(sheet)),
+          el('div', {}, await differsCard(about, own, profile), votesCard(sheet, needs, isWrong(reading)))),
+        grantsCard(sheet), documentCard(text, wrong, pre),
+        el('details', { class: 'card' }, el('summary', {}, 'The sheet as the office wrote it'),
+          el('pre', { id: 'sheet', tabindex: '0', role: 'region', 'aria-label': 'The sheet as the office wrote it' }, sheet.text))),
+      decideCard(about, state, sheet, reading, own)),
   ];
 }
 
@@ -94,6 +79,33 @@ async function verified(about, json, sheet, profile, base, pre, text) {
   for (const one of sheet.value('listed').split(' ')) if (has.includes(one)) listed.add(one);
   return { ...said, ...found };
 }
+
+// What decides, in short.
+function summaryCard(about, own, sheet, reading, needs) {
+  const issued = !own.issued ? 'no revision' : own.issued === about.revision ? 'this revision'
+    : ['revision ', link(`profile/${about.team}/${about.profile}/${own.issued}`, String(own.issued))];
+  const told = reading.same ? 'It is the digest that the sheet names.'
+    : reading.own ? 'It is not the digest that the sheet names.' : 'The sheet is of another revision.';
+  const jump = () => {
+    at('decide').scrollIntoView();
+    at('decide').focus({ preventScroll: true });
+  };
+  return el('section', { class: 'card summary', 'aria-label': 'In short' },
+    revisionChoice(about, own),
+    el('dl', {},
+      el('div', {}, el('dt', {}, 'Still needed'), el('dd', { id: 'needed', class: needs.ready ? 'ready' : '' }, needs.text)),
+      el('div', {}, el('dt', {}, 'Issued now'), el('dd', {}, issued)),
+      el('div', {}, el('dt', {}, 'Compared with'), el('dd', { id: 'baseline' }, baselineSaid(sheet, about))),
+      el('div', { class: 'wide' }, el('dt', {}, 'SHA-256 of the text below'),
+        el('dd', {}, el('code', { id: 'digest', class: 'digest' }, reading.digest),
+          el('span', { class: `told ${reading.same ? 'ready' : 'wrong'}` }, told)))),
+    el('p', { class: 'jump' }, button('to-decide', 'To the decision', jump, 'quiet')));
+}
+
+const documentCard = (text, wrong, pre) => el('section', { class: 'card', 'aria-labelledby': 'document-title' },
+  el('h2', { id: 'document-title' }, 'The document'),
+  el('p', { class: 'hint' }, wrong || `${some(new TextEncoder().encode(text).length, 'byte')}; only line feeds and indents are added here.`),
+  pre);
 
 function revisionChoice(about, own) {
   const whole = `${about.team}/${about.profile}`;
