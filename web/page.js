@@ -9,7 +9,7 @@ import { changes, readSheet } from './sheet.js';
 
 /** @typedef {import('./api.js').About} About */
 /** @typedef {import('./api.js').Answer} Answer */
-/** @typedef {{ view: string, team: string, profile: string, revision: number, other: number, teams: string[] }} Place */
+/** @typedef {{ view: string, team: string, profile: string, revision: number, other: number, digest: string, teams: string[] }} Place */
 
 /** What the page keeps, in memory alone: it is gone with the tab, and with the token. */
 export const memory = { token: '', name: '', teams: /** @type {string[]} */ ([]), known: new Known() };
@@ -17,6 +17,7 @@ export const memory = { token: '', name: '', teams: /** @type {string[]} */ ([])
 export const WORD = /^[a-z0-9-]{1,64}$/;
 export const TOKEN = /^[\x21-\x7e]{1,128}$/;
 const NUMBER = /^[1-9][0-9]{0,3}$/;
+const DIGEST = /^[0-9a-f]{64}$/;
 
 /** No answer came to what only reads. */
 class Lost extends Error {
@@ -113,12 +114,13 @@ function beside(pressed, parts, again) {
 
 /**
  * The place that the address names, which stands in the fragment, so that no server sees it: #/queue/blue,green, #/profiles/blue,
- * #/profile/blue/web/2, #/compare/blue/web/1/2 and so on. Its view is `nowhere` where there is no such place.
+ * #/profile/blue/web/2, with the digest of its text behind it or without, #/compare/blue/web/1/2 and so on. Its view is `nowhere` where
+ * there is no such place.
  * @returns {Place}
  */
 export function place() {
   const [view, first = '', second = '', third = '', fourth = '', ...rest] = location.hash.replace(/^#\/?/, '').split('/');
-  const made = { view, team: '', profile: '', revision: 0, other: 0, teams: /** @type {string[]} */ ([]) };
+  const made = { view, team: '', profile: '', revision: 0, other: 0, digest: '', teams: /** @type {string[]} */ ([]) };
   const nowhere = { ...made, view: 'nowhere' };
   if (rest.length) return nowhere;
   if (view === '') return { ...made, view: 'queue' };
@@ -126,11 +128,11 @@ export function place() {
     const names = first.split(',').filter(Boolean);
     return second || !names.every((one) => WORD.test(one)) ? nowhere : { ...made, teams: [...new Set(names)] };
   }
-  if ([first, second].some((one) => one && !WORD.test(one)) || [third, fourth].some((one) => one && !NUMBER.test(one))) return nowhere;
-  const found = { ...made, team: first, profile: second, revision: Number(third), other: Number(fourth) };
-  if (view === 'profile') return second && !fourth ? found : nowhere;
-  if (view === 'compare') return fourth ? found : nowhere;
-  return ['hand-in', 'enrol', 'fetch'].includes(view) && !third ? found : nowhere;
+  if ([first, second].some((one) => one && !WORD.test(one)) || (third && !NUMBER.test(third))) return nowhere;
+  const found = { ...made, team: first, profile: second, revision: Number(third) };
+  if (view === 'profile') return second && (!fourth || DIGEST.test(fourth)) ? { ...found, digest: fourth } : nowhere;
+  if (view === 'compare') return NUMBER.test(fourth) ? { ...found, other: Number(fourth) } : nowhere;
+  return ['hand-in', 'enrol', 'fetch'].includes(view) && !third && !fourth ? found : nowhere;
 }
 
 /**
@@ -186,7 +188,7 @@ let last = 0;
 
 // What can be filled in there. A token is not kept, nor a choice that leads to another place.
 const inputs = () => [...document.querySelectorAll('main input, main select')].map((one) => /** @type {any} */ (one))
-  .filter((one) => one.id && one.type !== 'password' && !one.dataset.leads);
+  .filter((one) => one.id && one.type !== 'password' && !one.readOnly && !one.dataset.leads);
 
 function leave() {
   const values = new Map(inputs().map((one) => [one.id,

@@ -4,15 +4,21 @@ import { sha256 } from '../api.js';
 import { button, capital, code, el, link, notice } from '../elements.js';
 import { squeezed } from '../json.js';
 import { alone, carry, confirmed, memory, say } from '../page.js';
+import { textLink } from './text-link.js';
 import { holdSaid } from './teams.js';
 
 // Why a vote, an issue and an adoption aren't offered; nothing where they are.
-function whyNot(reading) {
+function whyNot(about, reading) {
   const notHere = 'so this page offers no vote';
   if (!reading.same) return notice('refused', [reading.own ? `The text on this screen isn’t the one that the sheet names, ${notHere}.`
     : `The sheet is of another revision than the one that was asked for, ${notHere}.`,
   ['On the screen: ', code(reading.digest), el('br', {}), 'The sheet names: ', code(reading.named)],
   'It was changed on the way. Load it anew; if it stays so, tell those who run the proxy.'], { role: 'alert', id: 'no-vote' });
+  if (reading.linked && reading.linked !== reading.digest) return notice('refused', [
+    `The text of this revision isn’t the one that the link names, ${notHere}.`,
+    ['On the screen: ', code(reading.digest), el('br', {}), 'The link names: ', code(reading.linked)],
+    ['Ask who gave you the link, or ', link(`profile/${about.team}/${about.profile}/${about.revision}`, 'open what stands here'), '.']],
+  { role: 'alert', id: 'no-vote' });
   if (reading.left.length || reading.beyond.length) return notice('refused', [`The sheet isn’t the one of this document, ${notHere}.`, '',
     'What it leaves out stands beside its findings.'], { role: 'alert', id: 'no-vote' });
   return null;
@@ -43,7 +49,7 @@ export function decideCard(about, state, sheet, reading, own) {
     if (await confirmed(text, sure)) await alone(() => carry(kind, kind, decided, done));
   }, look);
   const hint = (text) => el('p', { class: 'hint' }, text);
-  const instead = whyNot(reading);
+  const instead = whyNot(about, reading);
   const vote = (word, text, look) => button(word, text, () => alone(() => voteOn(decided, reading, word)), look);
   return el('section', { class: 'card decide', id: 'decide', tabindex: '-1', 'aria-labelledby': 'decide-title' },
     el('h2', { id: 'decide-title' }, 'Decide'), instead,
@@ -52,6 +58,8 @@ export function decideCard(about, state, sheet, reading, own) {
         : instead ? hint('No vote is offered.') : [lacks(['reviewer']),
           hint('A vote is of the very text that is shown, by its digest. The sheet is read again before it is sent.'),
           vote('approve', 'Approve this text', 'main'), vote('reject', 'Reject this text', 'danger')]),
+      reading.same && group('why', 'Say why', textLink('text-link', about, reading.digest,
+        'The office keeps no reason with a vote. Write yours where the team talks, with this link: it opens this sheet.')),
       group('issue', 'An issuer issues', state !== 'open' ? hint(`It is ${state}; only an open revision is issued.`)
         : instead ? hint('No issue is offered.') : [lacks(['issuer']), held && hint(holdSaid(about)),
           act('issue', `Issue revision ${about.revision}`, `Hosts of ${about.team} will fetch ${one}`
@@ -82,6 +90,7 @@ async function voteOn(decided, reading, word) {
   }
   const { about } = decided;
   await carry(word, 'vote', decided, `Your ${word === 'approve' ? 'approval' : 'rejection'} of revision ${about.revision} of `
-    + `${about.team}/${about.profile} stands, of the text with the digest ${reading.digest}.`,
+    + `${about.team}/${about.profile} stands, of the text with the digest ${reading.digest}.`
+    + `${word === 'reject' ? ' Say why where the team talks: the office keeps no reason.' : ''}`,
   JSON.stringify({ digest: reading.digest, vote: word }));
 }

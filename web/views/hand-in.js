@@ -7,6 +7,7 @@ import { indented, readJson } from '../json.js';
 import { WORD, alone, areNames, memory, say, sent } from '../page.js';
 import { faultSaid, refusal } from '../refusals.js';
 import { foreseen } from './foreseen.js';
+import { textLink } from './text-link.js';
 
 /** What was looked at last, so that an older look says nothing. */
 let look = 0;
@@ -59,7 +60,9 @@ async function send() {
   const own = at('hand-digest')?.textContent;
   say('done', `${file.name} is revision ${revision} of ${team}/${profile}. It is open, and its canonical text has the digest ${digest}.`, '',
     own && own !== digest ? 'That isn’t the digest that the page worked out: look at what stands there.' : '');
-  after.replaceChildren(el('p', {}, link(`profile/${team}/${profile}/${revision}`, `Look at revision ${revision}`, { id: 'hand-look' })));
+  after.replaceChildren(el('p', {}, link(`profile/${team}/${profile}/${revision}`, `Look at revision ${revision}`, { id: 'hand-look' })),
+    ...textLink('hand-link', { team, profile, revision }, digest,
+      'The office keeps no message with a document. Write what it is for where the team talks, with this link: it opens the sheet.'));
 }
 
 /** @param {import('../page.js').Place} now */

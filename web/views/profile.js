@@ -14,8 +14,8 @@ import { heldBadge, refused } from './teams.js';
 /** @typedef {import('../document.js').Profile} Profile */
 /** @typedef {import('../sheet.js').Sheet} Sheet */
 /**
- * @typedef {{ digest: string, named: string, same: boolean, own: boolean, left: string[], beyond: string[], unseen: string,
- *   text: string, shown: any }} Reading how the sheet, the text and what is on the screen go together
+ * @typedef {{ digest: string, named: string, linked: string, same: boolean, own: boolean, left: string[], beyond: string[], unseen: string,
+ *   text: string, shown: any }} Reading how the sheet, the text, the link and what is on the screen go together
  */
 
 /** @param {import('../page.js').Place} now */
@@ -37,7 +37,7 @@ export async function profileView(now) {
   const pre = el('pre', { id: 'document', tabindex: '0', role: 'region', 'aria-label': 'The document as indented JSON' },
     node ? indented(node) : text);
   const base = await baselineOf(about.team, sheet);
-  const reading = await verified(about, shown.json, sheet, profile, base, pre, text);
+  const reading = { ...await verified(about, shown.json, sheet, profile, base, pre, text), linked: now.digest };
   const state = shown.json.state;
   // what a false sheet says of its need isn't shown as what is needed
   const needs = isWrong(reading) ? { ready: false, text: 'Not known: the sheet isn’t the one of this document.' } : still(sheet);
@@ -62,7 +62,7 @@ const isWrong = (reading) => reading.left.length > 0 || reading.beyond.length > 
 
 /**
  * Whether the text on the screen is the one that the sheet names, and what of the sheet isn't what the page works out of the document.
- * @returns {Promise<Reading>}
+ * @returns {Promise<Omit<Reading, 'linked'>>}
  */
 async function verified(about, json, sheet, profile, base, pre, text) {
   const digest = await sha256(text);
