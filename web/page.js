@@ -6,6 +6,7 @@ import { Known } from './known.js';
 import { lostSaid, refusal } from './refusals.js';
 import { listed } from './words.js';
 import { changes, readSheet } from './sheet.js';
+import { tabToken } from './token.js';
 
 /** @typedef {import('./api.js').About} About */
 /** @typedef {import('./api.js').Answer} Answer */
@@ -13,6 +14,9 @@ import { changes, readSheet } from './sheet.js';
 
 /** What the page keeps, in memory alone: it is gone with the tab, and with the token. */
 export const memory = { token: '', name: '', teams: /** @type {string[]} */ ([]), known: new Known() };
+
+/** The token over a reload, where that was chosen. */
+export const tab = tabToken(() => sessionStorage);
 
 export const WORD = /^[a-z0-9-]{1,64}$/;
 export const TOKEN = /^[\x21-\x7e]{1,128}$/;
@@ -170,6 +174,7 @@ function rolesSaid() {
 }
 
 function forget() {
+  tab.drop();
   memory.token = memory.name = '';
   memory.known = new Known();
   kept.clear();
@@ -275,6 +280,12 @@ export async function draw(moved, back) {
   return '';
 }
 
+// Takes the token that the tab kept.
+function resume() {
+  const shown = tab.read();
+  if (shown && TOKEN.test(shown.token)) [memory.token, memory.name] = [shown.token, WORD.test(shown.name) ? shown.name : ''];
+}
+
 /** Begins: draws the place of the address, and each that one goes to. */
 export function begin() {
   history.scrollRestoration = 'manual';
@@ -286,7 +297,12 @@ export function begin() {
   addEventListener('error', (event) => sayBug(event.error ?? { message: event.message }));
   addEventListener('unhandledrejection', (event) => sayBug(event.reason));
   addEventListener('pagehide', () => { memory.token = memory.name = ''; });
-  addEventListener('pageshow', (event) => { if (event.persisted) draw(true); });
+  addEventListener('pageshow', (event) => {
+    if (!event.persisted) return;
+    resume();
+    draw(true);
+  });
+  resume();
   draw(true, arrive());
 }
 

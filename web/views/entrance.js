@@ -1,7 +1,7 @@
 // Where one shows a token.
 
 import { at, el, field } from '../elements.js';
-import { TOKEN, areNames, ask, draw, hush, memory, place, say, to } from '../page.js';
+import { TOKEN, areNames, ask, draw, hush, memory, place, say, tab, to } from '../page.js';
 
 export function entranceView() {
   const enter = async (event) => {
@@ -10,10 +10,13 @@ export function entranceView() {
     const list = [...new Set(named.split(/[\s,]+/).filter(Boolean))];
     if (!TOKEN.test(token)) return say('refused', 'A token is 1 to 128 characters without spaces.', '', 'Enter the one that you were given.');
     if (!areNames([...list, ...(name ? [name] : [])], 'a user or a team')) return;
+    const keep = at('keep').checked;
     memory.token = token;
     memory.name = name;
     at('token').value = '';
     hush();
+    tab.drop();
+    if (keep && !tab.keep({ token, name })) say('plain', 'This browser keeps nothing for the page, so a reload will ask for the token again.');
     const now = place();
     if (list.length) memory.teams = list;
     // the answer to a list tells which roles a user may have; where a place asks for one itself this one isn't needed
@@ -24,12 +27,17 @@ export function entranceView() {
   return el('section', { class: 'card entrance' },
     el('h1', {}, 'Review container sandbox profiles'),
     el('p', {}, 'Show your token, and name the teams whose profiles you work on. The token stays in the memory of this page '
-      + 'alone, and is gone with the tab.'),
+      + 'alone, and is gone with the tab or a reload, unless you choose otherwise.'),
     el('form', { id: 'entrance', submit: enter },
       field('token', 'Token', null, { type: 'password', required: true, maxlength: '128', 'data-first': true }),
       field('name', 'Your name in the office',
         'Optional, and not checked: no answer of the office says whose a token is. The page finds your votes by it.', { maxlength: '64' }),
       field('teams', 'Teams', 'Optional, with commas between them, as: blue, green',
         { value: place().teams.join(', ') || memory.teams.join(', ') }),
+      el('p', { class: 'field' },
+        el('label', { class: 'check' }, el('input', { type: 'checkbox', id: 'keep', 'aria-describedby': 'keep-hint' }),
+          ' Keep the token over a reload'),
+        el('span', { class: 'hint', id: 'keep-hint' }, 'Until this tab is closed. The browser may write it to its disk, and has it again '
+          + 'where the tab is doubled or opened anew: leave it off where others use this browser.')),
       el('p', {}, el('button', { id: 'enter', class: 'main' }, 'Enter'))));
 }
