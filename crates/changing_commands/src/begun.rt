@@ -13,10 +13,10 @@ ghost use Rattle.changing_commands.specs.Journals.{IsBegunBy, IsUnbegun};
 use crate::founding::Founding;
 use cap_sets::Caps;
 use command_host::{CommandFault, Journals, fault_of};
-use journal::{Line, LineSorts, text};
+use journal::{Line, text};
 use office_policy::Event;
 use review_policy::Word;
-use sealed_log::{LogFault, SealedLog};
+use sealed_log::{LogFault, Nothing, SealedLog};
 use sqlite_disk::Disk;
 use std::alloc::{AllocError, Global};
 
@@ -73,7 +73,7 @@ fn put_first<D: Disk + Drop>(alloc: Global, file: D, body: &[u8]) -> Result<Seal
         → bodies_of D.Disk log ≡ body.now ∷ []) }
 {
     let mut log = SealedLog::new(file);
-    let found = log.read::<LineSorts>(alloc)?;
+    let found = log.read(alloc, &mut Nothing)?;
     if found.at() > 0 {
         return Err(LogFault::Disk);
     }

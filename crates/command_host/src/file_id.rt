@@ -32,8 +32,8 @@ enum Place<'n> {
     Unseen,
 }
 
-// The folder that a name stands in.
-fn folder_of(name: &str) -> &str {
+/// The folder that a name stands in.
+pub(crate) fn folder_of(name: &str) -> &str {
     match Path::new(name).parent() {
         Some(folder) if !folder.as_str().is_empty() => folder.as_str(),
         _ => ".",

@@ -1,6 +1,6 @@
 //! The journals in the files of the host.
 
-use crate::file_id::{FileId, id_of, is_one_file};
+use crate::file_id::{FileId, folder_of, id_of, is_one_file};
 use crate::journals::Journals;
 use crate::no_file::NoFile;
 use named_disk::{Name, NamedDisk};
@@ -10,7 +10,6 @@ use sqlite_std_file::{OpenError, open};
 use std::fs::{File, OpenOptions, Permissions};
 use std::io::ErrorKind;
 use std::os::unix::fs::{OpenOptionsExt, PermissionsExt};
-use std::path::Path;
 use std::{fs, io};
 
 // What the owner of a journal may do with it, and nobody else anything.
@@ -18,12 +17,7 @@ const OWNER_ALONE: u32 = 0o600;
 
 // Waits until a crash would leave the entry of a path in its folder.
 fn sync_entry(rt: &HostRuntime, path: &str) -> io::Result<()> {
-    let folder = match Path::new(path).parent() {
-        Some(folder) => folder.as_str(),
-        None => "",
-    };
-    let folder = if folder.is_empty() { "." } else { folder };
-    File::open(rt, folder)?.sync_all()
+    File::open(rt, folder_of(path))?.sync_all()
 }
 
 // Makes an empty file where nothing is. The mode is given to the call that makes it, so that nobody

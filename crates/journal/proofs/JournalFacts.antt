@@ -41,7 +41,7 @@ all_bodies [] are = All-nil IsBody
 all_bodies (l ∷ ls) are =
     All-cons IsBody (text_of l) (map text_of ls) (All-head IsEntry l ls are).body (all_bodies ls (All-tail IsEntry l ls are))
 
-same_texts : (ls ms : List Line) → All IsEntry ls → All IsEntry ms → map text_of ls ≡ map text_of ms → ls ≡ ms
+pub same_texts : (ls ms : List Line) → All IsEntry ls → All IsEntry ms → map text_of ls ≡ map text_of ms → ls ≡ ms
 same_texts [] [] is_l is_m same = refl
 same_texts [] (m ∷ ms) is_l is_m same = absurd cc
 same_texts (l ∷ ls) [] is_l is_m same = absurd cc

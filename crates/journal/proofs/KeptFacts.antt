@@ -1,178 +1,323 @@
 -- What is kept of the lines of a journal.
-use Rattle.std.proofs.Common.{◌≡◌, ◌≢◌, ◌∙◌, ◌+◌, ◌==◌, ℕ, List, [], ◌∷◌, ◌++◌, All, Bool, true, false, Option, Some, None, map, length, refl, sym, ap, ap₂, subst, arith, length-append}
-use Rattle.std.specs.Prelude.{option_and_then}
-use Rattle.std.proofs.lemmas.List.{append_cancel_right, map-append}
-use Rattle.std.proofs.lemmas.List.Elements.{All-cons, All-head, All-nil, All-tail}
-use Rattle.json.specs.Print.{escape_byte}
-use Rattle.sealed_log.specs.Sorts.{added_by, kept_from, settled_by, settled_more, settled_then}
-use Rattle.sealed_log.specs.declared.sorts.Sort.{Sort}
-use Rattle.sealed_log.specs.declared.sorts.Sort.TheVariants.{Adds, TakesBack, Settles}
-use Rattle.office_policy.specs.History.{Event, History, founded, enrolled, submitted, voted, issued, withdrawn, adopted, held, released}
+use Rattle.std.proofs.Common.{inl, inr, ◌≡◌, ◌≢◌, ◌∙◌, ◌⊎◌, ◌+◌, ◌==◌, ℕ, List, [], ◌∷◌, ◌++◌, All, Bool, true, false, Option, Some, None, map, length, refl, sym, ap, subst, arith, length-append, eqb-true}
+use Rattle.std.specs.Prelude.{Result, Ok, Err, ⊤, is_some, option_and_then}
+use Rattle.std.proofs.lemmas.List.{append_cancel_right, length-map, map-append}
+use Rattle.std.proofs.lemmas.List.Elements.{All-cons, All-head, All-nil, All-push, All-tail}
+use Rattle.sealed_log.specs.Sealed.{IsBody}
+use Rattle.office_policy.specs.History.{Event, History}
 use Rattle.office_policy.specs.Runs.{with_event as with_was}
-use Rattle.journal.specs.Forms.{HasForms, IsFormed}
-use Rattle.journal.specs.Journal.{IsEntry, Says, history_from, settled_if, taken}
+use Rattle.journal.specs.Begun.{with_event}
+use Rattle.journal.specs.declared.kept.Kept.{Kept}
+use Rattle.journal.specs.declared.reader.Faulty.{Faulty}
+use Rattle.journal.specs.declared.reader.Faulty.TheVariants.{NotALine, NoEventBefore, NoMemory}
+use Rattle.journal.specs.Forms.{IsFormed}
+use Rattle.journal.specs.Journal.{EndsWithEvent, IsEntry, Says, history_from, history_in, settled_if, taken}
+use Rattle.journal.specs.Kept.{IsFaulty, IsKept, SaysNone, Settled, TakesBody, keeps, keeps_by, settled_from, with_stood}
 use Rattle.journal.specs.Lines.{Line, done, happened, strike, text_of}
-use Rattle.journal.specs.Sorts.{kept_lines, line_sort, newest_text, sort_of}
+use Rattle.journal.specs.Reading.{IsOfOther, IsOnEvent, IsTaken, held}
+use Rattle.journal.specs.Writers.{Writers, writers_meant, writers_of}
+use Rattle.journal.proofs.JournalFacts.{same_texts}
 use Rattle.journal.proofs.LineFacts.{same_line}
 use Rattle.journal.proofs.Texts.{HasLast, last_entry, last_line, last_of, last_same, no_line}
 
--- ---- sorts
+-- ---- lines
 
-pub sort_is : (l : Line) → IsFormed l → sort_of (text_of l) ≡ line_sort l
-unfolding sort_of text_of escape_byte
-sort_is (happened (founded name team digest listed)) h = refl
-sort_is (happened (enrolled caller name team roles digest)) h = refl
-sort_is (happened (submitted caller p text)) h = refl
-sort_is (happened (voted caller p n digest approves)) h = refl
-sort_is (happened (issued caller p n)) h = refl
-sort_is (happened (withdrawn caller p n)) h = refl
-sort_is (happened (adopted caller p n)) h = refl
-sort_is (happened (held caller p)) h = refl
-sort_is (happened (released caller p)) h = refl
-sort_is strike h = refl
-sort_is (done n) h = refl
+abbrev Ends : Type 0
+Ends = History × Option Event
 
--- ---- what is kept
+abbrev Taken : Type 0
+Taken = Option Event × Option Event
 
-abbrev Kept : Type 0
-Kept = Option (List ℕ) × Option (List ℕ)
+-- what stands behind a line
+abbrev behind : Ends → Taken → Ends
+behind p t = (with_was t.0 p.0, t.1)
 
--- the settled one is the newest of a history, and with the last one that of it and the event that is
--- held back
-abbrev IsKept : History → Option Event → (settled last : Option (List ℕ)) → Type 0
-IsKept g was settled last =
-    (settled ≡ newest_text g) × (settled_by sort_of settled last ≡ newest_text (with_was was g))
+-- what is settled by lines, and with it the event that is held back, is their history
+abbrev HasHistory : List Line → Type 0
+HasHistory ls = (n : ℕ) (g : History) (was : Option Event) (p : Ends) → settled_from n g was ls ≡ Some p → history_from n g was ls ≡ Some (with_was p.1 p.0)
 
-abbrev StaysKept : History → Option Event → (settled last : Option (List ℕ)) → List ℕ → Sort → Type 0
-StaysKept g was settled last text sort =
-    (settled_then sort_of sort settled last ≡ newest_text g) × (added_by sort_of sort (settled_then sort_of sort settled last) text ≡ newest_text (with_was was g))
-
-settled_is : (b : Bool) (f : Event) (t : Option Event × Option Event) → settled_if b f ≡ Some t → (Some f, None) ≡ t
-settled_is true f t is = cc
-settled_is false f t is = absurd cc
-
-kept_by : (n : ℕ) (g : History) (was : Option Event) (settled last : Option (List ℕ)) (l : Line) (t : Option Event × Option Event) → IsKept g was settled last → taken n was l ≡ Some t
-    → StaysKept (with_was t.0 g) t.1 settled last (text_of l) (line_sort l)
-kept_by n g was settled last (happened e) t kept is =
-    let same : (was, Some e) ≡ t = cc in
-    subst (λ (t : Option Event × Option Event). StaysKept (with_was t.0 g) t.1 settled last (text_of (happened e)) Adds) same (kept.1, refl)
-kept_by n g None settled last strike t kept is = absurd cc
-kept_by n g (Some f) settled last strike t kept is =
-    let same : ◌≡◌ {A = Option Event × Option Event} (None, None) t = cc in
-    subst (λ (t : Option Event × Option Event). StaysKept (with_was t.0 g) t.1 settled last (text_of strike) TakesBack) same (kept.0, kept.0)
-kept_by n g None settled last (done k) t kept is = absurd cc
-kept_by n g (Some f) settled last (done k) t kept is =
-    subst (λ (t : Option Event × Option Event). StaysKept (with_was t.0 g) t.1 settled last (text_of (done k)) Settles) (settled_is (k == n) f t is) (kept.1, kept.1)
-
-abbrev KeepsNewest : List Line → Type 0
-KeepsNewest ls =
-    (n : ℕ) (g : History) (was : Option Event) (settled last : Option (List ℕ)) (h : History) → All IsEntry ls → IsKept g was settled last → history_from n g was ls ≡ Some h
-    → settled_by sort_of (kept_from sort_of settled last (map text_of ls)).0 (kept_from sort_of settled last (map text_of ls)).1 ≡ newest_text h
-
-keeps_newest : (ls : List Line) → KeepsNewest ls
-keeps_newest [] n g was settled last h entries kept is =
-    let same : with_was was g ≡ h = cc in
-    kept.1 ∙ ap newest_text same
-keeps_newest (l ∷ ls) n g was settled last h entries kept is = at (keeps_newest ls) (taken n was l) refl is
+has_history : (ls : List Line) → HasHistory ls
+has_history [] n g was p is =
+    let same : ◌≡◌ {A = Ends} (g, was) p = cc in
+    ap (λ (p : Ends). Some (with_was p.1 p.0)) same
+has_history (l ∷ ls) n g was p is = at (has_history ls) (taken n was l) is
   where
-    at : KeepsNewest ls → (o : Option (Option Event × Option Event)) → taken n was l ≡ o
-        → option_and_then (λ t. history_from (n + 1) (with_was t.0 g) t.1 ls) o ≡ Some h
-        → settled_by sort_of (kept_from sort_of settled last (map text_of (l ∷ ls))).0 (kept_from sort_of settled last (map text_of (l ∷ ls))).1 ≡ newest_text h
-    at rest None by given = cc
-    at rest (Some t) by given =
-        let formed = (All-head IsEntry l ls entries).formed in
-        let stays : IsKept (with_was t.0 g) t.1 (settled_more sort_of settled last (text_of l)) (Some (text_of l)) =
-        subst (StaysKept (with_was t.0 g) t.1 settled last (text_of l)) (sym (sort_is l formed)) (kept_by n g was settled last l t kept by) in
-        rest (n + 1) (with_was t.0 g) t.1 (settled_more sort_of settled last (text_of l)) (Some (text_of l)) h (All-tail IsEntry l ls entries) stays given
-
--- one body more
-kept_push : (settled last : Option (List ℕ)) (bodies : List (List ℕ)) (x : List ℕ)
-    → kept_from sort_of settled last (bodies ++ x ∷ []) ≡ (settled_more sort_of (kept_from sort_of settled last bodies).0 (kept_from sort_of settled last bodies).1 x, Some x)
-kept_push settled last [] x = refl
-kept_push settled last (b ∷ bodies) x = kept_push (settled_more sort_of settled last b) (Some b) bodies x
-
-pub kept_last : (bodies : List (List ℕ)) (x : List ℕ) → (kept_lines (bodies ++ x ∷ [])).1 ≡ Some x
-kept_last bodies x = ap (λ (k : Kept). k.1) (kept_push None None bodies x)
-
--- of what a journal says
-pub says_newest : (bodies : List (List ℕ)) (h : History) → Says bodies h → settled_by sort_of (kept_lines bodies).0 (kept_lines bodies).1 ≡ newest_text h
-says_newest bodies h says =
-    subst (λ (b : List (List ℕ)). settled_by sort_of (kept_lines b).0 (kept_lines b).1 ≡ newest_text h) (sym says.are)
-    (keeps_newest says.lines 0 [] None None None h says.entries (refl, refl) says.history)
-
--- behind bodies that say a history an event settles its newest
-pub kept_more : (bodies : List (List ℕ)) (h : History) (e : Event) → HasForms e → Says bodies h
-    → kept_lines (bodies ++ text_of (happened e) ∷ []) ≡ (newest_text h, Some (text_of (happened e)))
-kept_more bodies h e forms says =
-    kept_push None None bodies (text_of (happened e))
-    ∙ ap (λ s. (settled_then sort_of s (kept_lines bodies).0 (kept_lines bodies).1, Some (text_of (happened e)))) (sort_is (happened e) forms)
-    ∙ ap (λ s. (s, Some (text_of (happened e)))) (says_newest bodies h says)
-
--- an event stands behind those before it
-abbrev WithoutLine : List Line → Type 0
-WithoutLine ls =
-    (n : ℕ) (g : History) (was : Option Event) (k : History) (e : Event) → history_from n g was (ls ++ happened e ∷ []) ≡ Some k
-    → (h : History) × (history_from n g was ls ≡ Some h) × (e ∷ h ≡ k)
-
-without_line : (ls : List Line) → WithoutLine ls
-without_line [] n g was k e is = (with_was was g, refl, let same : e ∷ with_was was g ≡ k = cc in same)
-without_line (l ∷ ls) n g was k e is = at (without_line ls) (taken n was l) is
-  where
-    at : WithoutLine ls → (o : Option (Option Event × Option Event)) → option_and_then (λ t. history_from (n + 1) (with_was t.0 g) t.1 (ls ++ happened e ∷ [])) o ≡ Some k
-        → (h : History) × (option_and_then (λ t. history_from (n + 1) (with_was t.0 g) t.1 ls) o ≡ Some h) × (e ∷ h ≡ k)
+    at : HasHistory ls → (o : Option Taken) → option_and_then (λ t. settled_from (n + 1) (with_was t.0 g) t.1 ls) o ≡ Some p
+        → option_and_then (λ t. history_from (n + 1) (with_was t.0 g) t.1 ls) o ≡ Some (with_was p.1 p.0)
     at rest None given = absurd cc
-    at rest (Some t) given = rest (n + 1) (with_was t.0 g) t.1 k e given
+    at rest (Some t) given = rest (n + 1) (with_was t.0 g) t.1 p given
+
+-- and a history is so settled
+record IsSettled (n : ℕ) (g : History) (was : Option Event) (ls : List Line) (h : History) : Type 0 where
+  ends : Ends
+  by : settled_from n g was ls ≡ Some ends
+  is : with_was ends.1 ends.0 ≡ h
+
+abbrev HasSettled : List Line → Type 0
+HasSettled ls = (n : ℕ) (g : History) (was : Option Event) (h : History) → history_from n g was ls ≡ Some h → IsSettled n g was ls h
+
+has_settled : (ls : List Line) → HasSettled ls
+has_settled [] n g was h is = record { ends = (g, was); by = refl; is = let same : with_was was g ≡ h = cc in same }
+has_settled (l ∷ ls) n g was h is = at (has_settled ls) (taken n was l) refl is
+  where
+    at : HasSettled ls → (o : Option Taken) → taken n was l ≡ o → option_and_then (λ t. history_from (n + 1) (with_was t.0 g) t.1 ls) o ≡ Some h → IsSettled n g was (l ∷ ls) h
+    at rest None by given = absurd cc
+    at rest (Some t) by given =
+        let more = rest (n + 1) (with_was t.0 g) t.1 h given in
+        record { ends = more.ends; by = rw by more.by; is = more.is }
+
+-- a line more
+abbrev Pushes : List Line → Type 0
+Pushes ls =
+    (n k : ℕ) (g : History) (was : Option Event) (p : Ends) (l : Line) (t : Taken) → k ≡ n + length ls → settled_from n g was ls ≡ Some p → taken k p.1 l ≡ Some t
+    → settled_from n g was (ls ++ l ∷ []) ≡ Some (behind p t)
+
+pushes : (ls : List Line) → Pushes ls
+pushes [] n k g was p l t count is by =
+    let same : ◌≡◌ {A = Ends} (g, was) p = cc in
+    let here : n ≡ k = omega (arith, count) in
+    let one : taken n p.1 l ≡ Some t = ap (λ n. taken n p.1 l) here ∙ by in
+    subst (λ (p : Ends). taken n p.1 l ≡ Some t → option_and_then (λ t. Some (with_was t.0 g, t.1)) (taken n was l) ≡ Some (behind p t)) same (λ by. rw by refl) one
+pushes (m ∷ ls) n k g was p l t count is by = at (pushes ls) (taken n was m) is
+  where
+    at : Pushes ls → (o : Option Taken) → option_and_then (λ t. settled_from (n + 1) (with_was t.0 g) t.1 ls) o ≡ Some p
+        → option_and_then (λ t. settled_from (n + 1) (with_was t.0 g) t.1 (ls ++ l ∷ [])) o ≡ Some (behind p t)
+    at rest None given = absurd cc
+    at rest (Some u) given = rest (n + 1) k (with_was u.0 g) u.1 p l t (omega (arith, count)) given by
+
+-- the last line is taken behind the others
+record IsPushed (n k : ℕ) (g : History) (was : Option Event) (ls : List Line) (l : Line) (p : Ends) : Type 0 where
+  before : Ends
+  by : settled_from n g was ls ≡ Some before
+  last : Taken
+  taken_is : taken k before.1 l ≡ Some last
+  is : behind before last ≡ p
+
+abbrev Splits : List Line → Type 0
+Splits ls = (n k : ℕ) (g : History) (was : Option Event) (l : Line) (p : Ends) → k ≡ n + length ls → settled_from n g was (ls ++ l ∷ []) ≡ Some p → IsPushed n k g was ls l p
+
+splits : (ls : List Line) → Splits ls
+splits [] n k g was l p count is = at (taken n was l) refl is
+  where
+    at : (o : Option Taken) → taken n was l ≡ o → option_and_then (λ t. Some (with_was t.0 g, t.1)) o ≡ Some p → IsPushed n k g was [] l p
+    at None by given = absurd cc
+    at (Some t) by given = record { before = (g, was); by = refl; last = t; taken_is = ap (λ n. taken n was l) (omega (arith, count)) ∙ by; is = let same : ◌≡◌ {A = Ends} (with_was t.0 g, t.1) p = cc in same }
+splits (m ∷ ls) n k g was l p count is = at (splits ls) (taken n was m) refl is
+  where
+    at : Splits ls → (o : Option Taken) → taken n was m ≡ o → option_and_then (λ t. settled_from (n + 1) (with_was t.0 g) t.1 (ls ++ l ∷ [])) o ≡ Some p → IsPushed n k g was (m ∷ ls) l p
+    at rest None by given = absurd cc
+    at rest (Some t) by given =
+        let more = rest (n + 1) k (with_was t.0 g) t.1 l p (omega (arith, count)) given in
+        record { before = more.before; by = rw by more.by; last = more.last; taken_is = more.taken_is; is = more.is }
+
+-- ---- bodies
+
+pub says_all : (bodies : List (List ℕ)) (g : History) (held : Option Event) → Settled bodies g held → Says bodies (with_was held g)
+says_all bodies g held s = record { lines = s.lines; entries = s.entries; are = s.are; history = has_history s.lines 0 [] None (g, held) s.by }
+
+-- bodies settle one history, and hold back one event
+pub settled_one : (bodies : List (List ℕ)) (a b : History) (x y : Option Event) → Settled bodies a x → Settled bodies b y → ◌≡◌ {A = Ends} (a, x) (b, y)
+settled_one bodies a b x y one other =
+    let lines = same_texts one.lines other.lines one.entries other.entries (sym one.are ∙ other.are) in
+    let both : ◌≡◌ {A = Option Ends} (Some (a, x)) (Some (b, y)) = sym one.by ∙ ap (settled_from 0 [] None) lines ∙ other.by in
+    cc
+
+-- what bodies settle that say a history
+pub record SettlesPart (bodies : List (List ℕ)) (h : History) : Type 0 where
+  pub settled : History
+  pub held : Option Event
+  pub says : Settled bodies settled held
+  pub is : with_was held settled ≡ h
+
+pub settles_part : (bodies : List (List ℕ)) (h : History) → Says bodies h → SettlesPart bodies h
+settles_part bodies h says =
+    let part = has_settled says.lines 0 [] None h says.history in
+    record { settled = part.ends.0; held = part.ends.1; says = record { lines = says.lines; entries = says.entries; are = says.are; by = part.by }; is = part.is }
+
+counted : (bodies : List (List ℕ)) (ls : List Line) → bodies ≡ map text_of ls → length ls ≡ length bodies
+counted bodies ls are = sym (ap length are ∙ length-map ls text_of)
+
+-- a body more
+pub settled_more : (bodies : List (List ℕ)) (body : List ℕ) (g : History) (held : Option Event) (l : Line) (t : Option Event × Option Event) → Settled bodies g held → IsEntry l → body ≡ text_of l
+    → taken (length bodies) held l ≡ Some t → Settled (bodies ++ body ∷ []) (with_was t.0 g) t.1
+settled_more bodies body g was l t s entry text is = record {
+  lines = s.lines ++ l ∷ [];
+  entries = All-push IsEntry s.lines l s.entries entry;
+  are = ap (λ b. b ++ body ∷ []) s.are ∙ ap (λ x. map text_of s.lines ++ x ∷ []) text ∙ sym (map-append text_of s.lines (l ∷ []));
+  by = pushes s.lines 0 (length bodies) [] None (g, was) l t (omega (arith, counted bodies s.lines s.are)) s.by is;
+}
+
+-- behind bodies that say a history an event is held back
+pub held_more : (bodies : List (List ℕ)) (h : History) (e : Event) → IsEntry (happened e) → Says bodies h → Settled (with_event bodies e) h (Some e)
+held_more bodies h e entry says =
+    let part = settles_part bodies h says in
+    subst (λ g. Settled (with_event bodies e) g (Some e)) part.is
+    (settled_more bodies (text_of (happened e)) part.settled part.held (happened e) (part.held, Some e) part.says entry refl refl)
+
+-- the last body is that of a line, which is taken behind the others
+pub record EndsIn (bodies : List (List ℕ)) (body : List ℕ) (h : History) : Type 0 where
+  pub settled : History
+  pub held : Option Event
+  pub before : Settled bodies settled held
+  pub line : Line
+  pub entry : IsEntry line
+  pub text : body ≡ text_of line
+  pub last : Option Event × Option Event
+  pub taken_is : taken (length bodies) held line ≡ Some last
+  pub is : with_was last.1 (with_was last.0 settled) ≡ h
 
 all_but_last : (before : List Line) (l : Line) → All IsEntry (before ++ l ∷ []) → All IsEntry before
 all_but_last [] l entries = All-nil IsEntry
 all_but_last (b ∷ before) l entries = All-cons IsEntry b before (All-head IsEntry b (before ++ l ∷ []) entries) (all_but_last before l (All-tail IsEntry b (before ++ l ∷ []) entries))
 
--- what bodies say that end with an event
-pub record SaysBefore (bodies : List (List ℕ)) (e : Event) (k : History) : Type 0 where
-  pub before : History
-  pub says : Says bodies before
-  pub is : e ∷ before ≡ k
-
-pub says_before : (bodies : List (List ℕ)) (e : Event) (k : History) → HasForms e → Says (bodies ++ text_of (happened e) ∷ []) k → SaysBefore bodies e k
-says_before bodies e k forms says = at (last_of says.lines)
+pub ends_in : (bodies : List (List ℕ)) (body : List ℕ) (h : History) → Says (bodies ++ body ∷ []) h → EndsIn bodies body h
+ends_in bodies body h says = at (last_of says.lines)
   where
-    at : HasLast says.lines → SaysBefore bodies e k
+    at : HasLast says.lines → EndsIn bodies body h
     at (no_line none) =
         let size = ap length (says.are ∙ ap (map text_of) none) in
-        absurd (omega (arith, size, length-append bodies (text_of (happened e) ∷ [])))
+        absurd (omega (arith, size, length-append bodies (body ∷ [])))
     at (last_line front l split) =
-        let here : bodies ++ text_of (happened e) ∷ [] ≡ map text_of front ++ text_of l ∷ [] = says.are ∙ ap (map text_of) split ∙ map-append text_of front (l ∷ []) in
-        let texts : text_of (happened e) ≡ text_of l = last_same bodies (map text_of front) (text_of (happened e)) (text_of l) here in
+        let here : bodies ++ body ∷ [] ≡ map text_of front ++ text_of l ∷ [] = says.are ∙ ap (map text_of) split ∙ map-append text_of front (l ∷ []) in
+        let text : body ≡ text_of l = last_same bodies (map text_of front) body (text_of l) here in
+        let fronts : bodies ≡ map text_of front = append_cancel_right bodies (map text_of front) (body ∷ []) (here ∙ ap (λ t. map text_of front ++ t ∷ []) (sym text)) in
         let entries : All IsEntry (front ++ l ∷ []) = subst (All IsEntry) split says.entries in
-        let same : happened e ≡ l = same_line (happened e) l forms (last_entry front l entries).formed texts in
-        let fronts : bodies ≡ map text_of front =
-        append_cancel_right bodies (map text_of front) (text_of (happened e) ∷ []) (here ∙ ap (λ t. map text_of front ++ t ∷ []) (sym texts)) in
-        let less = without_line front 0 [] None k e (ap (λ m. history_from 0 [] None (front ++ m ∷ [])) same ∙ ap (history_from 0 [] None) (sym split) ∙ says.history) in
+        let part = has_settled (front ++ l ∷ []) 0 [] None h (sym (ap history_in split) ∙ says.history) in
+        let push = splits front 0 (length bodies) [] None l part.ends (omega (arith, counted bodies front fronts)) part.by in
         record {
-          before = less.0;
-          says = record { lines = front; entries = all_but_last front l entries; are = fronts; history = less.1 };
-          is = less.2;
+          settled = push.before.0;
+          held = push.before.1;
+          before = record { lines = front; entries = all_but_last front l entries; are = fronts; by = push.by };
+          line = l;
+          entry = last_entry front l entries;
+          text = text;
+          last = push.last;
+          taken_is = push.taken_is;
+          is = ap (λ (p : Ends). with_was p.1 p.0) push.is ∙ part.is;
         }
 
-pub kept_event : (bodies : List (List ℕ)) (h : History) (e : Event) → HasForms e → Says (bodies ++ text_of (happened e) ∷ []) (e ∷ h)
-    → kept_lines (bodies ++ text_of (happened e) ∷ []) ≡ (newest_text h, Some (text_of (happened e)))
-kept_event bodies h e forms says =
-    let less = says_before bodies e (e ∷ h) forms says in
-    let same : less.before ≡ h = let both : e ∷ less.before ≡ e ∷ h = less.is in cc in
-    kept_more bodies h e forms (subst (Says bodies) same less.says)
+-- bodies whose last is held back end with an event
+pub ends_with : (bodies : List (List ℕ)) (g : History) (e : Event) → Settled bodies g (Some e) → EndsWithEvent bodies
+ends_with bodies g e s = at (last_of s.lines)
+  where
+    by_last : (n : ℕ) (was : Option Event) (l : Line) (t : Taken) → taken n was l ≡ Some t → t.1 ≡ Some e → l ≡ happened e
+    by_last n was (happened f) t is has = let same : ◌≡◌ {A = Taken} (was, Some f) t = cc in let held : ◌≡◌ {A = Option Event} (Some f) (Some e) = ap (λ (t : Taken). t.1) same ∙ has in cc
+    by_last n None strike t is has = absurd cc
+    by_last n (Some f) strike t is has = let same : ◌≡◌ {A = Taken} (None, None) t = cc in let held : ◌≡◌ {A = Option Event} None (Some e) = ap (λ (t : Taken). t.1) same ∙ has in absurd cc
+    by_last n None (done k) t is has = absurd cc
+    by_last n (Some f) (done k) t is has = by_done (k == n) is
+      where
+        by_done : (b : Bool) → settled_if b f ≡ Some t → done k ≡ happened e
+        by_done true is = let same : ◌≡◌ {A = Taken} (Some f, None) t = cc in let held : ◌≡◌ {A = Option Event} None (Some e) = ap (λ (t : Taken). t.1) same ∙ has in absurd cc
+        by_done false is = absurd cc
 
-settled_of : (sort : Sort) (settled : Option (List ℕ)) (text : List ℕ) → sort ≢ Adds → added_by sort_of sort settled text ≡ settled
-settled_of Adds settled text other = absurd (other refl)
-settled_of TakesBack settled text other = refl
-settled_of Settles settled text other = refl
+    at : HasLast s.lines → EndsWithEvent bodies
+    at (no_line none) =
+        let both : ◌≡◌ {A = Option Ends} (Some ([], None)) (Some (g, Some e)) = sym (ap (settled_from 0 [] None) none) ∙ s.by in
+        let one : ◌≡◌ {A = Ends} ([], None) (g, Some e) = cc in
+        let c : ◌≡◌ {A = Option Event} None (Some e) = ap (λ (p : Ends). p.1) one in
+        absurd cc
+    at (last_line front l split) =
+        let push = splits front 0 (0 + length front) [] None l (g, Some e) refl (ap (settled_from 0 [] None) (sym split) ∙ s.by) in
+        let entry = last_entry front l (subst (All IsEntry) split s.entries) in
+        let is : l ≡ happened e = by_last (0 + length front) push.before.1 l push.last push.taken_is (ap (λ (p : Ends). p.1) push.is) in
+        record {
+          before = map text_of front;
+          event = e;
+          forms = subst IsFormed is entry.formed;
+          is = s.are ∙ ap (map text_of) split ∙ map-append text_of front (l ∷ []) ∙ ap (λ k. map text_of front ++ text_of k ∷ []) is;
+        }
 
-pub kept_settled : (bodies : List (List ℕ)) (line : Line) (h : History) → IsFormed line → (line_sort line ≢ Adds) → Says (bodies ++ text_of line ∷ []) h
-    → kept_lines (bodies ++ text_of line ∷ []) ≡ (newest_text h, Some (text_of line))
-kept_settled bodies line h formed other says =
-    let all = bodies ++ text_of line ∷ [] in
-    let push = kept_push None None bodies (text_of line) in
-    let last : (kept_lines all).1 ≡ Some (text_of line) = ap (λ (k : Kept). k.1) push in
-    let settled : (kept_lines all).0 ≡ newest_text h =
-    sym (settled_of (line_sort line) (kept_lines all).0 (text_of line) other) ∙ ap (λ s. added_by sort_of s (kept_lines all).0 (text_of line)) (sym (sort_is line formed))
-    ∙ ap (settled_by sort_of (kept_lines all).0) (sym last) ∙ says_newest all h says in
-    ap₂ (λ (a b : Option (List ℕ)). (a, b)) settled last
+-- ---- what is kept
+
+-- an event that stands is the newest writer
+stood : (stands : Option Event) (g : History) → with_stood stands (writers_of g) ≡ writers_of (with_was stands g)
+stood None g = refl
+stood (Some e) g = refl
+
+pub kept_more : (bodies : List (List ℕ)) (body : List ℕ) (w : Writers) (held kept stands : Option Event) → IsKept bodies w held → IsBody body → IsTaken (length bodies) held kept body stands
+    → IsKept (bodies ++ body ∷ []) (with_stood stands w) kept
+kept_more bodies body w held kept stands k is_body is =
+    let entry : IsEntry is.line = record { formed = is.formed; body = subst IsBody is.says is_body } in
+    record {
+      settled = with_was stands k.settled;
+      says = settled_more bodies body k.settled held is.line (stands, kept) k.says entry is.says is.taken;
+      writers_are = ap (with_stood stands) k.writers_are ∙ stood stands k.settled;
+    }
+
+-- bodies that say no history don't with one more
+pub none_more : (bodies : List (List ℕ)) (body : List ℕ) → SaysNone bodies → SaysNone (bodies ++ body ∷ [])
+none_more bodies body none h says =
+    let ends = ends_in bodies body h says in
+    none (with_was ends.held ends.settled) (says_all bodies ends.settled ends.held ends.before)
+
+pub still_faulty : (bodies : List (List ℕ)) (body : List ℕ) (fault : Faulty) → IsFaulty bodies fault → IsFaulty (bodies ++ body ∷ []) fault
+still_faulty bodies body NotALine none = none_more bodies body none
+still_faulty bodies body NoEventBefore none = none_more bodies body none
+still_faulty bodies body NoMemory none = tt
+
+-- a line that says of another line than the one before that it is carried out isn't taken
+other_number : (n k : ℕ) (held : Option Event) (t : Taken) → k ≢ n → taken n held (done k) ≡ Some t → ⊥
+other_number n k None t other is = cc
+other_number n k (Some e) t other is = at (k == n) refl is
+  where
+    at : (b : Bool) → (k == n) ≡ b → settled_if b e ≡ Some t → ⊥
+    at true same is = other (eqb-true k n same)
+    at false same is = cc
+
+module _ (bodies : List (List ℕ)) (body : List ℕ) (w : Writers) (held : Option Event) (k : IsKept bodies w held) where
+  -- the event that is held back before a body is that which is kept
+  same_held : (h : History) (ends : EndsIn bodies body h) → ends.held ≡ held
+  same_held h ends = ap (λ (p : Ends). p.1) (settled_one bodies ends.settled k.settled ends.held held ends.before k.says)
+
+  pub not_a_line : ((line : Line) → IsFormed line → body ≢ text_of line) ⊎ IsOfOther (length bodies) body → SaysNone (bodies ++ body ∷ [])
+  not_a_line (inl none) h says = let ends = ends_in bodies body h says in none ends.line ends.entry.formed ends.text
+  not_a_line (inr of) h says =
+      let ends = ends_in bodies body h says in
+      let line : ends.line ≡ done of.number = same_line ends.line (done of.number) ends.entry.formed of.formed (sym ends.text ∙ of.says) in
+      other_number (length bodies) of.number ends.held ends.last of.other (ap (taken (length bodies) ends.held) (sym line) ∙ ends.taken_is)
+
+  pub no_event_before : IsOnEvent body → held ≡ None → SaysNone (bodies ++ body ∷ [])
+  no_event_before on none h says =
+      let ends = ends_in bodies body h says in
+      let line : ends.line ≡ on.line = same_line ends.line on.line ends.entry.formed on.formed (sym ends.text ∙ on.says) in
+      let both : ◌≡◌ {A = Option Taken} None (Some ends.last) =
+      sym (on.needs (length bodies)) ∙ ap (taken (length bodies) None) (sym line) ∙ ap (λ w. taken (length bodies) w ends.line) (sym (same_held h ends ∙ none)) ∙ ends.taken_is in
+      cc
+
+-- ---- a keeper
+
+-- why nothing more is taken
+abbrev pub fault_of : Result ⊤ Faulty → Option Faulty
+fault_of (Ok _) = None
+fault_of (Err fault) = Some fault
+
+-- what was taken is kept
+pub is_kept : (bodies : List (List ℕ)) (body : List ℕ) (old new : Kept) (result : Result ⊤ Faulty) (fault : Option Faulty) → IsBody body → IsKept bodies (writers_meant old.settled) (held old.reader)
+    → TakesBody (length bodies) body old new result → fault ≡ fault_of result → keeps_by fault (bodies ++ body ∷ []) new
+is_kept bodies body old new (Ok _) fault is_body k takes is =
+    subst (λ f. keeps_by f (bodies ++ body ∷ []) new) (sym is)
+    (subst (λ w. IsKept (bodies ++ body ∷ []) w (held new.reader)) (sym takes.2) (kept_more bodies body (writers_meant old.settled) (held old.reader) (held new.reader) takes.0 k is_body takes.1))
+is_kept bodies body old new (Err NotALine) fault is_body k takes is =
+    subst (λ f. keeps_by f (bodies ++ body ∷ []) new) (sym is) (not_a_line bodies body (writers_meant old.settled) (held old.reader) k takes)
+is_kept bodies body old new (Err NoEventBefore) fault is_body k takes is =
+    subst (λ f. keeps_by f (bodies ++ body ∷ []) new) (sym is) (no_event_before bodies body (writers_meant old.settled) (held old.reader) k takes.0 takes.1)
+is_kept bodies body old new (Err NoMemory) fault is_body k takes is = subst (λ f. keeps_by f (bodies ++ body ∷ []) new) (sym is) tt
+
+-- behind a line that can't stand there nothing is kept
+pub still_kept : (fault : Option Faulty) (bodies : List (List ℕ)) (body : List ℕ) (old new : Kept) → is_some fault ≡ true → keeps_by fault bodies old → keeps_by fault (bodies ++ body ∷ []) new
+still_kept None bodies body old new is kept = absurd cc
+still_kept (Some fault) bodies body old new is kept = still_faulty bodies body fault kept
+
+not_faulty : (fault : Option Faulty) → is_some fault ≡ false → fault ≡ None
+not_faulty None is = refl
+not_faulty (Some fault) is = absurd cc
+
+-- and before one all is
+pub kept_on : (bodies : List (List ℕ)) (body : List ℕ) (before : ℕ) (old new : Kept) (result : Result ⊤ Faulty) (fault : Option Faulty) → is_some old.fault ≡ false → length bodies ≡ before → IsBody body → keeps bodies old
+    → TakesBody before body old new result → fault ≡ fault_of result → keeps_by fault (bodies ++ body ∷ []) new
+kept_on bodies body before old new result fault is counted is_body kept takes same =
+    is_kept bodies body old new result fault is_body (subst (λ f. keeps_by f bodies old) (not_faulty old.fault is) kept) (subst (λ n. TakesBody n body old new result) (sym counted) takes) same
+
+pub kept_as : (bodies : List (List ℕ)) (old new : Kept) → is_some old.fault ≡ false → new.fault ≡ old.fault → keeps_by None bodies new → keeps bodies new
+kept_as bodies old new is same kept = subst (λ f. keeps_by f bodies new) (sym (same ∙ not_faulty old.fault is)) kept

@@ -20,4 +20,5 @@ pub mod Offices
 pub mod Carried
 pub mod LogFacts
 pub mod KeptFacts
+pub mod WriterFacts
 pub mod Settling

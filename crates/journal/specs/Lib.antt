@@ -11,7 +11,8 @@ pub mod Told
 pub mod SealsAt
 pub mod Steps
 pub mod FaultTexts
-pub mod Sorts
+pub mod Writers
+pub mod Kept
 pub mod Writing
 pub mod Begun
 pub mod Journals

@@ -1,12 +1,12 @@
 //! What holds of lines, apart from any call. Each is a function without a parameter whose contract
 //! is the law; it does nothing.
 
-ghost use Rattle.std.specs.Prelude.{◌≡◌, ◌≢◌, ◌≤◌, ◌<◌, ◌^◌, [], ◌∷◌, ◌++◌, ℕ, List, All, length};
+ghost use Rattle.std.specs.Prelude.{◌≡◌, ◌≤◌, ◌<◌, ◌^◌, [], ◌∷◌, ◌++◌, ℕ, List, All, length};
 ghost use Rattle.std.specs.Prelude.{IfSome, Some, None};
 ghost use Rattle.sealed_log.specs.Sealed.{longest, sealed_with};
-ghost use Rattle.sealed_log.specs.declared.sorts.Sort.TheVariants.{Adds};
 ghost use Rattle.office_policy.specs.History.{Event, History};
-ghost use Rattle.office_policy.specs.Lawful.{IsAllowed, IsFounding};
+ghost use Rattle.office_policy.specs.Lawful.{IsAllowed, IsFounding, IsLawfulHistory};
+ghost use Rattle.office_policy.specs.TablesOf.{tables_of};
 ghost use Rattle.journal.specs.declared.events.Unreadable.{Unreadable};
 ghost use Rattle.journal.specs.Examples.{founding, enrolment, submission, vote, issue};
 ghost use Rattle.journal.specs.Examples.{withdrawal, adoption, hold, release, founding_text};
@@ -17,9 +17,9 @@ ghost use Rattle.journal.specs.Forms.{HasForms, IsFormed};
 ghost use Rattle.journal.specs.Journal.{EndsWithEvent, IsEntry, IsJournalOf, IsSealedJournal};
 ghost use Rattle.journal.specs.Journal.{Says, history_in};
 ghost use Rattle.journal.specs.Lines.{Line, done, happened, strike, text_of};
-ghost use Rattle.journal.specs.Sorts.{kept_lines, line_sort, newest_text, sort_of};
 ghost use Rattle.journal.specs.Told.{Begins, Ends, GoesOn, IsJournalTo, IsOutside, Place};
 ghost use Rattle.journal.specs.Told.{Stops, Tells, history_told, standing, start, told};
+ghost use Rattle.journal.specs.Writers.{ShowsWriters, writers_of};
 
 /// A text is that of one line: it says what happened, by whom, and of what.
 pub fn a_text_is_of_one_line()
@@ -52,21 +52,14 @@ pub fn a_done_line_changes_nothing()
         → length bodies < 2 ^ 64 → Says (bodies ++ text_of (done (length bodies)) ∷ []) h }
 {}
 
-/// What is kept of the lines of a journal tells which event is the newest that no further line can
-/// strike out.
-pub fn what_is_kept_has_the_newest()
-    ensures sort { (line : Line) → IsFormed line → sort_of (text_of line) ≡ line_sort line }
-    ensures event { (bodies : List (List ℕ)) (h : History) (e : Event) → HasForms e
-        → Says (bodies ++ text_of (happened e) ∷ []) (e ∷ h)
-        → kept_lines (bodies ++ text_of (happened e) ∷ []) ≡ (newest_text h, Some (text_of (happened e))) }
-    ensures settled { (bodies : List (List ℕ)) (line : Line) (h : History) → IsFormed line
-        → (line_sort line ≢ Adds) → Says (bodies ++ text_of line ∷ []) h
-        → kept_lines (bodies ++ text_of line ∷ []) ≡ (newest_text h, Some (text_of line)) }
-{}
-
 /// A text is the journal of one history at most.
 pub fn a_journal_has_one_history()
     ensures { (text : List ℕ) (g h : History) → IsJournalOf text g → IsJournalOf text h → g ≡ h }
+{}
+
+/// The tables of a lawful history show the newest event that wrote to each of them.
+pub fn tables_show_their_writers()
+    ensures { (h : History) → IsLawfulHistory h → ShowsWriters (tables_of h) (writers_of h) }
 {}
 
 /// What lines say, by computing: the events that the next line doesn't strike out, the newest

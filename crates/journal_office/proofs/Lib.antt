@@ -1,4 +1,4 @@
-pub mod Ends
+pub mod AskFacts
 pub mod MendFacts
 pub mod OpenFacts
 pub mod Leaving

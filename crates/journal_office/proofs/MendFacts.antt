@@ -1,49 +1,45 @@
--- What becomes of a journal that a crash left, by what its last line says.
-use Rattle.std.proofs.Common.{◌≡◌, ◌≢◌, ◌∙◌, ◌⊎◌, ℕ, ◌+◌, ◌≤◌, ◌<◌, List, [], ◌∷◌, ◌++◌, Bool, true, false, Option, Some, None, option_map, Result, Ok, Err, IfErr, IsTrue, length, refl, sym, ap, subst, arith, inl, inr, length-append}
+-- What becomes of a journal that a crash left, by what the tables show of it.
+use Rattle.std.proofs.Common.{◌≡◌, ◌≢◌, ◌∙◌, ◌⊎◌, ℕ, ◌+◌, ◌≤◌, ◌<◌, List, [], ◌∷◌, ◌++◌, Bool, true, false, Option, Some, None, Result, Ok, Err, IfErr, IsTrue, length, refl, sym, ap, subst, arith, inl, inr, length-append}
 use Rattle.std.specs.Prelude.{OnOk, IsErrAnd}
+use Rattle.std.proofs.lemmas.List.{length-map}
 use Rattle.sqlite_disk.specs.declared.Disk.{Ghosts}
 use Rattle.sealed_log.specs.Disks.{LeavesTail}
 use Rattle.sealed_log.specs.Log.{bodies_of}
-use Rattle.sealed_log.specs.Reading.{IsThrough, Keeps}
+use Rattle.sealed_log.specs.Reading.{IsThrough}
 use Rattle.sealed_log.specs.Sealed.{longest, sealed_text}
-use Rattle.sealed_log.specs.Sorts.{added_by, settled_by}
 use Rattle.sealed_log.specs.Told.{HasMore, HasTail, told}
 use Rattle.sealed_log.specs.declared.log.SealedLog.{SealedLog}
-use Rattle.sealed_log.specs.declared.sorts.Sort.{Sort}
-use Rattle.sealed_log.specs.declared.sorts.Sort.TheVariants.{Adds, TakesBack, Settles}
 use Rattle.sealed_log.specs.declared.through.Through.{Through}
 use Rattle.sealed_log.proofs.LogFacts.{all_told, length-through, more_behind}
 use Rattle.sealed_log.proofs.ToldFacts.{told_text}
-use Rattle.office_tables.specs.Tables.{Tables}
-use Rattle.office_policy.proofs.ShownFacts.{last_shown, shown_unchanged}
-use Rattle.office_policy.proofs.SurvivalFacts.{survives_none, survives_on}
-use Rattle.review_policy.specs.declared.fault.Fault.{Fault}
-use Rattle.review_policy.specs.declared.fault.Fault.TheVariants as faults
-use Rattle.office_desk.specs.Looking.{HasLooked, IsMetBetween, TellsWhether}
+use Rattle.sealed_log.specs.declared.fault.LogFault.{LogFault}
+use Rattle.sealed_log.specs.declared.fault.LogFault.TheVariants as logs
 use Rattle.office_policy.specs.History.{Event, History}
-use Rattle.office_policy.specs.Handled.{HasRisen}
 use Rattle.office_policy.specs.Judging.{LeavesAll}
 use Rattle.office_policy.specs.Lawful.{IsAllowed, IsLawfulHistory}
 use Rattle.office_policy.specs.Meaning.{Meaning}
+use Rattle.office_policy.specs.Runs.{with_event as with_was}
 use Rattle.office_policy.specs.ShowsEvent.{Shows}
 use Rattle.office_policy.specs.TablesOf.{tables_of}
-use Rattle.journal.specs.Forms.{HasForms, IsFormed}
-use Rattle.journal.specs.Journal.{EndsWithEvent, Says}
-use Rattle.journal.specs.Lines.{Line, done, happened, strike, text_of}
-use Rattle.journal.specs.Sorts.{kept_lines, line_sort, newest_text, sort_of}
-use Rattle.journal.proofs.KeptFacts.{kept_more, says_newest}
+use Rattle.office_policy.proofs.ShownFacts.{last_shown, shown_unchanged}
+use Rattle.office_policy.proofs.SurvivalFacts.{survives_none}
+use Rattle.journal.specs.declared.reader.Faulty.{Faulty}
+use Rattle.journal.specs.declared.reader.Faulty.TheVariants as faulty
+use Rattle.journal.specs.Journal.{EndsWithEvent, Says, history_in}
+use Rattle.journal.specs.Kept.{IsFaulty, IsKept, SaysNone, Settled, with_stood}
+use Rattle.journal.specs.Lines.{Line, happened, strike, text_of}
+use Rattle.journal.specs.Writers.{ShowsWriters, Writers, writers_of}
+use Rattle.journal.proofs.JournalFacts.{says_one}
+use Rattle.journal.proofs.KeptFacts.{ends_with, held_more, says_all, settled_one}
 use Rattle.journal.proofs.Lengths.{allowed_entry}
-use Rattle.journal.proofs.LineFacts.{same_line}
 use Rattle.journal.proofs.Texts.{one_more, one_struck}
+use Rattle.journal.proofs.WriterFacts.{writers_shown}
 use Rattle.journal_office.specs.declared.mending.Last.{Last}
 use Rattle.journal_office.specs.declared.mending.Last.TheVariants as last
 use Rattle.journal_office.specs.declared.not_reopened.NotReopened.{NotReopened}
 use Rattle.journal_office.specs.declared.not_reopened.NotReopened.TheVariants.{Unsealed, NotALine, Changed, OtherJournal, Office, Log, NoMemory}
-use Rattle.sealed_log.specs.declared.fault.LogFault.{LogFault}
-use Rattle.sealed_log.specs.declared.fault.LogFault.TheVariants as logs
-use Rattle.journal_office.specs.Faults.{IsOutside, IsRefusal, log_fault}
-use Rattle.journal_office.specs.Mending.{event_shown, Asks, AsksLast, EndsWithLine, HasOfficeCause, HasTablesOf, IsAsked, IsAskedLast, IsLastOf, IsMended, IsOneMore, IsShown, IsStruckOut, IsUnshown, LooksFor, Mends, SaysNow, SaysOther, ShowsText, TellsOf}
-use Rattle.journal_office.proofs.Ends.{EndsBy, EndsIn, IsFormedNewest, IsNewest, event_last, has_end, last_is, newest_formed, none_kept, with_line}
+use Rattle.journal_office.specs.Faults.{IsOutside, IsRefusal, line_fault, log_fault}
+use Rattle.journal_office.specs.Mending.{Asks, HasOfficeCause, HasTablesOf, IsAnswer, IsLastOf, IsMended, IsOneMore, IsStruckOut, Mends, SaysNow, SaysOther, TellsOf}
 
 -- ---- what the tables tell of it
 
@@ -51,90 +47,89 @@ pub lawful_more : (h : History) (e : Event) → IsLawfulHistory h → IsAllowed 
 lawful_more [] e lawful allowed = absurd lawful
 lawful_more (f ∷ before) e lawful allowed = (allowed, lawful)
 
-pub newest_shown : (h : History) (e : Event) → IsLawfulHistory h → IsNewest h e → Shows (tables_of h) e
-newest_shown h e lawful new = subst (λ k. Shows (tables_of k) e) (sym new.1) (last_shown new.0 e (subst IsLawfulHistory new.1 lawful))
-
-never_both : (b : Bool) → b ≡ true → b ≡ false → ⊥
-never_both b is_true is_false = let c : true ≡ false = sym is_true ∙ is_false in absurd cc
-
 -- bodies with one event more say it
-pub more_says : (h : History) (bodies : List (List ℕ)) (e : Event) → IsOneMore h bodies e → Says bodies (e ∷ h)
+more_says : (h : History) (bodies : List (List ℕ)) (e : Event) → IsOneMore h bodies e → Says bodies (e ∷ h)
 more_says h bodies e more =
     subst (λ (b : List (List ℕ)). Says b (e ∷ h)) (sym more.is) (one_more more.before h e (allowed_entry h e more.allowed more.forms) more.says)
 
 -- and don't where it is struck out
-pub struck_says : (h : History) (bodies new : List (List ℕ)) (e : Event) → IsOneMore h bodies e → new ≡ bodies ++ text_of strike ∷ [] → Says new h
+struck_says : (h : History) (bodies new : List (List ℕ)) (e : Event) → IsOneMore h bodies e → new ≡ bodies ++ text_of strike ∷ [] → Says new h
 struck_says h bodies new e more is =
     subst (λ (b : List (List ℕ)). Says b h) (sym (is ∙ ap (λ b. b ++ text_of strike ∷ []) more.is))
     (one_struck more.before h e (allowed_entry h e more.allowed more.forms) more.says)
 
+-- they hold it back
+more_held : (h : History) (bodies : List (List ℕ)) (e : Event) → IsOneMore h bodies e → Settled bodies h (Some e)
+more_held h bodies e more =
+    subst (λ (b : List (List ℕ)). Settled b h (Some e)) (sym more.is) (held_more more.before h e (allowed_entry h e more.allowed more.forms) more.says)
+
 itself : (h : History) → HasTablesOf h h
 itself h = record { grown = inl refl; tables = refl }
 
--- an event with its forms is that of a text with its own
-same_event : (e f : Event) → HasForms e → HasForms f → text_of (happened e) ≡ text_of (happened f) → e ≡ f
-same_event e f forms others is = let same = same_line (happened e) (happened f) forms others is in cc
+-- the event that is held back is the last writer
+held_of : (event : Option Event) (h : History) → with_stood event (writers_of h) ≡ writers_of (with_was event h)
+held_of None h = refl
+held_of (Some e) h = refl
 
-same_some : (a b : List ℕ) → Some a ≡ Some b → a ≡ b
+same_some : (a b : Event) → ◌≡◌ {A = Option Event} (Some a) (Some b) → a ≡ b
 same_some a b same = cc
 
-module _ {X : Type 0} (m : Meaning X) (old new : X) (h : History) (of : m.is_of h old) (clean : m.is_clean new) where
-  shown_event : (e : Event) → HasForms e → IsShown m old new (Some (text_of (happened e))) → Shows (tables_of h) e
-  shown_event e forms shown =
-      let is = shown h of clean in
-      subst (Shows (tables_of h)) (sym (same_event e is.event forms is.forms (same_some _ _ is.says))) is.shows
-
-  says_stays : (bodies : List (List ℕ)) (l : Line) (answer : Last) → IsFormed l → IsLastOf m old new l answer → EndsBy h bodies l → answer ≢ last.Unshown → SaysNow h bodies
-  says_stays bodies strike answer formed found by other = record { now = h; tables = itself h; says = by }
-  says_stays bodies (done n) answer formed found by other = record { now = h; tables = itself h; says = by }
-  says_stays bodies (happened e) answer formed found (inl kept) other = record { now = h; tables = itself h; says = kept.1 }
-  says_stays bodies (happened e) last.Shown formed found (inr more) other = record {
-    now = e ∷ h;
-    tables = record {
-      grown = inr (e, refl, more.allowed);
-      tables = shown_unchanged h e (lawful_more h e (m.lawful h old of) more.allowed) (shown_event e formed found.1);
-    };
-    says = more_says h bodies e more;
-  }
-  says_stays bodies (happened e) last.Unshown formed found (inr more) other = absurd (other refl)
-  says_stays bodies (happened e) last.Settled formed found (inr more) other = absurd (found refl)
-
-  more_unshown : (bodies : List (List ℕ)) (l : Line) → IsFormed l → IsLastOf m old new l last.Unshown → EndsBy h bodies l → (e : Event) × IsOneMore h bodies e
-  more_unshown bodies strike formed found by = absurd (let same : TakesBack ≡ Adds = found.0 in cc)
-  more_unshown bodies (done n) formed found by = absurd (let same : Settles ≡ Adds = found.0 in cc)
-  more_unshown bodies (happened e) formed found (inl kept) =
-      absurd (found.1 h of clean (record { event = e; forms = formed; says = refl; shows = newest_shown h e (m.lawful h old of) kept.0 }))
-  more_unshown bodies (happened e) formed found (inr more) = (e, more)
-
--- the newest event of a history is shown
-newest_has : (h : History) (text : Option (List ℕ)) → IsLawfulHistory h → IsFormedNewest h → text ≡ newest_text h → ShowsText (tables_of h) text
-newest_has [] text lawful formed is = absurd lawful
-newest_has (e ∷ h) text lawful formed is = record { event = e; forms = formed; says = is; shows = newest_shown (e ∷ h) e lawful (h, refl) }
-
-one_of : (settled : Option (List ℕ)) (last : Option (List ℕ)) → (settled_by sort_of settled last ≡ settled) ⊎ (settled_by sort_of settled last ≡ last)
-one_of settled None = inl refl
-one_of settled (Some last) = at (sort_of last)
-  where
-    at : (sort : Sort) → (added_by sort_of sort settled last ≡ settled) ⊎ (added_by sort_of sort settled last ≡ Some last)
-    at Adds = inr refl
-    at TakesBack = inl refl
-    at Settles = inl refl
+-- bodies with one more event hold that back
+one_held : (h settled : History) (bodies : List (List ℕ)) (event : Option Event) (e : Event) → Settled bodies settled event → IsOneMore h bodies e → (settled ≡ h) × (event ≡ Some e)
+one_held h settled bodies event e says more =
+    let same = settled_one bodies settled h event (Some e) says (more_held h bodies e more) in
+    (ap (λ (p : History × Option Event). p.0) same, ap (λ (p : History × Option Event). p.1) same)
 
 -- what a crash may leave a file telling isn't another's
 pub left_ours : (mark : ℕ) (h : History) (bodies : List (List ℕ)) → IsLawfulHistory h → TellsOf h bodies → mark ≤ length bodies → SaysOther mark h bodies → ⊥
 left_ours mark h bodies lawful tells enough (inl ahead) = omega (arith, enough, ahead)
-left_ours mark h bodies lawful (inl says) enough (inr unshown) =
-    let new = says_newest bodies h says in
-    let formed = newest_formed bodies h says in
-    elim (one_of (kept_lines bodies).0 (kept_lines bodies).1) [
-      | inl settled ↦ unshown.0 (newest_has h (kept_lines bodies).0 lawful formed (sym settled ∙ new))
-      | inr held ↦ unshown.1 (newest_has h (kept_lines bodies).1 lawful formed (sym held ∙ new))
-    ]
-left_ours mark h bodies lawful (inr one) enough (inr unshown) =
-    let more = one.1 in
-    let kept : (kept_lines bodies).0 ≡ newest_text h =
-    ap (λ b. (kept_lines b).0) more.is ∙ ap (λ (k : Option (List ℕ) × Option (List ℕ)). k.0) (kept_more more.before h one.0 more.forms more.says) in
-    unshown.0 (newest_has h (kept_lines bodies).0 lawful (newest_formed more.before h more.says) kept)
+left_ours mark h bodies lawful (inl says) enough (inr other) =
+    let same : with_was other.held other.settled ≡ h = says_one bodies _ h (says_all bodies other.settled other.held other.says) says in
+    other.with_it (subst (ShowsWriters (tables_of h)) (sym (held_of other.held other.settled ∙ ap writers_of same)) (writers_shown h lawful))
+left_ours mark h bodies lawful (inr one) enough (inr other) =
+    let same = (one_held h other.settled bodies other.held one.0 other.says one.1).0 in
+    other.without (subst (λ k. ShowsWriters (tables_of h) (writers_of k)) (sym same) (writers_shown h lawful))
+
+module _ {X : Type 0} (m : Meaning X) (old new : X) (h : History) (of : m.is_of h old) (clean : m.is_clean new) (settled : History) (bodies : List (List ℕ)) where
+  -- bodies stay whose last event is shown, or that hold none back
+  says_stays : (w after : Writers) (event : Option Event) (answer : Last) → Settled bodies settled event → IsLastOf m old new w after event answer → TellsOf h bodies → answer ≢ last.Unshown → SaysNow h bodies
+  says_stays w after event answer says found (inl kept) other = record { now = h; tables = itself h; says = kept }
+  says_stays w after (Some e) last.Shown says found (inr one) other =
+      let same : e ≡ one.0 = same_some e one.0 (one_held h settled bodies (Some e) one.0 says one.1).1 in
+      let shows : Shows (tables_of h) one.0 = subst (Shows (tables_of h)) same (found.0 h of clean) in
+      record {
+        now = one.0 ∷ h;
+        tables = record { grown = inr (one.0, refl, one.1.allowed); tables = shown_unchanged h one.0 (lawful_more h one.0 (m.lawful h old of) one.1.allowed) shows };
+        says = more_says h bodies one.0 one.1;
+      }
+  says_stays w after (Some e) last.Unshown says found (inr one) other = absurd (other refl)
+  says_stays w after (Some e) last.Settled says found (inr one) other = absurd found
+  says_stays w after None last.Shown says found (inr one) other = absurd found
+  says_stays w after None last.Unshown says found (inr one) other = absurd found
+  says_stays w after None last.Settled says found (inr one) other = absurd (let both = (one_held h settled bodies None one.0 says one.1).1 in cc)
+
+  -- one that isn't shown is one more
+  more_unshown : (w after : Writers) (event : Option Event) → Settled bodies settled event → IsLastOf m old new w after event last.Unshown → TellsOf h bodies → (e : Event) × IsOneMore h bodies e
+  more_unshown w after None says found tells = absurd found
+  more_unshown w after (Some e) says found (inl kept) =
+      let same : e ∷ settled ≡ h = says_one bodies (e ∷ settled) h (says_all bodies settled (Some e) says) kept in
+      absurd (found.0 h of clean (subst (λ k. Shows (tables_of k) e) same (last_shown settled e (subst IsLawfulHistory (sym same) (m.lawful h old of)))))
+  more_unshown w after (Some e) says found (inr one) = one
+
+-- the tables show the writers of the bodies, or these with the event that is held back
+shows_one : {X : Type 0} (m : Meaning X) (old new : X) (w after : Writers) (event : Option Event) (answer : Last) → IsLastOf m old new w after event answer → (after ≡ w) ⊎ (after ≡ with_stood event w)
+shows_one m old new w after (Some e) last.Shown found = inr found.1
+shows_one m old new w after (Some e) last.Unshown found = inl found.1
+shows_one m old new w after (Some e) last.Settled found = absurd found
+shows_one m old new w after None last.Shown found = absurd found
+shows_one m old new w after None last.Unshown found = absurd found
+shows_one m old new w after None last.Settled found = inl found
+
+-- an event that is shown ends them
+shown_ends : {X : Type 0} (m : Meaning X) (old new : X) (bodies : List (List ℕ)) (settled : History) (w after : Writers) (event : Option Event) → Settled bodies settled event
+    → IsLastOf m old new w after event last.Shown → EndsWithEvent bodies
+shown_ends m old new bodies settled w after (Some e) says found = ends_with bodies settled e says
+shown_ends m old new bodies settled w after None says found = absurd found
 
 -- ---- faults
 
@@ -164,147 +159,6 @@ outside_cause m old new (Office fault) outside = absurd outside
 outside_cause m old new Log outside = tt
 outside_cause m old new NoMemory outside = tt
 
--- ---- one question after another
-
-left_on : {X : Type 0} (m : Meaning X) (old mid new : X) → LeavesAll m old mid → LeavesAll m mid new → LeavesAll m old new
-left_on m old mid new first then = record {
-  survives = survives_on m old mid new first.survives then.survives;
-  office = λ h of. then.office h (first.office h of);
-  kept = λ clean. m.keeps_on old mid new (first.kept (then.survives.clean clean)) (then.kept clean);
-  crash = λ clean left may. first.crash (then.survives.clean clean) left (then.crash clean left may);
-}
-
-met_on : {X : Type 0} (m : Meaning X) (old mid new : X) (fault : Fault) → m.faults old ≤ m.faults mid → (m.is_open old → m.is_open mid ⊎ HasRisen (m.faults old) (m.faults mid)) → m.faults mid ≤ m.faults new → IsMetBetween m mid new fault → IsMetBetween m old new fault
-met_on m old mid new faults.NoMemory counts closes rest met = tt
-met_on m old mid new faults.Disk counts closes rest met = λ is_open. elim (closes is_open) [
-  | inl still ↦ let risen = met still in omega (arith, counts, risen)
-  | inr risen ↦ omega (arith, risen, rest)
-]
-met_on m old mid new faults.Full counts closes rest met = omega (arith, counts, met)
-met_on m old mid new faults.NotAnOffice counts closes rest met = met
-
-module _ {X : Type 0} (m : Meaning X) (old mid new : X) (first : LeavesAll m old mid) (then : LeavesAll m mid new) where
-  pub leaves_both : LeavesAll m old new
-  leaves_both = left_on m old mid new first then
-
-  unshown_on : (text : Option (List ℕ)) → IsUnshown m old mid text → IsUnshown m old new text
-  unshown_on text unshown h of clean = unshown h of (then.survives.clean clean)
-
-  last_on : (l : Line) (answer : Last) → IsLastOf m old mid l answer → IsLastOf m old new l answer
-  last_on l last.Shown found = (found.0, λ h of clean. found.1 h of (then.survives.clean clean))
-  last_on l last.Unshown found = (found.0, λ h of clean. found.1 h of (then.survives.clean clean))
-  last_on l last.Settled found = found
-
-  module _ (settled : Option (List ℕ)) (text : List ℕ) (answer : Last) (asks : IsAsked m old mid text answer) where
-    -- neither is in the tables
-    pub is_other : answer ≢ last.Shown → LooksFor m mid new settled (Ok false) → AsksLast m old new settled text (Err OtherJournal)
-    is_other other looks = record {
-      settled_unshown = λ h of clean. looks.0 h (first.office h of) clean;
-      last_unshown = λ h of clean shows. at answer asks.found other h of (then.survives.clean clean) (text_shown shows);
-    }
-      where
-        text_shown : {t : Tables} → ShowsText t (Some text) → ShowsText t (Some (text_of asks.line))
-        text_shown shows = record { event = shows.event; forms = shows.forms; says = ap (λ x. Some x) (sym asks.says) ∙ shows.says; shows = shows.shows }
-
-        at : (a : Last) → IsLastOf m old mid asks.line a → a ≢ last.Shown → (h : History) → m.is_of h old → m.is_clean mid → ShowsText (tables_of h) (Some (text_of asks.line)) → ⊥
-        at last.Shown found other_one h of clean shows = other_one refl
-        at last.Unshown found other_one h of clean shows = found.1 h of clean shows
-        at last.Settled found other_one h of clean shows =
-            found (ap line_sort (same_line asks.line (happened shows.event) asks.formed shows.forms (same_some _ _ shows.says)))
-
-    -- the settled one is
-    pub is_last : LooksFor m mid new settled (Ok true) → AsksLast m old new settled text (Ok answer)
-    is_last looks = record {
-      asked = record {
-        line = asks.line;
-        says = asks.says;
-        formed = asks.formed;
-        found = last_on asks.line answer asks.found;
-        stands = λ h was clean. looks.1 h (asks.stands h was (then.survives.clean clean)) clean;
-      };
-      ours = λ h of clean settled_unshown unshown. settled_unshown (looks.0 h (first.office h of) clean);
-    }
-
-    pub not_looked : (why : NotReopened) → LooksFor m mid new settled (Err why) → AsksLast m old new settled text (Err why)
-    not_looked Unsealed looks = absurd looks
-    not_looked (Changed at) looks = absurd looks
-    not_looked NotALine looks = absurd looks
-    not_looked OtherJournal looks = absurd looks
-    not_looked (Office fault) looks = λ h of clean.
-        let before = then.survives.clean clean in
-        met_on m old mid new fault first.survives.counts (first.survives.closes before) then.survives.counts (looks h (first.office h of) clean)
-    not_looked Log looks = absurd looks
-    not_looked NoMemory looks = tt
-
--- the last line says what is in the tables
-pub is_reached : {X : Type 0} (m : Meaning X) (old new : X) (settled : Option (List ℕ)) (text : List ℕ) → IsAsked m old new text last.Shown → AsksLast m old new settled text (Ok last.Shown)
-is_reached m old new settled text asks = record {
-  asked = asks;
-  ours = λ h of clean settled_unshown unshown.
-      let shown = asks.found.1 h of clean in
-      unshown (record { event = shown.event; forms = shown.forms; says = ap (λ x. Some x) asks.says ∙ shown.says; shows = shown.shows });
-}
-
--- the last line wasn't read, or the office wasn't asked
-pub not_last : {X : Type 0} (m : Meaning X) (old new : X) (settled : Option (List ℕ)) (text : List ℕ) (why : NotReopened) → Asks m old new text (Err why)
-    → AsksLast m old new settled text (Err why)
-not_last m old new settled text Unsealed asks = asks
-not_last m old new settled text NotALine asks = asks
-not_last m old new settled text (Changed at) asks = asks
-not_last m old new settled text OtherJournal asks = absurd asks
-not_last m old new settled text (Office fault) asks = asks
-not_last m old new settled text Log asks = asks
-not_last m old new settled text NoMemory asks = asks
-
--- whether a text is that of the line of an event that the tables show
-module _ {X : Type 0} (m : Meaning X) (old new : X) (text : List ℕ) where
-  module _ (e : Event) (forms : HasForms e) (says : text ≡ text_of (happened e)) where
-    pub shown_text : HasLooked m old new (TellsWhether e) (Ok true) → IsShown m old new (Some text)
-    shown_text look = λ h of clean. record { event = e; forms = forms; says = ap (λ x. Some x) says; shows = (look.found h of clean).0 refl }
-
-    pub unshown_text : HasLooked m old new (TellsWhether e) (Ok false) → IsUnshown m old new (Some text)
-    unshown_text look = λ h of clean shows.
-        let same : shows.event ≡ e = same_event shows.event e shows.forms forms (sym (same_some _ _ shows.says) ∙ says) in
-        never_both false ((look.found h of clean).1 (subst (Shows (tables_of h)) same shows.shows)) refl
-
-    pub looked_for : (shown : Bool) → HasLooked m old new (TellsWhether e) (Ok shown) → LooksFor m old new (Some text) (Ok shown)
-    looked_for true look = (shown_text look, λ h stands clean. look.stands h stands.is_of clean)
-    looked_for false look = (unshown_text look, λ h stands clean. look.stands h stands.is_of clean)
-
-    pub asked_event : (shown : Bool) → HasLooked m old new (TellsWhether e) (Ok shown) → Asks m old new text (Ok (event_shown shown))
-    asked_event true look = record {
-      line = happened e;
-      says = says;
-      formed = forms;
-      found = (refl, subst (λ t. IsShown m old new (Some t)) says (shown_text look));
-      stands = λ h stands clean. look.stands h stands.is_of clean;
-    }
-    asked_event false look = record {
-      line = happened e;
-      says = says;
-      formed = forms;
-      found = (refl, subst (λ t. IsUnshown m old new (Some t)) says (unshown_text look));
-      stands = λ h stands clean. look.stands h stands.is_of clean;
-    }
-
-  pub look_failed : (e : Event) (fault : Fault) → HasLooked m old new (TellsWhether e) (Err fault) → LooksFor m old new (Some text) (Err (Office fault))
-  look_failed e fault look = look.cause
-
--- a line on the one before it has no event
-pub no_event_there : (text : List ℕ) (l : Line) → IsFormed l → line_sort l ≢ Adds → text ≡ text_of l → (e : Event) → HasForms e → text ≢ text_of (happened e)
-no_event_there text l formed other says e forms is = other (ap line_sort (same_line l (happened e) formed forms (sym says ∙ is)))
-
-module _ {X : Type 0} (m : Meaning X) (x : X) (text : List ℕ) where
-  -- a text of no event's line shows none
-  pub no_event : ((e : Event) → HasForms e → text ≢ text_of (happened e)) → LooksFor m x x (Some text) (Ok false)
-  no_event none = (λ h of clean shows. none shows.event shows.forms (same_some _ _ shows.says), λ h stands clean. stands)
-
-  pub asked_settled : (l : Line) → IsFormed l → line_sort l ≢ Adds → text ≡ text_of l → Asks m x x text (Ok last.Settled)
-  asked_settled l formed other says = record { line = l; says = says; formed = formed; found = other; stands = λ h stands clean. stands }
-
-pub no_settled : {X : Type 0} (m : Meaning X) (x : X) → LooksFor m x x None (Ok false)
-no_settled m x = (λ h of clean shows. let both : ◌≡◌ {A = Option (List ℕ)} None (Some (text_of (happened shows.event))) = shows.says in cc, λ h stands clean. stands)
-
 -- a `?` that leaves with this fault
 pub left_with : {A : Type 0} (P : Result A NotReopened → Type 0) (r : Result A NotReopened) (why : NotReopened) → IsErrAnd r (λ e. e ≡ why) → P (Err why) → P r
 left_with P (Ok a) why is p = absurd is
@@ -316,11 +170,25 @@ same_bodies g old new has = ap told has ∙ told_text (bodies_of g old) (all_tol
 
 -- what a crash may leave tells something
 told_some : (h : History) (bodies : List (List ℕ)) → IsLawfulHistory h → TellsOf h bodies → bodies ≡ [] → ⊥
-told_some h bodies lawful tells none =
-    let end = has_end h bodies lawful tells in
-    omega (arith, ap length (sym none ∙ end.is), length-append end.before (text_of end.line ∷ []))
+told_some h bodies lawful (inl says) none =
+    let size : length says.lines ≡ 0 = sym (length-map says.lines text_of) ∙ sym (ap length says.are) ∙ ap length none in
+    at says.lines says.history size
+  where
+    at : (lines : List Line) → history_in lines ≡ Some h → length lines ≡ 0 → ⊥
+    at [] is size = let empty : [] ≡ h = cc in subst IsLawfulHistory (sym empty) lawful
+    at (l ∷ lines) is size = omega (arith, size)
+told_some h bodies lawful (inr one) none = omega (arith, ap length (sym none ∙ one.1.is), length-append one.1.before (text_of (happened one.0) ∷ []))
+
+-- and a history
+told_history : (h : History) (bodies : List (List ℕ)) → TellsOf h bodies → SaysNone bodies → ⊥
+told_history h bodies (inl says) none = none h says
+told_history h bodies (inr one) none = none (one.0 ∷ h) (more_says h bodies one.0 one.1)
 
 -- ---- the file
+
+empty : (bodies : List (List ℕ)) → length bodies ≡ 0 → bodies ≡ []
+empty [] none = refl
+empty (b ∷ bodies) none = absurd (omega (arith, none))
 
 module _ {X D : Type 0} (m : Meaning X) (g : Ghosts D) (mark : ℕ) where
   same_office : (x : X) → LeavesAll m x x
@@ -356,13 +224,40 @@ module _ {X D : Type 0} (m : Meaning X) (g : Ghosts D) (mark : ℕ) where
       crash = λ clean leaves left may. leaves left (read.crash left may);
     }
 
-    module _ (found : Through) (through : IsTrue (g.is_clean after.disk) → IsThrough (g.seen before.disk) found) (keeps : IsTrue (g.is_clean after.disk) → Keeps sort_of (g.seen before.disk) found) where
-      none_told : found.last ≡ None → IsTrue (g.is_clean after.disk) → bodies_of g before ≡ []
-      none_told none clean =
-          none_kept (bodies_of g before) (ap (λ (k : Option (List ℕ) × Option (List ℕ)). k.1) (keeps clean) ∙ ap (option_map (λ v. v.items)) none)
+    no_history : (IsTrue (g.is_clean after.disk) → SaysNone (bodies_of g before)) → Mends m g mark x x before after (Err NotALine)
+    no_history none = record {
+      leaves = same_office x;
+      stands = λ h stands clean. tt;
+      clean = read.clean;
+      opened = tt;
+      bodies = λ clean. tt;
+      journal = λ clean h of tells is_clean. tt;
+      ends = λ clean. tt;
+      marked = λ clean. tt;
+      unsealed = λ clean same. absurd cc;
+      changed = λ clean at same. absurd cc;
+      whole = λ clean. tt;
+      no_line = λ clean same. none clean;
+      line = λ clean h lawful tells. (λ same. told_history h (bodies_of g before) tells (none clean), λ same. cc);
+      other = λ clean h of is_clean same. absurd cc;
+      ours = λ clean h of is_clean. tt;
+      untouched = λ refusal. read.seen;
+      cause = λ h of clean. tt;
+      crash = λ clean leaves left may. leaves left (read.crash left may);
+    }
+
+    -- a line of it can't stand where it does
+    pub no_journal : (fault : Faulty) → (IsTrue (g.is_clean after.disk) → IsFaulty (bodies_of g before) fault) → Mends m g mark x x before after (Err (line_fault fault))
+    no_journal faulty.NotALine none = no_history none
+    no_journal faulty.NoEventBefore none = no_history none
+    no_journal faulty.NoMemory none = not_read NoMemory tt
+
+    module _ (found : Through) (through : IsTrue (g.is_clean after.disk) → IsThrough (g.seen before.disk) found) where
+      none_told : found.lines ≡ 0 → IsTrue (g.is_clean after.disk) → bodies_of g before ≡ []
+      none_told none clean = empty (bodies_of g before) (sym (through clean).lines ∙ none)
 
       -- none of its lines is sealed
-      pub no_seal_there : found.last ≡ None → Mends m g mark x x before after (Err Unsealed)
+      pub no_seal_there : found.lines ≡ 0 → Mends m g mark x x before after (Err Unsealed)
       no_seal_there none = record {
         leaves = same_office x;
         stands = λ h stands clean. tt;
@@ -450,7 +345,7 @@ module _ {X D : Type 0} (m : Meaning X) (g : Ghosts D) (mark : ℕ) where
         changed = λ clean.
             subst (λ (f : List ℕ). IfErr result (λ why. (at : ℕ) → why ≡ Changed at → HasMore f × (at ≡ length (sealed_text (told f))))) read.seen (mends.changed clean);
         whole = λ clean. subst (λ (f : List ℕ). OnOk result (HasMore f → ⊥)) read.seen (mends.whole clean);
-        no_line = λ clean. subst (λ (b : List (List ℕ)). IfErr result (λ why. why ≡ NotALine → EndsWithLine b → ⊥)) same (mends.no_line clean);
+        no_line = λ clean. subst (λ (b : List (List ℕ)). IfErr result (λ why. why ≡ NotALine → SaysNone b)) same (mends.no_line clean);
         line = λ clean h lawful tells. mends.line clean h lawful (subst (TellsOf h) (sym same) tells);
         other = λ clean h of is_clean. subst (λ (b : List (List ℕ)). IfErr result (λ why. why ≡ OtherJournal → SaysOther mark h b)) same (mends.other clean h of is_clean);
         ours = λ clean h of is_clean. subst (λ (b : List (List ℕ)). OnOk result (SaysOther mark h b → ⊥)) same (mends.ours clean h of is_clean);
@@ -463,38 +358,19 @@ module _ {X D : Type 0} (m : Meaning X) (g : Ghosts D) (mark : ℕ) where
 
   -- ---- the office is asked
 
-  module _ (old new : X) (before : SealedLog D g) (settled : Option (List ℕ)) (text : List ℕ) (leaves : LeavesAll m old new)
-      (keeps : IsTrue (g.is_clean before.disk) → kept_lines (bodies_of g before) ≡ (settled, Some text)) where
-    the_last : IsTrue (g.is_clean before.disk) → (kept_lines (bodies_of g before)).1 ≡ Some text
-    the_last clean = ap (λ (k : Option (List ℕ) × Option (List ℕ)). k.1) (keeps clean)
+  module _ (old new : X) (before : SealedLog D g) (w : Writers) (event : Option Event) (leaves : LeavesAll m old new)
+      (keeps : IsTrue (g.is_clean before.disk) → IsKept (bodies_of g before) w event) where
+    -- the journal is one, with a sealed line
+    asked_line : (why : NotReopened) → Asks m old new w event (Err why) → (why ≢ NotALine) × (why ≢ Unsealed)
+    asked_line Unsealed asks = absurd asks
+    asked_line NotALine asks = absurd asks
+    asked_line (Changed at) asks = absurd asks
+    asked_line OtherJournal asks = (λ same. cc, λ same. cc)
+    asked_line (Office fault) asks = (λ same. cc, λ same. cc)
+    asked_line Log asks = absurd asks
+    asked_line NoMemory asks = (λ same. cc, λ same. cc)
 
-    the_settled : IsTrue (g.is_clean before.disk) → (kept_lines (bodies_of g before)).0 ≡ settled
-    the_settled clean = ap (λ (k : Option (List ℕ) × Option (List ℕ)). k.0) (keeps clean)
-
-    -- the last line of what a crash may leave is a line
-    asked_line : (why : NotReopened) → AsksLast m old new settled text (Err why) → IsTrue (g.is_clean before.disk) → (h : History) → IsLawfulHistory h → TellsOf h (bodies_of g before)
-        → (why ≢ NotALine) × (why ≢ Unsealed)
-    asked_line Unsealed asks clean h lawful tells = absurd asks
-    asked_line NotALine asks clean h lawful tells =
-        let end = has_end h (bodies_of g before) lawful tells in
-        absurd (asks end.line end.formed (last_is (bodies_of g before) end.before text (text_of end.line) (the_last clean) end.is))
-    asked_line (Changed at) asks clean h lawful tells = absurd asks
-    asked_line OtherJournal asks clean h lawful tells = (λ same. cc, λ same. cc)
-    asked_line (Office fault) asks clean h lawful tells = (λ same. cc, λ same. cc)
-    asked_line Log asks clean h lawful tells = absurd asks
-    asked_line NoMemory asks clean h lawful tells = (λ same. cc, λ same. cc)
-
-    asked_no_line : (why : NotReopened) → AsksLast m old new settled text (Err why) → IsTrue (g.is_clean before.disk) → why ≡ NotALine → EndsWithLine (bodies_of g before) → ⊥
-    asked_no_line Unsealed asks clean same = absurd asks
-    asked_no_line NotALine asks clean same = λ e.
-        asks e.line e.formed (last_is (bodies_of g before) e.before text (text_of e.line) (the_last clean) e.is)
-    asked_no_line (Changed at) asks clean same = absurd asks
-    asked_no_line OtherJournal asks clean same = absurd cc
-    asked_no_line (Office fault) asks clean same = absurd cc
-    asked_no_line Log asks clean same = absurd asks
-    asked_no_line NoMemory asks clean same = absurd cc
-
-    asked_cause : (why : NotReopened) → AsksLast m old new settled text (Err why) → (h : History) → m.is_of h old → m.is_clean new → HasOfficeCause m old new why
+    asked_cause : (why : NotReopened) → Asks m old new w event (Err why) → (h : History) → m.is_of h old → m.is_clean new → HasOfficeCause m old new why
     asked_cause Unsealed asks h of clean = tt
     asked_cause NotALine asks h of clean = tt
     asked_cause (Changed at) asks h of clean = tt
@@ -504,38 +380,34 @@ module _ {X D : Type 0} (m : Meaning X) (g : Ghosts D) (mark : ℕ) where
     asked_cause NoMemory asks h of clean = tt
 
     -- another office's journal
-    asked_other : (why : NotReopened) → AsksLast m old new settled text (Err why) → IsTrue (g.is_clean before.disk) → (h : History) → m.is_of h old → m.is_clean new → why ≡ OtherJournal
+    asked_other : (why : NotReopened) → Asks m old new w event (Err why) → IsTrue (g.is_clean before.disk) → (h : History) → m.is_of h old → m.is_clean new → why ≡ OtherJournal
         → SaysOther mark h (bodies_of g before)
     asked_other Unsealed asks clean h of is_clean same = absurd asks
-    asked_other NotALine asks clean h of is_clean same = absurd cc
+    asked_other NotALine asks clean h of is_clean same = absurd asks
     asked_other (Changed at) asks clean h of is_clean same = absurd asks
-    asked_other OtherJournal asks clean h of is_clean same = inr (
-      subst (λ s. ShowsText (tables_of h) s → ⊥) (sym (the_settled clean)) (asks.settled_unshown h of is_clean),
-      subst (λ s. ShowsText (tables_of h) s → ⊥) (sym (the_last clean)) (asks.last_unshown h of is_clean),
-    )
+    asked_other OtherJournal asks clean h of is_clean same =
+        let kept = keeps clean in
+        inr (record {
+          settled = kept.settled;
+          held = event;
+          says = kept.says;
+          without = λ all. asks.0 h of is_clean (subst (ShowsWriters (tables_of h)) (sym kept.writers_are) all);
+          with_it = λ all. asks.1 h of is_clean (subst (λ k. ShowsWriters (tables_of h) (with_stood event k)) (sym kept.writers_are) all);
+        })
     asked_other (Office fault) asks clean h of is_clean same = absurd cc
     asked_other Log asks clean h of is_clean same = absurd asks
     asked_other NoMemory asks clean h of is_clean same = absurd cc
 
-    never_unsealed : (why : NotReopened) → AsksLast m old new settled text (Err why) → why ≡ Unsealed → ⊥
-    never_unsealed Unsealed asks same = asks
-    never_unsealed NotALine asks same = cc
-    never_unsealed (Changed at) asks same = cc
-    never_unsealed OtherJournal asks same = cc
-    never_unsealed (Office fault) asks same = cc
-    never_unsealed Log asks same = cc
-    never_unsealed NoMemory asks same = cc
-
-    never_changed : (why : NotReopened) (at : ℕ) → AsksLast m old new settled text (Err why) → why ≡ Changed at → ⊥
-    never_changed Unsealed at asks same = cc
-    never_changed NotALine at asks same = cc
+    never_changed : (why : NotReopened) (at : ℕ) → Asks m old new w event (Err why) → why ≡ Changed at → ⊥
+    never_changed Unsealed at asks same = asks
+    never_changed NotALine at asks same = asks
     never_changed (Changed there) at asks same = asks
     never_changed OtherJournal at asks same = cc
     never_changed (Office fault) at asks same = cc
-    never_changed Log at asks same = cc
+    never_changed Log at asks same = asks
     never_changed NoMemory at asks same = cc
 
-    pub not_asked : (why : NotReopened) → AsksLast m old new settled text (Err why) → Mends m g mark old new before before (Err why)
+    pub not_asked : (why : NotReopened) → Asks m old new w event (Err why) → Mends m g mark old new before before (Err why)
     not_asked why asks = record {
       leaves = leaves;
       stands = λ h stands clean. tt;
@@ -545,11 +417,11 @@ module _ {X D : Type 0} (m : Meaning X) (g : Ghosts D) (mark : ℕ) where
       journal = λ clean h of tells is_clean. tt;
       ends = λ clean. tt;
       marked = λ clean. tt;
-      unsealed = λ clean same. absurd (never_unsealed why asks same);
+      unsealed = λ clean same. absurd ((asked_line why asks).1 same);
       changed = λ clean at same. absurd (never_changed why at asks same);
       whole = λ clean. tt;
-      no_line = λ clean same. asked_no_line why asks clean same;
-      line = λ clean h lawful tells. asked_line why asks clean h lawful tells;
+      no_line = λ clean same. absurd ((asked_line why asks).0 same);
+      line = λ clean h lawful tells. asked_line why asks;
       other = λ clean h of is_clean. asked_other why asks clean h of is_clean;
       ours = λ clean h of is_clean. tt;
       untouched = λ refusal. refl;
@@ -587,40 +459,37 @@ module _ {X D : Type 0} (m : Meaning X) (g : Ghosts D) (mark : ℕ) where
 
       module _ (is_open : mid.is_open ≡ true) (same : IsTrue (g.is_clean mid.disk) → bodies_of g mid ≡ bodies_of g before)
           (no_more_there : IsTrue (g.is_clean mid.disk) → HasMore (g.seen before.disk) → ⊥) (enough : IsTrue (g.is_clean before.disk) → mark ≤ length (bodies_of g before)) (answer : Last)
-          (asks : IsAskedLast m old new settled text answer) where
-        pub asked : IsAsked m old new text answer
-        asked = asks.asked
+          (asks : IsAnswer m old new w event answer) where
+        kept : IsTrue (g.is_clean mid.disk) → IsKept (bodies_of g before) w event
+        kept clean = keeps (cut_clean clean)
 
         never_other : IsTrue (g.is_clean mid.disk) → (h : History) → m.is_of h old → m.is_clean new → SaysOther mark h (bodies_of g before) → ⊥
         never_other clean h of is_clean (inl ahead) = let all = enough (cut_clean clean) in omega (arith, all, ahead)
-        never_other clean h of is_clean (inr unshown) =
-            asks.ours h of is_clean (subst (λ s. ShowsText (tables_of h) s → ⊥) (the_settled (cut_clean clean)) unshown.0)
-            (subst (λ s. ShowsText (tables_of h) s → ⊥) (the_last (cut_clean clean)) unshown.1)
+        never_other clean h of is_clean (inr other) =
+            let same = settled_one (bodies_of g before) (kept clean).settled other.settled event other.held (kept clean).says other.says in
+            let writers : w ≡ writers_of other.settled = (kept clean).writers_are ∙ ap (λ (p : History × Option Event). writers_of p.0) same in
+            let held : event ≡ other.held = ap (λ (p : History × Option Event). p.1) same in
+            elim (shows_one m old new w asks.after event answer asks.last) [
+              | inl is ↦ other.without (subst (ShowsWriters (tables_of h)) (is ∙ writers) (asks.shows h of is_clean))
+              | inr is ↦ other.with_it (subst (ShowsWriters (tables_of h)) (is ∙ ap (with_stood event) writers ∙ ap (λ e. with_stood e (writers_of other.settled)) held) (asks.shows h of is_clean))
+            ]
 
-        ends_in : IsTrue (g.is_clean mid.disk) → EndsIn (bodies_of g before) asked.line
-        ends_in clean = with_line (bodies_of g before) text asked.line (the_last (cut_clean clean)) asked.says
+        was_journal : (clean : IsTrue (g.is_clean mid.disk)) → Says (bodies_of g before) (with_was event (kept clean).settled)
+        was_journal clean = says_all (bodies_of g before) (kept clean).settled event (kept clean).says
 
-        ends_line : IsTrue (g.is_clean mid.disk) → EndsWithLine (bodies_of g before)
-        ends_line clean = record { before = (ends_in clean).before; line = asked.line; formed = asked.formed; is = (ends_in clean).is }
-
-        -- the line that was asked about is the last one
-        ends_by : IsTrue (g.is_clean mid.disk) → (h : History) → IsLawfulHistory h → TellsOf h (bodies_of g before) → EndsBy h (bodies_of g before) asked.line
-        ends_by clean h lawful tells =
-            let end = has_end h (bodies_of g before) lawful tells in
-            let texts = last_is (bodies_of g before) end.before text (text_of end.line) (the_last (cut_clean clean)) end.is in
-            subst (EndsBy h (bodies_of g before)) (same_line end.line asked.line end.formed asked.formed (sym texts ∙ asked.says)) end.by
-
-        pub stays : answer ≢ last.Unshown → (settled_is : Bool) → (settled_is ≡ false → line_sort asked.line ≡ Adds) → Mends m g mark old new before mid (Ok settled_is)
-        stays is settled_is ends_with = record {
+        pub stays : answer ≢ last.Unshown → (settled_is : Bool) → (settled_is ≡ false → answer ≡ last.Shown) → Mends m g mark old new before mid (Ok settled_is)
+        stays is settled_is shown = record {
           leaves = leaves;
-          stands = asked.stands;
+          stands = asks.stays;
           clean = cut_clean;
           opened = is_open;
-          bodies = λ clean. record { last = ends_line clean; is = inl (same clean) };
+          bodies = λ clean. record { was = with_was event (kept clean).settled; says = was_journal clean; is = inl (same clean) };
           journal = λ clean h of tells is_clean.
               subst (SaysNow h) (sym (same clean))
-              (says_stays m old new h of is_clean (bodies_of g before) asked.line answer asked.formed asked.found (ends_by clean h (m.lawful h old of) tells) is);
-          ends = λ clean unsettled. subst EndsWithEvent (sym (same clean)) (event_last (bodies_of g before) asked.line (ends_in clean) asked.formed (ends_with unsettled));
+              (says_stays m old new h of is_clean (kept clean).settled (bodies_of g before) w asks.after event answer (kept clean).says asks.last tells is);
+          ends = λ clean unsettled.
+              subst EndsWithEvent (sym (same clean))
+              (shown_ends m old new (bodies_of g before) (kept clean).settled w asks.after event (kept clean).says (subst (IsLastOf m old new w asks.after event) (shown unsettled) asks.last));
           marked = λ clean. enough (cut_clean clean);
           unsealed = λ clean. tt;
           changed = λ clean. tt;
@@ -636,20 +505,20 @@ module _ {X D : Type 0} (m : Meaning X) (g : Ghosts D) (mark : ℕ) where
 
         pub stays_shown : answer ≡ last.Shown → Mends m g mark old new before mid (Ok false)
         stays_shown is =
-            stays (λ same. let both : last.Shown ≡ last.Unshown = sym is ∙ same in cc) false (λ _. (subst (IsLastOf m old new asked.line) is asked.found).0)
+            stays (λ same. let both : last.Shown ≡ last.Unshown = sym is ∙ same in cc) false (λ _. is)
 
         pub stays_settled : answer ≡ last.Settled → Mends m g mark old new before mid (Ok true)
         stays_settled is = stays (λ same. let both : last.Settled ≡ last.Unshown = sym is ∙ same in cc) true (λ unsettled. absurd (let c : true ≡ false = unsettled in cc))
 
         -- and the last line is struck out
         module _ (after : SealedLog D g) (is : answer ≡ last.Unshown) where
-          found_unshown : IsLastOf m old new asked.line last.Unshown
-          found_unshown = subst (IsLastOf m old new asked.line) is asked.found
+          found_unshown : IsLastOf m old new w asks.after event last.Unshown
+          found_unshown = subst (IsLastOf m old new w asks.after event) is asks.last
 
           module _ (struck : IsStruckOut g mid after (Ok tt)) where
             more : IsTrue (g.is_clean after.disk) → (h : History) → m.is_of h old → TellsOf h (bodies_of g before) → m.is_clean new → (e : Event) × IsOneMore h (bodies_of g before) e
             more clean h of tells is_clean =
-                more_unshown m old new h of is_clean (bodies_of g before) asked.line asked.formed found_unshown (ends_by (struck.clean clean) h (m.lawful h old of) tells)
+                more_unshown m old new h of is_clean (kept (struck.clean clean)).settled (bodies_of g before) w asks.after event (kept (struck.clean clean)).says found_unshown tells
 
             both : IsTrue (g.is_clean after.disk) → bodies_of g after ≡ bodies_of g before ++ text_of strike ∷ []
             both clean = struck.bodies clean ∙ ap (λ b. b ++ text_of strike ∷ []) (same (struck.clean clean))
@@ -657,10 +526,10 @@ module _ {X D : Type 0} (m : Meaning X) (g : Ghosts D) (mark : ℕ) where
             pub struck_out : Mends m g mark old new before after (Ok true)
             struck_out = record {
               leaves = leaves;
-              stands = asked.stands;
+              stands = asks.stays;
               clean = λ clean. cut_clean (struck.clean clean);
               opened = struck.opened;
-              bodies = λ clean. record { last = ends_line (struck.clean clean); is = inr (both clean) };
+              bodies = λ clean. record { was = with_was event (kept (struck.clean clean)).settled; says = was_journal (struck.clean clean); is = inr (both clean) };
               journal = λ clean h of tells is_clean.
                   let e = more clean h of tells is_clean in
                   record { now = h; tables = itself h; says = struck_says h (bodies_of g before) (bodies_of g after) e.0 e.1 (both clean) };

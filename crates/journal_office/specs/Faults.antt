@@ -1,17 +1,18 @@
 -- Why an office isn't opened again.
 use Rattle.sealed_log.specs.declared.fault.LogFault.{LogFault}
 use Rattle.sealed_log.specs.declared.fault.LogFault.TheVariants as logs
-use Rattle.journal.specs.declared.fault.UnreadLine.{UnreadLine}
-use Rattle.journal.specs.declared.fault.UnreadLine.TheVariants as unread
+use Rattle.journal.specs.declared.reader.Faulty.{Faulty}
+use Rattle.journal.specs.declared.reader.Faulty.TheVariants as faulty
 use Rattle.journal_office.specs.declared.not_reopened.NotReopened.{NotReopened}
 use Rattle.journal_office.specs.declared.not_reopened.NotReopened.TheVariants.{Unsealed, NotALine}
 use Rattle.journal_office.specs.declared.not_reopened.NotReopened.TheVariants.{Changed, OtherJournal}
 use Rattle.journal_office.specs.declared.not_reopened.NotReopened.TheVariants.{Office, Log, NoMemory}
 
--- why no line was read of a text
-abbrev pub unread_fault : UnreadLine → NotReopened
-unread_fault unread.NotALine = NotALine
-unread_fault unread.NoMemory = NoMemory
+-- why a line can't stand where it does
+abbrev pub line_fault : Faulty → NotReopened
+line_fault faulty.NotALine = NotALine
+line_fault faulty.NoEventBefore = NotALine
+line_fault faulty.NoMemory = NoMemory
 
 -- why the file of a journal can't be used
 abbrev pub log_fault : LogFault → NotReopened

@@ -2,15 +2,13 @@
 use Rattle.std.specs.Prelude.{◌≡◌, ◌≢◌, ◌⊎◌, ◌≤◌, ◌<◌, [], ◌∷◌, ◌++◌, ℕ, List, length, Bool, false}
 use Rattle.std.specs.Prelude.{true, Option, Some, None, Result, Ok, Err, ⊤, OnOk, IfOk, IfErr, IsTrue}
 use Rattle.sqlite_disk.specs.declared.Disk.{Ghosts}
+use Rattle.review_policy.specs.declared.fault.Fault.{Fault}
 use Rattle.sealed_log.specs.Disks.{LeavesTail}
 use Rattle.sealed_log.specs.Log.{bodies_of}
 use Rattle.sealed_log.specs.Sealed.{longest, sealed_text}
 use Rattle.sealed_log.specs.Told.{HasMore}
 use Rattle.sealed_log.specs.declared.log.SealedLog.{SealedLog}
-use Rattle.sealed_log.specs.declared.sorts.Sort.TheVariants.{Adds}
 use Rattle.office_policy.specs.History.{Event, History}
-use Rattle.office_policy.specs.Happened.{event_meant}
-use Rattle.office_policy.specs.declared.event.Event as values
 use Rattle.office_policy.specs.Handled.{Stands}
 use Rattle.office_policy.specs.Judging.{LeavesAll}
 use Rattle.office_policy.specs.Lawful.{IsAllowed, IsLawfulHistory}
@@ -19,11 +17,12 @@ use Rattle.office_policy.specs.ShowsEvent.{Shows}
 use Rattle.office_policy.specs.TablesOf.{tables_of}
 use Rattle.office_tables.specs.Tables.{Tables}
 use Rattle.office_desk.specs.Looking.{IsMetBetween}
-use Rattle.journal.specs.Forms.{HasForms, IsFormed}
+use Rattle.journal.specs.Forms.{HasForms}
 use Rattle.journal.specs.Journal.{EndsWithEvent, Says}
-use Rattle.journal.specs.Lines.{Line, happened, strike, text_of}
+use Rattle.journal.specs.Lines.{strike, text_of}
 use Rattle.journal.specs.Begun.{with_event}
-use Rattle.journal.specs.Sorts.{kept_lines, line_sort}
+use Rattle.journal.specs.Kept.{SaysNone, Settled, with_stood}
+use Rattle.journal.specs.Writers.{ShowsWriters, Writers, with_writer, writers_of}
 use Rattle.journal_office.specs.declared.mending.Last.{Last}
 use Rattle.journal_office.specs.declared.mending.Last.TheVariants as last
 use Rattle.journal_office.specs.declared.not_reopened.NotReopened.{NotReopened}
@@ -55,116 +54,95 @@ pub record IsOneMore (h : History) (bodies : List (List ℕ)) (e : Event) : Type
 abbrev pub TellsOf : History → List (List ℕ) → Type 0
 TellsOf h bodies = Says bodies h ⊎ ((e : Event) × IsOneMore h bodies e)
 
--- the last of bodies is that of a line of a journal
-pub record EndsWithLine (bodies : List (List ℕ)) : Type 0 where
-  pub before : List (List ℕ)
-  pub line : Line
-  pub formed : IsFormed line
-  pub is : bodies ≡ before ++ text_of line ∷ []
-
--- the bodies are those of another, and behind them nothing, or the line that strikes out the last
+-- the bodies are those of a journal, and behind them stands nothing more, or the line that strikes out
+-- the last
 pub record IsMended (old new : List (List ℕ)) : Type 0 where
-  pub last : EndsWithLine old
+  pub was : History
+  pub says : Says old was
   pub is : (new ≡ old) ⊎ (new ≡ old ++ text_of strike ∷ [])
 
--- the event of the line of a text, which has its forms; or it is that of no event's line
-abbrev pub FindsEvent : List ℕ → Result (Option values.Event) NotReopened → Type 0
-FindsEvent text (Ok (Some e)) =
-    (text ≡ text_of (happened (event_meant e))) × HasForms (event_meant e)
-FindsEvent text (Ok None) = (e : Event) → HasForms e → text ≢ text_of (happened e)
-FindsEvent text (Err NoMemory) = Unit {0}
-FindsEvent text (Err why) = ⊥
+-- the bodies say a history, and the tables show neither its writers nor those of it without the event
+-- that is held back, where one is
+pub record IsOthers (t : Tables) (bodies : List (List ℕ)) : Type 0 where
+  pub settled : History
+  pub held : Option Event
+  pub says : Settled bodies settled held
+  pub without : ShowsWriters t (writers_of settled) → ⊥
+  pub with_it : ShowsWriters t (with_stood held (writers_of settled)) → ⊥
 
--- what a line with an event says
-abbrev pub event_shown : Bool → Last
-event_shown true = last.Shown
-event_shown false = last.Unshown
-
--- the text is that of the line of an event that the tables show
-pub record ShowsText (t : Tables) (text : Option (List ℕ)) : Type 0 where
-  pub event : Event
-  pub forms : HasForms event
-  pub says : text ≡ Some (text_of (happened event))
-  pub shows : Shows t event
-
--- The mark of the tables is above the number of the bodies. Or the tables of the history show neither
--- the event of the last body, nor the last one that is settled.
+-- the mark of the tables is above the number of the bodies, or these are another's
 abbrev pub SaysOther : (mark : ℕ) → History → List (List ℕ) → Type 0
-SaysOther mark h bodies =
-    (length bodies < mark)
-    ⊎ ((ShowsText (tables_of h) (kept_lines bodies).0 → ⊥)
-    × (ShowsText (tables_of h) (kept_lines bodies).1 → ⊥))
+SaysOther mark h bodies = (length bodies < mark) ⊎ IsOthers (tables_of h) bodies
 
 module _ {X : Type 0} (m : Meaning X) where
-  -- the text is that of the line of an event that the tables don't show, or of another line, or of none
-  abbrev pub IsUnshown : (old new : X) → Option (List ℕ) → Type 0
-  IsUnshown old new text =
-      (h : History) → m.is_of h old → m.is_clean new → ShowsText (tables_of h) text → ⊥
-
-  -- it is that of the line of an event that the tables show
-  abbrev pub IsShown : (old new : X) → Option (List ℕ) → Type 0
-  IsShown old new text =
-      (h : History) → m.is_of h old → m.is_clean new → ShowsText (tables_of h) text
+  -- this holds of the tables
+  abbrev pub Holds : (old new : X) → (Tables → Type 0) → Type 0
+  Holds old new P = (h : History) → m.is_of h old → m.is_clean new → P (tables_of h)
 
   -- where it stood before it stands
   abbrev pub Stays : (old new : X) → Type 0
   Stays old new = (h : History) → Stands m h old → m.is_clean new → Stands m h new
 
-  -- whether it is shown; or memory or the office failed
-  abbrev pub LooksFor : (old new : X) → Option (List ℕ) → Result Bool NotReopened → Type 0
-  LooksFor old new text (Ok true) = IsShown old new text × Stays old new
-  LooksFor old new text (Ok false) = IsUnshown old new text × Stays old new
-  LooksFor old new text (Err (Office fault)) =
-      (h : History) → m.is_of h old → m.is_clean new → IsMetBetween m old new fault
-  LooksFor old new text (Err NoMemory) = Unit {0}
-  LooksFor old new text (Err why) = ⊥
+  -- a fault that the office met
+  abbrev pub IsMet : (old new : X) → Fault → Type 0
+  IsMet old new fault = (h : History) → m.is_of h old → m.is_clean new → IsMetBetween m old new fault
 
-  -- the line has an event that the tables show, has one that they don't, or has none
-  abbrev pub IsLastOf : (old new : X) → Line → Last → Type 0
-  IsLastOf old new line last.Shown = (line_sort line ≡ Adds) × IsShown old new (Some (text_of line))
-  IsLastOf old new line last.Unshown =
-      (line_sort line ≡ Adds) × IsUnshown old new (Some (text_of line))
-  IsLastOf old new line last.Settled = line_sort line ≢ Adds
+  -- the tables were asked whether this holds of them: it does, or it doesn't, or the office failed
+  abbrev pub LooksFor : (old new : X) → (Tables → Type 0) → Result ⊤ NotReopened → Type 0
+  LooksFor old new P (Ok _) = Holds old new P × Stays old new
+  LooksFor old new P (Err OtherJournal) = Holds old new (λ t. P t → ⊥)
+  LooksFor old new P (Err (Office fault)) = IsMet old new fault
+  LooksFor old new P (Err Unsealed) = ⊥
+  LooksFor old new P (Err NotALine) = ⊥
+  LooksFor old new P (Err (Changed at)) = ⊥
+  LooksFor old new P (Err Log) = ⊥
+  LooksFor old new P (Err NoMemory) = ⊥
 
-  -- the text is that of this line, which has its forms, and so much is found of it
-  pub record IsAsked (old new : X) (text : List ℕ) (last : Last) : Type 0 where
-    pub line : Line
-    pub says : text ≡ text_of line
-    pub formed : IsFormed line
-    pub found : IsLastOf old new line last
-    pub stands : Stays old new
+  -- the tables show the event that is held back, and it is one of the writers then; or they don't; or
+  -- none is held back
+  abbrev pub IsLastOf : (old new : X) → (before after : Writers) → Option Event → Last → Type 0
+  IsLastOf old new before after (Some e) last.Shown =
+      Holds old new (λ t. Shows t e) × (after ≡ with_writer e before)
+  IsLastOf old new before after (Some e) last.Unshown =
+      Holds old new (λ t. Shows t e → ⊥) × (after ≡ before)
+  IsLastOf old new before after (Some e) last.Settled = ⊥
+  IsLastOf old new before after None last.Shown = ⊥
+  IsLastOf old new before after None last.Unshown = ⊥
+  IsLastOf old new before after None last.Settled = after ≡ before
 
-  -- or it is that of no such line, or memory or the office failed
-  abbrev pub Asks : (old new : X) → List ℕ → Result Last NotReopened → Type 0
-  Asks old new text (Ok answer) = IsAsked old new text answer
-  Asks old new text (Err Unsealed) = ⊥
-  Asks old new text (Err (Changed at)) = ⊥
-  Asks old new text (Err NotALine) = (line : Line) → IsFormed line → text ≢ text_of line
-  Asks old new text (Err OtherJournal) = ⊥
-  Asks old new text (Err (Office fault)) =
-      (h : History) → m.is_of h old → m.is_clean new → IsMetBetween m old new fault
-  Asks old new text (Err Log) = ⊥
-  Asks old new text (Err NoMemory) = Unit {0}
-
-  -- the tables show neither the event of the last line, nor the last one that is settled
-  pub record IsOther (old new : X) (settled : Option (List ℕ)) (last : List ℕ) : Type 0 where
-    pub settled_unshown : IsUnshown old new settled
-    pub last_unshown : IsUnshown old new (Some last)
-
-  -- so much is found of the last line, and they show one of the two
-  pub record IsAskedLast (old new : X) (settled : Option (List ℕ)) (last : List ℕ) (answer : Last)
-      : Type 0 where
-    pub asked : IsAsked old new last answer
-    pub ours : (h : History) → m.is_of h old → m.is_clean new
-        → (ShowsText (tables_of h) settled → ⊥) → (ShowsText (tables_of h) (Some last) → ⊥) → ⊥
-
-  -- the office was asked about the last line, and about the event that is settled where it doesn't show
-  -- one of that
-  abbrev pub AsksLast : (old new : X) → (settled : Option (List ℕ)) → (last : List ℕ)
+  -- the tables were asked for it, or memory or the office failed
+  abbrev pub LooksAt : (old new : X) → (before after : Writers) → Option Event
       → Result Last NotReopened → Type 0
-  AsksLast old new settled last (Ok answer) = IsAskedLast old new settled last answer
-  AsksLast old new settled last (Err OtherJournal) = IsOther old new settled last
-  AsksLast old new settled last (Err why) = Asks old new last (Err why)
+  LooksAt old new before after event (Ok answer) =
+      IsLastOf old new before after event answer × Stays old new
+  LooksAt old new before after event (Err OtherJournal) = ⊥
+  LooksAt old new before after event (Err (Office fault)) = IsMet old new fault
+  LooksAt old new before after event (Err Unsealed) = ⊥
+  LooksAt old new before after event (Err NotALine) = ⊥
+  LooksAt old new before after event (Err (Changed at)) = ⊥
+  LooksAt old new before after event (Err Log) = ⊥
+  LooksAt old new before after event (Err NoMemory) = Unit {0}
+
+  -- so it is with the event that is held back, and the tables show all writers
+  pub record IsAnswer (old new : X) (writers : Writers) (event : Option Event) (answer : Last)
+      : Type 0 where
+    pub after : Writers
+    pub last : IsLastOf old new writers after event answer
+    pub shows : Holds old new (λ t. ShowsWriters t after)
+    pub stays : Stays old new
+
+  -- or they show neither these writers, nor those with the event; or memory or the office failed
+  abbrev pub Asks : (old new : X) → Writers → Option Event → Result Last NotReopened → Type 0
+  Asks old new writers event (Ok answer) = IsAnswer old new writers event answer
+  Asks old new writers event (Err OtherJournal) =
+      Holds old new (λ t. ShowsWriters t writers → ⊥)
+      × Holds old new (λ t. ShowsWriters t (with_stood event writers) → ⊥)
+  Asks old new writers event (Err (Office fault)) = IsMet old new fault
+  Asks old new writers event (Err Unsealed) = ⊥
+  Asks old new writers event (Err NotALine) = ⊥
+  Asks old new writers event (Err (Changed at)) = ⊥
+  Asks old new writers event (Err Log) = ⊥
+  Asks old new writers event (Err NoMemory) = Unit {0}
 
   -- a fault of the office has a cause
   abbrev pub HasOfficeCause : (old new : X) → NotReopened → Type 0
@@ -210,9 +188,9 @@ pub record Mends {X D : Type 0} (m : Meaning X) (g : Ghosts D) (mark : ℕ) (old
       → HasMore (g.seen before.disk) × (at ≡ length (sealed_text (bodies_of g before))))
   -- and it is mended only where no more does
   pub whole : IsTrue (g.is_clean after.disk) → OnOk result (HasMore (g.seen before.disk) → ⊥)
-  -- that it has no line, only where the last is none
+  -- that it is no journal, only where its bodies say no history
   pub no_line : IsTrue (g.is_clean after.disk)
-      → IfErr result (λ why. why ≡ NotALine → EndsWithLine (bodies_of g before) → ⊥)
+      → IfErr result (λ why. why ≡ NotALine → SaysNone (bodies_of g before))
   -- and neither of what a crash may leave
   pub line : IsTrue (g.is_clean after.disk) → (h : History) → IsLawfulHistory h
       → TellsOf h (bodies_of g before)

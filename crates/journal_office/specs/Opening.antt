@@ -15,12 +15,13 @@ use Rattle.office_policy.specs.Lawful.{IsLawfulHistory}
 use Rattle.office_desk.specs.Meant.{meaning_over}
 use Rattle.journal.specs.declared.journaled.Journaled.{Journaled}
 use Rattle.journal.specs.Journals.{IsOf, goes_on, journaled}
+use Rattle.journal.specs.Kept.{SaysNone}
 use Rattle.journal.specs.Logs.{in_log}
 use Rattle.journal_office.specs.declared.not_reopened.NotReopened.{NotReopened}
 use Rattle.journal_office.specs.declared.not_reopened.NotReopened.TheVariants.{Unsealed, NotALine}
 use Rattle.journal_office.specs.declared.not_reopened.NotReopened.TheVariants.{Changed, OtherJournal}
 use Rattle.journal_office.specs.Faults.{IsRefusal}
-use Rattle.journal_office.specs.Mending.{EndsWithLine, HasOfficeCause, HasTablesOf, IsMended}
+use Rattle.journal_office.specs.Mending.{HasOfficeCause, HasTablesOf, IsMended}
 use Rattle.journal_office.specs.Mending.{SaysOther, TellsOf}
 
 module _ {S D : Type 0} (s : Ghosts S) (g : DiskGhosts D) where
@@ -68,8 +69,7 @@ module _ {S D : Type 0} (s : Ghosts S) (g : DiskGhosts D) where
     pub unsealed : IsTrue (g.is_clean log.disk) → why ≡ Unsealed → bodies_of g before ≡ []
     pub changed : IsTrue (g.is_clean log.disk) → (at : ℕ) → why ≡ Changed at
         → HasMore (g.seen before.disk) × (at ≡ length (sealed_text (bodies_of g before)))
-    pub no_line : IsTrue (g.is_clean log.disk) → why ≡ NotALine
-        → EndsWithLine (bodies_of g before) → ⊥
+    pub no_line : IsTrue (g.is_clean log.disk) → why ≡ NotALine → SaysNone (bodies_of g before)
     pub line : IsTrue (g.is_clean log.disk) → (h : History) → IsLawfulHistory h
         → TellsOf h (bodies_of g before) → (why ≢ NotALine) × (why ≢ Unsealed)
     pub other : IsTrue (g.is_clean log.disk) → (h : History) → (meaning_over s).is_of h old

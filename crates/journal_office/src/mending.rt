@@ -1,17 +1,18 @@
 //! What a crash left of a journal is made the journal of its office again.
 
-ghost use Rattle.std.specs.Prelude.{◌≡◌, ◌≤◌, Some, IsTrue, length, option_map};
+ghost use Rattle.std.specs.Prelude.{◌≡◌, ◌≤◌, IsTrue, length, option_map};
 ghost use Rattle.sealed_log.specs.Log.{bodies_of};
 ghost use Rattle.sealed_log.specs.Reading.{IsThrough};
 ghost use Rattle.sealed_log.specs.Told.{HasMore};
+ghost use Rattle.office_policy.specs.Happened.{event_meant};
 ghost use Rattle.office_policy.specs.Judging.{LeavesAll};
 ghost use Rattle.office_desk.specs.Meant.{meaning_over};
-ghost use Rattle.journal.specs.Sorts.{kept_lines};
-ghost use Rattle.journal_office.specs.Mending.{Asks, AsksLast, FindsEvent, IsStruckOut};
-ghost use Rattle.journal_office.specs.Mending.{LooksFor, Mends, event_shown};
+ghost use Rattle.journal.specs.Kept.{IsKept};
+ghost use Rattle.journal.specs.Writers.{ShowsIf, ShowsWriters, boxed_meant, writers_meant};
+ghost use Rattle.journal_office.specs.Mending.{Asks, IsStruckOut, LooksAt, LooksFor, Mends};
 
 use crate::not_reopened::NotReopened;
-use journal::{Line, LineSorts, UnreadLine, read_line, text};
+use journal::{Kept, Line, Writers, text};
 use office_desk::Office;
 use office_policy::Event;
 use sealed_log::{SealedLog, Through};
@@ -19,108 +20,96 @@ use sqlite::Alter;
 use sqlite_disk::Disk;
 use std::alloc::Global;
 
-// What the last line of a journal says.
+// What became of the event that a journal holds back.
 #[derive(Clone, Copy)]
 enum Last {
-    // An event that the tables show.
+    // The tables show it.
     Shown,
-    // One that they don't.
+    // They don't.
     Unshown,
-    // What became of the event before it.
+    // None is held back.
     Settled,
 }
 
-// What a line with an event says.
-fn last_event(shown: bool) -> Last
-    ensures { result ≡ event_shown shown }
-{
-    if shown { Last::Shown } else { Last::Unshown }
-}
-
-// What the line of this text says.
-fn last_line<S: Alter>(
+// Looks whether the tables show the event that is held back, where one is. Then it is a writer, too.
+fn look_at<S: Alter>(
     alloc: Global,
     office: &mut Office<S>,
-    text: &[u8],
+    writers: &mut Writers,
+    held: Option<Event>,
 ) -> Result<Last, NotReopened>
     ensures leaves { LeavesAll (meaning_over S.Store) office.old office.new }
-    ensures asks { Asks (meaning_over S.Store) office.old office.new text.now result }
+    ensures looks { LooksAt (meaning_over S.Store) office.old office.new
+        (writers_meant writers.old) (writers_meant writers.new)
+        (option_map event_meant held) result }
 {
-    match read_line(alloc, text)? {
-        Line::Event(event) => {
-            let shown = office.shows(alloc, &event)?;
-            Ok(last_event(shown))
-        }
-        Line::Strike => Ok(Last::Settled),
-        Line::Done { .. } => Ok(Last::Settled),
+    let Some(event) = held else {
+        return Ok(Last::Settled);
+    };
+    if office.shows(alloc, &event)? {
+        writers.put(alloc, event)?;
+        Ok(Last::Shown)
+    } else {
+        Ok(Last::Unshown)
     }
 }
 
-// The event of the line of this text, where it is one's.
-fn event_of(alloc: Global, text: &[u8]) -> Result<Option<Event>, NotReopened>
-    ensures { FindsEvent text.now result }
-{
-    match read_line(alloc, text) {
-        Ok(Line::Event(event)) => Ok(Some(event)),
-        Ok(Line::Strike) => Ok(None),
-        Ok(Line::Done { .. }) => Ok(None),
-        Err(UnreadLine::NotALine) => Ok(None),
-        Err(UnreadLine::NoMemory) => Err(NotReopened::NoMemory),
-    }
-}
-
-// Whether the tables show the event of this text. A text that isn't that of an event's line has none.
-fn is_shown<S: Alter>(
+// Looks whether the tables show an event, where there is one.
+fn look_for<S: Alter>(
     alloc: Global,
     office: &mut Office<S>,
-    text: &[u8],
-) -> Result<bool, NotReopened>
-    ensures leaves { LeavesAll (meaning_over S.Store) office.old office.new }
-    ensures looks { LooksFor (meaning_over S.Store) office.old office.new (Some text.now) result }
-{
-    match event_of(alloc, text)? {
-        Some(event) => Ok(office.shows(alloc, &event)?),
-        None => Ok(false),
-    }
-}
-
-// Whether the tables show the event that is settled, where one is.
-fn is_settled_shown<S: Alter>(
-    alloc: Global,
-    office: &mut Office<S>,
-    settled: &Option<Vec<u8>>,
-) -> Result<bool, NotReopened>
+    writer: &Option<Box<Event>>,
+) -> Result<(), NotReopened>
     ensures leaves { LeavesAll (meaning_over S.Store) office.old office.new }
     ensures looks { LooksFor (meaning_over S.Store) office.old office.new
-        (option_map (λ v. v.items) settled.now) result }
+        (λ t. ShowsIf t (boxed_meant writer.now)) result }
 {
-    match settled {
-        Some(text) => is_shown(alloc, office, text),
-        None => Ok(false),
-    }
-}
-
-// What the last line says. Where the tables don't show an event of it, they show the one that is
-// settled: a crash keeps one event back, and no more.
-fn last_of_office<S: Alter>(
-    alloc: Global,
-    office: &mut Office<S>,
-    settled: &Option<Vec<u8>>,
-    last: &[u8],
-) -> Result<Last, NotReopened>
-    ensures leaves { LeavesAll (meaning_over S.Store) office.old office.new }
-    ensures asks { AsksLast (meaning_over S.Store) office.old office.new
-        (option_map (λ v. v.items) settled.now) last.now result }
-{
-    let found = last_line(alloc, office, last)?;
-    if let Last::Shown = found {
-        return Ok(Last::Shown);
-    }
-    if is_settled_shown(alloc, office, settled)? {
-        Ok(found)
+    let Some(event) = writer else {
+        return Ok(());
+    };
+    if office.shows(alloc, event)? {
+        Ok(())
     } else {
         Err(NotReopened::OtherJournal)
     }
+}
+
+// Looks whether the tables show all of these, and one that enrolled a user.
+fn look_for_all<S: Alter>(
+    alloc: Global,
+    office: &mut Office<S>,
+    writers: &Writers,
+) -> Result<(), NotReopened>
+    ensures leaves { LeavesAll (meaning_over S.Store) office.old office.new }
+    ensures looks { LooksFor (meaning_over S.Store) office.old office.new
+        (λ t. ShowsWriters t (writers_meant writers.now)) result }
+{
+    if writers.users.is_none() {
+        return Err(NotReopened::OtherJournal);
+    }
+    look_for(alloc, office, &writers.users)?;
+    look_for(alloc, office, &writers.revisions)?;
+    look_for(alloc, office, &writers.votes)?;
+    look_for(alloc, office, &writers.baselines)?;
+    look_for(alloc, office, &writers.holds)
+}
+
+// What became of the event that is held back, where the tables show the newest one that wrote to each
+// of them: a crash keeps that event back, and no more.
+fn ask<S: Alter>(
+    alloc: Global,
+    office: &mut Office<S>,
+    settled: Writers,
+    held: Option<Event>,
+) -> Result<Last, NotReopened>
+    ensures leaves { LeavesAll (meaning_over S.Store) office.old office.new }
+    ensures asks { Asks (meaning_over S.Store) office.old office.new
+        (writers_meant settled) (option_map event_meant held) result }
+{
+    let mut writers = settled;
+    let last = look_at(alloc, office, &mut writers, held)?;
+    look_for_all(alloc, office, &writers)?;
+    Ok(last)
 }
 
 // Writes the line that strikes out the one before it.
@@ -138,21 +127,22 @@ fn set_right<S: Alter, D: Disk>(
     alloc: Global,
     office: &mut Office<S>,
     found: &Through,
-    last: &[u8],
+    settled: Writers,
+    held: Option<Event>,
     log: &mut SealedLog<D>,
     mark: u32,
 ) -> Result<bool, NotReopened>
     requires found { IsTrue (D.is_clean log.old.disk)
         → IsThrough (D.seen log.old.disk) found.now }
     requires keeps { IsTrue (D.is_clean log.old.disk)
-        → kept_lines (bodies_of D.Disk log.old)
-        ≡ (option_map (λ v. v.items) found.now.settled, Some last.now) }
+        → IsKept (bodies_of D.Disk log.old)
+        (writers_meant settled) (option_map event_meant held) }
     requires whole { IsTrue (D.is_clean log.old.disk) → HasMore (D.seen log.old.disk) → ⊥ }
     requires marked { IsTrue (D.is_clean log.old.disk) → mark ≤ length (bodies_of D.Disk log.old) }
     ensures { Mends (meaning_over S.Store) D.Disk mark
         office.old office.new log.old log.new result }
 {
-    let last = last_of_office(alloc, office, &found.settled, last)?;
+    let last = ask(alloc, office, settled, held)?;
     log.open_at(found)?;
     match last {
         Last::Shown => Ok(false),
@@ -174,11 +164,11 @@ fn set_right<S: Alter, D: Disk>(
 ///
 /// # Errors
 ///
-/// No line is sealed, or more than a line stands behind those that are; the last one is no line of a
-/// journal; there are fewer lines than the mark, or the tables show neither the event of the last line
-/// nor the last one that stands whatever comes behind it; the office has a fault when it is asked; the
-/// file or memory fails. After any of them it can be done again: a crash then leaves what the file
-/// told, and behind that no more than it may have left before, or than a line that strikes out.
+/// No line is sealed, or more than a line stands behind those that are; a line is none of a journal;
+/// there are fewer lines than the mark, or the tables don't show the newest event that wrote to each of
+/// them, with the event of the last line or without; the office has a fault when it is asked; the file
+/// or memory fails. After any of them it can be done again: a crash then leaves what the file told, and
+/// behind that no more than it may have left before, or than a line that strikes out.
 pub fn mend<S: Alter, D: Disk>(
     alloc: Global,
     office: &mut Office<S>,
@@ -188,15 +178,17 @@ pub fn mend<S: Alter, D: Disk>(
     ensures { Mends (meaning_over S.Store) D.Disk mark
         office.old office.new log.old log.new result }
 {
-    let found = log.read::<LineSorts>(alloc)?;
-    let Some(last) = &found.last else {
+    let mut kept = Kept::new();
+    let found = log.read(alloc, &mut kept)?;
+    if found.lines() == 0 {
         return Err(NotReopened::Unsealed);
-    };
+    }
     if found.has_more() {
         return Err(NotReopened::Changed { at: found.at() });
     }
     if found.lines() < mark as u64 {
         return Err(NotReopened::OtherJournal);
     }
-    set_right(alloc, office, &found, last, log, mark)
+    let (settled, held) = kept.end()?;
+    set_right(alloc, office, &found, settled, held, log, mark)
 }

@@ -1,6 +1,6 @@
 //! Why an office and its journal aren't opened again.
 
-use journal::UnreadLine;
+use journal::Faulty;
 use review_policy::Fault;
 use sealed_log::LogFault;
 use std::alloc::AllocError;
@@ -12,17 +12,18 @@ pub enum NotReopened {
     /// No line of the journal is sealed.
     #[error("unsealed")]
     Unsealed,
-    /// The last line that is sealed is no line of a journal.
+    /// A line that is sealed is none of a journal, or can't stand behind those before it.
     #[error("not-a-line")]
     NotALine,
     /// More stands behind what is sealed, which ends at this offset, than a line: no crash left that.
     #[error("changed at {at}")]
     Changed { at: usize },
-    /// The journal has fewer lines than the mark of the tables; or these show neither the event of its
-    /// last line, nor the last one that stands: it is of another office, or of this one at another time.
+    /// The journal has fewer lines than the mark of the tables; or these don't show the newest event
+    /// that wrote to each of them, with or without the one on the last line: it is of another office,
+    /// or of this one at another time.
     #[error("other-journal")]
     OtherJournal,
-    /// The office met this fault when it was asked about the last lines.
+    /// The office met this fault when it was asked about events.
     #[error("office")]
     Office(Fault),
     /// The file of the journal can't be read, cut, written or synced.
@@ -58,16 +59,16 @@ impl From<AllocError> for NotReopened {
     }
 }
 
-impl From<UnreadLine> for NotReopened {
+impl From<Faulty> for NotReopened {
     ghost use Rattle.std.specs.Prelude.{◌≡◌};
-    ghost use Rattle.journal_office.specs.Faults.{unread_fault};
+    ghost use Rattle.journal_office.specs.Faults.{line_fault};
 
-    ghost from_gives = { λ why e. e ≡ unread_fault why };
+    ghost from_gives = { λ why e. e ≡ line_fault why };
 
-    fn from(why: UnreadLine) -> NotReopened {
+    fn from(why: Faulty) -> NotReopened {
         match why {
-            UnreadLine::NotALine => NotReopened::NotALine,
-            UnreadLine::NoMemory => NotReopened::NoMemory,
+            Faulty::NotALine | Faulty::NoEventBefore => NotReopened::NotALine,
+            Faulty::NoMemory => NotReopened::NoMemory,
         }
     }
 }

@@ -1,7 +1,6 @@
 //! Sealed logs, on disks that fail from some call on and then crash, and read as streams.
 
-use journal::LineSorts;
-use sealed_log::{LogFault, NoBody, Reader, SealedLog, is_body, no_seal, read_body};
+use sealed_log::{LogFault, NoBody, Nothing, Reader, SealedLog, is_body, no_seal, read_body};
 use sqlite_disk::{Crash, Disk, Fuse, Memory};
 use std::alloc::Global;
 use std::test::Fail;
@@ -31,7 +30,7 @@ fn put<D: Disk>(log: &mut SealedLog<D>, alloc: Global, body: &str) -> Result<(),
 }
 
 fn open<D: Disk>(log: &mut SealedLog<D>, alloc: Global) -> Result<(), LogFault> {
-    let found = log.read::<LineSorts>(alloc)?;
+    let found = log.read(alloc, &mut Nothing)?;
     log.open_at(&found)
 }
 

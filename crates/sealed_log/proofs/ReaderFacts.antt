@@ -1,20 +1,23 @@
 -- What a reader finds.
-use Rattle.std.proofs.Common.{◌≡◌, ℕ, ◌+◌, ◌-◌, false, List, [], ◌∷◌, ◌++◌, length, take, drop, Option, Some, None, option_map, sym, ap, ap₂, subst, refl, ◌∙◌, arith, append_assoc, length-drop}
-use Rattle.std.specs.Prelude.{Vec}
-use Rattle.std.specs.declared.alloc.Global.{Global}
+use Rattle.std.proofs.Common.{◌≡◌, ℕ, ◌+◌, ◌-◌, false, List, [], ◌∷◌, ◌++◌, length, take, drop, sym, ap, subst, refl, ◌∙◌, arith, append_assoc, length-append, length-drop}
 use Rattle.std.proofs.lemmas.List.{append-nil, length-take-le, take_at}
 use Rattle.std.proofs.Math.Seq.{take-add}
-use Rattle.sealed_log.specs.Sealed.{IsBody, seal_on, no_seal, sealed_line, sealed_lines, last_seal}
+use Rattle.sealed_log.specs.Sealed.{IsBody, seal_on, sealed_line, sealed_lines, last_seal}
 use Rattle.sealed_log.specs.Told.{IsSeal, IsUnended, told, body_in, is_sealed, told_behind}
 use Rattle.sealed_log.specs.Lines.{IsLine}
-use Rattle.sealed_log.specs.Reading.{IsStep, IsSoFar, IsThrough, Keeps, KeepsSoFar, told_at}
-use Rattle.sealed_log.specs.Sorts.{kept_from, settled_more}
-use Rattle.sealed_log.specs.declared.sorts.Sort.{Sort}
+use Rattle.sealed_log.specs.Reading.{IsStep, IsSoFar, IsThrough, told_at}
 use Rattle.sealed_log.specs.declared.through.Through.{Through}
 use Rattle.sealed_log.specs.declared.reader.Reader.{Reader}
 use Rattle.sealed_log.proofs.LineFacts.{line_text, line_told}
 use Rattle.sealed_log.proofs.SealFacts.{length-sealed_line}
 use Rattle.sealed_log.proofs.ToldFacts.{IsBody-body_in, told_nowhere, told_other}
+
+-- the keeper has what is kept of the bodies that were read, so many
+pub record KeepsSoFar {K : Type 0} (is_of : List (List ℕ) → K → Type 0) (bytes : List ℕ) (reader : Reader) (lines : ℕ) (keeper : K) : Type 0 where
+  pub seen : List (List ℕ)
+  pub told : told bytes ≡ seen ++ told_at reader bytes
+  pub counted : length seen ≡ lines
+  pub of : is_of seen keeper
 
 pub stepped : (bytes line body : List ℕ) (old new : Reader) → IsLine bytes old.at line → IsSeal old.seal line new.seal
     → new.at ≡ old.at + length line + 1 → body ≡ body_in line → IsStep bytes old new body
@@ -42,23 +45,6 @@ stopped bytes line reader found is =
 pub ended : (bytes : List ℕ) (reader : Reader) → IsUnended (drop reader.at bytes) → told_at reader bytes ≡ []
 ended bytes reader is = told_nowhere reader.seal (drop reader.at bytes) is
 
--- before the first line a reader has all before it
-told_here : (bytes : List ℕ) (reader : Reader) → reader.at ≡ 0 → reader.seal ≡ no_seal → told bytes ≡ told_at reader bytes
-told_here bytes reader at seal = ap (λ s. told_behind s bytes) (sym seal) ∙ ap (λ n. told_behind reader.seal (drop n bytes)) (sym at)
-
-pub begun : (bytes : List ℕ) (reader : Reader) → reader.at ≡ 0 → reader.seal ≡ no_seal → IsSoFar bytes reader 0
-begun bytes reader at seal =
-    record {
-      text = ap (λ s. sealed_lines s (told_behind s bytes)) (sym seal)
-          ∙ ap (λ n. take n bytes ++ sealed_lines reader.seal (told_behind reader.seal (drop n bytes))) (sym at);
-      seal = ap (λ s. last_seal s (told_behind s bytes)) (sym seal)
-          ∙ ap (λ n. last_seal reader.seal (told_behind reader.seal (drop n bytes))) (sym at);
-      counted = let size = ap length (told_here bytes reader at seal) in omega (arith, size);
-    }
-
-pub kept_begun : (sort : List ℕ → Sort) (bytes : List ℕ) (reader : Reader) → reader.at ≡ 0 → reader.seal ≡ no_seal → KeepsSoFar sort bytes reader None None
-kept_begun sort bytes reader at seal = ap (kept_from sort None None) (told_here bytes reader at seal)
-
 pub gone_on : (bytes body : List ℕ) (lines : ℕ) (old new : Reader) → IsSoFar bytes old lines → IsStep bytes old new body → IsSoFar bytes new (lines + 1)
 gone_on bytes body lines old new so_far step =
     let line = sealed_line old.seal body in
@@ -78,9 +64,15 @@ gone_on bytes body lines old new so_far step =
       counted = let so = so_far.counted in let told = ap length step.told in omega (arith, so, told);
     }
 
-pub kept_on : (sort : List ℕ → Sort) (bytes body : List ℕ) (settled last : Option (List ℕ)) (old new : Reader) → KeepsSoFar sort bytes old settled last → IsStep bytes old new body
-    → KeepsSoFar sort bytes new (settled_more sort settled last body) (Some body)
-kept_on sort bytes body settled last old new so_far step = so_far ∙ ap (kept_from sort settled last) step.told
+pub kept_on : {K : Type 0} (is_of : List (List ℕ) → K → Type 0) (bytes body : List ℕ) (lines : ℕ) (old new : Reader) (was keeper : K) → KeepsSoFar is_of bytes old lines was
+    → IsStep bytes old new body → ((bodies : List (List ℕ)) → length bodies ≡ lines → IsBody body → is_of bodies was → is_of (bodies ++ body ∷ []) keeper)
+    → KeepsSoFar is_of bytes new (lines + 1) keeper
+kept_on is_of bytes body lines old new was keeper so_far step sees = record {
+  seen = so_far.seen ++ body ∷ [];
+  told = so_far.told ∙ ap (λ (l : List (List ℕ)). so_far.seen ++ l) step.told ∙ sym (append_assoc so_far.seen (body ∷ []) (told_at new bytes));
+  counted = let so = so_far.counted in omega (arith, so, length-append so_far.seen (body ∷ []));
+  of = sees so_far.seen so_far.counted step.is_body so_far.of;
+}
 
 pub through : (bytes : List ℕ) (lines : ℕ) (reader : Reader) (found : Through) → IsSoFar bytes reader lines → reader.len ≡ length bytes
     → told_at reader bytes ≡ [] → found.len ≡ reader.len → found.at ≡ reader.at → found.seal ≡ reader.seal → found.lines ≡ lines
@@ -94,9 +86,7 @@ through bytes lines reader found so_far len none same_len same_at same_seal same
   lines = let so = so_far.counted in let told = ap length none in omega (arith, so, told, same_lines);
 }
 
-pub kept_through : (sort : List ℕ → Sort) (bytes : List ℕ) (settled last : Option (Vec ℕ Global)) (reader : Reader) (found : Through)
-    → KeepsSoFar sort bytes reader (option_map (λ v. v.items) settled) (option_map (λ v. v.items) last) → told_at reader bytes ≡ []
-    → found.settled ≡ settled → found.last ≡ last → Keeps sort bytes found
-kept_through sort bytes settled last reader found so_far none same_settled same_last =
-    so_far ∙ ap (kept_from sort (option_map (λ v. v.items) settled) (option_map (λ v. v.items) last)) none
-    ∙ ap₂ (λ (a b : Option (List ℕ)). (a, b)) (ap (option_map (λ v. v.items)) (sym same_settled)) (ap (option_map (λ v. v.items)) (sym same_last))
+pub kept_through : {K : Type 0} (is_of : List (List ℕ) → K → Type 0) (bytes : List ℕ) (lines : ℕ) (reader : Reader) (keeper : K) → KeepsSoFar is_of bytes reader lines keeper
+    → told_at reader bytes ≡ [] → is_of (told bytes) keeper
+kept_through is_of bytes lines reader keeper so_far none =
+    subst (λ (l : List (List ℕ)). is_of l keeper) (sym (so_far.told ∙ ap (λ (l : List (List ℕ)). so_far.seen ++ l) none ∙ append-nil so_far.seen)) so_far.of

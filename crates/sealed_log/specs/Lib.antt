@@ -3,7 +3,6 @@ pub mod Told
 pub mod Whole
 pub mod Disks
 pub mod Lines
-pub mod Sorts
 pub mod Reading
 pub mod Log
 pub mod Names

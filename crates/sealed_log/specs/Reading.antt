@@ -1,13 +1,11 @@
 -- What a reader finds.
 use Rattle.std.specs.Prelude.{◌≡◌, ◌≤◌, ◌+◌, ℕ, List, [], ◌∷◌, ◌++◌, length, take, drop, Option}
-use Rattle.std.specs.Prelude.{Some, None, Vec, option_map}
+use Rattle.std.specs.Prelude.{Some, None, Vec}
 use Rattle.std.specs.declared.alloc.Global.{Global}
 use Rattle.sealed_log.specs.Sealed.{IsBody, seal_on, sealed_line, sealed_lines, last_seal}
 use Rattle.sealed_log.specs.Sealed.{sealed_text, seal_of}
-use Rattle.sealed_log.specs.Sorts.{kept_from, kept_of}
 use Rattle.sealed_log.specs.Told.{told_behind, told}
 use Rattle.sealed_log.specs.declared.reader.Reader.{Reader}
-use Rattle.sealed_log.specs.declared.sorts.Sort.{Sort}
 use Rattle.sealed_log.specs.declared.through.Through.{Through}
 
 -- what bytes tell from where a reader stands
@@ -34,12 +32,6 @@ pub record IsSoFar (bytes : List ℕ) (reader : Reader) (lines : ℕ) : Type 0 w
   pub seal : seal_of (told bytes) ≡ last_seal reader.seal (told_at reader bytes)
   pub counted : length (told bytes) ≡ lines + length (told_at reader bytes)
 
--- and what is kept of it
-abbrev pub KeepsSoFar : (List ℕ → Sort) → List ℕ → Reader → (settled last : Option (List ℕ))
-    → Type 0
-KeepsSoFar sort bytes reader settled last =
-    kept_of sort (told bytes) ≡ kept_from sort settled last (told_at reader bytes)
-
 -- all that bytes tell was found: where that ends, its seal, and how many lines it has
 pub record IsThrough (bytes : List ℕ) (through : Through) : Type 0 where
   pub text : sealed_text (told bytes) ≡ take through.at bytes
@@ -47,9 +39,3 @@ pub record IsThrough (bytes : List ℕ) (through : Through) : Type 0 where
   pub len : through.len ≡ length bytes
   pub within : through.at ≤ length bytes
   pub lines : through.lines ≡ length (told bytes)
-
--- and this is kept of it
-abbrev pub Keeps : (List ℕ → Sort) → List ℕ → Through → Type 0
-Keeps sort bytes through =
-    kept_of sort (told bytes)
-    ≡ (option_map (λ v. v.items) through.settled, option_map (λ v. v.items) through.last)

@@ -3,22 +3,22 @@
 
 mod fault;
 mod input;
+mod keeps;
 pub mod laws;
 mod lines;
 mod log;
 mod read;
 mod reader;
 mod seals;
-mod sorts;
 mod through;
 mod written;
 
 pub use fault::LogFault;
 pub use input::{NoBody, read_body};
+pub use keeps::{Keeps, Nothing};
 pub use lines::{LONGEST, is_body};
 pub use log::SealedLog;
 pub use read::read_through;
 pub use reader::Reader;
 pub use seals::{Seal, no_seal, seal, seal_in};
-pub use sorts::{Sort, Sorts};
 pub use through::Through;

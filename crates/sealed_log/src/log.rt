@@ -5,9 +5,9 @@ ghost use Rattle.sqlite_disk.specs.Disk.{Only};
 ghost use Rattle.sealed_log.specs.Whole.{IsWhole};
 
 use crate::fault::LogFault;
+use crate::keeps::Keeps;
 use crate::read::read_through;
 use crate::seals::{self, Seal, both_lines, line_of, seal};
-use crate::sorts::Sorts;
 use crate::through::Through;
 use crate::written::{Written, add_line, cut};
 use sqlite_disk::Disk;
@@ -38,7 +38,8 @@ impl<D: Disk> SealedLog<D> {
     ghost use Rattle.sealed_log.specs.Sealed.{sealed_with, seal_of};
     ghost use Rattle.sealed_log.specs.Disks.{HasFailedTwice, LeavesTail};
     ghost use Rattle.sealed_log.specs.Log.{AreLines, IsAppended, IsMet, bodies_of};
-    ghost use Rattle.sealed_log.specs.Reading.{IsThrough, Keeps};
+    ghost use Rattle.sealed_log.specs.Reading.{IsThrough};
+    ghost use Rattle.sealed_log.specs.Told.{told};
 
     /// A log in a file, still to be opened.
     pub fn new(disk: D) -> SealedLog<D>
@@ -83,16 +84,17 @@ impl<D: Disk> SealedLog<D> {
         self.lines
     }
 
-    /// Reads what its file tells. The log is shut until it is opened.
+    /// Reads what its file tells, and has the keeper see each body. The log is shut until it is opened.
     ///
     /// # Errors
     ///
     /// The fault that was met.
-    pub fn read<S: Sorts>(&mut self, alloc: Global) -> Result<Through, LogFault>
+    pub fn read<K: Keeps>(&mut self, alloc: Global, keeper: &mut K) -> Result<Through, LogFault>
+        requires begun { K.is_of [] keeper.old }
         ensures through { IfOk result (λ through. IsTrue (D.is_clean self.new.disk)
             → IsThrough (D.seen self.old.disk) through) }
-        ensures keeps { IfOk result (λ through. IsTrue (D.is_clean self.new.disk)
-            → Keeps S.sort (D.seen self.old.disk) through) }
+        ensures keeps { IfOk result (λ _. IsTrue (D.is_clean self.new.disk)
+            → K.is_of (told (D.seen self.old.disk)) keeper.new) }
         ensures seen { D.seen self.new.disk ≡ D.seen self.old.disk }
         ensures clean { IsTrue (D.is_clean self.new.disk) → IsTrue (D.is_clean self.old.disk) }
         ensures crash { (left : List ℕ)
@@ -102,7 +104,7 @@ impl<D: Disk> SealedLog<D> {
         if !self.disk.may_be_used() {
             return Err(LogFault::Disk);
         }
-        read_through::<S, D>(alloc, &mut self.disk)
+        read_through(alloc, &mut self.disk, keeper)
     }
 
     /// Opens the log of what its file was found to tell, and cuts off what stands behind that. Of

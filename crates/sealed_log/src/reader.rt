@@ -54,21 +54,14 @@ impl Reader {
         self.seal
     }
 
-    // What it found, where it stands at the end, read so many lines, and these bodies are kept.
-    pub(crate) fn through(
-        self,
-        settled: Option<Vec<u8>>,
-        last: Option<Vec<u8>>,
-        lines: u64,
-    ) -> Through
-        ensures settled { result.settled ≡ settled }
-        ensures last { result.last ≡ last }
+    // What it found, where it stands at the end and read so many lines.
+    pub(crate) fn through(self, lines: u64) -> Through
         ensures len { result.len ≡ self.len }
         ensures at { result.at ≡ self.at }
         ensures seal { result.seal ≡ self.seal }
         ensures lines { result.lines ≡ lines }
     {
-        Through::new(settled, last, self.len, self.at, self.seal, lines)
+        Through::new(self.len, self.at, self.seal, lines)
     }
 
     /// The next body, or `None` where what stands there isn't sealed.

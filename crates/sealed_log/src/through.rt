@@ -8,9 +8,6 @@ use crate::seals::Seal;
 /// What a log was found to tell.
 #[derive(Drop)]
 pub struct Through {
-    /// The body that was settled last, and the last one.
-    pub settled: Option<Vec<u8>>,
-    pub last: Option<Vec<u8>>,
     // How long the file is, where what is sealed ends, its seal, and how many lines it has.
     len: usize,
     at: usize,
@@ -26,25 +23,14 @@ impl Through {
     ghost use Rattle.sealed_log.specs.Sealed.{longest};
 
     // What a reader found that stands at `at` of a file of so many bytes.
-    pub(crate) fn new(
-        settled: Option<Vec<u8>>,
-        last: Option<Vec<u8>>,
-        len: usize,
-        at: usize,
-        seal: Seal,
-        lines: u64,
-    ) -> Through
+    pub(crate) fn new(len: usize, at: usize, seal: Seal, lines: u64) -> Through
         requires { at ≤ len }
-        ensures settled { result.settled ≡ settled }
-        ensures last { result.last ≡ last }
         ensures len { result.len ≡ len }
         ensures at { result.at ≡ at }
         ensures seal { result.seal ≡ seal }
         ensures lines { result.lines ≡ lines }
     {
         Through {
-            settled,
-            last,
             len,
             at,
             seal,

@@ -1,11 +1,11 @@
 // An office in memory with a journal in memory.
 
 use crate::office::openings::run;
-use journal::{Journaled, LineSorts};
+use journal::Journaled;
 use json_requests::{line, read_line};
 use office_desk::Office;
 use office_policy::{Handler, Judge};
-use sealed_log::{Reader, SealedLog};
+use sealed_log::{Nothing, Reader, SealedLog};
 use sqlite::{Connection, MemStore};
 use sqlite_disk::{Disk, Memory};
 use std::alloc::Global;
@@ -59,7 +59,7 @@ fn journaled<O: Judge + Drop>(
     requests: &str,
 ) -> Result<(String, String), Fail> {
     let mut log = SealedLog::new(Memory::new(alloc));
-    let found = log.read::<LineSorts>(alloc)?;
+    let found = log.read(alloc, &mut Nothing)?;
     log.open_at(&found)?;
     let mut office = Journaled::new(office, log, true);
     let mut told = String::new(alloc);

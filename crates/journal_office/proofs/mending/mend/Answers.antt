@@ -1,12 +1,38 @@
+use Rattle.std.proofs.Common.{◌∙◌, option_map, subst, sym}
+use Rattle.sealed_log.specs.Told.{told}
+use Rattle.office_policy.specs.Happened.{event_meant}
 use Rattle.office_desk.specs.Meant.{meaning_over}
-use Rattle.journal_office.proofs.MendFacts.{no_seal_there, seen_on}
+use Rattle.journal.specs.Kept.{IsKept}
+use Rattle.journal.specs.Writers.{writers_meant}
+use Rattle.journal_office.specs.Faults.{line_fault, log_fault}
+use Rattle.journal_office.specs.Mending.{Mends}
+use Rattle.journal_office.proofs.MendFacts.{left_with, log_outside, no_journal, no_seal_there, not_read, seen_on}
 use Rattle.journal_office.proofs.mending.mend.Goals as goal
 
-pub returns-in_default : goal.returns-in_default
-returns-in_default g c =
+pub returns-in_err-found : goal.returns-in_err-found
+returns-in_err-found g c =
+    left_with (Mends (meaning_over g.S.Store) g.D.Disk c.args.mark c.args.office.now c.args.office.now c.args.log.now c.read.new.self) c.from_residual.result
+    (log_fault c.in_err-found.field-0.0) c.from_residual.ensures.1
+    (not_read (meaning_over g.S.Store) g.D.Disk c.args.mark c.args.office.now c.args.log.now c.read.new.self
+    (record { seen = c.read.ensures.seen; clean = c.read.ensures.clean; crash = c.read.ensures.crash }) (log_fault c.in_err-found.field-0.0) (log_outside c.in_err-found.field-0.0))
+
+pub returns-then-lines-eq0 : goal.returns-then-lines-eq0
+returns-then-lines-eq0 g c =
     no_seal_there (meaning_over g.S.Store) g.D.Disk c.args.mark c.args.office.now c.args.log.now c.read.new.self
-    (record { seen = c.read.ensures.seen; clean = c.read.ensures.clean; crash = c.read.ensures.crash }) c.in_ok-found.found c.in_ok-found.ensures.through c.in_ok-found.ensures.keeps
-    c.in_default.is
+    (record { seen = c.read.ensures.seen; clean = c.read.ensures.clean; crash = c.read.ensures.crash }) c.in_ok-found.found c.in_ok-found.ensures.through
+    (sym c.lines.ensures ∙ c.if-lines-eq0.true)
+
+pub returns-in_err-settled : goal.returns-in_err-settled
+returns-in_err-settled g c =
+    left_with (Mends (meaning_over g.S.Store) g.D.Disk c.args.mark c.args.office.now c.args.office.now c.args.log.now c.read.new.self) c.from_residual-in_err-settled.result
+    (line_fault c.in_err-settled.field-0.0) c.from_residual-in_err-settled.ensures.1
+    (no_journal (meaning_over g.S.Store) g.D.Disk c.args.mark c.args.office.now c.args.log.now c.read.new.self
+    (record { seen = c.read.ensures.seen; clean = c.read.ensures.clean; crash = c.read.ensures.crash }) c.in_err-settled.field-0.0
+    (λ clean. c.in_err-settled.ensures _ (c.in_ok-found.ensures.keeps clean)))
+
+pub set_right-requires-clause-keeps : goal.set_right-requires-clause-keeps
+set_right-requires-clause-keeps g c = λ clean.
+    subst (λ f. IsKept (told f) (writers_meant c.in_ok-settled.settled) (option_map event_meant c.in_ok-settled.held)) (sym c.read.ensures.seen) (c.in_ok-settled.ensures _ (c.in_ok-found.ensures.keeps clean))
 
 pub returns : goal.returns
 returns g c =

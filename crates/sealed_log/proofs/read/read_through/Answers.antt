@@ -1,8 +1,8 @@
-use Rattle.std.proofs.Common.{◌≡◌, ◌∙◌, ◌<◌, [], Some, IfSome, IsTrue, ap, sym, subst, length, arith}
-use Rattle.sealed_log.specs.Reading.{IsNext, IsStep, KeepsSoFar, told_at}
-use Rattle.sealed_log.specs.Sorts.{settled_more}
+use Rattle.std.proofs.Common.{◌≡◌, ◌∙◌, ◌<◌, ℕ, List, [], ◌∷◌, ◌++◌, IfSome, IsTrue, ap, sym, subst, length, arith}
+use Rattle.sealed_log.specs.Reading.{IsNext, IsStep, told_at}
+use Rattle.sealed_log.specs.Sealed.{IsBody}
 use Rattle.sealed_log.proofs.LineFacts.{IsRead-trans}
-use Rattle.sealed_log.proofs.ReaderFacts.{begun, gone_on, kept_begun, kept_on, kept_through, through}
+use Rattle.sealed_log.proofs.ReaderFacts.{gone_on, kept_on, kept_through, through}
 use Rattle.sealed_log.proofs.read.read_through.Goals as goal
 
 pub overflow_add-lines : goal.overflow_add-lines
@@ -18,6 +18,7 @@ lines-preserved g c =
     let before = c.lines.invariant in
     let seen = g.D.Disk.seen c.args.disk.now in
     let body = c.in-Some.body.items in
+    let is_of = g.K.Keeps.is_of in
     let further = subst (λ f. IfSome f (λ _. c.lines.reader.at < c.next.new.self.at)) c.in-Some.is c.in_ok-body.ensures.further in
     let stepped : IsTrue (g.D.Disk.is_clean c.next.new.disk) → IsStep seen c.lines.reader c.next.new.self body = λ clean.
     let was = c.next.ensures.read.clean clean in
@@ -30,8 +31,9 @@ lines-preserved g c =
       counted = let low = before.counted in omega (arith, low, further);
       so_far = λ clean. gone_on seen body c.lines.lines c.lines.reader c.next.new.self (before.so_far (c.next.ensures.read.clean clean)) (stepped clean);
       keeps = λ clean.
-          subst (λ s. KeepsSoFar g.S.Sorts.sort seen c.next.new.self s (Some body)) (sym (c.settled_more-settled.ensures ∙ ap (settled_more g.S.Sorts.sort _ _) c.deref.ensures.value))
-          (kept_on g.S.Sorts.sort seen body _ _ c.lines.reader c.next.new.self (before.keeps (c.next.ensures.read.clean clean)) (stepped clean));
+          kept_on is_of seen body c.lines.lines c.lines.reader c.next.new.self c.lines.keeper c.see.new.self (before.keeps (c.next.ensures.read.clean clean)) (stepped clean)
+          (subst (λ b. (bodies : List (List ℕ)) → length bodies ≡ c.lines.lines → IsBody b → is_of bodies c.lines.keeper → is_of (bodies ++ b ∷ []) c.see.new.self)
+          c.deref.ensures.value c.see.ensures);
     }
 
 pub returns-clause-through : goal.returns-clause-through
@@ -54,5 +56,4 @@ returns-clause-keeps g c = λ clean.
     let next = c.in_ok-body.ensures.next clean (before.len was ∙ ap length (sym before.read.seen)) in
     let stops = subst (IsNext (g.D.Disk.seen c.lines.disk) c.lines.reader c.next.new.self) c.in_default.is next in
     let none = subst (λ f. told_at c.lines.reader f ≡ []) before.read.seen stops.1 in
-    let made = c.through.ensures in
-    kept_through g.S.Sorts.sort seen c.lines.settled c.lines.last c.lines.reader c.through.result (before.keeps was) none made.settled made.last
+    kept_through g.K.Keeps.is_of seen c.lines.lines c.lines.reader c.lines.keeper (before.keeps was) none

@@ -1,6 +1,7 @@
-use Rattle.std.proofs.Common.{◌≡◌, ◌≤◌, ◌-◌, IsTrue, length, option_map}
+use Rattle.std.proofs.Common.{◌≡◌, ◌≤◌, ◌-◌, IsTrue, length}
 use Rattle.sealed_log.specs.Disks.{IsRead}
-use Rattle.sealed_log.specs.Reading.{IsSoFar, KeepsSoFar}
+use Rattle.sealed_log.specs.Reading.{IsSoFar}
+use Rattle.sealed_log.proofs.ReaderFacts.{KeepsSoFar}
 use Rattle.sealed_log.proofs.read.read_through.Given as goal
 
 abbrev pub invariant-lines : goal.invariant-lines
@@ -9,8 +10,7 @@ invariant-lines g l = record {
   len : IsTrue (g.D.Disk.is_clean l.disk) → l.reader.len ≡ length (g.D.Disk.seen l.fn.disk);
   counted : l.lines ≤ l.reader.at;
   so_far : IsTrue (g.D.Disk.is_clean l.disk) → IsSoFar (g.D.Disk.seen l.fn.disk) l.reader l.lines;
-  keeps : IsTrue (g.D.Disk.is_clean l.disk)
-      → KeepsSoFar g.S.Sorts.sort (g.D.Disk.seen l.fn.disk) l.reader (option_map (λ v. v.items) l.settled) (option_map (λ v. v.items) l.last);
+  keeps : IsTrue (g.D.Disk.is_clean l.disk) → KeepsSoFar g.K.Keeps.is_of (g.D.Disk.seen l.fn.disk) l.reader l.lines l.keeper;
 }
 
 abbrev pub decreases-lines : goal.decreases-lines
