@@ -1,13 +1,13 @@
 //! What a crash left of a journal is made the journal of its office again.
 
-ghost use Rattle.std.specs.Prelude.{◌≡◌, ◌≤◌, IsTrue, length, option_map};
+ghost use Rattle.std.specs.Prelude.{◌≡◌, ◌≤◌, [], IfOk, IsTrue, length, option_map};
 ghost use Rattle.sealed_log.specs.Log.{bodies_of};
 ghost use Rattle.sealed_log.specs.Reading.{IsThrough};
 ghost use Rattle.sealed_log.specs.Told.{HasMore};
 ghost use Rattle.office_policy.specs.Happened.{event_meant};
 ghost use Rattle.office_policy.specs.Judging.{LeavesAll};
 ghost use Rattle.office_desk.specs.Meant.{meaning_over};
-ghost use Rattle.journal.specs.Kept.{IsKept};
+ghost use Rattle.journal.specs.Kept.{IsKept, keeps};
 ghost use Rattle.journal.specs.Writers.{ShowsIf, ShowsWriters, boxed_meant, writers_meant};
 ghost use Rattle.journal_office.specs.Mending.{Asks, IsStruckOut, LooksAt, LooksFor, Mends};
 
@@ -18,7 +18,7 @@ use office_policy::Event;
 use sealed_log::{SealedLog, Through};
 use sqlite::Alter;
 use sqlite_disk::Disk;
-use std::alloc::Global;
+use std::alloc::{AllocError, Global};
 
 // What became of the event that a journal holds back.
 #[derive(Clone, Copy)]
@@ -154,6 +154,13 @@ fn set_right<S: Alter, D: Disk>(
     }
 }
 
+// What is kept before the first line. It is boxed, since it ends at each return below.
+fn begun(alloc: Global) -> Result<Box<Kept>, AllocError>
+    ensures { IfOk result (λ kept. keeps [] kept.value) }
+{
+    Ok(Box::new(alloc, Kept::new())?)
+}
+
 /// Makes what a crash left of a journal the journal of this office, whose tables have this mark, and
 /// opens it. Whether a line behind that of the last event strikes it out, or says that it is carried
 /// out.
@@ -178,8 +185,8 @@ pub fn mend<S: Alter, D: Disk>(
     ensures { Mends (meaning_over S.Store) D.Disk mark
         office.old office.new log.old log.new result }
 {
-    let mut kept = Kept::new();
-    let found = log.read(alloc, &mut kept)?;
+    let mut kept = begun(alloc)?;
+    let found = log.read(alloc, &mut *kept)?;
     if found.lines() == 0 {
         return Err(NotReopened::Unsealed);
     }
@@ -189,6 +196,6 @@ pub fn mend<S: Alter, D: Disk>(
     if found.lines() < mark as u64 {
         return Err(NotReopened::OtherJournal);
     }
-    let (settled, held) = kept.end()?;
+    let (settled, held) = Box::into_inner(kept).end()?;
     set_right(alloc, office, &found, settled, held, log, mark)
 }
