@@ -1,2 +1,3 @@
+pub mod PlainFacts
 pub mod SaidFacts
 pub mod OpenedFacts

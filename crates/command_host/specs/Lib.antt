@@ -1,6 +1,8 @@
 pub mod FaultTexts
 pub mod FoundingFaults
+pub mod Plain
 pub mod Said
+pub mod Unread
 pub mod Openings
 pub mod NoFiles
 pub mod Networks

@@ -1,13 +1,19 @@
 -- What is said on standard error, and the line that several commands print.
-use Rattle.std.specs.Prelude.{◌⊎◌, ℕ, List, ◌++◌, codes, decimal, Option}
+use Rattle.std.specs.Prelude.{◌⊎◌, ℕ, List, ◌++◌, codes, decimal, Option, Some, None}
 use Rattle.streams.specs.declared.counted.Counted.{Counted}
 use Rattle.desk_http.specs.Lines.{IsCut, IsWhole}
 use Rattle.command_host.specs.FaultTexts.{command_fault_text}
+use Rattle.command_host.specs.Plain.{plain, plain_lines}
 use Rattle.command_host.specs.declared.fault.CommandFault.{CommandFault}
 
--- the line that says why a command was refused or failed
-abbrev pub refusal_line : CommandFault → List ℕ
-refusal_line why = codes "office: " ++ command_fault_text why ++ codes "\n"
+-- why a command was refused or failed, and behind that the path of a file that couldn't be read
+abbrev pub refusal_text : CommandFault → (unread : Option (List ℕ)) → List ℕ
+refusal_text why None = codes "office: " ++ command_fault_text why
+refusal_text why (Some path) = codes "office: " ++ (command_fault_text why ++ (codes " " ++ path))
+
+-- the line that says so: no character before its end controls a terminal
+abbrev pub refusal_line : CommandFault → (unread : Option (List ℕ)) → List ℕ
+refusal_line why unread = plain (refusal_text why unread) ++ codes "\n"
 
 -- the line that says that there is no memory
 abbrev pub memory_line : List ℕ
@@ -23,6 +29,12 @@ module _ {E : Type 0} (contents : E → Option (List ℕ)) (old new : Counted E)
   abbrev pub IsSaid : List ℕ → Type 0
   IsSaid text = IsWhole contents old new text ⊎ IsCut contents old new text
 
-  -- it was said why a command was refused or failed, or in its place that there is no memory
-  abbrev pub IsRefusal : CommandFault → Type 0
-  IsRefusal why = IsSaid (refusal_line why) ⊎ IsSaid memory_line
+  -- lines were said, of which no character but their ends controls a terminal; or in place of that, that
+  -- there is no memory
+  abbrev pub AreSaid : List ℕ → Type 0
+  AreSaid lines = IsSaid (plain_lines lines) ⊎ IsSaid memory_line
+
+  -- it was said why a command was refused or failed, and at which path a file couldn't be read; or in
+  -- place of that, that there is no memory
+  abbrev pub IsRefusal : CommandFault → (unread : Option (List ℕ)) → Type 0
+  IsRefusal why unread = IsSaid (refusal_line why unread) ⊎ IsSaid memory_line

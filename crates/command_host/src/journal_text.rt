@@ -49,8 +49,8 @@ fn is_of_read(refused: &Refused) -> bool
     matches!(refused.why, Why::Unread(Unreadable::Read))
 }
 
-// Whether a fault tells that a journal couldn't be read.
-fn tells_of_read(fault: &CommandFault) -> bool
+/// Whether a fault tells that a journal couldn't be read.
+pub(crate) fn tells_of_read(fault: &CommandFault) -> bool
     ensures { result ≡ tells_of_read fault.now }
 {
     match fault {

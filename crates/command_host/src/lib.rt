@@ -17,6 +17,8 @@ mod no_file;
 mod noted;
 mod opening;
 mod place;
+mod plain;
+mod unread;
 mod written;
 
 pub use databases::Databases;
@@ -35,4 +37,6 @@ pub use opening::{
     close, database_at, fault_of_opening, first_fault, look_for_mark, mark_at, office_at, open,
 };
 pub use place::Stamp;
-pub use written::{print, print_bytes, refuse, say, seal_line};
+pub use plain::{plain_lines, plain_text};
+pub use unread::{unread_at, unread_of};
+pub use written::{print, print_bytes, refuse, say, say_lines, seal_line};

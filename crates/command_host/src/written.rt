@@ -1,10 +1,12 @@
 //! What is printed on standard output, and said on standard error.
 
-ghost use Rattle.std.specs.Prelude.{◌≡◌, IfErr, IfOk, OnOk};
+ghost use Rattle.std.specs.Prelude.{◌≡◌, IfErr, IfOk, OnOk, option_copied, string_bytes};
 ghost use Rattle.desk_http.specs.Lines.{IsCut, IsWhole};
-ghost use Rattle.command_host.specs.Said.{IsRefusal, IsSaid, seal_line};
+ghost use Rattle.command_host.specs.Said.{refusal_line, refusal_text, seal_line, AreSaid};
+ghost use Rattle.command_host.specs.Said.{IsRefusal, IsSaid};
 
 use crate::fault::CommandFault;
+use crate::plain::{plain_lines, plain_text};
 use std::alloc::{AllocError, Global};
 use std::io::Write;
 use streams::{Counted, write_whole};
@@ -49,12 +51,59 @@ pub fn say<E: Write>(errors: &mut Counted<E>, text: &str)
     let _ = write_whole(errors, text.as_bytes());
 }
 
-/// Says why a command was refused or failed.
-pub fn refuse<E: Write>(alloc: Global, errors: &mut Counted<E>, fault: &CommandFault)
-    ensures { IsRefusal E.contents errors.old errors.new fault.now }
+/// Says a text of lines, of which no character but their ends controls a terminal; or in its place that
+/// there is no memory.
+pub fn say_lines<E: Write>(alloc: Global, errors: &mut Counted<E>, text: &str)
+    ensures { AreSaid E.contents errors.old errors.new text.now }
 {
-    match format!(in alloc; "office: {fault}\n") {
-        Ok(text) => say(errors, text.as_str()),
+    match plain_lines(alloc, text) {
+        Ok(lines) => say(errors, lines.as_str()),
+        Err(_) => say(errors, "office: memory\n"),
+    }
+}
+
+// Why a command was refused or failed, and behind that the path of a file that couldn't be read.
+fn refusal_text(
+    alloc: Global,
+    fault: &CommandFault,
+    unread: Option<&str>,
+) -> Result<String, AllocError>
+    ensures { IfOk result (λ text.
+        string_bytes text ≡ refusal_text fault.now (option_copied unread.entry)) }
+{
+    match unread {
+        Some(path) => format!(in alloc; "office: {fault} {path}"),
+        None => format!(in alloc; "office: {fault}"),
+    }
+}
+
+// The line that says so.
+fn refusal_line(
+    alloc: Global,
+    fault: &CommandFault,
+    unread: Option<&str>,
+) -> Result<String, AllocError>
+    ensures { IfOk result (λ line.
+        string_bytes line ≡ refusal_line fault.now (option_copied unread.entry)) }
+{
+    let text = refusal_text(alloc, fault, unread)?;
+    let mut line = plain_text(alloc, text.as_str())?;
+    line.push('\n')?;
+    Ok(line)
+}
+
+/// Says why a command was refused or failed; and at which path a file couldn't be read, where it is
+/// that. No character but the line feed at the end controls a terminal.
+pub fn refuse<E: Write>(
+    alloc: Global,
+    errors: &mut Counted<E>,
+    fault: &CommandFault,
+    unread: Option<&str>,
+)
+    ensures { IsRefusal E.contents errors.old errors.new fault.now (option_copied unread.entry) }
+{
+    match refusal_line(alloc, fault, unread) {
+        Ok(line) => say(errors, line.as_str()),
         Err(_) => say(errors, "office: memory\n"),
     }
 }

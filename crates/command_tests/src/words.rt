@@ -48,6 +48,14 @@ office execve words.json --root --file-effective = 1 office: root-takes-no-file
 office compare words.json words.json = 0 
 office compare closed.json words.json = 1 > no-seccomp
 office compare closed.json /dev/null = 2 office: new: not-json
+office check no-words.json = 1 office: read no-words.json
+office execve no-words.json = 1 office: read no-words.json
+office compare no-words.json words.json = 2 office: base: read no-words.json
+office compare words.json no-words.json = 2 office: new: read no-words.json
+office history no-words.journal = 1 office: read no-words.journal
+office evidence no-words.journal blue web 1 = 1 office: read no-words.journal
+office verify words.json no-words.journal = 1 office: read no-words.journal
+office rebuild words.json no-words.journal = 1 office: read no-words.journal
 office desk words.json = 1 office: not-an-office";
 
 #[test]
@@ -59,6 +67,26 @@ fn each_text_goes_to_its_stream(rt: HostRuntime) -> Result<(), Fail> {
         let (line, wanted) = row.split_once(" = ").unwrap_or((row, ""));
         assert_said_begins(&rt, &rt, line, wanted)?;
     }
+    Ok(())
+}
+
+// A member whose name has ESC, DEL, CSI and a line feed.
+const CONTROLS: &str = r#"{"capabilities":{"\u001b[31m\u007f\u009b\n":1}}"#;
+
+#[test]
+fn what_a_document_or_a_path_has_controls_no_terminal(rt: HostRuntime) -> Result<(), Fail> {
+    fs::write(&rt, "controls.json", CONTROLS)?;
+    let line = "office check controls.json";
+    let escaped = "1 office: unknown-member /capabilities/\\u001b[31m\\u007f\\u009b\\u000a\n> ";
+    assert_said(&rt, &rt, line, "", Giving::Whole, escaped)?;
+    let line = "office check no\u{1b}\u{e9}.json";
+    let escaped = "1 office: read no\\u001b\u{e9}.json\n> ";
+    assert_said(&rt, &rt, line, "", Giving::Whole, escaped)?;
+    let line = "office check controls.json no\u{1b}.json";
+    let input = Source::new(b"", Giving::Whole);
+    let refused = said(&rt, line, input)?;
+    assert!(rt; refused.as_str().contains("no\\u001b.json"), "{refused}");
+    assert!(rt; !refused.as_str().contains("\u{1b}"), "{refused}");
     Ok(())
 }
 

@@ -10,6 +10,7 @@ use Rattle.command_host.specs.declared.fault.CommandFault.{CommandFault}
 use Rattle.office_commands.specs.Commands.{failed_status, HasEnded, HasRun, IfSet}
 use Rattle.office_commands.specs.Failing.{HasFailed}
 use Rattle.office_commands.specs.Notes.{HasNoted}
+use Rattle.office_commands.specs.Unread.{unread_by}
 
 module _ {S D F L N O : Type 0} (k : Known S D F L N) (contents : O → Option (List ℕ)) where
   -- what was done by a command was done by whatever is the same command
@@ -24,20 +25,26 @@ module _ {S D F L N O : Type 0} (k : Known S D F L N) (contents : O → Option (
   failed_as x y came left output wrote why same failed =
       subst (λ (z : Command). HasFailed k contents z came left output wrote why) (sym same) failed
 
+  -- so did whatever it ended with
+  pub all_failed_as : (x y : Command) (came left : Option (List ℕ)) (output wrote : Counted O) (ended : Result ℕ CommandFault) → x ≡ y
+      → IfErr ended (HasFailed k contents y came left output wrote) → IfErr ended (HasFailed k contents x came left output wrote)
+  all_failed_as x y came left output wrote (Ok status) same failed = tt
+  all_failed_as x y came left output wrote (Err why) same failed = failed_as x y came left output wrote why same failed
+
 module _ {E : Type 0} (said_of : E → Option (List ℕ)) (errors said : Counted E) where
   -- what was said of a fault was said of whatever is the same fault
-  pub refusal_as : (why other : CommandFault) → why ≡ other → IsRefusal said_of errors said why → IsRefusal said_of errors said other
-  refusal_as why other same refusal = subst (λ (w : CommandFault). IsRefusal said_of errors said w) same refusal
+  pub refusal_as : (why other : CommandFault) (unread : Option (List ℕ)) → why ≡ other → IsRefusal said_of errors said why unread → IsRefusal said_of errors said other unread
+  refusal_as why other unread same refusal = subst (λ (w : CommandFault). IsRefusal said_of errors said w unread) same refusal
 
 -- of what was noted before a command ended
 module _ {E : Type 0} (said_of : E → Option (List ℕ)) (noted said : Counted E) where
   -- how it ended is how the program does
-  pub has_ended : (asked : Command) (Notes : Counted E → Type 0) (Run : ℕ → Type 0) (Fails : CommandFault → Type 0) (ended : Result ℕ CommandFault) (failed status : ℕ)
-      → Notes noted → IfOk ended Run → IfErr ended Fails → failed ≡ failed_status asked
-      → MatchResult ended (λ s. (status ≡ s) × (said ≡ noted)) (λ why. (status ≡ failed) × IsRefusal said_of noted said why)
+  pub has_ended : (asked : Command) (Notes : Counted E → Type 0) (Run : ℕ → Type 0) (Fails : CommandFault → Type 0) (ended : Result ℕ CommandFault) (status : ℕ)
+      → Notes noted → IfOk ended Run → IfErr ended Fails
+      → MatchResult ended (λ s. (status ≡ s) × (said ≡ noted)) (λ why. (status ≡ failed_status asked) × IsRefusal said_of noted said why (unread_by asked why))
       → HasEnded said_of said asked Notes Run Fails status
-  has_ended asked Notes Run Fails (Ok s) failed status notes run fails is how = inl (subst Run (sym how.0) run, subst Notes (sym how.1) notes)
-  has_ended asked Notes Run Fails (Err why) failed status notes run fails is how = inr (why, fails, subst (λ n. status ≡ n) is how.0, (noted, notes, how.1))
+  has_ended asked Notes Run Fails (Ok s) status notes run fails how = inl (subst Run (sym how.0) run, subst Notes (sym how.1) notes)
+  has_ended asked Notes Run Fails (Err why) status notes run fails how = inr (why, fails, how.0, (noted, notes, how.1))
 
 -- where nothing was said, a command noted nothing
 pub nothing_noted : {S D F L N E : Type 0} (k : Known S D F L N) (said_of : E → Option (List ℕ)) (errors noted : Counted E) (asked : Command) → noted ≡ errors

@@ -1,6 +1,6 @@
 -- What each command has done, by the outcome: what it printed of which bytes, what it said on
 -- standard error, and the status that it ended with.
-use Rattle.std.specs.Prelude.{◌≡◌, ◌⊎◌, ℕ, List, Option, Ok}
+use Rattle.std.specs.Prelude.{◌≡◌, ◌⊎◌, ℕ, List, Option, None, Ok}
 use Rattle.std.specs.Prelude.{String, Bool, true, false, codes, string_bytes}
 use Rattle.std.specs.declared.alloc.Global.{Global}
 use Rattle.command_line.specs.Words.{AskFor, AskForNone}
@@ -13,7 +13,7 @@ use Rattle.command_line.specs.declared.command.Command.TheVariants as command
 use Rattle.desk_http.specs.Lines.{IsCut, IsWhole}
 use Rattle.streams.specs.declared.counted.Counted.{Counted}
 use Rattle.command_host.specs.Known.{Known}
-use Rattle.command_host.specs.Said.{IsRefusal, IsSaid}
+use Rattle.command_host.specs.Said.{AreSaid, IsRefusal}
 use Rattle.command_host.specs.declared.fault.CommandFault.{CommandFault}
 use Rattle.command_host.specs.declared.fault.CommandFault.TheVariants as fault
 use Rattle.changing_commands.specs.Founded.{HasFounded}
@@ -24,6 +24,7 @@ use Rattle.changing_commands.specs.Trials.{IsTrial}
 use Rattle.reading_commands.specs.Documents.{HasChecked, HasCompared, HasExecuted}
 use Rattle.reading_commands.specs.Reports.{HasProved, WasToldAt}
 use Rattle.reading_commands.specs.Verifications.{HasVerified}
+use Rattle.office_commands.specs.Unread.{unread_by}
 
 -- this holds where a flag is set
 abbrev pub IfSet : Bool → Type 0 → Type 0
@@ -78,13 +79,13 @@ module _ {S D F L N O : Type 0} (k : Known S D F L N) (contents : O → Option (
 -- what was said on standard error at the end
 module _ {E : Type 0} (said_of : E → Option (List ℕ)) (said : Counted E) where
   -- A command ended with this status: well, as this says, with nothing said but what it noted; or it
-  -- was refused or failed, as that says, and then why was said.
+  -- was refused or failed, as that says, and then why was said, and which file couldn't be read.
   abbrev pub HasEnded : Command → (Notes : Counted E → Type 0) → (Run : ℕ → Type 0)
       → (Fails : CommandFault → Type 0) → ℕ → Type 0
   HasEnded asked Notes Run Fails status =
       (Run status × Notes said)
       ⊎ ((why : CommandFault) × Fails why × (status ≡ failed_status asked)
-      × ((noted : Counted E) × Notes noted × IsRefusal said_of noted said why))
+      × ((noted : Counted E) × Notes noted × IsRefusal said_of noted said why (unread_by asked why)))
 
 -- what was said there
 module _ {E : Type 0} (said_of : E → Option (List ℕ)) (errors said : Counted E) where
@@ -93,7 +94,7 @@ module _ {E : Type 0} (said_of : E → Option (List ℕ)) (errors said : Counted
     abbrev pub IsPrinted : List ℕ → ℕ → Type 0
     IsPrinted text status =
         (IsWhole contents output wrote text × (said ≡ errors) × (status ≡ 0))
-        ⊎ (IsCut contents output wrote text × IsRefusal said_of errors said fault.Write
+        ⊎ (IsCut contents output wrote text × IsRefusal said_of errors said fault.Write None
         × (status ≡ 1))
 
     -- Why words ask for no command was told: help and the version are printed, and a refusal is
@@ -102,9 +103,9 @@ module _ {E : Type 0} (said_of : E → Option (List ℕ)) (errors said : Counted
     HasTold (Help text) status = IsPrinted (string_bytes text) status
     HasTold (Version text) status = IsPrinted (string_bytes text) status
     HasTold (Refused text) status =
-        (wrote ≡ output) × IsSaid said_of errors said (string_bytes text) × (status ≡ 2)
+        (wrote ≡ output) × AreSaid said_of errors said (string_bytes text) × (status ≡ 2)
     HasTold NoMemory status =
-        (wrote ≡ output) × IsRefusal said_of errors said fault.NoMemory × (status ≡ 1)
+        (wrote ≡ output) × IsRefusal said_of errors said fault.NoMemory None × (status ≡ 1)
 
     -- Words were carried out: the command that they ask for, with this noted, this done where it ended
     -- well and that where it failed, or why they ask for none was told.

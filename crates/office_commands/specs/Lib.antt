@@ -1,3 +1,4 @@
+pub mod Unread
 pub mod Commands
 pub mod Failing
 pub mod Notes

@@ -5,6 +5,7 @@
 mod host;
 mod run;
 mod same_file;
+mod unread;
 
 pub use host::{run_here, run_over};
 pub use run::run_words;

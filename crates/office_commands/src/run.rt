@@ -9,13 +9,15 @@ ghost use Rattle.office_commands.specs.Commands.{IsPrinted};
 ghost use Rattle.office_commands.specs.Failing.{FailsToVerifyAll, HasFailed};
 ghost use Rattle.office_commands.specs.Notes.{goes_without, is_without, HasNoted, HasNotedAll};
 ghost use Rattle.office_commands.specs.Notes.{WarnsIf};
+ghost use Rattle.office_commands.specs.Unread.{unread_by};
 ghost use Rattle.reading_commands.specs.Moments.{MayHaveNoted};
 
 use crate::same_file::see_apart;
+use crate::unread::unread_by;
 use changing_commands::{
     found_at, mark_stored, migrate_at, run_rebuild, serve_http, serve_stored, serve_trial,
 };
-use command_host::{CommandFault, Host, Outside, print, refuse, say};
+use command_host::{CommandFault, Host, Outside, print, refuse, say, say_lines};
 use command_line::{Command, JournalWords, VerifyWords, WordsFault, read_words};
 use reading_commands::{run_check, run_compare, run_evidence, run_execve, run_history, run_verify};
 use std::alloc::Global;
@@ -60,7 +62,7 @@ fn verify_and_mark<H: Host, O: Write, E: Write>(
 fn run<H: Host, I: Read, O: Write, E: Write>(
     host: &Outside<'_, H>,
     alloc: Global,
-    command: Command<'_>,
+    command: &Command<'_>,
     input: &mut Counted<I>,
     output: &mut Counted<O>,
     errors: &mut Counted<E>,
@@ -68,11 +70,11 @@ fn run<H: Host, I: Read, O: Write, E: Write>(
     requires reads { input.old.calls ≤ 2 ^ 62 }
     requires read_faults { input.old.faults ≤ 2 ^ 62 }
     requires write_faults { output.old.faults ≤ 2 ^ 62 }
-    ensures done { IfOk result (HasRun (known host.now) O.contents command.entry
+    ensures done { IfOk result (HasRun (known host.now) O.contents command.now
         (I.remaining input.old.inner) (I.remaining input.new.inner) output.old output.new) }
-    ensures failed { IfErr result (HasFailed (known host.now) O.contents command.entry
+    ensures failed { IfErr result (HasFailed (known host.now) O.contents command.now
         (I.remaining input.old.inner) (I.remaining input.new.inner) output.old output.new) }
-    ensures noted { HasNoted (known host.now) E.contents errors.old errors.new command.entry }
+    ensures noted { HasNoted (known host.now) E.contents errors.old errors.new command.now }
 {
     match command {
         Command::Trial => {
@@ -80,35 +82,35 @@ fn run<H: Host, I: Read, O: Write, E: Write>(
             Ok(0)
         }
         Command::Check { file } => run_check(host.files, alloc, file, output),
-        Command::Execve(words) => run_execve(host.files, alloc, &words, output),
+        Command::Execve(words) => run_execve(host.files, alloc, words, output),
         Command::Init(words) => {
-            found_at(host, alloc, &words)?;
+            found_at(host, alloc, words)?;
             print(output, "founded\n")?;
             Ok(0)
         }
         Command::Serve(words) => {
-            serve_http(host, alloc, &words, output)?;
+            serve_http(host, alloc, words, output)?;
             Ok(0)
         }
         Command::Migrate {
             database,
             without_journal,
         } => {
-            migrate_at(host.databases, database, without_journal)?;
+            migrate_at(host.databases, database, *without_journal)?;
             print(output, "migrated\n")?;
             Ok(0)
         }
         Command::Desk { database, journal } => {
-            serve_stored(host, alloc, database, journal, input, output)?;
+            serve_stored(host, alloc, database, *journal, input, output)?;
             Ok(0)
         }
         Command::Compare { base, new } => run_compare(host.files, alloc, base, new, output),
-        Command::Verify(words) => verify_and_mark(host, alloc, &words, output, errors),
+        Command::Verify(words) => verify_and_mark(host, alloc, words, output, errors),
         Command::Rebuild { database, journal } => {
             run_rebuild(host.files, host.databases, alloc, database, journal, output)
         }
-        Command::History(words) => run_history(host.files, alloc, &words, output),
-        Command::Evidence(words) => run_evidence(host.files, alloc, &words, output),
+        Command::History(words) => run_history(host.files, alloc, words, output),
+        Command::Evidence(words) => run_evidence(host.files, alloc, words, output),
     }
 }
 
@@ -155,7 +157,7 @@ fn warn<E: Write>(command: &Command<'_>, errors: &mut Counted<E>)
 fn run_apart<H: Host, I: Read, O: Write, E: Write>(
     host: &Outside<'_, H>,
     alloc: Global,
-    command: Command<'_>,
+    command: &Command<'_>,
     input: &mut Counted<I>,
     output: &mut Counted<O>,
     errors: &mut Counted<E>,
@@ -165,14 +167,14 @@ fn run_apart<H: Host, I: Read, O: Write, E: Write>(
     requires write_faults { output.old.faults ≤ 2 ^ 62 }
     ensures done { IfOk result (HasRunApart (known host.now) O.contents
         (I.remaining input.old.inner) (I.remaining input.new.inner)
-        output.old output.new command.entry) }
+        output.old output.new command.now) }
     ensures failed { IfErr result (HasFailedApart (known host.now) O.contents
         (I.remaining input.old.inner) (I.remaining input.new.inner)
-        output.old output.new command.entry) }
-    ensures noted { HasNotedAll (known host.now) E.contents errors.old errors.new command.entry }
+        output.old output.new command.now) }
+    ensures noted { HasNotedAll (known host.now) E.contents errors.old errors.new command.now }
 {
-    see_apart(host.journals, &command)?;
-    warn(&command, errors);
+    see_apart(host.journals, command)?;
+    warn(command, errors);
     run(host, alloc, command, input, output, errors)
 }
 
@@ -189,7 +191,7 @@ fn print_or_refuse<O: Write, E: Write>(
     match print(output, text) {
         Ok(()) => 0,
         Err(fault) => {
-            refuse(alloc, errors, &fault);
+            refuse(alloc, errors, &fault, None);
             1
         }
     }
@@ -210,33 +212,34 @@ fn tell<O: Write, E: Write>(
         WordsFault::Help(text) => print_or_refuse(alloc, text.as_str(), output, errors),
         WordsFault::Version(text) => print_or_refuse(alloc, text.as_str(), output, errors),
         WordsFault::Refused(text) => {
-            say(errors, text.as_str());
+            say_lines(alloc, errors, text.as_str());
             2
         }
         WordsFault::NoMemory => {
-            refuse(alloc, errors, &CommandFault::NoMemory);
+            refuse(alloc, errors, &CommandFault::NoMemory, None);
             1
         }
     }
 }
 
-// The status that the program ends with: this one where a command was refused or failed, which is
-// said.
+// The status that the program ends with. Where a command was refused or failed, that is said, with the
+// word for a file that couldn't be read.
 fn status_of<E: Write>(
     alloc: Global,
     errors: &mut Counted<E>,
+    command: &Command<'_>,
     ended: Result<u8, CommandFault>,
-    failed: u8,
 ) -> u8
     ensures { MatchResult ended
         (λ status. (result ≡ status) × (errors.new ≡ errors.old))
-        (λ why. (result ≡ failed) × IsRefusal E.contents errors.old errors.new why) }
+        (λ why. (result ≡ failed_status command.now)
+        × IsRefusal E.contents errors.old errors.new why (unread_by command.now why)) }
 {
     match ended {
         Ok(status) => status,
         Err(fault) => {
-            refuse(alloc, errors, &fault);
-            failed
+            refuse(alloc, errors, &fault, unread_by(command, &fault));
+            failed_status(command)
         }
     }
 }
@@ -262,9 +265,8 @@ pub fn run_words<H: Host, I: Read, O: Write, E: Write>(
 {
     match read_words(alloc, words) {
         Ok(command) => {
-            let failed = failed_status(&command);
-            let ended = run_apart(host, alloc, command, input, output, errors);
-            status_of(alloc, errors, ended, failed)
+            let ended = run_apart(host, alloc, &command, input, output, errors);
+            status_of(alloc, errors, &command, ended)
         }
         Err(fault) => tell(alloc, &fault, output, errors),
     }

@@ -1,7 +1,7 @@
 use Rattle.std.proofs.Common.{refl}
 use Rattle.command_host.specs.Outside.{known}
 use Rattle.reading_commands.proofs.FailingFacts.{failed_by}
-use Rattle.office_commands.proofs.RunFacts.{failed_as, run_as}
+use Rattle.office_commands.proofs.RunFacts.{all_failed_as, failed_as, run_as}
 use Rattle.office_commands.proofs.run.run.Goals as goal
 
 pub returns-in_ok-print-in-Init-clause-done : goal.returns-in_ok-print-in-Init-clause-done
@@ -25,3 +25,13 @@ returns-in_err-serve_stored-in-Desk-clause-failed g c =
     failed_by _ _ c.in_err-serve_stored-in-Desk.field-0.0 c.from_residual-in_err-serve_stored-in-Desk.ensures.1
     (failed_as (known c.args.host.now) g.O.Write.contents _ _ _ _ _ _ _
     c.in-Desk.is c.in_err-serve_stored-in-Desk.ensures)
+
+pub returns-in-Compare-clause-failed : goal.returns-in-Compare-clause-failed
+returns-in-Compare-clause-failed g c =
+    all_failed_as (known c.args.host.now) g.O.Write.contents _ _ _ _ _ _ c.run_compare.result
+    c.in-Compare.is c.run_compare.ensures.failed
+
+pub returns-in-Rebuild-clause-failed : goal.returns-in-Rebuild-clause-failed
+returns-in-Rebuild-clause-failed g c =
+    all_failed_as (known c.args.host.now) g.O.Write.contents _ _ _ _ _ _ c.run_rebuild.result
+    c.in-Rebuild.is c.run_rebuild.ensures.failed

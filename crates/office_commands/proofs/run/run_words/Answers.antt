@@ -7,8 +7,8 @@ returns-in-Ok g c =
     inl (
       c.in-Ok.command,
       c.in-Ok.ensures.command,
-      has_ended g.E.Write.contents _ _ c.in-Ok.command _ _ _ c.run_apart-ended.result _ _
-          c.run_apart-ended.ensures.noted c.run_apart-ended.ensures.done c.run_apart-ended.ensures.failed c.failed_status-failed.ensures c.status_of.ensures,
+      has_ended g.E.Write.contents _ _ c.in-Ok.command _ _ _ c.run_apart-ended.result _
+          c.run_apart-ended.ensures.noted c.run_apart-ended.ensures.done c.run_apart-ended.ensures.failed c.status_of.ensures,
     )
 
 pub returns-in-Err : goal.returns-in-Err
