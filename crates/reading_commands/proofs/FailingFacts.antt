@@ -14,7 +14,7 @@ use Rattle.profile_commands.specs.declared.execution.ExecutionFault.{ExecutionFa
 use Rattle.profile_commands.specs.declared.execve.ExecveOutcome.{ExecveOutcome}
 use Rattle.profile_commands.specs.declared.fault.FileFault.{FileFault}
 use Rattle.streams.specs.declared.counted.Counted.{Counted}
-use Rattle.reading_commands.specs.Documents.{outcome_text, source_bytes, IsSource}
+use Rattle.reading_commands.specs.Documents.{file_of, outcome_text, source_bytes, IsSource}
 use Rattle.command_host.specs.FailedCalls.{CallFailed}
 use Rattle.reading_commands.specs.DocumentFailures.{failed_read, GaveNothing, IsToldOfFile, FailsToCheck, FailsToCompare, FailsToExecute}
 use Rattle.reading_commands.specs.DocumentFailures.{IsUncompared}
@@ -35,7 +35,7 @@ unread (Some bytes) = tt
 
 -- a file gave nothing, by what is told of that
 pub gave_nothing : {F O : Type 0} (Opens : List ℕ → Result F Error → Type 0) (Gives : F → F → Result ℕ Error → List ℕ → Type 0) (bytes_of : F → Option (List ℕ)) (contents : O → Option (List ℕ))
-    (output wrote : Counted O) (path : List ℕ) (met told : FileFault) (file : F) → Opens path (Ok file) → IfSome (bytes_of file) (λ bytes. RefusesAs bytes met)
+    (output wrote : Counted O) (path : List ℕ) (met told : FileFault) (file : F) → Opens (file_of path) (Ok file) → IfSome (bytes_of file) (λ bytes. RefusesAs bytes met)
     → IsToldOfFile Gives met told → wrote ≡ output → GaveNothing Opens Gives bytes_of contents output wrote path told
 gave_nothing Opens Gives bytes_of contents output wrote path met told file opened refused (inl it) same =
     subst (λ (w : FileFault). GaveNothing Opens Gives bytes_of contents output wrote path w) (sym it.0) (file, opened, refused, it.1, same)
@@ -45,15 +45,15 @@ gave_nothing Opens Gives bytes_of contents output wrote path met told file opene
 module _ {F O : Type 0} (Opens : List ℕ → Result F Error → Type 0) (Gives : F → F → Result ℕ Error → List ℕ → Type 0) (bytes_of : F → Option (List ℕ)) (contents : O → Option (List ℕ))
     (output wrote : Counted O) (why : CommandFault) where
   module _ (path : List ℕ) where
-    pub check_unopened : (why ≡ fault.Open) × ((e : Error) × Opens path (Err e)) → wrote ≡ output → FailsToCheck Opens Gives bytes_of contents output wrote path why
+    pub check_unopened : (why ≡ fault.Open) × ((e : Error) × Opens (file_of path) (Err e)) → wrote ≡ output → FailsToCheck Opens Gives bytes_of contents output wrote path why
     check_unopened it same = subst (λ (w : CommandFault). FailsToCheck Opens Gives bytes_of contents output wrote path w) (sym it.0) (it.1, same)
 
-    pub check_refused : (told : FileFault) (file : F) → why ≡ fault.File told → Opens path (Ok file)
+    pub check_refused : (told : FileFault) (file : F) → why ≡ fault.File told → Opens (file_of path) (Ok file)
         → IfSome (bytes_of file) (λ bytes. IsChecked bytes (Err told)) → (told ≡ failed_read → ∥ CallFailed Gives ∥₁) → wrote ≡ output → FailsToCheck Opens Gives bytes_of contents output wrote path why
     check_refused told file is opened refused called same =
         subst (λ (w : CommandFault). FailsToCheck Opens Gives bytes_of contents output wrote path w) (sym is) (file, opened, refused, called, same)
 
-    pub check_cut : (file : F) (text : String Global) (printed : List ℕ) → Opens path (Ok file) → IfSome (bytes_of file) (λ bytes. IsChecked bytes (Ok text))
+    pub check_cut : (file : F) (text : String Global) (printed : List ℕ) → Opens (file_of path) (Ok file) → IfSome (bytes_of file) (λ bytes. IsChecked bytes (Ok text))
         → printed ≡ string_bytes text → (why ≡ fault.Write) × IsCut contents output wrote printed → FailsToCheck Opens Gives bytes_of contents output wrote path why
     check_cut file text printed opened checked is it =
         subst (λ (w : CommandFault). FailsToCheck Opens Gives bytes_of contents output wrote path w) (sym it.0)
@@ -66,19 +66,19 @@ module _ {F O : Type 0} (Opens : List ℕ → Result F Error → Type 0) (Gives 
         subst (λ (w : CommandFault). FailsToExecute Opens Gives bytes_of contents output wrote words w) (sym is) (described, same)
 
     module _ (execution : Execution) (described : execution_of words ≡ Ok execution) where
-      pub execve_unopened : (why ≡ fault.Open) × ((e : Error) × Opens words.file.now (Err e)) → wrote ≡ output
+      pub execve_unopened : (why ≡ fault.Open) × ((e : Error) × Opens (file_of words.file.now) (Err e)) → wrote ≡ output
           → FailsToExecute Opens Gives bytes_of contents output wrote words why
       execve_unopened it same =
           subst (λ (w : CommandFault). FailsToExecute Opens Gives bytes_of contents output wrote words w) (sym it.0) ((execution, described), (it.1, same))
 
-      pub execve_refused : (told : FileFault) (file : F) → why ≡ fault.File told → Opens words.file.now (Ok file)
+      pub execve_refused : (told : FileFault) (file : F) → why ≡ fault.File told → Opens (file_of words.file.now) (Ok file)
           → IfSome (bytes_of file) (λ bytes. IsExecuted execution bytes (Err told)) → (told ≡ failed_read → ∥ CallFailed Gives ∥₁) → wrote ≡ output
           → FailsToExecute Opens Gives bytes_of contents output wrote words why
       execve_refused told file is opened refused called same =
           subst (λ (w : CommandFault). FailsToExecute Opens Gives bytes_of contents output wrote words w) (sym is)
           ((execution, described), (file, opened, refused, called, same))
 
-      pub execve_cut : (file : F) (outcome : ExecveOutcome) (printed : List ℕ) → Opens words.file.now (Ok file)
+      pub execve_cut : (file : F) (outcome : ExecveOutcome) (printed : List ℕ) → Opens (file_of words.file.now) (Ok file)
           → IfSome (bytes_of file) (λ bytes. IsExecuted execution bytes (Ok outcome)) → printed ≡ outcome_text outcome
           → (why ≡ fault.Write) × IsCut contents output wrote printed → FailsToExecute Opens Gives bytes_of contents output wrote words why
       execve_cut file outcome printed opened executed is it =
@@ -91,7 +91,7 @@ module _ {F O : Type 0} (Opens : List ℕ → Result F Error → Type 0) (Gives 
     uncompared told is it same =
         subst (λ (w : CommandFault). FailsToCompare Opens Gives bytes_of contents output wrote base_path new_path w) (sym is) (it, same)
 
-    pub compare_cut : (base shown : Source F) (text : String Global) (printed : List ℕ) → IsSource (Opens base_path) base → IsSource (Opens new_path) shown
+    pub compare_cut : (base shown : Source F) (text : String Global) (printed : List ℕ) → IsSource (Opens (file_of base_path)) base → IsSource (Opens (file_of new_path)) shown
         → IfSome (source_bytes bytes_of base) (λ b. IfSome (source_bytes bytes_of shown) (λ s. IsCompared b s text)) → printed ≡ string_bytes text
         → (why ≡ fault.Write) × IsCut contents output wrote printed → FailsToCompare Opens Gives bytes_of contents output wrote base_path new_path why
     compare_cut base shown text printed base_opened shown_opened compared is it =

@@ -19,7 +19,7 @@ use Rattle.reading_commands.specs.declared.compare.Source.{Source}
 use Rattle.command_host.specs.FailedCalls.{CallFailed}
 use Rattle.command_host.specs.declared.fault.CommandFault.{CommandFault}
 use Rattle.command_host.specs.declared.fault.CommandFault.TheVariants as fault
-use Rattle.reading_commands.specs.Documents.{outcome_text, source_bytes, IsSource}
+use Rattle.reading_commands.specs.Documents.{file_of, outcome_text, source_bytes, IsSource}
 
 -- a file couldn't be read
 abbrev pub failed_read : FileFault
@@ -38,11 +38,11 @@ module _ {F : Type 0} (Opens : List ℕ → Result F Error → Type 0)
     (bytes_of : F → Option (List ℕ)) where
   -- two documents weren't compared, by a fault that is of the bytes of the one or the other where
   -- it is of a document
-  pub record IsUncompared (base_path new_path : List ℕ) (why : ComparedFault) : Type 0 where
+  pub record IsUncompared (base_word new_word : List ℕ) (why : ComparedFault) : Type 0 where
     pub base : Source F
-    pub base_opened : IsSource (Opens base_path) base
+    pub base_opened : IsSource (Opens (file_of base_word)) base
     pub shown : Source F
-    pub shown_opened : IsSource (Opens new_path) shown
+    pub shown_opened : IsSource (Opens (file_of new_word)) shown
     pub of_base : IfSome (source_bytes bytes_of base)
         (λ bytes. IsBase {X = String Global} bytes (Err why))
     pub of_new : IfSome (source_bytes bytes_of shown)
@@ -53,26 +53,27 @@ module _ {F : Type 0} (Opens : List ℕ → Result F Error → Type 0)
 module _ {F O : Type 0} (Opens : List ℕ → Result F Error → Type 0)
     (Gives : F → F → Result ℕ Error → List ℕ → Type 0) (bytes_of : F → Option (List ℕ))
     (contents : O → Option (List ℕ)) (output wrote : Counted O) where
-  -- no file could be opened at a path, and nothing was printed
-  abbrev pub IsUnopened : (path : List ℕ) → Type 0
-  IsUnopened path = ((e : Error) × Opens path (Err e)) × (wrote ≡ output)
+  -- the file that a word names couldn't be opened, and nothing was printed
+  abbrev pub IsUnopened : (word : List ℕ) → Type 0
+  IsUnopened word = ((e : Error) × Opens (file_of word) (Err e)) × (wrote ≡ output)
 
-  -- the file at a path gave nothing, by a fault that is of its bytes where it is of a document, and
-  -- that is a failed read only where a call of read failed; and nothing was printed
-  abbrev pub GaveNothing : (path : List ℕ) → FileFault → Type 0
-  GaveNothing path why =
-      (file : F) × Opens path (Ok file) × IfSome (bytes_of file) (λ bytes. RefusesAs bytes why)
+  -- it gave nothing, by a fault that is of its bytes where it is of a document, and that is a failed
+  -- read only where a call of read failed; and nothing was printed
+  abbrev pub GaveNothing : (word : List ℕ) → FileFault → Type 0
+  GaveNothing word why =
+      (file : F) × Opens (file_of word) (Ok file)
+      × IfSome (bytes_of file) (λ bytes. RefusesAs bytes why)
       × (why ≡ failed_read → ∥ CallFailed Gives ∥₁) × (wrote ≡ output)
 
   -- `check` fails: no file can be opened, it gives nothing, or its text was cut
-  abbrev pub FailsToCheck : (path : List ℕ) → CommandFault → Type 0
-  FailsToCheck path fault.Open = IsUnopened path
-  FailsToCheck path (fault.File why) = GaveNothing path why
-  FailsToCheck path fault.Write =
-      (file : F) × (text : String Global) × Opens path (Ok file)
+  abbrev pub FailsToCheck : (word : List ℕ) → CommandFault → Type 0
+  FailsToCheck word fault.Open = IsUnopened word
+  FailsToCheck word (fault.File why) = GaveNothing word why
+  FailsToCheck word fault.Write =
+      (file : F) × (text : String Global) × Opens (file_of word) (Ok file)
       × IfSome (bytes_of file) (λ bytes. IsChecked bytes (Ok text))
       × IsCut contents output wrote (string_bytes text)
-  FailsToCheck path _ = ⊥
+  FailsToCheck word _ = ⊥
 
   -- `execve` fails: its words describe no execution; or they do, and the same of the file
   abbrev pub FailsToExecute : ExecveWords → CommandFault → Type 0
@@ -85,19 +86,19 @@ module _ {F O : Type 0} (Opens : List ℕ → Result F Error → Type 0)
       × GaveNothing words.file.now why
   FailsToExecute words fault.Write =
       (file : F) × (execution : Execution) × (outcome : ExecveOutcome)
-      × (execution_of words ≡ Ok execution) × Opens words.file.now (Ok file)
+      × (execution_of words ≡ Ok execution) × Opens (file_of words.file.now) (Ok file)
       × IfSome (bytes_of file) (λ bytes. IsExecuted execution bytes (Ok outcome))
       × IsCut contents output wrote (outcome_text outcome)
   FailsToExecute words _ = ⊥
 
   -- `compare` fails: the documents weren't compared, or the text of the findings was cut
-  abbrev pub FailsToCompare : (base_path new_path : List ℕ) → CommandFault → Type 0
-  FailsToCompare base_path new_path (fault.Compared why) =
-      IsUncompared Opens bytes_of base_path new_path why × (wrote ≡ output)
-  FailsToCompare base_path new_path fault.Write =
+  abbrev pub FailsToCompare : (base_word new_word : List ℕ) → CommandFault → Type 0
+  FailsToCompare base_word new_word (fault.Compared why) =
+      IsUncompared Opens bytes_of base_word new_word why × (wrote ≡ output)
+  FailsToCompare base_word new_word fault.Write =
       (base shown : Source F) × (text : String Global)
-      × IsSource (Opens base_path) base × IsSource (Opens new_path) shown
+      × IsSource (Opens (file_of base_word)) base × IsSource (Opens (file_of new_word)) shown
       × IfSome (source_bytes bytes_of base)
       (λ b. IfSome (source_bytes bytes_of shown) (λ s. IsCompared b s text))
       × IsCut contents output wrote (string_bytes text)
-  FailsToCompare base_path new_path _ = ⊥
+  FailsToCompare base_word new_word _ = ⊥

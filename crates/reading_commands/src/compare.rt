@@ -1,9 +1,10 @@
 //! `compare`: what one document permits more than another.
 
 ghost use Rattle.std.specs.Prelude.{IfErr, IfOk};
-ghost use Rattle.reading_commands.specs.Documents.{IsSource, WereCompared};
+ghost use Rattle.reading_commands.specs.Documents.{file_of, IsSource, WereCompared};
 ghost use Rattle.reading_commands.specs.DocumentFailures.{IsUncompared};
 
+use crate::named::file_of;
 use command_host::PassFiles;
 use profile_commands::{ComparedFault, compare_documents};
 use std::alloc::Global;
@@ -31,17 +32,18 @@ impl<T: Read + Drop> Read for Source<T> {
     }
 }
 
-// The file at this path, for reading.
-fn reader_at<F: PassFiles>(files: &F, path: &str) -> Source<F::File>
-    ensures { IsSource (F.opens files.now path.now) result }
+// The file that this word names, for reading.
+fn reader_at<F: PassFiles>(files: &F, word: &str) -> Source<F::File>
+    ensures { IsSource (F.opens files.now (file_of word.now)) result }
 {
-    match files.open_at(path) {
+    match files.open_at(file_of(word)) {
         Ok(file) => Source::Opened(file),
         Err(_) => Source::Unopened,
     }
 }
 
-/// What the document in the file `new` permits more than that in `base`, a line for each finding.
+/// What the document in the file that `new` names permits more than that in the file that `base` names,
+/// a line for each finding.
 pub(crate) fn compare_files<F: PassFiles>(
     files: &F,
     alloc: Global,

@@ -4,10 +4,11 @@ ghost use Rattle.std.specs.Prelude.{◌≡◌, IfErr, IfOk, string_bytes};
 ghost use Rattle.std.specs.declared.io.Error.{Error};
 ghost use Rattle.reading_commands.specs.DocumentFailures.{FailsToCheck, FailsToCompare};
 ghost use Rattle.reading_commands.specs.DocumentFailures.{FailsToExecute, IsToldOfFile};
-ghost use Rattle.reading_commands.specs.Documents.{findings_status, HasChecked, HasCompared};
-ghost use Rattle.reading_commands.specs.Documents.{HasExecuted};
+ghost use Rattle.reading_commands.specs.Documents.{file_of, findings_status, HasChecked};
+ghost use Rattle.reading_commands.specs.Documents.{HasCompared, HasExecuted};
 
 use crate::compare::compare_files;
+use crate::named::file_of;
 use command_host::{CommandFault, Noted, PassFiles, print};
 use command_line::ExecveWords;
 use profile_commands::{ExecveOutcome, FileFault, check_document, execution_of, execve_document};
@@ -15,15 +16,16 @@ use std::alloc::Global;
 use std::io::Write;
 use streams::{Counted, Unread};
 
-// The file at this path, for reading.
-fn open<'f, F: PassFiles>(files: &'f F, path: &str) -> Result<Counted<Noted<'f, F>>, CommandFault>
-    ensures opened { IfOk result (λ reader. F.opens files.now path.now (Ok reader.inner.file)) }
+// The file that this word names, for reading.
+fn open<'f, F: PassFiles>(files: &'f F, word: &str) -> Result<Counted<Noted<'f, F>>, CommandFault>
+    ensures opened { IfOk result (λ reader.
+        F.opens files.now (file_of word.now) (Ok reader.inner.file)) }
     ensures calls { IfOk result (λ reader. reader.calls ≡ 0) }
     ensures faults { IfOk result (λ reader. reader.faults ≡ 0) }
     ensures fault { IfErr result (λ fault. (fault ≡ CommandFault.Open)
-        × ((e : Error) × F.opens files.now path.now (Err e))) }
+        × ((e : Error) × F.opens files.now (file_of word.now) (Err e))) }
 {
-    match files.open_at(path) {
+    match files.open_at(file_of(word)) {
         Ok(file) => Ok(Counted::new(Noted::new(files, file))),
         Err(_) => Err(CommandFault::Open),
     }
@@ -43,11 +45,12 @@ fn told_of_file<F: PassFiles>(reader: Counted<Noted<'_, F>>, met: FileFault) -> 
     }
 }
 
-/// `check`: prints the canonical text of the document in the file at a path, and gives the status.
+/// `check`: prints the canonical text of the document in the file that a word names, and gives the
+/// status. The word `-` is standard input, as in the other two.
 ///
 /// # Errors
 ///
-/// `Open` where no file can be opened there, `File` where it gave nothing, `Write` where the text
+/// `Open` where the file can't be opened, `File` where it gave nothing, `Write` where the text
 /// was cut.
 pub fn run_check<F: PassFiles, O: Write>(
     files: &F,

@@ -9,6 +9,7 @@ mod evidence;
 mod history;
 mod moment;
 mod name;
+mod named;
 mod place;
 mod verify;
 
