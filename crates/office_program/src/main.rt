@@ -6,7 +6,7 @@ ghost use Rattle.std.specs.Prelude.{◌≡◌, ◌≢◌};
 ghost use Rattle.std.specs.IoError.{error_kind};
 
 use office_commands::run_here;
-use std::io::ErrorKind;
+use std::io::{ErrorKind, IsTerminal};
 use std::process::ExitCode;
 use std::{env, io};
 
@@ -29,15 +29,27 @@ fn without_words(rt: &HostRuntime, error: &io::Error) -> u8
     2
 }
 
+// Says how to begin, where the trial desk reads a terminal.
+fn greet(rt: &HostRuntime, words: &[String]) {
+    if words.len() < 2 && rt.stdin().is_terminal() {
+        let _ = eprintln!(rt;
+            "office: a trial desk, one JSON request a line; try \"office --help\""
+        );
+    }
+}
+
 fn main(rt: HostRuntime) -> ExitCode {
     let status = match words_given(&rt) {
-        Ok(words) => run_here(
-            &rt,
-            &words,
-            &mut rt.reader(),
-            &mut io::writer(&rt),
-            &mut rt.stderr(),
-        ),
+        Ok(words) => {
+            greet(&rt, &words);
+            run_here(
+                &rt,
+                &words,
+                &mut rt.reader(),
+                &mut io::writer(&rt),
+                &mut rt.stderr(),
+            )
+        }
         Err(error) => without_words(&rt, &error),
     };
     ExitCode::from(status)
