@@ -6,12 +6,15 @@
 //! The file `exchanges.http` has requests over HTTP. Below a heading, which stands after `# `, the requests to a new office in
 //! memory stand in a line each after `> `, and below a request the response to it after `< `, or why there is none after `! `; of
 //! requests that are answered alike one after the other, it is below the last.
+//!
+//! What `verdicts.console` asks is asked in three ways: at the trial desk, at a desk with a journal, and over HTTP.
 
 mod bytes;
 mod exchanges;
 mod place;
 mod run;
 mod said;
+mod verdicts;
 
 use anyhow::{Result, bail};
 use std::{fs, io};
@@ -53,14 +56,25 @@ fn requests_differing(rt: &HostRuntime, file: &str) -> Result<usize> {
     exchanges::differing_in(rt, file, shown.as_str())
 }
 
+// Asks what a file asks behind the past in another one, in three ways.
+fn verdicts_differing(rt: &HostRuntime, past: &str, file: &str) -> Result<usize> {
+    let past = fs::read_to_string(rt, past)?;
+    let shown = fs::read_to_string(rt, file)?;
+    verdicts::differing_in(rt, past.as_str(), shown.as_str())
+}
+
 /// Carries all out, the commands of standard input first, and fails where anything differs from what is shown.
 pub fn carry_out(rt: &HostRuntime) -> Result<()> {
     let commands = commands_differing(rt)?;
     let requests = requests_differing(rt, "exchanges.http")?;
-    if commands > 0 || requests > 0 {
-        bail!("{commands} commands and {requests} requests come to something else than is shown");
+    let verdicts = verdicts_differing(rt, "past.jsonl", "verdicts.console")?;
+    if commands > 0 || requests > 0 || verdicts > 0 {
+        bail!(
+            "{commands} commands, {requests} requests and {verdicts} verdicts differ from what is shown"
+        );
     }
     println!(rt; "each command prints what is shown")?;
     println!(rt; "each request is answered as shown")?;
+    println!(rt; "each verdict is the one that is shown, in each way")?;
     Ok(())
 }

@@ -30,15 +30,15 @@ fn found(alloc: Global) -> Result<Founded> {
 
 /// An office in memory that is founded as that of the trial desk: root of the team office may enrol users, by the token abc, and
 /// CAP_SYS_ADMIN is listed.
-fn found_office(alloc: Global) -> Result<Office<MemStore>> {
+pub fn found_office(alloc: Global) -> Result<Office<MemStore>> {
     match found(alloc)? {
         Ok(office) => Ok(office),
         Err((fault, _)) => bail!("an office is not founded: {fault}"),
     }
 }
 
-// The lines that show the response to a request, or why there is none.
-fn lines_of(
+/// The lines that show the response to a request, or why there is none.
+pub fn lines_of(
     alloc: Global,
     office: &mut Office<MemStore>,
     router: &OfficeRouter,
