@@ -1,0 +1,102 @@
+-- Small values by which definitions of journals are tried: a journal that is its lines, the lines of a
+-- founding, and an office with a log.
+use Rattle.std.specs.Prelude.{◌≡◌, ◌-◌, ◌^◌, ℕ, min, List, [], ◌∷◌, length, Bool, true, false, IsTrue}
+use Rattle.std.proofs.Common.{refl}
+use Rattle.sqlite.specs.Held.{Held}
+use Rattle.sqlite.specs.Store.{Ghosts}
+use Rattle.sqlite_disk.specs.declared.Disk.{Ghosts as DiskGhosts}
+use Rattle.sealed_log.specs.Sealed.{seal_of, sealed_text}
+use Rattle.sealed_log.specs.declared.log.SealedLog.{SealedLog}
+use Rattle.office_policy.specs.History.{History}
+use Rattle.office_policy.specs.ShowsEvent.{Shows}
+use Rattle.office_policy.specs.TablesOf.{tables_of}
+use Rattle.office_desk.specs.Meant.{meaning_over}
+use Rattle.journal.specs.Lines.{happened, done, text_of}
+use Rattle.journal.specs.Writing.{Writing}
+use Rattle.journal.specs.declared.journaled.Journaled.{Journaled}
+use Rattle.journal_verification.specs.declared.verification.KeptSeal.{KeptSeal}
+use Rattle.journal_verification.specs.declared.verification.Verified.{Verified}
+use Rattle.example_tests.specs.Examples.{Sketch, counting, founds}
+
+-- ---- a journal
+
+pub record Pages : Type 0 where
+  pub bodies : List (List ℕ)
+  pub is_open : Bool
+
+-- what is meant by such a journal, no call of which fails
+abbrev pub paged : Writing Pages
+paged = record {
+  is_clean = λ j. Unit {0};
+  bodies = λ j. j.bodies;
+  is_open = λ j. j.is_open;
+  lines = λ j. min (length j.bodies) (2 ^ 64 - 1);
+  faults = λ j. 0;
+  may_leave = λ j left. left ≡ sealed_text j.bodies;
+  settled = λ j clean is_open left may. may;
+  counted = λ j clean is_open. refl;
+}
+
+-- an office with a journal that has these bodies
+abbrev pub with_bodies : List (List ℕ) → Journaled Sketch Pages
+with_bodies bodies = record {
+  office = counting 0;
+  journal = record { bodies = bodies; is_open = true };
+  has_stray = false;
+  is_settled = true;
+}
+
+-- an event couldn't be struck out of it
+abbrev pub with_stray : List (List ℕ) → Journaled Sketch Pages
+with_stray bodies = record (with_bodies bodies) { has_stray = true }
+
+-- two bodies
+abbrev pub one : List ℕ
+one = 1 ∷ []
+
+abbrev pub two : List ℕ
+two = 2 ∷ []
+
+-- the journal of the founding, and with the line that says that it is carried out
+abbrev pub first_line : List (List ℕ)
+first_line = text_of (happened (founds 5)) ∷ []
+
+abbrev pub first_lines : List (List ℕ)
+first_lines = text_of (happened (founds 5)) ∷ text_of (done 1) ∷ []
+
+-- the text of the journal of the founding
+abbrev pub first_text : List ℕ
+first_text = sealed_text first_line
+
+-- what is known of an office that was verified with it: so many events and lines
+abbrev pub verified : (events lines : ℕ) → Verified
+verified events lines = record { events = events; seal = seal_of first_line; lines = lines }
+
+-- the seal of bodies, kept as that of a line
+abbrev pub kept_seal : (line : ℕ) → List (List ℕ) → KeptSeal
+kept_seal line bodies = record { line = line; seal = seal_of bodies }
+
+-- ---- an office with a log
+
+-- the office of this history, over a disk that is clean
+pub record IsCleanOffice {S : Type 0} (g : Ghosts S) (h : History) (conn : Held S) : Type 0 where
+  pub of : (meaning_over g).is_of h conn
+  pub clean : (meaning_over g).is_clean conn
+
+-- the tables of a connection show the founding, whatever history it is of
+abbrev pub ShowsFounding : {S : Type 0} → Ghosts S → Held S → Type 0
+ShowsFounding g conn =
+    (h : History) → (meaning_over g).is_of h conn → Shows (tables_of h) (founds 5)
+
+-- an open log whose file has just these bodies, over a disk that is clean
+pub record HasBodies {D : Type 0} (g : DiskGhosts D) (log : SealedLog D g)
+    (bodies : List (List ℕ)) : Type 0 where
+  pub is_open : log.is_open ≡ true
+  pub clean : IsTrue (g.is_clean log.disk)
+  pub seen : g.seen log.disk ≡ sealed_text bodies
+
+-- an office with this log
+abbrev pub with_log : {S D : Type 0} {g : DiskGhosts D} → Held S → SealedLog D g
+    → (is_settled : Bool) → Journaled (Held S) (SealedLog D g)
+with_log office log is_settled =
+    record { office = office; journal = log; has_stray = false; is_settled = is_settled }

@@ -1,0 +1,9 @@
+//! Small offices, journals, connections and filters, and what definitions say of them.
+
+pub mod causes;
+pub mod filters;
+pub mod journals;
+pub mod openings;
+pub mod replays;
+pub mod stores;
+pub mod verifications;

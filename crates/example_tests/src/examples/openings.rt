@@ -1,0 +1,62 @@
+//! What a crash left of a journal, and an office that is opened again with it.
+
+ghost use Rattle.std.specs.Prelude.{◌≡◌, [], ◌∷◌, true, false, IsTrue};
+ghost use Rattle.sqlite.specs.Held.{Held};
+ghost use Rattle.sealed_log.specs.declared.log.SealedLog.{SealedLog};
+ghost use Rattle.journal.specs.Lines.{happened, strike, text_of};
+ghost use Rattle.journal.specs.declared.journaled.Journaled.{Journaled};
+ghost use Rattle.journal_office.specs.Mending.{IsMended, SaysOther};
+ghost use Rattle.journal_office.specs.Opening.{IsReopened};
+ghost use Rattle.example_tests.specs.Examples.{enrols, founds, founding};
+ghost use Rattle.example_tests.specs.JournalExamples.{first_line, first_lines, HasBodies};
+ghost use Rattle.example_tests.specs.JournalExamples.{IsCleanOffice, ShowsFounding, with_log};
+
+use sqlite::Alter;
+use sqlite_disk::Disk;
+
+/// A mended journal has the lines of one, and at most the line that strikes out the last.
+pub fn examples_of_mended_journals()
+    ensures whole { IsMended first_line first_line }
+    ensures struck { IsMended first_line (text_of (happened (founds 5)) ∷ text_of strike ∷ []) }
+    ensures missing { IsMended first_line [] → ⊥ }
+    ensures carried_out { IsMended first_line first_lines → ⊥ }
+    ensures no_journal { IsMended (text_of strike ∷ []) (text_of strike ∷ []) → ⊥ }
+{}
+
+/// A journal is another's where the mark is above its lines, or where the tables show neither its
+/// writers nor those without the last event; not where a crash may have left it so.
+pub fn examples_of_journals_of_others()
+    ensures mark_above { SaysOther 2 founding first_line }
+    ensures other_founding { SaysOther 1 (founds 6 ∷ []) first_line }
+    ensures own { SaysOther 1 founding first_line → ⊥ }
+    ensures one_more { SaysOther 1 founding
+        (text_of (happened (founds 5)) ∷ text_of (happened enrols) ∷ []) → ⊥ }
+{}
+
+/// An office is opened again with its own journal, and goes on behind the last line of it: not with
+/// another's, or under a mark above its lines; not where the last line is taken for one that is to be
+/// settled, or lines are missing; not while the journal is shut or has an event that didn't happen.
+pub fn examples_of_reopened_offices<S: Alter, D: Disk>()
+    ensures own { (old : Held S) (log : SealedLog D D.Disk) → ShowsFounding S.Store old
+        → HasBodies D.Disk log first_line
+        → IsReopened S.Store D.Disk 1 old log (with_log old log false) }
+    ensures mark_above { (old : Held S) (log : SealedLog D D.Disk)
+        (x : Journaled (Held S) (SealedLog D D.Disk)) → HasBodies D.Disk log first_line
+        → HasBodies D.Disk x.journal first_line → IsReopened S.Store D.Disk 2 old log x → ⊥ }
+    ensures other_office { (old : Held S) (log : SealedLog D D.Disk)
+        (x : Journaled (Held S) (SealedLog D D.Disk)) → HasBodies D.Disk log first_line
+        → IsCleanOffice S.Store (founds 6 ∷ []) old → IsCleanOffice S.Store (founds 6 ∷ []) x.office
+        → HasBodies D.Disk x.journal first_line → IsReopened S.Store D.Disk 1 old log x → ⊥ }
+    ensures unsettled { (old : Held S) (log : SealedLog D D.Disk)
+        → IsCleanOffice S.Store founding old → HasBodies D.Disk log first_lines
+        → IsReopened S.Store D.Disk 1 old log (with_log old log false) → ⊥ }
+    ensures missing { (old : Held S) (log : SealedLog D D.Disk)
+        (x : Journaled (Held S) (SealedLog D D.Disk)) → HasBodies D.Disk log first_lines
+        → HasBodies D.Disk x.journal first_line → IsReopened S.Store D.Disk 1 old log x → ⊥ }
+    ensures shut { (old : Held S) (log : SealedLog D D.Disk)
+        (x : Journaled (Held S) (SealedLog D D.Disk)) → x.journal.is_open ≡ false
+        → IsReopened S.Store D.Disk 1 old log x → ⊥ }
+    ensures stray { (old : Held S) (log : SealedLog D D.Disk)
+        (x : Journaled (Held S) (SealedLog D D.Disk)) → x.has_stray ≡ true
+        → IsReopened S.Store D.Disk 1 old log x → ⊥ }
+{}
