@@ -39,12 +39,17 @@ module _ {E : Type 0} (said_of : E → Option (List ℕ)) (errors said : Counted
 -- of what was noted before a command ended
 module _ {E : Type 0} (said_of : E → Option (List ℕ)) (noted said : Counted E) where
   -- how it ended is how the program does
-  pub has_ended : (asked : Command) (Notes : Counted E → Type 0) (Run : ℕ → Type 0) (Fails : CommandFault → Type 0) (ended : Result ℕ CommandFault) (status : ℕ)
-      → Notes noted → IfOk ended Run → IfErr ended Fails
+  pub has_ended : (asked : Command) (NotesWell Notes : Counted E → Type 0) (Run : ℕ → Type 0) (Fails : CommandFault → Type 0) (ended : Result ℕ CommandFault) (status : ℕ)
+      → IfOk ended (λ it. NotesWell noted) → Notes noted → IfOk ended Run → IfErr ended Fails
       → MatchResult ended (λ s. (status ≡ s) × (said ≡ noted)) (λ why. (status ≡ failed_status asked) × IsRefusal said_of noted said why (unread_by asked why))
-      → HasEnded said_of said asked Notes Run Fails status
-  has_ended asked Notes Run Fails (Ok s) status notes run fails how = inl (subst Run (sym how.0) run, subst Notes (sym how.1) notes)
-  has_ended asked Notes Run Fails (Err why) status notes run fails how = inr (why, fails, how.0, (noted, notes, how.1))
+      → HasEnded said_of said asked NotesWell Notes Run Fails status
+  has_ended asked NotesWell Notes Run Fails (Ok s) status well notes run fails how = inl (subst Run (sym how.0) run, subst NotesWell (sym how.1) well)
+  has_ended asked NotesWell Notes Run Fails (Err why) status well notes run fails how = inr (why, fails, how.0, (noted, notes, how.1))
+
+-- what is known of a result, by what is known of it otherwise
+pub ok_as : {A E : Type 0} (P Q : A → Type 0) (result : Result A E) → ((a : A) → P a → Q a) → IfOk result P → IfOk result Q
+ok_as P Q (Ok a) to was = to a was
+ok_as P Q (Err e) to was = tt
 
 -- where nothing was said, a command noted nothing
 pub nothing_noted : {S D F L N E : Type 0} (k : Known S D F L N) (said_of : E → Option (List ℕ)) (errors noted : Counted E) (asked : Command) → noted ≡ errors

@@ -80,10 +80,10 @@ module _ {S D F L N O : Type 0} (k : Known S D F L N) (contents : O → Option (
 module _ {E : Type 0} (said_of : E → Option (List ℕ)) (said : Counted E) where
   -- A command ended with this status: well, as this says, with nothing said but what it noted; or it
   -- was refused or failed, as that says, and then why was said, and which file couldn't be read.
-  abbrev pub HasEnded : Command → (Notes : Counted E → Type 0) → (Run : ℕ → Type 0)
+  abbrev pub HasEnded : Command → (NotesWell Notes : Counted E → Type 0) → (Run : ℕ → Type 0)
       → (Fails : CommandFault → Type 0) → ℕ → Type 0
-  HasEnded asked Notes Run Fails status =
-      (Run status × Notes said)
+  HasEnded asked NotesWell Notes Run Fails status =
+      (Run status × NotesWell said)
       ⊎ ((why : CommandFault) × Fails why × (status ≡ failed_status asked)
       × ((noted : Counted E) × Notes noted × IsRefusal said_of noted said why (unread_by asked why)))
 
@@ -107,12 +107,12 @@ module _ {E : Type 0} (said_of : E → Option (List ℕ)) (errors said : Counted
     HasTold NoMemory status =
         (wrote ≡ output) × IsRefusal said_of errors said fault.NoMemory None × (status ≡ 1)
 
-    -- Words were carried out: the command that they ask for, with this noted, this done where it ended
-    -- well and that where it failed, or why they ask for none was told.
-    abbrev pub HasRunWords : (Notes : Command → Counted E → Type 0) → (Run : Command → ℕ → Type 0)
-        → (Fails : Command → CommandFault → Type 0)
+    -- Words were carried out: the command that they ask for, with the first noted and this done where it
+    -- ended well, and the second noted and that done where it failed, or why they ask for none was told.
+    abbrev pub HasRunWords : (NotesWell Notes : Command → Counted E → Type 0)
+        → (Run : Command → ℕ → Type 0) → (Fails : Command → CommandFault → Type 0)
         → List (String Global) → ℕ → Type 0
-    HasRunWords Notes Run Fails words status =
+    HasRunWords NotesWell Notes Run Fails words status =
         ((asked : Command) × AskFor words asked
-        × HasEnded said_of said asked (Notes asked) (Run asked) (Fails asked) status)
+        × HasEnded said_of said asked (NotesWell asked) (Notes asked) (Run asked) (Fails asked) status)
         ⊎ ((why : WordsFault) × AskForNone words why × HasTold why status)

@@ -7,7 +7,7 @@ use Rattle.command_line.specs.declared.command.JournalWords.TheVariants.{Without
 use Rattle.streams.specs.declared.counted.Counted.{Counted}
 use Rattle.command_host.specs.Known.{Known}
 use Rattle.command_host.specs.Said.{IsSaid}
-use Rattle.reading_commands.specs.Moments.{MayHaveNoted}
+use Rattle.reading_commands.specs.Moments.{HasCompared, MayHaveNoted}
 
 -- the line that says that an office goes on without its journal
 abbrev pub without_line : List ℕ
@@ -35,7 +35,15 @@ module _ {E : Type 0} (said_of : E → Option (List ℕ)) (errors warned : Count
 -- of what this is known that the program gets from outside, and what standard error had and has
 module _ {S D F L N E : Type 0} (k : Known S D F L N) (said_of : E → Option (List ℕ))
     (errors noted : Counted E) where
-  -- `verify`, that a file changed while it was read; and any other nothing
+  -- a command that ended well: `verify`, that a file changed while it was read, just where one did; any
+  -- other nothing
+  abbrev pub HasNotedWell : Command → Type 0
+  HasNotedWell (command.Verify words) =
+      HasCompared said_of errors noted (k.places words.database.now) k.stamps words.journal.now
+  HasNotedWell _ = noted ≡ errors
+
+  -- a command, however it ended: `verify`, that a file changed while it was read, or nothing; any other
+  -- nothing
   abbrev pub HasNoted : Command → Type 0
   HasNoted (command.Verify words) =
       MayHaveNoted said_of errors noted (k.places words.database.now) k.stamps words.journal.now
@@ -43,6 +51,13 @@ module _ {S D F L N E : Type 0} (k : Known S D F L N) (said_of : E → Option (L
 
 module _ {S D F L N E : Type 0} (k : Known S D F L N) (said_of : E → Option (List ℕ))
     (errors noted : Counted E) where
+  -- of a command that ended well, that the office goes on without its journal, just where it does, and then
+  -- what it noted
+  abbrev pub HasNotedAllWell : Command → Type 0
+  HasNotedAllWell asked =
+      (warned : Counted E) × WarnsIf said_of errors warned (goes_without asked)
+      × HasNotedWell k said_of warned noted asked
+
   -- nothing; or, of a command that is carried out, that the office goes on without its journal, and then
   -- what it noted
   abbrev pub HasNotedAll : Command → Type 0

@@ -8,9 +8,9 @@ ghost use Rattle.office_commands.specs.Commands.{failed_status, HasRun, HasTold,
 ghost use Rattle.office_commands.specs.Commands.{IsPrinted};
 ghost use Rattle.office_commands.specs.Failing.{FailsToVerifyAll, HasFailed};
 ghost use Rattle.office_commands.specs.Notes.{goes_without, is_without, HasNoted, HasNotedAll};
-ghost use Rattle.office_commands.specs.Notes.{WarnsIf};
+ghost use Rattle.office_commands.specs.Notes.{HasNotedAllWell, HasNotedWell, WarnsIf};
 ghost use Rattle.office_commands.specs.Unread.{unread_by};
-ghost use Rattle.reading_commands.specs.Moments.{MayHaveNoted};
+ghost use Rattle.reading_commands.specs.Moments.{HasCompared, MayHaveNoted};
 
 use crate::same_file::see_apart;
 use crate::unread::unread_by;
@@ -47,6 +47,9 @@ fn verify_and_mark<H: Host, O: Write, E: Write>(
         output.old output.new words.now × (status ≡ 0)) }
     ensures failed { IfErr result (FailsToVerifyAll (known host.now) O.contents
         output.old output.new words.now) }
+    ensures compared { IfOk result (λ _. HasCompared E.contents errors.old errors.new
+        ((known host.now).places words.now.database.now) (known host.now).stamps
+        words.now.journal.now) }
     ensures noted { MayHaveNoted E.contents errors.old errors.new
         ((known host.now).places words.now.database.now) (known host.now).stamps
         words.now.journal.now }
@@ -74,6 +77,8 @@ fn run<H: Host, I: Read, O: Write, E: Write>(
         (I.remaining input.old.inner) (I.remaining input.new.inner) output.old output.new) }
     ensures failed { IfErr result (HasFailed (known host.now) O.contents command.now
         (I.remaining input.old.inner) (I.remaining input.new.inner) output.old output.new) }
+    ensures noted_well { IfOk result (λ _. HasNotedWell (known host.now) E.contents
+        errors.old errors.new command.now) }
     ensures noted { HasNoted (known host.now) E.contents errors.old errors.new command.now }
 {
     match command {
@@ -171,6 +176,8 @@ fn run_apart<H: Host, I: Read, O: Write, E: Write>(
     ensures failed { IfErr result (HasFailedApart (known host.now) O.contents
         (I.remaining input.old.inner) (I.remaining input.new.inner)
         output.old output.new command.now) }
+    ensures noted_well { IfOk result (λ _. HasNotedAllWell (known host.now) E.contents
+        errors.old errors.new command.now) }
     ensures noted { HasNotedAll (known host.now) E.contents errors.old errors.new command.now }
 {
     see_apart(host.journals, command)?;

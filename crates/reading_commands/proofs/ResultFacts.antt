@@ -7,6 +7,11 @@ module _ {A E : Type 0} where
   ok_as P Q (Ok a) to was = to a was
   ok_as P Q (Err e) to was = tt
 
+  -- what holds anyway holds where a result is one
+  pub ok_anyway : (Holds : Type 0) (result : Result A E) → Holds → IfOk result (λ it. Holds)
+  ok_anyway Holds (Ok a) holds = holds
+  ok_anyway Holds (Err e) holds = tt
+
   pub err_as : (P Q : E → Type 0) (result : Result A E) → ((e : E) → P e → Q e) → IfErr result P → IfErr result Q
   err_as P Q (Ok a) to was = tt
   err_as P Q (Err e) to was = to e was

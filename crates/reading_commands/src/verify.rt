@@ -2,7 +2,7 @@
 
 ghost use Rattle.std.specs.Prelude.{◌≡◌, IfErr, IfOk};
 ghost use Rattle.std.specs.Io.Buffered.{reader_remaining};
-ghost use Rattle.reading_commands.specs.Moments.{MayHaveNoted};
+ghost use Rattle.reading_commands.specs.Moments.{HasCompared, MayHaveNoted};
 ghost use Rattle.reading_commands.specs.Verifications.{FailsToVerify, HasVerified, IsNotOf};
 ghost use Rattle.reading_commands.specs.Verifications.{IsUnverifiedAt, kept_of, WasVerified};
 ghost use Rattle.reading_commands.specs.Verifications.{WasVerifiedIn};
@@ -71,6 +71,8 @@ fn verify_at<F: PassFiles, E: Write>(
         F.File.remaining words.now.journal.now words.now.database.now words.now.seal) }
     ensures failed { IfErr result (IsUnverifiedAt (F.opens files.now) (F.places files.now) F.gives
         F.File.remaining words.now.journal.now words.now.database.now words.now.seal) }
+    ensures compared { IfOk result (λ _. HasCompared E.contents errors.old errors.new
+        (F.places files.now words.now.database.now) (F.stamps files.now) words.now.journal.now) }
     ensures noted { MayHaveNoted E.contents errors.old errors.new
         (F.places files.now words.now.database.now) (F.stamps files.now) words.now.journal.now }
 {
@@ -105,6 +107,8 @@ pub fn run_verify<F: PassFiles, O: Write, E: Write>(
     ensures failed { IfErr result (FailsToVerify (F.opens files.now) (F.places files.now) F.gives
         F.File.remaining words.now.journal.now words.now.database.now words.now.seal
         O.contents output.old output.new) }
+    ensures compared { IfOk result (λ _. HasCompared E.contents errors.old errors.new
+        (F.places files.now words.now.database.now) (F.stamps files.now) words.now.journal.now) }
     ensures noted { MayHaveNoted E.contents errors.old errors.new
         (F.places files.now words.now.database.now) (F.stamps files.now) words.now.journal.now }
 {
