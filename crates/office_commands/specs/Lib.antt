@@ -4,3 +4,4 @@ pub mod Failing
 pub mod Notes
 pub mod SameFiles
 pub mod Apart
+pub mod Hosts

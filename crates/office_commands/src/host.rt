@@ -1,15 +1,19 @@
 //! The commands over the host: its files, its databases, its journals and its network.
 
 ghost use Rattle.std.specs.Prelude.{◌^◌, ◌≤◌};
+ghost use Rattle.office_commands.specs.Apart.{HasCarriedOut};
+ghost use Rattle.office_commands.specs.Hosts.{known_here, known_of, unknown};
 
 use crate::run::run_words;
 use command_host::{
-    Databases, HostFiles, HostJournals, Journals, Network, PassFiles, UnknownFiles, gather,
+    Databases, HostFiles, HostJournals, HostName, Journals, Network, PassFiles, UnknownFiles,
+    gather,
 };
-use progress::{KeptApart, MeasuredFiles, Meter};
-use sqlite::{Alter, Connection, Start};
+use named_disk::NamedDisk;
+use sqlite::{Alter, Connection, FileFrom, Start};
+use sqlite_disk::Disk;
 use std::alloc::Global;
-use std::io::{IsTerminal, Read, Write};
+use std::io::{Read, Write};
 use streams::Counted;
 
 /// [`run_words`] over these databases, files, journals and sockets. They are type parameters, since
@@ -38,22 +42,38 @@ pub fn run_over<
     requires reads { input.old.calls ≤ 2 ^ 62 }
     requires read_faults { input.old.faults ≤ 2 ^ 62 }
     requires write_faults { output.old.faults ≤ 2 ^ 62 }
+    ensures { HasCarriedOut
+        (known_of S.Store D.Databases F.PassFiles F.File.remaining files.now
+        J.Journals J.File.Disk journals.now N.PassNet N.PassClock)
+        O.contents (I.remaining input.old.inner) (I.remaining input.new.inner)
+        output.old output.new E.contents errors.old errors.new words.entry.now result }
 {
     let host = gather(databases, files, journals, network);
     run_words(&host, alloc, words, input, output, errors)
 }
 
-// The same over these files, whatever the files of databases and of journals hold as they are opened.
-fn run_with<F: PassFiles, T: Start + Copy, U: Start + Copy, O: Write + Drop>(
+// Words are carried out over these files, and over the databases, the journals and the network of the host, whatever
+// the files of databases and of journals hold as they are opened.
+fn run_with<F: PassFiles, T: Start + Copy, U: Start + Copy, I: Read, O: Write, E: Write>(
     rt: &HostRuntime,
     files: &F,
     start: T,
     journal: U,
     words: &[String],
-    input: &mut dyn Read,
-    output: O,
-    errors: &mut dyn Write,
-) -> u8 {
+    input: &mut Counted<I>,
+    output: &mut Counted<O>,
+    errors: &mut Counted<E>,
+) -> u8
+    requires reads { input.old.calls ≤ 2 ^ 62 }
+    requires read_faults { input.old.faults ≤ 2 ^ 62 }
+    requires write_faults { output.old.faults ≤ 2 ^ 62 }
+    ensures { HasCarriedOut
+        (known_here T.Start U.Start ⟦<FileFrom<T> as Disk>⟧
+        ⟦<NamedDisk<FileFrom<U>, HostName> as Disk>⟧
+        F.PassFiles F.File.remaining files.now rt.now)
+        O.contents (I.remaining input.old.inner) (I.remaining input.new.inner)
+        output.old output.new E.contents errors.old errors.new words.entry.now result }
+{
     let databases = HostFiles::new(rt, start);
     let journals = HostJournals::new(rt, journal);
     run_over(
@@ -63,36 +83,40 @@ fn run_with<F: PassFiles, T: Start + Copy, U: Start + Copy, O: Write + Drop>(
         rt,
         rt.alloc(),
         words,
-        &mut Counted::new(input),
-        &mut Counted::new(output),
-        &mut Counted::new(errors),
+        input,
+        output,
+        errors,
     )
 }
 
-// The same over the files of the host, whose reading a terminal is told of.
-fn run_from<T: Start + Copy, U: Start + Copy>(
+/// [`run_words`] over these files, and over the databases, the journals and the network of the host. Of
+/// what the files of databases and of journals hold nothing is known.
+pub fn run_here<F: PassFiles, I: Read, O: Write, E: Write>(
     rt: &HostRuntime,
-    start: T,
-    journal: U,
+    files: &F,
     words: &[String],
-    input: &mut dyn Read,
-    output: &mut dyn Write,
-    errors: &mut dyn Write,
-) -> u8 {
-    let meter = Meter::new(rt, rt.stderr().is_terminal());
-    let files = MeasuredFiles::new(rt, &meter);
-    let output = KeptApart::new(output, &meter, rt.stdout().is_terminal());
-    run_with(rt, &files, start, journal, words, input, output, errors)
-}
-
-/// [`run_words`] over the files, the databases, the journals and the network of the host. How far long
-/// reading of a file is shows on its standard error, where that is a terminal, apart from `errors`.
-pub fn run_here(
-    rt: &HostRuntime,
-    words: &[String],
-    input: &mut dyn Read,
-    output: &mut dyn Write,
-    errors: &mut dyn Write,
-) -> u8 {
-    run_from(rt, UnknownFiles, UnknownFiles, words, input, output, errors)
+    input: &mut Counted<I>,
+    output: &mut Counted<O>,
+    errors: &mut Counted<E>,
+) -> u8
+    requires reads { input.old.calls ≤ 2 ^ 62 }
+    requires read_faults { input.old.faults ≤ 2 ^ 62 }
+    requires write_faults { output.old.faults ≤ 2 ^ 62 }
+    ensures { HasCarriedOut
+        (known_here unknown unknown ⟦<FileFrom<UnknownFiles> as Disk>⟧
+        ⟦<NamedDisk<FileFrom<UnknownFiles>, HostName> as Disk>⟧
+        F.PassFiles F.File.remaining files.now rt.now)
+        O.contents (I.remaining input.old.inner) (I.remaining input.new.inner)
+        output.old output.new E.contents errors.old errors.new words.entry.now result }
+{
+    run_with(
+        rt,
+        files,
+        UnknownFiles,
+        UnknownFiles,
+        words,
+        input,
+        output,
+        errors,
+    )
 }

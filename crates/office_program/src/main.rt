@@ -6,9 +6,11 @@ ghost use Rattle.std.specs.Prelude.{◌≡◌, ◌≢◌};
 ghost use Rattle.std.specs.IoError.{error_kind};
 
 use office_commands::run_here;
+use progress::{KeptApart, MeasuredFiles, Meter};
 use std::io::{ErrorKind, IsTerminal};
 use std::process::ExitCode;
 use std::{env, io};
+use streams::Counted;
 
 // The words that the program was given, the first of them being its name.
 fn words_given(rt: &HostRuntime) -> io::Result<Vec<String>> {
@@ -38,17 +40,27 @@ fn greet(rt: &HostRuntime, words: &[String]) {
     }
 }
 
+// Carries the words out over the files of the host and the standard streams of the process. How far long reading of
+// a file is shows on standard error, where that is a terminal, apart from what is printed.
+fn run(rt: &HostRuntime, words: &[String]) -> u8 {
+    let meter = Meter::new(rt, rt.stderr().is_terminal());
+    let files = MeasuredFiles::new(rt, &meter);
+    let output = KeptApart::new(io::writer(rt), &meter, rt.stdout().is_terminal());
+    run_here(
+        rt,
+        &files,
+        words,
+        &mut Counted::new(rt.reader()),
+        &mut Counted::new(output),
+        &mut Counted::new(rt.stderr()),
+    )
+}
+
 fn main(rt: HostRuntime) -> ExitCode {
     let status = match words_given(&rt) {
         Ok(words) => {
             greet(&rt, &words);
-            run_here(
-                &rt,
-                &words,
-                &mut rt.reader(),
-                &mut io::writer(&rt),
-                &mut rt.stderr(),
-            )
+            run(&rt, &words)
         }
         Err(error) => without_words(&rt, &error),
     };

@@ -3,6 +3,7 @@
 use anyhow::Result;
 use office_commands::run_here;
 use std::alloc::{AllocError, Global};
+use streams::Counted;
 
 // The words of a command line, which spaces part. The word `''` is empty.
 fn words_of(alloc: Global, line: &str) -> Result<Vec<String>, AllocError> {
@@ -17,9 +18,15 @@ fn words_of(alloc: Global, line: &str) -> Result<Vec<String>, AllocError> {
 /// Writes what `office` prints over this input, standard output before standard error, and gives its status.
 pub fn say_line(rt: &HostRuntime, line: &str, input: &[u8], said: &mut Vec<u8>) -> Result<u8> {
     let words = words_of(rt.alloc(), line)?;
-    let mut input = input;
-    let mut errors = Vec::new(rt.alloc());
-    let status = run_here(rt, &words, &mut input, said, &mut errors);
-    said.extend_from_slice(&errors)?;
+    let mut errors = Counted::new(Vec::new(rt.alloc()));
+    let status = run_here(
+        rt,
+        rt,
+        &words,
+        &mut Counted::new(input),
+        &mut Counted::new(&mut *said),
+        &mut errors,
+    );
+    said.extend_from_slice(&errors.into_inner())?;
     Ok(status)
 }
