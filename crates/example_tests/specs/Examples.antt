@@ -1,6 +1,7 @@
 -- Small values by which definitions are tried: an office that is its history, a connection, and a
 -- filter of one call.
-use Rattle.std.specs.Prelude.{◌≡◌, ◌⊎◌, ℕ, List, [], ◌∷◌, Bool, true, false, codes, replicate, IsTrue}
+use Rattle.std.specs.Prelude.{◌≡◌, ◌⊎◌, ℕ, List, [], ◌∷◌, Bool, true, false, codes, replicate}
+use Rattle.std.specs.Prelude.{IsTrue}
 use Rattle.std.proofs.Common.{◌∙◌, refl}
 use Rattle.sqlite.specs.Held.{Held, state}
 use Rattle.sqlite.specs.Store.{Ghosts}

@@ -1,6 +1,7 @@
--- Small values by which definitions of journals are tried: a journal that is its lines, the lines of a
--- founding, and an office with a log.
-use Rattle.std.specs.Prelude.{◌≡◌, ◌-◌, ◌^◌, ℕ, min, List, [], ◌∷◌, length, Bool, true, false, IsTrue}
+-- Small values by which definitions of journals are tried: a journal that is its lines, the lines
+-- of a founding, and an office with a log.
+use Rattle.std.specs.Prelude.{◌≡◌, ◌-◌, ◌^◌, ℕ, min, List, [], ◌∷◌, length, Bool, true, false}
+use Rattle.std.specs.Prelude.{IsTrue}
 use Rattle.std.proofs.Common.{refl}
 use Rattle.sqlite.specs.Held.{Held}
 use Rattle.sqlite.specs.Store.{Ghosts}

@@ -7,8 +7,8 @@ ghost use Rattle.journal.specs.Lines.{happened, strike, done, text_of};
 ghost use Rattle.example_tests.specs.Examples.{enrols, enrolment, founds, founding, quiet};
 ghost use Rattle.example_tests.specs.JournalExamples.{one, two, paged, with_bodies, with_stray};
 
-/// A journal that goes on has the lines that it had, and behind them events that are struck out, each
-/// where one is unsettled with the line that settles that one.
+/// A journal that goes on has the lines that it had, and behind them events that are struck out,
+/// each with the line before it that settles one that isn't.
 pub fn examples_of_kept_journals()
     ensures same { KeepsJournal quiet paged (with_bodies (one ∷ two ∷ []))
         (with_bodies (one ∷ two ∷ [])) }
@@ -41,8 +41,8 @@ pub fn examples_of_settled_lines()
     ensures missing { HasSettled quiet paged (one ∷ []) [] → ⊥ }
 {}
 
-/// The events that stand, the newest first: one that is struck out doesn't, and nothing is said where
-/// a line strikes out none, or names another line than the one before.
+/// The events that stand, the newest first: one that is struck out doesn't, and nothing is said
+/// where a line strikes out none, or names another line than the one before.
 pub fn examples_of_what_lines_say()
     ensures both { history_in (happened (founds 5) ∷ happened enrols ∷ []) ≡ Some enrolment }
     ensures struck { history_in (happened (founds 5) ∷ happened enrols ∷ strike ∷ [])

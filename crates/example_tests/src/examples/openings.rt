@@ -34,8 +34,8 @@ pub fn examples_of_journals_of_others()
 {}
 
 /// An office is opened again with its own journal, and goes on behind the last line of it: not with
-/// another's, or under a mark above its lines; not where the last line is taken for one that is to be
-/// settled, or lines are missing; not while the journal is shut or has an event that didn't happen.
+/// another's, or under a mark above its lines; not where the last line is taken for that of an
+/// event, or lines are missing; not while the journal is shut or has an event that didn't happen.
 pub fn examples_of_reopened_offices<S: Alter, D: Disk>()
     ensures own { (old : Held S) (log : SealedLog D D.Disk) → ShowsFounding S.Store old
         → HasBodies D.Disk log first_line

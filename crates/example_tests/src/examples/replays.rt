@@ -34,8 +34,8 @@ pub fn examples_of_faults_of_a_replay()
         (Err (causes.Fault faults.Disk)) → ⊥ }
     ensures not_allowed { IsReplayed (refusing faults.Full) (counting 3) (counting 3) (founds 5)
         (Err (causes.Fault faults.Full)) → ⊥ }
-    ensures form { (e : Event) → IsReplayed (refusing faults.NotAnOffice) (counting 3) (counting 4) e
-        (Err (causes.Fault faults.NotAnOffice)) → ⊥ }
+    ensures form { (e : Event) → IsReplayed (refusing faults.NotAnOffice) (counting 3) (counting 4)
+        e (Err (causes.Fault faults.NotAnOffice)) → ⊥ }
     ensures changed { IsReplayed quiet (counting 3) (grown 4) enrols
         (Err (causes.Fault faults.Full)) → ⊥ }
 {}

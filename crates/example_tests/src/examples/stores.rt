@@ -37,8 +37,8 @@ pub fn examples_of_refused_writes<S: Alter>()
         → (meaning_over S.Store).refuses conn h e faults.NotAnOffice → ⊥ }
 {}
 
-/// Opening fails for room only where the count rose, for the disk only then or over a connection that
-/// was shut, and never for the form of the tables.
+/// Opening fails for room only where the count rose, for the disk only then or over a connection
+/// that was shut, and never for the form of the tables.
 pub fn examples_of_failures_to_open<S: Alter>()
     ensures room { (old new : Held S) → IsAfter S.Store old true 3 → IsAfter S.Store new true 4
         → IsFailure (state S.Store old) (state S.Store new) (opening.Store faults.Full) }
@@ -83,8 +83,8 @@ pub fn examples_of_failures_to_found<S: Alter>()
         → HasMet S.Store (founding_office first_row 5) old new f }
 {}
 
-/// A store without the five tables isn't migrated since it is no office; the statements of a migration
-/// may meet a want of memory in an office of schema 1, and never that it is none.
+/// A store without the five tables isn't migrated since it is no office; the statements of a
+/// migration may meet a want of memory in an office of schema 1, and never that it is none.
 pub fn examples_of_failures_to_migrate<S: Alter>()
     ensures no_tables { (old new : Held S) → (state S.Store old).now.schema ≡ no_schema
         → FailsToMigrate S.Store old new (migration.Store faults.NotAnOffice) }
