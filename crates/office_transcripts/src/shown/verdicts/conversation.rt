@@ -47,7 +47,7 @@ impl<'a> Transcript<'a> {
         };
         let (command, _, answers) = parts_of(command)?;
         if command != FIRST {
-            bail!("{command}: not the command over the past");
+            bail!("{first}: not the command over the past");
         }
         Ok(Transcript {
             past,
