@@ -1,19 +1,20 @@
 -- What was allowed, carried out in an office with a journal.
-use Rattle.std.proofs.Common.{◌⊎◌, inl, inr, ◌≡◌, ◌∙◌, ◌≤◌, ◌+◌, [], ◌∷◌, ◌++◌, ℕ, List, Bool, true, false, not, Ok, Err, IsTrue, refl, sym, ap, subst, arith, le_trans, append-nil, append_assoc}
+use Rattle.std.proofs.Common.{◌⊎◌, inl, inr, ◌≡◌, ◌∙◌, ◌≤◌, ◌+◌, [], ◌∷◌, ◌++◌, ℕ, List, Bool, true, false, not, Ok, Err, IsTrue, Some, None, refl, sym, ap, subst, arith, le_trans, append-nil, append_assoc}
 use Rattle.std.proofs.lemmas.Bool.{and_parts, and_from}
 use Rattle.review_policy.specs.declared.ask.Request.{Request}
 use Rattle.review_policy.specs.declared.fault.Fault.{Fault as TheFault}
 use Rattle.review_policy.specs.declared.fault.Fault.TheVariants as faults
+use Rattle.review_policy.specs.declared.answer.Answer.{Answer}
 use Rattle.review_policy.specs.declared.answer.Answer.TheVariants.{Done, Fault}
 use Rattle.office_policy.specs.declared.judge.Allowed.{Allowed}
 use Rattle.office_policy.specs.History.{Event, History}
-use Rattle.office_policy.specs.Verdict.{verdict}
+use Rattle.office_policy.specs.Verdict.{Verdict, accepted, denied, verdict}
 use Rattle.office_policy.specs.Runs.{IsAnswer, event_of, history_after, with_event as with_was}
 use Rattle.office_policy.specs.Meaning.{Meaning}
-use Rattle.office_policy.specs.Handled.{AreWithEvent, HasCause, HasRisen, IsHandled, IsUnwritten, Stands, Survives, only_reads}
+use Rattle.office_policy.specs.Handled.{AreWithEvent, HasCause, HasRisen, HasStray, HasStrayOf, IsFault, IsHandled, IsUnwritten, Stands, Survives, only_reads}
 use Rattle.office_policy.specs.Judging.{IsAllowedTo, IsPermitted, LeavesAll, event_for}
 use Rattle.office_policy.proofs.AskedFacts.{changing}
-use Rattle.office_policy.proofs.SurvivalFacts.{survives_on}
+use Rattle.office_policy.proofs.SurvivalFacts.{closes_all, closes_by_fault, risen_after, risen_before, survives_on}
 use Rattle.office_policy.proofs.CauseFacts.{cause_before}
 use Rattle.sealed_log.specs.Sealed.{IsBody, sealed_text}
 use Rattle.journal.specs.Forms.{HasForms, HasNumber}
@@ -22,9 +23,9 @@ use Rattle.journal.specs.Lines.{happened, strike, text_of}
 use Rattle.journal.proofs.Lengths.{allowed_entry}
 use Rattle.journal.specs.declared.journaled.Journaled.{Journaled}
 use Rattle.journal.specs.Begun.{IsLeftOf, done_bodies}
-use Rattle.journal.specs.Journals.{HasStruck, IsHalfStruck, IsOf, IsStray, IsStruck, IsTakenBack, KeepsJournal, LeavesFile, LeavesOffice, goes_on, is_clean, journaled, stray_faults, struck_body, struck_none, unsettled, with_office}
+use Rattle.journal.specs.Journals.{HasAsStray, HasStruck, HasUnstruck, IsHalfStruck, IsOf, IsStray, IsStruck, IsTakenBack, IsUnstruck, KeepsJournal, LeavesFile, LeavesOffice, goes_on, is_clean, journaled, stops, struck_body, struck_none, unsettled, with_office}
 use Rattle.journal.specs.Writing.{IsAppended, IsLeftIn, IsMet, Writing}
-use Rattle.journal.proofs.Offices.{all_left, caused, none_fewer, open_of, risen_first, risen_second, stands_with}
+use Rattle.journal.proofs.Offices.{all_left, caused, open_of, risen_first, risen_second, stands_with}
 use Rattle.journal.proofs.Settling.{settled_says}
 use Rattle.journal.proofs.Texts.{numbered_by, one_more, one_struck}
 
@@ -34,9 +35,6 @@ by_flag false is = refl
 
 pub never_both : (b : Bool) → b ≡ true → b ≡ false → ⊥
 never_both b is_true is_false = let c : true ≡ false = sym is_true ∙ is_false in absurd cc
-
-one_risen : (p q s t : ℕ) → p ≤ s → q ≤ t → HasRisen (p + q + 0) (s + t + 1)
-one_risen p q s t first second = omega (arith, first, second)
 
 none_below : (n : ℕ) → 0 ≤ n
 none_below n = omega arith
@@ -54,12 +52,26 @@ module _ {O J : Type 0} (m : Meaning O) (w : Writing J) (x : Journaled O J) (goe
   is_open : IsTrue (w.is_open x.journal)
   is_open = open_of m w x goes
 
+  -- a stray of the office is one still, and its journal has none
+  stays_in : (y : Journaled O J) → ((e : Event) → m.is_stray e x.office → m.is_stray e y.office) → (e : Event) → HasAsStray m w e x → HasAsStray m w e y
+  stays_in y within e (inl stray) = inl (within e stray)
+  stays_in y within e (inr last) = absurd (stops m w x last.stray goes)
+
+  -- what else than a fault shuts it
+  abbrev LeavesStray : History → Answer → Journaled O J → Type 0
+  LeavesStray h told y = IsFault told × HasStrayOf (journaled m w) (verdict h r) y
+
+  still_closes : (h : History) (told : Answer) → is_clean m w (with_office x mid) → (journaled m w).is_open x
+      → (journaled m w).is_open (with_office x mid) ⊎ (HasRisen ((journaled m w).faults x) ((journaled m w).faults (with_office x mid)) ⊎ LeavesStray h told (with_office x mid))
+  still_closes h told = closes_all (journaled m w) x (with_office x mid) (LeavesStray h told (with_office x mid)) still
+
   -- there was no memory for the line
   pub no_line : IsHandled (journaled m w) x (with_office x mid) r (Fault faults.NoMemory)
   no_line = record {
     survives = still.survives;
     answer = λ h of clean. tt;
     cause = λ h of clean. inl (still.kept clean, still.crash clean);
+    closes = λ h of. still_closes h (Fault faults.NoMemory);
     approved = λ h of clean. tt;
     office = still.office;
     stands = λ h of clean. tt;
@@ -99,6 +111,7 @@ module _ {O J : Type 0} (m : Meaning O) (w : Writing J) (x : Journaled O J) (goe
       survives = still.survives;
       answer = λ h of clean. tt;
       cause = λ h of clean. absurd (none (subst IsBody (sym said) (entry h (permitted.allowed h of.office clean.0)).body));
+      closes = λ h of. still_closes h (Fault faults.Disk);
       approved = λ h of clean. tt;
       office = still.office;
       stands = λ h of clean. tt;
@@ -173,10 +186,21 @@ module _ {O J : Type 0} (m : Meaning O) (w : Writing J) (x : Journaled O J) (goe
         ends = λ clean on unsettled. subst EndsWithEvent (sym (appended.written.0 clean.1 (open_of m w unwritten on))) (of.ends (clean_both clean) goes unsettled);
       }
 
-      risen : HasRisen (w.faults x.journal) (w.faults j) → HasRisen (m.faults x.office + w.faults x.journal + stray_faults x.has_stray) (m.faults mid + w.faults j + stray_faults x.has_stray)
-      risen more =
-          risen_second (m.faults x.office) (w.faults x.journal) (stray_faults x.has_stray) (m.faults mid) (w.faults j) (stray_faults x.has_stray) permitted.leaves.survives.counts more
-          (none_fewer (stray_faults x.has_stray))
+      abbrev MoreFaults : Type 0
+      MoreFaults = HasRisen (m.faults x.office + w.faults x.journal) (m.faults mid + w.faults j)
+
+      risen : HasRisen (w.faults x.journal) (w.faults j) → MoreFaults
+      risen more = risen_second (m.faults x.office) (w.faults x.journal) (m.faults mid) (w.faults j) permitted.leaves.survives.counts more
+
+      -- only a fault shuts it
+      closes : (Else : Type 0) → is_clean m w unwritten → m.is_open x.office → (m.is_open mid × IsTrue (goes_on m w unwritten)) ⊎ (MoreFaults ⊎ Else)
+      closes Else clean stood = elim (closes_by_fault m x.office mid permitted.leaves.survives permitted.leaves.strays clean.0 stood) [
+        | inl stays ↦ elim (appended.closes clean.1 is_open) [
+          | inl stays_open ↦ inl (stays, and_from (w.is_open j) _ stays_open has_room)
+          | inr more ↦ inr (inl (risen more))
+        ]
+        | inr more ↦ inr (inl (risen_first (m.faults x.office) (w.faults x.journal) (m.faults mid) (w.faults j) more appended.counts))
+      ]
 
       told : (h : History) (f : TheFault) → IsMet w x.journal j f → IsAnswer h r (Fault f)
       told h faults.NoMemory met = tt
@@ -216,19 +240,13 @@ module _ {O J : Type 0} (m : Meaning O) (w : Writing J) (x : Journaled O J) (goe
         survives = record {
           clean = clean_both;
           counts = omega (arith, appended.counts, permitted.leaves.survives.counts);
-          closes = λ clean stood. elim (permitted.leaves.survives.closes clean.0 stood.0) [
-            | inl stays ↦ elim (appended.closes clean.1 is_open) [
-              | inl stays_open ↦ inl (stays, and_from (w.is_open j) _ stays_open has_room)
-              | inr more ↦ inr (risen more)
-            ]
-            | inr more ↦ inr
-                (risen_first (m.faults x.office) (w.faults x.journal) (stray_faults x.has_stray) (m.faults mid) (w.faults j) (stray_faults x.has_stray) more appended.counts
-                (none_fewer (stray_faults x.has_stray)))
-          ];
+          closes = λ clean stood. closes (HasStray (journaled m w) unwritten) clean stood.0;
           shut = λ clean stood. (permitted.leaves.survives.shut clean.0 stood.0, goes);
+          stays = stays_in unwritten permitted.leaves.survives.stays;
         };
         answer = λ h of clean. told h fault (appended.written.1 clean.1);
         cause = λ h of clean. cause clean h fault (appended.written.1 clean.1);
+        closes = λ h of clean stood. closes (LeavesStray h (Fault fault) unwritten) clean stood.0;
         approved = λ h of clean. tt;
         office = unwritten_of;
         stands = λ h of clean. tt;
@@ -275,14 +293,19 @@ module _ {O J : Type 0} (m : Meaning O) (w : Writing J) (x : Journaled O J) (goe
             counts = omega (arith, handled.survives.counts, appended.counts);
             closes = λ clean stood. elim (handled.survives.closes clean.0 stood.0) [
               | inl stays ↦ inl (stays, goes_still)
-              | inr more ↦ inr
-                  (risen_first (m.faults x.office) (w.faults x.journal) (stray_faults x.has_stray) (m.faults o) (w.faults j) (stray_faults x.has_stray) more appended.counts
-                  (none_fewer (stray_faults x.has_stray)))
+              | inr (inl more) ↦ inr (inl (risen_first (m.faults x.office) (w.faults x.journal) (m.faults o) (w.faults j) more appended.counts))
+              | inr (inr stray) ↦ inr (inr (stray.0, inl stray.1))
             ];
             shut = λ clean stood. (handled.survives.shut clean.0 stood.0, goes);
+            stays = stays_in written handled.survives.stays;
           };
           answer = λ h of clean. handled.answer h of.office clean.0;
           cause = λ h of clean. tt;
+          closes = λ h of clean stood. elim (handled.closes h of.office clean.0 stood.0) [
+            | inl stays ↦ inl (stays, goes_still)
+            | inr (inl more) ↦ inr (inl (risen_first (m.faults x.office) (w.faults x.journal) (m.faults o) (w.faults j) more appended.counts))
+            | inr (inr stray) ↦ absurd stray.0
+          ];
           approved = λ h of clean. handled.approved h of.office clean.0;
           office = done_of;
           stands = done_stands;
@@ -295,7 +318,7 @@ module _ {O J : Type 0} (m : Meaning O) (w : Writing J) (x : Journaled O J) (goe
 
       -- ---- and there was a fault
 
-      module _ (fault : TheFault) (handled : IsHandled m x.office o r (Fault fault)) (z : Journaled O J) (back : IsTakenBack m w written z) where
+      module _ (fault : TheFault) (handled : IsHandled m x.office o r (Fault fault)) (z : Journaled O J) (back : IsTakenBack m w r written z) where
         clean_before : m.is_clean z.office → m.is_clean o
         clean_before = back.leaves.survives.clean
 
@@ -311,17 +334,12 @@ module _ {O J : Type 0} (m : Meaning O) (w : Writing J) (x : Journaled O J) (goe
         more_faults : w.faults x.journal ≤ w.faults z.journal
         more_faults = le_trans appended.counts back.counts
 
-        more_strays : stray_faults x.has_stray ≤ stray_faults z.has_stray
-        more_strays = subst (λ b. stray_faults b ≤ stray_faults z.has_stray) (sym (by_flag x.has_stray has_room)) (none_below (stray_faults z.has_stray))
+        abbrev HasMoreFaults : Type 0
+        HasMoreFaults = HasRisen (m.faults x.office + w.faults x.journal) (m.faults z.office + w.faults z.journal)
 
-        abbrev MoreFaults : Type 0
-        MoreFaults = HasRisen (m.faults x.office + w.faults x.journal + stray_faults x.has_stray) (m.faults z.office + w.faults z.journal + stray_faults z.has_stray)
-
-        stray_is : z.has_stray ≡ true → MoreFaults
-        stray_is stray =
-            subst (λ b. HasRisen (m.faults x.office + w.faults x.journal + stray_faults b) (m.faults z.office + w.faults z.journal + stray_faults z.has_stray)) (sym (by_flag x.has_stray has_room))
-            (subst (λ b. HasRisen (m.faults x.office + w.faults x.journal + 0) (m.faults z.office + w.faults z.journal + stray_faults b)) (sym stray)
-            (one_risen (m.faults x.office) (w.faults x.journal) (m.faults z.office) (w.faults z.journal) survives_both.counts more_faults))
+        -- those of the office are more
+        more_of : HasRisen (m.faults x.office) (m.faults z.office) → HasMoreFaults
+        more_of more = risen_first (m.faults x.office) (w.faults x.journal) (m.faults z.office) (w.faults z.journal) more more_faults
 
         on_without : IsTrue (goes_on m w z) → z.has_stray ≡ false
         on_without on = by_flag z.has_stray (and_parts (w.is_open z.journal) _ on).1
@@ -333,25 +351,68 @@ module _ {O J : Type 0} (m : Meaning O) (w : Writing J) (x : Journaled O J) (goe
         both_there : IsStruck m w written z → w.is_clean z.journal → w.bodies z.journal ≡ (base ++ body ∷ []) ++ text_of strike ∷ []
         both_there struck clean = struck.bodies clean ∙ ap (λ b. b ++ text_of strike ∷ []) (one_there clean)
 
-        closes_by : IsStruck m w written z ⊎ (IsHalfStruck m w written z ⊎ IsStray m w written z) → m.is_clean z.office → m.is_open x.office
-            → (m.is_open z.office × IsTrue (goes_on m w z)) ⊎ MoreFaults
-        closes_by (inl struck) clean stood =
-            elim (survives_both.closes clean stood) [
-              | inl stays ↦ inl (stays, and_from (w.is_open z.journal) _ struck.is_open (subst (λ b. IsTrue (not b)) (sym struck.no_stray) refl))
-              | inr more ↦ inr
-                  (risen_first (m.faults x.office) (w.faults x.journal) (stray_faults x.has_stray) (m.faults z.office) (w.faults z.journal) (stray_faults z.has_stray) more more_faults more_strays)
-            ]
-        closes_by (inr (inl half)) clean stood = inr (stray_is half.stray)
-        closes_by (inr (inr stray)) clean stood = inr (stray_is stray.stray)
+        -- ---- an event that wasn't struck out
 
-        says_by : IsStruck m w written z ⊎ (IsHalfStruck m w written z ⊎ IsStray m w written z) → (h : History) → IsOf m w h x → is_clean m w z
+        event_there : w.is_clean z.journal → w.bodies j ≡ base ++ text_of (happened event) ∷ []
+        event_there clean = one_there clean ∙ ap (λ b. base ++ b ∷ []) said
+
+        sealed_there : w.is_clean z.journal → (file : List ℕ) → file ≡ sealed_text (w.bodies j) → HasUnstruck event file
+        sealed_there clean file is =
+            let whole : IsLeftIn (w.bodies j) [] (text_of strike) file = record { tail = []; short = none_below _; is = is ∙ sym (append-nil (sealed_text (w.bodies j))) } in
+            record { before = base; left = subst (λ b. IsLeftIn b [] (text_of strike) file) (event_there clean) whole }
+
+        ends_file : IsHalfStruck m w written z ⊎ IsStray m w r written z → w.is_clean z.journal → (file : List ℕ) → w.may_leave z.journal file → HasUnstruck event file
+        ends_file (inl half) clean file may = elim (half.append.crash clean file may) [
+          | inl before ↦ sealed_there clean file (w.settled j (back.clean clean) appended.written.0 file before)
+          | inr part ↦ record { before = base; left = subst (λ b. IsLeftIn b [] (text_of strike) file) (event_there clean) part.left }
+        ]
+        ends_file (inr stray) clean file may = sealed_there clean file (w.settled j (back.clean clean) appended.written.0 file (subst (λ k. w.may_leave k file) stray.journal may))
+
+        unstruck_by : IsHalfStruck m w written z ⊎ IsStray m w r written z → IsUnstruck m w event z
+        unstruck_by (inl half) = record { stray = half.stray; line = ends_file (inl half) }
+        unstruck_by (inr stray) = record { stray = stray.stray; line = ends_file (inr stray) }
+
+        -- the journal goes on, or has that event
+        goes_by : (Else : Type 0) → (HasAsStray m w event z → Else) → IsStruck m w written z ⊎ (IsHalfStruck m w written z ⊎ IsStray m w r written z) → m.is_open z.office
+            → (m.is_open z.office × IsTrue (goes_on m w z)) ⊎ (HasMoreFaults ⊎ Else)
+        goes_by Else told (inl struck) stays = inl (stays, and_from (w.is_open z.journal) _ struck.is_open (subst (λ b. IsTrue (not b)) (sym struck.no_stray) refl))
+        goes_by Else told (inr rest) stays = inr (inr (told (inr (unstruck_by rest))))
+
+        closes_back : m.is_clean z.office → m.is_open x.office → (m.is_open z.office × IsTrue (goes_on m w z)) ⊎ (HasMoreFaults ⊎ HasStray (journaled m w) z)
+        closes_back clean stood = elim (survives_both.closes clean stood) [
+          | inl stays ↦ goes_by (HasStray (journaled m w) z) (λ is. (event, is)) back.journal stays
+          | inr (inl more) ↦ inr (inl (more_of more))
+          | inr (inr stray) ↦ inr (inr (stray.0, inl stray.1))
+        ]
+
+        -- the event of the verdict is a stray of the office, or of the journal
+        stray_within : (v : Verdict) → HasStrayOf m v o → HasStrayOf (journaled m w) v z
+        stray_within (accepted reply (Some e)) stray = inl (back.leaves.survives.stays e stray)
+        stray_within (accepted reply None) stray = stray
+        stray_within (denied denial told) stray = stray
+
+        stray_last : (h : History) → IsAllowedTo h r a → HasAsStray m w event z → HasStrayOf (journaled m w) (verdict h r) z
+        stray_last h allowed is = subst (λ v. HasStrayOf (journaled m w) v z) (sym allowed.verdict) is
+
+        closes_of : (h : History) → IsOf m w h x → is_clean m w z → m.is_open x.office → (m.is_open z.office × IsTrue (goes_on m w z)) ⊎ (HasMoreFaults ⊎ LeavesStray h (Fault fault) z)
+        closes_of h of clean stood =
+            elim (handled.closes h of.office (clean_before clean.0) stood) [
+              | inl still ↦ elim (closes_by_fault m o z.office back.leaves.survives back.leaves.strays clean.0 still) [
+                | inl stays ↦ goes_by (LeavesStray h (Fault fault) z) (λ is. (tt, stray_last h (permitted.allowed h of.office (clean_z clean.0)) is)) back.journal stays
+                | inr more ↦ inr (inl (more_of (risen_before (m.faults x.office) (m.faults o) (m.faults z.office) handled.survives.counts more)))
+              ]
+              | inr (inl more) ↦ inr (inl (more_of (risen_after (m.faults x.office) (m.faults o) (m.faults z.office) more back.leaves.survives.counts)))
+              | inr (inr stray) ↦ inr (inr (tt, stray_within (verdict h r) stray.1))
+            ]
+
+        says_by : IsStruck m w written z ⊎ (IsHalfStruck m w written z ⊎ IsStray m w r written z) → (h : History) → IsOf m w h x → is_clean m w z
             → IsTrue (goes_on m w z) → Says (w.bodies z.journal) h
         says_by (inl struck) h of clean on = with_strike h of (clean_z clean.0) (clean_x clean.1) (w.bodies z.journal) (both_there struck clean.1)
         says_by (inr (inl half)) h of clean on = absurd (never_both z.has_stray half.stray (on_without on))
         says_by (inr (inr stray)) h of clean on = absurd (never_both z.has_stray stray.stray (on_without on))
 
         -- the event of the last line is struck out
-        ends_by : IsStruck m w written z ⊎ (IsHalfStruck m w written z ⊎ IsStray m w written z) → IsTrue (goes_on m w z) → z.is_settled ≡ false → EndsWithEvent (w.bodies z.journal)
+        ends_by : IsStruck m w written z ⊎ (IsHalfStruck m w written z ⊎ IsStray m w r written z) → IsTrue (goes_on m w z) → z.is_settled ≡ false → EndsWithEvent (w.bodies z.journal)
         ends_by (inl struck) on unsettled = absurd (never_both z.is_settled struck.settled unsettled)
         ends_by (inr (inl half)) on unsettled = absurd (never_both z.has_stray half.stray (on_without on))
         ends_by (inr (inr stray)) on unsettled = absurd (never_both z.has_stray stray.stray (on_without on))
@@ -364,7 +425,7 @@ module _ {O J : Type 0} (m : Meaning O) (w : Writing J) (x : Journaled O J) (goe
         }
 
         -- an event that is struck out is all that the journal has more
-        keeps_by : IsStruck m w written z ⊎ (IsHalfStruck m w written z ⊎ IsStray m w written z) → w.is_clean z.journal → KeepsJournal m w x z
+        keeps_by : IsStruck m w written z ⊎ (IsHalfStruck m w written z ⊎ IsStray m w r written z) → w.is_clean z.journal → KeepsJournal m w x z
         keeps_by (inl struck) clean on = (
           goes,
           record {
@@ -400,21 +461,21 @@ module _ {O J : Type 0} (m : Meaning O) (w : Writing J) (x : Journaled O J) (goe
           struck_file struck file (inr each) h of = each.1 h (back_of h of)
 
           half_file : IsHalfStruck m w written z → (file : List ℕ) → LeavesFile m w z file → (h : History) → IsOf m w h x → IsLeftOf h file
-          half_file half file (inl may) h of = elim (half.crash clean_j file may) [
+          half_file half file (inl may) h of = elim (half.append.crash clean_j file may) [
             | inl before ↦ whole_line h of (clean_z clean) (clean_x clean_j) (w.bodies j) file (one_there clean_j) (unstruck file before)
             | inr part ↦ half_line h of (clean_z clean) (clean_x clean_j) (w.bodies j) file (one_there clean_j) part.left
           ]
           half_file half file (inr each) h of = absurd (never_both z.has_stray half.stray (on_without each.0))
 
-          file_is : IsStray m w written z → (file : List ℕ) → LeavesFile m w z file → file ≡ sealed_text (w.bodies j)
+          file_is : IsStray m w r written z → (file : List ℕ) → LeavesFile m w z file → file ≡ sealed_text (w.bodies j)
           file_is stray file (inl may) = unstruck file (subst (λ k. w.may_leave k file) stray.journal may)
           file_is stray file (inr each) = absurd (never_both z.has_stray stray.stray (on_without each.0))
 
           module _ (h : History) (of : IsOf m w h x) (file : List ℕ) (may_file : LeavesFile m w z file) where
-            stray_file : IsStray m w written z → LeavesFile m w x file
+            stray_file : IsStray m w r written z → LeavesFile m w x file
             stray_file stray = inr (goes, λ k of_k. whole_line k of_k (clean_z clean) (clean_x clean_j) (w.bodies j) file (one_there clean_j) (file_is stray file may_file))
 
-            by_crash : IsStray m w written z → (office : m.Left) → m.may_leave x.office office ⊎ AreWithEvent m h (verdict h r) office → IsLeft h (office, file)
+            by_crash : IsStray m w r written z → (office : m.Left) → m.may_leave x.office office ⊎ AreWithEvent m h (verdict h r) office → IsLeft h (office, file)
             by_crash stray office (inl before) = inl (inl before, stray_file stray)
             by_crash stray office (inr with_one) =
                 let allowed = permitted.allowed h of.office (clean_z clean) in
@@ -426,11 +487,11 @@ module _ {O J : Type 0} (m : Meaning O) (w : Writing J) (x : Journaled O J) (goe
                 }) in
                 inr (subst (λ v. AreWithEvent (journaled m w) h v (office, file)) (sym allowed.verdict) (are, says))
 
-            by_office : IsStray m w written z → (office : m.Left) → LeavesOffice m w z office → IsLeft h (office, file)
+            by_office : IsStray m w r written z → (office : m.Left) → LeavesOffice m w z office → IsLeft h (office, file)
             by_office stray office (inl may) = by_crash stray office (handled.crash h of.office (clean_before clean) office (back.leaves.crash clean office may))
             by_office stray office (inr each) = inl (inr (λ k of_k. each k (back_of k of_k)), stray_file stray)
 
-          crash_by : IsStruck m w written z ⊎ (IsHalfStruck m w written z ⊎ IsStray m w written z) → (h : History) → IsOf m w h x → (left : m.Left × List ℕ) → (journaled m w).may_leave z left → IsLeft h left
+          crash_by : IsStruck m w written z ⊎ (IsHalfStruck m w written z ⊎ IsStray m w r written z) → (h : History) → IsOf m w h x → (left : m.Left × List ℕ) → (journaled m w).may_leave z left → IsLeft h left
           crash_by (inl struck) h of left may = inl (office_still struck.stands left.0 may.0, inr (goes, struck_file struck left.1 may.1))
           crash_by (inr (inl half)) h of left may = inl (office_still half.stands left.0 may.0, inr (goes, half_file half left.1 may.1))
           crash_by (inr (inr stray)) h of left may = by_office h of left.1 may.1 stray left.0 may.0
@@ -441,7 +502,7 @@ module _ {O J : Type 0} (m : Meaning O) (w : Writing J) (x : Journaled O J) (goe
             office_none left (inl may) = inl (none.1 left may)
             office_none left (inr each) = inr (λ h of. each h (back_of h of))
 
-            file_none : IsStruck m w written z ⊎ (IsHalfStruck m w written z ⊎ IsStray m w written z) → (file : List ℕ) → LeavesFile m w z file → (h : History) → IsOf m w h x → IsLeftOf h file
+            file_none : IsStruck m w written z ⊎ (IsHalfStruck m w written z ⊎ IsStray m w r written z) → (file : List ℕ) → LeavesFile m w z file → (h : History) → IsOf m w h x → IsLeftOf h file
             file_none (inl struck) file may h of = struck_file struck file may h of
             file_none (inr (inl half)) file may h of = half_file half file may h of
             file_none (inr (inr stray)) file may h of = whole_line h of (clean_z clean) (clean_x clean_j) (w.bodies j) file (one_there clean_j) (file_is stray file may)
@@ -453,14 +514,16 @@ module _ {O J : Type 0} (m : Meaning O) (w : Writing J) (x : Journaled O J) (goe
         taken_back = record {
           survives = record {
             clean = λ clean. (survives_both.clean clean.0, clean_x clean.1);
-            counts = omega (arith, survives_both.counts, more_faults, more_strays);
-            closes = λ clean stood. closes_by back.journal clean.0 stood.0;
+            counts = omega (arith, survives_both.counts, more_faults);
+            closes = λ clean stood. closes_back clean.0 stood.0;
             shut = λ clean stood. (survives_both.shut clean.0 stood.0, goes);
+            stays = stays_in z survives_both.stays;
           };
           answer = λ h of clean. handled.answer h of.office (clean_before clean.0);
           cause = λ h of clean.
-              caused m w x z h r (Fault fault) more_faults more_strays (nothing_more clean.0 clean.1)
+              caused m w x z h r (Fault fault) more_faults (nothing_more clean.0 clean.1)
               (cause_before m x.office o z.office h r (Fault fault) (back.leaves.kept clean.0, back.leaves.crash clean.0) back.leaves.survives.counts (handled.cause h of.office (clean_before clean.0)));
+          closes = λ h of clean stood. closes_of h of clean stood.0;
           approved = λ h of clean. tt;
           office = back_of;
           stands = λ h of clean. tt;

@@ -7,26 +7,26 @@ use Rattle.review_policy.specs.declared.answer.Answer.{Answer}
 use Rattle.review_policy.specs.declared.answer.Answer.TheVariants.{Done, Denied, Fault}
 use Rattle.review_policy.specs.declared.fault.Fault.{Fault as TheFault}
 use Rattle.review_policy.specs.declared.fault.Fault.TheVariants as faults
-use Rattle.office_policy.specs.History.{History}
+use Rattle.office_policy.specs.History.{Event, History}
 use Rattle.office_policy.specs.Verdict.{Verdict, accepted, denied, verdict}
 use Rattle.office_policy.specs.Runs.{history_after}
 use Rattle.office_policy.specs.Meaning.{Meaning}
-use Rattle.office_policy.specs.Handled.{HasCause, HasRisen, IsHandled, IsMet, IsUnwritten, RefusesEvent, Stands, Survives, UnlessChanged, UnlessFaulty}
+use Rattle.office_policy.specs.Handled.{HasCause, HasRisen, HasStrayOf, IsFault, IsHandled, IsMet, IsUnwritten, RefusesEvent, Stands, Survives, UnlessChanged, UnlessFaulty}
 use Rattle.office_policy.specs.Judging.{IsAnswered, LeavesAll}
-use Rattle.office_policy.proofs.SurvivalFacts.{survives_none}
+use Rattle.office_policy.proofs.SurvivalFacts.{closes_all, survives_none}
 use Rattle.journal.specs.Journal.{Says}
 use Rattle.journal.specs.declared.journaled.Journaled.{Journaled}
 use Rattle.journal.specs.Begun.{IsLeftOf}
-use Rattle.journal.specs.Journals.{IsOf, LeavesFile, LeavesOffice, goes_on, is_clean, journaled, stray_faults, struck_none, with_office}
+use Rattle.journal.specs.Journals.{HasAsStray, IsOf, LeavesFile, LeavesOffice, goes_on, is_clean, journaled, struck_none, with_office}
 use Rattle.journal.specs.Writing.{Writing}
 
 -- ---- counts of faults
 
-pub risen_first : (a b c x y z : ℕ) → HasRisen a x → b ≤ y → c ≤ z → HasRisen (a + b + c) (x + y + z)
-risen_first a b c x y z risen more rest = omega (arith, risen, more, rest)
+pub risen_first : (a b x y : ℕ) → HasRisen a x → b ≤ y → HasRisen (a + b) (x + y)
+risen_first a b x y risen more = omega (arith, risen, more)
 
-pub risen_second : (a b c x y z : ℕ) → a ≤ x → HasRisen b y → c ≤ z → HasRisen (a + b + c) (x + y + z)
-risen_second a b c x y z more risen rest = omega (arith, more, risen, rest)
+pub risen_second : (a b x y : ℕ) → a ≤ x → HasRisen b y → HasRisen (a + b) (x + y)
+risen_second a b x y more risen = omega (arith, more, risen)
 
 pub none_fewer : (n : ℕ) → n ≤ n
 none_fewer n = omega arith
@@ -55,21 +55,20 @@ module _ {O J : Type 0} (m : Meaning O) (w : Writing J) where
   refused x h (accepted reply None) fault is = absurd is
   refused x h (denied denial told) fault is = absurd is
 
-  pub met : (x y : Journaled O J) (h : History) (r : Request) (fault : TheFault) → w.faults x.journal ≤ w.faults y.journal → stray_faults x.has_stray ≤ stray_faults y.has_stray
+  pub met : (x y : Journaled O J) (h : History) (r : Request) (fault : TheFault) → w.faults x.journal ≤ w.faults y.journal
       → IsMet m x.office y.office h r fault → IsMet (journaled m w) x y h r fault
-  met x y h r fault more rest (inl risen) =
-      inl (risen_first (m.faults x.office) (w.faults x.journal) (stray_faults x.has_stray) (m.faults y.office) (w.faults y.journal) (stray_faults y.has_stray) risen more rest)
-  met x y h r fault more rest (inr refuses) = inr (refused x h (verdict h r) fault refuses)
+  met x y h r fault more (inl risen) = inl (risen_first (m.faults x.office) (w.faults x.journal) (m.faults y.office) (w.faults y.journal) risen more)
+  met x y h r fault more (inr refuses) = inr (refused x h (verdict h r) fault refuses)
 
-  pub caused : (x y : Journaled O J) (h : History) (r : Request) (told : Answer) → w.faults x.journal ≤ w.faults y.journal → stray_faults x.has_stray ≤ stray_faults y.has_stray
+  pub caused : (x y : Journaled O J) (h : History) (r : Request) (told : Answer) → w.faults x.journal ≤ w.faults y.journal
       → (IsUnwritten m x.office y.office → IsUnwritten (journaled m w) x y) → HasCause m x.office y.office h r told → HasCause (journaled m w) x y h r told
-  caused x y h r (Done reply) more rest unwritten cause = tt
-  caused x y h r (Denied denial fault) more rest unwritten cause = tt
-  caused x y h r (Fault faults.NoMemory) more rest unwritten (inl none) = inl (unwritten none)
-  caused x y h r (Fault faults.NoMemory) more rest unwritten (inr refuses) = inr (refused x h (verdict h r) faults.NoMemory refuses)
-  caused x y h r (Fault faults.Disk) more rest unwritten cause = λ is_open. met x y h r faults.Disk more rest (cause is_open.0)
-  caused x y h r (Fault faults.Full) more rest unwritten cause = met x y h r faults.Full more rest cause
-  caused x y h r (Fault faults.NotAnOffice) more rest unwritten cause = cause
+  caused x y h r (Done reply) more unwritten cause = tt
+  caused x y h r (Denied denial fault) more unwritten cause = tt
+  caused x y h r (Fault faults.NoMemory) more unwritten (inl none) = inl (unwritten none)
+  caused x y h r (Fault faults.NoMemory) more unwritten (inr refuses) = inr (refused x h (verdict h r) faults.NoMemory refuses)
+  caused x y h r (Fault faults.Disk) more unwritten cause = λ is_open. met x y h r faults.Disk more (cause is_open.0)
+  caused x y h r (Fault faults.Full) more unwritten cause = met x y h r faults.Full more cause
+  caused x y h r (Fault faults.NotAnOffice) more unwritten cause = cause
 
   -- ---- what stands
 
@@ -97,17 +96,27 @@ module _ {O J : Type 0} (m : Meaning O) (w : Writing J) where
       ends = λ clean goes unsettled. of.ends (leaves.survives.clean clean.0, clean.1) goes unsettled;
     }
 
+    -- a stray is one still
+    stays : (e : Event) → HasAsStray m w e x → HasAsStray m w e (with_office x office)
+    stays e (inl within) = inl (leaves.survives.stays e within)
+    stays e (inr last) = inr (record { stray = last.stray; line = last.line })
+
+    -- and none came
+    strays : (e : Event) → HasAsStray m w e (with_office x office) → HasAsStray m w e x
+    strays e (inl within) = inl (leaves.strays e within)
+    strays e (inr last) = inr (record { stray = last.stray; line = last.line })
+
     survives : Survives (journaled m w) x (with_office x office)
     survives = record {
       clean = λ clean. (leaves.survives.clean clean.0, clean.1);
       counts = omega (arith, leaves.survives.counts);
       closes = λ clean is_open. elim (leaves.survives.closes clean.0 is_open.0) [
         | inl still ↦ inl (still, is_open.1)
-        | inr risen ↦ inr
-            (risen_first (m.faults x.office) (w.faults x.journal) (stray_faults x.has_stray) (m.faults office) (w.faults x.journal) (stray_faults x.has_stray) risen
-            (none_fewer (w.faults x.journal)) (none_fewer (stray_faults x.has_stray)))
+        | inr (inl risen) ↦ inr (inl (risen_first (m.faults x.office) (w.faults x.journal) (m.faults office) (w.faults x.journal) risen (none_fewer (w.faults x.journal))))
+        | inr (inr stray) ↦ inr (inr (stray.0, inl stray.1))
       ];
       shut = λ clean is_open. (leaves.survives.shut clean.0 is_open.0, is_open.1);
+      stays = stays;
     }
 
     office_before : m.is_clean office → (left : m.Left) → LeavesOffice m w (with_office x office) left → LeavesOffice m w x left
@@ -125,6 +134,7 @@ module _ {O J : Type 0} (m : Meaning O) (w : Writing J) where
       office = still_of;
       kept = λ clean. (leaves.kept clean.0, λ goes. (goes, struck_none (w.bodies x.journal)));
       crash = λ clean left may. (office_before clean.0 left.0 may.0, file_before left.1 may.1);
+      strays = strays;
     }
 
   -- the office answered the request
@@ -141,7 +151,8 @@ module _ {O J : Type 0} (m : Meaning O) (w : Writing J) where
         survives = all.survives;
         answer = λ h of clean. is.handled.answer h of.office clean.0;
         cause = λ h of clean.
-            caused x (with_office x office) h r told (none_fewer (w.faults x.journal)) (none_fewer (stray_faults x.has_stray)) (λ none. (all.kept clean, all.crash clean)) (is.handled.cause h of.office clean.0);
+            caused x (with_office x office) h r told (none_fewer (w.faults x.journal)) (λ none. (all.kept clean, all.crash clean)) (is.handled.cause h of.office clean.0);
+        closes = λ h of. closes_all (journaled m w) x (with_office x office) (IsFault told × HasStrayOf (journaled m w) (verdict h r) (with_office x office)) all;
         approved = λ h of clean. is.handled.approved h of.office clean.0;
         office = of_after;
         stands = λ h of clean.
@@ -160,6 +171,7 @@ module _ {O J : Type 0} (m : Meaning O) (w : Writing J) where
     survives = survives_none (journaled m w) x;
     answer = λ h of clean. tt;
     cause = λ h of clean stood. absurd (shut x ends stood.1);
+    closes = λ h of clean stood. absurd (shut x ends stood.1);
     approved = λ h of clean. tt;
     office = λ h of. of;
     stands = λ h of clean. tt;

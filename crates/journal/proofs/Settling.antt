@@ -4,7 +4,7 @@ use Rattle.std.specs.Prelude.{⊤, IfErr, OnOk}
 use Rattle.std.proofs.lemmas.Bool.{and_parts, and_from, eq-eqb, eqb-true}
 use Rattle.review_policy.specs.declared.fault.Fault.{Fault}
 use Rattle.review_policy.specs.declared.fault.Fault.TheVariants as faults
-use Rattle.office_policy.specs.History.{History}
+use Rattle.office_policy.specs.History.{Event, History}
 use Rattle.office_policy.specs.Meaning.{Meaning}
 use Rattle.office_policy.specs.Handled.{Survives}
 use Rattle.office_policy.proofs.SurvivalFacts.{survives_none}
@@ -12,7 +12,7 @@ use Rattle.journal.specs.Journal.{EndsWithEvent, Says}
 use Rattle.journal.specs.Lines.{done, text_of}
 use Rattle.journal.specs.declared.journaled.Journaled.{Journaled}
 use Rattle.journal.specs.Begun.{IsLeftOf, done_bodies}
-use Rattle.journal.specs.Journals.{IsOf, IsSettled, LeavesFile, LeavesOffice, goes_on, is_clean, journaled, stray_faults, unsettled}
+use Rattle.journal.specs.Journals.{HasAsStray, IsOf, IsSettled, LeavesFile, LeavesOffice, goes_on, is_clean, journaled, stops, unsettled}
 use Rattle.journal.specs.Writing.{IsAppended, IsLeftIn, IsLeftInPart, Writing}
 use Rattle.journal.proofs.Offices.{none_fewer, open_of, risen_second}
 use Rattle.journal.proofs.Texts.{one_done}
@@ -150,17 +150,21 @@ module _ {O J : Type 0} (m : Meaning O) (w : Writing J) (x : Journaled O J) wher
       abbrev new : Journaled O J
       new = record { office = x.office; journal = j; has_stray = x.has_stray; is_settled = settled }
 
+      -- a stray of its office is one still, and it has no other
+      stays_stray : (e : Event) → HasAsStray m w e x → HasAsStray m w e new
+      stays_stray e (inl within) = inl within
+      stays_stray e (inr last) = absurd (stops m w x last.stray goes)
+
       survives : Survives (journaled m w) x new
       survives = record {
         clean = λ clean. (clean.0, appended.clean clean.1);
         counts = let counts = appended.counts in omega (arith, counts);
         closes = λ clean stood. elim (appended.closes clean.1 is_open) [
           | inl stays ↦ inl (stood.0, and_from (w.is_open j) _ stays has_room)
-          | inr more ↦ inr
-              (risen_second (m.faults x.office) (w.faults x.journal) (stray_faults x.has_stray) (m.faults x.office) (w.faults j) (stray_faults x.has_stray) (none_fewer (m.faults x.office)) more
-              (none_fewer (stray_faults x.has_stray)))
+          | inr more ↦ inr (inl (risen_second (m.faults x.office) (w.faults x.journal) (m.faults x.office) (w.faults j) (none_fewer (m.faults x.office)) more))
         ];
         shut = λ clean stood. (stood.0, goes);
+        stays = stays_stray;
       }
 
       module _ (still_of : (h : History) → IsOf m w h x → IsOf m w h new) where

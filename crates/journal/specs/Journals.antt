@@ -1,23 +1,22 @@
 -- What an office with a journal is to those who see neither store nor file.
-use Rattle.std.proofs.Common.{◌≡◌, ◌⊎◌, ◌∙◌, ◌+◌, ◌-◌, ◌^◌, [], ◌∷◌, ◌++◌, ◌≤◌, ◌&&◌, ℕ, List}
+use Rattle.std.proofs.Common.{◌≡◌, ◌⊎◌, inl, inr, ◌∙◌, ◌+◌, ◌-◌, ◌^◌, [], ◌∷◌, ◌++◌, ◌≤◌, ◌&&◌, ℕ, List}
 use Rattle.std.proofs.Common.{Bool, true, false, not, length, flat_map, if◌then◌else◌, IsTrue, ap}
-use Rattle.std.proofs.Common.{sym, append-nil, append_assoc, ◌==◌, Option, Some, None}
-use Rattle.std.specs.Prelude.{Result, ⊤, IfErr, OnOk}
+use Rattle.std.proofs.lemmas.Bool.{and_parts, false≢true}
+use Rattle.std.proofs.Common.{sym, subst, append-nil, append_assoc, ◌==◌, Option, Some, None}
+use Rattle.std.specs.Prelude.{Result, Err, ⊤, IfErr, OnOk}
 use Rattle.std.proofs.lemmas.Grind.{flat_map-append}
+use Rattle.review_policy.specs.declared.ask.Request.{Request}
+use Rattle.review_policy.specs.declared.answer.Answer.{Answer}
 use Rattle.review_policy.specs.declared.fault.Fault.{Fault}
 use Rattle.office_policy.specs.History.{Event, History}
 use Rattle.office_policy.specs.Meaning.{Meaning}
 use Rattle.office_policy.specs.Handled.{Stands, Survives}
-use Rattle.office_policy.specs.Judging.{LeavesAll}
+use Rattle.office_policy.specs.Judging.{IsAnswered, LeavesAll}
 use Rattle.journal.specs.Journal.{EndsWithEvent, Says}
 use Rattle.journal.specs.Lines.{done, happened, strike, text_of}
 use Rattle.journal.specs.declared.journaled.Journaled.{Journaled}
-use Rattle.journal.specs.Begun.{IsLeftOf, done_bodies}
-use Rattle.journal.specs.Writing.{Writing, IsLeftInPart}
-
--- an event that didn't happen, and couldn't be struck out, is a fault too
-abbrev pub stray_faults : Bool → ℕ
-stray_faults has_stray = if has_stray then 1 else 0
+use Rattle.journal.specs.Begun.{IsLeftOf, done_bodies, with_event}
+use Rattle.journal.specs.Writing.{Writing, IsAppended, IsLeftIn}
 
 -- the same journal with another office
 abbrev pub with_office : {O J : Type 0} → Journaled O J → O → Journaled O J
@@ -51,6 +50,12 @@ struck_on a b c first then_ = record {
       ∙ append_assoc a (struck_bodies first.events) (struck_bodies then_.events)
       ∙ ap (λ l. a ++ l) (sym (flat_map-append struck_body first.events then_.events));
 }
+
+-- a file has the line of this event, and behind it at most what is left of the one that strikes it
+-- out
+pub record HasUnstruck (e : Event) (file : List ℕ) : Type 0 where
+  pub before : List (List ℕ)
+  pub left : IsLeftIn (with_event before e) [] (text_of strike) file
 
 -- the number of the line of the last event, where no line says yet what became of that and the number
 -- can be told
@@ -94,15 +99,37 @@ module _ {O J : Type 0} (m : Meaning O) (w : Writing J) where
       w.may_leave x.journal file
       ⊎ (IsTrue (goes_on x) × ((h : History) → IsOf h x → IsLeftOf h file))
 
+  -- an event that didn't happen is the last one of its journal, and couldn't be struck out
+  pub record IsUnstruck (e : Event) (x : Journaled O J) : Type 0 where
+    pub stray : x.has_stray ≡ true
+    pub line : w.is_clean x.journal → (file : List ℕ) → w.may_leave x.journal file
+        → HasUnstruck e file
+
+  -- a journal with such an event doesn't go on
+  pub stops : (x : Journaled O J) → x.has_stray ≡ true → IsTrue (goes_on x) → ⊥
+  stops x has_stray goes =
+      let none : IsTrue (not x.has_stray) = (and_parts (w.is_open x.journal) _ goes).1 in
+      false≢true (subst (λ b. IsTrue (not b)) has_stray none)
+
+  -- this event is a stray of its office, or of its journal
+  abbrev pub HasAsStray : Event → Journaled O J → Type 0
+  HasAsStray e x = m.is_stray e x.office ⊎ IsUnstruck e x
+
+  pub strays_shut : (e : Event) (x : Journaled O J) → HasAsStray e x
+      → m.is_open x.office × IsTrue (goes_on x) → ⊥
+  strays_shut e x (inl within) is_open = m.strays_shut e x.office within is_open.0
+  strays_shut e x (inr last) is_open = stops x last.stray is_open.1
+
   -- the meaning of an office with a journal: what is left of it are tables and a file
   abbrev pub journaled : Meaning (Journaled O J)
   journaled = record {
     is_clean = is_clean;
     is_open = λ x. m.is_open x.office × IsTrue (goes_on x);
-    faults = λ x. m.faults x.office + w.faults x.journal + stray_faults x.has_stray;
+    faults = λ x. m.faults x.office + w.faults x.journal;
     refuses = λ x. m.refuses x.office;
     is_of = IsOf;
     keeps = λ x y. m.keeps x.office y.office × KeepsJournal x y;
+    is_stray = HasAsStray;
     Left = m.Left × List ℕ;
     may_leave = λ x left. LeavesOffice x left.0 × LeavesFile x left.1;
     are_of = λ h left. m.are_of h left.0 × IsLeftOf h left.1;
@@ -118,6 +145,7 @@ module _ {O J : Type 0} (m : Meaning O) (w : Writing J) where
                 earlier.1 later.1,
           ),
     );
+    strays_shut = strays_shut;
   }
 
   -- the line of an event was written, and before it the one that says that the last event is carried
@@ -141,23 +169,31 @@ module _ {O J : Type 0} (m : Meaning O) (w : Writing J) where
     pub bodies : w.is_clean new.journal
         → w.bodies new.journal ≡ w.bodies old.journal ++ text_of strike ∷ []
 
-  -- or couldn't be
+  -- or couldn't be: the line of its strike met a fault
   pub record IsHalfStruck (old new : Journaled O J) : Type 0 where
     pub stands : StandsStill old new
     pub stray : new.has_stray ≡ true
-    pub crash : w.is_clean new.journal → (left : List ℕ) → w.may_leave new.journal left
-        → w.may_leave old.journal left ⊎ IsLeftInPart w old.journal [] (text_of strike) left
+    pub fault : Fault
+    pub append : IsAppended w old.journal new.journal [] (text_of strike) (Err fault)
 
-  -- or wasn't, as the office may not stand as it did
-  pub record IsStray (old new : Journaled O J) : Type 0 where
+  -- or wasn't: its request wasn't allowed again, so the office may not stand as it did
+  pub record IsStray (r : Request) (old new : Journaled O J) : Type 0 where
     pub stray : new.has_stray ≡ true
     pub journal : new.journal ≡ old.journal
+    pub told : Answer
+    pub again : IsAnswered m old.office new.office r told
 
-  pub record IsTakenBack (old new : Journaled O J) : Type 0 where
+  -- the event of the last line, which this request asked for, was taken back as far as that could be
+  pub record IsTakenBack (r : Request) (old new : Journaled O J) : Type 0 where
     pub leaves : LeavesAll m old.office new.office
     pub clean : w.is_clean new.journal → w.is_clean old.journal
     pub counts : w.faults old.journal ≤ w.faults new.journal
-    pub journal : IsStruck old new ⊎ IsHalfStruck old new ⊎ IsStray old new
+    pub journal : IsStruck old new ⊎ IsHalfStruck old new ⊎ IsStray r old new
+
+  -- a fault left no stray; or the line of this event was written, and then taken back so
+  abbrev pub IsUndone : Request → (old new : Journaled O J) → Event → Type 0
+  IsUndone r old new e = (new.has_stray ≡ old.has_stray)
+      ⊎ ((mid : Journaled O J) × HasWritten old mid e × IsTakenBack r mid new)
 
   -- the second are the first, or these and the line that says that their last event is carried out
   abbrev pub HasSettled : (old new : List (List ℕ)) → Type 0

@@ -50,10 +50,10 @@ fn write_event<J: Journal>(
 }
 
 impl<O: Judge, J: Journal> Journaled<O, J> {
-    ghost use Rattle.std.specs.Prelude.{◌≡◌, false, IsTrue, OnOk};
+    ghost use Rattle.std.specs.Prelude.{◌≡◌, false, IsTrue, OnErr, OnOk};
     ghost use Rattle.office_policy.specs.Handled.{IsHandled};
     ghost use Rattle.office_policy.specs.Judging.{IsPermitted, answer_in, event_for};
-    ghost use Rattle.journal.specs.Journals.{HasWritten, IsSettled, IsTakenBack, goes_on};
+    ghost use Rattle.journal.specs.Journals.{HasWritten, IsSettled, IsTakenBack, IsUndone, goes_on};
     ghost use Rattle.journal.specs.Journals.{journaled, unsettled, with_office};
 
     /// The office with the journal that says its history; and whether a line behind that of the last
@@ -133,7 +133,7 @@ impl<O: Judge, J: Journal> Journaled<O, J> {
     // event is a stray.
     #[tactic(auto, using(crate::proofs::Texts::strike_body))]
     fn strike_out(&mut self, alloc: Global, request: &Request)
-        ensures { IsTakenBack O.Handler.meaning J.Journal.writing self.old self.new }
+        ensures { IsTakenBack O.Handler.meaning J.Journal.writing request.now self.old self.new }
     {
         self.has_stray = true;
         match self.office.judge(alloc, request) {
@@ -164,6 +164,8 @@ impl<O: Judge, J: Journal> Journaled<O, J> {
             → IsHandled (journaled O.Handler.meaning J.Journal.writing)
             (with_office self.old before) self.new request.now (answer_in allowed.now result) }
         ensures written { OnOk result (HasWritten O.Handler.meaning J.Journal.writing
+            self.old self.new (event_for allowed.now)) }
+        ensures undone { OnErr result (IsUndone O.Handler.meaning J.Journal.writing request.now
             self.old self.new (event_for allowed.now)) }
     {
         let Ok(text) = change_text(alloc, &allowed.caller.name, &allowed.change) else {

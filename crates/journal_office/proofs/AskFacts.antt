@@ -12,7 +12,7 @@ use Rattle.office_policy.specs.Meaning.{Meaning}
 use Rattle.office_policy.specs.ShowsEvent.{Shows}
 use Rattle.office_policy.specs.TablesOf.{tables_of}
 use Rattle.office_policy.specs.declared.event.Event as values
-use Rattle.office_policy.proofs.SurvivalFacts.{survives_none, survives_on}
+use Rattle.office_policy.proofs.SurvivalFacts.{closes_by_fault, survives_on}
 use Rattle.office_desk.specs.Looking.{HasLooked, IsMetBetween, TellsWhether}
 use Rattle.journal.specs.Kept.{with_stood}
 use Rattle.journal.specs.declared.writers.Writers.{Writers as TheWriters}
@@ -57,6 +57,7 @@ left_on m old mid new first then = record {
   office = λ h of. then.office h (first.office h of);
   kept = λ clean. m.keeps_on old mid new (first.kept (then.survives.clean clean)) (then.kept clean);
   crash = λ clean left may. first.crash (then.survives.clean clean) left (then.crash clean left may);
+  strays = λ e stray. first.strays e (then.strays e stray);
 }
 
 met_on : {X : Type 0} (m : Meaning X) (old mid new : X) (fault : Fault) → m.faults old ≤ m.faults mid → (m.is_open old → m.is_open mid ⊎ HasRisen (m.faults old) (m.faults mid)) → m.faults mid ≤ m.faults new → IsMetBetween m mid new fault → IsMetBetween m old new fault
@@ -84,7 +85,7 @@ module _ {X : Type 0} (m : Meaning X) (old mid new : X) (first : LeavesAll m old
   met_from : (fault : Fault) → IsMet m mid new fault → IsMet m old new fault
   met_from fault met h of clean =
       let before = then.survives.clean clean in
-      met_on m old mid new fault first.survives.counts (first.survives.closes before) then.survives.counts (met h (first.office h of) clean)
+      met_on m old mid new fault first.survives.counts (closes_by_fault m old mid first.survives first.strays before) then.survives.counts (met h (first.office h of) clean)
 
   -- both hold, or what is looked for next doesn't
   pub looks_then : (P Q : Tables → Type 0) (result : Result ⊤ NotReopened) → LooksFor m old mid P (Ok tt) → LooksFor m mid new Q result → LooksFor m old new (λ t. P t × Q t) result
@@ -182,9 +183,6 @@ module _ {X : Type 0} (m : Meaning X) (old new : X) (e : Event) where
 
 pub stays_itself : {X : Type 0} (m : Meaning X) (x : X) → Stays m x x
 stays_itself m x h stands clean = stands
-
-pub leaves_itself : {X : Type 0} (m : Meaning X) (x : X) → LeavesAll m x x
-leaves_itself m x = record { survives = survives_none m x; office = λ h of. of; kept = λ clean. m.keeps_itself x; crash = λ clean left may. may }
 
 -- ---- all writers, one behind the other
 

@@ -22,7 +22,7 @@ use Rattle.office_policy.specs.Runs.{with_event as with_was}
 use Rattle.office_policy.specs.ShowsEvent.{Shows}
 use Rattle.office_policy.specs.TablesOf.{tables_of}
 use Rattle.office_policy.proofs.ShownFacts.{last_shown, shown_unchanged}
-use Rattle.office_policy.proofs.SurvivalFacts.{survives_none}
+use Rattle.office_policy.proofs.SurvivalFacts.{left_itself}
 use Rattle.journal.specs.declared.reader.Faulty.{Faulty}
 use Rattle.journal.specs.declared.reader.Faulty.TheVariants as faulty
 use Rattle.journal.specs.Journal.{EndsWithEvent, Says, history_in}
@@ -191,9 +191,6 @@ empty [] none = refl
 empty (b ∷ bodies) none = absurd (omega (arith, none))
 
 module _ {X D : Type 0} (m : Meaning X) (g : Ghosts D) (mark : ℕ) where
-  same_office : (x : X) → LeavesAll m x x
-  same_office x = record { survives = survives_none m x; office = λ h of. of; kept = λ clean. m.keeps_itself x; crash = λ clean left may. may }
-
   -- the file was read, and no more done
   pub record IsSeen (before after : SealedLog D g) : Type 0 where
     pub seen : g.seen after.disk ≡ g.seen before.disk
@@ -204,7 +201,7 @@ module _ {X D : Type 0} (m : Meaning X) (g : Ghosts D) (mark : ℕ) where
     -- it can't be read
     pub not_read : (why : NotReopened) → IsOutside why → Mends m g mark x x before after (Err why)
     not_read why outside = record {
-      leaves = same_office x;
+      leaves = left_itself m x;
       stands = λ h stands clean. tt;
       clean = read.clean;
       opened = tt;
@@ -226,7 +223,7 @@ module _ {X D : Type 0} (m : Meaning X) (g : Ghosts D) (mark : ℕ) where
 
     no_history : (IsTrue (g.is_clean after.disk) → SaysNone (bodies_of g before)) → Mends m g mark x x before after (Err NotALine)
     no_history none = record {
-      leaves = same_office x;
+      leaves = left_itself m x;
       stands = λ h stands clean. tt;
       clean = read.clean;
       opened = tt;
@@ -259,7 +256,7 @@ module _ {X D : Type 0} (m : Meaning X) (g : Ghosts D) (mark : ℕ) where
       -- none of its lines is sealed
       pub no_seal_there : found.lines ≡ 0 → Mends m g mark x x before after (Err Unsealed)
       no_seal_there none = record {
-        leaves = same_office x;
+        leaves = left_itself m x;
         stands = λ h stands clean. tt;
         clean = read.clean;
         opened = tt;
@@ -282,7 +279,7 @@ module _ {X D : Type 0} (m : Meaning X) (g : Ghosts D) (mark : ℕ) where
       -- too much stands behind those that are
       pub was_changed : found.at + longest < found.len → Mends m g mark x x before after (Err (Changed found.at))
       was_changed more = record {
-        leaves = same_office x;
+        leaves = left_itself m x;
         stands = λ h stands clean. tt;
         clean = read.clean;
         opened = tt;
@@ -307,7 +304,7 @@ module _ {X D : Type 0} (m : Meaning X) (g : Ghosts D) (mark : ℕ) where
       -- it has fewer lines than the mark
       pub too_few : found.lines < mark → Mends m g mark x x before after (Err OtherJournal)
       too_few few = record {
-        leaves = same_office x;
+        leaves = left_itself m x;
         stands = λ h stands clean. tt;
         clean = read.clean;
         opened = tt;

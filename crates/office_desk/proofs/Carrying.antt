@@ -35,7 +35,7 @@ use Rattle.office_policy.specs.Verdict.{Verdict, accepted, verdict}
 use Rattle.office_policy.specs.Lawful.{IsAllowed, IsLawfulHistory}
 use Rattle.office_policy.specs.TablesOf.{tables_of}
 use Rattle.office_policy.specs.Runs.{IsAnswer, answer_of, event_of, with_event}
-use Rattle.office_policy.specs.Handled.{AreWithEvent, IsHandled, RefusesEvent, Stands, Survives, only_reads}
+use Rattle.office_policy.specs.Handled.{AreWithEvent, HasRisen, HasStrayOf, IsFault, IsHandled, RefusesEvent, Stands, Survives, only_reads}
 use Rattle.office_policy.specs.Happened.{event_by}
 use Rattle.office_policy.specs.Judging.{IsNext, IsPermitted, LeavesAll, answer_in, event_for}
 use Rattle.office_policy.proofs.AskedFacts.{changing}
@@ -43,7 +43,7 @@ use Rattle.office_policy.proofs.EventFacts.{enrolled_tables, submitted_tables, v
 use Rattle.office_policy.proofs.HeadlineFacts.{given_out_approved}
 use Rattle.office_policy.proofs.LawFacts.{allowed_follows, lawful_apart}
 use Rattle.office_policy.proofs.Submissions.{next_free}
-use Rattle.office_policy.proofs.SurvivalFacts.{survives_on}
+use Rattle.office_policy.proofs.SurvivalFacts.{closes_without, or_more, survives_on}
 use Rattle.office_policy.proofs.UserFacts.{showing_is}
 use Rattle.office_desk.specs.Carries.{Asks, write_by, write_of}
 use Rattle.office_desk.specs.Offices.{IsOffice}
@@ -93,8 +93,9 @@ module _ {S : Type 0} (g : Ghosts S) (old new : Held S) where
   call_survives w result asks = record {
     clean = asks.written.leaves.clean;
     counts = asks.written.leaves.survives.counts;
-    closes = asks.written.leaves.survives.closes;
+    closes = λ clean is_open. or_more (asks.written.leaves.survives.closes clean is_open);
     shut = λ clean. was_open_by (state g old).is_open (state g new).is_open (λ shut. (asks.written.leaves.shut clean shut).0);
+    stays = λ e stray. stray;
   }
 
 -- this was allowed on a history to a user of then
@@ -225,6 +226,11 @@ module _ {S : Type 0} (g : Ghosts S) (before old new : Held S) (r : Request) (al
         lawful = to.lawful;
       }
 
+  -- only a fault shuts it
+  shuts : (result : Result ⊤ TheFault) → Asks g (write_of allowed) old new result → (Else : Type 0) → HasCleanDisk (state g new) → IsTrue (state g before).is_open
+      → IsTrue (state g new).is_open ⊎ (HasRisen (state g before).faults (state g new).faults ⊎ Else)
+  shuts result asks Else = closes_without (meaning_over g) before new Else (written_survives g before old new allowed (λ h. verdict h r) permitted.leaves granted result asks) (λ e none. none)
+
   -- it is written
   done : Asks g (write_of allowed) old new (Ok tt) → IsHandled (meaning_over g) before new r (Done allowed.reply)
   done asks =
@@ -236,6 +242,7 @@ module _ {S : Type 0} (g : Ghosts S) (before old new : Held S) (r : Request) (al
         survives = written_survives g before old new allowed (λ h. verdict h r) permitted.leaves granted (Ok tt) asks;
         answer = answer;
         cause = λ h office clean. tt;
+        closes = λ h office. shuts (Ok tt) asks (IsFault (Done allowed.reply) × HasStrayOf (meaning_over g) (verdict h r) new);
         approved = λ h office clean. given_out_approved h r (Done allowed.reply) office.lawful (answer h office clean);
         office = λ h office. record {
           idle = asks.written.leaves.idle;
@@ -260,6 +267,7 @@ module _ {S : Type 0} (g : Ghosts S) (before old new : Held S) (r : Request) (al
             caused g before new h r fault (formed h office clean)
             (λ is. inr (unwritten_memory g before old new allowed (λ h. verdict h r) permitted.leaves granted fault asks h office clean is_open is))
             (unwritten_cause g before old new allowed (λ h. verdict h r) permitted.leaves granted fault asks h office clean is_open);
+        closes = λ h office. shuts (Err fault) asks (IsFault (Fault fault) × HasStrayOf (meaning_over g) (verdict h r) new);
         approved = λ h office clean. tt;
         office = unwritten_office g before old new allowed (λ h. verdict h r) permitted.leaves granted fault asks;
         stands = λ h office clean. tt;

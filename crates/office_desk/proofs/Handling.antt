@@ -23,11 +23,12 @@ use Rattle.office_policy.specs.Formed.{HasForms, IsFormed}
 use Rattle.office_policy.specs.Lawful.{IsLawfulHistory}
 use Rattle.office_policy.specs.TablesOf.{tables_of}
 use Rattle.office_policy.specs.Runs.{answer_of, event_of, with_event, IsAnswer}
-use Rattle.office_policy.specs.Handled.{HasCause, IsUnwritten, LacksMemory, RefusesEvent, Stands, Survives}
+use Rattle.office_policy.specs.Handled.{HasCause, HasStrayOf, IsFault, IsUnwritten, LacksMemory, RefusesEvent, Stands, Survives}
 use Rattle.office_policy.specs.Judging.{IsAnswered, IsJudged, IsPermitted, LeavesAll, event_for}
 use Rattle.office_policy.proofs.HeadlineFacts.{given_out_approved}
 use Rattle.office_policy.proofs.LawFacts.{lawful_more, requested_allowed}
 use Rattle.office_policy.proofs.Numbered.{numbered}
+use Rattle.office_policy.proofs.SurvivalFacts.{closes_all, or_more}
 use Rattle.office_judging.specs.declared.refusal.Refusal.{Refusal}
 use Rattle.office_judging.specs.declared.refusal.Refusal.TheVariants as refusals
 use Rattle.office_desk.specs.Offices.{IsOffice}
@@ -81,8 +82,9 @@ module _ {S : Type 0} (g : Ghosts S) (old new : Held S) where
       let survives : Survives (meaning_over g) old new = record {
         clean = judged.clean;
         counts = judged.survives.counts;
-        closes = judged.survives.closes;
+        closes = λ clean is_open. or_more (judged.survives.closes clean is_open);
         shut = λ clean. was_open_by (state g old).is_open (state g new).is_open (judged.shut clean);
+        stays = λ e stray. stray;
       } in
       record {
         survives = survives;
@@ -93,6 +95,7 @@ module _ {S : Type 0} (g : Ghosts S) (old new : Held S) where
         };
         kept = λ clean. record { shut = survives.shut clean; same = λ settled. judged.same settled clean };
         crash = judged.crash;
+        strays = λ e stray. stray;
       }
 
   module _ (leaves : LeavesAll (meaning_over g) old new) (settled : IsSettled (state g new)) where
@@ -123,6 +126,7 @@ module _ {S : Type 0} (g : Ghosts S) (old new : Held S) where
                 survives = leaves.survives;
                 answer = answer;
                 cause = λ h office clean. tt;
+                closes = λ h office. closes_all (meaning_over g) old new (IsFault (Done reply) × HasStrayOf (meaning_over g) (verdict h r) new) leaves;
                 approved = λ h office clean. given_out_approved h r (Done reply) office.lawful (answer h office clean);
                 office = unchanged none;
                 stands = λ h office clean. stands (with_event (event_of (verdict h r)) h) (unchanged none h office) clean (is_open clean);
@@ -142,6 +146,7 @@ module _ {S : Type 0} (g : Ghosts S) (old new : Held S) where
                 survives = leaves.survives;
                 answer = λ h office clean. sym (ap answer_of (is h office clean));
                 cause = λ h office clean. tt;
+                closes = λ h office. closes_all (meaning_over g) old new (IsFault (Denied d fault) × HasStrayOf (meaning_over g) (verdict h r) new) leaves;
                 approved = λ h office clean. tt;
                 office = unchanged none;
                 stands = λ h office clean. stands (with_event (event_of (verdict h r)) h) (unchanged none h office) clean (is_open clean);
@@ -180,6 +185,7 @@ module _ {S : Type 0} (g : Ghosts S) (old new : Held S) where
           survives = leaves.survives;
           answer = answer;
           cause = cause;
+          closes = λ h office. closes_all (meaning_over g) old new (IsFault (Fault fault) × HasStrayOf (meaning_over g) (verdict h r) new) leaves;
           approved = λ h office clean. tt;
           office = leaves.office;
           stands = λ h office clean. tt;

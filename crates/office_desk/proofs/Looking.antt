@@ -23,6 +23,7 @@ use Rattle.office_policy.specs.TablesOf.{tables_of}
 use Rattle.office_policy.specs.Users.{registrar_alone}
 use Rattle.office_desk.specs.Looking.{HasLooked, IsMetBetween}
 use Rattle.office_desk.specs.Meant.{meaning_over}
+use Rattle.office_policy.proofs.SurvivalFacts.{or_more}
 use Rattle.office_desk.proofs.Handling.{was_open_by}
 use Rattle.office_judging.proofs.Judging.{never_both}
 
@@ -55,8 +56,9 @@ module _ {S : Type 0} (g : Ghosts S) (old new : Held S) where
       let survives : Survives (meaning_over g) old new = record {
         clean = read.leaves.clean;
         counts = read.leaves.survives.counts;
-        closes = read.leaves.survives.closes;
+        closes = λ clean is_open. or_more (read.leaves.survives.closes clean is_open);
         shut = λ clean. was_open_by (state g old).is_open (state g new).is_open (λ shut. (read.leaves.shut clean shut).0);
+        stays = λ e stray. stray;
       } in
       record {
         survives = survives;
@@ -67,6 +69,7 @@ module _ {S : Type 0} (g : Ghosts S) (old new : Held S) where
         };
         kept = λ clean. record { shut = survives.shut clean; same = λ settled. read.same settled clean };
         crash = read.crash;
+        strays = λ e stray. stray;
       }
 
   -- a fault over the connection is one of the office

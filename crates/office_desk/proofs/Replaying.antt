@@ -48,7 +48,7 @@ use Rattle.office_policy.proofs.GivenOut.{carried_out_of}
 use Rattle.office_policy.proofs.LawFacts.{of_revision_by}
 use Rattle.office_policy.proofs.Numbered.{number_there}
 use Rattle.office_policy.proofs.RuleFacts.{none_refuses}
-use Rattle.office_policy.proofs.SurvivalFacts.{survives_none}
+use Rattle.office_policy.proofs.SurvivalFacts.{left_itself, survives_none}
 use Rattle.office_policy.proofs.UserFacts.{bytes_same, same_bytes, user_named}
 use Rattle.office_judging.specs.declared.refusal.Refusal.{Refusal}
 use Rattle.office_judging.specs.declared.refusal.Refusal.TheVariants as refusals
@@ -407,7 +407,7 @@ module _ {S : Type 0} (g : Ghosts S) (x : Held S) (settled : IsSettled (state g 
   pub undone_at_once : (why : Unreplayed) → HasNoAsk e why → IsReplayed (meaning_over g) x x e (Err why)
   undone_at_once (causes.Denied d) none = absurd none
   undone_at_once causes.Founding none = record {
-    leaves = record { survives = survives_none (meaning_over g) x; office = λ h office. office; kept = λ clean. (meaning_over g).keeps_itself x; crash = λ clean left may. may };
+    leaves = left_itself (meaning_over g) x;
     why = λ h office clean. none;
     never = λ h office clean. never_founded h e none;
     stands = λ h office clean is_open. record { is_of = office; is_open = is_open; leaves = settled (tables_of h) (office.tables clean is_open) };

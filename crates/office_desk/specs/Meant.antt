@@ -31,7 +31,7 @@ keeps_on s t u first then = record {
       (last.0 ∙ kept.0, last.1 ∙ kept.1);
 }
 
--- the meaning of an office is that of its connection
+-- the meaning of an office is that of its connection; it writes no event down before it happens
 abbrev pub meaning_over : {S : Type 0} → Ghosts S → Meaning (Held S)
 meaning_over g = record {
   is_clean = λ x. HasCleanDisk (state g x);
@@ -40,10 +40,12 @@ meaning_over g = record {
   refuses = λ x h e fault. RefusesToMake g x (tables_of h) (tables_of (e ∷ h)) fault;
   is_of = λ h x. IsOffice h (state g x);
   keeps = λ x y. Keeps (state g x) (state g y);
+  is_stray = λ e x. ⊥;
   Left = Trees;
   may_leave = λ x trees. (state g x).may_leave trees;
   are_of = λ h trees. AreOffice trees (tables_of h);
   lawful = λ h x office. office.lawful;
   keeps_itself = λ x. keeps_itself (state g x);
   keeps_on = λ x y z. keeps_on (state g x) (state g y) (state g z);
+  strays_shut = λ e x none. absurd none;
 }

@@ -100,7 +100,7 @@ module _ (e : Event) (h : History) where
 -- ---- what that leaves of an office
 
 module _ {X : Type 0} (m : Meaning X) where
-  -- a fault was met, or it is `disk` and a fault had shut the office before; there was no memory
+  -- a fault was met, or it is `disk` and the office was shut before; there was no memory
   -- before anything was written, or for what was to be written
   abbrev pub IsCaused : (old new : X) → (Refuses : TheFault → Type 0) → TheFault → Type 0
   IsCaused old new Refuses faults.NoMemory = IsUnwritten m old new ⊎ Refuses faults.NoMemory

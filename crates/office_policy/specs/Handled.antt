@@ -8,7 +8,7 @@ use Rattle.review_policy.specs.declared.answer.Answer.{Answer}
 use Rattle.review_policy.specs.declared.answer.Answer.TheVariants.{Done, Denied, Fault}
 use Rattle.review_policy.specs.declared.fault.Fault.{Fault as TheFault}
 use Rattle.review_policy.specs.declared.fault.Fault.TheVariants as faults
-use Rattle.office_policy.specs.History.{History}
+use Rattle.office_policy.specs.History.{Event, History}
 use Rattle.office_policy.specs.Verdict.{Verdict, accepted, denied, verdict}
 use Rattle.office_policy.specs.Runs.{IsAnswer, history_after}
 use Rattle.office_policy.specs.Headline.{GivesOutApproved}
@@ -33,6 +33,11 @@ abbrev pub UnlessFaulty : Answer → Type 0 → Type 0
 UnlessFaulty (Done reply) P = P
 UnlessFaulty (Denied denial fault) P = P
 UnlessFaulty (Fault fault) P = Unit {0}
+
+-- a fault was answered
+abbrev pub IsFault : Answer → Type 0
+IsFault (Fault fault) = Unit {0}
+IsFault _ = ⊥
 
 -- a count of faults rose, or stands at the greatest u64
 abbrev pub HasRisen : ℕ → ℕ → Type 0
@@ -60,7 +65,7 @@ module _ {X : Type 0} (m : Meaning X) where
   LacksMemory old new h request =
       IsUnwritten old new ⊎ RefusesEvent old h (verdict h request) faults.NoMemory
 
-  -- a fault other than `memory` was met so, or it is `disk` and a fault had shut the office before;
+  -- a fault other than `memory` was met so, or it is `disk` and the office was shut before;
   -- none is for the form of its tables
   abbrev pub HasCause : (old new : X) → History → Request → Answer → Type 0
   HasCause old new h request (Done reply) = Unit {0}
@@ -87,17 +92,29 @@ module _ {X : Type 0} (m : Meaning X) where
     pub is_open : m.is_open x
     pub leaves : LeavesOnly h x
 
+  -- an event was written down, didn't happen, and couldn't be struck out: a stray
+  abbrev pub HasStray : X → Type 0
+  HasStray x = (e : Event) × m.is_stray e x
+
+  -- the event of the verdict is a stray
+  abbrev pub HasStrayOf : Verdict → X → Type 0
+  HasStrayOf (accepted reply (Some e)) x = m.is_stray e x
+  HasStrayOf (accepted reply None) x = ⊥
+  HasStrayOf (denied denial fault) x = ⊥
+
   -- what a call leaves of an office, whatever it was asked
   pub record Survives (old new : X) : Type 0 where
     -- what is clean was clean before
     pub clean : m.is_clean new → m.is_clean old
     -- no fault is forgotten
     pub counts : m.faults old ≤ m.faults new
-    -- only a fault shuts it
+    -- only a fault shuts it, or a stray event
     pub closes : m.is_clean new → m.is_open old
-        → m.is_open new ⊎ HasRisen (m.faults old) (m.faults new)
+        → m.is_open new ⊎ HasRisen (m.faults old) (m.faults new) ⊎ HasStray new
     -- and what is open was open before
     pub shut : m.is_clean new → m.is_open new → m.is_open old
+    -- which stays
+    pub stays : (e : Event) → m.is_stray e old → m.is_stray e new
 
   -- a request was handled, and answered by this
   pub record IsHandled (old new : X) (request : Request) (told : Answer) : Type 0 where
@@ -106,6 +123,10 @@ module _ {X : Type 0} (m : Meaning X) where
     pub answer : (h : History) → m.is_of h old → m.is_clean new → IsAnswer h request told
     -- and a fault has a cause
     pub cause : (h : History) → m.is_of h old → m.is_clean new → HasCause old new h request told
+    -- only a fault shuts it; or the event of the verdict, where that is a stray and a fault is answered
+    pub closes : (h : History) → m.is_of h old → m.is_clean new → m.is_open old
+        → m.is_open new ⊎ HasRisen (m.faults old) (m.faults new)
+        ⊎ (IsFault told × HasStrayOf (verdict h request) new)
     -- what it gives out was approved: bytewise, by others, and by as many as its widening asked for
     pub approved : (h : History) → m.is_of h old → m.is_clean new → GivesOutApproved h request told
     -- the office is of the history with the event of what was carried out

@@ -60,6 +60,8 @@ module _ {X : Type 0} (m : Meaning X) where
     pub office : (h : History) → m.is_of h old → m.is_of h new
     pub kept : m.is_clean new → m.keeps old new
     pub crash : m.is_clean new → (left : m.Left) → m.may_leave new left → m.may_leave old left
+    -- and no event was written down
+    pub strays : (e : Event) → m.is_stray e new → m.is_stray e old
 
   -- the request was answered, and changed nothing
   pub record IsAnswered (old new : X) (r : Request) (told : Answer) : Type 0 where

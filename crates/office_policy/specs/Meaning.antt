@@ -8,17 +8,19 @@ use Rattle.office_policy.specs.Lawful.{IsLawfulHistory}
 pub record Meaning (X : Type 0) : Type 1 where
   -- what it keeps its tables in has returned what was written
   pub is_clean : X → Type 0
-  -- no fault has shut it
+  -- neither a fault nor a stray event has shut it
   pub is_open : X → Type 0
   -- how many times what it keeps its tables in has failed or refused, up to the greatest u64
   pub faults : X → ℕ
   -- over what it has, what it keeps its tables in refuses, with this fault, to write the event after
   -- this history; with `memory`, it may have none to write that
   pub refuses : X → History → Event → Fault → Type 0
-  -- it is the office of this history, unless a fault has shut it
+  -- it is the office of this history, unless it is shut
   pub is_of : History → X → Type 0
-  -- the second has what the first had, unless a fault has shut it
+  -- the second has what the first had, unless it is shut
   pub keeps : X → X → Type 0
+  -- this event is a stray: it was written down, didn't happen, and couldn't be struck out
+  pub is_stray : Event → X → Type 0
   -- what may be left of it after a crash, and when that is the office of a history
   pub Left : Type 0
   pub may_leave : X → Left → Type 0
@@ -27,3 +29,4 @@ pub record Meaning (X : Type 0) : Type 1 where
   pub lawful : (h : History) (x : X) → is_of h x → IsLawfulHistory h
   pub keeps_itself : (x : X) → keeps x x
   pub keeps_on : (x y z : X) → keeps x y → keeps y z → keeps x z
+  pub strays_shut : (e : Event) (x : X) → is_stray e x → is_open x → ⊥

@@ -10,10 +10,12 @@ silent = record {
   refuses = λ x h e fault. ⊥;
   is_of = λ h x. ⊥;
   keeps = λ x y. Unit {0};
+  is_stray = λ e x. ⊥;
   Left = Unit {0};
   may_leave = λ x left. ⊥;
   are_of = λ h left. ⊥;
   lawful = λ h x is. absurd is;
   keeps_itself = λ x. tt;
   keeps_on = λ x y z first second. tt;
+  strays_shut = λ e x none. absurd none;
 }

@@ -1,13 +1,14 @@
 use Rattle.std.proofs.Common.{◌∙◌, Err, ap, not}
+use Rattle.office_policy.proofs.SurvivalFacts.{left_itself}
 use Rattle.office_desk.specs.Meant.{meaning_over}
 use Rattle.journal.specs.Writers.{ShowsIf, ShowsWriters, boxed_meant, writers_meant}
 use Rattle.journal_office.specs.Mending.{LooksFor}
-use Rattle.journal_office.proofs.AskFacts.{Fifth, First, Fourth, HasLookedFor, Second, Third, and_also, and_last, are_all, in_order, leaves_both, leaves_itself, looks_as, looks_wider, no_user}
+use Rattle.journal_office.proofs.AskFacts.{Fifth, First, Fourth, HasLookedFor, Second, Third, and_also, and_last, are_all, in_order, leaves_both, looks_as, looks_wider, no_user}
 use Rattle.journal_office.proofs.MendFacts.{left_with}
 use Rattle.journal_office.proofs.mending.look_for_all.Goals as goal
 
 pub returns-then-is_none-clause-leaves : goal.returns-then-is_none-clause-leaves
-returns-then-is_none-clause-leaves g c = leaves_itself (meaning_over g.S.Store) c.args.office.now
+returns-then-is_none-clause-leaves g c = left_itself (meaning_over g.S.Store) c.args.office.now
 
 pub returns-then-is_none-clause-looks : goal.returns-then-is_none-clause-looks
 returns-then-is_none-clause-looks g c = λ h of clean all. no_user c.args.writers.now _ (c.is_none.ensures ∙ ap not c.if-is_none.true) all

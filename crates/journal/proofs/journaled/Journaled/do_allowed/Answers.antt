@@ -1,4 +1,4 @@
-use Rattle.std.proofs.Common.{rules, ◌≡◌, Err, Ok, ◌∙◌, [], ◌∷◌, ◌++◌, ap, refl, subst}
+use Rattle.std.proofs.Common.{rules, ◌≡◌, Err, Ok, ◌∙◌, [], ◌∷◌, ◌++◌, ap, false, inl, inr, refl, subst}
 use Rattle.journal.specs.Begun.{done_bodies}
 use Rattle.journal.specs.Journals.{unsettled, with_office}
 use Rattle.journal.specs.Writing.{IsAppended}
@@ -59,3 +59,29 @@ returns-in-Ok-carry_out-clause-written g c =
 
 pub carry_out-requires : goal.carry_out-requires
 carry_out-requires g c = (c.requires.0, c.args.request.now, c.requires.1)
+
+pub returns-in_default-clause-undone : goal.returns-in_default-clause-undone
+returns-in_default-clause-undone g c = inl refl
+
+pub returns-then-not-is_body-clause-undone : goal.returns-then-not-is_body-clause-undone
+returns-then-not-is_body-clause-undone g c = inl refl
+
+pub returns-in_err-write_event-clause-undone : goal.returns-in_err-write_event-clause-undone
+returns-in_err-write_event-clause-undone g c =
+    let told : c.from_residual.result ≡ Err c.in_err-write_event.field-0.0 = search rules in
+    rw told (inl refl)
+
+pub returns-clause-undone : goal.returns-clause-undone
+returns-clause-undone g c =
+    let w = g.J.Journal.writing in
+    let old = c.args.self.now in
+    let said = c.as_bytes-2.ensures.value ∙ c.as_str-2.ensures.value ∙ c.in-Ok.ensures.text in
+    let appended = subst (λ last. IsAppended w old.journal c.write_event.new.journal (done_bodies last) c.as_bytes-2.result.now (Ok tt)) c.unsettled-last.ensures c.in_ok-write_event.ensures in
+    inr (
+      record { office = c.carry_out.new.self; journal = c.write_event.new.journal; has_stray = old.has_stray; is_settled = false },
+      record {
+        bodies = λ clean. appended.written.1 clean ∙ ap (λ body. w.bodies old.journal ++ (done_bodies (unsettled w old) ++ body ∷ [])) said;
+        unsaid = refl;
+      },
+      c.strike_out.ensures,
+    )

@@ -1,6 +1,7 @@
-use Rattle.std.proofs.Common.{◌∙◌, [], ◌∷◌, ◌++◌, inl, inr, refl, sym, ap, subst}
+use Rattle.std.proofs.Common.{◌∙◌, [], ◌∷◌, ◌++◌, Err, inl, inr, refl, sym, ap, subst}
 use Rattle.journal.proofs.LineExamples.{strike_is}
-use Rattle.journal.specs.Writing.{IsLeftIn}
+use Rattle.journal.specs.Writing.{IsAppended}
+use Rattle.journal.proofs.Offices.{none_fewer}
 use Rattle.journal.proofs.journaled.Journaled.strike_out.Goals as goal
 
 pub returns-in-Ok : goal.returns-in-Ok
@@ -26,12 +27,20 @@ returns g c = record {
   journal = inr (inl (record {
     stands = c.in-Allowed.ensures.stands;
     stray = refl;
-    crash = λ clean left may. elim (c.in-Err.ensures.crash clean left may) [
-      | inl before ↦ inl before
-      | inr part ↦ inr (record {
-        is_open = part.is_open;
-        left = subst (λ body. IsLeftIn (g.J.Journal.writing.bodies c.args.self.now.journal) [] body left) (c.as_bytes.ensures.value ∙ sym strike_is) part.left;
-      })
-    ];
+    fault = c.in-Err.field-0;
+    append = subst (λ body. IsAppended g.J.Journal.writing c.args.self.now.journal c.append.new.self [] body (Err c.in-Err.field-0)) (c.as_bytes.ensures.value ∙ sym strike_is) c.in-Err.ensures;
+  }));
+}
+
+pub returns-in-Answered : goal.returns-in-Answered
+returns-in-Answered g c = record {
+  leaves = c.in-Answered.ensures.leaves;
+  clean = λ clean. clean;
+  counts = none_fewer (g.J.Journal.writing.faults c.args.self.now.journal);
+  journal = inr (inr (record {
+    stray = refl;
+    journal = refl;
+    told = c.in-Answered.field-0;
+    again = c.in-Answered.ensures;
   }));
 }
