@@ -2,6 +2,7 @@
 use Rattle.std.specs.Prelude.{◌≡◌, ◌⊎◌, ◌≤◌, ◌+◌, ◌-◌, ◌^◌, ℕ, min, List, ◌++◌, false, IsTrue, length}
 use Rattle.sqlite_disk.specs.declared.Disk.{Ghosts}
 use Rattle.sqlite_disk.specs.Disk.{Only, MoreFaults}
+use Rattle.sealed_log.specs.Faults.{IsOfCall}
 use Rattle.sealed_log.specs.Told.{HasTail}
 use Rattle.sealed_log.specs.declared.written.Written.{Written}
 use Rattle.sealed_log.specs.declared.written.Written.TheVariants.{Whole, Undone, Lost}
@@ -61,3 +62,9 @@ module _ {D : Type 0} (g : Ghosts D) where
   IsCaused old new Whole = Unit {0}
   IsCaused old new (Undone fault) = MoreFaults (g.faults old) (g.faults new)
   IsCaused old new (Lost fault) = MoreFaults (g.faults old) (g.faults new)
+
+  -- and the fault is that of such a call
+  abbrev pub NamesCall : D → D → Written → Type 0
+  NamesCall old new Whole = Unit {0}
+  NamesCall old new (Undone fault) = IsOfCall g old new fault
+  NamesCall old new (Lost fault) = IsOfCall g old new fault

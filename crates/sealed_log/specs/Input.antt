@@ -3,7 +3,7 @@ use Rattle.std.specs.Prelude.{◌≡◌, ◌≢◌, ◌⊎◌, ◌<◌, ◌≤�
 use Rattle.std.specs.Prelude.{length, Option, Some, Result, Ok, Err, IfSome}
 use Rattle.std.specs.Io.KnownBytes.{Consumes, IsAtEnd, Keeps}
 use Rattle.std.specs.declared.io.ErrorKind.{ErrorKind}
-use Rattle.std.specs.declared.io.ErrorKind.TheVariants.{OutOfMemory}
+use Rattle.std.specs.declared.io.ErrorKind.TheVariants.{Interrupted, OutOfMemory}
 use Rattle.streams.specs.Held.{HasLine}
 use Rattle.streams.specs.Lines.{NoFeed, first_line, after_line}
 use Rattle.sealed_log.specs.Sealed.{IsBody, longest, seal_on, sealed_line}
@@ -18,6 +18,11 @@ use Rattle.sealed_log.specs.declared.input.NoBody.TheVariants.{NoMemory}
 abbrev pub input_fault : ErrorKind → NoBody
 input_fault OutOfMemory = NoMemory
 input_fault _ = Read
+
+-- what it makes of a piece of a line: a read that was interrupted is made again
+abbrev pub piece_of_kind : ErrorKind → Result Piece NoBody
+piece_of_kind Interrupted = Ok Part
+piece_of_kind kind = Err (input_fault kind)
 
 -- the input or memory failed
 abbrev pub IsOutside : NoBody → Type 0

@@ -1,4 +1,6 @@
 ghost use Rattle.std.specs.Prelude.{◌≡◌};
+ghost use Rattle.std.specs.IoError.{error_kind};
+ghost use Rattle.sealed_log.specs.Faults.{fault_of_kind};
 ghost use Rattle.sealed_log.specs.declared.fault.LogFault.TheVariants.{Memory};
 
 use std::alloc::{AllocError, AllocFailed};
@@ -28,6 +30,8 @@ impl From<AllocError> for LogFault {
 }
 
 impl From<io::Error> for LogFault {
+    ghost from_gives = { λ error fault. fault ≡ fault_of_kind (error_kind error) };
+
     fn from(error: io::Error) -> LogFault {
         match error.kind() {
             io::ErrorKind::OutOfMemory => LogFault::Memory,

@@ -3,7 +3,7 @@
 ghost use Rattle.std.specs.Prelude.{◌≡◌, ◌<◌, length};
 ghost use Rattle.std.specs.IoError.{error_kind};
 ghost use Rattle.sealed_log.specs.Input.{IsInterruption, ReadsBody, ReadsPiece, ReadsText, Unseals};
-ghost use Rattle.sealed_log.specs.Input.{input_fault};
+ghost use Rattle.sealed_log.specs.Input.{input_fault, piece_of_kind};
 ghost use Rattle.sealed_log.specs.Sealed.{longest};
 ghost use Rattle.sealed_log.specs.declared.input.NoBody.TheVariants.{NoMemory};
 
@@ -64,7 +64,8 @@ enum Piece {
 
 // What an error makes of a piece: a read that was interrupted is made again.
 fn interruption(error: &io::Error) -> Result<Piece, NoBody>
-    ensures { IsInterruption result }
+    ensures made { result ≡ piece_of_kind (error_kind error.now) }
+    ensures outside { IsInterruption result }
 {
     match error.kind() {
         ErrorKind::Interrupted => Ok(Piece::Part),

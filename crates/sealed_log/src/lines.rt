@@ -1,9 +1,10 @@
 // Reading a line of a file, piece by piece.
 
 ghost use Rattle.std.specs.Prelude.{◌≡◌, ◌<◌, ◌≤◌, ◌↔◌, ◌+◌, ◌^◌, length, take, slice_index};
-ghost use Rattle.std.specs.Prelude.{IsTrue, IfOk, IfSome, MatchOption};
+ghost use Rattle.std.specs.Prelude.{IsTrue, IfErr, IfOk, IfSome, MatchOption};
 ghost use Rattle.streams.specs.Lines.{NoFeed};
 ghost use Rattle.sealed_log.specs.Disks.{IsRead};
+ghost use Rattle.sealed_log.specs.Faults.{IsMetBetween};
 ghost use Rattle.sealed_log.specs.Lines.{IsFound, IsLonger, IsMore, IsPart};
 ghost use Rattle.sealed_log.specs.Sealed.{IsBody, longest};
 
@@ -55,6 +56,10 @@ fn read_piece<D: Disk>(
     requires some { 0 < length piece.old }
     requires fits { at + length line.old.items + length piece.old < 2 ^ 64 }
     ensures read { IsRead D.Disk disk.old disk.new }
+    ensures counts { D.faults disk.old ≤ D.faults disk.new }
+    ensures word { IsTrue (D.is_clean disk.new)
+        → at + length line.old.items + length piece.old ≤ length (D.seen disk.old)
+        → IfErr result (IsMetBetween D.Disk disk.old disk.new) }
     ensures longer { IfOk result (IsLonger
         (length line.old.items) (length piece.old) (length line.new.items)) }
     ensures more { IfOk result (λ whole. IsTrue (D.is_clean disk.new)
@@ -85,6 +90,9 @@ pub(crate) fn read_line<D: Disk>(
     requires usable { IsTrue (D.is_usable disk.old) }
     requires within { at ≤ len }
     ensures read { IsRead D.Disk disk.old disk.new }
+    ensures counts { D.faults disk.old ≤ D.faults disk.new }
+    ensures word { IsTrue (D.is_clean disk.new) → len ≡ length (D.seen disk.old)
+        → IfErr result (IsMetBetween D.Disk disk.old disk.new) }
     ensures short { IfOk result (λ found. IfSome found (λ line. at + length line.items < len)) }
     ensures line { IfOk result (λ found. IsTrue (D.is_clean disk.new)
         → len ≡ length (D.seen disk.old) → IsFound (D.seen disk.old) at found) }

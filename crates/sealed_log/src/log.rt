@@ -32,11 +32,12 @@ pub struct SealedLog<D: Disk> {
 
 impl<D: Disk> SealedLog<D> {
     ghost use Rattle.std.specs.Prelude.{◌≡◌, ◌⊎◌, ◌≤◌, ℕ, List, [], ◌∷◌, length, true, false};
-    ghost use Rattle.std.specs.Prelude.{IsTrue, IfErr, IfOk, OnErr, OnOk};
+    ghost use Rattle.std.specs.Prelude.{IsTrue, IfErr, IfOk, IsErrOf, OnErr, OnOk};
     ghost use Rattle.sqlite_disk.specs.Disk.{Only, MoreFaults};
     ghost use Rattle.sealed_log.specs.Sealed.{IsBody, sealed_text, sealed_line};
     ghost use Rattle.sealed_log.specs.Sealed.{sealed_with, seal_of};
     ghost use Rattle.sealed_log.specs.Disks.{HasFailedTwice, LeavesTail};
+    ghost use Rattle.sealed_log.specs.Faults.{IsMetBetween, IsOfCall};
     ghost use Rattle.sealed_log.specs.Log.{AreLines, IsAppended, IsMet, bodies_of};
     ghost use Rattle.sealed_log.specs.Reading.{IsThrough};
     ghost use Rattle.sealed_log.specs.Told.{told};
@@ -88,13 +89,18 @@ impl<D: Disk> SealedLog<D> {
     ///
     /// # Errors
     ///
-    /// The fault that was met.
+    /// The fault of the call of the disk that failed, or `Memory`; `Disk` where a sync had failed.
     pub fn read<K: Keeps>(&mut self, alloc: Global, keeper: &mut K) -> Result<Through, LogFault>
         requires begun { K.is_of [] keeper.old }
         ensures through { IfOk result (λ through. IsTrue (D.is_clean self.new.disk)
             → IsThrough (D.seen self.old.disk) through) }
         ensures keeps { IfOk result (λ _. IsTrue (D.is_clean self.new.disk)
             → K.is_of (told (D.seen self.old.disk)) keeper.new) }
+        ensures refused { D.is_usable self.old.disk ≡ false → IsErrOf result LogFault.Disk }
+        ensures word { IsTrue (D.is_usable self.old.disk) → IsTrue (D.is_clean self.new.disk)
+            → IfErr result (IsMetBetween D.Disk self.old.disk self.new.disk) }
+        ensures counts { D.faults self.old.disk ≤ D.faults self.new.disk }
+        ensures usable { D.is_usable self.new.disk ≡ D.is_usable self.old.disk }
         ensures seen { D.seen self.new.disk ≡ D.seen self.old.disk }
         ensures clean { IsTrue (D.is_clean self.new.disk) → IsTrue (D.is_clean self.old.disk) }
         ensures crash { (left : List ℕ)
@@ -112,7 +118,8 @@ impl<D: Disk> SealedLog<D> {
     ///
     /// # Errors
     ///
-    /// The fault that was met. Then the log is shut.
+    /// The fault of the call of the disk that failed; `Disk` where a sync had failed. Then the log is
+    /// shut.
     pub fn open_at(&mut self, found: &Through) -> Result<(), LogFault>
         requires { IsTrue (D.is_clean self.old.disk) → IsThrough (D.seen self.old.disk) found.now }
         ensures opened { OnOk result (self.new.is_open ≡ true) }
@@ -124,6 +131,9 @@ impl<D: Disk> SealedLog<D> {
             → LeavesTail D.Disk self.old.disk (sealed_text (bodies_of D.Disk self.old)) most
             → LeavesTail D.Disk self.new.disk (sealed_text (bodies_of D.Disk self.old)) most }
         ensures counts { D.faults self.old.disk ≤ D.faults self.new.disk }
+        ensures refused { D.is_usable self.old.disk ≡ false → IsErrOf result LogFault.Disk }
+        ensures word { IsTrue (D.is_usable self.old.disk)
+            → IfErr result (IsOfCall D.Disk self.old.disk self.new.disk) }
     {
         self.is_open = false;
         if !self.disk.may_be_used() {
@@ -150,6 +160,8 @@ impl<D: Disk> SealedLog<D> {
         ensures lost { IsTrue (D.is_clean self.new.disk)
             → (self.new.is_open ≡ true) ⊎ HasFailedTwice D.Disk self.old.disk self.new.disk }
         ensures met { IfErr result (IsMet D.Disk self.old self.new) }
+        ensures word { IsTrue (D.is_clean self.new.disk)
+            → IfErr result (IsOfCall D.Disk self.old.disk self.new.disk) }
         ensures appended { (settling : List (List ℕ)) (body : List ℕ)
             → AreLines self.old.seal settling body text.now seal lines
             → IsAppended D.Disk self.old self.new settling body result }
@@ -179,7 +191,8 @@ impl<D: Disk> SealedLog<D> {
     ///
     /// # Errors
     ///
-    /// The fault that was met. A log that is still open has what it had.
+    /// The fault of the call of the disk that failed, or `Memory`; `Disk` where the log is shut. A log
+    /// that is still open has what it had.
     pub fn put(&mut self, alloc: Global, body: &[u8]) -> Result<(), LogFault>
         requires { IsBody body.now }
         ensures clean { IsTrue (D.is_clean self.new.disk) → IsTrue (D.is_clean self.old.disk) }
@@ -191,6 +204,9 @@ impl<D: Disk> SealedLog<D> {
         ensures lost { IsTrue (D.is_clean self.new.disk) → self.old.is_open ≡ true
             → (self.new.is_open ≡ true) ⊎ HasFailedTwice D.Disk self.old.disk self.new.disk }
         ensures met { IfErr result (IsMet D.Disk self.old self.new) }
+        ensures refused { self.old.is_open ≡ false → IsErrOf result LogFault.Disk }
+        ensures word { IsTrue (D.is_clean self.new.disk) → self.old.is_open ≡ true
+            → IfErr result (IsMetBetween D.Disk self.old.disk self.new.disk) }
         ensures appended { IsAppended D.Disk self.old self.new [] body.now result }
         ensures crash { self.old.is_open ≡ true → IsTrue (D.is_clean self.new.disk)
             → LeavesTail D.Disk self.new.disk (sealed_text (bodies_of D.Disk self.old))
@@ -209,7 +225,8 @@ impl<D: Disk> SealedLog<D> {
     ///
     /// # Errors
     ///
-    /// The fault that was met. A log that is still open has what it had.
+    /// The fault of the call of the disk that failed, or `Memory`; `Disk` where the log is shut. A log
+    /// that is still open has what it had.
     pub fn put_both(&mut self, alloc: Global, first: &[u8], body: &[u8]) -> Result<(), LogFault>
         requires first { IsBody first.now }
         requires body { IsBody body.now }
@@ -222,6 +239,9 @@ impl<D: Disk> SealedLog<D> {
         ensures lost { IsTrue (D.is_clean self.new.disk) → self.old.is_open ≡ true
             → (self.new.is_open ≡ true) ⊎ HasFailedTwice D.Disk self.old.disk self.new.disk }
         ensures met { IfErr result (IsMet D.Disk self.old self.new) }
+        ensures refused { self.old.is_open ≡ false → IsErrOf result LogFault.Disk }
+        ensures word { IsTrue (D.is_clean self.new.disk) → self.old.is_open ≡ true
+            → IfErr result (IsMetBetween D.Disk self.old.disk self.new.disk) }
         ensures appended { IsAppended D.Disk self.old self.new (first.now ∷ []) body.now result }
         ensures crash { self.old.is_open ≡ true → IsTrue (D.is_clean self.new.disk)
             → LeavesTail D.Disk self.new.disk (sealed_text (bodies_of D.Disk self.old))

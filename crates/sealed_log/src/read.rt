@@ -1,7 +1,8 @@
 //! Reading a log to its end.
 
-ghost use Rattle.std.specs.Prelude.{IsTrue, IfOk, []};
+ghost use Rattle.std.specs.Prelude.{◌≤◌, IsTrue, IfErr, IfOk, []};
 ghost use Rattle.sealed_log.specs.Disks.{IsRead};
+ghost use Rattle.sealed_log.specs.Faults.{IsMetBetween};
 ghost use Rattle.sealed_log.specs.Reading.{IsThrough};
 ghost use Rattle.sealed_log.specs.Told.{told};
 
@@ -13,6 +14,10 @@ use sqlite_disk::Disk;
 use std::alloc::Global;
 
 /// Reads a file to the end of what is sealed, and has the keeper see each body.
+///
+/// # Errors
+///
+/// The fault of the call of the disk that failed, or `Memory`.
 pub fn read_through<K: Keeps, D: Disk>(
     alloc: Global,
     disk: &mut D,
@@ -21,6 +26,9 @@ pub fn read_through<K: Keeps, D: Disk>(
     requires usable { IsTrue (D.is_usable disk.old) }
     requires begun { K.is_of [] keeper.old }
     ensures read { IsRead D.Disk disk.old disk.new }
+    ensures counts { D.faults disk.old ≤ D.faults disk.new }
+    ensures word { IsTrue (D.is_clean disk.new)
+        → IfErr result (IsMetBetween D.Disk disk.old disk.new) }
     ensures through { IfOk result (λ through. IsTrue (D.is_clean disk.new)
         → IsThrough (D.seen disk.old) through) }
     ensures keeps { IfOk result (λ _. IsTrue (D.is_clean disk.new)

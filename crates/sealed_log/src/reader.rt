@@ -22,8 +22,9 @@ pub struct Reader {
 }
 
 impl Reader {
-    ghost use Rattle.std.specs.Prelude.{◌≡◌, ◌<◌, length, IsTrue, IfOk, IfSome, OnErr};
+    ghost use Rattle.std.specs.Prelude.{◌≡◌, ◌<◌, ◌≤◌, length, IsTrue, IfErr, IfOk, IfSome, OnErr};
     ghost use Rattle.sealed_log.specs.Disks.{IsRead};
+    ghost use Rattle.sealed_log.specs.Faults.{IsMetBetween};
     ghost use Rattle.sealed_log.specs.Sealed.{no_seal};
     ghost use Rattle.sealed_log.specs.Reading.{IsNext};
 
@@ -65,6 +66,10 @@ impl Reader {
     }
 
     /// The next body, or `None` where what stands there isn't sealed.
+    ///
+    /// # Errors
+    ///
+    /// The fault of the call of the disk that failed, or `Memory`.
     pub fn next<D: Disk>(
         &mut self,
         alloc: Global,
@@ -75,6 +80,9 @@ impl Reader {
         ensures len { self.new.len ≡ self.old.len }
         ensures further { IfOk result (λ found. IfSome found (λ _. self.old.at < self.new.at)) }
         ensures kept { OnErr result (self.new ≡ self.old) }
+        ensures counts { D.faults disk.old ≤ D.faults disk.new }
+        ensures word { IsTrue (D.is_clean disk.new) → self.old.len ≡ length (D.seen disk.old)
+            → IfErr result (IsMetBetween D.Disk disk.old disk.new) }
         ensures next { IfOk result (λ found. IsTrue (D.is_clean disk.new)
             → self.old.len ≡ length (D.seen disk.old)
             → IsNext (D.seen disk.old) self.old self.new found) }

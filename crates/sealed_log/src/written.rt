@@ -1,11 +1,12 @@
 // Putting a line behind the bytes of a file.
 
 ghost use Rattle.std.specs.Prelude.{◌≡◌, ◌⊎◌, ◌≤◌, ◌<◌, ℕ, List, length, true, false, IsTrue};
-ghost use Rattle.std.specs.Prelude.{OnErr, OnOk};
+ghost use Rattle.std.specs.Prelude.{IfErr, OnErr, OnOk};
 ghost use Rattle.sqlite_disk.specs.Disk.{MoreFaults, Only};
 ghost use Rattle.sealed_log.specs.Told.{HasTail};
 ghost use Rattle.sealed_log.specs.Disks.{HasJust, IsCaused, IsLostBy, IsTried, LeavesTail};
-ghost use Rattle.sealed_log.specs.Disks.{StaysKept};
+ghost use Rattle.sealed_log.specs.Disks.{NamesCall, StaysKept};
+ghost use Rattle.sealed_log.specs.Faults.{HasFailed};
 ghost use Rattle.sealed_log.specs.Whole.{IsEnd};
 
 use crate::fault::LogFault;
@@ -36,6 +37,7 @@ pub(crate) fn cut<D: Disk>(disk: &mut D, end: usize) -> io::Result<()>
     ensures failed { OnErr result ((D.is_usable disk.new ≡ false)
         ⊎ MoreFaults (D.faults disk.old) (D.faults disk.new)) }
     ensures counts { D.faults disk.old ≤ D.faults disk.new }
+    ensures call { IfErr result (HasFailed D.Disk disk.old disk.new) }
 {
     disk.set_len(end)?;
     disk.sync()
@@ -50,6 +52,7 @@ fn write_line<D: Disk>(disk: &mut D, end: usize, line: &[u8]) -> Written
     ensures clean { IsTrue (D.is_clean disk.new) → IsTrue (D.is_clean disk.old) }
     ensures counts { D.faults disk.old ≤ D.faults disk.new }
     ensures caused { IsCaused D.Disk disk.old disk.new result }
+    ensures word { NamesCall D.Disk disk.old disk.new result }
     ensures lost { IsLostBy D.Disk disk.old disk.new result }
     ensures kept { StaysKept D.Disk disk.new result }
 {
@@ -83,6 +86,8 @@ pub(crate) fn add_line<D: Disk>(disk: &mut D, end: usize, line: &[u8]) -> Writte
     ensures counts { D.faults disk.old ≤ D.faults disk.new }
     ensures caused { IsTrue (D.is_clean disk.new) → IsEnd (D.seen disk.old) end
         → IsCaused D.Disk disk.old disk.new result }
+    ensures word { IsTrue (D.is_clean disk.new) → IsEnd (D.seen disk.old) end
+        → NamesCall D.Disk disk.old disk.new result }
     ensures lost { IsTrue (D.is_clean disk.new) → IsEnd (D.seen disk.old) end
         → IsLostBy D.Disk disk.old disk.new result }
     ensures kept { Only (D.seen disk.old) (D.may_leave disk.old)

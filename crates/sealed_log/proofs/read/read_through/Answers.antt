@@ -1,6 +1,7 @@
 use Rattle.std.proofs.Common.{◌≡◌, ◌∙◌, ◌<◌, ℕ, List, [], ◌∷◌, ◌++◌, IfSome, IsTrue, ap, sym, subst, length, arith}
 use Rattle.sealed_log.specs.Reading.{IsNext, IsStep, told_at}
 use Rattle.sealed_log.specs.Sealed.{IsBody}
+use Rattle.sealed_log.proofs.FaultFacts.{left_by_read, left_met}
 use Rattle.sealed_log.proofs.LineFacts.{IsRead-trans}
 use Rattle.sealed_log.proofs.ReaderFacts.{gone_on, kept_on, kept_through, through}
 use Rattle.sealed_log.proofs.read.read_through.Goals as goal
@@ -27,6 +28,7 @@ lines-preserved g c =
     subst (λ f. IsStep f c.lines.reader c.next.new.self body) before.read.seen step in
     record {
       read = IsRead-trans g.D.Disk c.args.disk.now c.lines.disk c.next.new.disk before.read c.next.ensures.read;
+      counts = let was = before.counts in let more = c.next.ensures.counts in omega (arith, was, more);
       len = λ clean. c.next.ensures.len ∙ before.len (c.next.ensures.read.clean clean);
       counted = let low = before.counted in omega (arith, low, further);
       so_far = λ clean. gone_on seen body c.lines.lines c.lines.reader c.next.new.self (before.so_far (c.next.ensures.read.clean clean)) (stepped clean);
@@ -57,3 +59,15 @@ returns-clause-keeps g c = λ clean.
     let stops = subst (IsNext (g.D.Disk.seen c.lines.disk) c.lines.reader c.next.new.self) c.in_default.is next in
     let none = subst (λ f. told_at c.lines.reader f ≡ []) before.read.seen stops.1 in
     kept_through g.K.Keeps.is_of seen c.lines.lines c.lines.reader c.lines.keeper (before.keeps was) none
+
+pub returns-in_err-len-clause-word : goal.returns-in_err-len-clause-word
+returns-in_err-len-clause-word g c = λ clean.
+    left_by_read g.D.Disk c.args.disk.now c.len.new.self c.from_residual.result c.in_err-len.field-0.0 c.from_residual.ensures.1
+    c.in_err-len.ensures.faults.0 c.len.ensures.tally
+
+pub returns-in_err-body-clause-word : goal.returns-in_err-body-clause-word
+returns-in_err-body-clause-word g c = λ clean.
+    let before = c.lines.invariant in
+    let was = c.next.ensures.read.clean clean in
+    left_met g.D.Disk c.args.disk.now c.lines.disk c.next.new.disk c.from_residual-in_err-body.result c.in_err-body.field-0.0
+    c.from_residual-in_err-body.ensures.1 before.counts (c.in_err-body.ensures.word clean (before.len was ∙ ap length (sym before.read.seen)))

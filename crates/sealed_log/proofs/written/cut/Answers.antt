@@ -1,5 +1,7 @@
-use Rattle.std.proofs.Common.{inr, List, ℕ, sym, subst}
+use Rattle.std.proofs.Common.{inr, List, ℕ, sym, subst, arith}
 use Rattle.sealed_log.proofs.DiskFacts.{crash_in_cut, err_usable, ok_usable, on_err, on_ok, settle_cut}
+use Rattle.sealed_log.proofs.FaultFacts.{left_with, write_failed, write_fails}
+use Rattle.sealed_log.specs.Faults.{HasFailed}
 use Rattle.sqlite_disk.specs.Disk.{Only}
 use Rattle.sealed_log.proofs.written.cut.Goals as goal
 
@@ -31,3 +33,13 @@ returns-in_err-set_len-clause-failed g c = on_err _ _ (inr c.in_err-set_len.ensu
 
 pub returns-clause-failed : goal.returns-clause-failed
 returns-clause-failed g c = err_usable c.sync.result _ _ c.sync.ensures.usable
+
+pub returns-in_err-set_len-clause-call : goal.returns-in_err-set_len-clause-call
+returns-in_err-set_len-clause-call g c =
+    left_with (HasFailed g.D.Disk c.args.disk.now c.set_len.new.self) c.from_residual.result c.in_err-set_len.field-0.0 c.from_residual.ensures.1
+    (write_failed g.D.Disk c.args.disk.now c.set_len.new.self c.in_err-set_len.field-0.0 c.in_err-set_len.ensures.faults.0 c.in_err-set_len.ensures.tally)
+
+pub returns-clause-call : goal.returns-clause-call
+returns-clause-call g c =
+    write_fails g.D.Disk c.args.disk.now c.set_len.new.self c.sync.new.self c.sync.result (omega (arith, c.in_ok-set_len.ensures.faults))
+    c.sync.ensures.faults c.sync.ensures.tally

@@ -1,6 +1,7 @@
-use Rattle.std.proofs.Common.{◌≡◌, ◌+◌, refl, ap, subst, ◌∙◌, arith, length, false, MatchOption}
+use Rattle.std.proofs.Common.{◌≡◌, ◌≤◌, ◌+◌, refl, ap, subst, ◌∙◌, arith, length, false, MatchOption}
 use Rattle.sealed_log.specs.Told.{IsSeal, body_in, is_sealed}
 use Rattle.sealed_log.specs.Lines.{IsFound}
+use Rattle.sealed_log.proofs.FaultFacts.{left_met, without_memory}
 use Rattle.sealed_log.proofs.ReaderFacts.{stepped, stopped, ended}
 use Rattle.sealed_log.proofs.reader.Reader.next.Goals as goal
 
@@ -30,3 +31,18 @@ returns-in-Some-2-clause-next g c = λ clean long.
     let at : old.at + (c.len.result + 1) ≡ old.at + length c.in-Some.line.items + 1 = omega arith in
     stepped seen c.in-Some.line.items c.in_ok-body-in-Some-2.body.items old _ found sealed at
     (c.in_ok-body-in-Some-2.ensures ∙ ap body_in c.deref-in-Some-2.ensures.value)
+
+pub returns-in_err-line-clause-word : goal.returns-in_err-line-clause-word
+returns-in_err-line-clause-word g c = λ clean long.
+    left_met g.D.Disk c.args.disk.now c.args.disk.now c.read_line.new.disk c.from_residual.result c.in_err-line.field-0.0 c.from_residual.ensures.1
+    (omega arith) (c.in_err-line.ensures.word clean long)
+
+pub returns-in_err-seal-in-Some-clause-word : goal.returns-in_err-seal-in-Some-clause-word
+returns-in_err-seal-in-Some-clause-word g c = λ clean long.
+    without_memory g.D.Disk c.args.disk.now c.read_line.new.disk c.from_residual-in_err-seal-in-Some.result
+    c.from_residual-in_err-seal-in-Some.ensures.1
+
+pub returns-in_err-body-in-Some-2-clause-word : goal.returns-in_err-body-in-Some-2-clause-word
+returns-in_err-body-in-Some-2-clause-word g c = λ clean long.
+    without_memory g.D.Disk c.args.disk.now c.read_line.new.disk c.from_residual-in_err-body-in-Some-2.result
+    c.from_residual-in_err-body-in-Some-2.ensures.1
