@@ -1,4 +1,4 @@
-// A set of capabilities.
+//! A set of capabilities.
 
 ghost use Rattle.std.specs.Prelude.{◌≡◌, ◌<◌, ◌^◌, ◌↔◌, ◌==◌, ℕ, List, Some, None, Contains};
 ghost use Rattle.std.specs.Prelude.{IsTrue, IsSome, IfSome, IfNone, map, nat_lt, if◌then◌else◌};

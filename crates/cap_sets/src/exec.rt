@@ -1,4 +1,4 @@
-// What execve makes of a state: capabilities(7), "Transformation of capabilities during execve()".
+//! What execve makes of a state: capabilities(7), "Transformation of capabilities during execve()".
 
 ghost use Rattle.std.specs.Prelude.{◌≡◌, IfOk, IfErr, OnErr};
 ghost use Rattle.cap_sets.specs.NumberSet.{HasExactly};

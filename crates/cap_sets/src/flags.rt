@@ -1,4 +1,4 @@
-// The named bits under a set of capabilities.
+//! The named bits under a set of capabilities.
 
 ghost use Rattle.std.specs.Prelude.{⊤};
 ghost use Rattle.cap_sets.specs.Capability.{cap_table};

@@ -1,4 +1,4 @@
-// The names of the members of a set.
+//! The names of the members of a set.
 
 ghost use Rattle.std.specs.Prelude.{◌≡◌, ◌<◌, Some, slice_get};
 ghost use Rattle.std.specs.Iterator.{YieldsFirstBy, item_count};

@@ -1,4 +1,4 @@
-// The lawful states of a process.
+//! The lawful states of a process.
 
 ghost use Rattle.std.specs.Prelude.{◌≡◌, IfOk};
 ghost use Rattle.std.specs.Result.{result_err};

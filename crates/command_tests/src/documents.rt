@@ -1,4 +1,4 @@
-// Files of documents that end at their limit, fail or never end.
+//! Files of documents that end at their limit, fail or never end.
 
 ghost use Rattle.std.specs.Prelude.{◌≡◌};
 

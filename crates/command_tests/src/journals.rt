@@ -1,4 +1,4 @@
-// Journals: what `verify` prints, a seal that was kept, and journals that can't be gone on with.
+//! Journals: what `verify` prints, a seal that was kept, and journals that can't be gone on with.
 
 use crate::said::{assert_said, assert_said_begins};
 use command_host::{HostJournals, Journals, UnknownFiles};

@@ -1,4 +1,4 @@
-// Documents and answers at their limits, in lines and in files.
+//! Documents and answers at their limits, in lines and in files.
 
 use crate::said::assert_said;
 use said_commands::said;

@@ -1,4 +1,4 @@
-// Offices in files that a command finds in an odd state.
+//! Offices in files that a command finds in an odd state.
 
 use crate::said::assert_said;
 use command_host::Databases;

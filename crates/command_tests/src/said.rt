@@ -1,4 +1,4 @@
-// What the program says, compared.
+//! What the program says, compared.
 
 use said_commands::said;
 use std::process::Abort;

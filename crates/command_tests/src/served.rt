@@ -1,4 +1,4 @@
-// An office in a file, over HTTP.
+//! An office in a file, over HTTP.
 
 use crate::said::assert_said;
 use command_host::Network;

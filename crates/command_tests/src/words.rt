@@ -1,4 +1,4 @@
-// Words that are no command line, help, the stream that each text goes to, and an output that fails.
+//! Words that are no command line, help, the stream that each text goes to, and an output that fails.
 
 use crate::said::{assert_said, assert_said_begins};
 use said_commands::{founding, run_here, said};

@@ -1,4 +1,4 @@
-// Implication between comparisons.
+//! Implication between comparisons.
 
 ghost use Rattle.std.specs.Prelude.{◌≡◌, MatchBool};
 ghost use Rattle.seccomp_doc.specs.Compare.{admits};

@@ -1,4 +1,4 @@
-// Implication between entries.
+//! Implication between entries.
 
 ghost use Rattle.std.specs.Prelude.{◌≡◌, ◌==◌, ◌&&◌, IsTrue};
 ghost use Rattle.std.specs.List.{list_all, list_any};

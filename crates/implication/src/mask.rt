@@ -1,4 +1,4 @@
-// Whether a comparison admits all words that have given bits under a mask.
+//! Whether a comparison admits all words that have given bits under a mask.
 
 ghost use Rattle.std.specs.Prelude.{◌≡◌, bit_and};
 ghost use Rattle.implication.specs.Implication.{TellsAllAdmitted};

@@ -1,4 +1,4 @@
-// Whether a comparison admits all words of a range.
+//! Whether a comparison admits all words of a range.
 
 ghost use Rattle.std.specs.Prelude.{◌≤◌, MatchBool, nat_lt};
 ghost use Rattle.implication.specs.Implication.{TellsAllAdmitted};

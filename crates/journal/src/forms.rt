@@ -1,4 +1,4 @@
-// What the types of a line's parts say of their forms. Nothing is done here but to read them.
+//! What the types of a line's parts say of their forms. Nothing is done here but to read them.
 
 ghost use Rattle.std.specs.Prelude.{◌<◌, ◌^◌, IsUtf8};
 ghost use Rattle.office_policy.specs.Formed.{IsWord, IsRoles, IsName, IsDigest};

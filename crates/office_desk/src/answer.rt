@@ -1,4 +1,4 @@
-// Answers, by what was done.
+//! Answers, by what was done.
 
 ghost use Rattle.std.specs.Prelude.{◌≡◌};
 ghost use Rattle.office_desk.specs.Told.{answer_to, judgement_of};

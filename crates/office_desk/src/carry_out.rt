@@ -1,4 +1,4 @@
-// What was allowed is written.
+//! What was allowed is written.
 
 ghost use Rattle.sqlite.specs.Held.{state};
 ghost use Rattle.review_policy.specs.Role.{has_role};

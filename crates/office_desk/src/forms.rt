@@ -1,5 +1,5 @@
-// What the types of requests and foundings say of the forms of their parts. Nothing is done here
-// but to read them.
+//! What the types of requests and foundings say of the forms of their parts. Nothing is done here
+//! but to read them.
 
 ghost use Rattle.std.specs.Prelude.{◌≡◌, ◌<◌, ◌^◌, true};
 ghost use Rattle.review_policy.specs.Words.{is_token};

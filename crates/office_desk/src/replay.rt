@@ -1,4 +1,4 @@
-// Events that happen again.
+//! Events that happen again.
 
 ghost use Rattle.std.specs.Prelude.{◌≡◌, Some, IfErr, IfOk, option_map};
 ghost use Rattle.sqlite.specs.Held.{state};

@@ -1,4 +1,4 @@
-// Whether the tables show an event.
+//! Whether the tables show an event.
 
 ghost use Rattle.std.specs.Prelude.{◌≡◌, ◌↔◌, true, Some, option_map};
 ghost use Rattle.sqlite.specs.Held.{state};

@@ -1,4 +1,4 @@
-// Baselines of teams.
+//! Baselines of teams.
 
 ghost use Rattle.std.specs.Prelude.{◌≡◌, IfOk, Some, not};
 ghost use Rattle.sqlite.specs.Held.{state};

@@ -1,4 +1,4 @@
-// What the revisions of a team are compared with.
+//! What the revisions of a team are compared with.
 
 ghost use Rattle.std.specs.Prelude.{◌≡◌, IfOk, option_map};
 ghost use Rattle.sqlite.specs.Held.{state};

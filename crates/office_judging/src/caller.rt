@@ -1,4 +1,4 @@
-// What the rules ask of the user who calls.
+//! What the rules ask of the user who calls.
 
 ghost use Rattle.std.specs.Prelude.{◌≡◌, Some, ◌||◌};
 ghost use Rattle.office_tables.specs.Lists.{holds_role};

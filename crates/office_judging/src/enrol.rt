@@ -1,4 +1,4 @@
-// Enrolments.
+//! Enrolments.
 
 ghost use Rattle.std.specs.Prelude.{◌≡◌, Some, IfOk, not};
 ghost use Rattle.sqlite.specs.Held.{state};

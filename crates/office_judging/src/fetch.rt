@@ -1,4 +1,4 @@
-// Profiles as hosts fetch them.
+//! Profiles as hosts fetch them.
 
 ghost use Rattle.std.specs.Prelude.{◌≡◌, Some, not};
 ghost use Rattle.sqlite.specs.Held.{state};

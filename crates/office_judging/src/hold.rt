@@ -1,4 +1,4 @@
-// Holds of profiles, and their release.
+//! Holds of profiles, and their release.
 
 ghost use Rattle.std.specs.Prelude.{IfOk};
 ghost use Rattle.sqlite.specs.Held.{state};

@@ -1,4 +1,4 @@
-// Revisions that are issued.
+//! Revisions that are issued.
 
 ghost use Rattle.std.specs.Prelude.{◌≡◌, Some, false, not, IfOk};
 ghost use Rattle.sqlite.specs.Held.{state};

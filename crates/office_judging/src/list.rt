@@ -1,4 +1,4 @@
-// The profiles of a team.
+//! The profiles of a team.
 
 ghost use Rattle.std.specs.Prelude.{◌≡◌, Some};
 ghost use Rattle.sqlite.specs.Held.{state};

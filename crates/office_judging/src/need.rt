@@ -1,4 +1,4 @@
-// Documents of canonical texts, and how many approvals they need.
+//! Documents of canonical texts, and how many approvals they need.
 
 ghost use Rattle.std.specs.Prelude.{◌≡◌, IfOk};
 ghost use Rattle.office_policy.specs.Documents.{document_of};

@@ -1,5 +1,5 @@
-// The profiles of a team, from one to the next: of each a few entries of indexes are read, and not
-// all its revisions.
+//! The profiles of a team, from one to the next: of each a few entries of indexes are read, and not
+//! all its revisions.
 
 ghost use Rattle.std.specs.Prelude.{◌≡◌, ℕ, List, IfSome, unwrap_or};
 ghost use Rattle.sqlite.specs.Held.{state};

@@ -1,5 +1,5 @@
-// What the rules of those who look ask: of a revision, of its review sheet, of the profiles of a
-// team.
+//! What the rules of those who look ask: of a revision, of its review sheet, of the profiles of a
+//! team.
 
 ghost use Rattle.std.specs.Prelude.{◌≡◌, Some};
 ghost use Rattle.office_policy.specs.Facts.{read_facts};

@@ -1,4 +1,4 @@
-// Why a request isn't carried out.
+//! Why a request isn't carried out.
 
 ghost use Rattle.std.specs.Prelude.{◌≡◌};
 

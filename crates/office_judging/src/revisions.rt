@@ -1,4 +1,4 @@
-// What the rules ask of a revision: its state, and whether a user is an author of its profile.
+//! What the rules ask of a revision: its state, and whether a user is an author of its profile.
 
 ghost use Rattle.std.specs.Prelude.{◌≡◌};
 ghost use Rattle.sqlite.specs.Held.{state};

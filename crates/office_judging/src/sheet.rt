@@ -1,4 +1,4 @@
-// Review sheets of revisions.
+//! Review sheets of revisions.
 
 ghost use Rattle.std.specs.Prelude.{◌≡◌, Some, IfOk, option_map};
 ghost use Rattle.sqlite.specs.Held.{state};

@@ -1,4 +1,4 @@
-// Revisions as they are shown.
+//! Revisions as they are shown.
 
 ghost use Rattle.std.specs.Prelude.{◌≡◌, Some};
 ghost use Rattle.sqlite.specs.Held.{state};

@@ -1,4 +1,4 @@
-// Documents that are handed in.
+//! Documents that are handed in.
 
 ghost use Rattle.std.specs.Prelude.{◌≡◌, ◌<◌, suc, Some, not, IfOk, IfErr};
 ghost use Rattle.sqlite.specs.Held.{state};

@@ -1,4 +1,4 @@
-// Votes on revisions.
+//! Votes on revisions.
 
 ghost use Rattle.std.specs.Prelude.{◌≡◌, IfOk, Some, not};
 ghost use Rattle.sqlite.specs.Held.{state};

@@ -1,4 +1,4 @@
-// Revisions that are taken back.
+//! Revisions that are taken back.
 
 ghost use Rattle.std.specs.Prelude.{◌≡◌, IfOk, Some, not, ◌||◌};
 ghost use Rattle.sqlite.specs.Held.{state};

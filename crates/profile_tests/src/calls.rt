@@ -1,4 +1,4 @@
-// What a filter makes of calls.
+//! What a filter makes of calls.
 
 use profile_text::{Profile, print, read};
 use seccomp_doc::{Action, Filter, action_for};

@@ -1,4 +1,4 @@
-// All implications between comparisons with the least and the greatest words, and some that are worked out.
+//! All implications between comparisons with the least and the greatest words, and some that are worked out.
 
 use seccomp_doc::{Compare, Op};
 use std::alloc::{AllocError, Global};

@@ -1,6 +1,6 @@
-// Filters at their limits and one above: 2,048 entries, 1,024 names in an entry, a canonical text
-// of 262,144 bytes; and the findings between filters at these limits. No more can be reached, since
-// a filter above a limit is refused.
+//! Filters at their limits and one above: 2,048 entries, 1,024 names in an entry, a canonical text
+//! of 262,144 bytes; and the findings between filters at these limits. No more can be reached, since
+//! a filter above a limit is refused.
 
 use crate::told::{assert_found, told};
 use profile_text::digest;

@@ -1,4 +1,4 @@
-// Objects of more members than any that a document may have.
+//! Objects of more members than any that a document may have.
 
 use crate::told::told;
 use std::test::Fail;

@@ -1,4 +1,4 @@
-// Names of architectures and of flags, as calls have them.
+//! Names of architectures and of flags, as calls have them.
 
 use seccomp_doc::{Arch, NameFault, ScmpFlag};
 use std::test::Fail;

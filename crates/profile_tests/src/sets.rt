@@ -1,4 +1,4 @@
-// What no document and no command line shows.
+//! What no document and no command line shows.
 
 use crate::told::told;
 use cap_sets::{Caps, Eperm, File, execve};

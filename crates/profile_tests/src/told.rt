@@ -1,4 +1,4 @@
-// What documents say.
+//! What documents say.
 
 use profile_text::{Document, Profile, fault_text, read, read_with_text};
 use review_sheet::findings_text;

@@ -1,4 +1,4 @@
-// That a profile is wider than another just where there are findings.
+//! That a profile is wider than another just where there are findings.
 
 use profile_text::{Profile, read};
 use std::alloc::Global;

@@ -1,4 +1,4 @@
-// The reader of arguments: the comparisons of an entry.
+//! The reader of arguments: the comparisons of an entry.
 
 ghost use Rattle.std.specs.Prelude.{codes};
 ghost use Rattle.json_tree.specs.View.{items_view, members_view, view};

@@ -1,4 +1,4 @@
-// The canonical text of a profile.
+//! The canonical text of a profile.
 
 ghost use Rattle.std.specs.Prelude.{◌≡◌, IfOk, OnOk, Some, codes, string_bytes};
 ghost use Rattle.profile_text.specs.Text.{caps_data, profile_data, seccomp_data, set_data, text_of};

@@ -1,4 +1,4 @@
-// The reader of `capabilities`.
+//! The reader of `capabilities`.
 
 ghost use Rattle.std.specs.Prelude.{codes, decimal, option_map};
 ghost use Rattle.json_tree.specs.View.{items_view, members_view, view};

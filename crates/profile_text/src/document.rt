@@ -1,4 +1,4 @@
-// The reader of documents.
+//! The reader of documents.
 
 ghost use Rattle.std.specs.Prelude.{◌≡◌, ◌<◌, [], length, Err, IfOk};
 ghost use Rattle.json_tree.specs.View.{members_view, view};

@@ -1,4 +1,4 @@
-// The reader of entries.
+//! The reader of entries.
 
 ghost use Rattle.std.specs.Prelude.{codes, map, string_bytes};
 ghost use Rattle.json_tree.specs.View.{items_view, members_view, view};

@@ -1,4 +1,4 @@
-// Why bytes are no document.
+//! Why bytes are no document.
 
 ghost use Rattle.std.specs.Prelude.{◌≡◌, IfOk, string_bytes};
 ghost use Rattle.profile_text.specs.FaultText.{fault_text_of};

@@ -1,4 +1,4 @@
-// The reader of `seccomp`.
+//! The reader of `seccomp`.
 
 ghost use Rattle.std.specs.Prelude.{codes};
 ghost use Rattle.json_tree.specs.View.{members_view, view};

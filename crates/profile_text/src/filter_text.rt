@@ -1,4 +1,4 @@
-// The canonical text of a filter, written a token at a time.
+//! The canonical text of a filter, written a token at a time.
 
 ghost use Rattle.std.specs.Prelude.{OnOk, Some, codes, map};
 ghost use Rattle.serde_json.specs.Data.{string};

@@ -1,4 +1,4 @@
-// The readers of lists of words: architectures and flags.
+//! The readers of lists of words: architectures and flags.
 
 ghost use Rattle.std.specs.Prelude.{decimal};
 ghost use Rattle.json_tree.specs.View.{items_view, view};

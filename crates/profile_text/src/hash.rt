@@ -1,4 +1,4 @@
-// The digest of a text.
+//! The digest of a text.
 
 ghost use Rattle.std.specs.Prelude.{◌≡◌};
 ghost use Rattle.profile_text.specs.Digest.{digest_of};

@@ -1,4 +1,4 @@
-// What holds of documents and canonical texts, apart from any call.
+//! What holds of documents and canonical texts, apart from any call.
 
 ghost use Rattle.std.specs.Prelude.{◌≡◌, ◌≢◌, ◌↔◌, ◌≤◌, ℕ, List, length, Ok, Err};
 ghost use Rattle.profile_text.specs.declared.profile.Profile.{Profile};

@@ -1,4 +1,4 @@
-// The walk over the members of an object.
+//! The walk over the members of an object.
 
 ghost use Rattle.json_tree.specs.View.{members_view, view};
 ghost use Rattle.profile_text.specs.Reading.{GivesAs, unless_faulty};

@@ -1,4 +1,4 @@
-// Where the objects of a document stand.
+//! Where the objects of a document stand.
 
 use std::fmt;
 

@@ -1,4 +1,4 @@
-// Profiles.
+//! Profiles.
 
 ghost use Rattle.std.specs.Prelude.{◌≡◌};
 

@@ -1,4 +1,4 @@
-// The five capability sets of a document.
+//! The five capability sets of a document.
 
 ghost use Rattle.std.specs.Prelude.{◌≡◌};
 ghost use Rattle.profile_text.specs.Sets.{no_sets, set_name, set_named, with_set};

@@ -1,4 +1,4 @@
-// The readers of numbers, names and texts.
+//! The readers of numbers, names and texts.
 
 ghost use Rattle.std.specs.Prelude.{◌≡◌, decimal, string_bytes};
 ghost use Rattle.serde_json.specs.Data.{string};

@@ -1,4 +1,4 @@
-// Reading a line of a file, piece by piece.
+//! Reading a line of a file, piece by piece.
 
 ghost use Rattle.std.specs.Prelude.{◌≡◌, ◌<◌, ◌≤◌, ◌↔◌, ◌+◌, ◌^◌, length, take, slice_index};
 ghost use Rattle.std.specs.Prelude.{IsTrue, IfErr, IfOk, IfSome, MatchOption};

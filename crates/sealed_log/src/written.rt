@@ -1,4 +1,4 @@
-// Putting a line behind the bytes of a file.
+//! Putting a line behind the bytes of a file.
 
 ghost use Rattle.std.specs.Prelude.{◌≡◌, ◌⊎◌, ◌≤◌, ◌<◌, ℕ, List, length, true, false, IsTrue};
 ghost use Rattle.std.specs.Prelude.{IfErr, OnErr, OnOk};

@@ -1,4 +1,4 @@
-// What becomes of a system call.
+//! What becomes of a system call.
 
 ghost use Rattle.std.specs.Prelude.{◌≡◌, Some, IfOk};
 ghost use Rattle.seccomp_doc.specs.Checks.{Answers, errno_checks, first_fault};

@@ -1,4 +1,4 @@
-// Architectures.
+//! Architectures.
 
 ghost use Rattle.std.specs.Prelude.{◌≡◌};
 ghost use Rattle.std.specs.List.{list_all};

@@ -1,4 +1,4 @@
-// Names of system calls.
+//! Names of system calls.
 
 ghost use Rattle.std.specs.Prelude.{◌≡◌};
 ghost use Rattle.std.specs.List.{list_all};

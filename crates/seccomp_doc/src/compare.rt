@@ -1,4 +1,4 @@
-// Comparisons of one argument of a system call.
+//! Comparisons of one argument of a system call.
 
 ghost use Rattle.std.specs.Prelude.{◌≡◌, Some};
 ghost use Rattle.seccomp_doc.specs.Compare.{admits, is_masked, op_named, op_text};

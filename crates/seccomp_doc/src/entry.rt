@@ -1,4 +1,4 @@
-// Entries of a filter.
+//! Entries of a filter.
 
 ghost use Rattle.std.specs.Prelude.{◌≡◌, ◌≢◌, ◌<◌, ◌==◌, nat_lt, true, false, Some, None, IfOk};
 ghost use Rattle.std.specs.Prelude.{IfErr, All, map, string_bytes};

@@ -1,4 +1,4 @@
-// Why parts are no filter.
+//! Why parts are no filter.
 
 use crate::call_name::CallName;
 use std::alloc::AllocError;

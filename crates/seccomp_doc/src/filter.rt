@@ -1,4 +1,4 @@
-// Filters, and what they mean.
+//! Filters, and what they mean.
 
 ghost use Rattle.std.specs.Prelude.{◌≡◌, ◌≢◌, None, Some, All, IfErr, IfOk, find, flat_map, map};
 ghost use Rattle.std.specs.List.{list_any};

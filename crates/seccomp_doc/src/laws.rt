@@ -1,4 +1,4 @@
-// What the definitions promise by themselves.
+//! What the definitions promise by themselves.
 
 ghost use Rattle.std.specs.Prelude.{◌≡◌, ℕ, List, true, false, Contains};
 ghost use Rattle.std.specs.List.{list_any};

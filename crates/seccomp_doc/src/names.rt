@@ -1,4 +1,4 @@
-// Names that two entries give different actions.
+//! Names that two entries give different actions.
 
 ghost use Rattle.std.specs.Prelude.{◌≡◌, ◌≢◌, ◌||◌, ℕ, List, [], ◌∷◌, ◌++◌, Some, None, IfErr};
 ghost use Rattle.std.specs.Prelude.{IfOk, OnOk, bytes_eq, filter, if◌then◌else◌, not};

@@ -1,4 +1,4 @@
-// The parts that a filter is made of, as a document has them.
+//! The parts that a filter is made of, as a document has them.
 
 use crate::action::ActionWord;
 use crate::arch::Arch;

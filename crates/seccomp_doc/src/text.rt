@@ -1,4 +1,4 @@
-// Texts of a form.
+//! Texts of a form.
 
 ghost use Rattle.std.specs.Prelude.{◌≡◌, true, if◌then◌else◌, Some, None, string_bytes};
 ghost use Rattle.seccomp_doc.specs.Word.{Reads};

@@ -1,4 +1,4 @@
-// What the readers of names share.
+//! What the readers of names share.
 
 ghost use Rattle.std.specs.Prelude.{◌≡◌, ◌&&◌, length, nat_le, nat_lt};
 

@@ -1,4 +1,4 @@
-// Conversations of lines.
+//! Conversations of lines.
 
 use crate::seen::{assert_stops, assert_torn};
 use std::alloc::Global;

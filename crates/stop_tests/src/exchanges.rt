@@ -1,4 +1,4 @@
-// A review over HTTP.
+//! A review over HTTP.
 
 use crate::seen::assert_stops;
 use std::alloc::Global;

@@ -1,4 +1,4 @@
-// The founding of an office.
+//! The founding of an office.
 
 use crate::seen::assert_stops;
 use std::test::Fail;

@@ -1,4 +1,4 @@
-// An office over two files with its journal in a third: each of the three stops in turn.
+//! An office over two files with its journal in a third: each of the three stops in turn.
 
 use std::alloc::Global;
 use std::process::Abort;

@@ -1,4 +1,4 @@
-// The migration of an office of schema 1, and what it is asked then.
+//! The migration of an office of schema 1, and what it is asked then.
 
 use crate::seen::assert_stops;
 use std::alloc::Global;

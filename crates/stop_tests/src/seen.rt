@@ -1,4 +1,4 @@
-// How often a file stopped.
+//! How often a file stopped.
 
 use std::alloc::Global;
 use std::process::Abort;

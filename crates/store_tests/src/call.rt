@@ -1,4 +1,4 @@
-// The calls of a store as lines, and what they answer as text.
+//! The calls of a store as lines, and what they answer as text.
 
 ghost use Rattle.sqlite.specs.Held.{state};
 ghost use Rattle.office_store.specs.Shown.{IsIdle};

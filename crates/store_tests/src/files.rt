@@ -1,4 +1,4 @@
-// What is kept in a file.
+//! What is kept in a file.
 
 use crate::transcript::carry_out;
 use sqlite::Connection;

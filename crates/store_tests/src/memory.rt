@@ -1,5 +1,5 @@
-// Writes that are refused memory, as `rt try --test --fail-alloc N` refuses the Nth allocation of each test. Without a refusal
-// each runs.
+//! Writes that are refused memory, as `rt try --test --fail-alloc N` refuses the Nth allocation of each test. Without a refusal
+//! each runs.
 
 use crate::transcript::said;
 use review_policy::WordFault;

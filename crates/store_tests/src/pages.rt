@@ -1,4 +1,4 @@
-// A database in memory, in pages.
+//! A database in memory, in pages.
 
 use memory_database::{MemoryStore, VolatileFile, open_in_memory};
 use sqlite::{Connection, Error, Row, params};

@@ -1,4 +1,4 @@
-// What stores in memory answer.
+//! What stores in memory answer.
 
 use crate::transcript::carry_out;
 use sqlite::Connection;

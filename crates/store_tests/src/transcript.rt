@@ -1,4 +1,4 @@
-// Transcripts: below each call, which `> ` begins, what the store answers.
+//! Transcripts: below each call, which `> ` begins, what the store answers.
 
 ghost use Rattle.std.specs.Prelude.{◌≡◌, true};
 ghost use Rattle.sqlite.specs.Held.{state};

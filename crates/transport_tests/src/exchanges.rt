@@ -1,4 +1,4 @@
-// Exchanges over HTTP.
+//! Exchanges over HTTP.
 
 mod deadlines;
 mod limits;

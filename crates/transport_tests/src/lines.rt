@@ -1,4 +1,4 @@
-// The desk: lines of requests, and lists of them.
+//! The desk: lines of requests, and lists of them.
 
 mod conversations;
 mod in_step;

@@ -1,4 +1,4 @@
-// The calls of one name in two filters, by the entries as they stand.
+//! The calls of one name in two filters, by the entries as they stand.
 
 ghost use Rattle.std.specs.Prelude.{◌≡◌, ◌∷◌, ◌++◌, ◌||◌, [], List, Some, filter, not};
 ghost use Rattle.std.specs.List.{list_any};

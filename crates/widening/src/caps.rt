@@ -1,4 +1,4 @@
-// Capability sets compared.
+//! Capability sets compared.
 
 ghost use Rattle.std.specs.Prelude.{◌≡◌, ◌<◌, ◌==◌, ◌∷◌, ◌++◌, [], OnOk, if◌then◌else◌, map};
 ghost use Rattle.std.specs.Bool.{OnFalse};

@@ -1,4 +1,4 @@
-// Findings.
+//! Findings.
 
 ghost use Rattle.std.specs.Prelude.{◌≡◌, ℕ, List, IfOk};
 ghost use Rattle.widening.specs.declared.finding.Finding.{Finding};

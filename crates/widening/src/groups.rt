@@ -1,4 +1,4 @@
-// Entries grouped by the names of their calls.
+//! Entries grouped by the names of their calls.
 
 ghost use Rattle.std.specs.Prelude.{◌≡◌, ◌<◌, [], ◌∷◌, Some, filter, length, IfOk, OnOk};
 ghost use Rattle.std.specs.Bool.{OnTrue};

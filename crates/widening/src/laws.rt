@@ -1,4 +1,4 @@
-// What holds of findings, apart from any call.
+//! What holds of findings, apart from any call.
 
 ghost use Rattle.std.specs.Prelude.{◌≡◌, ◌∷◌, [], false, IfSome};
 ghost use Rattle.std.specs.Cmp.Lexicographic.{slice_cmp};

@@ -1,4 +1,4 @@
-// The list of findings.
+//! The list of findings.
 
 ghost use Rattle.std.specs.Prelude.{◌≡◌, ◌<◌, ◌++◌, filter, length, map, IfOk, OnOk};
 ghost use Rattle.widening.specs.Calls.{entry_names, is_permitted_more};

@@ -1,4 +1,4 @@
-// Which entries of one filter imply which of another, asked once a pair.
+//! Which entries of one filter imply which of another, asked once a pair.
 
 ghost use Rattle.std.specs.Prelude.{◌≡◌, ◌<◌, ◌||◌, get_or, length, not, Some, IfOk, OnOk};
 ghost use Rattle.std.specs.List.{list_any};

@@ -1,5 +1,5 @@
-// What the ranks of a name's entries show without a look at their comparisons, and which entries
-// must imply another.
+//! What the ranks of a name's entries show without a look at their comparisons, and which entries
+//! must imply another.
 
 ghost use Rattle.std.specs.Prelude.{◌≡◌, ◌&&◌, ◌∷◌, ◌++◌, [], ℕ, List, ◌≤◌, nat_le};
 ghost use Rattle.std.specs.List.{list_all};

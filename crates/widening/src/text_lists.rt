@@ -1,4 +1,4 @@
-// Lists of texts compared: of architectures, of flags, and of names.
+//! Lists of texts compared: of architectures, of flags, and of names.
 
 ghost use Rattle.std.specs.Prelude.{◌≡◌, ◌&&◌, ◌∷◌, ◌++◌, [], OnOk, if◌then◌else◌, map, not};
 ghost use Rattle.widening.specs.Findings.{arch_findings, is_emptied};

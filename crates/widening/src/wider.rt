@@ -1,4 +1,4 @@
-// The test of a profile against its baseline.
+//! The test of a profile against its baseline.
 
 ghost use Rattle.std.specs.Prelude.{◌≡◌, ◌&&◌, ◌||◌, not, nat_lt};
 ghost use Rattle.std.specs.Bool.{OnFalse};

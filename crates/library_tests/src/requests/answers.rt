@@ -1,4 +1,4 @@
-// Answers as lines and as responses, where no conversation has them.
+//! Answers as lines and as responses, where no conversation has them.
 
 use http_requests::{answer_response, answer_status, memory_response};
 use json_requests::{LineFault, line};

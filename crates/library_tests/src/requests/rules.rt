@@ -1,4 +1,4 @@
-// Rules by facts that no conversation brings about.
+//! Rules by facts that no conversation brings about.
 
 use review_policy::{
     Denial, IssueFacts, Need, Rule, SubmitFacts, decide_issue, decide_submit, need,

@@ -1,4 +1,4 @@
-// Words, texts and sets of roles, as calls have them.
+//! Words, texts and sets of roles, as calls have them.
 
 use review_policy::{Role, Roles, Text, Token, Word, WordFault};
 use std::alloc::{AllocError, Global};

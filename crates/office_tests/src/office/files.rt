@@ -1,4 +1,4 @@
-// An office in a file.
+//! An office in a file.
 
 use crate::office::founded::{founded, reopened};
 use sqlite::Connection;

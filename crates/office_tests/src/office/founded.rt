@@ -1,4 +1,4 @@
-// What an office is asked, once it is founded or opened.
+//! What an office is asked, once it is founded or opened.
 
 ghost use Rattle.std.specs.Prelude.{IfOk};
 ghost use Rattle.sqlite.specs.Held.{state};

@@ -1,4 +1,4 @@
-// Events: whether the tables of an office show one, and that it happens again.
+//! Events: whether the tables of an office show one, and that it happens again.
 
 use office_desk::{Office, Unreplayed};
 use office_policy::Event;

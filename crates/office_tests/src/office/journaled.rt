@@ -1,4 +1,4 @@
-// An office in memory with a journal in memory.
+//! An office in memory with a journal in memory.
 
 use crate::office::openings::run;
 use journal::Journaled;

@@ -1,4 +1,4 @@
-// Offices of schema 1 and without an index, made by statements of the tests' own.
+//! Offices of schema 1 and without an index, made by statements of the tests' own.
 
 ghost use Rattle.sqlite.specs.Held.{state};
 ghost use Rattle.office_store.specs.Shown.{IsIdle};

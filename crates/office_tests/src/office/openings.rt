@@ -1,4 +1,4 @@
-// Stores that an office is founded in or opened over, and stores that refuse it.
+//! Stores that an office is founded in or opened over, and stores that refuse it.
 
 ghost use Rattle.std.specs.Prelude.{IfOk};
 ghost use Rattle.sqlite.specs.Held.{state};

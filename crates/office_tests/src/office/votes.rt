@@ -1,4 +1,4 @@
-// How the votes of a revision count, and who its author is.
+//! How the votes of a revision count, and who its author is.
 
 ghost use Rattle.sqlite.specs.Held.{state};
 ghost use Rattle.office_store.specs.Shown.{IsIdle};

@@ -1,4 +1,4 @@
-// Exchanges until a deadline, by a clock that counts a second more at each look.
+//! Exchanges until a deadline, by a clock that counts a second more at each look.
 
 use crate::exchanges::trial::{Exchange, Trial};
 use desk_http::{Deadline, HttpFault, Timed, Timeouts};

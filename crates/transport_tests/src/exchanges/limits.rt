@@ -1,4 +1,4 @@
-// Documents and answers at their limits, over HTTP.
+//! Documents and answers at their limits, over HTTP.
 
 use crate::exchanges::trial::Trial;
 use std::alloc::{AllocError, Global};

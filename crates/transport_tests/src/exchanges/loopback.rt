@@ -1,4 +1,4 @@
-// Exchanges over loopback.
+//! Exchanges over loopback.
 
 use crate::exchanges::trial::Trial;
 use std::io;

@@ -1,4 +1,4 @@
-// What is answered where memory is refused.
+//! What is answered where memory is refused.
 
 use crate::exchanges::trial::Trial;
 use desk_http::HttpFault;

@@ -1,4 +1,4 @@
-// Clients that wait in the queue of a listener.
+//! Clients that wait in the queue of a listener.
 
 use desk_http::{HttpFault, Listener, Served, Stream, serve_exchanges};
 use http_requests::OfficeRouter;

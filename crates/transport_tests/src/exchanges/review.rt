@@ -1,4 +1,4 @@
-// A review over HTTP.
+//! A review over HTTP.
 
 use crate::exchanges::trial::Trial;
 use std::test::Fail;

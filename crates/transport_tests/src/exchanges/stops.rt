@@ -1,4 +1,4 @@
-// What stands where a reader or a writer fails, and what is answered where they give and take in pieces.
+//! What stands where a reader or a writer fails, and what is answered where they give and take in pieces.
 
 use crate::exchanges::trial::Trial;
 use desk_http::{HttpFault, MAX_READS};

@@ -1,4 +1,4 @@
-// An office in memory, whose exchanges are compared.
+//! An office in memory, whose exchanges are compared.
 
 use desk_http::{HttpFault, Served, serve_one};
 use http_requests::OfficeRouter;

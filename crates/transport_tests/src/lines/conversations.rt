@@ -1,4 +1,4 @@
-// Conversations, from lines to lines.
+//! Conversations, from lines to lines.
 
 use crate::lines::in_step::{Answered, InStep};
 use crate::lines::texts::{FIRST_ANSWERS, FIRST_PATH, first_lines};

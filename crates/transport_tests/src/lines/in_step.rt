@@ -1,4 +1,4 @@
-// A reader that knows how many lines are answered.
+//! A reader that knows how many lines are answered.
 
 use std::cell::Cell;
 use std::io;

@@ -1,4 +1,4 @@
-// The largest of what is listed and shown. That there is no memory needs no cause, so a bound that is too low would be answered so.
+//! The largest of what is listed and shown. That there is no memory needs no cause, so a bound that is too low would be answered so.
 
 use profile_text::digest;
 use std::alloc::Global;

@@ -1,4 +1,4 @@
-// What is answered where memory is refused.
+//! What is answered where memory is refused.
 
 use crate::lines::texts::{FIRST_ANSWERS, FIRST_PATH, SECOND_ANSWERS, first_lines};
 use crate::lines::turns::{WHOLE, take_turn};

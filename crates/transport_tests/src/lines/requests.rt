@@ -1,4 +1,4 @@
-// Lists of requests.
+//! Lists of requests.
 
 use json_requests::{line, read_line};
 use office_policy::Handler;

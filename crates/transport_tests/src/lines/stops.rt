@@ -1,4 +1,4 @@
-// What stands where a reader or a writer stops the desk.
+//! What stands where a reader or a writer stops the desk.
 
 use crate::lines::texts::{
     CANONICAL, CANONICAL_AGAIN, FIRST_ANSWERS, FIRST_PATH, SECOND_ANSWERS, STANDS, SUBMIT,

@@ -1,4 +1,4 @@
-// The request lines and the answer lines of the tests.
+//! The request lines and the answer lines of the tests.
 
 // An author is enrolled by the digest of her token `hello`, hands a profile in and sees it; two others don't see it.
 pub const FIRST_PATH: &str =

@@ -1,4 +1,4 @@
-// Streams that the desk serves in turn.
+//! Streams that the desk serves in turn.
 
 use desk::DeskFault;
 use std::alloc::Global;
