@@ -19,6 +19,6 @@ abbrev pub open_tokens : Members → List Token
 open_tokens no_members = []
 open_tokens (member name d ms) = Token.key name ∷ (tokens_of d ++ open_tokens ms)
 
--- these tokens were written after those that there were
+-- the new tokens are the old ones, with the list's behind them
 pub record Appends (old new : List Token) (ts : List Token) : Type 0 where
   pub tokens : new ≡ old ++ ts

@@ -84,7 +84,7 @@ abbrev pub Gives : {X : Type 0} → Result X DocFault → Result X DocFault → 
 Gives (Ok x) reading = reading ≡ Ok x
 Gives (Err fault) reading = (fault ≡ NoMemory) ⊎ (reading ≡ Err fault)
 
--- the same of a value that is seen by a rule
+-- a reader's value, as a rule sees it, is what is read; out of memory may stand in its place
 abbrev pub GivesAs : {X Y : Type 0} → (X → Y) → Result X DocFault → Result Y DocFault → Type 0
 GivesAs seen (Ok x) reading = reading ≡ Ok (seen x)
 GivesAs seen (Err fault) reading = (fault ≡ NoMemory) ⊎ (reading ≡ Err fault)

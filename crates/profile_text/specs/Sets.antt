@@ -35,7 +35,7 @@ set_in Effective s = s.effective
 set_in Inheritable s = s.inheritable
 set_in Permitted s = s.permitted
 
--- the same sets but for one
+-- the sets with one of them replaced
 abbrev pub with_set : CapSet → ℕ → Sets → Sets
 with_set Ambient caps s = record s { ambient = caps }
 with_set Bounding caps s = record s { bounding = caps }

@@ -1,5 +1,5 @@
--- The canonical text of a profile: compact JSON, with the members of each object in byte order of
--- their names.
+-- The canonical text of a profile: compact JSON, with the members of each object in byte order
+-- of their names.
 use Rattle.std.specs.Prelude.{ℕ, List, [], ◌∷◌, map, codes, Option, Some, None}
 use Rattle.serde_json.specs.Data.{Data, string, number, unsigned, array, object, Members}
 use Rattle.serde_json.specs.Data.{no_members, member}

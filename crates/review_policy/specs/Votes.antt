@@ -2,10 +2,10 @@
 use Rattle.std.specs.Prelude.{Bool, not, ◌&&◌}
 use Rattle.review_policy.specs.declared.revision.VoteRow.{VoteRow}
 
--- it counts and approves
+-- a vote that counts and approves
 abbrev pub is_approval : VoteRow → Bool
 is_approval v = v.counts && v.approve
 
--- it counts and rejects
+-- a vote that counts and rejects
 abbrev pub is_rejection : VoteRow → Bool
 is_rejection v = v.counts && not v.approve

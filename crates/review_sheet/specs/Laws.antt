@@ -34,8 +34,8 @@ pub record CountsBelow (label : List ℕ) (lines : List (List ℕ)) : Type 0 whe
   pub below : List (List ℕ)
   pub whole : lines ≡ above ++ ((label ++ decimal (length (indented_first below))) ∷ below)
 
--- the lines end with those of the votes, and with how many of these say `approve`, and `reject`,
--- and not `lapsed`
+-- the lines end with those of the votes, then how many of these say `approve`, and how many
+-- `reject`
 pub record CountsVotes (lines : List (List ℕ)) : Type 0 where
   pub above : List (List ℕ)
   pub votes : List (List ℕ)

@@ -31,7 +31,7 @@ plain_lines after =
     ∷ set_line (codes "plain ambient") after.ambient
     ∷ []
 
--- the same three after execve by root
+-- three of the sets after execve by root
 abbrev pub root_lines : CapState → List (List ℕ)
 root_lines after =
     set_line (codes "root permitted") after.permitted

@@ -51,6 +51,6 @@ sheet_lines s =
     ++ votes_lines s.votes
     ++ tally_lines s.votes
 
--- its text: the lines, each ended by a line feed
+-- the text of a review sheet: the lines, each ended by a line feed
 unfoldable pub sheet_text : SheetValue → List ℕ
 sheet_text s = joined (sheet_lines s)

@@ -58,6 +58,6 @@ rank_of (actions.Trace number) = 4
 rank_of actions.Log = 5
 rank_of actions.Allow = 6
 
--- the same name and the same number
+-- two actions have one name and one number
 abbrev pub same_action : Action → Action → Bool
 same_action a b = rank_of a == rank_of b && unwrap_or (errno_of a) 0 == unwrap_or (errno_of b) 0

@@ -65,11 +65,11 @@ contradicts name action e = has_name name e && not (same_action e.action action)
 abbrev pub name_check : List EntryValue → Action → List ℕ → Check
 name_check earlier action name = (TwoActions name, list_any (contradicts name action) earlier)
 
--- the same of each name of an entry
+-- the checks of an entry's names, each against the earlier entries
 abbrev pub name_checks : List EntryValue → EntryValue → List Check
 name_checks earlier e = map (name_check earlier e.action) e.names
 
--- the same for all entries, in their order
+-- the checks of the names of all entries, in their order, each against the entries before it
 unfoldable pub all_name_checks : List EntryValue → List EntryValue → List Check
 all_name_checks earlier [] = []
 all_name_checks earlier (e ∷ es) = name_checks earlier e ++ all_name_checks (earlier ++ e ∷ []) es

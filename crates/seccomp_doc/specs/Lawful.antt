@@ -10,7 +10,7 @@ use Rattle.seccomp_doc.specs.Word.{is_call_name}
 use Rattle.seccomp_doc.specs.Filter.{EntryValue, FilterValue}
 use Rattle.seccomp_doc.specs.Meaning.{has_name}
 
--- it is of one of six arguments, of 64 bits, with a second value only where it is masked
+-- a comparison is of one of six arguments, of 64 bits, with a second value only where it is masked
 pub record IsLawfulCompare (c : Compare) : Type 0 where
   pub index : c.index < 6
   pub value : c.value < 2 ^ 64
@@ -26,7 +26,8 @@ has_repeat (n ∷ ns) = list_any (λ m. n == m) ns || has_repeat ns
 abbrev pub IsLawfulAction : Action → Type 0
 IsLawfulAction action = (n : ℕ) → errno_of action ≡ Some n → n < 2 ^ 16
 
--- it has names, all of the form, and compares no argument twice
+-- an entry has names, all of the form, a lawful action, and lawful comparisons, each of another
+-- argument
 pub record IsLawfulEntry (e : EntryValue) : Type 0 where
   pub named : 0 < length e.names
   pub names : All (λ name. is_call_name name ≡ true) e.names

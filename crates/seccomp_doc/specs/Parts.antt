@@ -45,7 +45,7 @@ abbrev pub entry_of : EntryPartsValue → EntryValue
 entry_of e =
     record { names = e.names; action = action_of e.word e.errno; args = map compare_of e.args }
 
--- the same lists in the same order
+-- the filter that the parts make, with the same lists in the same order
 abbrev pub filter_of : FilterPartsValue → FilterValue
 filter_of p = record {
   default = action_of p.default p.default_errno;

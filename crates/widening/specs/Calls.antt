@@ -22,7 +22,7 @@ rules_of name f = record { default = f.default; entries = filter (has_name name)
 abbrev pub entry_rank : EntryValue → ℕ
 entry_rank e = rank_of e.action
 
--- it compares no argument, so it matches every call of its names
+-- an entry compares no argument, so it matches every call of its names
 abbrev pub is_plain : EntryValue → Bool
 is_plain e = length e.args == 0
 
@@ -38,7 +38,8 @@ is_at_most_possible rank rules =
     && (list_any is_plain rules.entries || nat_le rank (rank_of rules.default))
 
 -- an entry permits no more than the baseline's rules: its rank is at most all that a call may have
--- there, or at most those of the baseline's entries while it implies one of them
+-- by these. Else the rank is at most those of the baseline's entries, and the entry implies one of
+-- them.
 abbrev pub is_covered : Rules → EntryValue → Bool
 is_covered base e =
     is_at_most_possible (entry_rank e) base
@@ -62,7 +63,7 @@ is_default_covered base new =
 abbrev pub permits_no_more : Rules → Rules → Bool
 permits_no_more base new = list_all (is_covered base) new.entries && is_default_covered base new
 
--- the same of a name in two filters
+-- a name is permitted no more by the new filter than by the baseline's
 abbrev pub keeps_to : FilterValue → FilterValue → List ℕ → Bool
 keeps_to base new name = permits_no_more (rules_of name base) (rules_of name new)
 

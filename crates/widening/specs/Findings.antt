@@ -30,7 +30,7 @@ is_gained base new n = bit_at new n == 1 && not (bit_at base n == 1)
 unfoldable pub gained : ℕ → ℕ → List ℕ
 gained base new = filter (is_gained base new) (range_with_len 0 41)
 
--- there are some
+-- the new set has a capability that the baseline's hasn't
 unfoldable pub gains : ℕ → ℕ → Bool
 gains base new = list_any (is_gained base new) (range_with_len 0 41)
 

@@ -4,6 +4,6 @@ use Rattle.seccomp_doc.specs.Filter.{EntryValue}
 use Rattle.widening.specs.declared.groups.Group.{Group}
 use Rattle.widening.specs.Groups.{entries_at}
 
--- those at its places
+-- the entries at the places of a group
 abbrev pub entries_in : Group → List EntryValue
 entries_in g = entries_at g.entries.now g.places.now

@@ -10,7 +10,7 @@ IsRow entry others row =
     (place : ℕ) (other : EntryValue) → place < length row →
     IfSome (get_or row place None) (λ told. told ≡ entry_implies entry (get_or others place other))
 
--- the same of a row that has either no place or those of all others
+-- a row tells whether the entry implies others, and has either no place or those of all others
 pub record IsRowOrEmpty (entry : EntryValue) (others : List EntryValue)
     (row : List (Option Bool)) : Type 0 where
   pub tells : IsRow entry others row

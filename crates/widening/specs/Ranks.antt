@@ -28,8 +28,7 @@ pub record AreRanksOf (ranks : Ranks) (rules : Rules) : Type 0 where
 abbrev pub is_in : Span → EntryValue → Bool
 is_in span e = nat_le span.first (entry_rank e) && nat_lt (entry_rank e) span.end
 
--- each entry whose rank is in the span implies one of the others; without a span there is no answer
--- that would do
+-- each entry with a rank in the span implies one of the others; without a span none would do
 abbrev pub do_imply : Option Span → List EntryValue → List EntryValue → Bool
 do_imply None entries others = false
 do_imply (Some span) entries others =

@@ -20,7 +20,7 @@ each_once (text ∷ texts) = text ∷ filter (λ other. not (bytes_eq text other
 abbrev pub added_texts : List (List ℕ) → List (List ℕ) → List (List ℕ)
 added_texts base new = filter (λ text. not (lists base text)) (each_once new)
 
--- there are some
+-- the new list has a text that the baseline's hasn't
 abbrev pub adds_a_text : List (List ℕ) → List (List ℕ) → Bool
 adds_a_text base new = list_any (λ text. not (lists base text)) new
 
