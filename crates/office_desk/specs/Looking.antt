@@ -46,7 +46,7 @@ module _ {X : Type 0} (m : Meaning X) where
     -- a fault has a cause
     pub cause : (h : History) → m.is_of h old → m.is_clean new
         → IfErr result (IsMetBetween old new)
-    -- and without one the office stands
+    -- the office stands where no fault is met
     pub stands : (h : History) → m.is_of h old → m.is_clean new → OnOk result (Stands m h new)
 
   -- what looking back gives of the history was looked for

@@ -18,13 +18,12 @@ use Rattle.office_policy.specs.TablesOf.{tables_of}
 use Rattle.office_desk.specs.Meant.{meaning_over}
 
 module _ {S : Type 0} (g : Ghosts S) where
-  -- there is no office, and where the disk of the connection that is handed back is clean this is
-  -- why
+  -- an office isn't opened for this, where the disk of the connection that is handed back is clean
   abbrev pub IsRefusedFor : {A E : Type 0} → (E → Type 0) → Result A (E × Held S) → Type 0
   IsRefusedFor Why result =
       IfErr result (λ refusal. HasCleanDisk (state g refusal.1) → Why refusal.0)
 
-  -- there is no office, and the connection that is handed back has what it had
+  -- a connection that is handed back without an office has what it had
   abbrev pub IsHandedBack : {A E : Type 0} → Held S → Result A (E × Held S) → Type 0
   IsHandedBack conn result =
       (state g conn).now ≡ (state g conn).committed
@@ -58,7 +57,8 @@ module _ {S : Type 0} (g : Ghosts S) where
       → IsHandled (meaning_over g) office new request answer → HasCleanDisk (state g new)
       → IsAnswer h request answer
 
-  -- and so is each of a list of them, with what was carried out before it
+  -- each of a list of requests is answered as the history has it, with what was carried out
+  -- before it
   abbrev pub AnswersAll : History → Held S → Type 0
   AnswersAll h office =
       (new : Held S) (requests : List Request) (answers : List Answer)

@@ -59,7 +59,7 @@ abbrev pub has_text : Event → Change → Bool
 has_text (submitted caller p text) change = is_text_of (Some text) (added change)
 has_text _ change = true
 
--- there is no ask of a founding; or memory was wanted to make one
+-- a founding has no ask; or memory was wanted to make one
 abbrev pub HasNoAsk : Event → Unreplayed → Type 0
 HasNoAsk e (causes.Denied denial) = ⊥
 HasNoAsk e causes.Founding = caller_of e ≡ None
@@ -121,21 +121,21 @@ module _ {X : Type 0} (m : Meaning X) where
     LeavesWith = OfEach (λ h. (left : m.Left) → m.may_leave new left
         → m.may_leave old left ⊎ (IsAllowed h e × m.are_of (e ∷ h) left))
 
-    -- it was allowed and happened again, and the office stands with it
+    -- the event was allowed and happened again, and the office stands with it
     pub record HasHappened : Type 0 where
       pub survives : Survives m old new
       pub allowed : OfEach (λ h. IsAllowed h e)
       pub stands : OfEach (λ h. Stands m (e ∷ h) new)
       pub crash : LeavesWith
 
-    -- it isn't allowed, for this reason, and nothing was changed
+    -- the event isn't allowed, for this reason, and nothing was changed
     pub record IsRefused (Why : History → Type 0) : Type 0 where
       pub leaves : LeavesAll m old new
       pub why : OfEach Why
       pub never : OfEach (λ h. IsAllowed h e → ⊥)
       pub stands : OfEach (λ h. m.is_open old → Stands m h new)
 
-    -- there was a fault, which has a cause, and the office is what it was
+    -- a fault was met, which has a cause, and the office is what it was
     pub record HasFailed (fault : TheFault) : Type 0 where
       pub survives : Survives m old new
       pub cause : OfEach (λ h. IsCaused old new (λ f. IsAllowed h e × m.refuses old h e f) fault)

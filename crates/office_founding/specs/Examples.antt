@@ -51,7 +51,7 @@ old_columns =
     ∷ (codes "baselines", codes "number")
     ∷ []
 
--- and those that schema 2 adds
+-- the columns that schema 2 adds
 abbrev pub added_columns : List (List ℕ × List ℕ)
 added_columns = (codes "holds", codes "team") ∷ (codes "holds", codes "profile") ∷ []
 

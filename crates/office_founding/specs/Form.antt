@@ -101,9 +101,9 @@ pub record HasForm (old new : State) (listed : ℕ) : Type 0 where
   pub tables : has_tables old.now.schema ≡ true
   pub indexes : has_indexes old.now.schema ≡ true
   pub below : AreCaps listed
-  -- it is the first that the query shows
+  -- the row is the first that the query shows
   pub row : FindsRow OFFICE_ROW.now [] old new (Ok (Some (form_row listed)))
-  -- and it stands in its table, where the tables are those that a founding makes
+  -- the row stands in its table, where the tables are those that a founding makes
   pub stands : old.now.schema ≡ office_schema → HasOfficeRow (old.now.trees 0) listed
 
 -- the key, the number of the schema, which is 1 or 2, and the listed capabilities, as a query shows
@@ -140,13 +140,13 @@ added_by schema =
     then (if has_indexes schema then Ok tt else Err NoIndex)
     else Err (Store NotAnOffice)
 
--- these listed capabilities where all of that is there
+-- the listed capabilities where all that schema 2 adds is there, else what isn't
 abbrev pub listed_where : ℕ → Result (Unit {0}) OpeningFault → Result ℕ OpeningFault
 listed_where listed (Ok there) = Ok listed
 listed_where listed (Err why) = Err why
 
 -- what is answered of the form of the office's row: an office of schema 1 is old, whatever else
--- there is
+-- stands in the schema
 abbrev pub opening_of : Result (Unit {0}) OpeningFault → Result Form Fault
     → Result ℕ OpeningFault
 opening_of added (Err f) = Err (Store f)
@@ -158,20 +158,20 @@ pub record TellsOpening (old new : State) (result : Result ℕ OpeningFault) : T
   pub row : TellsRow OFFICE_ROW.now [] old new TellsNumber form
   pub is : result ≡ opening_of (added_by old.now.schema) form
 
--- the same result, where an office that isn't opened counts as none
+-- the result as a call of the store gives it, where an office that isn't opened counts as none
 abbrev pub as_store : {A : Type 0} → Result A OpeningFault → Result A Fault
 as_store (Ok a) = Ok a
 as_store (Err OldSchema) = Err NotAnOffice
 as_store (Err NoIndex) = Err NotAnOffice
 as_store (Err (Store f)) = Err f
 
--- it is refused for no memory, for the disk, or over a connection that was shut
+-- an opening is refused for no memory, for the disk, or over a connection that was shut
 abbrev pub IsFailure : State → State → OpeningFault → Type 0
 IsFailure old new OldSchema = ⊥
 IsFailure old new NoIndex = ⊥
 IsFailure old new (Store f) = HasFailed old new f
 
--- it is refused by a failure, or since it is of schema 1
+-- an opening is refused by a failure, or since the office is of schema 1
 abbrev pub IsOldOrFailure : OpeningFault → Type 0
 IsOldOrFailure OldSchema = Unit {0}
 IsOldOrFailure NoIndex = ⊥

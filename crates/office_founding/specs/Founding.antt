@@ -58,7 +58,7 @@ founding none office user =
     ∷ statement INSERT_USER.now user
     ∷ []
 
--- the same of this first user and these listed capabilities
+-- the statements of a founding with this first user and these listed capabilities
 abbrev pub founding_office : UserRow → ℕ → List Statement
 founding_office user listed = founding [] (Int (pos listed) ∷ []) (user_row user)
 

@@ -29,12 +29,12 @@ use Rattle.office_store.specs.Shown.{LeavesOnly, LeavesNoMore, MayLeave}
 use Rattle.office_store.specs.Shown.{baseline_in, revision_in, vote_in}
 use Rattle.office_store.specs.Steps.{statement}
 
--- its key, the number of the schema, and the listed capabilities
+-- the row of an office of schema 1: its key, the number of the schema, and the listed capabilities
 abbrev pub old_office_row : ℕ → Row
 old_office_row listed = Int (pos 1) ∷ Null ∷ Int (pos 1) ∷ Int (pos listed) ∷ []
 
--- the database has schema 1, which its trees list and obey, and at each key what the tables have
--- there, which hold no profile
+-- the database has schema 1, which its trees list and obey, and at each key what the tables have,
+-- which hold no profile
 pub record IsOldOffice (db : Database) (t : Tables) : Type 0 where
   pub schema : db.schema ≡ old_schema
   pub sound : IsDatabase db
@@ -58,7 +58,7 @@ pub record ShowsOld (s : State) (t : Tables) : Type 0 where
   pub settled : s.now ≡ s.committed
   pub office : IsOldOffice s.now t
 
--- the same, unless a fault of the disk has shut the connection
+-- the connection shows the tables under schema 1, unless a fault of the disk has shut it
 abbrev pub ShowsOldIfOpen : State → Tables → Type 0
 ShowsOldIfOpen s t = IsTrue s.is_open → ShowsOld s t
 
@@ -74,7 +74,7 @@ pub record IsMigration {A E : Type 0} (old new : State) (result : Result A E) : 
   pub clean : HasCleanDisk new → HasCleanDisk old
   -- no fault is forgotten, and only a fault of the disk shuts the connection
   pub survives : Survives old new (λ _. Unit {0})
-  -- it is done over an open connection, which stays open
+  -- a migration is done over an open connection, which stays open
   pub answered : HasCleanDisk new → OnOk result (IsTrue old.is_open × IsTrue new.is_open)
   -- one that a fault has shut stays shut
   pub shut : HasCleanDisk new → old.is_open ≡ false → new.is_open ≡ false
@@ -86,14 +86,14 @@ pub record IsMigration {A E : Type 0} (old new : State) (result : Result A E) : 
   -- connection
   pub undone : (t : Tables) → ShowsOldIfOpen old t → HasCleanDisk new
       → OnErr result (ShowsOldIfOpen new t)
-  -- and the connection has what it had, whatever that is
+  -- the connection has what it had, whatever that is, where the migration isn't done
   pub same : old.now ≡ old.committed → HasCleanDisk new → OnErr result (IsAsItWas old new)
   -- a crash leaves the tables under schema 1 or under schema 2
   pub crash : (t : Tables) → ShowsOld old t → HasCleanDisk new → (trees : Trees)
       → new.may_leave trees → AreOldOffice trees t ⊎ AreOffice trees t
-  -- it leaves nothing under schema 2 that it couldn't leave before but these tables
+  -- a crash leaves nothing that it couldn't leave before, but these tables under schema 2
   pub adds : (t : Tables) → ShowsOldIfOpen old t → MayLeave old new (λ trees. AreOffice trees t)
-  -- and over a connection that was shut nothing new
+  -- a crash leaves nothing new over a connection that was shut
   pub lost : old.is_open ≡ false → LeavesNoMore old new
 
 -- the table of held profiles, the indexes and the number of the schema
@@ -102,13 +102,13 @@ migration none =
     statement CREATE_HOLDS.now none ∷ statement CREATE_BY_STATE.now none
     ∷ statement CREATE_BY_AUTHOR.now none ∷ statement RENUMBER.now none ∷ []
 
--- it was an office of schema 1
+-- the connection showed the row of an office of schema 1
 abbrev pub WasOld : {S : Type 0} → Ghosts S → Held S → Type 0
 WasOld {S} g old =
     (mid : Held S) × (listed : ℕ) × FindsForm (state g old) (state g mid) (old_form listed)
 
--- the row of the office was found, with schema 1, and then the transaction of the statements met
--- this fault
+-- the row of the office was found, with schema 1, and then the transaction of the statements
+-- met this fault
 pub record MeetsInMigration {S : Type 0} (g : Ghosts S) (old new : Held S) (f : Fault)
     : Type 0 where
   pub mid : Held S
@@ -118,8 +118,8 @@ pub record MeetsInMigration {S : Type 0} (g : Ghosts S) (old new : Held S) (f : 
   pub counts : (state g old).faults ≤ (state g mid).faults
   pub met : HasMet g (migration []) mid new f
 
--- the schema is 2; one of the five tables isn't there; the row of the office isn't found or not of
--- its form; or the schema is 1, and the transaction of the statements met this fault
+-- the schema is 2; or one of the five tables is missing, or the row of the office isn't found
+-- in its form. Else the schema is 1, and the transaction of the statements met this fault
 abbrev pub FailsToMigrate : {S : Type 0} → Ghosts S → (old new : Held S) → MigrationFault → Type 0
 FailsToMigrate g old new AlreadyMigrated =
     (listed : ℕ) × FindsForm (state g old) (state g new) (new_form listed)

@@ -12,7 +12,7 @@ pub record HoldsOffice (image : Image) (t : Tables) : Type 0 where
   pub office : AreOffice trees t
   pub held : ∥ HoldsDatabase image trees ∥₁
 
--- the same of an office of schema 1
+-- a log and a database file hold the trees of these tables under schema 1
 pub record HoldsOldOffice (image : Image) (t : Tables) : Type 0 where
   pub trees : Trees
   pub office : AreOldOffice trees t

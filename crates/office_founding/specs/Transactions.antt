@@ -24,13 +24,13 @@ module _ {S : Type 0} (g : Ghosts S) where
       → OnErr result ((state g new).now ≡ (state g old).committed
       × (state g new).committed ≡ (state g old).committed)
 
-  -- its error is that of a statement, or of the commit
+  -- an error is that of a statement, or of the commit
   abbrev pub FailsWithin : (old new : Held S) → List Statement → Result (Unit {0}) Error → Type 0
   FailsWithin old new statements result =
       HasCleanDisk (state g new) → IfErr result (FailedIn g statements (begun old))
 
-  -- it fails for no memory, for the disk, over a connection that was shut, or since SQLite refuses
-  -- one of them
+  -- a transaction fails for no memory, for the disk, over a connection that was shut, or since
+  -- SQLite refuses a statement
   abbrev pub FailsBetween : (old new : Held S) → List Statement → Result (Unit {0}) Error → Type 0
   FailsBetween old new statements result =
       HasCleanDisk (state g new) → IfErr result (FailsFor g statements old new)
@@ -44,7 +44,7 @@ module _ {S : Type 0} (g : Ghosts S) where
   abbrev pub ShowsOnOk : {E : Type 0} → Held S → Tables → Result (Unit {0}) E → Type 0
   ShowsOnOk new t result = HasCleanDisk (state g new) → OnOk result (Shows (state g new) t)
 
-  -- and a crash leaves them and no others
+  -- a crash leaves these tables and no others, where the transaction is done
   abbrev pub KeepsOnOk : {E : Type 0} → Held S → Tables → Result (Unit {0}) E → Type 0
   KeepsOnOk new t result = HasCleanDisk (state g new) → OnOk result (LeavesOnly (state g new) t)
 

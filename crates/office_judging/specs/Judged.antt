@@ -41,7 +41,7 @@ IsSettled s = (t : Tables) → Shows s t → LeavesOnly s t
 abbrev pub IsKept : State → State → Type 0
 IsKept old new = old.now ≡ old.committed → HasCleanDisk new → IsAsItWas old new
 
--- this holds unless it ends in a fault
+-- a fact holds unless the judging ends in a fault
 abbrev pub UnlessFault : {A : Type 0} → Result A Refusal → Type 0 → Type 0
 UnlessFault (Ok a) P = P
 UnlessFault (Err (refusals.Denied denial fault)) P = P
@@ -74,12 +74,12 @@ pub record Judges {A : Type 0} (old new : State) (result : Result A Refusal)
   pub settled : IsSettled old → IsSettled new
   -- without a fault an open connection stays open
   pub stays : HasCleanDisk new → IsTrue old.is_open → UnlessFault result (IsTrue new.is_open)
-  -- and one that a fault has shut stays shut
+  -- a connection that a fault has shut stays shut
   pub shut : HasCleanDisk new → old.is_open ≡ false → new.is_open ≡ false
   -- the verdict is told
   pub told : (h : History) → IsLawfulHistory h → ShowsIfOpen old (tables_of h) → HasCleanDisk new
       → Tells (Found h) (judge h) result
-  -- and a fault has a cause
+  -- a fault has a cause
   pub cause : (h : History) → IsLawfulHistory h → ShowsIfOpen old (tables_of h) → HasCleanDisk new
       → HasCause old new result
   -- the connection shows the tables still, unless a fault of the disk has shut it
@@ -91,8 +91,8 @@ pub record Judges {A : Type 0} (old new : State) (result : Result A Refusal)
 
 -- ---- what it comes to
 
--- this is allowed to its caller by the verdict, with its reply and the event of its change, and a
--- revision that it adds is the next one
+-- the verdict allows what its caller asks, with this reply and the event of this change; a
+-- revision that is added is the next one
 pub record IsAllowedBy (v : Verdict) (IsCaller : UserRow → Type 0) (h : History) (a : Allowed)
     : Type 0 where
   pub caller : IsCaller a.caller
@@ -117,7 +117,7 @@ JudgesRead old new result caller a =
     Judges old new result (λ h. verdict_of h (Some caller) a)
     (λ h reply. verdict_of h (Some caller) a ≡ accepted reply None)
 
--- or changes something
+-- what this caller asks is judged, and changes something
 abbrev pub JudgesChange : (old new : State) → Result Allowed Refusal → UserRow → Ask → Type 0
 JudgesChange old new result caller a =
     Judges old new result (λ h. verdict_of h (Some caller) a)

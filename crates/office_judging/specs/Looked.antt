@@ -12,7 +12,7 @@ use Rattle.office_policy.specs.Holds.{is_held}
 abbrev pub summary_at : ProfileName → ℕ → History → Option Summary
 summary_at p n h = option_map summary_of (revision_of h p n)
 
--- the same, and whether a user is an author of its profile
+-- a revision without its text, and whether a user is an author of its profile
 abbrev pub authored_at : ProfileName → ℕ → List ℕ → History → Option Summary × Bool
 authored_at p n name h = (summary_at p n h, is_author h p name)
 

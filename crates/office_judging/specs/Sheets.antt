@@ -11,6 +11,6 @@ use Rattle.office_policy.specs.Sheets.{sheet_of}
 abbrev pub sheet_text_of : ProfileName → RevisionRow → History → List ℕ
 sheet_text_of p r h = sheet_text (sheet_of h p r)
 
--- and of the revision of this number, where that is there
+-- the text of the sheet of the revision of this number, where that is there
 abbrev pub sheet_at : ProfileName → ℕ → History → Option (List ℕ)
 sheet_at p n h = option_map (λ r. sheet_text_of p r h) (revision_of h p n)

@@ -7,6 +7,6 @@ use Rattle.office_store.specs.declared.summaries.Summary.{Summary}
 abbrev pub row_of : Summary → RevisionRow
 row_of s = record { number = 0; author = []; state = s.state; body = []; digest = s.digest }
 
--- the same, where there may be none
+-- a revision of this state and digest, where there is one
 abbrev pub as_asked : Option Summary → Option RevisionRow
 as_asked found = option_map row_of found

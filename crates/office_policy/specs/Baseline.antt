@@ -43,7 +43,7 @@ standing_adoption h team (Some b) =
     option_map (λ r. (b.profile, r))
     (unless_withdrawn (revision_of h (record { team = team; profile = b.profile }) b.number))
 
--- that of the last adoption of a team
+-- the revision that a team last adopted, with the name of its profile, where it isn't withdrawn now
 abbrev pub adopted_revision : History → List ℕ → Option (List ℕ × RevisionRow)
 adopted_revision h team = standing_adoption h team (adoption_of h team)
 

@@ -83,7 +83,7 @@ of_own_team =
     ∷ row role role role pass role role
     ∷ []
 
--- and of another team
+-- each row is a kind of request, in the order above: of another team
 abbrev pub of_other_team : List (List (Result ⊤ Denial))
 of_other_team =
     row pass role role role role role

@@ -21,7 +21,7 @@ use Rattle.office_policy.specs.Teams.{team_of}
 
 -- ---- by which role
 
--- those who look at the revisions of every team
+-- the roles that look at the revisions of every team
 abbrev pub onlookers : List Role
 onlookers = Reviewer ∷ Security ∷ Issuer ∷ []
 

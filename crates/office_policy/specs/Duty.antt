@@ -67,7 +67,7 @@ pub record AreOfTheText (h : History) (p : ProfileName) (n : ℕ) : Type 0 where
 
 -- ---- how many
 
--- there are as many approvals as the need asks for, and one with security where it asks for that
+-- the approvals are as many as the need asks for, one with security where it asks for that
 pub record AreEnough (h : History) (p : ProfileName) (n : ℕ) : Type 0 where
   pub count : approvals_of (need_at h p n) ≤ length (approvals h p n)
   pub secured : need_at h p n ≡ TwoWithSecurity → 0 < length (secure_approvals h p n)
@@ -91,8 +91,8 @@ pub record IsPlainRevision (h : History) (p : ProfileName) (n : ℕ) : Type 0 wh
 
 -- ---- what is given out
 
--- a document was handed in that reads as a profile, whose canonical text becomes the next revision;
--- its digest is given
+-- a document that reads as a profile was handed in; its canonical text becomes the next
+-- revision, and the digest of that is given
 pub record IsSubmission
     (h : History) (caller : List ℕ) (a : Ask)
     (digest : List ℕ) (n : ℕ) (e : Option Event) : Type 0 where

@@ -212,7 +212,7 @@ decision h who a = first_denial (rules_of h (user_of h who) a)
 abbrev pub told : History → List ℕ → Ask → Verdict
 told h who a = verdict_of h (user_of h who) a
 
--- the same of an issue of a revision with this need
+-- the first rule that refuses a user's issue of a revision with this need, if any
 abbrev pub issue_by : List ℕ → History → Need → ℕ → Result ⊤ Denial
 issue_by who h need n =
     first_denial
@@ -227,12 +227,13 @@ issue h need n = issue_by iss h need n
 abbrev pub approving : ℕ → Ask
 approving n = ask.Vote web n (9 ∷ []) true
 
--- and of what ann submits for a team, where it is no document
+-- the first rule that refuses what ann submits for a team, where that is no document
 abbrev pub submitting_none : History → List ℕ → Result ⊤ Denial
 submitting_none h team =
     first_denial (submit_rules (submit_facts (user_of h ann) team (Err TooLong) None 0))
 
--- and of a vote by rev on an open revision whose digest is 9, that names a digest
+-- the first rule that refuses rev's vote naming a digest, on an open revision with the digest 9, if
+-- any
 abbrev pub vote_naming : List ℕ → Result ⊤ Denial
 vote_naming digest =
     first_denial (vote_rules (vote_facts (user_of office rev) (Some row) false digest))

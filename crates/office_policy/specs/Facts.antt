@@ -86,8 +86,8 @@ module _ (caller : Option UserRow) where
     other_bytes = not (has_digest revision digest);
   }
 
-  -- of an issue: the revision, whether the caller is an author of its profile, its votes, its need,
-  -- and whether it is held
+  -- of an issue: the revision, whether the caller is an author of its profile, its votes, its
+  -- need, and whether it is held
   abbrev pub issue_facts : Option RevisionRow → (author : Bool) → Tally → Need → (held : Bool)
       → IssueFacts
   issue_facts revision author tally need held = record {

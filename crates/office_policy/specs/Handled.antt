@@ -22,13 +22,13 @@ only_reads (ask.List team) = true
 only_reads (ask.Fetch p) = true
 only_reads _ = false
 
--- this holds where nothing was changed: what was asked was refused, met a fault, or only reads
+-- a fact holds where nothing was changed: what was asked was refused, met a fault, or only reads
 abbrev pub UnlessChanged : Ask → Answer → Type 0 → Type 0
 UnlessChanged a (Done reply) P = IsTrue (only_reads a) → P
 UnlessChanged a (Denied denial fault) P = P
 UnlessChanged a (Fault fault) P = P
 
--- this holds where no fault was answered
+-- a fact holds where no fault was answered
 abbrev pub UnlessFaulty : Answer → Type 0 → Type 0
 UnlessFaulty (Done reply) P = P
 UnlessFaulty (Denied denial fault) P = P
@@ -50,7 +50,8 @@ module _ {X : Type 0} (m : Meaning X) where
   RefusesEvent x h (accepted reply None) fault = ⊥
   RefusesEvent x h (denied denial told) fault = ⊥
 
-  -- it failed or refused a call between the two, or refuses what the request is to write
+  -- a call failed or was refused between the two, or what the request is to write is refused
+  -- with this fault
   abbrev pub IsMet : (old new : X) → History → Request → TheFault → Type 0
   IsMet old new h request fault =
       HasRisen (m.faults old) (m.faults new) ⊎ RefusesEvent old h (verdict h request) fault
@@ -60,7 +61,7 @@ module _ {X : Type 0} (m : Meaning X) where
   IsUnwritten old new =
       m.keeps old new × ((left : m.Left) → m.may_leave new left → m.may_leave old left)
 
-  -- there was no memory before anything was written, or for what the request is to write
+  -- memory was lacking before anything was written, or for what the request is to write
   abbrev pub LacksMemory : (old new : X) → History → Request → Type 0
   LacksMemory old new h request =
       IsUnwritten old new ⊎ RefusesEvent old h (verdict h request) faults.NoMemory
@@ -86,7 +87,7 @@ module _ {X : Type 0} (m : Meaning X) where
   abbrev pub LeavesOnly : History → X → Type 0
   LeavesOnly h x = (left : m.Left) → m.may_leave x left → m.are_of h left
 
-  -- it is open, and a crash leaves what it is
+  -- the office is that of the history, is open, and a crash leaves just that
   pub record Stands (h : History) (x : X) : Type 0 where
     pub is_of : m.is_of h x
     pub is_open : m.is_open x
@@ -111,9 +112,9 @@ module _ {X : Type 0} (m : Meaning X) where
     -- only a fault shuts it, or a stray event
     pub closes : m.is_clean new → m.is_open old
         → m.is_open new ⊎ HasRisen (m.faults old) (m.faults new) ⊎ HasStray new
-    -- and what is open was open before
+    -- an office that is open was open before
     pub shut : m.is_clean new → m.is_open new → m.is_open old
-    -- which stays
+    -- a stray stays one
     pub stays : (e : Event) → m.is_stray e old → m.is_stray e new
 
   -- a request was handled, and answered by this
@@ -121,7 +122,7 @@ module _ {X : Type 0} (m : Meaning X) where
     pub survives : Survives old new
     -- the answer is that of the verdict, or a fault of memory, of the disk or of room on it
     pub answer : (h : History) → m.is_of h old → m.is_clean new → IsAnswer h request told
-    -- and a fault has a cause
+    -- a fault has a cause
     pub cause : (h : History) → m.is_of h old → m.is_clean new → HasCause old new h request told
     -- only a fault shuts it; or the event of the verdict, where that is a stray and a fault is answered
     pub closes : (h : History) → m.is_of h old → m.is_clean new → m.is_open old
@@ -131,7 +132,7 @@ module _ {X : Type 0} (m : Meaning X) where
     pub approved : (h : History) → m.is_of h old → m.is_clean new → GivesOutApproved h request told
     -- the office is of the history with the event of what was carried out
     pub office : (h : History) → m.is_of h old → m.is_of (history_after h request told) new
-    -- and stands so where no fault was answered
+    -- the office stands of this history where no fault was answered
     pub stands : (h : History) → m.is_of h old → m.is_clean new
         → UnlessFaulty told (Stands (history_after h request told) new)
     -- where nothing was changed it has what it had, whatever that is

@@ -19,8 +19,8 @@ event_meant (events.Adopted caller name revision) = adopted caller name revision
 event_meant (events.Held caller name) = held caller name
 event_meant (events.Released caller name) = released caller name
 
--- what happens by a change that a user of this name asks for: the text of a submission is that of
--- its revision
+-- what happens by a change that a user of this name asks for; the text of a submission is that of
+-- the revision
 abbrev pub event_by : (caller : List ℕ) → Change → Event
 event_by caller (changes.Enrol user) = enrolled caller user.name user.team user.roles user.digest
 event_by caller (changes.AddRevision p row) = submitted caller p row.body

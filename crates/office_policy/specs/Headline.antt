@@ -61,8 +61,8 @@ pub record IsOfApproved (h : History) (r : Request) (digest : List ℕ) : Type 0
   pub of_its_text : digest ≡ digest_of text
   pub approved : IsApproved h (name_of (user_showing h (digest_of r.token))) profile number text
 
--- what was asked for is a fetch, and on the events before an earlier issue of the revision just
--- this text was approved
+-- what was asked for is a fetch, and just this text was approved, on the events before an earlier
+-- issue of the revision
 pub record WasApproved (h : History) (a : Ask) (digest text : List ℕ) (n : ℕ) : Type 0 where
   pub profile : ProfileName
   pub asked : a ≡ ask.Fetch profile

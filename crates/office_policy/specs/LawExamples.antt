@@ -27,7 +27,7 @@ each_event p =
 
 -- ---- approvals by the digest of the text
 
--- this name approves the first revision, and names the digest of its text
+-- a vote of this name that approves the first revision, naming the digest of its text
 abbrev pub names_text : List ℕ → Event
 names_text who = voted who web 1 (digest_of text) true
 
@@ -53,7 +53,7 @@ author_approves_text = submits ben ∷ names_text sue ∷ names_text ben ∷ one
 abbrev pub sue_shows : (roles : ℕ) (token : List ℕ) → History
 sue_shows roles token = has_roles sue roles (digest_of token) ∷ office
 
--- that the profile is held
+-- the request, with this token, that the profile is held
 abbrev pub asks_hold : (token : List ℕ) → Request
 asks_hold token = record { token = token; ask = ask.Hold web }
 

@@ -18,8 +18,8 @@ IsFounding (founded name team digest listed) =
     IsWord name × IsWord team × IsDigest digest × (listed < 2 ^ 41)
 IsFounding _ = ⊥
 
--- the event is that of what a user of then may ask: it has the forms, and the policy allows it to
--- that user on the events before it
+-- the event is that of what a user of then may ask: of the forms, and allowed to that user on the
+-- events before
 pub record IsAllowed (before : History) (e : Event) : Type 0 where
   pub caller : UserRow
   pub enrolled : user_of before caller.name ≡ Some caller
@@ -55,7 +55,7 @@ HadToken before e =
     (name : List ℕ) (user : UserRow) → caller_of e ≡ Some name → user_of before name ≡ Some user
     → IsOfToken user.digest
 
--- and so each time
+-- each event of the history was asked for by one who had a token to show
 abbrev pub AllHadTokens : History → Type 0
 AllHadTokens [] = Unit {0}
 AllHadTokens (e ∷ before) = HadToken before e × AllHadTokens before

@@ -18,7 +18,7 @@ module _ {X : Type 0} (m : Meaning X) where
       Before left ⊎ AreWithEvent m h (verdict h r) left
   LeftAfterOne Before h r answer left = m.are_of (history_after h r answer) left
 
-  -- the same of requests that were answered one after the other
+  -- what may be left after requests that were answered one after the other
   abbrev pub LeftAfter : (m.Left → Type 0) → History → List Request → List Answer → m.Left → Type 0
   LeftAfter Before h (request ∷ requests) (answer ∷ answers) =
       LeftAfter (LeftAfterOne Before h request answer) (history_after h request answer)
@@ -36,6 +36,7 @@ module _ {X : Type 0} (m : Meaning X) where
     pub told : slice_get answers at ≡ Some (answered.Fault fault)
     pub with_event : AreWithEvent m h (verdict h request) left
 
-  -- it is the office of the history, or of that with one event more
+  -- what is left is the office of the history, or of that with one event more of a request answered
+  -- by a fault
   abbrev pub AreLeft : History → List Request → List Answer → m.Left → Type 0
   AreLeft h requests answers left = m.are_of h left ⊎ AreOfFaulty h requests answers left

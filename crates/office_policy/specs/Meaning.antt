@@ -12,14 +12,14 @@ pub record Meaning (X : Type 0) : Type 1 where
   pub is_open : X → Type 0
   -- how many times what it keeps its tables in has failed or refused, up to the greatest u64
   pub faults : X → ℕ
-  -- over what it has, what it keeps its tables in refuses, with this fault, to write the event after
-  -- this history; with `memory`, it may have none to write that
+  -- what it keeps its tables in refuses, over what it has, to write the event after this history,
+  -- with this fault. With `memory`, it may have none for that
   pub refuses : X → History → Event → Fault → Type 0
-  -- it is the office of this history, unless it is shut
+  -- the value is the office of this history, unless it is shut
   pub is_of : History → X → Type 0
   -- the second has what the first had, unless it is shut
   pub keeps : X → X → Type 0
-  -- this event is a stray: it was written down, didn't happen, and couldn't be struck out
+  -- the event is a stray: it was written down, didn't happen, and couldn't be struck out
   pub is_stray : Event → X → Type 0
   -- what may be left of it after a crash, and when that is the office of a history
   pub Left : Type 0

@@ -17,7 +17,7 @@ NoneChanged (r ∷ requests) (Denied denial fault ∷ answers) = NoneChanged req
 NoneChanged (r ∷ requests) (Fault fault ∷ answers) = NoneChanged requests answers
 NoneChanged _ _ = Unit {0}
 
--- this holds where there is a last answer, and it is no fault
+-- a fact holds where there is a last answer, which is no fault
 abbrev pub UnlessLastFaulty : List Answer → Type 0 → Type 0
 UnlessLastFaulty [] P = Unit {0}
 UnlessLastFaulty (answer ∷ []) P = UnlessFaulty answer P
@@ -41,11 +41,11 @@ pub record HaveRun
   pub survives : Survives m old new
   -- each answer is that of the verdict on what was carried out before it, or a fault
   pub answers : (h : History) → m.is_of h old → m.is_clean new → Took h requests told
-  -- and each was handled as it is alone, so that each fault has a cause
+  -- each request was handled as it is alone, so that each fault has a cause
   pub each : HandlesEach m old new requests told
   -- the office is of the history with the events of all that was carried out
   pub office : (h : History) → m.is_of h old → m.is_of (history_after_all h requests told) new
-  -- and stands so where the last answer is no fault
+  -- the office stands of this history where the last answer is no fault
   pub stands : (h : History) → m.is_of h old → m.is_clean new
       → UnlessLastFaulty told (Stands m (history_after_all h requests told) new)
   -- where nothing was changed it has what it had, whatever that is

@@ -36,8 +36,8 @@ IsAnswer h r (Fault faults.Full) = Unit {0}
 IsAnswer h r (Fault faults.NotAnOffice) = ⊥
 IsAnswer h r answer = answer ≡ answer_of (verdict h r)
 
--- there is one answer to each request: the policy's, on the requests that were accepted before it,
--- or a fault
+-- each request has one answer: the policy's, on the requests that were accepted before it, or a
+-- fault
 abbrev pub Took : History → List Request → List Answer → Type 0
 Took h [] [] = Unit {0}
 Took h (request ∷ requests) (answer ∷ answers) =

@@ -7,7 +7,7 @@ use Rattle.sqlite_resolve.specs.declared.compiled.Compiled.{Compiled}
 use Rattle.review_policy.specs.declared.fault.Fault.{Fault}
 use Rattle.review_policy.specs.declared.fault.Fault.TheVariants.{NotAnOffice}
 
--- it is no write with RETURNING
+-- a text is no write with RETURNING, whatever the schema
 abbrev pub IsQuery : List ℕ → Type 0
 IsQuery sql = (schema : Schema) (c : Compiled) → understood schema sql ≡ Ok c → c.returning ≡ None
 

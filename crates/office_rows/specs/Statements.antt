@@ -42,7 +42,7 @@ module _ {S : Type 0} (g : Ghosts S) where
       ⊎ ((mid : Held S) × (count : ℕ)
       × ExecutesInside 0 s.sql s.params (state g h) (state g mid) (Ok count) × FailedIn ss mid e)
 
-  -- this fault is that of a statement of a transaction, or of its commit
+  -- a fault is that of a statement of a transaction, or of its commit
   pub record IsCause (statements : List Statement) (h : Held S) (f : Fault) : Type 0 where
     pub error : Error
     pub failed : FailedIn statements (begun h) error
@@ -69,7 +69,7 @@ module _ {S : Type 0} (g : Ghosts S) where
   FailsFor statements old new e =
       HasFailed (state g old) (state g new) (fault_of_error e) ⊎ RefusedIn statements (begun old) e
 
-  -- it refuses a statement of the transaction with this fault
+  -- SQLite refuses a statement of the transaction with this fault
   pub record Refuses (statements : List Statement) (h : Held S) (f : Fault) : Type 0 where
     pub error : Error
     pub refused : RefusedIn statements (begun h) error

@@ -23,7 +23,8 @@ abbrev pub IsReadAs : {X R : Type 0} → (X → R) → (X → Type 0) → R → 
 IsReadAs encode IsFormed row (Ok x) = row ≡ encode x
 IsReadAs encode IsFormed row (Err f) = IsUnread encode IsFormed row f
 
--- the same, where there may be none
+-- a row, where there is one, is read as the value that it is the row of; where there is none, none
+-- is read
 abbrev pub TellsOne : {X R : Type 0} → (X → R) → (X → Type 0) → Option R
     → Result (Option X) Fault → Type 0
 TellsOne encode IsFormed None result = result ≡ Ok None
@@ -31,7 +32,7 @@ TellsOne encode IsFormed (Some row) (Ok (Some x)) = row ≡ encode x
 TellsOne encode IsFormed (Some row) (Ok None) = ⊥
 TellsOne encode IsFormed (Some row) (Err f) = IsUnread encode IsFormed row f
 
--- the same, where there must be one
+-- a row is read as the value that it is the row of; where there is none, the tables are no office's
 abbrev pub TellsOnly : {X R : Type 0} → (X → R) → (X → Type 0) → Option R
     → Result X Fault → Type 0
 TellsOnly encode IsFormed None result = result ≡ Err NotAnOffice
@@ -70,7 +71,7 @@ pub record TellsRow {A : Type 0} (sql : List ℕ) (params : Row) (old new : Stat
   pub found : FindsRow sql params old new row
   pub told : IsTold Tells row result
 
--- the same of all rows
+-- the result is of all rows that the query found, or the fault that SQLite named
 pub record TellsRows {A : Type 0} (sql : List ℕ) (params : Row) (old new : State)
     (Tells : List Row → Result A Fault → Type 0) (result : Result A Fault) : Type 0 where
   pub rows : Result (List Row) Fault

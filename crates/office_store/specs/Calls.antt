@@ -31,7 +31,7 @@ pub record IsRead {A : Type 0} (old new : State) (result : Result A Fault)
   pub leaves : Leaves old new result
   -- the answer is that of the tables that the connection shows
   pub found : (t : Tables) → ShowsIfOpen old t → HasCleanDisk new → IfOk result (Found t)
-  -- it fails for no memory, for the disk, or over a connection that was shut
+  -- a read fails for no memory, for the disk, or over a connection that was shut
   pub cause : (t : Tables) → ShowsIfOpen old t → HasCleanDisk new → IfErr result (HasFailed old new)
   -- the connection shows them still, unless a fault of the disk has shut it
   pub shown : (t : Tables) → ShowsIfOpen old t → HasCleanDisk new → ShowsIfOpen new t
@@ -50,17 +50,17 @@ pub record IsWrite {A : Type 0} (old new : State) (result : Result A Fault)
   -- where it isn't, it shows the old ones, unless a fault of the disk has shut it
   pub undone : (t : Tables) → ShowsIfOpen old t → HasCleanDisk new
       → OnErr result (ShowsIfOpen new t)
-  -- and has what it had, whatever that is
+  -- a connection has what it had, whatever that is, where the write isn't done
   pub same : old.now ≡ old.committed → HasCleanDisk new → OnErr result (IsAsItWas old new)
-  -- it never reports the tables as no office's
+  -- a write never reports the tables as no office's
   pub formed : (t u : Tables) → ShowsIfOpen old t → Makes t u → HasCleanDisk new
       → result ≢ Err NotAnOffice
   -- a crash leaves what it could leave before, or the new tables
   pub crash : (t u : Tables) → ShowsIfOpen old t → Makes t u
       → MayLeave old new (λ trees. AreOffice trees u)
-  -- and over a connection that was shut nothing new
+  -- a crash leaves nothing new over a connection that was shut
   pub lost : old.is_open ≡ false → LeavesNoMore old new
 
--- this change, of whatever tables
+-- a change makes the second tables of the first, whatever these are
 abbrev pub Into : (Tables → Tables) → Tables → Tables → Type 0
 Into change t u = u ≡ change t

@@ -52,7 +52,7 @@ module _ {S : Type 0} (g : Ghosts S) where
       → (Tables → Tables → Type 0) → Type 0
   Writes old new result Makes = IsWrite (state g old) (state g new) result Makes
 
-  -- its fault is one that the transaction of these statements met
+  -- a call's fault is one that the transaction of these statements met
   abbrev pub MeetsOnErr : {A : Type 0} → (old new : Held S) → List Statement
       → Result A Fault → Type 0
   MeetsOnErr old new statements result =

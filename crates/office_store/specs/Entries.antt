@@ -79,7 +79,7 @@ pub record VoteKey : Type 0 where
   pub number : ℕ
   pub voter : List ℕ
 
--- that of this voter on a revision
+-- the key of this voter's vote on a revision
 abbrev pub vote_key : ProfileName → ℕ → List ℕ → VoteKey
 vote_key p n voter = record { profile = p; number = n; voter = voter }
 
@@ -116,7 +116,7 @@ pub record IsVote (e : VoteEntry) : Type 0 where
 abbrev pub BaselineEntry : Type 0
 BaselineEntry = List ℕ × Baseline
 
--- that a revision is for its team
+-- the entry that makes a revision the baseline of its team
 abbrev pub baseline_entry : ProfileName → ℕ → BaselineEntry
 baseline_entry p n = (p.team, record { profile = p.profile; number = n })
 

@@ -47,7 +47,7 @@ statements_of (puts_baseline p n) = putting_baseline p n
 statements_of (puts_hold p) = holding p
 statements_of (deletes_hold p) = releasing p
 
--- it makes the second tables of the first
+-- a write makes the second tables of the first
 abbrev pub Makes : Write → Tables → Tables → Type 0
 Makes (puts_user u) = Into (with_user u)
 Makes (adds_revision p r) = Adds p r
@@ -69,8 +69,8 @@ tree_of (puts_baseline p n) = 8
 tree_of (puts_hold p) = 10
 tree_of (deletes_hold p) = 10
 
--- the rows that it may write into a table with these rows: a new one, whose rowid SQLite chooses,
--- and of revisions each that is there, in another state
+-- the rows that a write may put into a table with these rows: a new one, whose rowid SQLite
+-- chooses. Of revisions also each that is there, in another state
 abbrev pub rows_of : Write → List Row → List Row
 rows_of (puts_user u) rows = (Null ∷ user_row u) ∷ []
 rows_of (adds_revision p r) rows = (Null ∷ revision_row (p, r)) ∷ rows
@@ -112,7 +112,8 @@ module _ {S : Type 0} (g : Ghosts S) (w : Write) where
     pub refused : RefusedForPlace (statements_of w) (begun h) error
     pub fault : f ≡ fault_of_error error
 
-  -- or there is no memory for one of its statements or for their commit
+  -- a write is stopped by this fault: a row has no place, or a statement or the commit has no
+  -- memory
   abbrev pub Stops : Held S → Fault → Type 0
   Stops h NoMemory = IsCause g (statements_of w) h NoMemory
   Stops h Disk = LacksPlaceFor h Disk

@@ -17,7 +17,7 @@ use Rattle.office_store.specs.Entries.{Revision, revision_key, revision_row, IsR
 use Rattle.office_store.specs.Entries.{same_vote, vote_key, vote_row, IsVote, BaselineEntry}
 use Rattle.office_store.specs.Entries.{baseline_row, IsBaseline, hold_row}
 
--- its key, the number of the schema, and the listed capabilities
+-- the row of an office: its key, the number of the schema, and the listed capabilities
 abbrev pub office_row : ℕ → Row
 office_row listed = Int (pos 1) ∷ Null ∷ Int (pos 2) ∷ Int (pos listed) ∷ []
 
@@ -81,7 +81,7 @@ pub record Shows (s : State) (t : Tables) : Type 0 where
   pub settled : s.now ≡ s.committed
   pub office : IsOffice s.now t
 
--- the same, unless a fault of the disk has shut the connection
+-- the connection shows the tables, unless a fault of the disk has shut it
 abbrev pub ShowsIfOpen : State → Tables → Type 0
 ShowsIfOpen s t = IsTrue s.is_open → Shows s t
 
