@@ -3,7 +3,7 @@ use Rattle.std.specs.Prelude.{ℕ, zero, suc, ◌+◌, ◌-◌, ◌*◌, ◌/◌
 use Rattle.std.specs.Prelude.{nat_le, if◌then◌else◌, List, [], ◌∷◌, ◌++◌, length, take, bytes_eq, codes}
 use Rattle.database_head.specs.Numbers.{long_at, short_at}
 
--- so many bytes of a file say how far it goes
+-- how many bytes of a file say how far it goes
 abbrev pub head_bytes : ℕ
 head_bytes = 100
 
@@ -20,7 +20,7 @@ abbrev pub begins_database : List ℕ → Bool
 begins_database head =
     nat_le head_bytes (length head) && bytes_eq (take 16 head) header_text
 
--- those of a log
+-- bytes that begin a file are those of a log
 abbrev pub begins_log : List ℕ → Bool
 begins_log head = nat_le 56 (length head)
     && (long_at head 0 == 0x377f_0682 || long_at head 0 == 0x377f_0683)

@@ -111,10 +111,10 @@ answer_data (Denied denial fault) =
     object (answer_members (codes "denied") (denied_members denial fault))
 answer_data (Fault fault) = object (answer_members (codes "fault") (fault_members fault))
 
--- its text, with no space
+-- the text of an answer, with no space
 unfoldable pub answer_text : Answer → List ℕ
 answer_text answer = compact_text (answer_data answer)
 
--- its line: the text, and a line feed
+-- the line of an answer: the text, and a line feed
 unfoldable pub line_of : Answer → List ℕ
 line_of answer = answer_text answer ++ 10 ∷ []

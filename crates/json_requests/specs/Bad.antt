@@ -16,10 +16,10 @@ bad_data word =
     object (member (codes "answer") (string (codes "bad"))
     (member (codes "word") (string word) no_members))
 
--- its text
+-- the text of the answer that names a word as bad
 unfoldable pub bad_text : List ℕ → List ℕ
 bad_text word = compact_text (bad_data word)
 
--- its text, and a line feed
+-- the line that answers a bad line: the text that names its word, and a line feed
 unfoldable pub bad_line : BadLine → List ℕ
 bad_line bad = bad_text (bad_word bad) ++ 10 ∷ []

@@ -18,7 +18,7 @@ CopyStore = FileStore VolatileFile memory_disk
 abbrev pub over_copy : Ghosts CopyStore
 over_copy = over_files
 
--- it was just opened, and has the database that a log and a file with these bytes hold
+-- a connection was just opened, and has the database that a log and a file with these bytes hold
 pub record IsCopyOf (log database : List ℕ) (conn : Held CopyStore) : Type 0 where
   pub fresh : IsNew conn
   pub opened : IsOpened conn

@@ -14,7 +14,7 @@ memory_error Full = OutOfMemory
 memory_error Broken = Broken
 memory_error Unstorable = Unstorable
 
--- so it is where a database is opened
+-- an error of the disk is want of memory where a database is opened
 abbrev pub opening_error : Error → Error
 opening_error (SqliteFailure code.SystemIoFailure) = SqliteFailure code.OutOfMemory
 opening_error (SqliteFailure code.DiskFull) = SqliteFailure code.OutOfMemory

@@ -46,7 +46,7 @@ MemoryStore = InMemory (FileStore VolatileFile memory_disk)
 abbrev pub over_memory : Ghosts MemoryStore
 over_memory = over over_files
 
--- it was just made, and lists no table
+-- a store was just made, and lists no table
 pub record HasNoTable (it : MemoryStore) : Type 0 where
   pub fresh : IsFresh (over_memory.view it)
   pub is_open : IsTrue (over_memory.view it).is_open

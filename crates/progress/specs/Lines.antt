@@ -2,7 +2,7 @@
 use Rattle.std.specs.Prelude.{ℕ, List, ◌++◌, ◌/◌, codes, decimal, max}
 use Rattle.progress.specs.declared.line.ReadSoFar.{ReadSoFar}
 
--- so many whole megabytes
+-- the number of whole megabytes, in digits
 abbrev pub megabytes : ℕ → List ℕ
 megabytes bytes = decimal (bytes / 1_000_000)
 

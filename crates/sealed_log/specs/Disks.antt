@@ -8,7 +8,7 @@ use Rattle.sealed_log.specs.declared.written.Written.{Written}
 use Rattle.sealed_log.specs.declared.written.Written.TheVariants.{Whole, Undone, Lost}
 
 module _ {D : Type 0} (g : Ghosts D) where
-  -- it was read, and nothing else
+  -- the disk was read, and nothing else was done
   pub record IsRead (old new : D) : Type 0 where
     pub seen : g.seen new ≡ g.seen old
     pub usable : IsTrue (g.is_usable new)
@@ -40,7 +40,7 @@ module _ {D : Type 0} (g : Ghosts D) where
     pub usable : IsTrue (g.is_usable disk)
     pub settled : Only (g.seen disk) (g.may_leave disk)
 
-  -- it can be used on, unless it isn't known what a crash leaves
+  -- the disk can be used on, unless it isn't known what a crash leaves
   abbrev pub StaysKept : D → Written → Type 0
   StaysKept disk Whole = IsKept disk
   StaysKept disk (Undone fault) = IsKept disk

@@ -5,12 +5,12 @@ use Rattle.std.specs.declared.alloc.Global.{Global}
 use Rattle.streams.specs.Lines.{NoFeed}
 use Rattle.sealed_log.specs.Told.{IsUnended}
 
--- these bytes stand at `at`, in the line that begins there
+-- a part of a line, without a line feed, stands in the bytes at `at`
 pub record IsPart (bytes : List ℕ) (at : ℕ) (line : List ℕ) : Type 0 where
   pub is : drop at bytes ≡ line ++ drop (at + length line) bytes
   pub one : NoFeed line
 
--- these are the whole line
+-- a whole line, and behind it a line feed, stands in the bytes at `at`
 pub record IsLine (bytes : List ℕ) (at : ℕ) (line : List ℕ) : Type 0 where
   pub is : drop at bytes ≡ line ++ 10 ∷ drop (at + length line + 1) bytes
   pub one : NoFeed line

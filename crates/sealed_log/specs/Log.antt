@@ -24,8 +24,8 @@ module _ {D : Type 0} (g : Ghosts D) where
   abbrev pub bodies_of : SealedLog D g → List (List ℕ)
   bodies_of log = told (g.seen log.disk)
 
-  -- it has one body more, and before it those that go before that; or there was a fault, and if it is
-  -- still open it has what it had
+  -- the log has the settling bodies and one more; or a fault was met, and a log that is still open
+  -- has what it had
   abbrev pub IsAppended : (old new : SealedLog D g) → (settling : List (List ℕ)) → (body : List ℕ)
       → Result ⊤ LogFault → Type 0
   IsAppended old new settling body (Ok done) =

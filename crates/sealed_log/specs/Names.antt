@@ -9,6 +9,6 @@ pub record IsCollision (a b : List ℕ) : Type 0 where
   pub differ : a ≢ b
   pub same : encode_lower (sha256 a) ≡ encode_lower (sha256 b)
 
--- or one whose digest has only zeros
+-- two messages with one digest, or a message whose digest has only zeros
 abbrev pub HasClash : Type 0
 HasClash = ((a : List ℕ) × (b : List ℕ) × IsCollision a b) ⊎ ((a : List ℕ) × (encode_lower (sha256 a) ≡ no_seal))

@@ -12,7 +12,7 @@ use Rattle.sealed_log.specs.declared.through.Through.{Through}
 abbrev pub told_at : Reader → List ℕ → List (List ℕ)
 told_at reader bytes = told_behind reader.seal (drop reader.at bytes)
 
--- it read the next body
+-- the reader read the next body
 pub record IsStep (bytes : List ℕ) (old new : Reader) (body : List ℕ) : Type 0 where
   pub is_body : IsBody body
   pub told : told_at old bytes ≡ body ∷ told_at new bytes
@@ -20,7 +20,7 @@ pub record IsStep (bytes : List ℕ) (old new : Reader) (body : List ℕ) : Type
   pub seal : new.seal ≡ seal_on old.seal body
   pub at : new.at ≡ old.at + length (sealed_line old.seal body)
 
--- it read the next body, or stands where what is sealed ends
+-- the reader read the next body, or stands where what is sealed ends
 abbrev pub IsNext : List ℕ → Reader → Reader → Option (Vec ℕ Global) → Type 0
 IsNext bytes old new None = (new ≡ old) × (told_at old bytes ≡ [])
 IsNext bytes old new (Some body) = IsStep bytes old new body.items

@@ -15,7 +15,7 @@ is_sealed prior line =
     nat_lt (length line) longest
     && bytes_eq line (wrapped (body_in line) (seal_on prior (body_in line)))
 
--- it has this seal
+-- the line is sealed, and has this seal
 pub record IsSeal (prior line seal : List ℕ) : Type 0 where
   pub long : 83 ≤ length line
   pub holds : is_sealed prior line ≡ true
@@ -46,7 +46,7 @@ pub record IsUnended (bytes : List ℕ) : Type 0 where
   pub none : NoFeed front
   pub ends : (rest ≡ []) ⊎ (longest ≤ length front)
 
--- these bytes with a tail of so many at most, whatever that is
+-- the file has these bytes and a tail of so many at most, whatever that is
 pub record HasTail (bytes : List ℕ) (most : ℕ) (file : List ℕ) : Type 0 where
   pub tail : List ℕ
   pub short : length tail ≤ most

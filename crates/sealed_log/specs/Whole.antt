@@ -3,11 +3,11 @@ use Rattle.std.specs.Prelude.{◌≡◌, ◌-◌, ◌^◌, ℕ, min, List, lengt
 use Rattle.sealed_log.specs.Sealed.{sealed_text, seal_of}
 use Rattle.sealed_log.specs.Told.{told}
 
--- so many bytes, or more than a usize counts
+-- how many bytes the file has, or the greatest usize where that is more
 abbrev pub IsEnd : List ℕ → ℕ → Type 0
 IsEnd file end = end ≡ min (length file) (2 ^ 64 - 1)
 
--- it tells so many bodies, or more than a u64 counts
+-- how many bodies the file tells, or the greatest u64 where that is more
 abbrev pub HasLines : List ℕ → ℕ → Type 0
 HasLines file lines = lines ≡ min (length (told file)) (2 ^ 64 - 1)
 

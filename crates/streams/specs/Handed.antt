@@ -14,7 +14,7 @@ pub record Handed (held : Held) (before now : Option (List ℕ)) (lines : List (
   pub lines_are : lines ≡ lines_of whole
   pub holds : Holds held rest
 
--- the same lines were handed out, whichever they are
+-- the lines that were handed out stay the same, whichever they are
 abbrev pub KeepsHanded : (old new : Held) (was now : Option (List ℕ)) → Type 0
 KeepsHanded old new was now = (before : Option (List ℕ)) (lines : List (List ℕ)) →
     Handed old before was lines → Handed new before now lines

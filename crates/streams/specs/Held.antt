@@ -26,7 +26,7 @@ abbrev pub IsDropped : Bool → List ℕ → Type 0
 IsDropped false front = front ≡ []
 IsDropped true front = NoFeed front × (300000 < length front)
 
--- it stands for these bytes of the stream
+-- what is held stands for these bytes of the stream
 pub record Holds (held : Held) (bytes : List ℕ) : Type 0 where
   pub front : List ℕ
   pub parts : bytes ≡ front ++ held.bytes

@@ -21,7 +21,7 @@ abbrev pub after_line : List ℕ → List ℕ
 after_line [] = []
 after_line (b ∷ bytes) = if b == 10 then bytes else after_line bytes
 
--- there is no line feed
+-- the bytes have no line feed
 abbrev pub NoFeed : List ℕ → Type 0
 NoFeed bytes = All (λ b. b ≢ 10) bytes
 

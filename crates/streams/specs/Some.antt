@@ -27,7 +27,7 @@ SomeFaults old new End = new ≡ old
 SomeFaults old new Failed = new ≡ one_more old
 SomeFaults old new TooManyReads = new ≡ old
 
--- there was a call, and none past those that are allowed; all of these were made where that is
+-- a call was made, and none past those that are allowed; all allowed ones were made where that is
 -- reported
 abbrev pub SomeCalls : (old new most : ℕ) → SomeRead → Type 0
 SomeCalls old new most (Bytes n) = (old < new) × (new ≤ most)
