@@ -7,11 +7,11 @@ use Rattle.journal.specs.Journal.{IsJournalOf, Says}
 use Rattle.journal.specs.Lines.{happened, strike, done, text_of}
 use Rattle.journal.specs.Writing.{IsLeftIn}
 
--- these bodies, and that of an event
+-- the bodies, and behind them that of an event's line
 abbrev pub with_event : List (List ℕ) → Event → List (List ℕ)
 with_event bodies e = bodies ++ text_of (happened e) ∷ []
 
--- and that of the line that strikes it out
+-- the bodies, and behind them those of an event's line and of the one that strikes it out
 abbrev pub with_struck : List (List ℕ) → Event → List (List ℕ)
 with_struck bodies e = with_event bodies e ++ text_of strike ∷ []
 

@@ -33,7 +33,7 @@ IsFormed (happened e) = HasForms e
 IsFormed strike = Unit {0}
 IsFormed (done n) = n < 2 ^ 64
 
--- so has the one that a line names
+-- the revision that a line's event names, where one is, has a number from 1 to 9,999
 abbrev pub IsNumbered : Line → Type 0
 IsNumbered (happened e) = HasNumber e
 IsNumbered strike = Unit {0}

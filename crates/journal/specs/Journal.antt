@@ -53,7 +53,7 @@ pub record IsJournalOf (text : List ℕ) (h : History) : Type 0 where
   pub is : text ≡ sealed_text bodies
   pub says : Says bodies h
 
--- it is, and this is its seal
+-- the text is the journal of the history, and has this seal
 pub record IsSealedJournal (text : List ℕ) (h : History) (seal : List ℕ) : Type 0 where
   pub journal : IsJournalOf text h
   pub sealed : seal ≡ seal_of journal.bodies

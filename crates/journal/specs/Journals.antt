@@ -18,7 +18,7 @@ use Rattle.journal.specs.declared.journaled.Journaled.{Journaled}
 use Rattle.journal.specs.Begun.{IsLeftOf, done_bodies, with_event}
 use Rattle.journal.specs.Writing.{Writing, IsAppended, IsLeftIn}
 
--- the same journal with another office
+-- the journal, as it stands, with another office
 abbrev pub with_office : {O J : Type 0} → Journaled O J → O → Journaled O J
 with_office x office = record {
   office = office;
@@ -65,7 +65,7 @@ unsettled w x =
     else if w.lines x.journal == 2 ^ 64 - 1 then None else Some (w.lines x.journal)
 
 module _ {O J : Type 0} (m : Meaning O) (w : Writing J) where
-  -- its journal is open, and has no event that didn't happen
+  -- the journal is open, and has no event that didn't happen
   abbrev pub goes_on : Journaled O J → Bool
   goes_on x = w.is_open x.journal && not x.has_stray
 
@@ -73,7 +73,7 @@ module _ {O J : Type 0} (m : Meaning O) (w : Writing J) where
   abbrev pub is_clean : Journaled O J → Type 0
   is_clean x = m.is_clean x.office × w.is_clean x.journal
 
-  -- it is the office of a history, and its journal says that history
+  -- the office is that of a history, and its journal says that history
   pub record IsOf (h : History) (x : Journaled O J) : Type 0 where
     pub office : m.is_of h x.office
     pub says : is_clean x → IsTrue (goes_on x) → Says (w.bodies x.journal) h
@@ -81,8 +81,8 @@ module _ {O J : Type 0} (m : Meaning O) (w : Writing J) where
     pub ends : is_clean x → IsTrue (goes_on x) → x.is_settled ≡ false
         → EndsWithEvent (w.bodies x.journal)
 
-  -- where the journal goes on it went on before, and has what it had, and behind that at most events
-  -- that are struck out, and what says of the ones before them that they are carried out
+  -- a journal that goes on went on before, and has what it had. Behind that stand at most events that
+  -- are struck out, and the done lines that come before them
   abbrev pub KeepsJournal : (old new : Journaled O J) → Type 0
   KeepsJournal old new = IsTrue (goes_on new)
       → IsTrue (goes_on old) × HasStruck (w.bodies old.journal) (w.bodies new.journal)
@@ -92,8 +92,8 @@ module _ {O J : Type 0} (m : Meaning O) (w : Writing J) where
   LeavesOffice x left =
       m.may_leave x.office left ⊎ ((h : History) → IsOf h x → m.are_of h left)
 
-  -- what a crash may leave of the journal; or, while that goes on, the journal of each history that
-  -- it is of, or such a one with one event more that was begun
+  -- what a crash may leave of the journal. While that goes on, also what may be left of the journal of
+  -- each history that the office is of
   abbrev pub LeavesFile : Journaled O J → List ℕ → Type 0
   LeavesFile x file =
       w.may_leave x.journal file
@@ -169,14 +169,15 @@ module _ {O J : Type 0} (m : Meaning O) (w : Writing J) where
     pub bodies : w.is_clean new.journal
         → w.bodies new.journal ≡ w.bodies old.journal ++ text_of strike ∷ []
 
-  -- or couldn't be: the line of its strike met a fault
+  -- the event of the last line couldn't be struck out: the line of its strike met a fault
   pub record IsHalfStruck (old new : Journaled O J) : Type 0 where
     pub stands : StandsStill old new
     pub stray : new.has_stray ≡ true
     pub fault : Fault
     pub append : IsAppended w old.journal new.journal [] (text_of strike) (Err fault)
 
-  -- or wasn't: its request wasn't allowed again, so the office may not stand as it did
+  -- the event of the last line wasn't struck out: its request wasn't allowed again, and the office may not
+  -- stand as it did
   pub record IsStray (r : Request) (old new : Journaled O J) : Type 0 where
     pub stray : new.has_stray ≡ true
     pub journal : new.journal ≡ old.journal
@@ -210,7 +211,7 @@ module _ {O J : Type 0} (m : Meaning O) (w : Writing J) where
     -- can be counted
     pub settled : OnOk result (IsTrue (goes_on old) → IsTrue (goes_on new)
         × ((new.is_settled ≡ true) ⊎ (2 ^ 64 - 1 ≤ w.lines old.journal)))
-    -- it has what it had, or one line more; after a fault what still goes on has what it had
+    -- the journal has what it had, or one line more; after a fault one that goes on has what it had
     pub bodies : w.is_clean new.journal → IsTrue (goes_on new)
         → HasSettled (w.bodies old.journal) (w.bodies new.journal)
     pub failed : IfErr result (λ fault. w.is_clean new.journal → IsTrue (goes_on new)

@@ -33,7 +33,7 @@ pub record Settled (bodies : List (List ℕ)) (settled : History) (held : Option
   pub are : bodies ≡ map text_of lines
   pub by : settled_from 0 [] None lines ≡ Some (settled, held)
 
--- these are the writers of what the bodies settle, and this event is held back
+-- the writers are those of what the bodies settle, and this event is held back
 pub record IsKept (bodies : List (List ℕ)) (writers : Writers) (held : Option Event) : Type 0 where
   pub settled : History
   pub says : Settled bodies settled held
@@ -69,11 +69,11 @@ abbrev pub keeps_by : Option Faulty → List (List ℕ) → Kept → Type 0
 keeps_by None bodies k = IsKept bodies (writers_meant k.settled) (held k.reader)
 keeps_by (Some fault) bodies k = IsFaulty bodies fault
 
--- so much is kept of bodies
+-- what is kept of bodies: the writers and the event that is held back, or the fault of a line
 abbrev pub keeps : List (List ℕ) → Kept → Type 0
 keeps bodies k = keeps_by k.fault bodies k
 
--- and is told in the end
+-- what is told of bodies in the end: the writers and the event that is held back, or the fault of a line
 abbrev pub EndsAs : List (List ℕ) → Result (TheWriters × Option values.Event) Faulty → Type 0
 EndsAs bodies (Ok (writers, event)) =
     IsKept bodies (writers_meant writers) (option_map event_meant event)

@@ -15,8 +15,8 @@ use Rattle.journal.specs.Lines.{Line, done, text_of}
 abbrev pub held : Reader → Option Event
 held r = option_map event_meant r.held
 
--- the text is that of a line with its forms, behind so many lines, by which this event stands and
--- that one is held back
+-- the text is that of a line with its forms, behind so many lines, by which this event
+-- stands and that one is held back
 pub record IsTaken (before : ℕ) (old new : Option Event) (text : List ℕ) (stands : Option Event)
     : Type 0 where
   pub line : Line

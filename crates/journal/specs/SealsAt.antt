@@ -10,7 +10,8 @@ abbrev pub IsSealAt : ℕ → List (List ℕ) → Option (List ℕ) → Type 0
 IsSealAt line bodies (Some seal) = (line ≤ length bodies) × (seal ≡ seal_of (take line bodies))
 IsSealAt line bodies None = length bodies < line
 
--- so many lines were taken, which have this seal: it is kept just where it is asked for
+-- the seal of the lines that were taken is kept just where their number is the one that is asked
+-- for
 pub record Sees (old new : SealAt) (taken : ℕ) (seal : List ℕ) : Type 0 where
   pub line : new.line ≡ old.line
   pub there : taken ≡ old.line → new.seal ≡ seal
@@ -33,6 +34,6 @@ pub record HasSeen (bytes : List ℕ) (p : Place) (kept : SealAt) : Type 0 where
   pub sealed : p.seal ≡ seal_of bodies
   pub at : kept.line ≤ length bodies → kept.seal ≡ seal_of (take kept.line bodies)
 
--- so it is of these bytes, where they are known
+-- what was taken and kept up to the place is of these bytes, where they are known
 abbrev pub IsSeen : Option (List ℕ) → Place → SealAt → Type 0
 IsSeen bytes p kept = IfSome bytes (λ text. HasSeen text p kept)

@@ -24,8 +24,8 @@ abbrev pub standing : ℕ → Option Event → List (ℕ × Event)
 standing number None = []
 standing number (Some e) = (number, e) ∷ []
 
--- the events that stand by these lines, the oldest first, each with the number of its line from 1;
--- so many lines came before, of the last of which an event may be held back
+-- the events that stand by these lines, the oldest first, each with the number of its line from 1.
+-- Before them came so many lines, and an event may be held back of the last
 abbrev pub told : ℕ → Option Event → List Line → Option (List (ℕ × Event))
 told before held [] = Some (standing before held)
 told before held (line ∷ lines) =
@@ -43,8 +43,8 @@ held_after before held [] = Some held
 held_after before held (line ∷ lines) =
     option_and_then (λ t. held_after (before + 1) t.1 lines) (taken before held line)
 
--- how far a journal was read: how many lines were taken, the event that is held back, the seal of
--- these lines, and the bytes that are left, where they are known
+-- how far a journal was read: how many lines, the event held back, the seal of the lines, and the bytes
+-- left, where known
 pub record Place : Type 0 where
   pub taken : ℕ
   pub held : Option Event
@@ -133,10 +133,10 @@ pub record HasOnEvent (prior bytes : List ℕ) : Type 0 where
   pub is_body : IsBody body
   pub on : IsOnEvent body
 
--- why no line is taken of bytes, behind so many lines: the first line is too long, its body is none, or
--- it says of another line than the one before that it is carried out; it says something of the event
--- before it, and there is none; it isn't sealed; or the bytes end within it; when the input fails, or
--- memory, no contract can say
+-- why no line is taken of bytes, behind so many lines. The first line is too long, has no line's
+-- body, or says of another than the line before that it is carried out. Or it says something of the
+-- event before, and none is held back. Or it isn't sealed, or the bytes end within it. Of failing
+-- input or memory no contract can say when.
 abbrev pub CannotTake : Unreadable → ℕ → Option Event → (prior bytes : List ℕ) → Type 0
 CannotTake NotALine before held prior bytes =
     HasOther prior bytes ⊎ IsTooLong bytes ⊎ HasOtherNumber before prior bytes
@@ -173,7 +173,7 @@ abbrev pub Stops : Place → ℕ → Unreadable → Type 0
 Stops p after fault =
     IfSome p.left (λ bytes. IsStopped p.taken p.held p.seal bytes after fault)
 
--- these events are the first ones, and then what is left at the place tells
+-- all events are these first ones, and then those that what is left at the place tells
 pub record IsThen (p : Place) (first all : List (ℕ × Event)) : Type 0 where
   pub bytes : List ℕ
   pub left : p.left ≡ Some bytes
@@ -181,8 +181,8 @@ pub record IsThen (p : Place) (first all : List (ℕ × Event)) : Type 0 where
   pub tells : IsTold p.taken p.held p.seal bytes rest
   pub parts : all ≡ first ++ rest
 
--- from the old place on all is told, after these events, that is told from the new one on, of all
--- that is left or up to a place, and nothing else; and where it stops from there it stops from here
+-- the old place tells these events, and then just what the new one tells, to the end or up to a later
+-- place. Reading from the old place stops where it stops from the new one
 pub record GoesOn (old new : Place) (first : List (ℕ × Event)) : Type 0 where
   pub tells : (es : List (ℕ × Event)) → Tells new es → Tells old (first ++ es)
   pub begins : (later : Place) (es : List (ℕ × Event)) → Begins new later es

@@ -1,5 +1,5 @@
--- Of each table of an office the newest event that wrote to it, by which one sees whether tables are
--- those of a history.
+-- Of each table of an office the newest event that wrote to it, by which one sees whether tables
+-- are those of a history.
 use Rattle.std.specs.Prelude.{[], ◌∷◌, Box, Option, Some, None, option_map}
 use Rattle.std.specs.declared.alloc.Global.{Global}
 use Rattle.office_tables.specs.Tables.{Tables}
@@ -49,7 +49,7 @@ with_writer_to Holds e w = record w { holds = Some e }
 abbrev pub with_writer : Event → Writers → Writers
 with_writer e w = with_writer_to (table_of e) e w
 
--- those of a history
+-- the writers of a history
 abbrev pub writers_of : History → Writers
 writers_of [] = no_writers
 writers_of (e ∷ before) = with_writer e (writers_of before)

@@ -9,7 +9,7 @@ use Rattle.office_policy.specs.Handled.{HasRisen}
 
 -- what is meant by a value to which the bodies of sealed lines are written
 pub record Writing (X : Type 0) : Type 1 where
-  -- it has returned what was written to it
+  -- the value has returned what was written to it
   pub is_clean : X → Type 0
   -- the bodies that it has
   pub bodies : X → List (List ℕ)
@@ -24,7 +24,7 @@ pub record Writing (X : Type 0) : Type 1 where
   -- of an open one those are just its bodies, sealed
   pub settled : (x : X) → is_clean x → IsTrue (is_open x) → (left : List ℕ) → may_leave x left
       → left ≡ sealed_text (bodies x)
-  -- and its lines are so many
+  -- the lines of an open one are as many as its bodies, up to the greatest u64
   pub counted : (x : X) → is_clean x → IsTrue (is_open x)
       → lines x ≡ min (length (bodies x)) (2 ^ 64 - 1)
 
@@ -53,7 +53,7 @@ module _ {X : Type 0} (w : Writing X) where
       (w.is_clean new → IsTrue (w.is_open new) → w.bodies new ≡ w.bodies old)
       × (w.is_clean new → IsMet old new fault)
 
-  -- it was open, and these lines are left behind its bodies, or a part of them
+  -- the value was open, and these lines are left behind its bodies, or a part of them
   pub record IsLeftInPart (x : X) (settling : List (List ℕ)) (body file : List ℕ) : Type 0 where
     pub is_open : IsTrue (w.is_open x)
     pub left : IsLeftIn (w.bodies x) settling body file

@@ -42,7 +42,7 @@ pub record SaysNow (h : History) (bodies : List (List ℕ)) : Type 0 where
   pub tables : HasTablesOf h now
   pub says : Says bodies now
 
--- they say the history, and behind that one event more, which the policy allows then
+-- the bodies say the history, and behind that one event more, which the policy allows then
 pub record IsOneMore (h : History) (bodies : List (List ℕ)) (e : Event) : Type 0 where
   pub before : List (List ℕ)
   pub says : Says before h
@@ -50,7 +50,7 @@ pub record IsOneMore (h : History) (bodies : List (List ℕ)) (e : Event) : Type
   pub forms : HasForms e
   pub is : bodies ≡ with_event before e
 
--- they say the history, or that and one event more
+-- the bodies say the history, or that and one event more
 abbrev pub TellsOf : History → List (List ℕ) → Type 0
 TellsOf h bodies = Says bodies h ⊎ ((e : Event) × IsOneMore h bodies e)
 
@@ -61,8 +61,8 @@ pub record IsMended (old new : List (List ℕ)) : Type 0 where
   pub says : Says old was
   pub is : (new ≡ old) ⊎ (new ≡ old ++ text_of strike ∷ [])
 
--- the bodies say a history, and the tables show neither its writers nor those of it without the event
--- that is held back, where one is
+-- the bodies say a history, whose writers the tables show neither with the event that is held back nor
+-- without it
 pub record IsOthers (t : Tables) (bodies : List (List ℕ)) : Type 0 where
   pub settled : History
   pub held : Option Event
@@ -75,7 +75,7 @@ abbrev pub SaysOther : (mark : ℕ) → History → List (List ℕ) → Type 0
 SaysOther mark h bodies = (length bodies < mark) ⊎ IsOthers (tables_of h) bodies
 
 module _ {X : Type 0} (m : Meaning X) where
-  -- this holds of the tables
+  -- a fact holds of the tables
   abbrev pub Holds : (old new : X) → (Tables → Type 0) → Type 0
   Holds old new P = (h : History) → m.is_of h old → m.is_clean new → P (tables_of h)
 
@@ -123,7 +123,7 @@ module _ {X : Type 0} (m : Meaning X) where
   LooksAt old new before after event (Err Log) = ⊥
   LooksAt old new before after event (Err NoMemory) = Unit {0}
 
-  -- so it is with the event that is held back, and the tables show all writers
+  -- the answer is that of the event that is held back, and the tables show all writers
   pub record IsAnswer (old new : X) (writers : Writers) (event : Option Event) (answer : Last)
       : Type 0 where
     pub after : Writers
@@ -131,7 +131,8 @@ module _ {X : Type 0} (m : Meaning X) where
     pub shows : Holds old new (λ t. ShowsWriters t after)
     pub stays : Stays old new
 
-  -- or they show neither these writers, nor those with the event; or memory or the office failed
+  -- the tables were asked so; or they show neither these writers, nor those with the event; or
+  -- memory or the office failed
   abbrev pub Asks : (old new : X) → Writers → Option Event → Result Last NotReopened → Type 0
   Asks old new writers event (Ok answer) = IsAnswer old new writers event answer
   Asks old new writers event (Err OtherJournal) =
@@ -161,7 +162,7 @@ pub record IsStruckOut {D : Type 0} (g : Ghosts D) (old new : SealedLog D g)
       → LeavesTail g new.disk (sealed_text (bodies_of g old)) longest
 
 -- what a crash left of a journal was made the journal of its office, whose tables have this mark, or
--- it wasn't
+-- wasn't
 pub record Mends {X D : Type 0} (m : Meaning X) (g : Ghosts D) (mark : ℕ) (old new : X)
     (before after : SealedLog D g) (result : Result Bool NotReopened) : Type 0 where
   -- nothing of the office was changed, and it stands as it did
@@ -172,33 +173,35 @@ pub record Mends {X D : Type 0} (m : Meaning X) (g : Ghosts D) (mark : ℕ) (old
   pub opened : OnOk result (after.is_open ≡ true)
   pub bodies : IsTrue (g.is_clean after.disk)
       → OnOk result (IsMended (bodies_of g before) (bodies_of g after))
-  -- and it says a history of the tables, where it told what a crash may leave
+  -- the log says a history of the tables, where it told what a crash may leave
   pub journal : IsTrue (g.is_clean after.disk) → (h : History) → m.is_of h old
       → TellsOf h (bodies_of g before) → m.is_clean new → OnOk result (SaysNow h (bodies_of g after))
   -- where the event of its last line is said not to be settled, the last line has it
   pub ends : IsTrue (g.is_clean after.disk)
       → IfOk result (λ settled. settled ≡ false → EndsWithEvent (bodies_of g after))
-  -- it has as many lines as the mark at least
+  -- the log has as many lines as the mark at least
   pub marked : IsTrue (g.is_clean after.disk) → OnOk result (mark ≤ length (bodies_of g before))
-  -- that none is sealed is answered only where none is
+  -- the answer that no line is sealed comes only where none is
   pub unsealed : IsTrue (g.is_clean after.disk)
       → IfErr result (λ why. why ≡ Unsealed → bodies_of g before ≡ [])
-  -- that it was changed, only where more stands behind what is sealed than a line
+  -- the answer that the file was changed comes only where more than a line stands behind what is
+  -- sealed
   pub changed : IsTrue (g.is_clean after.disk) → IfErr result (λ why. (at : ℕ) → why ≡ Changed at
       → HasMore (g.seen before.disk) × (at ≡ length (sealed_text (bodies_of g before))))
-  -- and it is mended only where no more does
+  -- the log is mended only where no more than a line stands behind what is sealed
   pub whole : IsTrue (g.is_clean after.disk) → OnOk result (HasMore (g.seen before.disk) → ⊥)
-  -- that it is no journal, only where its bodies say no history
+  -- the answer that the file is no journal comes only where its bodies say no history
   pub no_line : IsTrue (g.is_clean after.disk)
       → IfErr result (λ why. why ≡ NotALine → SaysNone (bodies_of g before))
-  -- and neither of what a crash may leave
+  -- neither of the answers `Unsealed` and `NotALine` comes where the journal told what a crash may
+  -- leave
   pub line : IsTrue (g.is_clean after.disk) → (h : History) → IsLawfulHistory h
       → TellsOf h (bodies_of g before)
       → IfErr result (λ why. (why ≢ NotALine) × (why ≢ Unsealed))
-  -- that it is another's is answered only where the mark or the tables say so
+  -- the answer that the journal is another's comes only where the mark or the tables say so
   pub other : IsTrue (g.is_clean after.disk) → (h : History) → m.is_of h old → m.is_clean new
       → IfErr result (λ why. why ≡ OtherJournal → SaysOther mark h (bodies_of g before))
-  -- and always then, unless it fails
+  -- the log is mended only where neither the mark nor the tables say that it is another's
   pub ours : IsTrue (g.is_clean after.disk) → (h : History) → m.is_of h old → m.is_clean new
       → OnOk result (SaysOther mark h (bodies_of g before) → ⊥)
   -- a file that is no journal, another's, or was changed, is left as it is
@@ -206,7 +209,8 @@ pub record Mends {X D : Type 0} (m : Meaning X) (g : Ghosts D) (mark : ℕ) (old
   -- a fault of the office has a cause
   pub cause : (h : History) → m.is_of h old → m.is_clean new
       → IfErr result (HasOfficeCause m old new)
-  -- and a crash on the way leaves what was told, and no more behind it
+  -- a crash on the way leaves what was told, and no more behind it than the longest line, where one
+  -- did before
   pub crash : IsTrue (g.is_clean after.disk)
       → LeavesTail g before.disk (sealed_text (bodies_of g before)) longest
       → LeavesTail g after.disk (sealed_text (bodies_of g before)) longest

@@ -87,8 +87,8 @@ module _ (bytes : Option (List ℕ)) where
       pub told : GoesOn here after ((line, event) ∷ [])
       pub refused : IsReplayed m old left event (Err cause)
 
-    -- the office is of the history that the journal is of, which is lawful and has so many events;
-    -- and the seal and the number of lines are the journal's
+    -- the office is of the history that the journal is of, which is lawful and has so many events.
+    -- Seal and number of lines are the journal's
     pub record IsRebuilt (count : ℕ) (seal : List ℕ) (lines : ℕ) (office : X) : Type 0 where
       pub history : History
       pub journal : IfSome bytes (λ text. IsSealedJournal text history seal)

@@ -21,12 +21,12 @@ use Rattle.journal_office.specs.declared.refused.Why.TheVariants as why
 use Rattle.journal_office.specs.Rebuilt.{IsNotFounded, IsRebuilt, IsUnfounded, IsUnread}
 use Rattle.journal_office.specs.Rebuilt.{IsUnreplayed, line_behind}
 
--- it can't be read further than to a line, for this fault
+-- the journal can't be read further than to a line, for this fault
 pub record LeavesAt (old new : Place) (line : ℕ) (fault : Unreadable) : Type 0 where
   pub leaves : Leaves old new fault
   pub counted : line ≡ line_behind new.taken
 
--- it can't be read on
+-- the journal can't be read on
 abbrev pub IsLeft : (old new : Place) → ℕ → Why → Type 0
 IsLeft old new line (why.Unread fault) = LeavesAt old new line fault
 IsLeft old new line why.NotFounded = ⊥
@@ -38,8 +38,8 @@ abbrev pub IsNext : Place → Place → Result (Option Placed) Refused → Type 
 IsNext old new (Ok found) = Gives old new (Ok found)
 IsNext old new (Err refused) = IsLeft old new refused.line refused.why
 
--- the event is that of the last line that can be read behind the place, and the only one that stands
--- there: the line behind it can't be read, for this fault
+-- the event is of the last line that can be read behind the place, and none stands there before. What
+-- is behind that line can't be read
 pub record IsLast (here : Place) (placed : ℕ × Event) : Type 0 where
   pub fault : Unreadable
   pub last : Place
@@ -51,7 +51,7 @@ pub record IsLast (here : Place) (placed : ℕ × Event) : Type 0 where
 abbrev pub ComesNext : Place → (ℕ × Event) → Type 0
 ComesNext here placed = ((behind : Place) × GoesOn here behind (placed ∷ [])) ⊎ IsLast here placed
 
--- it can't be read on, or tells nothing
+-- the journal can't be read on, or tells nothing
 abbrev pub IsNoFirst : (old new : Place) → ℕ → Why → Type 0
 IsNoFirst old new line (why.Unread fault) = LeavesAt old new line fault
 IsNoFirst old new line why.NotFounded = Tells old [] × (line ≡ 0)
@@ -63,8 +63,8 @@ abbrev pub IsFirst : Place → Place → Result Placed Refused → Type 0
 IsFirst old new (Ok placed) = GoesOn old new (placed_meant placed ∷ [])
 IsFirst old new (Err refused) = IsNoFirst old new refused.line refused.why
 
--- it can't be read further than to a line, for this fault; no event stands before, and this one is
--- held back there, or none
+-- the journal can't be read further than to a line, for this fault. No event stands before, and this
+-- one is held back there, or none
 pub record LeavesHeld (old : Place) (kept : Option (ℕ × Event)) (line : ℕ) (fault : Unreadable)
     : Type 0 where
   pub last : Place
@@ -108,7 +108,7 @@ pub record FoundsNone {S : Type 0} (g : Ghosts S) (event : Event) (conn left : H
   pub cause : HasCleanDisk (state g left)
       → FailsToFound g (first_user name team digest) listed conn left fault
 
--- it is no founding, or founds no office
+-- the event is no founding, or founds no office
 abbrev pub IsNoFounding : {S : Type 0} → Ghosts S → Event → (conn left : Held S) → Why → Type 0
 IsNoFounding g event conn left (why.Unread fault) = ⊥
 IsNoFounding g event conn left why.NotFounded = IsFounding event → ⊥
@@ -117,7 +117,7 @@ IsNoFounding g event conn left (why.Unreplayed cause) = ⊥
 
 -- of a journal with these bytes, where they are known
 module _ (bytes : Option (List ℕ)) {S : Type 0} (g : Ghosts S) (conn left : Held S) where
-  -- it can't be read further than to a line, and what is held back there founds no office
+  -- the journal can't be read further than to a line, and what is held back there founds no office
   pub record IsUnreadAt (line : ℕ) (fault : Unreadable) : Type 0 where
     pub kept : Option (ℕ × Event)
     pub held : LeavesHeld (start bytes) kept line fault
@@ -157,8 +157,8 @@ module _ {X : Type 0} (m : Meaning X) (bytes : Option (List ℕ)) (left : X) whe
   IsLeftBehind line (why.Unfounded fault) = ⊥
   IsLeftBehind line (why.Unreplayed cause) = IsUnreplayed bytes m left line cause
 
-  -- they all do, with the first they are so many, and these are the seal of the journal and the number
-  -- of its lines; or not
+  -- the events behind the first all happen again, or one doesn't; with the first they are so many.
+  -- Seal and number of lines are the journal's
   abbrev pub Continues : ℕ → List ℕ → (lines : ℕ) → Result ⊤ Refused → Type 0
   Continues count seal lines (Ok done) = IsRebuilt bytes m count seal lines left
   Continues count seal lines (Err refused) = IsLeftBehind refused.line refused.why

@@ -22,7 +22,7 @@ each_spaced (item ∷ items) = spaced (item ∷ items)
 abbrev pub short_digest : List ℕ → List ℕ
 short_digest digest = codes " (" ++ encode_lower (take 3 digest) ++ codes "..)"
 
--- those of a revision's, where it is there
+-- the first digits of a revision's digest, where the revision is there
 abbrev pub digest_in : Option RevisionRow → List ℕ
 digest_in None = []
 digest_in (Some row) = short_digest row.digest
@@ -74,7 +74,7 @@ deed (released caller p) found = on_profile caller (codes "released") p
 abbrev pub text_of : (line : ℕ) → Event → Option RevisionRow → List ℕ
 text_of line e found = ended ((decimal line ++ codes "  ") ++ deed e found)
 
--- that, or the same as JSON
+-- the line of an event, for people or as JSON
 abbrev pub text_in : (json : Bool) → (line : ℕ) → Event → Option RevisionRow → List ℕ
 text_in false line e found = text_of line e found
 text_in true line e found = json_of line e found

@@ -29,12 +29,12 @@ team_of (adopted caller p n) = p.team
 team_of (held caller p) = p.team
 team_of (released caller p) = p.team
 
--- it names this team, where one is asked for
+-- the event names this team, where one is asked for
 abbrev pub is_of_team : Option (List ℕ) → Event → Bool
 is_of_team None e = true
 is_of_team (Some team) e = bytes_eq team (team_of e)
 
--- it is about a profile of this name, where one is asked for
+-- the event is about a profile, which has this name
 abbrev pub is_named : List ℕ → Option ProfileName → Bool
 is_named profile None = false
 is_named profile (Some p) = bytes_eq profile p.profile
@@ -55,7 +55,7 @@ doer_of (adopted caller p n) = caller
 doer_of (held caller p) = caller
 doer_of (released caller p) = caller
 
--- this user did it, where one is asked for
+-- the event was done by this user, where one is asked for
 abbrev pub is_by : Option (List ℕ) → Event → Bool
 is_by None e = true
 is_by (Some user) e = bytes_eq user (doer_of e)

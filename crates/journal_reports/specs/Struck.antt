@@ -15,7 +15,7 @@ strike_text false line =
     decimal line ++ codes "  struck out line " ++ decimal (line - 1) ++ codes "\n"
 strike_text true line = codes "{\"event\":\"strike\",\"line\":" ++ decimal line ++ codes "}\n"
 
--- they are asked for where all lines are, or all from one on
+-- struck lines are asked for where all lines are, or all from one on
 abbrev pub asks_for_all : Asked → Bool
 asks_for_all asked = is_none asked.team && (is_none asked.profile && is_none asked.user)
 

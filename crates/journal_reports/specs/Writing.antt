@@ -45,7 +45,7 @@ module _ (bytes : Option (List ℕ)) {X : Type 0} (m : Meaning X) where
       pub replayed : HasReplayed bytes m here es new
       pub row : m.is_clean new → found ≡ looked_up e (history_told es)
 
-    -- or it met this fault
+    -- the office met this fault
     pub record HasMet (fault : Fault) : Type 0 where
       pub clean : m.is_clean new → m.is_clean old
       pub met : m.is_clean new → IsMetBetween m old new fault
@@ -82,7 +82,7 @@ module _ (bytes : Option (List ℕ)) {X : Type 0} (m : Meaning X) where
         IsCutIn bytes asked old new m left ⊎ IsCutBehind bytes asked old new m left
     IsStopped why.NoMemory = IsGivenUp bytes asked old new m left
 
-    -- these events are a lawful history, of which the office stands, and the lines up to that of the
+    -- the events are a lawful history, of which the office stands, and the lines up to that of the
     -- last were written
     pub record AreWritten (all : List (ℕ × Event)) : Type 0 where
       pub lawful : m.is_clean left → IsLawfulHistory (history_told all)

@@ -6,7 +6,7 @@ use Rattle.std.specs.Cmp.Lexicographic.{slice_cmp}
 use Rattle.sqlite.specs.Order.{Row}
 use Rattle.sqlite_value.specs.Order.{value_cmp}
 
--- they are one before this place, and differ there
+-- the two lists are one before this place, and differ there
 pub record IsFirstDifference {X : Type 0} (left right : List X) (at : ℕ) : Type 0 where
   pub before : take at left ≡ take at right
   pub differ : slice_get left at ≢ slice_get right at
@@ -27,7 +27,7 @@ pub record StandsFirst (width : ℕ) (left right : List Row) (row : Row) : Type 
   pub there : slice_get left at ≡ Some row
   pub none : IsNoneBefore width row (slice_get right at)
 
--- it stands so in one of them
+-- the row stands in one of the lists where they first differ, and in the other none before it
 abbrev pub IsFirstDiffering : ℕ → List Row → List Row → Row → Type 0
 IsFirstDiffering width left right row =
     StandsFirst width left right row ⊎ StandsFirst width right left row

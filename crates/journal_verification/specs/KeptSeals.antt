@@ -3,7 +3,7 @@ use Rattle.std.specs.Prelude.{◌≡◌, ◌≤◌, ℕ, List, length, take, Opt
 use Rattle.sealed_log.specs.Sealed.{seal_of}
 use Rattle.journal_verification.specs.declared.verification.KeptSeal.{KeptSeal}
 
--- these lines are as many, and the first so many of them have the seal
+-- the lines are as many as the kept seal says, and the first so many of them have it
 abbrev pub HaveSeal : Option KeptSeal → List (List ℕ) → Type 0
 HaveSeal None bodies = Unit {0}
 HaveSeal (Some kept) bodies =

@@ -20,7 +20,7 @@ module _ {S : Type 0} (g : Ghosts S) where
   abbrev pub IsAt : List ℕ → Held S → List Row → Type 0
   IsAt sql held given = HasGiven g sql [] held given
 
-  -- it gives the rows of a query of a table
+  -- the connection gives the rows of a query of a table
   abbrev pub IsGiving : Held S → Type 0
   IsGiving held = (sql : List ℕ) × IsOfTable sql × (given : List Row) × IsAt sql held given
 

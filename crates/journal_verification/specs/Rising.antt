@@ -15,8 +15,8 @@ pub record EndsWith (rows : List Row) (id : ℤ) : Type 0 where
   pub parts : rows ≡ before ++ last ∷ []
   pub has : rowid last ≡ Int id
 
--- there are no rows; or each begins with a rowid that is above that of the row before it, and the
--- last of them is this; or they don't
+-- no rows are there; or each begins with a rowid above that of the row before, up to this last
+-- one; or they don't
 abbrev pub IsTold : List Row → Rising → Type 0
 IsTold rows rising.Empty = rows ≡ []
 IsTold rows (rising.UpTo id) = IsShaped Table rows × EndsWith rows id

@@ -29,7 +29,7 @@ pub record HaveRowids {S : Type 0} (g : Ghosts S) (table : Table) (db : Database
   pub answered : IsAnsweredBy g (rowids_text table) db rowids
   pub rising : IsShaped TableShape rowids
 
--- they don't
+-- the rowids of a table don't rise
 pub record HaveOtherRowids {S : Type 0} (g : Ghosts S) (table : Table)
     (db : Database) : Type 0 where
   pub rowids : List Row
@@ -41,7 +41,7 @@ abbrev pub TellsRowids : {S : Type 0} → Ghosts S → Table → Database → Bo
 TellsRowids g table db true = HaveRowids g table db
 TellsRowids g table db false = HaveOtherRowids g table db
 
--- that they don't is the difference of the table
+-- a difference is told just where the rowids of a table don't rise, and is that of the table
 abbrev pub FaultsRowids : {S : Type 0} → Ghosts S → Table → Database → Option Difference → Type 0
 FaultsRowids g table db None = HaveRowids g table db
 FaultsRowids g table db (Some d) = (d ≡ difference.Row table) × HaveOtherRowids g table db
@@ -54,7 +54,7 @@ module _ {S T : Type 0} (g : Ghosts S) (f : Ghosts T) where
     pub in_second : IsAnsweredBy f (rows_text table) second rows
     pub rowids : HaveRowids f table second
 
-  -- they have other rows there, of which the difference names one
+  -- the databases have other rows in a table, of which the difference names one
   pub record HaveOther (table : Table) (first second : Database) (d : Difference) : Type 0 where
     pub left : List Row
     pub right : List Row
@@ -64,21 +64,22 @@ module _ {S T : Type 0} (g : Ghosts S) (f : Ghosts T) where
     pub differs : IsFirstDiffering (key_width table) left right row
     pub named : IsNamed table row d
 
-  -- the same rows, or one that differs
+  -- the rows of a table are the same, or the difference names one that differs
   abbrev pub TellsRows : Table → Database → Database → Option Difference → Type 0
   TellsRows table first second None =
       (rows : List Row) × IsAnsweredBy g (rows_text table) first rows
       × IsAnsweredBy f (rows_text table) second rows
   TellsRows table first second (Some d) = HaveOther table first second d
 
-  -- the same table; or where it differs: in a row, or where none does in the rowids of the second
+  -- a table is the same in both; or it differs in a row, or where none does, in the rowids of the
+  -- second
   abbrev pub TellsTable : Table → Database → Database → Option Difference → Type 0
   TellsTable table first second None = HaveSame table first second
   TellsTable table first second (Some d) =
       HaveOther table first second d
       ⊎ (TellsRows table first second None × FaultsRowids f table second (Some d))
 
-  -- so they do in each table
+  -- each table is the same in both
   abbrev pub HaveSameTables : Database → Database → Type 0
   HaveSameTables first second = (table : Table) → HaveSame table first second
 

@@ -31,7 +31,7 @@ pub record IsPlainTable (t : Table) : Type 0 where
   pub bare : IsBare t
   pub columns : AllByRecursion (λ c. c.default ≡ Null) t.columns
 
--- so are all its tables, and it has no view
+-- all tables of the schema are plain, and it has no view
 pub record IsPlain (s : Schema) : Type 0 where
   pub tables : AllByRecursion IsPlainTable s.tables
   pub views : s.views ≡ []

@@ -33,7 +33,7 @@ module _ (bytes : Option (List ℕ)) where
     pub lawful : IsLawfulHistory history
     pub other : IfSome bytes (λ text. HaveSeal kept (told text) → ⊥)
 
--- the same, and an office
+-- of a journal with these bytes, where they are known, and of an office
 module _ (bytes : Option (List ℕ)) {T : Type 0} (f : Ghosts T) where
   -- the office is that of the history that the journal is of, which is lawful and has so many
   -- events, the seal and the number of lines are the journal's, its lines have the seal that was
@@ -69,8 +69,8 @@ module _ (bytes : Option (List ℕ)) {T : Type 0} (f : Ghosts T) where
     pub shows : Shows (state f office) (tables_of history)
     pub ahead : IfSome bytes (λ text. length (told text) < mark)
 
-  -- no lawful history has the journal, by this line; its seal is another; the office is another, or
-  -- its mark is; or the office can't be read, or there is no memory
+  -- no lawful history has the journal, by this line; or the seal is another; or the office or its mark
+  -- is. Else the office can't be read, or memory is lacking
   abbrev pub IsUnverified : Option KeptSeal → (mark : ℕ) → (old new : Held T) → Unverified → Type 0
   IsUnverified kept mark old new (unverified.Refused refused) = IsNotRebuilt bytes refused
   IsUnverified kept mark old new unverified.OtherSeal = HasOtherSeal bytes kept
