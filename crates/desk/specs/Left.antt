@@ -18,7 +18,7 @@ module _ {X : Type 0} (m : Meaning X) where
   LeftAfterLine Before h NoMemory = Before
   LeftAfterLine Before h (Answered request answer) = LeftAfterOne m Before h request answer
 
-  -- the same of lines that were handled one after the other
+  -- what may be left after lines that were handled one after the other
   abbrev pub LeftAfterLines : (m.Left → Type 0) → History → List LineOutcome → m.Left → Type 0
   LeftAfterLines Before h [] = Before
   LeftAfterLines Before h (outcome ∷ outcomes) =

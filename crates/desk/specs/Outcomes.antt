@@ -12,8 +12,8 @@ use Rattle.json_requests.specs.Requests.{asked, Asks}
 use Rattle.desk.specs.declared.outcome.LineOutcome.{LineOutcome}
 use Rattle.desk.specs.declared.outcome.LineOutcome.TheVariants.{Bad, NoMemory, Answered}
 
--- this may come of the line: it is no request, there was no memory to read it, or the request that
--- it asks has this answer
+-- what may come of a line: it is no request, there was no memory to read it, or its request
+-- has this answer
 abbrev pub IsOutcome : History → List ℕ → LineOutcome → Type 0
 IsOutcome h line (Bad fault) = asked line ≡ Err fault
 IsOutcome h line NoMemory = Unit {0}
@@ -38,14 +38,14 @@ requests_of (Bad fault ∷ outcomes) = requests_of outcomes
 requests_of (NoMemory ∷ outcomes) = requests_of outcomes
 requests_of (Answered request answer ∷ outcomes) = request ∷ requests_of outcomes
 
--- and the answer to each
+-- the answers to the requests that were asked, in their order
 abbrev pub answers_of : List LineOutcome → List Answer
 answers_of [] = []
 answers_of (Bad fault ∷ outcomes) = answers_of outcomes
 answers_of (NoMemory ∷ outcomes) = answers_of outcomes
 answers_of (Answered request answer ∷ outcomes) = answer ∷ answers_of outcomes
 
--- there is one outcome to each line, on the history that the lines before it left
+-- each line has one outcome, on the history that the lines before it left
 abbrev pub AreOutcomes : History → List (List ℕ) → List LineOutcome → Type 0
 AreOutcomes h [] [] = Unit {0}
 AreOutcomes h (line ∷ lines) (outcome ∷ outcomes) =

@@ -27,15 +27,16 @@ abbrev Known : Type 0
 Known = Option Bytes
 
 module _ {X : Type 0} (m : Meaning X) where
-  -- it stands where the request was answered by no fault; a line that asks nothing leaves it so
+  -- the office stands where the request was answered by no fault; a line that asks nothing leaves it
+  -- standing
   abbrev pub StandsAfterLine : History → (old new : X) → LineOutcome → Type 0
   StandsAfterLine h old new (came.Bad fault) = Stands m h old → Stands m h new
   StandsAfterLine h old new came.NoMemory = Stands m h old → Stands m h new
   StandsAfterLine h old new (came.Answered request answer) =
       UnlessFaulty answer (Stands m (history_after h request answer) new)
 
-  -- its request was handled as it is alone, so that a fault in the answer has a cause; a line that
-  -- asks nothing leaves the office as it is
+  -- the request of a line was handled as it is alone, so that a fault has a cause; a line that asks
+  -- nothing changes nothing
   abbrev pub HandlesLine : (old new : X) → LineOutcome → Type 0
   HandlesLine old new (came.Bad fault) = new ≡ old
   HandlesLine old new came.NoMemory = new ≡ old
@@ -56,10 +57,10 @@ module _ {X : Type 0} (m : Meaning X) where
   pub record AreHandled (old new : X) (lines : List Bytes) (outcomes : List LineOutcome) : Type 0 where
     pub survives : Survives m old new
     pub policy : (h : History) → m.is_of h old → m.is_clean new → AreOutcomes h lines outcomes
-    -- and each request was handled as it is alone, on what the one before it left
+    -- each request was handled as it is alone, on what the one before it left
     pub each : HandlesEach m old new (requests_of outcomes) (answers_of outcomes)
     pub office : (h : History) → m.is_of h old → m.is_of (history_after_lines h outcomes) new
-    -- it stands where the last request that was asked was answered by no fault
+    -- the office stands where the last request that was asked was answered by no fault
     pub stands : (h : History) → m.is_of h old → m.is_clean new
         → UnlessLastFaulty (answers_of outcomes) (Stands m (history_after_lines h outcomes) new)
     pub crash : (h : History) → m.is_of h old → m.is_clean new
@@ -111,8 +112,8 @@ module _ {X : Type 0} (m : Meaning X) where
   StopsWriting old new before after lines (TooManyReads line) = ⊥
 
   module _ (old new : X) (unread rest before after : Known) where
-    -- the lines that were read whole are answered, and nothing of the unfinished one, which has
-    -- this number, is handled
+    -- the lines that were read whole are answered, and nothing of the unfinished one, which has this
+    -- number, is handled
     pub record IsUnfinished (line : ℕ) : Type 0 where
       pub bytes : List ℕ
       pub whole : List ℕ

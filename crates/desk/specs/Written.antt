@@ -6,8 +6,8 @@ use Rattle.streams.specs.Steps.{AppendsPart}
 use Rattle.desk.specs.declared.fault.DeskFault.{DeskFault}
 use Rattle.desk.specs.declared.fault.DeskFault.TheVariants as fault
 
--- the line that answers a line of the input is written, or the fault has the number of that line
--- and says what is
+-- the line that answers a line of the input is written; or the fault has the number of that
+-- line, and says what is written
 abbrev pub IsServed : Option (List ℕ) → Option (List ℕ) → List ℕ → ℕ → Result ⊤ DeskFault → Type 0
 IsServed before after text number (Ok u) = Appends before after text
 IsServed before after text number (Err (fault.Write line)) =

@@ -31,7 +31,7 @@ Leaves Same Handled (Some (Refused why)) = Same
 Leaves Same Handled (Some NoMemory) = Same
 Leaves Same Handled None = Same
 
--- this came of an exchange, and was told so
+-- an outcome came of an exchange, or none, and was told so
 abbrev pub IsExchanged : (Same : Type 0) (Handled : Request → Answer → Type 0)
     → Result Served HttpFault → Type 0
 IsExchanged Same Handled result =
@@ -50,7 +50,7 @@ answers_in [] = []
 answers_in (Some (Answered request answer) ∷ came) = answer ∷ answers_in came
 answers_in (_ ∷ came) = answers_in came
 
--- these came of them, and each was told so
+-- each outcome was told as the result in its place
 abbrev pub AreTold : List (Option ExchangeOutcome) → List (Result Served HttpFault) → Type 0
 AreTold [] [] = Unit {0}
 AreTold (c ∷ came) (r ∷ results) = Tells c r × AreTold came results

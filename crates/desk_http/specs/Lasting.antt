@@ -13,7 +13,7 @@ use Rattle.desk_http.specs.declared.timed.Timed.{Timed}
 use Rattle.desk_http.specs.declared.timed_listener.TimedListener.{TimedListener}
 
 module _ {C : Type 0} (Shows : C → Result Duration Error → Type 0) where
-  -- it ends so long after the listener's clock showed a moment, by that clock
+  -- a stream ends so long after the listener's clock showed a moment, by that clock
   abbrev pub IsUntil : TimedListener C → Timed C TcpStream → Type 0
   IsUntil listener stream =
       (stream.deadline.clock.now ≡ listener.clock.now)
@@ -27,8 +27,8 @@ module _ {C : Type 0} (Shows : C → Result Duration Error → Type 0) where
     takes_back = λ old new reader writer served. new ≡ old;
   }
 
-  -- exchanges were served over such a listener: over the streams of this one, each by this clock
-  -- and for at most so long
+  -- exchanges were served over the streams of this listener, each by this clock and for at most so
+  -- long
   pub record HasServedWithin {O X : Type 0} (holds : O → Option (List ℕ)) (clock : C)
       (listener : TcpListener) (longest : Duration) (m : Meaning X) (old new : X)
       (output wrote : Counted O) (most : ℕ) (result : Result (Unit {0}) WriteFailed) : Type 0 where

@@ -20,7 +20,7 @@ pub record Listening (N Reader Writer : Type 0) : Type 1 where
   -- by taking back a stream that is now so, after an exchange that came to this
   pub takes_back : (old new : N) → Counted Reader → Counted Writer → Result Served HttpFault → Type 0
 
--- so many were as many as were asked for; or no more, where a line couldn't be written
+-- the exchanges are as many as were asked for; or no more, where a line couldn't be written
 abbrev pub AreSoMany : (count most : ℕ) → Result (Unit {0}) WriteFailed → Type 0
 AreSoMany count most (Ok done) = count ≡ most
 AreSoMany count most (Err failed) = count ≤ most
@@ -55,14 +55,14 @@ module _ {N Reader Writer X : Type 0} (l : Listening N Reader Writer)
       (between : N) × (was : X) × IsNext before between old was r
       × AreServedOver between after was new results
 
-  -- so did these, and each left what it came to
+  -- exchanges, each over the next stream, came to these, and each left what it came to
   pub record HaveServed (before after : N) (old new : X)
       (results : List (Result Served HttpFault)) : Type 0 where
     pub over : AreServedOver before after old new results
     pub exchanged : HaveExchanged m old new results
 
-  -- they were as many as were asked for, with just a line for each; or a line couldn't be written,
-  -- which ended it
+  -- the exchanges were as many as were asked for, with just a line for each; or a line couldn't be
+  -- written, which ended them
   pub record AreServedWith {O : Type 0} (holds : O → Option (List ℕ)) (before after : N)
       (old new : X) (output wrote : Counted O) (most : ℕ)
       (result : Result (Unit {0}) WriteFailed) : Type 0 where

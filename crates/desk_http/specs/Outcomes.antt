@@ -23,7 +23,7 @@ told_status (Refused why) = refused_status why
 told_status NoMemory = status_of (Fault faults.NoMemory)
 told_status (Answered request answer) = status_of answer
 
--- its number
+-- the number of the response's status
 abbrev pub told_code : ExchangeOutcome → ℕ
 told_code outcome = code_of (told_status outcome)
 

@@ -31,7 +31,8 @@ IsWritten before after response meant (Err (fault.NoMemory status)) =
     (status ≡ meant.status) × (after ≡ before)
 IsWritten before after response meant (Err _) = ⊥
 
--- so is the response to it, with its status and whether bytes of the request may still come
+-- the response to an outcome is written so, with its status and whether bytes of the request may still
+-- come
 abbrev pub IsTold : Option (List ℕ) → Option (List ℕ) → ExchangeOutcome → Result Served HttpFault → Type 0
 IsTold before after outcome result =
     IsWritten before after (told outcome) (told_as outcome) result
@@ -53,8 +54,8 @@ module _ (Same : Type 0) (Handled : Request → Answer → Type 0) where
   HasOutcome unread rest (Err fault.TooManyReads) = HasCome unread rest IsExchange ended × Same
   HasOutcome unread rest (Err _) = ⊥
 
-  -- the same by the whole stream: it is refused so, or asks this request, or ends too soon,
-  -- whatever was read of it
+  -- what the whole stream comes to: it is refused so, or asks this request, or ends too soon, whatever
+  -- was read of it
   abbrev pub HasOutcomeOf : List ℕ → Result ExchangeOutcome HttpFault → Type 0
   HasOutcomeOf input (Ok (Refused why)) = IsExchange input (refused why) × Same
   HasOutcomeOf input (Ok (Answered request answer)) =
@@ -65,7 +66,7 @@ module _ (Same : Type 0) (Handled : Request → Answer → Type 0) where
   HasOutcomeOf input (Err fault.TooManyReads) = Same
   HasOutcomeOf input (Err _) = ⊥
 
--- there is no outcome, and nothing was written; or there is one, and it is answered
+-- no outcome is there, and nothing was written; or there is one, and it is answered
 abbrev pub IsServedAs : (Has : Result ExchangeOutcome HttpFault → Type 0)
     → (before after : Option (List ℕ)) → Result Served HttpFault → Type 0
 IsServedAs Has before after result =
@@ -73,12 +74,12 @@ IsServedAs Has before after result =
     ⊎ ((outcome : ExchangeOutcome) × Has (Ok outcome) × IsTold before after outcome result)
 
 module _ (Same : Type 0) (Handled : Request → Answer → Type 0) where
-  -- so by what was read of a stream
+  -- an exchange is served by what was read of a stream
   abbrev pub IsServed : (unread rest before after : Option (List ℕ)) → Result Served HttpFault → Type 0
   IsServed unread rest before after result =
       IsServedAs (HasOutcome Same Handled unread rest) before after result
 
-  -- and so by the whole stream, where that is known
+  -- an exchange is served by the whole stream, where that is known
   abbrev pub IsServedOf : (unread before after : Option (List ℕ)) → Result Served HttpFault → Type 0
   IsServedOf unread before after result =
       IfSome unread (λ input. IsServedAs (HasOutcomeOf Same Handled input) before after result)
@@ -86,7 +87,7 @@ module _ (Same : Type 0) (Handled : Request → Answer → Type 0) where
 -- ---- what a crash leaves, where it left the office of a history and no other before the exchange
 
 module _ {X : Type 0} (m : Meaning X) (h : History) (old new : X) where
-  -- it is what it was, the office of that history, and a crash leaves just that
+  -- the office is what it was, of that history, and a crash leaves just that
   abbrev pub StaysWhole : Type 0
   StaysWhole = (new ≡ old) × m.is_of h new × LeavesOnly m h new
 

@@ -53,14 +53,14 @@ exchange_of h rest = with_fields h rest (judge_fields h.minor (fields_of h))
 
 -- ---- of all bytes
 
--- these bytes are a head, or none, and with those behind them they come to this
+-- the bytes of a head, or of none, come to this with the bytes behind them
 abbrev pub IsOfHead : List ℕ → List ℕ → Exchange → Type 0
 IsOfHead head rest exchange =
     ((h : RequestHead) × IsHeadOf head h × (exchange ≡ exchange_of h rest))
     ⊎ (HasNoHead head × (exchange ≡ refused BadHead))
 
--- the bytes come to this: their head ends, or it doesn't within the bytes that a head may have, or
--- they end before
+-- the bytes come to this: their head ends, or it doesn't within the bytes that a head may
+-- have, or they end before
 abbrev pub IsExchange : List ℕ → Exchange → Type 0
 IsExchange bytes exchange =
     ((n : ℕ) × IsHeadEnd bytes n × IsOfHead (take n bytes) (drop n bytes) exchange)

@@ -45,7 +45,7 @@ values_as (v ∷ w ∷ rest) = several
 abbrev pub values_of : List ℕ → List Pair → Values
 values_of name pairs = values_as (all_values name pairs)
 
--- the same with one value more
+-- the values with one more
 abbrev pub next : Values → List ℕ → Values
 next absent v = one v
 next (one w) v = several

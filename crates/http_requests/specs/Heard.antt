@@ -25,12 +25,12 @@ abbrev pub Comes : Type 1
 Comes = List ℕ → Exchange → Type 0
 
 module _ (before after : Option (List ℕ)) where
-  -- these bytes were read, and no others, and they come to this
+  -- bytes were read that come to this, and no others were
   abbrev pub HasCome : Comes → Exchange → Type 0
   HasCome Come exchange = (bytes : List ℕ) × Consumes before after bytes × Come bytes exchange
 
-  -- the bytes that were read are refused so; or they are too few, and the stream ended after them,
-  -- its reader failed, or was called too often; where it is out of memory nothing is said
+  -- the bytes that were read are refused so. Or they are too few: the stream ended after them, its
+  -- reader failed, or was called too often. Where memory is lacking nothing is said
   abbrev pub IsUnheard : Comes → Unheard → Type 0
   IsUnheard Come (Refused why) = HasCome Come (refused why)
   IsUnheard Come Ended = HasCome Come ended × IsAtEnd after
@@ -67,7 +67,7 @@ module _ (before after : Option (List ℕ)) where
   FillsPart kept old =
       (more : List ℕ) × Consumes before after more × (kept + length more < length old)
 
-  -- it is full; or the stream ended before, or couldn't be read
+  -- the buffer is full; or the stream ended before, or couldn't be read
   abbrev pub Fills : {X : Type 0} → ℕ → List ℕ → List ℕ → Result X Unheard → Type 0
   Fills kept old new (Ok x) = IsFilled kept old new
   Fills kept old new (Err Ended) = FillsPart kept old × IsAtEnd after
@@ -80,11 +80,11 @@ module _ (before after : Option (List ℕ)) where
   IsBody front size body = (more : List ℕ) × Consumes before after more
       × (size ≤ length (front ++ more)) × (body ≡ take size (front ++ more))
 
-  -- there are fewer
+  -- the bytes that were read, before and now, are fewer than the body's
   abbrev pub TooFew : List ℕ → ℕ → Type 0
   TooFew front size = (more : List ℕ) × Consumes before after more × (length (front ++ more) < size)
 
-  -- and the stream ended, or couldn't be read
+  -- the body has too few bytes, since the stream ended, or couldn't be read
   abbrev pub LacksBody : List ℕ → ℕ → Unheard → Type 0
   LacksBody front size Ended = TooFew front size × IsAtEnd after
   LacksBody front size (Refused why) = ⊥
@@ -92,7 +92,7 @@ module _ (before after : Option (List ℕ)) where
   LacksBody front size (Unread TooManyReads) = TooFew front size
   LacksBody front size (Unread NoMemory) = Unit {0}
 
-  -- there is a body, or there is none
+  -- the body is there, or too few bytes are
   abbrev pub HasBody : {X : Type 0} → (X → List ℕ) → List ℕ → ℕ → Result X Unheard → Type 0
   HasBody view front size (Ok body) = IsBody front size (view body)
   HasBody view front size (Err e) = LacksBody front size e

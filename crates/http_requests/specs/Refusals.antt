@@ -34,7 +34,7 @@ refused_status NoToken = BadRequest
 -- 15.5.1
 refused_status NotARequest = BadRequest
 
--- and its word
+-- the word of a refusal
 abbrev pub refused_word : Refusal → List ℕ
 refused_word HeadTooLong = codes "head-too-long"
 refused_word BadHead = codes "bad-head"

@@ -1,7 +1,7 @@
 -- A meaning of offices by which nothing is promised of them.
 use Rattle.office_policy.specs.Meaning.{Meaning}
 
--- it is the office of no history
+-- a meaning by which nothing is the office of a history
 abbrev pub silent : {X : Type 0} → Meaning X
 silent = record {
   is_clean = λ x. ⊥;
