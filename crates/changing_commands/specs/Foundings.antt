@@ -72,12 +72,13 @@ IsFoundedBy g founding office =
     IsOffice (history_of founding) (state g office)
     × (HasCleanDisk (state g office) → Stands (meaning_over g) (history_of founding) office)
 
--- the same, of the founding that words describe; where they describe none, nothing is founded
+-- the office of the founding that words describe was founded, and stands; where they describe none,
+-- nothing is founded
 abbrev pub IsFoundedAs : {S : Type 0} → Ghosts S → Described → Held S → Type 0
 IsFoundedAs g (Ok founding) office = IsFoundedBy g founding office
 IsFoundedAs g (Err fault) office = ⊥
 
--- it was founded so in an empty database that was opened, of which this is known
+-- an office was founded as words describe, in an empty database that was opened, of which this is known
 pub record IsFoundedIn {S : Type 0} (g : Ghosts S) (Opened : Held S → Type 0)
     (described : Described) (office : Held S) : Type 0 where
   pub was : Held S
@@ -85,15 +86,15 @@ pub record IsFoundedIn {S : Type 0} (g : Ghosts S) (Opened : Held S → Type 0)
   pub empty : (state g was).now.schema ≡ no_schema
   pub founded : IsFoundedAs g described office
 
--- and closed without a mark, of which this is known
+-- an office was founded as words describe, and closed without a mark, of which this is known
 pub record WasFounded {S : Type 0} (g : Ghosts S) (Opened : Held S → Type 0)
     (Closed : Held S → Option ℕ → Type 0) (described : Described) : Type 0 where
   pub office : Held S
   pub founded : IsFoundedIn g Opened described office
   pub closed : Closed office None
 
--- No office of a founding is founded over a connection, for this. What is left of that has what it had;
--- and a crash leaves what it could leave before, or the office of just this founding.
+-- No office of a founding is founded over a connection, for this. What is left of that has what it had.
+-- A crash leaves what it could leave before, or the office of just this founding.
 pub record IsNotFounded {S : Type 0} (g : Ghosts S) (founding : Founding) (conn left : Held S)
     (why : FoundingFault) : Type 0 where
   pub cause : HasCleanDisk (state g left)
@@ -104,8 +105,8 @@ pub record IsNotFounded {S : Type 0} (g : Ghosts S) (founding : Founding) (conn 
   pub crash : MayLeave (state g conn) (state g left)
       (λ trees. AreOffice trees (tables_of (history_of founding)))
 
--- the same of the founding that words describe, over a database that was opened, of which this is
--- known; and what is left was closed as it was marked, of which that is known
+-- no office is founded as words describe, for this, over a database that was opened, of which this is
+-- known. What is left was closed as it was marked, of which that is known
 abbrev pub WasNotFounded : {S : Type 0} → Ghosts S → (Opened : Held S → Type 0)
     → (Closed : Held S → Option ℕ → Type 0) → Described → FoundingFault → Type 0
 WasNotFounded {S} g Opened Closed (Ok founding) why =
@@ -134,8 +135,8 @@ IsUnfoundedAs g d path described (fault.Founding why) =
 IsUnfoundedAs g d path described (fault.Store why) = IsDescribed described × IsUnopened d path why
 IsUnfoundedAs g d path described _ = ⊥
 
--- the same, or it was founded in a database that was opened, of which this is known, and couldn't
--- be closed
+-- nothing is founded as words describe, for this; or an office was, in a database that was opened, and
+-- couldn't be closed
 abbrev pub IsUnfounded : {S D : Type 0} → Ghosts S → databases.Ghosts D (Held S)
     → (path : List ℕ) → Described → CommandFault → Type 0
 IsUnfounded {S} g d path described why =

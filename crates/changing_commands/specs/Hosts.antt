@@ -46,7 +46,8 @@ module _ {D : Type 0} (g : disk.Ghosts D) where
       (HasHandled (meaning_over over_files)) mark IsClosedInto)
       → HoldHistory g it.closed.0 (history_after_lines h it.done.outcomes)
 
-  -- and so do exchanges
+  -- Exchanges over files that hold the office of a history leave files that hold the office of that
+  -- history and of what they were answered.
   abbrev pub ExchangesAreLeft : Type 0
   ExchangesAreLeft = (h : History) (image : Image) (most : _) (mark : Option ℕ)
       → IsLawfulHistory h → HoldsOffice image (tables_of h)

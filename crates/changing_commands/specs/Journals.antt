@@ -86,8 +86,8 @@ abbrev pub begun_with : {S L : Type 0} {f : DiskGhosts L} → Held S → SealedL
 begun_with office log =
     record { office = office; journal = log; has_stray = false; is_settled = false }
 
--- An office with a journal was closed, of which this is known: its last event was settled before, where
--- that could be, and a database that is marked got the mark of the journal.
+-- An office with a journal was closed, of which this is known. Before, its last event was settled,
+-- where that could be. A database that is marked got the mark of the journal.
 pub record IsClosedKept {S L : Type 0} (g : Ghosts S) (f : DiskGhosts L) (is_marked : Bool)
     (Closed : Held S → Option ℕ → Type 0) (x : Journaled (Held S) (SealedLog L f)) : Type 0 where
   pub last : Journaled (Held S) (SealedLog L f)
@@ -105,7 +105,8 @@ module _ {S L : Type 0} (g : Ghosts S) (f : DiskGhosts L) (Created : Result L No
     pub founded : IsFoundedIn g Opened (Ok founding) office
     pub ended : IsClosedKept g f true Closed (begun_with office log)
 
-  -- the same of the founding that words describe
+  -- a journal was begun by the founding that words describe, and then its office was founded and closed
+  -- with it
   pub record WasFoundedWith (Opened : Held S → Type 0) (Closed : Held S → Option ℕ → Type 0)
       (described : Described) : Type 0 where
     pub founding : Founding
@@ -124,11 +125,13 @@ module _ {S L : Type 0} (g : Ghosts S) (f : DiskGhosts L) (Created : Result L No
           × IsFoundedIn g (d.opened path) (Ok founding) office
           × IsClosedKept g f true (IsEnded d) (begun_with office log)))
 
-    -- or the journal wasn't begun
+    -- no journal was begun by a founding; or one was, and nothing was founded, or the office couldn't
+    -- be closed
     abbrev pub IsUnfoundedBehind : Founding → CommandFault → Type 0
     IsUnfoundedBehind founding why = IsUnbegun Created Removed why ⊎ IsUnfoundedThen founding why
 
-    -- or words describe no founding
+    -- words describe no founding; or they describe one, by which no office was founded and closed with
+    -- a journal
     abbrev pub IsUnfoundedWith : Described → CommandFault → Type 0
     IsUnfoundedWith described why =
         IsUndescribed described why
@@ -159,8 +162,8 @@ module _ {S L : Type 0} (g : Ghosts S) (f : DiskGhosts L)
       pub office : IsOpenedOffice g Opened was
       pub journal : IsOpenedWith mark was x
 
-    -- such an office was opened, this was done with it, and it was closed with its journal, of which
-    -- this is known
+    -- an office was opened again with its journal, this was done with it, and both were closed, of
+    -- which this is known
     pub record WasKept (is_marked : Bool)
         (Done : (old new : Journaled (Held S) (SealedLog L f)) → Type 0)
         (Closed : Held S → Option ℕ → Type 0) : Type 0 where
@@ -182,8 +185,8 @@ module _ {S L : Type 0} (g : Ghosts S) (f : DiskGhosts L)
 
   -- of databases of which this is known, and the one at a path that has this mark
   module _ {D : Type 0} (d : databases.Ghosts D (Held S)) (path : List ℕ) (mark : ℕ) where
-    -- there is no office with its journal: no office, or one without, which was closed, whatever
-    -- came of that
+    -- no office with its journal is there: none, or one without, which was closed, whatever came
+    -- of that
     abbrev pub IsUnkept : CommandFault → Type 0
     IsUnkept why = IsOfOpening d path g why ⊎ WasNotKept (d.opened path) mark (IsEnded d) why
 

@@ -71,7 +71,8 @@ module _ {D L : Type 0} (g : disk.Ghosts D) (f : disk.Ghosts L) where
         → AreLeft it.ended.closed.0 it.ended.last h
         (λ now. history_after_lines now it.done.outcomes) is_marked
 
-    -- and so do exchanges
+    -- Exchanges over an office and its journal, which told its history or one event more, leave
+    -- both of one history: with what they were answered.
     abbrev pub KeptExchangesAreLeft : Type 0
     KeptExchangesAreLeft = (h : History) (image : Image) (most mark : ℕ) (is_marked : Bool)
         → IsLawfulHistory h → HoldsOffice image (tables_of h)
@@ -83,7 +84,8 @@ module _ {D L : Type 0} (g : disk.Ghosts D) (f : disk.Ghosts L) where
         → AreLeft it.ended.closed.0 it.ended.last h (λ now.
         history_after_all now (requests_in it.done.1.came) (answers_in it.done.1.came)) is_marked
 
-    -- so does the marking of an office: nothing is done with it
+    -- the marking of an office, with which nothing is done, leaves office and journal of one
+    -- history
     abbrev pub MarkingIsLeft : Type 0
     MarkingIsLeft = (h : History) (image : Image) (mark : ℕ)
         → IsLawfulHistory h → HoldsOffice image (tables_of h)

@@ -22,8 +22,8 @@ HasAnswered contents m came output wrote old new =
     × IfSome came (λ bytes. AreAnswered m old new (contents output.inner) (contents wrote.inner)
     (lines_of bytes))
 
--- lines were handled, and the desk stopped for this, after which stands what it says; of the bytes
--- that were to come those are left
+-- lines were handled, and the desk stopped for this, after which stands what it says, with these
+-- bytes left of those that were to come
 abbrev pub HasStopped : {O X : Type 0} → (O → Option (List ℕ)) → Meaning X
     → (came left : Option (List ℕ)) (output wrote : Counted O) → CommandFault → (old new : X)
     → Type 0

@@ -10,8 +10,8 @@ use Rattle.command_host.specs.declared.databases.Databases as databases
 use Rattle.command_host.specs.declared.fault.CommandFault.{CommandFault}
 use Rattle.command_host.specs.declared.fault.CommandFault.TheVariants as fault
 
--- A database was opened, of which this is known; it had an office of schema 1, which was migrated;
--- and it was closed with this mark or as it was marked, of which this is known.
+-- A database was opened, of which this is known, and its office of schema 1 was migrated. What that
+-- left was closed with this mark or as it was marked, of which this is known.
 pub record WasMigrated {S : Type 0} (g : Ghosts S) (Opened : Held S → Type 0) (mark : Option ℕ)
     (Closed : Held S → Option ℕ → Type 0) : Type 0 where
   pub old : Held S
@@ -21,8 +21,8 @@ pub record WasMigrated {S : Type 0} (g : Ghosts S) (Opened : Held S → Type 0) 
   pub migration : IsMigration {E = MigrationFault} (state g old) (state g new) (Ok (tt {0}))
   pub closed : Closed new mark
 
--- There is no database at the path; or one was opened and wasn't migrated for this, and was closed; or
--- it was migrated and couldn't be closed.
+-- No database is at the path; or one was opened, wasn't migrated for this, and was closed; or one was
+-- migrated and couldn't be closed.
 abbrev pub IsUnmigrated : {S D : Type 0} → Ghosts S → databases.Ghosts D (Held S)
     → (path : List ℕ) → (mark : Option ℕ) → CommandFault → Type 0
 IsUnmigrated g d path mark (fault.Store why) = IsNotThere d path why
@@ -39,12 +39,12 @@ mark_without false = None
 
 module _ {S D : Type 0} (g : Ghosts S) (d : databases.Ghosts D (Held S)) (path : List ℕ)
     (without_journal : Bool) where
-  -- it was migrated so; and it has no journal, or goes on without
+  -- the office at the path was migrated, and has no journal, or goes on without
   pub record HasMigrated : Type 0 where
     pub none : without_journal ≡ false → d.marked path (Ok 0)
     pub migrated : WasMigrated g (d.opened path) (mark_without without_journal) d.closed
 
-  -- it wasn't; or it has a journal, and doesn't go on without
+  -- the office at the path wasn't migrated; or it has a journal, and doesn't go on without
   abbrev pub FailsToMigrateAt : CommandFault → Type 0
   FailsToMigrateAt why =
       IsUnmigrated g d path (mark_without without_journal) why

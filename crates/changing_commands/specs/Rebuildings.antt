@@ -60,8 +60,7 @@ module _ {S F : Type 0} (g : Ghosts S) (Opens : Result F IoError → Type 0)
     pub unbuilt : IsUnbuilt text g was left refused
     pub closed : Closed left None
 
--- of databases of which this is known, and of the one at a path, and of journals as they are opened
--- and read
+-- of databases of which this is known, and of the one at a path, and of journals as they are opened and read
 module _ {S D F : Type 0} (g : Ghosts S) (d : databases.Ghosts D (Held S)) (path : List ℕ)
     (Opens : Result F IoError → Type 0) (Gives : F → F → Result ℕ IoError → List ℕ → Type 0)
     (bytes_of : F → Option (List ℕ)) where
@@ -84,7 +83,7 @@ module _ {S D F : Type 0} (g : Ghosts S) (d : databases.Ghosts D (Held S)) (path
       pub office : WasRebuilt g Opens bytes_of (d.opened path) d.closed built
       pub printed : IsWhole contents output wrote (seal_line (codes "rebuilt") built.events built.seal)
 
-    -- it wasn't, for want of memory, or was cut
+    -- the line of an office that was built anew wasn't printed, for want of memory, or was cut
     abbrev pub IsUnsaid : Built → CommandFault → Type 0
     IsUnsaid built fault.NoMemory = wrote ≡ output
     IsUnsaid built fault.Write = IsCut contents output wrote (seal_line (codes "rebuilt") built.events built.seal)

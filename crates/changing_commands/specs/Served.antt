@@ -15,14 +15,14 @@ use Rattle.changing_commands.specs.Journals.{is_marked, journaled_over, IsServed
 use Rattle.changing_commands.specs.Lines.{HasAnswered, HasStopped}
 use Rattle.changing_commands.specs.Serving.{HasBegun, HasServed}
 
--- it failed so before anything was opened
+-- a command failed so before anything was opened
 abbrev pub FailsFirst : (CommandFault → Type 0) → Result (Unit {0}) CommandFault → Type 0
 FailsFirst Fails (Ok done) = ⊥
 FailsFirst Fails (Err why) = Fails why
 
 module _ {S D : Type 0} (d : databases.Ghosts D (Held S)) (path : List ℕ) where
-  -- the database at a path has no mark, and with the office there this came of it; or it has one, so
-  -- that it wants its journal
+  -- the database at a path has no mark, and this came of the office there; or it has one, and
+  -- wants its journal
   abbrev pub IsOfUnmarked : (Alone : Result (Unit {0}) CommandFault → Type 0)
       → Result (Unit {0}) CommandFault → Type 0
   IsOfUnmarked Alone result =
@@ -83,7 +83,7 @@ module _ {S D F L N O : Type 0} (k : Known S D F L N) (contents : O → Option (
       abbrev pub ServesAll : (old new : X) → Type 0
       ServesAll old new = HasServed k.shows k.binds k.tells contents m words old new output wrote
 
-      -- it was served so until this was told
+      -- the office was served as the words ask, until this was told
       abbrev pub ServesUntil : CommandFault → (old new : X) → Type 0
       ServesUntil why old new =
           HasBegun k.shows k.binds k.tells contents m words old new output wrote why

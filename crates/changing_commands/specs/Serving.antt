@@ -29,7 +29,7 @@ longest_exchange = 10 * 1_000_000_000
 abbrev pub listening_line : ℕ → List ℕ
 listening_line port = codes "listening 127.0.0.1:" ++ decimal port ++ codes "\n"
 
--- there were at most so many exchanges one after the other
+-- at most so many exchanges were handled, one after the other
 abbrev pub HasServedUpTo : {X : Type 0} → Meaning X → X → X → ℕ → Type 0
 HasServedUpTo m old new most =
     (results : List (Result Served HttpFault)) × HaveExchanged m old new results
@@ -79,15 +79,15 @@ module _ {N O X : Type 0} (Shows : N → Result Duration Error → Type 0)
   abbrev pub IsUnsaid : Type 0
   IsUnsaid = (new ≡ old) × (shown : ℕ) × IsCut contents output wrote (listening_line shown)
 
-  -- what is told of that: all was served; or there was nothing that listens, and nothing was served
-  -- or written; or a line couldn't be written
+  -- what is told of serving: all was served; or nothing listens, and nothing was served or
+  -- written; or a line couldn't be written
   abbrev pub IsTold : Result (Unit {0}) CommandFault → Type 0
   IsTold (Ok done) = HasListened (Ok (tt {0}))
   IsTold (Err why) = (IsUnbound why × (new ≡ old) × (wrote ≡ output))
       ⊎ ((why ≡ fault.Write)
       × (IsUnsaid ⊎ ((failed : WriteFailed) × HasListened (Err failed))))
 
-  -- so it was served, and the office was left by at most so many exchanges
+  -- the office was served so, and left by at most as many exchanges as the words ask for
   pub record IsServing (result : Result (Unit {0}) CommandFault) : Type 0 where
     pub exchanges : HasServedUpTo m old new (exchanges_of words.requests)
     pub told : IsTold result
@@ -96,6 +96,6 @@ module _ {N O X : Type 0} (Shows : N → Result Duration Error → Type 0)
   abbrev pub HasServed : Type 0
   HasServed = IsServing (Ok (tt {0}))
 
-  -- it was served so until this was told
+  -- the office was served so until this was told
   abbrev pub HasBegun : CommandFault → Type 0
   HasBegun why = IsServing (Err why)

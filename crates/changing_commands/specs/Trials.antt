@@ -23,15 +23,14 @@ pub record WasTried (Done : (old new : Held MemoryStore) → Type 0) : Type 0 wh
   pub founded : IsFoundedAs over_memory trial_founding old
   pub done : Done old new
 
--- the same of a trial desk that ends so: where it fails, there was no memory for the office, or it
--- stopped for this
+-- a trial desk ends so: where it fails, there was no memory for the office, or it stopped for this
 abbrev pub HasTried : (Done : (old new : Held MemoryStore) → Type 0)
     → (Stops : CommandFault → (old new : Held MemoryStore) → Type 0)
     → Result (Unit {0}) CommandFault → Type 0
 HasTried Done Stops (Ok done) = WasTried Done
 HasTried Done Stops (Err why) = (why ≡ fault.NoMemory) ⊎ WasTried (Stops why)
 
--- the same of the lines that were to come, of which these are left, and of an output
+-- of the lines that were to come, of those that are left, and of an output
 module _ {O : Type 0} (contents : O → Option (List ℕ)) (came left : Option (List ℕ))
     (output wrote : Counted O) where
   abbrev pub IsTrial : Result (Unit {0}) CommandFault → Type 0

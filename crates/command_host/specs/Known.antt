@@ -35,7 +35,7 @@ pub record Known (S D F L N : Type 0) : Type 1 where
   pub stamps : List ℕ → Option Stamp → Type 0
   pub compares : (journal database : List ℕ) → Result Bool Error → Type 0
 
--- that all of it is known is no claim: it stands in the type of what a program gets from outside
+-- all of it being known is no claim: it stands in the type of what a program gets from outside
 abbrev pub AreKnown : {S D F J L N M C : Type 1} {R : Type 0}
     → S → D → F → R → J → L → N → M → C → Type 0
 AreKnown store databases opens bytes_of journals log binds tells shows = Unit {0}

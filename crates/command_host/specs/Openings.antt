@@ -50,15 +50,15 @@ module _ {S D : Type 0} (d : databases.Ghosts D (Held S)) where
         ((error : Error) × d.refused path error × (why ≡ fault_of_opening error))
         ⊎ ((why ≡ Disk) × ((conn : Held S) × d.opened path conn × (conn.in_transaction ≡ true)))
 
-    -- there is none at a path, for this: it couldn't be seen whether something is there, nothing is,
-    -- or what is there wasn't opened
+    -- no database is at a path, for this: it couldn't be seen whether something is there, nothing
+    -- is, or what is there wasn't opened
     abbrev pub IsNotThere : Fault → Type 0
     IsNotThere why =
         ((why ≡ Disk) × ((error : IoError) × d.sees path (Err error)))
         ⊎ ((why ≡ NotAnOffice) × d.sees path (Ok false)) ⊎ IsUnopened why
 
-    -- there is no database at a path; or one was opened there, and is no office of this schema, for
-    -- this, and was closed
+    -- no database is at a path; or one was opened there, is no office of this schema, for this, and
+    -- was closed
     abbrev pub IsOfOpening : Ghosts S → CommandFault → Type 0
     IsOfOpening g (fault.Store why) = IsNotThere why
     IsOfOpening g (fault.Opening why) =
@@ -66,11 +66,12 @@ module _ {S D : Type 0} (d : databases.Ghosts D (Held S)) where
         × IsEnded new None
     IsOfOpening g _ = ⊥
 
-    -- its mark couldn't be read
+    -- the mark of the database at a path couldn't be read
     abbrev pub IsUnread : CommandFault → Type 0
     IsUnread why = (why ≡ fault.Store Disk) × ((error : IoError) × d.marked path (Err error))
 
-    -- the same; or it has one, so that it wants a journal
+    -- the mark of the database at a path couldn't be read; or there is one, so that a journal is
+    -- wanted
     abbrev pub IsWithJournal : CommandFault → Type 0
     IsWithJournal why =
         IsUnread why
@@ -93,9 +94,9 @@ module _ {S : Type 0} (g : Ghosts S) (Opened : Held S → Type 0) where
     pub done : Done old new
     pub closed : Closed new mark
 
--- The same of a command that serves the office at a path. Where it failed, there was no office; or
--- it stopped for this, and the office was closed, whatever came of that; or all was done and the
--- office couldn't be closed.
+-- A command that serves the office at a path ended so. Where it failed, there was no office; or it
+-- stopped for this, and the office was closed, whatever came of that. Or all was done, and the office
+-- couldn't be closed.
 abbrev pub IsServed : {S D : Type 0} → Ghosts S → (d : databases.Ghosts D (Held S))
     → (path : List ℕ) → (Done : (old new : Held S) → Type 0)
     → (Stops : CommandFault → (old new : Held S) → Type 0) → (mark : Option ℕ)

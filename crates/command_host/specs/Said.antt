@@ -29,12 +29,12 @@ module _ {E : Type 0} (contents : E → Option (List ℕ)) (old new : Counted E)
   abbrev pub IsSaid : List ℕ → Type 0
   IsSaid text = IsWhole contents old new text ⊎ IsCut contents old new text
 
-  -- lines were said, of which no character but their ends controls a terminal; or in place of that, that
+  -- what was said is lines, of which no character but their ends controls a terminal; or in place of that, that
   -- there is no memory
   abbrev pub AreSaid : List ℕ → Type 0
   AreSaid lines = IsSaid (plain_lines lines) ⊎ IsSaid memory_line
 
-  -- it was said why a command was refused or failed, and at which path a file couldn't be read; or in
-  -- place of that, that there is no memory
+  -- what was said is why a command was refused or failed, and at which path a file couldn't be read; or
+  -- in place of that, that there is no memory
   abbrev pub IsRefusal : CommandFault → (unread : Option (List ℕ)) → Type 0
   IsRefusal why unread = IsSaid (refusal_line why unread) ⊎ IsSaid memory_line

@@ -1,5 +1,5 @@
--- What the words of a command line ask for, by the command that clap finds in them and the values
--- that it gives.
+-- What the words of a command line ask for, by the command that clap finds in them and the values that it
+-- gives.
 use Rattle.std.specs.Prelude.{◌≡◌, ◌==◌, ◌&&◌, ◌||◌, ◌-◌, ◌^◌, ℕ, Bool, true, false, Option, Some}
 use Rattle.std.specs.Prelude.{None, List, bytes_eq, [], codes, length, map, nat_le, option_map, unwrap_or}
 use Rattle.std.specs.List.{after_first, before_first, list_all}
@@ -160,7 +160,7 @@ pub record HasHistoryValues (rows : List Row) (words : HistoryWords) : Type 0 wh
   pub since : IsNumberIn 1 18446744073709551615 words.since (one_of (codes "since") rows)
   pub json : IsFlag (one_of (codes "json") rows) words.json
 
--- there is no `--line`, or its value is this number, from 1 and of 64 bits
+-- no `--line` is given, or its value is this number, from 1 and of 64 bits
 abbrev pub IsLineGiven : List Row → Option ℕ → Type 0
 IsLineGiven rows None = first_of (codes "line") rows ≡ None
 IsLineGiven rows (Some n) = IsNumberIn 1 18446744073709551615 n (one_of (codes "line") rows)

@@ -79,7 +79,7 @@ part_for parameter = (rule_for parameter, false)
 abbrev pub heading_of : Command → Shape × Bool
 heading_of command = (shape_of command, (fields_of command).has_globals)
 
--- there is one more command, the last, which is this one
+-- the new commands are the old ones, and then this one
 abbrev pub AddsCommand : App → List Command → List Command → Type 0
 AddsCommand app old new = map heading_of new ≡ map heading_of old ++ (app.top, false) ∷ []
 

@@ -37,11 +37,11 @@ NoJournalGiven rows = (journal : JournalWords) → ¬ IsJournalGiven rows journa
 abbrev pub NoKeptSeal : Text → Type 0
 NoKeptSeal text = (kept : KeptSeal) → ¬ IsKeptSeal text kept
 
--- and there is one
+-- a text is given, and names no line with a seal
 abbrev pub NoSealGiven : Option Text → Type 0
 NoSealGiven given = (seal : Option KeptSeal) → ¬ IsSealGiven given seal
 
--- there is a `--line`, and its value is no number from 1 and of 64 bits
+-- a `--line` is given, and its value is no number from 1 and of 64 bits
 abbrev pub NoLineGiven : List Row → Type 0
 NoLineGiven rows = (line : Option ℕ) → ¬ IsLineGiven rows line
 

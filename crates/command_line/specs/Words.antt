@@ -7,11 +7,11 @@ use Rattle.command_line.specs.Commands.{faults_in, found_in}
 use Rattle.command_line.specs.Meaning.{IsCommand}
 use Rattle.command_line.specs.Refusals.{IsRefused}
 
--- they ask for this command
+-- the words ask for this command
 pub record AskFor (words : List (String Global)) (command : Command) : Type 0 where
   pub accepted : faults_in words ≡ []
   pub found : IsCommand (found_in words) command
 
--- they ask for none, as this says
+-- the words ask for no command, as this says
 abbrev pub AskForNone : List (String Global) → WordsFault → Type 0
 AskForNone words fault = IsRefused (faults_in words) (found_in words) fault

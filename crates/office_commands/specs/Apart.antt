@@ -19,7 +19,7 @@ module _ {S D F L N O : Type 0} (k : Known S D F L N) (contents : O → Option (
   HasRunApart asked status =
       WasApart k.compares asked (HasRun k contents asked came left output wrote status)
 
-  -- it failed; or they weren't, and it is refused for that
+  -- a command failed; or its journal and its database weren't apart, and it is refused for that
   abbrev pub HasFailedApart : Command → CommandFault → Type 0
   HasFailedApart asked why =
       FailsApart k.compares asked (HasFailed k contents asked came left output wrote) why

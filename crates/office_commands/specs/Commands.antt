@@ -26,7 +26,7 @@ use Rattle.reading_commands.specs.Reports.{HasProved, WasToldAt}
 use Rattle.reading_commands.specs.Verifications.{HasVerified}
 use Rattle.office_commands.specs.Unread.{unread_by}
 
--- this holds where a flag is set
+-- a fact holds where a flag is set
 abbrev pub IfSet : Bool → Type 0 → Type 0
 IfSet true Holds = Holds
 IfSet false Holds = Unit {0}

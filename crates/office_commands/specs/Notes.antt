@@ -14,12 +14,12 @@ abbrev pub without_line : List ℕ
 without_line =
     codes "office: without its journal, which tells nothing of what happens from now on\n"
 
--- it is said so of words on a journal
+-- words on a journal say that an office goes on without
 abbrev pub is_without : JournalWords → Bool
 is_without Without = true
 is_without _ = false
 
--- and of a command
+-- a command says that an office goes on without its journal
 abbrev pub goes_without : Command → Bool
 goes_without (command.Desk database journal) = is_without journal
 goes_without (command.Serve words) = is_without words.journal

@@ -19,7 +19,7 @@ abbrev pub given_with : (journal : Option (List ℕ)) (database : List ℕ) → 
 given_with (Some journal) database = Some (journal, database)
 given_with None database = None
 
--- those that a command writes, where it names both
+-- the journal and the database that a command writes, where it names both
 abbrev pub files_named : Command → Option (List ℕ × List ℕ)
 files_named (command.Init words) = given_with (option_copied words.journal) words.database.now
 files_named (command.Desk database journal) = given_with (journal_named journal) database.now
@@ -37,7 +37,7 @@ module _ (Compares : (journal database : List ℕ) → Result Bool Error → Typ
   abbrev pub IsApart : Command → Type 0
   IsApart asked = AreApart (files_named asked)
 
-  -- it names two, which are one; or that couldn't be said for want of memory
+  -- a command names two files, which are one; or that couldn't be said for want of memory
   abbrev pub AreUnapart : Option (List ℕ × List ℕ) → CommandFault → Type 0
   AreUnapart None why = ⊥
   AreUnapart (Some files) why =

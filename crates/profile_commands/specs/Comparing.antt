@@ -62,7 +62,8 @@ AgreesWithBase calls calls_after faults faults_after (Err (New fault)) = faults_
 AgreesWithBase calls calls_after faults faults_after (Err NoMemory) = faults_after ≡ faults
 AgreesWithBase calls calls_after faults faults_after (Ok x) = faults_after ≡ faults
 
--- the same of NEW's reader, which isn't called where a fault is reported of BASE
+-- the calls of NEW's reader and those that failed agree with what is reported of NEW; with a fault
+-- of BASE there is no call
 abbrev pub AgreesWithNew : {X : Type 0} → (calls calls_after faults faults_after : ℕ)
     → Result X ComparedFault → Type 0
 AgreesWithNew {X} calls calls_after faults faults_after (Err (New fault)) =

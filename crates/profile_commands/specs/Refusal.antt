@@ -34,7 +34,7 @@ ReadsAgree calls calls_after faults faults_after (Err TooManyReads) =
 ReadsAgree calls calls_after faults faults_after (Err NoMemory) = faults_after ≡ faults
 ReadsAgree calls calls_after faults faults_after (Ok x) = faults_after ≡ faults
 
--- the same of what is answered of a file
+-- the calls of a reader and those that failed agree with what is answered of a file
 abbrev pub AgreesWithReads : {X : Type 0} → (calls calls_after faults faults_after : ℕ)
     → Result X FileFault → Type 0
 AgreesWithReads {X} calls calls_after faults faults_after (Err (file.Unread why)) =

@@ -37,13 +37,13 @@ IsOfReading Gives _ = ⊥
 -- of a file of which this is known as it is opened, and whose bytes are these: a log, or a database
 -- beside one
 module _ {F : Type 0} (Opened : Result F Error → Type 0) where
-  -- it was opened and gave these bytes, the front of its own where they are known
+  -- the file was opened and gave these bytes, the front of its own where they are known
   abbrev pub Gave : (F → Option (List ℕ)) → Option (List ℕ) → List ℕ → Type 0
   Gave bytes_of log bytes = (file : F) × Opened (Ok file)
       × IfSome (bytes_of file) (λ all. bytes ≡ front_of log all)
 
-  -- It gave none, for this: nothing is there; something is and can't be opened, or a call of read on
-  -- it failed; there was no memory; or more of it was wanted than is read.
+  -- The file gave none, for this. Nothing is there; or what is there can't be opened, or a call of
+  -- read on it failed. Or memory was lacking, or more of the file was wanted than is read.
   abbrev pub GaveNone : (Gives : F → F → Result ℕ Error → List ℕ → Type 0)
       → (F → Option (List ℕ)) → Option (List ℕ) → CommandFault → Type 0
   GaveNone Gives bytes_of log (fault.Store NotAnOffice) =
@@ -84,12 +84,12 @@ module _ (log database : List ℕ) where
   abbrev pub IsCopiedOffice : Held CopyStore → Type 0
   IsCopiedOffice = IsOpenedOffice over_copy (IsCopyOf log database)
 
-  -- there is no copy, for this
+  -- no copy is made, for this
   abbrev pub IsUncopied : Fault → Type 0
   IsUncopied why = (error : SqliteError) × FailsToCopy log database error
       × (why ≡ fault_of_opening error)
 
-  -- there is no copy; or what is in it is no office of this schema
+  -- no copy is made; or what is in it is no office of this schema
   abbrev pub IsNoCopiedOffice : CommandFault → Type 0
   IsNoCopiedOffice (fault.Store why) = IsUncopied why
   IsNoCopiedOffice (fault.Opening why) =

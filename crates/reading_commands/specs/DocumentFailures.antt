@@ -57,8 +57,8 @@ module _ {F O : Type 0} (Opens : List ℕ → Result F Error → Type 0)
   abbrev pub IsUnopened : (word : List ℕ) → Type 0
   IsUnopened word = ((e : Error) × Opens (file_of word) (Err e)) × (wrote ≡ output)
 
-  -- it gave nothing, by a fault that is of its bytes where it is of a document, and that is a failed
-  -- read only where a call of read failed; and nothing was printed
+  -- the file that a word names gave nothing, and nothing was printed. A fault of a document is of the
+  -- file's bytes, and a failed read is told only where a call of read failed
   abbrev pub GaveNothing : (word : List ℕ) → FileFault → Type 0
   GaveNothing word why =
       (file : F) × Opens (file_of word) (Ok file)

@@ -24,7 +24,7 @@ abbrev pub outcome_text : ExecveOutcome → List ℕ
 outcome_text (Done text) = string_bytes text
 outcome_text Denied = codes "EPERM\n"
 
--- and the status with it
+-- the status of an execve: 0 where it is done, and 1 where it is denied
 abbrev pub outcome_status : ExecveOutcome → ℕ
 outcome_status (Done text) = 0
 outcome_status Denied = 1
@@ -67,8 +67,8 @@ module _ {F O : Type 0} (Opens : List ℕ → Result F Error → Type 0)
     pub checked : IfSome (bytes_of file) (λ bytes. IsChecked bytes (Ok text))
     pub printed : IsWhole contents output wrote (string_bytes text)
 
-  -- `execve`: what comes of the execution that the words describe, for the document in the file
-  -- that they name
+  -- `execve`: what comes of the execution that the words describe, for the document in the file that they
+  -- name
   pub record HasExecuted (words : ExecveWords) (status : ℕ) : Type 0 where
     pub file : F
     pub opened : Opens (file_of words.file.now) (Ok file)

@@ -25,8 +25,8 @@ pub record IsMoment (Stamped : List ℕ → Option Stamp → Type 0) (place : Pl
   pub log : Stamped (string_bytes place.log) moment.log
   pub journal_of : Stamped journal moment.journal
 
--- both moments are the same: of each file there was none, or the same one, as long, and written last at
--- the same time
+-- both moments are the same: of each file there was none, or the same one, as long, and written last
+-- at the same time
 abbrev pub is_same : (before after : Moment) → Bool
 is_same before after =
     option_eq eq-value.it before.database after.database

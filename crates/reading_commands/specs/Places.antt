@@ -21,12 +21,13 @@ log_path path = path ++ codes "-wal"
 
 -- of what came of asking where a database lies
 module _ (Found : Result (PathBuf Global) Error → Type 0) where
-  -- it lies there, and its log beside it
+  -- the database lies there, and its log beside it
   abbrev pub IsPlace : Place → Type 0
   IsPlace place = Found (Ok place.database)
       × (string_bytes place.log ≡ log_path (path_buf_bytes place.database))
 
-  -- it lies nowhere, for this: nothing is there, or what is there can't be had; or there was no memory
+  -- the database lies nowhere, for this: nothing is there, or what is there can't be had; or there was
+  -- no memory
   abbrev pub IsNoPlace : CommandFault → Type 0
   IsNoPlace (fault.Store NotAnOffice) = (e : Error) × Found (Err e) × IsMissing e
   IsNoPlace (fault.Store Disk) = (e : Error) × Found (Err e) × (error_kind e ≢ kind.NotFound)

@@ -28,7 +28,7 @@ IsNoWord text fault.NotAWord = is_word text ≡ false
 IsNoWord text fault.NoMemory = Unit {0}
 IsNoWord text _ = ⊥
 
--- the same of a text that is given
+-- a text that is given is no word, or there was no memory for it
 abbrev pub IsNoName : Option (List ℕ) → CommandFault → Type 0
 IsNoName None why = ⊥
 IsNoName (Some text) why = IsNoWord text why
@@ -50,7 +50,7 @@ asked_of words = record {
   json = words.json;
 }
 
--- these are the names that they give
+-- the names are those that the words give
 abbrev pub HasNames : HistoryWords → Names → Type 0
 HasNames words names =
     (names.team ≡ option_copied words.team) × (names.profile ≡ option_copied words.profile)
@@ -99,7 +99,7 @@ module _ {F : Type 0} (Opens : List ℕ → Result F Error → Type 0)
         pub evidence : IsEvidenceAt words text
         pub printed : IsWhole contents output wrote text
 
-      -- there is none, and nothing was printed; or it was cut
+      -- no evidence is there, and nothing was printed; or the text was cut
       abbrev pub FailsToProve : CommandFault → Type 0
       FailsToProve why =
           (IsNoEvidenceAt words why × (wrote ≡ output))
@@ -125,8 +125,8 @@ module _ {F : Type 0} (Opens : List ℕ → Result F Error → Type 0)
         pub unwritten : IsUnwritten bytes (asked_of words) (contents output.inner)
             (contents wrote.inner) over_memory conn left why
 
-      -- the words name no team, profile or user, no journal can be opened, or there was no memory,
-      -- and nothing was written; or not each line was written, which is told
+      -- the words name no team, profile or user, no journal can be opened, or memory is
+      -- lacking, and nothing was written. Or not each line was written, which is told
       abbrev pub IsUntoldAt : CommandFault → Type 0
       IsUntoldAt why =
           ((NamesNone words why ⊎ IsNoText (Opens words.journal.now) why ⊎ (why ≡ fault.NoMemory))

@@ -48,7 +48,7 @@ module _ {F : Type 0} (Opens : List ℕ → Result F IoError → Type 0) where
       pub looked : HasLooked (state over_copy old) (state over_copy new)
       pub verified : IsVerified text over_copy (kept_of kept) (user_version database) new found
 
-    -- the same, and it isn't, for this
+    -- an office in a copy of them was opened, and isn't that of the journal, for this
     pub record WasUnverifiedIn (why : Unverified) : Type 0 where
       pub log : List ℕ
       pub database : List ℕ
@@ -72,9 +72,8 @@ module _ {F : Type 0} (Opens : List ℕ → Result F IoError → Type 0) where
         ⊎ ((met : Unverified) × WasUnverifiedIn bytes_of place text kept met
         × IsToldOf Gives (fault.Unverified met) why)
 
--- Of files of which this is known as they are opened, as it is asked where a database lies, and as
--- they are read, and whose bytes are these: that of a journal, and those of the database at a path;
--- and of a seal that was kept.
+-- Of a journal, of the database at a path, and of a seal that was kept. This is known of files
+-- as they are opened and read, and as it is asked where a database lies.
 module _ {F : Type 0} (Opens : List ℕ → Result F IoError → Type 0)
     (Places : List ℕ → Result (PathBuf Global) IoError → Type 0) where
   -- the files that lie there, and a journal, were opened, and the office is that of the journal
@@ -86,7 +85,8 @@ module _ {F : Type 0} (Opens : List ℕ → Result F IoError → Type 0)
     pub placed : IsPlace (Places path) place
     pub verified : WasVerifiedIn Opens bytes_of place text kept found
 
-  -- the same, and it isn't, for this
+  -- a journal was opened, a database lies at the path, and no office there is that of the journal,
+  -- for this
   pub record WasUnverified (Gives : F → F → Result ℕ IoError → List ℕ → Type 0)
       (bytes_of : F → Option (List ℕ)) (journal path : List ℕ) (kept : Option WordsSeal)
       (why : CommandFault) : Type 0 where
@@ -96,7 +96,7 @@ module _ {F : Type 0} (Opens : List ℕ → Result F IoError → Type 0)
     pub placed : IsPlace (Places path) place
     pub unverified : IsNotOf Opens Gives bytes_of place text kept why
 
-  -- there is no text, or the database lies nowhere; or the office isn't that of the journal
+  -- no text is there, or the database lies nowhere; or the office isn't that of the journal
   abbrev pub IsUnverifiedAt : (Gives : F → F → Result ℕ IoError → List ℕ → Type 0)
       → (F → Option (List ℕ)) → (journal path : List ℕ) → Option WordsSeal → CommandFault → Type 0
   IsUnverifiedAt Gives bytes_of journal path kept why =
@@ -114,7 +114,7 @@ module _ {F : Type 0} (Opens : List ℕ → Result F IoError → Type 0)
       pub printed : IsWhole contents output wrote
           (seal_line (codes "verified") verified.events verified.seal)
 
-    -- it wasn't, for want of memory, or was cut
+    -- the line of an office that was verified wasn't printed, for want of memory, or was cut
     abbrev pub IsUnsaid : (contents : O → Option (List ℕ)) (output wrote : Counted O) → Verified
         → CommandFault → Type 0
     IsUnsaid contents output wrote verified fault.NoMemory = wrote ≡ output
