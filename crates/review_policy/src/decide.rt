@@ -1,6 +1,6 @@
 //! The decisions: the first rule that refuses a request, by its facts.
 
-ghost use Rattle.std.specs.Prelude.{◌≡◌, List, Bool, false, Ok, Err, if◌then◌else◌};
+ghost use Rattle.std.specs.Prelude.{◌≡◌, ◌≤◌, List, Bool, false, length};
 ghost use Rattle.review_policy.specs.FirstRefusal.{IsDecision, any_refuses};
 ghost use Rattle.review_policy.specs.Rules.{first_denial, need_of, is_open, is_issued, enrol_rules};
 ghost use Rattle.review_policy.specs.Rules.{submit_rules, vote_rules, issue_rules, withdraw_rules};
@@ -72,15 +72,22 @@ pub fn no_rule_refuses_passing_facts()
     ensures of_release { any_refuses (release_rules release_facts.PASSING) ≡ false }
 {}
 
-// Denies by this rule, where it refuses.
-fn refuse_if(refuses: bool, number: u8, rule: Rule) -> Result<(), Denial>
-    ensures { result ≡ (if refuses then Err (record { number = number; rule = rule }) else Ok tt) }
+// The first rule that refuses, numbered by its place. Each rule stands with whether it refuses.
+fn first_denial(rules: &[(Rule, bool)]) -> Result<(), Denial>
+    requires { length rules.now ≤ 255 }
+    ensures { result ≡ first_denial rules.now }
 {
-    if refuses {
-        Err(Denial { number, rule })
-    } else {
-        Ok(())
+    let mut number = 0;
+    for (rule, refuses) in rules {
+        number += 1;
+        if *refuses {
+            return Err(Denial {
+                number,
+                rule: *rule,
+            });
+        }
     }
+    Ok(())
 }
 
 // Whether the revision is there and open.

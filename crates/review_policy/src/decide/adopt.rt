@@ -3,7 +3,7 @@
 ghost use Rattle.std.specs.Prelude.{◌≡◌};
 ghost use Rattle.review_policy.specs.Rules.{first_denial, adopt_rules};
 
-use super::{is_issued, refuse_if};
+use super::{first_denial, is_issued};
 use crate::denial::{Denial, Rule};
 use crate::facts::AdoptFacts;
 
@@ -11,9 +11,11 @@ use crate::facts::AdoptFacts;
 pub fn decide_adopt(facts: &AdoptFacts) -> Result<(), Denial>
     ensures { result ≡ first_denial (adopt_rules facts.now) }
 {
-    refuse_if(facts.caller_unknown, 1, Rule::CallerUnknown)?;
-    refuse_if(facts.role_missing, 2, Rule::RoleMissing)?;
-    refuse_if(facts.state.is_none(), 3, Rule::NoRevision)?;
-    refuse_if(facts.author_adopts, 4, Rule::AuthorAdopts)?;
-    refuse_if(!is_issued(facts.state), 5, Rule::NotIssued)
+    first_denial(&[
+        (Rule::CallerUnknown, facts.caller_unknown),
+        (Rule::RoleMissing, facts.role_missing),
+        (Rule::NoRevision, facts.state.is_none()),
+        (Rule::AuthorAdopts, facts.author_adopts),
+        (Rule::NotIssued, !is_issued(facts.state)),
+    ])
 }

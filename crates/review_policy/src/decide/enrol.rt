@@ -3,7 +3,7 @@
 ghost use Rattle.std.specs.Prelude.{◌≡◌};
 ghost use Rattle.review_policy.specs.Rules.{first_denial, enrol_rules};
 
-use super::refuse_if;
+use super::first_denial;
 use crate::denial::{Denial, Rule};
 use crate::facts::EnrolFacts;
 
@@ -11,9 +11,11 @@ use crate::facts::EnrolFacts;
 pub fn decide_enrol(facts: &EnrolFacts) -> Result<(), Denial>
     ensures { result ≡ first_denial (enrol_rules facts.now) }
 {
-    refuse_if(facts.caller_unknown, 1, Rule::CallerUnknown)?;
-    refuse_if(facts.role_missing, 2, Rule::RoleMissing)?;
-    refuse_if(facts.own_row, 3, Rule::OwnRow)?;
-    refuse_if(facts.team_fixed, 4, Rule::TeamFixed)?;
-    refuse_if(facts.token_taken, 5, Rule::TokenTaken)
+    first_denial(&[
+        (Rule::CallerUnknown, facts.caller_unknown),
+        (Rule::RoleMissing, facts.role_missing),
+        (Rule::OwnRow, facts.own_row),
+        (Rule::TeamFixed, facts.team_fixed),
+        (Rule::TokenTaken, facts.token_taken),
+    ])
 }

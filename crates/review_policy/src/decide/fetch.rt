@@ -3,7 +3,7 @@
 ghost use Rattle.std.specs.Prelude.{◌≡◌};
 ghost use Rattle.review_policy.specs.Rules.{first_denial, fetch_rules};
 
-use super::refuse_if;
+use super::first_denial;
 use crate::denial::{Denial, Rule};
 use crate::facts::FetchFacts;
 
@@ -11,9 +11,11 @@ use crate::facts::FetchFacts;
 pub fn decide_fetch(facts: &FetchFacts) -> Result<(), Denial>
     ensures { result ≡ first_denial (fetch_rules facts.now) }
 {
-    refuse_if(facts.caller_unknown, 1, Rule::CallerUnknown)?;
-    refuse_if(facts.role_missing, 2, Rule::RoleMissing)?;
-    refuse_if(facts.other_team, 3, Rule::OtherTeam)?;
-    refuse_if(facts.nothing_issued, 4, Rule::NothingIssued)?;
-    refuse_if(facts.held, 5, Rule::Held)
+    first_denial(&[
+        (Rule::CallerUnknown, facts.caller_unknown),
+        (Rule::RoleMissing, facts.role_missing),
+        (Rule::OtherTeam, facts.other_team),
+        (Rule::NothingIssued, facts.nothing_issued),
+        (Rule::Held, facts.held),
+    ])
 }

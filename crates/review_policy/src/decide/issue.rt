@@ -3,7 +3,7 @@
 ghost use Rattle.std.specs.Prelude.{◌≡◌};
 ghost use Rattle.review_policy.specs.Rules.{first_denial, issue_rules};
 
-use super::{is_open, refuse_if};
+use super::{first_denial, is_open};
 use crate::denial::{Denial, Rule};
 use crate::facts::IssueFacts;
 
@@ -17,13 +17,15 @@ pub fn decide_issue(facts: &IssueFacts) -> Result<(), Denial>
         need: facts.need,
     };
     let insecure = facts.need.asks_security() && facts.secure == 0;
-    refuse_if(facts.caller_unknown, 1, Rule::CallerUnknown)?;
-    refuse_if(facts.role_missing, 2, Rule::RoleMissing)?;
-    refuse_if(facts.state.is_none(), 3, Rule::NoRevision)?;
-    refuse_if(facts.author_issues, 4, Rule::AuthorIssues)?;
-    refuse_if(!is_open(facts.state), 5, Rule::NotOpen)?;
-    refuse_if(facts.rejections > 0, 6, Rule::Rejected)?;
-    refuse_if(facts.approvals < needed, 7, short)?;
-    refuse_if(insecure, 8, Rule::SecurityMissing)?;
-    refuse_if(facts.held, 9, Rule::Held)
+    first_denial(&[
+        (Rule::CallerUnknown, facts.caller_unknown),
+        (Rule::RoleMissing, facts.role_missing),
+        (Rule::NoRevision, facts.state.is_none()),
+        (Rule::AuthorIssues, facts.author_issues),
+        (Rule::NotOpen, !is_open(facts.state)),
+        (Rule::Rejected, facts.rejections > 0),
+        (short, facts.approvals < needed),
+        (Rule::SecurityMissing, insecure),
+        (Rule::Held, facts.held),
+    ])
 }

@@ -3,7 +3,7 @@
 ghost use Rattle.std.specs.Prelude.{◌≡◌};
 ghost use Rattle.review_policy.specs.Rules.{first_denial, read_rules};
 
-use super::refuse_if;
+use super::first_denial;
 use crate::denial::{Denial, Rule};
 use crate::facts::ReadFacts;
 
@@ -12,8 +12,10 @@ use crate::facts::ReadFacts;
 pub fn decide_read(facts: &ReadFacts) -> Result<(), Denial>
     ensures { result ≡ first_denial (read_rules facts.now) }
 {
-    refuse_if(facts.caller_unknown, 1, Rule::CallerUnknown)?;
-    refuse_if(facts.role_missing, 2, Rule::RoleMissing)?;
-    refuse_if(facts.other_team, 3, Rule::OtherTeam)?;
-    refuse_if(facts.no_revision, 4, Rule::NoRevision)
+    first_denial(&[
+        (Rule::CallerUnknown, facts.caller_unknown),
+        (Rule::RoleMissing, facts.role_missing),
+        (Rule::OtherTeam, facts.other_team),
+        (Rule::NoRevision, facts.no_revision),
+    ])
 }

@@ -3,7 +3,7 @@
 ghost use Rattle.std.specs.Prelude.{◌≡◌};
 ghost use Rattle.review_policy.specs.Rules.{first_denial, release_rules};
 
-use super::refuse_if;
+use super::first_denial;
 use crate::denial::{Denial, Rule};
 use crate::facts::ReleaseFacts;
 
@@ -11,8 +11,10 @@ use crate::facts::ReleaseFacts;
 pub fn decide_release(facts: &ReleaseFacts) -> Result<(), Denial>
     ensures { result ≡ first_denial (release_rules facts.now) }
 {
-    refuse_if(facts.caller_unknown, 1, Rule::CallerUnknown)?;
-    refuse_if(facts.role_missing, 2, Rule::RoleMissing)?;
-    refuse_if(facts.no_profile, 3, Rule::NoProfile)?;
-    refuse_if(facts.not_held, 4, Rule::NotHeld)
+    first_denial(&[
+        (Rule::CallerUnknown, facts.caller_unknown),
+        (Rule::RoleMissing, facts.role_missing),
+        (Rule::NoProfile, facts.no_profile),
+        (Rule::NotHeld, facts.not_held),
+    ])
 }

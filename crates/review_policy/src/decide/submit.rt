@@ -3,7 +3,7 @@
 ghost use Rattle.std.specs.Prelude.{◌≡◌};
 ghost use Rattle.review_policy.specs.Rules.{first_denial, submit_rules};
 
-use super::refuse_if;
+use super::first_denial;
 use crate::denial::{Denial, Rule};
 use crate::facts::SubmitFacts;
 use crate::revision::MAX_REVISIONS;
@@ -12,10 +12,12 @@ use crate::revision::MAX_REVISIONS;
 pub fn decide_submit(facts: &SubmitFacts) -> Result<(), Denial>
     ensures { result ≡ first_denial (submit_rules facts.now) }
 {
-    refuse_if(facts.caller_unknown, 1, Rule::CallerUnknown)?;
-    refuse_if(facts.role_missing, 2, Rule::RoleMissing)?;
-    refuse_if(facts.other_team, 3, Rule::OtherTeam)?;
-    refuse_if(facts.document, 4, Rule::Document)?;
-    refuse_if(facts.same_as_open, 5, Rule::SameAsOpen)?;
-    refuse_if(facts.revisions >= MAX_REVISIONS, 6, Rule::RevisionsFull)
+    first_denial(&[
+        (Rule::CallerUnknown, facts.caller_unknown),
+        (Rule::RoleMissing, facts.role_missing),
+        (Rule::OtherTeam, facts.other_team),
+        (Rule::Document, facts.document),
+        (Rule::SameAsOpen, facts.same_as_open),
+        (Rule::RevisionsFull, facts.revisions >= MAX_REVISIONS),
+    ])
 }

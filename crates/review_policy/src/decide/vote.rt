@@ -3,7 +3,7 @@
 ghost use Rattle.std.specs.Prelude.{◌≡◌};
 ghost use Rattle.review_policy.specs.Rules.{first_denial, vote_rules};
 
-use super::{is_open, refuse_if};
+use super::{first_denial, is_open};
 use crate::denial::{Denial, Rule};
 use crate::facts::VoteFacts;
 
@@ -11,10 +11,12 @@ use crate::facts::VoteFacts;
 pub fn decide_vote(facts: &VoteFacts) -> Result<(), Denial>
     ensures { result ≡ first_denial (vote_rules facts.now) }
 {
-    refuse_if(facts.caller_unknown, 1, Rule::CallerUnknown)?;
-    refuse_if(facts.role_missing, 2, Rule::RoleMissing)?;
-    refuse_if(facts.state.is_none(), 3, Rule::NoRevision)?;
-    refuse_if(facts.author_votes, 4, Rule::AuthorVotes)?;
-    refuse_if(!is_open(facts.state), 5, Rule::NotOpen)?;
-    refuse_if(facts.other_bytes, 6, Rule::OtherBytes)
+    first_denial(&[
+        (Rule::CallerUnknown, facts.caller_unknown),
+        (Rule::RoleMissing, facts.role_missing),
+        (Rule::NoRevision, facts.state.is_none()),
+        (Rule::AuthorVotes, facts.author_votes),
+        (Rule::NotOpen, !is_open(facts.state)),
+        (Rule::OtherBytes, facts.other_bytes),
+    ])
 }

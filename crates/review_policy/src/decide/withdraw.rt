@@ -3,7 +3,7 @@
 ghost use Rattle.std.specs.Prelude.{◌≡◌};
 ghost use Rattle.review_policy.specs.Rules.{first_denial, withdraw_rules};
 
-use super::{is_issued, is_open, refuse_if};
+use super::{first_denial, is_issued, is_open};
 use crate::denial::{Denial, Rule};
 use crate::facts::WithdrawFacts;
 
@@ -11,10 +11,12 @@ use crate::facts::WithdrawFacts;
 pub fn decide_withdraw(facts: &WithdrawFacts) -> Result<(), Denial>
     ensures { result ≡ first_denial (withdraw_rules facts.now) }
 {
-    refuse_if(facts.caller_unknown, 1, Rule::CallerUnknown)?;
-    refuse_if(facts.role_missing, 2, Rule::RoleMissing)?;
-    refuse_if(facts.other_team, 3, Rule::OtherTeam)?;
-    refuse_if(facts.state.is_none(), 4, Rule::NoRevision)?;
     let stands = is_open(facts.state) || is_issued(facts.state);
-    refuse_if(!stands, 5, Rule::NotStanding)
+    first_denial(&[
+        (Rule::CallerUnknown, facts.caller_unknown),
+        (Rule::RoleMissing, facts.role_missing),
+        (Rule::OtherTeam, facts.other_team),
+        (Rule::NoRevision, facts.state.is_none()),
+        (Rule::NotStanding, !stands),
+    ])
 }
