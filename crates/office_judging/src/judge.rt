@@ -100,10 +100,7 @@ fn judge_caller<S: Alter>(
 {
     match caller {
         Some(caller) => judge_for(alloc, conn, caller, ask),
-        None => Err(Refusal::from(Denial {
-            number: 1,
-            rule: Rule::CallerUnknown,
-        })),
+        None => Err(Refusal::from(Denial::by_first(Rule::CallerUnknown))),
     }
 }
 

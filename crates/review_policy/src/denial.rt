@@ -138,3 +138,12 @@ pub struct Denial {
     /// The rule.
     pub rule: Rule,
 }
+
+impl Denial {
+    /// The denial by the rule that stands first among those of its request.
+    pub fn by_first(rule: Rule) -> Denial
+        ensures { result ≡ record { number = 1; rule = rule } }
+    {
+        Denial { number: 1, rule }
+    }
+}
