@@ -17,7 +17,7 @@ module _ {S D F L N : Type 0} (k : Known S D F L N) (words : InitWords) where
       (λ file. WasFoundedWith k.store k.log (k.creates file)
       (k.databases.opened words.database.now) k.databases.closed (founding_of_words words))
 
-  -- none was founded, for this; or one was, and couldn't be closed
+  -- no office was founded as the words describe, for this; or one was, and couldn't be closed
   abbrev pub FailsToInit : CommandFault → Type 0
   FailsToInit why =
       IfJournaled (option_copied words.journal)

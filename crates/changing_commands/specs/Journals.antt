@@ -190,9 +190,9 @@ module _ {S L : Type 0} (g : Ghosts S) (f : DiskGhosts L)
     abbrev pub IsUnkept : CommandFault → Type 0
     IsUnkept why = IsOfOpening d path g why ⊎ WasNotKept (d.opened path) mark (IsEnded d) why
 
-    -- The same of a command that serves an office with its journal. Where it failed, there was no
-    -- such office; or it stopped for this, and the office was closed, whatever came of that; or all
-    -- was done and the office couldn't be closed.
+    -- A command that serves an office with its journal ended so. Where it failed, there was no such
+    -- office; or it stopped for this, and the office was closed, whatever came of that. Or all was
+    -- done, and the office couldn't be closed.
     abbrev pub IsServedWith : (is_marked : Bool)
         → (Done : (old new : Journaled (Held S) (SealedLog L f)) → Type 0)
         → (Stops : CommandFault → (old new : Journaled (Held S) (SealedLog L f)) → Type 0)

@@ -64,8 +64,8 @@ module _ {S F : Type 0} (g : Ghosts S) (Opens : Result F IoError → Type 0)
 module _ {S D F : Type 0} (g : Ghosts S) (d : databases.Ghosts D (Held S)) (path : List ℕ)
     (Opens : Result F IoError → Type 0) (Gives : F → F → Result ℕ IoError → List ℕ → Type 0)
     (bytes_of : F → Option (List ℕ)) where
-  -- There is no text, or no database; or the journal isn't built on, which is told, and the database
-  -- was closed, whatever came of that; or all of it is, and the database couldn't be closed.
+  -- No text is there, or no database; or the journal isn't built on, which is told, and the database was closed,
+  -- whatever came of that. Or all of it is, and the database couldn't be closed.
   abbrev pub IsUnrebuilt : CommandFault → Type 0
   IsUnrebuilt why =
       IsNoText Opens why ⊎ ((unopened : Fault) × IsUnopened d path unopened
@@ -89,7 +89,7 @@ module _ {S D F : Type 0} (g : Ghosts S) (d : databases.Ghosts D (Held S)) (path
     IsUnsaid built fault.Write = IsCut contents output wrote (seal_line (codes "rebuilt") built.events built.seal)
     IsUnsaid built _ = ⊥
 
-    -- none was, and nothing was printed; or one was, and its line wasn't printed
+    -- no office was built anew, and nothing was printed; or one was, and its line wasn't printed
     abbrev pub FailsToRebuild : CommandFault → Type 0
     FailsToRebuild why =
         (IsUnrebuilt why × (wrote ≡ output))

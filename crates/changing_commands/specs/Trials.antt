@@ -9,7 +9,7 @@ use Rattle.changing_commands.specs.Lines.{HasAnswered, HasStopped}
 use Rattle.command_host.specs.declared.fault.CommandFault.{CommandFault}
 use Rattle.command_host.specs.declared.fault.CommandFault.TheVariants as fault
 
--- what it is founded with: root of the team office, who shows the token abc, and CAP_SYS_ADMIN
+-- the founding of a trial desk: root of the team office, who shows the token abc, and CAP_SYS_ADMIN
 unfoldable pub trial_founding : Described
 trial_founding =
     founding_of (codes "root") (codes "office")

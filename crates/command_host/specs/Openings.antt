@@ -84,8 +84,8 @@ module _ {S : Type 0} (g : Ghosts S) (Opened : Held S → Type 0) where
     pub opened : Opened was
     pub over : IsOver g was office
 
-  -- such an office was opened, this was done with it, and it was closed with this mark or as it was
-  -- marked, of which this is known
+  -- an office was opened, this was done, and it was closed with this mark or as it was marked, of
+  -- which this is known
   pub record WasServed (Done : (old new : Held S) → Type 0) (mark : Option ℕ)
       (Closed : Held S → Option ℕ → Type 0) : Type 0 where
     pub old : Held S

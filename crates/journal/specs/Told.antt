@@ -83,7 +83,8 @@ pub record IsTold (before : ℕ) (held : Option Event) (prior bytes : List ℕ)
 abbrev pub Tells : Place → List (ℕ × Event) → Type 0
 Tells p es = IfSome p.left (λ bytes. IsTold p.taken p.held p.seal bytes es)
 
--- such lines stand before the new place, and tell these events and the one held back
+-- lines that can stand in a journal stand before the new place, and tell these events and the one held
+-- back
 pub record IsBegun (before : ℕ) (held : Option Event) (prior bytes : List ℕ)
     (new : Place) (es : List (ℕ × Event)) : Type 0 where
   pub lines : List Line

@@ -79,7 +79,7 @@ module _ {X : Type 0} (m : Meaning X) where
   abbrev pub Holds : (old new : X) → (Tables → Type 0) → Type 0
   Holds old new P = (h : History) → m.is_of h old → m.is_clean new → P (tables_of h)
 
-  -- where it stood before it stands
+  -- an office stands where it stood before
   abbrev pub Stays : (old new : X) → Type 0
   Stays old new = (h : History) → Stands m h old → m.is_clean new → Stands m h new
 

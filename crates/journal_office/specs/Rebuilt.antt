@@ -119,8 +119,8 @@ module _ (bytes : Option (List ℕ)) where
   abbrev pub IsUnlawful : Type 0
   IsUnlawful = IfSome bytes (λ text. (h : History) → IsLawfulHistory h → IsJournalOf text h → ⊥)
 
-  -- nor is it for this reason, where what is left is clean; but where the input, memory or the
-  -- store has a fault, or founds no office, this isn't known
+  -- the journal is of no lawful history for this reason, where what is left is clean. Where the input,
+  -- memory or the store has a fault, or founds no office, nothing is known of that
   abbrev pub Refutes : (clean : Type 0) → Why → Type 0
   Refutes clean (why.Unread unreadable.NotALine) = IsUnlawful
   Refutes clean (why.Unread unreadable.NoEventBefore) = IsUnlawful

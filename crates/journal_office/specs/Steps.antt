@@ -85,7 +85,7 @@ IsFirstRead old new placed None = GoesOn old new (placed ∷ [])
 IsFirstRead old new placed (Some refused) =
     IsLeftHeld old (Some placed) refused.line refused.why
 
--- none is, nor is one held back
+-- no event stands, nor is one held back
 abbrev pub IsNoneRead : Place → ℕ → Why → Type 0
 IsNoneRead old line (why.Unread fault) = LeavesHeld old None line fault
 IsNoneRead old line why.NotFounded = Tells old [] × (line ≡ 0)

@@ -36,7 +36,7 @@ pub record HaveOtherRowids {S : Type 0} (g : Ghosts S) (table : Table)
   pub answered : IsAnsweredBy g (rowids_text table) db rowids
   pub fall : IsShaped TableShape rowids → ⊥
 
--- whether they do
+-- whether the rowids of a table rise
 abbrev pub TellsRowids : {S : Type 0} → Ghosts S → Table → Database → Bool → Type 0
 TellsRowids g table db true = HaveRowids g table db
 TellsRowids g table db false = HaveOtherRowids g table db

@@ -21,7 +21,7 @@ abbrev pub all_belong : Shape → Members → Bool
 all_belong shape no_members = true
 all_belong shape (member name d ms) = has_member shape name && all_belong shape ms
 
--- whether it is an object with no other member
+-- whether a value is an object with no other member
 abbrev pub has_no_other : Shape → Data → Bool
 has_no_other shape (object ms) = all_belong shape ms
 has_no_other shape null = false

@@ -81,8 +81,8 @@ module _ (e : Event) (h : History) where
     pub fault : Option (List ℕ)
     pub verdict : verdict_for e ask h ≡ denied denial fault
 
-  -- none does, and what happens is another event, of the canonical text of the document that its
-  -- text is
+  -- no rule refuses what it asks, and what happens is another event: that of the canonical text of
+  -- the event's document
   pub record HasOtherText : Type 0 where
     pub ask : Ask
     pub asks : IsAskOf e ask

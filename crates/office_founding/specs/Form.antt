@@ -31,7 +31,7 @@ abbrev pub has_column : Schema → List ℕ → List ℕ → Bool
 has_column schema table column =
     is_some (option_and_then (λ t. column_named t column) (table_in schema table))
 
--- whether it has one with each of the columns
+-- whether the schema has a table of this name with each of the columns
 abbrev pub has_columns : Schema → List ℕ → List (List ℕ) → Bool
 has_columns schema table columns = list_all (has_column schema table) columns
 
@@ -50,15 +50,15 @@ has_old_tables schema =
     && has_columns schema (codes "baselines")
     (codes "team" ∷ codes "profile" ∷ codes "number" ∷ [])
 
--- whether it has the table of held profiles with its columns
+-- whether the schema has the table of held profiles with its columns
 abbrev pub has_holds : Schema → Bool
 has_holds schema = has_columns schema (codes "holds") (codes "team" ∷ codes "profile" ∷ [])
 
--- whether it has the six tables of schema 2 with their columns
+-- whether the schema has the six tables of schema 2 with their columns
 abbrev pub has_tables : Schema → Bool
 has_tables schema = has_old_tables schema && has_holds schema
 
--- whether it has indexes with the names of the two of an office
+-- whether the schema has indexes with the names of the two of an office
 abbrev pub has_indexes : Schema → Bool
 has_indexes schema =
     is_some (index_named schema (codes "revisions_by_state"))

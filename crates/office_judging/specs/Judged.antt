@@ -47,8 +47,8 @@ UnlessFault (Ok a) P = P
 UnlessFault (Err (refusals.Denied denial fault)) P = P
 UnlessFault (Err (refusals.Fault fault)) P = Unit {0}
 
--- what it came to is so found, or the refusal is the verdict's; a fault never says that the tables
--- are no office's
+-- the value is so found, or the refusal is the verdict's; a fault never says that the tables are no
+-- office's
 abbrev pub Tells : {A : Type 0} → (A → Type 0) → Verdict → Result A Refusal → Type 0
 Tells Found v (Ok a) = Found a
 Tells Found v (Err (refusals.Denied denial fault)) = v ≡ denied denial fault

@@ -44,13 +44,14 @@ pub record IsRead {A : Type 0} (old new : State) (result : Result A Fault)
 pub record IsWrite {A : Type 0} (old new : State) (result : Result A Fault)
     (Makes : Tables → Tables → Type 0) : Type 0 where
   pub leaves : Leaves old new result
-  -- where it is done, the connection shows the tables that it makes of those that were shown
+  -- a write that is done shows the tables that it makes of those that were shown
   pub done : (t u : Tables) → ShowsIfOpen old t → Makes t u → HasCleanDisk new
       → OnOk result (Shows new u)
-  -- where it isn't, it shows the old ones, unless a fault of the disk has shut it
+  -- a write that isn't done shows the old tables, unless a fault of the disk has shut the
+  -- connection
   pub undone : (t : Tables) → ShowsIfOpen old t → HasCleanDisk new
       → OnErr result (ShowsIfOpen new t)
-  -- a connection has what it had, whatever that is, where the write isn't done
+  -- a write that isn't done leaves the connection what it had, whatever that is
   pub same : old.now ≡ old.committed → HasCleanDisk new → OnErr result (IsAsItWas old new)
   -- a write never reports the tables as no office's
   pub formed : (t u : Tables) → ShowsIfOpen old t → Makes t u → HasCleanDisk new

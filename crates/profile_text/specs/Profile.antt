@@ -34,6 +34,6 @@ all_sets s =
 abbrev pub listed_in : ℕ → Profile → ℕ
 listed_in listed p = bit_and listed (all_sets p.caps)
 
--- whether it has one
+-- whether a profile has a listed capability
 abbrev pub holds_listed : ℕ → Profile → Bool
 holds_listed listed p = not (listed_in listed p == 0)

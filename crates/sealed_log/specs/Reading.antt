@@ -25,7 +25,7 @@ abbrev pub IsNext : List ℕ → Reader → Reader → Option (Vec ℕ Global) �
 IsNext bytes old new None = (new ≡ old) × (told_at old bytes ≡ [])
 IsNext bytes old new (Some body) = IsStep bytes old new body.items
 
--- what it found so far, and what it is to find
+-- what the reader found so far, and what it is to find
 pub record IsSoFar (bytes : List ℕ) (reader : Reader) (lines : ℕ) : Type 0 where
   pub text : sealed_text (told bytes)
       ≡ take reader.at bytes ++ sealed_lines reader.seal (told_at reader bytes)

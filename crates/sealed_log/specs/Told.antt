@@ -56,13 +56,13 @@ pub record HasTail (bytes : List ℕ) (most : ℕ) (file : List ℕ) : Type 0 wh
 abbrev pub HasMore : List ℕ → Type 0
 HasMore file = length (sealed_text (told file)) + longest < length file
 
--- no body but this is sealed there, behind these
+-- no body but this is sealed behind these bodies
 abbrev pub HasNoOther : List (List ℕ) → List ℕ → List ℕ → Type 0
 HasNoOther bodies body file =
     (other rest : List ℕ) → IsBody other
     → file ≡ sealed_text bodies ++ (sealed_line (seal_of bodies) other ++ rest) → other ≡ body
 
--- nor any
+-- no body is sealed behind these bodies
 abbrev pub HasNone : List (List ℕ) → List ℕ → Type 0
 HasNone bodies file =
     (other rest : List ℕ) → IsBody other

@@ -25,7 +25,7 @@ after_line (b ∷ bytes) = if b == 10 then bytes else after_line bytes
 abbrev pub NoFeed : List ℕ → Type 0
 NoFeed bytes = All (λ b. b ≢ 10) bytes
 
--- none, or ended by a line feed
+-- the bytes are none, or end with a line feed
 abbrev pub EndsLine : List ℕ → Type 0
 EndsLine [] = Unit {0}
 EndsLine (b ∷ []) = b ≡ 10
