@@ -1,8 +1,9 @@
 //! The desk of an office over the streams of the program.
 
-ghost use Rattle.std.specs.Prelude.{◌^◌, ◌≤◌, IfErr, OnOk};
+ghost use Rattle.std.specs.Prelude.{IfErr, OnOk};
 ghost use Rattle.desk.specs.Stands.{HasHandled};
 ghost use Rattle.changing_commands.specs.Lines.{HasAnswered, HasStopped};
+ghost use Rattle.streams.specs.CallsLeft.{HasCallsLeft, HasFaultsLeft};
 
 use command_host::CommandFault;
 use desk::desk;
@@ -18,9 +19,8 @@ pub(crate) fn answer_lines<H: Handler, R: Read, W: Write>(
     input: &mut Counted<R>,
     output: &mut Counted<W>,
 ) -> Result<(), CommandFault>
-    requires reads { input.old.calls ≤ 2 ^ 62 }
-    requires read_faults { input.old.faults ≤ 2 ^ 62 }
-    requires write_faults { output.old.faults ≤ 2 ^ 62 }
+    requires reads { HasCallsLeft input.old }
+    requires writes { HasFaultsLeft output.old }
     ensures handled { HasHandled H.meaning office.old office.new }
     ensures answered { OnOk result (HasAnswered W.contents H.meaning
         (R.remaining input.old.inner) output.old output.new office.old office.new) }

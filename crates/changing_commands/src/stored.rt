@@ -1,8 +1,8 @@
 //! `desk`: the desk of an office in a file.
 
-ghost use Rattle.std.specs.Prelude.{◌^◌, ◌≤◌};
 ghost use Rattle.command_host.specs.Outside.{known};
 ghost use Rattle.changing_commands.specs.Served.{IsDesk, IsDeskAlone, IsDeskKept, IsDeskUnnamed};
+ghost use Rattle.streams.specs.CallsLeft.{HasCallsLeft, HasFaultsLeft};
 
 use crate::kept::{close_kept, kept_office_at};
 use crate::lines::answer_lines;
@@ -23,9 +23,8 @@ fn serve_alone<H: Host, R: Read, W: Write>(
     input: &mut Counted<R>,
     output: &mut Counted<W>,
 ) -> Result<(), CommandFault>
-    requires reads { input.old.calls ≤ 2 ^ 62 }
-    requires read_faults { input.old.faults ≤ 2 ^ 62 }
-    requires write_faults { output.old.faults ≤ 2 ^ 62 }
+    requires reads { HasCallsLeft input.old }
+    requires writes { HasFaultsLeft output.old }
     ensures { IsDeskAlone (known host.now) W.contents output.old output.new
         (R.remaining input.old.inner) (R.remaining input.new.inner) path.now mark result }
 {
@@ -43,9 +42,8 @@ fn serve_unnamed<H: Host, R: Read, W: Write>(
     input: &mut Counted<R>,
     output: &mut Counted<W>,
 ) -> Result<(), CommandFault>
-    requires reads { input.old.calls ≤ 2 ^ 62 }
-    requires read_faults { input.old.faults ≤ 2 ^ 62 }
-    requires write_faults { output.old.faults ≤ 2 ^ 62 }
+    requires reads { HasCallsLeft input.old }
+    requires writes { HasFaultsLeft output.old }
     ensures { IsDeskUnnamed (known host.now) W.contents output.old output.new
         (R.remaining input.old.inner) (R.remaining input.new.inner) path.now result }
 {
@@ -62,9 +60,8 @@ fn serve_kept<H: Host, R: Read, W: Write>(
     input: &mut Counted<R>,
     output: &mut Counted<W>,
 ) -> Result<(), CommandFault>
-    requires reads { input.old.calls ≤ 2 ^ 62 }
-    requires read_faults { input.old.faults ≤ 2 ^ 62 }
-    requires write_faults { output.old.faults ≤ 2 ^ 62 }
+    requires reads { HasCallsLeft input.old }
+    requires writes { HasFaultsLeft output.old }
     ensures { IsDeskKept (known host.now) W.contents output.old output.new
         (R.remaining input.old.inner) (R.remaining input.new.inner) path.now journal.now result }
 {
@@ -87,9 +84,8 @@ pub fn serve_stored<H: Host, R: Read, W: Write>(
     input: &mut Counted<R>,
     output: &mut Counted<W>,
 ) -> Result<(), CommandFault>
-    requires reads { input.old.calls ≤ 2 ^ 62 }
-    requires read_faults { input.old.faults ≤ 2 ^ 62 }
-    requires write_faults { output.old.faults ≤ 2 ^ 62 }
+    requires reads { HasCallsLeft input.old }
+    requires writes { HasFaultsLeft output.old }
     ensures { IsDesk (known host.now) W.contents output.old output.new
         (R.remaining input.old.inner) (R.remaining input.new.inner) path.now
         journal.entry result }

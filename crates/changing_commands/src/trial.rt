@@ -1,9 +1,10 @@
 //! The trial desk.
 
-ghost use Rattle.std.specs.Prelude.{◌≡◌, ◌^◌, ◌≤◌, IfErr, IfOk};
+ghost use Rattle.std.specs.Prelude.{◌≡◌, IfErr, IfOk};
 ghost use Rattle.memory_database.specs.MemoryStore.{over_memory};
 ghost use Rattle.changing_commands.specs.Foundings.{IsFoundedAs};
 ghost use Rattle.changing_commands.specs.Trials.{trial_founding, IsTrial};
+ghost use Rattle.streams.specs.CallsLeft.{HasCallsLeft, HasFaultsLeft};
 
 use crate::founding::{Founding, founding_of};
 use crate::init::found_in;
@@ -50,9 +51,8 @@ pub fn serve_trial<R: Read, W: Write>(
     input: &mut Counted<R>,
     output: &mut Counted<W>,
 ) -> Result<(), CommandFault>
-    requires reads { input.old.calls ≤ 2 ^ 62 }
-    requires read_faults { input.old.faults ≤ 2 ^ 62 }
-    requires write_faults { output.old.faults ≤ 2 ^ 62 }
+    requires reads { HasCallsLeft input.old }
+    requires writes { HasFaultsLeft output.old }
     ensures { IsTrial W.contents (R.remaining input.old.inner) (R.remaining input.new.inner)
         output.old output.new result }
 {

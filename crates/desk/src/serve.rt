@@ -1,6 +1,6 @@
 //! Lines in, answers out.
 
-ghost use Rattle.std.specs.Prelude.{◌≡◌, ◌+◌, ◌≤◌, ◌^◌, ◌<◌, ℕ, List, IfErr, OnOk, IfSome};
+ghost use Rattle.std.specs.Prelude.{◌≡◌, ◌+◌, ◌≤◌, ◌<◌, ℕ, List, IfErr, OnOk, IfSome};
 ghost use Rattle.office_policy.specs.History.{History};
 ghost use Rattle.office_policy.specs.Handled.{LeavesOnly};
 ghost use Rattle.streams.specs.Held.{Holds};
@@ -10,6 +10,7 @@ ghost use Rattle.desk.specs.Outcomes.{told};
 ghost use Rattle.desk.specs.declared.outcome.LineOutcome.{LineOutcome};
 ghost use Rattle.desk.specs.Stands.{IsHandled, HasHandled, AreAnswered, LeavesLast, StandsAfter};
 ghost use Rattle.desk.specs.Written.{IsServed, CountsServed};
+ghost use Rattle.streams.specs.CallsLeft.{HasCallsLeft, HasFaultsLeft};
 
 use crate::fault::DeskFault;
 use crate::outcome::LineOutcome;
@@ -91,9 +92,8 @@ pub fn desk<H: Handler, R: Read, W: Write>(
     reader: &mut Counted<R>,
     writer: &mut Counted<W>,
 ) -> Result<(), DeskFault>
-    requires reads { reader.old.calls ≤ 2 ^ 62 }
-    requires read_faults { reader.old.faults ≤ 2 ^ 62 }
-    requires write_faults { writer.old.faults ≤ 2 ^ 62 }
+    requires reads { HasCallsLeft reader.old }
+    requires writes { HasFaultsLeft writer.old }
     ensures answered { OnOk result (IfSome (R.remaining reader.old.inner) (λ input.
         AreAnswered H.meaning office.old office.new
         (W.contents writer.old.inner) (W.contents writer.new.inner) (lines_of input))) }

@@ -5,6 +5,7 @@ ghost use Rattle.office_policy.specs.History.{History};
 ghost use Rattle.office_policy.specs.Handled.{IsHandled, LeavesOnly};
 ghost use Rattle.desk_http.specs.Served.{IsServed, IsServedOf, IsTold, IsWritten, LeftByOne};
 ghost use Rattle.desk_http.specs.Served.{ReadCounts, StaysWhole, TellCounts};
+ghost use Rattle.streams.specs.CallsLeft.{HasCallsLeft, HasFaultsLeft};
 
 use crate::fault::HttpFault;
 use crate::outcome::ExchangeOutcome;
@@ -103,9 +104,8 @@ pub fn serve_one<H: Handler, R: Read, W: Write>(
     reader: &mut Counted<R>,
     writer: &mut Counted<W>,
 ) -> Result<Served, HttpFault>
-    requires reads { reader.old.calls ≤ 2 ^ 62 }
-    requires read_faults { reader.old.faults ≤ 2 ^ 62 }
-    requires write_faults { writer.old.faults ≤ 2 ^ 62 }
+    requires reads { HasCallsLeft reader.old }
+    requires writes { HasFaultsLeft writer.old }
     ensures served { IsServed (office.new ≡ office.old)
         (IsHandled H.meaning office.old office.new)
         (R.remaining reader.old.inner) (R.remaining reader.new.inner)

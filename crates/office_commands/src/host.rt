@@ -1,8 +1,8 @@
 //! The commands over the host: its files, its databases, its journals and its network.
 
-ghost use Rattle.std.specs.Prelude.{◌^◌, ◌≤◌};
 ghost use Rattle.office_commands.specs.Apart.{HasCarriedOut};
 ghost use Rattle.office_commands.specs.Hosts.{known_here, known_of, unknown};
+ghost use Rattle.streams.specs.CallsLeft.{HasCallsLeft, HasFaultsLeft};
 
 use crate::run::run_words;
 use command_host::{
@@ -39,9 +39,8 @@ pub fn run_over<
     output: &mut Counted<O>,
     errors: &mut Counted<E>,
 ) -> u8
-    requires reads { input.old.calls ≤ 2 ^ 62 }
-    requires read_faults { input.old.faults ≤ 2 ^ 62 }
-    requires write_faults { output.old.faults ≤ 2 ^ 62 }
+    requires reads { HasCallsLeft input.old }
+    requires writes { HasFaultsLeft output.old }
     ensures { HasCarriedOut
         (known_of S.Store D.Databases F.PassFiles F.File.remaining files.now
         J.Journals J.File.Disk journals.now N.PassNet N.PassClock)
@@ -64,9 +63,8 @@ fn run_with<F: PassFiles, T: Start + Copy, U: Start + Copy, I: Read, O: Write, E
     output: &mut Counted<O>,
     errors: &mut Counted<E>,
 ) -> u8
-    requires reads { input.old.calls ≤ 2 ^ 62 }
-    requires read_faults { input.old.faults ≤ 2 ^ 62 }
-    requires write_faults { output.old.faults ≤ 2 ^ 62 }
+    requires reads { HasCallsLeft input.old }
+    requires writes { HasFaultsLeft output.old }
     ensures { HasCarriedOut
         (known_here T.Start U.Start ⟦<FileFrom<T> as Disk>⟧
         ⟦<NamedDisk<FileFrom<U>, HostName> as Disk>⟧
@@ -99,9 +97,8 @@ pub fn run_here<F: PassFiles, I: Read, O: Write, E: Write>(
     output: &mut Counted<O>,
     errors: &mut Counted<E>,
 ) -> u8
-    requires reads { input.old.calls ≤ 2 ^ 62 }
-    requires read_faults { input.old.faults ≤ 2 ^ 62 }
-    requires write_faults { output.old.faults ≤ 2 ^ 62 }
+    requires reads { HasCallsLeft input.old }
+    requires writes { HasFaultsLeft output.old }
     ensures { HasCarriedOut
         (known_here unknown unknown ⟦<FileFrom<UnknownFiles> as Disk>⟧
         ⟦<NamedDisk<FileFrom<UnknownFiles>, HostName> as Disk>⟧

@@ -1,6 +1,6 @@
 //! The commands of the program.
 
-ghost use Rattle.std.specs.Prelude.{◌≡◌, ◌^◌, ◌≤◌, IfErr, IfOk, MatchResult};
+ghost use Rattle.std.specs.Prelude.{◌≡◌, IfErr, IfOk, MatchResult};
 ghost use Rattle.command_host.specs.Outside.{known};
 ghost use Rattle.command_host.specs.Said.{IsRefusal};
 ghost use Rattle.office_commands.specs.Apart.{HasCarriedOut, HasFailedApart, HasRunApart};
@@ -11,6 +11,7 @@ ghost use Rattle.office_commands.specs.Notes.{goes_without, is_without, HasNoted
 ghost use Rattle.office_commands.specs.Notes.{HasNotedAllWell, HasNotedWell, WarnsIf};
 ghost use Rattle.office_commands.specs.Unread.{unread_by};
 ghost use Rattle.reading_commands.specs.Moments.{HasCompared, MayHaveNoted};
+ghost use Rattle.streams.specs.CallsLeft.{HasCallsLeft, HasFaultsLeft};
 
 use crate::same_file::see_apart;
 use crate::unread::unread_by;
@@ -70,9 +71,8 @@ fn run<H: Host, I: Read, O: Write, E: Write>(
     output: &mut Counted<O>,
     errors: &mut Counted<E>,
 ) -> Result<u8, CommandFault>
-    requires reads { input.old.calls ≤ 2 ^ 62 }
-    requires read_faults { input.old.faults ≤ 2 ^ 62 }
-    requires write_faults { output.old.faults ≤ 2 ^ 62 }
+    requires reads { HasCallsLeft input.old }
+    requires writes { HasFaultsLeft output.old }
     ensures done { IfOk result (HasRun (known host.now) O.contents command.now
         (I.remaining input.old.inner) (I.remaining input.new.inner) output.old output.new) }
     ensures failed { IfErr result (HasFailed (known host.now) O.contents command.now
@@ -167,9 +167,8 @@ fn run_apart<H: Host, I: Read, O: Write, E: Write>(
     output: &mut Counted<O>,
     errors: &mut Counted<E>,
 ) -> Result<u8, CommandFault>
-    requires reads { input.old.calls ≤ 2 ^ 62 }
-    requires read_faults { input.old.faults ≤ 2 ^ 62 }
-    requires write_faults { output.old.faults ≤ 2 ^ 62 }
+    requires reads { HasCallsLeft input.old }
+    requires writes { HasFaultsLeft output.old }
     ensures done { IfOk result (HasRunApart (known host.now) O.contents
         (I.remaining input.old.inner) (I.remaining input.new.inner)
         output.old output.new command.now) }
@@ -263,9 +262,8 @@ pub fn run_words<H: Host, I: Read, O: Write, E: Write>(
     output: &mut Counted<O>,
     errors: &mut Counted<E>,
 ) -> u8
-    requires reads { input.old.calls ≤ 2 ^ 62 }
-    requires read_faults { input.old.faults ≤ 2 ^ 62 }
-    requires write_faults { output.old.faults ≤ 2 ^ 62 }
+    requires reads { HasCallsLeft input.old }
+    requires writes { HasFaultsLeft output.old }
     ensures { HasCarriedOut (known host.now) O.contents
         (I.remaining input.old.inner) (I.remaining input.new.inner) output.old output.new
         E.contents errors.old errors.new words.entry.now result }

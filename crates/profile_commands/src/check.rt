@@ -1,7 +1,8 @@
 //! The command `check`.
 
-ghost use Rattle.std.specs.Prelude.{◌≡◌, ◌^◌, ◌≤◌, ◌++◌, ◌∷◌, [], IfOk, IfSome, string_bytes};
+ghost use Rattle.std.specs.Prelude.{◌≡◌, ◌++◌, ◌∷◌, [], IfOk, IfSome, string_bytes};
 ghost use Rattle.profile_commands.specs.Refusal.{AgreesWithReads, IsChecked};
+ghost use Rattle.streams.specs.CallsLeft.{HasCallsLeft};
 
 use crate::document::read_document;
 use crate::fault::FileFault;
@@ -24,8 +25,7 @@ fn line_of(text: String) -> Result<String, AllocError>
 ///
 /// Those of `read_document`.
 pub fn check_document<R: Read>(alloc: Global, reader: &mut Counted<R>) -> Result<String, FileFault>
-    requires calls { reader.old.calls ≤ 2 ^ 62 }
-    requires faults { reader.old.faults ≤ 2 ^ 62 }
+    requires { HasCallsLeft reader.old }
     ensures checked { IfSome (R.remaining reader.old.inner) (λ bytes. IsChecked bytes result) }
     ensures reads { AgreesWithReads reader.old.calls reader.new.calls
         reader.old.faults reader.new.faults result }

@@ -1,10 +1,11 @@
 //! The command `compare`.
 
-ghost use Rattle.std.specs.Prelude.{◌≡◌, ◌^◌, ◌≤◌, IfErr, IfOk, IfSome, string_bytes};
+ghost use Rattle.std.specs.Prelude.{◌≡◌, IfErr, IfOk, IfSome, string_bytes};
 ghost use Rattle.review_sheet.specs.Review.{findings_text};
 ghost use Rattle.widening.specs.Findings.{findings_of};
 ghost use Rattle.profile_commands.specs.Comparing.{AgreesWithBase, AgreesWithNew, IsBase};
 ghost use Rattle.profile_commands.specs.Comparing.{IsCompared, IsNew, HidesNoMemory};
+ghost use Rattle.streams.specs.CallsLeft.{HasCallsLeft};
 
 use crate::document::read_document;
 use crate::fault::FileFault;
@@ -88,10 +89,8 @@ pub fn compare_documents<R: Read, S: Read>(
     base: &mut Counted<R>,
     new: &mut Counted<S>,
 ) -> Result<String, ComparedFault>
-    requires base_calls { base.old.calls ≤ 2 ^ 62 }
-    requires base_faults { base.old.faults ≤ 2 ^ 62 }
-    requires new_calls { new.old.calls ≤ 2 ^ 62 }
-    requires new_faults { new.old.faults ≤ 2 ^ 62 }
+    requires base { HasCallsLeft base.old }
+    requires new { HasCallsLeft new.old }
     ensures base { IfSome (R.remaining base.old.inner) (λ bytes. IsBase bytes result) }
     ensures new { IfSome (S.remaining new.old.inner) (λ bytes. IsNew bytes result) }
     ensures compared { IfSome (R.remaining base.old.inner) (λ old.

@@ -1,8 +1,9 @@
 //! The document in a file.
 
-ghost use Rattle.std.specs.Prelude.{◌^◌, ◌≤◌, IfOk, IfSome};
+ghost use Rattle.std.specs.Prelude.{IfOk, IfSome};
 ghost use Rattle.profile_text.specs.Reading.{HasItsText};
 ghost use Rattle.profile_commands.specs.Refusal.{AgreesWithReads, IsReadAs};
+ghost use Rattle.streams.specs.CallsLeft.{HasCallsLeft};
 
 use crate::fault::FileFault;
 use crate::file_bytes::file_bytes;
@@ -18,8 +19,7 @@ use streams::Counted;
 /// `Unread` with `Failed`, with `TooManyReads` after 600,000 calls of read, or with `NoMemory`;
 /// `Document` with the first fault of what is no document.
 pub fn read_document<R: Read>(alloc: Global, reader: &mut Counted<R>) -> Result<Document, FileFault>
-    requires calls { reader.old.calls ≤ 2 ^ 62 }
-    requires faults { reader.old.faults ≤ 2 ^ 62 }
+    requires { HasCallsLeft reader.old }
     ensures document { IfSome (R.remaining reader.old.inner) (λ bytes. IsReadAs bytes result) }
     ensures text { IfOk result HasItsText }
     ensures reads { AgreesWithReads reader.old.calls reader.new.calls

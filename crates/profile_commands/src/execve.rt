@@ -1,8 +1,9 @@
 //! The command `execve`.
 
-ghost use Rattle.std.specs.Prelude.{◌^◌, ◌≤◌, IfOk, IfSome};
+ghost use Rattle.std.specs.Prelude.{IfOk, IfSome};
 ghost use Rattle.profile_commands.specs.Executions.{IsDone, IsExecuted, IsOutcome};
 ghost use Rattle.profile_commands.specs.Refusal.{AgreesWithReads};
+ghost use Rattle.streams.specs.CallsLeft.{HasCallsLeft};
 
 use crate::document::read_document;
 use crate::execution::Execution;
@@ -57,8 +58,7 @@ pub fn execve_document<R: Read>(
     execution: &Execution,
     reader: &mut Counted<R>,
 ) -> Result<ExecveOutcome, FileFault>
-    requires calls { reader.old.calls ≤ 2 ^ 62 }
-    requires faults { reader.old.faults ≤ 2 ^ 62 }
+    requires { HasCallsLeft reader.old }
     ensures executed { IfSome (R.remaining reader.old.inner)
         (λ bytes. IsExecuted execution.now bytes result) }
     ensures reads { AgreesWithReads reader.old.calls reader.new.calls

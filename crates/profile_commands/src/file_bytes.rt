@@ -1,8 +1,9 @@
 //! The bytes of a file.
 
-ghost use Rattle.std.specs.Prelude.{◌+◌, ◌^◌, ◌<◌, ◌≤◌, length, IfOk};
+ghost use Rattle.std.specs.Prelude.{◌+◌, ◌<◌, ◌≤◌, length, IfOk};
 ghost use Rattle.std.specs.Io.KnownBytes.{Consumes, IsAtEnd};
 ghost use Rattle.profile_commands.specs.Refusal.{ReadsAgree};
+ghost use Rattle.streams.specs.CallsLeft.{HasCallsLeft};
 
 use std::alloc::Global;
 use std::io::Read;
@@ -17,8 +18,7 @@ pub(crate) const MOST_READS: u64 = 600_000;
 /// Reads a file to its end, or its first 262,145 bytes where it has more, in at most 600,000 calls.
 /// An interrupted read is made again.
 pub(crate) fn file_bytes<R: Read>(alloc: Global, reader: &mut Counted<R>) -> Result<Vec<u8>, Unread>
-    requires calls { reader.old.calls ≤ 2 ^ 62 }
-    requires faults { reader.old.faults ≤ 2 ^ 62 }
+    requires { HasCallsLeft reader.old }
     ensures bytes { IfOk result (λ bytes.
         Consumes (R.remaining reader.old.inner) (R.remaining reader.new.inner) bytes.items) }
     ensures most { IfOk result (λ bytes. length bytes.items ≤ 262145) }

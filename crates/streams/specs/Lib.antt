@@ -7,3 +7,4 @@ pub mod Found
 pub mod Handed
 pub mod Held
 pub mod Lines
+pub mod CallsLeft
