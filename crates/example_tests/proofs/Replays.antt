@@ -19,6 +19,7 @@ leaves_itself m x = record {
   office = λ h of. of;
   kept = λ clean. m.keeps_itself x;
   crash = λ clean left may. may;
+  strays = λ e stray. stray;
 }
 
 pub stands_founded : (n : ℕ) (h : History) → quiet.is_of h (counting n) → Stands quiet h (counting n)

@@ -59,12 +59,14 @@ sketched Refuses = record {
   refuses = λ x h e fault. Refuses fault;
   is_of = λ h x. IsLawfulHistory h × (h ≡ x.history);
   keeps = λ x y. y.history ≡ x.history;
+  is_stray = λ e x. ⊥;
   Left = History;
   may_leave = λ x left. (left ≡ x.history) ⊎ (left ≡ x.in_doubt);
   are_of = λ h left. left ≡ h;
   lawful = λ h x of. of.0;
   keeps_itself = λ x. refl;
   keeps_on = λ x y z first then_. then_ ∙ first;
+  strays_shut = λ e x none is. none;
 }
 
 -- an office that refuses none, and one that refuses each with this fault alone

@@ -14,8 +14,9 @@ pub returns-clause-shut_by_a_fault : goal.returns-clause-shut_by_a_fault
 returns-clause-shut_by_a_fault c = record {
   clean = λ clean. clean;
   counts = omega arith;
-  closes = λ clean is_open. inr (omega arith);
+  closes = λ clean is_open. inr (inl (omega arith));
   shut = λ clean is_open. refl;
+  stays = λ e stray. stray;
 }
 
 pub returns-clause-forgotten : goal.returns-clause-forgotten
@@ -24,7 +25,8 @@ returns-clause-forgotten c = λ survives. let more : 3 ≤ 2 = survives.counts i
 pub returns-clause-shut_by_none : goal.returns-clause-shut_by_none
 returns-clause-shut_by_none c = λ survives. elim (survives.closes tt refl) [
   | inl is_open ↦ false_is_true is_open
-  | inr risen ↦ not_risen risen
+  | inr (inl risen) ↦ not_risen risen
+  | inr (inr stray) ↦ stray.1
 ]
 
 pub returns-clause-opened : goal.returns-clause-opened
