@@ -4,7 +4,7 @@ use Rattle.std.specs.declared.io.Error.{Error as IoError}
 use Rattle.sqlite.specs.Held.{Held, state}
 use Rattle.sqlite.specs.Store.{Ghosts}
 use Rattle.desk_http.specs.Lines.{IsCut, IsWhole}
-use Rattle.journal_rebuilding.specs.Rebuilding.{IsBuilt, IsUnbuilt}
+use Rattle.journal_office.specs.Rebuilding.{IsBuilt, IsUnbuilt}
 use Rattle.journal_office.specs.declared.refused.Refused.{Refused}
 use Rattle.journal_office.specs.declared.refused.Why.{Why}
 use Rattle.journal_office.specs.declared.refused.Why.TheVariants as halt

@@ -6,3 +6,4 @@ pub mod Replays
 pub mod Refusals
 pub mod Unlawful
 pub mod Comes
+pub mod Building

@@ -5,3 +5,4 @@ pub mod Opening
 pub mod FaultTexts
 pub mod Rebuilt
 pub mod Steps
+pub mod Rebuilding

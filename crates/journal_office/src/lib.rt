@@ -6,6 +6,7 @@ mod mending;
 mod not_reopened;
 mod office;
 mod opening;
+mod rebuilding;
 mod refused;
 mod replay;
 
@@ -13,5 +14,6 @@ pub use mending::mend;
 pub use not_reopened::NotReopened;
 pub use office::{Rebuilt, rebuild};
 pub use opening::reopen;
+pub use rebuilding::rebuild_as_read;
 pub use refused::{Refused, Why};
 pub use replay::Replay;

@@ -3,7 +3,7 @@ use Rattle.office_policy.specs.History.{Event}
 use Rattle.office_desk.specs.Meant.{meaning_over}
 use Rattle.journal.specs.Told.{place}
 use Rattle.journal_office.specs.Rebuilt.{HasReplayed}
-use Rattle.journal_rebuilding.proofs.rebuilding.rebuild_rest.Given as goal
+use Rattle.journal_office.proofs.rebuilding.rebuild_rest.Given as goal
 
 abbrev pub invariant-events : goal.invariant-events
 invariant-events g l = record {

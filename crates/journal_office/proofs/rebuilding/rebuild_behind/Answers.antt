@@ -3,8 +3,8 @@ use Rattle.office_desk.specs.Meant.{meaning_over}
 use Rattle.journal.specs.Told.{place, start}
 use Rattle.journal_office.specs.Steps.{IsFirstRead}
 use Rattle.journal_office.proofs.Refusals.{first_replayed}
-use Rattle.journal_rebuilding.proofs.Building.{founded_only}
-use Rattle.journal_rebuilding.proofs.rebuilding.rebuild_behind.Goals as goal
+use Rattle.journal_office.proofs.Building.{founded_only}
+use Rattle.journal_office.proofs.rebuilding.rebuild_behind.Goals as goal
 
 pub returns-in-None : goal.returns-in-None
 returns-in-None g c = λ bytes first read founding stands.

@@ -2,7 +2,7 @@ use Rattle.std.proofs.Common.{subst, sym}
 use Rattle.office_desk.specs.Meant.{meaning_over}
 use Rattle.journal.specs.Told.{place}
 use Rattle.journal_office.specs.Rebuilt.{HasReplayed}
-use Rattle.journal_rebuilding.proofs.rebuilding.next_event.Goals as goal
+use Rattle.journal_office.proofs.rebuilding.next_event.Goals as goal
 
 pub returns-in-Err-clause-halted : goal.returns-in-Err-clause-halted
 returns-in-Err-clause-halted g c = λ bytes es before.

@@ -13,11 +13,13 @@ ghost use Rattle.office_desk.specs.Meant.{meaning_over};
 ghost use Rattle.journal.specs.Told.{Gives, Place, place, start};
 ghost use Rattle.journal_office.specs.Rebuilt.{HasReplayed};
 ghost use Rattle.journal_office.specs.Steps.{CountsNext, IsFirstRead, IsLeft};
-ghost use Rattle.journal_rebuilding.specs.Rebuilding.{BuildsOn, IsBuilt, IsHalted, IsUnbuilt};
-ghost use Rattle.journal_rebuilding.specs.Rebuilding.{ends_there};
+ghost use Rattle.journal_office.specs.Rebuilding.{BuildsOn, IsBuilt, IsHalted, IsUnbuilt};
+ghost use Rattle.journal_office.specs.Rebuilding.{ends_there};
 
+use crate::office::Rebuilt;
+use crate::refused::{Refused, Why};
+use crate::replay::Replay;
 use journal::{Placed, Unreadable};
-use journal_office::{Rebuilt, Refused, Replay, Why};
 use sqlite::{Alter, Connection};
 use std::alloc::Global;
 use std::io::BufRead;

@@ -4,8 +4,8 @@ use Rattle.journal.specs.Told.{place, placed_meant}
 use Rattle.journal_office.specs.Rebuilt.{HasReplayed}
 use Rattle.journal_office.specs.Steps.{CountsNext}
 use Rattle.journal_office.proofs.Replays.{ended, more}
-use Rattle.journal_rebuilding.proofs.Building.{kept_out, left_by}
-use Rattle.journal_rebuilding.proofs.rebuilding.rebuild_rest.Goals as goal
+use Rattle.journal_office.proofs.Building.{kept_out, left_by}
+use Rattle.journal_office.proofs.rebuilding.rebuild_rest.Goals as goal
 
 pub events-init : goal.events-init
 events-init g c = record { fault = c.requires; grows = omega arith; replayed = λ bytes es all one. (es, all, omega (arith, one)) }

@@ -16,7 +16,7 @@ use Rattle.journal_office.specs.Rebuilt.{HasReplayed, line_behind}
 use Rattle.journal_office.specs.Steps.{ComesNext, IsKeptOut as IsOut, IsLeft, IsLeftHeld, LeavesAt}
 use Rattle.journal_office.proofs.Comes.{held_stands, none_stands}
 use Rattle.journal_office.proofs.Replays.{goes_then, more_lawful, more_stands}
-use Rattle.journal_rebuilding.specs.Rebuilding.{BuildsOn, IsBuiltTo, IsHalted, ends_there}
+use Rattle.journal_office.specs.Rebuilding.{BuildsOn, IsBuiltTo, IsHalted, ends_there}
 
 abbrev no_event : List (ℕ × Event)
 no_event = []

@@ -2,8 +2,8 @@ use Rattle.std.proofs.Common.{rules, ◌≡◌, Err, ◌∙◌, ◌+◌, ◌-◌
 use Rattle.office_desk.specs.Meant.{meaning_over}
 use Rattle.journal.specs.Told.{place, placed_meant}
 use Rattle.journal_office.specs.Rebuilt.{IsRebuilt}
-use Rattle.journal_rebuilding.specs.Rebuilding.{IsHalted}
-use Rattle.journal_rebuilding.proofs.rebuilding.rebuild_as_read.Goals as goal
+use Rattle.journal_office.specs.Rebuilding.{IsHalted}
+use Rattle.journal_office.proofs.rebuilding.rebuild_as_read.Goals as goal
 
 pub returns-in_err-replay-clause-unbuilt : goal.returns-in_err-replay-clause-unbuilt
 returns-in_err-replay-clause-unbuilt g c =

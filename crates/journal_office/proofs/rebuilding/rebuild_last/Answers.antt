@@ -3,8 +3,8 @@ use Rattle.office_desk.specs.Meant.{meaning_over}
 use Rattle.journal.specs.Told.{place, placed_meant}
 use Rattle.journal_office.specs.Rebuilt.{HasReplayed}
 use Rattle.journal_office.proofs.Comes.{last_comes}
-use Rattle.journal_rebuilding.proofs.Building.{built_behind, built_off, kept_out, outside}
-use Rattle.journal_rebuilding.proofs.rebuilding.rebuild_last.Goals as goal
+use Rattle.journal_office.proofs.Building.{built_behind, built_off, kept_out, outside}
+use Rattle.journal_office.proofs.rebuilding.rebuild_last.Goals as goal
 
 pub returns-then-not-ends_there : goal.returns-then-not-ends_there
 returns-then-not-ends_there g c = λ bytes here es before at.
