@@ -33,7 +33,7 @@ pub(crate) fn add_check<'a>(
     let parameters = [Parameter {
         id: "file",
         form: Form::Needed("FILE"),
-        help: "The document",
+        help: "The document, or - for standard input",
     }];
     add_command(alloc, commands, "check", ABOUT, EXAMPLES, &parameters)
 }

@@ -34,12 +34,12 @@ pub(crate) fn add_compare<'a>(
         Parameter {
             id: "base",
             form: Form::Needed("BASE"),
-            help: "The document to compare with",
+            help: "The document to compare with, or - for standard input",
         },
         Parameter {
             id: "new",
             form: Form::Needed("NEW"),
-            help: "The document that may permit more",
+            help: "The document that may permit more, or - for standard input",
         },
     ];
     add_command(alloc, commands, "compare", ABOUT, EXAMPLES, &parameters)

@@ -40,7 +40,7 @@ pub(crate) fn add_execve<'a>(
         Parameter {
             id: "file",
             form: Form::Needed("FILE"),
-            help: "The document",
+            help: "The document, or - for standard input",
         },
         Parameter {
             id: "root",
