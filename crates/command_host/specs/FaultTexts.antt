@@ -11,15 +11,9 @@ use Rattle.journal_verification.specs.declared.verification.Unverified.TheVarian
 use Rattle.office_founding.specs.Faults.{founding_fault_word, migration_fault_word}
 use Rattle.office_founding.specs.Faults.{opening_fault_word}
 use Rattle.review_policy.specs.WordTables.{fault_word}
-use Rattle.profile_commands.specs.declared.compare.ComparedFault.{ComparedFault}
-use Rattle.profile_commands.specs.declared.compare.ComparedFault.TheVariants as compared
 use Rattle.profile_commands.specs.declared.execution.ExecutionFault.{ExecutionFault}
 use Rattle.profile_commands.specs.declared.execution.ExecutionFault.TheVariants as execution
-use Rattle.profile_commands.specs.declared.fault.FileFault.{FileFault}
-use Rattle.profile_commands.specs.declared.fault.FileFault.TheVariants as file
-use Rattle.profile_text.specs.FaultText.{fault_text_of}
-use Rattle.streams.specs.declared.up_to.Unread.{Unread}
-use Rattle.streams.specs.declared.up_to.Unread.TheVariants as unread
+use Rattle.profile_commands.specs.FaultTexts.{compared_fault_text, file_fault_text}
 use Rattle.command_host.specs.declared.fault.CommandFault.{CommandFault}
 use Rattle.command_host.specs.declared.fault.CommandFault.TheVariants as fault
 use Rattle.command_host.specs.declared.founding_fault.FoundingWordsFault.{FoundingWordsFault}
@@ -35,23 +29,6 @@ founding_words_fault_word words.NoMemory = codes "memory"
 abbrev pub execution_fault_word : ExecutionFault → List ℕ
 execution_fault_word execution.RootTakesNoFile = codes "root-takes-no-file"
 execution_fault_word execution.UnknownCapability = codes "unknown-capability"
-
--- why a file wasn't read
-abbrev pub unread_word : Unread → List ℕ
-unread_word unread.Failed = codes "read"
-unread_word unread.TooManyReads = codes "too-many-reads"
-unread_word unread.NoMemory = codes "memory"
-
--- why a file gave nothing
-abbrev pub file_fault_text : FileFault → List ℕ
-file_fault_text (file.Unread why) = unread_word why
-file_fault_text (file.Document why) = fault_text_of why
-
--- why two documents weren't compared
-abbrev pub compared_fault_text : ComparedFault → List ℕ
-compared_fault_text (compared.Base why) = codes "base: " ++ file_fault_text why
-compared_fault_text (compared.New why) = codes "new: " ++ file_fault_text why
-compared_fault_text compared.NoMemory = codes "memory"
 
 -- why an office wasn't opened again with its journal
 abbrev pub reopening_fault_text : NotReopened → List ℕ

@@ -1,7 +1,7 @@
 //! Why a command is refused or failed.
 
 ghost use Rattle.std.specs.Prelude.{◌≡◌};
-ghost use Rattle.command_host.specs.FaultTexts.{execution_fault_word, unread_word};
+ghost use Rattle.command_host.specs.FaultTexts.{execution_fault_word};
 
 use crate::founding_fault::FoundingWordsFault;
 use desk::DeskFault;
@@ -12,7 +12,6 @@ use office_founding::{FoundingFault, MigrationFault, OpeningFault};
 use profile_commands::{ComparedFault, ExecutionFault, FileFault};
 use review_policy::Fault;
 use std::fmt;
-use streams::Unread;
 
 /// Why a command is refused or failed, with the words that the program says on standard error.
 #[derive(Debug, Drop)]
@@ -81,17 +80,6 @@ fn execution_word(fault: ExecutionFault) -> &'static str
     }
 }
 
-// The word of why a file wasn't read.
-fn unread_word(unread: Unread) -> &'static str
-    ensures { result.now ≡ unread_word unread }
-{
-    match unread {
-        Unread::Failed => "read",
-        Unread::TooManyReads => "too-many-reads",
-        Unread::NoMemory => "memory",
-    }
-}
-
 impl fmt::Display for CommandFault {
     ghost use Rattle.std.specs.Prelude.{Some};
     ghost use Rattle.command_host.specs.FaultTexts.{command_fault_text};
@@ -101,20 +89,8 @@ impl fmt::Display for CommandFault {
     fn fmt<W: fmt::Write>(&self, f: &mut fmt::Formatter<W>) -> fmt::Result {
         match self {
             CommandFault::Execution(fault) => f.write_str(execution_word(*fault)),
-            CommandFault::File(FileFault::Unread(why)) => f.write_str(unread_word(*why)),
-            CommandFault::File(FileFault::Document(why)) => write!(f, "{why}"),
-            CommandFault::Compared(ComparedFault::Base(FileFault::Unread(why))) => {
-                write!(f, "base: {}", unread_word(*why))
-            }
-            CommandFault::Compared(ComparedFault::Base(FileFault::Document(why))) => {
-                write!(f, "base: {why}")
-            }
-            CommandFault::Compared(ComparedFault::New(FileFault::Unread(why))) => {
-                write!(f, "new: {}", unread_word(*why))
-            }
-            CommandFault::Compared(ComparedFault::New(FileFault::Document(why))) => {
-                write!(f, "new: {why}")
-            }
+            CommandFault::File(fault) => write!(f, "{fault}"),
+            CommandFault::Compared(fault) => write!(f, "{fault}"),
             CommandFault::FoundingWords(fault) => write!(f, "{fault}"),
             CommandFault::Founding(fault) => write!(f, "{fault}"),
             CommandFault::Migration(fault) => write!(f, "{fault}"),
@@ -145,9 +121,7 @@ impl fmt::Display for CommandFault {
             CommandFault::Reopening(NotReopened::NoMemory) => f.write_str("memory"),
             CommandFault::Bind => f.write_str("bind"),
             CommandFault::Write => f.write_str("write"),
-            CommandFault::NoMemory | CommandFault::Compared(ComparedFault::NoMemory) => {
-                f.write_str("memory")
-            }
+            CommandFault::NoMemory => f.write_str("memory"),
         }
     }
 }

@@ -2,3 +2,4 @@ pub mod Refusal
 pub mod Lists
 pub mod Executions
 pub mod Comparing
+pub mod FaultTexts

@@ -12,24 +12,40 @@ use crate::fault::FileFault;
 use profile_text::Profile;
 use review_sheet::findings_text;
 use std::alloc::{AllocError, Global};
+use std::error::Error;
+use std::fmt;
 use std::io::Read;
 use streams::{Counted, Unread};
-use thiserror::Error;
 use widening::findings;
 
 /// Why two documents weren't compared, with the words that the program says on standard error.
-#[derive(Debug, Drop, Error)]
+#[derive(Debug, Drop)]
 pub enum ComparedFault {
     /// BASE wasn't read, or is no document: why, which is never out of memory.
-    #[error("base: {0}")]
     Base(FileFault),
     /// NEW wasn't read, or is no document: why, which is never out of memory.
-    #[error("new: {0}")]
     New(FileFault),
     /// Memory was refused. No contract can say when: it may stand in place of any answer.
-    #[error("memory")]
     NoMemory,
 }
+
+/// The fault's words behind `base: ` or `new: `, the document that they are of.
+impl fmt::Display for ComparedFault {
+    ghost use Rattle.std.specs.Prelude.{Some};
+    ghost use Rattle.profile_commands.specs.FaultTexts.{compared_fault_text};
+
+    ghost output = { λ fault. Some (compared_fault_text fault) };
+
+    fn fmt<W: fmt::Write>(&self, f: &mut fmt::Formatter<W>) -> fmt::Result {
+        match self {
+            ComparedFault::Base(fault) => write!(f, "base: {fault}"),
+            ComparedFault::New(fault) => write!(f, "new: {fault}"),
+            ComparedFault::NoMemory => f.write_str("memory"),
+        }
+    }
+}
+
+impl Error for ComparedFault {}
 
 impl From<AllocError> for ComparedFault {
     ghost use Rattle.std.specs.Prelude.{◌≡◌};

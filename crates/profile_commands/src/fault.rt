@@ -1,23 +1,59 @@
 //! Why a command on a document in a file gave nothing.
 
+ghost use Rattle.std.specs.Prelude.{◌≡◌};
+ghost use Rattle.profile_commands.specs.FaultTexts.{unread_word};
+
+use crate::name_told::name_told;
 use profile_text::DocFault;
 use std::alloc::AllocError;
+use std::error::Error;
+use std::fmt;
 use streams::Unread;
-use thiserror::Error;
 
 /// Why a command on a document in a file gave nothing, with the words that the program says on
 /// standard error.
-#[derive(Debug, Drop, Error)]
+#[derive(Debug, Drop)]
 pub enum FileFault {
     /// The file wasn't read: why. `NoMemory` is also answered where memory was refused later, and
     /// may stand in place of any answer.
-    #[error("{0}")]
     Unread(Unread),
     /// The bytes of the file are no document: the first fault that they have, which is never out of
     /// memory.
-    #[error("{0}")]
     Document(DocFault),
 }
+
+// The word of why a file wasn't read.
+fn unread_word(unread: Unread) -> &'static str
+    ensures { result.now ≡ unread_word unread }
+{
+    match unread {
+        Unread::Failed => "read",
+        Unread::TooManyReads => "too-many-reads",
+        Unread::NoMemory => "memory",
+    }
+}
+
+/// The fault's word and what goes with it. A capability that it tells by number is named behind that,
+/// as `ambient-outside 10 CAP_NET_BIND_SERVICE`.
+impl fmt::Display for FileFault {
+    ghost use Rattle.std.specs.Prelude.{Some};
+    ghost use Rattle.profile_commands.specs.FaultTexts.{file_fault_text};
+
+    ghost output = { λ fault. Some (file_fault_text fault) };
+
+    fn fmt<W: fmt::Write>(&self, f: &mut fmt::Formatter<W>) -> fmt::Result {
+        match self {
+            FileFault::Unread(why) => f.write_str(unread_word(*why)),
+            FileFault::Document(DocFault::Caps(fault)) => match name_told(*fault) {
+                Some(name) => write!(f, "{fault} {name}"),
+                None => write!(f, "{fault}"),
+            },
+            FileFault::Document(fault) => write!(f, "{fault}"),
+        }
+    }
+}
+
+impl Error for FileFault {}
 
 impl From<Unread> for FileFault {
     ghost use Rattle.std.specs.Prelude.{◌≡◌};

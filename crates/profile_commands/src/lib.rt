@@ -9,6 +9,7 @@ mod execve;
 mod fault;
 mod file_bytes;
 mod list;
+mod name_told;
 
 pub use check::check_document;
 pub use compare::{ComparedFault, compare_documents};
