@@ -2,11 +2,15 @@
 //! ask for.
 #![tactic(auto)]
 
+mod closed_pipe;
+
 ghost use Rattle.std.specs.Prelude.{◌≡◌, ◌≢◌};
 ghost use Rattle.std.specs.IoError.{error_kind};
 
+use closed_pipe::{Noting, Quiet};
 use office_commands::run_here;
 use progress::{KeptApart, MeasuredFiles, Meter};
+use std::cell::Cell;
 use std::io::{ErrorKind, IsTerminal};
 use std::process::ExitCode;
 use std::{env, io};
@@ -40,20 +44,45 @@ fn greet(rt: &HostRuntime, words: &[String]) {
     }
 }
 
+// Whether words ask for nothing but a text, which its reader may leave before its end.
+fn asks_for_text(words: &[String]) -> bool {
+    match words.get(1) {
+        Some(word) => matches!(
+            word.as_str(),
+            "check" | "compare" | "evidence" | "execve" | "history"
+        ),
+        None => false,
+    }
+}
+
 // Carries the words out over the files of the host and the standard streams of the process. How far long reading of
-// a file is shows on standard error, where that is a terminal, apart from what is printed.
-fn run(rt: &HostRuntime, words: &[String]) -> u8 {
-    let meter = Meter::new(rt, rt.stderr().is_terminal());
-    let files = MeasuredFiles::new(rt, &meter);
-    let output = KeptApart::new(io::writer(rt), &meter, rt.stdout().is_terminal());
+// a file is shows on standard error, where that is a terminal, apart from what is printed. Nothing is said of a text
+// whose reader has gone.
+fn run_with<'r>(
+    rt: &'r HostRuntime,
+    meter: &'r Meter<&'r HostRuntime>,
+    gone: &'r Cell<bool>,
+    words: &[String],
+) -> u8 {
+    let files = MeasuredFiles::new(rt, meter);
+    let apart = KeptApart::new(io::writer(rt), meter, rt.stdout().is_terminal());
+    let output = Noting::new(apart, gone);
+    let errors = Quiet::new(rt.stderr(), gone, asks_for_text(words));
     run_here(
         rt,
         &files,
         words,
         &mut Counted::new(rt.reader()),
         &mut Counted::new(output),
-        &mut Counted::new(rt.stderr()),
+        &mut Counted::new(errors),
     )
+}
+
+// Carries the words out, and notes meanwhile how far reading is and whether the reader of what is printed has gone.
+fn run(rt: &HostRuntime, words: &[String]) -> u8 {
+    let meter = Meter::new(rt, rt.stderr().is_terminal());
+    let gone = Cell::new(false);
+    run_with(rt, &meter, &gone, words)
 }
 
 fn main(rt: HostRuntime) -> ExitCode {
