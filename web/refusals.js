@@ -1,5 +1,6 @@
 // The sentence, the rule and the way out of an answer that isn't done.
 
+import { CAPABILITIES } from './document.js';
 import { DOCUMENT_FAULTS, NEEDED, NO_REQUEST, RULES, STORE_FAULTS, listed, plain } from './words.js';
 
 const DOES = {
@@ -113,7 +114,7 @@ export function faultSaid(fault) {
   if (!found) return ['The document doesn’t read.', 'See the faults of documents in docs/documents.md.'];
   const place = rest.join(' ');
   const cause = plain(found[1]);
-  const says = found[0].endsWith(' N') ? cause.replace('N', () => place)
+  const says = found[0].endsWith(' N') ? cause.replace('capability N', () => CAPABILITIES[Number(place)] ?? `capability ${place}`)
     : found[0].endsWith(' PATH') ? `${cause}, at ${place}` : found[0].endsWith(' NAME') ? `${cause}: ${place}` : cause;
   return [`The document can’t be taken: ${says}.`, WAYS[word]];
 }

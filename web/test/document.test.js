@@ -14,11 +14,14 @@ const said = (bytes) => {
   }
 };
 
+// `check` names a capability behind its number
+const named = (text) => text.replace(/-outside (\d+)$/, (all, number) => `${all} ${CAPABILITIES[Number(number)]}`);
+
 test('each check that the documents show is answered so', () => {
   let checks = 0;
   for (const name of ['README.md', ...readdirSync(new URL('docs', top)).filter((one) => one.endsWith('.md')).map((one) => `docs/${one}`)]) {
     for (const [, file, answer] of read(name).toString().matchAll(/^\$ \.\/office check (examples\/\S+)\n(.*)$/gm)) {
-      assert.equal(said(read(file)), answer, file);
+      assert.equal(named(said(read(file))), answer, file);
       checks++;
     }
   }

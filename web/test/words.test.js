@@ -47,7 +47,7 @@ test('each fault of a document has its cause, its place and a way out', () => {
     assert.doesNotMatch(says + way, /undefined|PATH|NAME|\bN\b|`/, form);
     if (form.includes('PATH')) assert.ok(says.endsWith(', at /a/b.'), says);
   }
-  assert.equal(faultSaid('ambient-outside 5')[0], 'The document can’t be taken: capability 5 is ambient, and not both permitted and inheritable.');
+  assert.equal(faultSaid('ambient-outside 5')[0], 'The document can’t be taken: CAP_KILL is ambient, and not both permitted and inheritable.');
 });
 
 test('faults of the store, what is no request, and a proxy', () => {
