@@ -3,7 +3,8 @@
 // Has a program meet each STEPth refusal of memory from number FIRST on, in one run of it. At each such allocation the process forks: the
 // child is refused it, is granted each later one, and goes on to its end. The parent waits, writes the number and how the child ended to
 // the descriptor TOLD, and waits there for a byte, so that somebody may look at what the child left. Then it sets the files of
-// the folder back to what they were, and its place in each, and goes on as if nothing had been. tools/out-of-memory loads it.
+// the folder back to what they were, and its place in each, and goes on as if nothing had been. A file that a child removes only gets
+// a dot before its name, so that it can be put back. tools/out-of-memory loads it.
 //
 // The program is to have all its files in the folder where it runs, and one thread. It allocates by malloc and realloc alone. What the
 // loader takes before main isn't counted. The disk isn't waited for, the clock stands still, and a connection is a file: the Nth that is
@@ -80,6 +81,14 @@ static int keep(void) {
     return files;
 }
 
+// The name that a file has once a child has removed it.
+static const char *removed(const char *path) {
+    static char name[NAME_MAX + 1];
+    const char *slash = strrchr(path, '/');
+    snprintf(name, sizeof name, ".%s", slash ? slash + 1 : path);
+    return name;
+}
+
 static void set_all_back(int files) {
     DIR *folder = opendir(".");
     for (const char *name; (name = next(folder));) {
@@ -88,7 +97,11 @@ static void set_all_back(int files) {
         if (at == files) unlink(name);
     }
     closedir(folder);
-    while (files) set_back(&kept[--files]);
+    while (files) {
+        const struct file *file = &kept[--files];
+        if (access(file->name, F_OK) != 0) rename(removed(file->name), file->name);
+        set_back(file);
+    }
 }
 
 // Tries the refusal of this allocation. Gives whether this is the child, which is refused it.
@@ -126,6 +139,7 @@ void *realloc(void *old, size_t size) { return is_refused() ? NULL : __libc_real
 // A child frees nothing: to write into memory that it shares with its parent costs a copy of the page.
 void free(void *held) { if (!is_child) __libc_free(held); }
 
+int unlink(const char *path) { return is_child ? rename(path, removed(path)) : unlinkat(AT_FDCWD, path, 0); }
 int fsync(int file) { return 0; }
 int fdatasync(int file) { return 0; }
 int clock_gettime(clockid_t clock, struct timespec *now) { *now = (struct timespec){0}; return 0; }
