@@ -1,9 +1,7 @@
 -- The words of why a command is refused or failed.
-use Rattle.std.specs.Prelude.{ℕ, List, ◌++◌, codes, decimal}
+use Rattle.std.specs.Prelude.{ℕ, List, ◌++◌, codes}
 use Rattle.desk.specs.Faults.{desk_fault_word}
-use Rattle.journal_office.specs.declared.not_reopened.NotReopened.{NotReopened}
-use Rattle.journal_office.specs.declared.not_reopened.NotReopened.TheVariants as reopening
-use Rattle.journal_office.specs.FaultTexts.{refused_text}
+use Rattle.journal_office.specs.FaultTexts.{not_reopened_text, refused_text}
 use Rattle.journal_reports.specs.FaultTexts.{no_evidence_text, unwritten_text}
 use Rattle.journal_verification.specs.DifferenceTexts.{difference_text}
 use Rattle.journal_verification.specs.declared.verification.Unverified.{Unverified}
@@ -30,16 +28,6 @@ abbrev pub execution_fault_word : ExecutionFault → List ℕ
 execution_fault_word execution.RootTakesNoFile = codes "root-takes-no-file"
 execution_fault_word execution.UnknownCapability = codes "unknown-capability"
 
--- why an office wasn't opened again with its journal
-abbrev pub reopening_fault_text : NotReopened → List ℕ
-reopening_fault_text reopening.Unsealed = codes "unsealed"
-reopening_fault_text reopening.NotALine = codes "not-a-journal"
-reopening_fault_text (reopening.Changed at) = codes "changed at " ++ decimal at
-reopening_fault_text reopening.OtherJournal = codes "other-journal"
-reopening_fault_text (reopening.Office why) = fault_word why
-reopening_fault_text reopening.Log = codes "journal"
-reopening_fault_text reopening.NoMemory = codes "memory"
-
 -- why an office isn't the one of its journal
 abbrev pub unverified_text : Unverified → List ℕ
 unverified_text (unverified.Refused refused) = refused_text refused
@@ -63,7 +51,7 @@ command_fault_text fault.JournalThere = codes "journal-there"
 command_fault_text fault.JournalBusy = codes "busy"
 command_fault_text fault.Journal = codes "journal"
 command_fault_text fault.JournalUnnamed = codes "journal"
-command_fault_text (fault.Reopening why) = reopening_fault_text why
+command_fault_text (fault.Reopening why) = not_reopened_text why
 command_fault_text fault.SameFile = codes "same-file"
 command_fault_text (fault.Unverified why) = unverified_text why
 command_fault_text (fault.Unbuilt refused) = refused_text refused

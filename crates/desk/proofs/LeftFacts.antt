@@ -1,5 +1,5 @@
 -- What a crash may leave after one line more, and after all of them.
-use Rattle.std.proofs.Common.{inl, inr, ◌≡◌, ℕ, Option, List, [], ◌∷◌, ◌++◌, refl, sym, subst}
+use Rattle.std.proofs.Common.{inl, inr, ◌≡◌, List, [], ◌∷◌, ◌++◌, refl, sym, subst}
 use Rattle.review_policy.specs.declared.answer.Answer.TheVariants.{Done, Denied, Fault}
 use Rattle.office_policy.specs.History.{History}
 use Rattle.office_policy.specs.Runs.{history_after, history_after_all}
@@ -10,9 +10,7 @@ use Rattle.office_policy.proofs.LeftFacts.{left_of_one}
 use Rattle.desk.specs.declared.outcome.LineOutcome.{LineOutcome}
 use Rattle.desk.specs.declared.outcome.LineOutcome.TheVariants.{Bad, NoMemory, Answered}
 use Rattle.desk.specs.Outcomes.{history_after_line, history_after_lines, requests_of, answers_of}
-use Rattle.desk.specs.Parts.{AreFirstOf}
-use Rattle.desk.specs.Left.{LeftAfterLine, LeftAfterLines}
-use Rattle.desk.specs.Stands.{AreHandled, LeavesLast}
+use Rattle.desk.specs.Left.{LeavesWithin, LeftAfterLine, LeftAfterLines}
 
 -- lines leave the history that the requests among them leave
 after_requests : (h : History) (os : List LineOutcome) → history_after_lines h os ≡ history_after_all h (requests_of os) (answers_of os)
@@ -50,17 +48,9 @@ module _ {X : Type 0} (m : Meaning X) where
   left_requests Before h (NoMemory ∷ os) rest left = left_requests Before h os rest left
   left_requests Before h (Answered r a ∷ os) rest left = left_requests (LeftAfterOne m Before h r a) (history_after h r a) os rest left
 
-  pub leaves_last : (old new : X) (unread : Option (List ℕ)) (lines : List (List ℕ)) (os : List LineOutcome) → AreHandled m old new lines os → AreFirstOf unread lines
-      → (h : History) → m.is_of h old → LeavesOnly m h old → m.is_clean new → LeavesLast m h old new unread
-  leaves_last old new unread lines os handled first h office only clean = record {
-    lines = lines;
-    first = first;
-    outcomes = os;
-    handled = handled;
-    policy = handled.policy h office clean;
-    office = handled.office h office;
-    left = λ rest may.
-        let after = left_requests (m.may_leave old) h os rest (handled.crash h office clean rest may) in
-        subst (λ (k : History). AreLeft m k (requests_of os) (answers_of os) rest) (sym (after_requests h os))
-        (left_of_one m old h (requests_of os) (answers_of os) rest only after);
-  }
+  pub left_within : (old new : X) (h : History) (os : List LineOutcome) → LeavesOnly m h old → LeavesWithin m new (LeftAfterLines m (m.may_leave old) h os)
+      → LeavesWithin m new (AreLeft m (history_after_lines h os) (requests_of os) (answers_of os))
+  left_within old new h os only crash rest may =
+      let after = left_requests (m.may_leave old) h os rest (crash rest may) in
+      subst (λ (k : History). AreLeft m k (requests_of os) (answers_of os) rest) (sym (after_requests h os))
+      (left_of_one m old h (requests_of os) (answers_of os) rest only after)

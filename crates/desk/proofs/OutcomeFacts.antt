@@ -1,5 +1,5 @@
 -- One more line is handled, and its answer is written, or cut short.
-use Rattle.std.proofs.Common.{◌≡◌, ◌∙◌, ℕ, ◌<◌, List, [], ◌∷◌, ◌++◌, Option, length, take, refl, sym, ap, subst, arith, append-nil, append_assoc, length-append}
+use Rattle.std.proofs.Common.{◌≡◌, ◌∙◌, ℕ, ◌<◌, List, [], ◌∷◌, ◌++◌, Option, inl, length, take, refl, sym, ap, subst, arith, append-nil, append_assoc, length-append}
 use Rattle.std.proofs.KnownBytes.{Appends-nil, Appends-trans}
 use Rattle.std.specs.Io.KnownBytes.{Appends}
 use Rattle.streams.specs.Steps.{AppendsPart}
@@ -18,9 +18,9 @@ use Rattle.json_requests.specs.Bad.{bad_line}
 use Rattle.desk.specs.declared.outcome.LineOutcome.{LineOutcome}
 use Rattle.desk.specs.declared.outcome.LineOutcome.TheVariants.{Bad, NoMemory, Answered}
 use Rattle.desk.specs.Outcomes.{IsOutcome, history_after_line, told, AreOutcomes, history_after_lines, requests_of, answers_of, transcript}
-use Rattle.desk.specs.Left.{LeftAfterLines}
+use Rattle.desk.specs.Left.{LeavesWithin, LeftAfterLines}
 use Rattle.desk.specs.Stands.{StandsAfterLine, HandlesLine, IsHandled, AreHandled, AreAnswered, AreCutShort}
-use Rattle.desk.proofs.LeftFacts.{left_more_lines, left_by_more}
+use Rattle.desk.proofs.LeftFacts.{left_more_lines, left_by_more, left_within}
 
 outcomes_more : (h : History) (lines : List (List ℕ)) (os : List LineOutcome) (line : List ℕ) (o : LineOutcome) → AreOutcomes h lines os
     → IsOutcome (history_after_lines h os) line o → AreOutcomes h (lines ++ line ∷ []) (os ++ o ∷ [])
@@ -102,6 +102,13 @@ module _ {X : Type 0} (m : Meaning X) where
   each_more old mid new (NoMemory ∷ os) o each line = each_more old mid new os o each line
   each_more old mid new (Answered r a ∷ os) o each line = (each.0, each.1, each_more each.0 mid new os o each.2 line)
 
+  crash_more : (old mid new : X) (lines : List (List ℕ)) (os : List LineOutcome) (line : List ℕ) (o : LineOutcome) → AreHandled m old mid lines os → IsHandled m mid new line o
+      → (h : History) → m.is_of h old → m.is_clean new → LeavesWithin m new (LeftAfterLines m (m.may_leave old) h (os ++ o ∷ []))
+  crash_more old mid new lines os line o s more h office clean left may =
+      let after = more.crash (history_after_lines h os) (s.office h office) clean left may in
+      let before = s.crash h office (more.survives.clean clean) in
+      left_more_lines m (m.may_leave old) h os o left (left_by_more m (m.may_leave mid) (LeftAfterLines m (m.may_leave old) h os) (history_after_lines h os) o before left after)
+
   pub handled_more : (old mid new : X) (lines : List (List ℕ)) (os : List LineOutcome) (line : List ℕ) (o : LineOutcome)
       → AreHandled m old mid lines os → IsHandled m mid new line o → AreHandled m old new (lines ++ line ∷ []) (os ++ o ∷ [])
   handled_more old mid new lines os line o s more = record {
@@ -114,10 +121,8 @@ module _ {X : Type 0} (m : Meaning X) where
         let before = s.stands h office (more.survives.clean clean) in
         let last = more.stands (history_after_lines h os) (s.office h office) clean in
         stands_more mid new h os o before last;
-    crash = λ h office clean left may.
-        let after = more.crash (history_after_lines h os) (s.office h office) clean left may in
-        let before = s.crash h office (more.survives.clean clean) in
-        left_more_lines m (m.may_leave old) h os o left (left_by_more m (m.may_leave mid) (LeftAfterLines m (m.may_leave old) h os) (history_after_lines h os) o before left after);
+    crash = crash_more old mid new lines os line o s more;
+    left = λ h office only clean. left_within m old new h (os ++ o ∷ []) only (crash_more old mid new lines os line o s more h office clean);
   }
 
   pub none_handled : (s : X) → AreHandled m s s [] []
@@ -128,6 +133,7 @@ module _ {X : Type 0} (m : Meaning X) where
     office = λ h office. office;
     stands = λ h office clean. tt;
     crash = λ h office clean left may. may;
+    left = λ h office only clean left may. inl (only left may);
   }
 
   pub answered_none : (s : X) (w : Option (List ℕ)) → AreAnswered m s s w w []

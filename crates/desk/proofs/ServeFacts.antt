@@ -2,22 +2,18 @@
 use Rattle.std.proofs.Common.{◌≡◌, ◌∙◌, ℕ, zero, suc, ◌+◌, ◌<◌, ◌≤◌, List, [], ◌∷◌, ◌++◌, Option, Some, None, IfSome, Result, Ok, Err, length, take, refl, sym, ap, subst, arith, length-append, append_assoc, add-one}
 use Rattle.std.specs.Prelude.{⊤, OnOk, IfErr, IsErrAnd}
 use Rattle.std.specs.Io.KnownBytes.{IsAtEnd}
-use Rattle.office_policy.specs.History.{History}
 use Rattle.office_policy.specs.Meaning.{Meaning}
-use Rattle.office_policy.specs.Handled.{LeavesOnly}
 use Rattle.streams.specs.Handed.{Handed, KeepsHanded, HandsOut}
 use Rattle.streams.specs.Held.{Held, Holds, HasLine, size}
 use Rattle.streams.specs.Lines.{first_line, lines_of, NoFeed}
-use Rattle.streams.proofs.HandedFacts.{all_handed, front_handed, last_held, next_held}
+use Rattle.streams.proofs.HandedFacts.{all_handed, last_held, next_held}
 use Rattle.streams.proofs.HeldFacts.{holds_no_feed}
 use Rattle.desk.specs.declared.fault.DeskFault.{DeskFault}
 use Rattle.desk.specs.declared.fault.DeskFault.TheVariants.{Read, Write, TooManyReads, NoMemory}
 use Rattle.desk.specs.declared.outcome.LineOutcome.{LineOutcome}
 use Rattle.desk.specs.Outcomes.{told}
-use Rattle.desk.specs.Stands.{IsHandled, HasHandled, AreAnswered, AreCutShort, LeavesLast, StopsWriting, StandsAfter, IsUnfinished}
-use Rattle.desk.specs.Parts.{AreFirstOf}
+use Rattle.desk.specs.Stands.{IsHandled, HasHandled, AreAnswered, AreCutShort, StopsWriting, StandsAfter, IsUnfinished}
 use Rattle.desk.specs.Written.{IsServed}
-use Rattle.desk.proofs.LeftFacts.{leaves_last}
 use Rattle.desk.proofs.OutcomeFacts.{answered_none, answered_more, cut_short, cut_before, none_handled, handled_more}
 
 -- what an exit of `?` passes on
@@ -25,20 +21,7 @@ pub passed_on : (r : Result ⊤ DeskFault) (e : DeskFault) → IsErrAnd r (λ x.
 passed_on (Ok x) e is = absurd is
 passed_on (Err x) e is = ap Err is
 
-none_first : (u : Option (List ℕ)) → AreFirstOf u []
-none_first None = tt
-none_first (Some input) = (lines_of input, refl)
-
-more_first : (u : Option (List ℕ)) (lines : List (List ℕ)) (line : List ℕ)
-    → IfSome u (λ input. (more : List (List ℕ)) × (lines_of input ≡ lines ++ line ∷ more)) → AreFirstOf u (lines ++ line ∷ [])
-more_first None lines line next = tt
-more_first (Some input) lines line next = (next.0, next.1 ∙ sym (append_assoc lines (line ∷ []) next.0))
-
 module _ {X : Type 0} (m : Meaning X) where
-  -- what a crash may leave, where it could leave only the office before
-  abbrev pub LeavesIt : (old new : X) → (unread : Option (List ℕ)) → Type 0
-  LeavesIt old new unread = (h : History) → m.is_of h old → LeavesOnly m h old → m.is_clean new → LeavesLast m h old new unread
-
   -- the lines that were handed out are answered
   pub record Progress (old now : X) (held : Held) (unread rest before current : Option (List ℕ)) (number : ℕ) : Type 0 where
     pub lines : List (List ℕ)
@@ -65,9 +48,6 @@ module _ {X : Type 0} (m : Meaning X) where
   pub none_has : (s : X) → HasHandled m s s
   none_has s = record { lines = []; outcomes = []; handled = none_handled m s }
 
-  pub none_leaves : (s : X) (unread : Option (List ℕ)) → LeavesIt s s unread
-  none_leaves s unread = leaves_last m s s unread [] [] (none_handled m s) (none_first unread)
-
   -- the first line that is held is handled, and this is written for it
   abbrev pub ServesFirst : (mid new : X) → Held → (between after : Option (List ℕ)) → ℕ → Result ⊤ DeskFault → Type 0
   ServesFirst mid new held between after number result =
@@ -79,9 +59,6 @@ module _ {X : Type 0} (m : Meaning X) where
       (p : Progress old now held unread rest before current number) where
     pub some_handled : HasHandled m old now
     some_handled = record { lines = p.lines; outcomes = p.answered.outcomes; handled = p.answered.handled }
-
-    pub some_leaves : LeavesIt old now unread
-    some_leaves = leaves_last m old now unread p.lines p.answered.outcomes p.answered.handled (front_handed held unread rest p.lines p.handed)
 
     pub all_answered : size held ≡ 0 → IsAtEnd rest → IfSome unread (λ input. AreAnswered m old now before current (lines_of input))
     all_answered none end = with_all unread (all_handed held unread rest p.lines p.handed none end)
@@ -132,13 +109,6 @@ module _ {X : Type 0} (m : Meaning X) where
           outcomes = p.answered.outcomes ++ so.0 ∷ [];
           handled = handled_more m old mid new p.lines p.answered.outcomes line so.0 p.answered.handled so.1;
         }
-
-    pub served_leaves : IsNext old mid held unread rest before between number p → (result : Result ⊤ DeskFault)
-        → ServesFirst mid new held between after (number + 1) result → LeavesIt old new unread
-    served_leaves next result serves =
-        let so = serves p.handed.rest p.handed.holds in
-        leaves_last m old new unread (p.lines ++ line ∷ []) (p.answered.outcomes ++ so.0 ∷ [])
-        (handled_more m old mid new p.lines p.answered.outcomes line so.0 p.answered.handled so.1) (more_first unread p.lines line next)
 
     -- its number is not 0
     pub served_later : (result : Result ⊤ DeskFault) → ServesFirst mid new held between after (number + 1) result → result ≡ Err (NoMemory 0) → ⊥

@@ -7,7 +7,7 @@ use Rattle.office_policy.specs.Runs.{history_after}
 use Rattle.office_policy.specs.Left.{AreLeft}
 use Rattle.office_policy.specs.Meaning.{Meaning}
 use Rattle.office_policy.specs.Handled.{IsHandled as IsRequestHandled}
-use Rattle.office_policy.specs.Handled.{UnlessFaulty, Stands, Survives}
+use Rattle.office_policy.specs.Handled.{LeavesOnly, UnlessFaulty, Stands, Survives}
 use Rattle.office_policy.specs.Ran.{HandlesEach, UnlessLastFaulty}
 use Rattle.streams.specs.Lines.{lines_of}
 use Rattle.desk.specs.declared.outcome.LineOutcome.{LineOutcome}
@@ -15,7 +15,7 @@ use Rattle.desk.specs.declared.outcome.LineOutcome.TheVariants as came
 use Rattle.desk.specs.Left.{LeavesWithin, LeftAfterLine, LeftAfterLines}
 use Rattle.desk.specs.Outcomes.{IsOutcome, history_after_line, AreOutcomes, history_after_lines}
 use Rattle.desk.specs.Outcomes.{requests_of, answers_of, told, transcript}
-use Rattle.desk.specs.Parts.{AreFirstOf, IsCut}
+use Rattle.desk.specs.Parts.{IsCut}
 use Rattle.desk.specs.declared.fault.DeskFault.{DeskFault}
 use Rattle.desk.specs.declared.fault.DeskFault.TheVariants.{Read, Write, TooManyReads, NoMemory}
 
@@ -65,25 +65,17 @@ module _ {X : Type 0} (m : Meaning X) where
         → UnlessLastFaulty (answers_of outcomes) (Stands m (history_after_lines h outcomes) new)
     pub crash : (h : History) → m.is_of h old → m.is_clean new
         → LeavesWithin m new (LeftAfterLines m (m.may_leave old) h outcomes)
+    -- where a crash could leave only the office before, it leaves that of the history after these, or
+    -- that with one event more, or a begun one: of a request among them which was answered by a fault
+    pub left : (h : History) → m.is_of h old → LeavesOnly m h old → m.is_clean new
+        → LeavesWithin m new
+        (AreLeft m (history_after_lines h outcomes) (requests_of outcomes) (answers_of outcomes))
 
   -- some lines were handled, whatever was reported of the stream that they are of
   pub record HasHandled (old new : X) : Type 0 where
     pub lines : List (List ℕ)
     pub outcomes : List LineOutcome
     pub handled : AreHandled old new lines outcomes
-
-  -- the first lines of a stream were handled, and a crash leaves the office of the history after
-  -- them, or that office with one event more: that of a request among them which was answered by a
-  -- fault
-  pub record LeavesLast (h : History) (old new : X) (unread : Known) : Type 0 where
-    pub lines : List Bytes
-    pub first : AreFirstOf unread lines
-    pub outcomes : List LineOutcome
-    pub handled : AreHandled old new lines outcomes
-    pub policy : AreOutcomes h lines outcomes
-    pub office : m.is_of (history_after_lines h outcomes) new
-    pub left : LeavesWithin m new
-        (AreLeft m (history_after_lines h outcomes) (requests_of outcomes) (answers_of outcomes))
 
   -- the lines were handled, and just their transcript was written
   pub record AreAnswered (old new : X) (before after : Known) (lines : List Bytes) : Type 0 where

@@ -1,14 +1,12 @@
 //! Lines in, answers out.
 
 ghost use Rattle.std.specs.Prelude.{◌≡◌, ◌+◌, ◌≤◌, ◌<◌, ℕ, List, IfErr, OnOk, IfSome};
-ghost use Rattle.office_policy.specs.History.{History};
-ghost use Rattle.office_policy.specs.Handled.{LeavesOnly};
 ghost use Rattle.streams.specs.Held.{Holds};
 ghost use Rattle.streams.specs.Lines.{first_line, lines_of};
 ghost use Rattle.json_requests.specs.Answers.{line_of};
 ghost use Rattle.desk.specs.Outcomes.{told};
 ghost use Rattle.desk.specs.declared.outcome.LineOutcome.{LineOutcome};
-ghost use Rattle.desk.specs.Stands.{IsHandled, HasHandled, AreAnswered, LeavesLast, StandsAfter};
+ghost use Rattle.desk.specs.Stands.{IsHandled, HasHandled, AreAnswered, StandsAfter};
 ghost use Rattle.desk.specs.Written.{IsServed, CountsServed};
 ghost use Rattle.streams.specs.CallsLeft.{HasCallsLeft, HasFaultsLeft};
 
@@ -80,8 +78,8 @@ fn serve_first<H: Handler, W: Write>(
 /// by that fault, and so is a request that runs out of it; both change nothing.
 ///
 /// After a crash what is left is the office of the last history, or that office with one event
-/// more: that of a request among the lines of this call that was answered by a fault, as a fault
-/// may come once what was asked for is written.
+/// more, or with what was begun of one: that of a request among the lines of this call that was
+/// answered by a fault, as a fault may come once what was asked for is written.
 ///
 /// # Errors
 ///
@@ -101,9 +99,6 @@ pub fn desk<H: Handler, R: Read, W: Write>(
         (R.remaining reader.old.inner) (R.remaining reader.new.inner)
         (W.contents writer.old.inner) (W.contents writer.new.inner)) }
     ensures handled { HasHandled H.meaning office.old office.new }
-    ensures left { (h : History) → H.meaning.is_of h office.old → LeavesOnly H.meaning h office.old
-        → H.meaning.is_clean office.new
-        → LeavesLast H.meaning h office.old office.new (R.remaining reader.old.inner) }
     ensures nothing { result ≡ Err (DeskFault.NoMemory 0) → office.new ≡ office.old }
     ensures read { IfErr result (λ e. (line : ℕ) → e ≡ DeskFault.Read line →
         reader.old.faults < reader.new.faults) }

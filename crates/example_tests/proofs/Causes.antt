@@ -4,7 +4,7 @@ use Rattle.review_policy.specs.declared.ask.Request.{Request}
 use Rattle.review_policy.specs.declared.answer.Reply.{Reply}
 use Rattle.review_policy.specs.declared.fault.Fault.{Fault}
 use Rattle.review_policy.specs.declared.fault.Fault.TheVariants.{NoMemory}
-use Rattle.office_policy.specs.Handled.{HasRisen, IsMet, IsUnwritten, LacksMemory, RefusesEvent}
+use Rattle.office_policy.specs.Handled.{AreBegun, HasRisen, IsMet, IsUnwritten, LacksMemory, RefusesEvent}
 use Rattle.office_policy.specs.History.{Event, History}
 use Rattle.office_policy.specs.Verdict.{Verdict, accepted, denied, verdict}
 use Rattle.example_tests.specs.Examples.{Sketch, counting, enrolment, founding, grown, maybe_grown, quiet, refusing}
@@ -50,7 +50,19 @@ not_in_doubt none = by (none.1 enrolment (inr refl))
     by (inl is) = other_history is
     by (inr is) = other_history is
 
+-- it begins to write no event down
+none_begun : (h : History) (v : Verdict) (left : History) → AreBegun quiet h v left → ⊥
+none_begun h (accepted reply (Some e)) left begun = begun
+none_begun h (accepted reply None) left begun = begun
+none_begun h (denied denial told) left begun = begun
+
 -- there was memory where something was written and nothing is refused
 pub memory_there : (y : Sketch) (h : History) (r : Request) → (IsUnwritten quiet (counting 3) y → ⊥) → LacksMemory quiet (counting 3) y h r → ⊥
-memory_there y h r written (inl none) = written none
+memory_there y h r written (inl none) = written (
+  none.0,
+  λ left may. elim (none.1 left may) [
+    | inl before ↦ before
+    | inr begun ↦ absurd (none_begun h (verdict h r) left begun)
+  ],
+)
 memory_there y h r written (inr refuses) = refuses_none (counting 3) h (verdict h r) NoMemory refuses

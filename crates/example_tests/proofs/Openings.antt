@@ -30,7 +30,7 @@ use Rattle.journal_office.specs.Opening.{IsOfNow, IsReopened}
 use Rattle.example_tests.specs.Examples.{founding, founds}
 use Rattle.example_tests.specs.JournalExamples.{first_line, first_lines, HasBodies, IsCleanOffice, ShowsFounding, with_log}
 use Rattle.example_tests.proofs.Lines.{first_says, first_lines_say, founds_entry, founds_forms, none_before, told_first, told_first_lines}
-use Rattle.example_tests.proofs.Replays.{leaves_itself}
+use Rattle.office_policy.proofs.SurvivalFacts.{left_itself}
 
 -- ---- what the line of the founding holds back
 
@@ -97,7 +97,7 @@ module _ {S D : Type 0} (s : Ghosts S) (g : DiskGhosts D) (old : Held S) (log : 
       let is = has_first g log has in
       let says : Says (bodies_of g log) founding = subst (λ (b : List (List ℕ)). Says b founding) (sym is) first_says in
       record {
-        office = leaves_itself (meaning_over s) old;
+        office = left_itself (meaning_over s) old;
         goes_on = and_from log.is_open (not false) has.is_open refl;
         clean = λ clean. clean;
         bodies = λ clean. record { was = founding; says = says; is = inl refl };

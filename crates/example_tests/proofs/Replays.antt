@@ -2,25 +2,13 @@
 use Rattle.std.proofs.Common.{◌≡◌, ◌∙◌, inl, inr, ℕ, ◌∷◌, refl, sym, subst}
 use Rattle.office_policy.specs.Handled.{Stands}
 use Rattle.office_policy.specs.History.{History}
-use Rattle.office_policy.specs.Judging.{LeavesAll}
 use Rattle.office_policy.specs.Lawful.{IsAllowed}
-use Rattle.office_policy.specs.Meaning.{Meaning}
-use Rattle.office_policy.proofs.SurvivalFacts.{survives_none}
 use Rattle.example_tests.specs.Examples.{counting, enrols, founding, founds, grown, quiet}
 use Rattle.example_tests.proofs.Founded.{enrolment_lawful, enrols_allowed, founded_once, is_lawful}
 
 -- the office is of its own history
 pub founded_of : (n : ℕ) → quiet.is_of founding (counting n)
 founded_of n = (is_lawful, refl)
-
-pub leaves_itself : {X : Type 0} (m : Meaning X) (x : X) → LeavesAll m x x
-leaves_itself m x = record {
-  survives = survives_none m x;
-  office = λ h of. of;
-  kept = λ clean. m.keeps_itself x;
-  crash = λ clean left may. may;
-  strays = λ e stray. stray;
-}
 
 pub stands_founded : (n : ℕ) (h : History) → quiet.is_of h (counting n) → Stands quiet h (counting n)
 stands_founded n h of = record {

@@ -2,7 +2,7 @@
 -- filter of one call.
 use Rattle.std.specs.Prelude.{◌≡◌, ◌⊎◌, ℕ, List, [], ◌∷◌, Bool, true, false, codes, replicate}
 use Rattle.std.specs.Prelude.{IsTrue}
-use Rattle.std.proofs.Common.{◌∙◌, refl}
+use Rattle.std.proofs.Common.{◌∙◌, ◌++◌, ap, append_assoc, refl, sym}
 use Rattle.sqlite.specs.Held.{Held, state}
 use Rattle.sqlite.specs.Store.{Ghosts}
 use Rattle.seccomp_doc.specs.declared.action.Action.TheVariants.{Allow, Errno}
@@ -14,7 +14,7 @@ use Rattle.office_store.specs.Shown.{IsIdle}
 use Rattle.office_founding.specs.Founding.{first_user}
 use Rattle.office_policy.specs.History.{Event, History, founded, enrolled}
 use Rattle.office_policy.specs.Lawful.{IsLawfulHistory}
-use Rattle.office_policy.specs.Meaning.{Meaning}
+use Rattle.office_policy.specs.Meaning.{Meaning, Entry, no_entry, entry_of, struck_entry_of}
 
 -- ---- what happens
 
@@ -50,6 +50,12 @@ pub record Sketch : Type 0 where
   pub is_open : Bool
   pub faults : ℕ
 
+-- the history with what is written down of an event: one that is struck out isn't there
+abbrev pub with_entry : Entry → History → History
+with_entry no_entry h = h
+with_entry (entry_of e) h = e ∷ h
+with_entry (struck_entry_of e) h = h
+
 -- what is meant by such an office, which refuses each event with these faults
 abbrev pub sketched : (Fault → Type 0) → Meaning Sketch
 sketched Refuses = record {
@@ -60,12 +66,22 @@ sketched Refuses = record {
   is_of = λ h x. IsLawfulHistory h × (h ≡ x.history);
   keeps = λ x y. y.history ≡ x.history;
   is_stray = λ e x. ⊥;
+  adds = λ entry x y. y.history ≡ with_entry entry x.history;
+  grows = λ x y. (more : History) × (y.history ≡ more ++ x.history);
   Left = History;
   may_leave = λ x left. (left ≡ x.history) ⊎ (left ≡ x.in_doubt);
   are_of = λ h left. left ≡ h;
+  are_begun = λ h e left. ⊥;
   lawful = λ h x of. of.0;
   keeps_itself = λ x. refl;
   keeps_on = λ x y z first then_. then_ ∙ first;
+  adds_none = λ x. refl;
+  adds_on = λ entry x y z first then_. then_ ∙ ap (with_entry entry) first;
+  grows_itself = λ x. ([], refl);
+  grows_on = λ x y z first then_. (
+    then_.0 ++ first.0,
+    then_.1 ∙ ap (λ h. then_.0 ++ h) first.1 ∙ sym (append_assoc then_.0 first.0 x.history),
+  );
   strays_shut = λ e x none is. none;
 }
 

@@ -51,6 +51,10 @@ with_bodies bodies = record {
 abbrev pub with_stray : List (List ℕ) → Journaled Sketch Pages
 with_stray bodies = record (with_bodies bodies) { has_stray = true }
 
+-- no line says what became of its last event
+abbrev pub with_unsettled : List (List ℕ) → Journaled Sketch Pages
+with_unsettled bodies = record (with_bodies bodies) { is_settled = false }
+
 -- two bodies
 abbrev pub one : List ℕ
 one = 1 ∷ []

@@ -1,5 +1,5 @@
 -- What was allowed, carried out in an office with a journal.
-use Rattle.std.proofs.Common.{◌⊎◌, inl, inr, ◌≡◌, ◌∙◌, ◌≤◌, ◌+◌, [], ◌∷◌, ◌++◌, ℕ, List, Bool, true, false, not, Ok, Err, IsTrue, Some, None, refl, sym, ap, subst, arith, le_trans, append-nil, append_assoc}
+use Rattle.std.proofs.Common.{◌⊎◌, inl, inr, ◌≡◌, ◌∙◌, ◌≤◌, ◌+◌, [], ◌∷◌, ◌++◌, ℕ, List, Bool, true, false, not, Ok, Err, IsTrue, Some, None, ◌-◌, ◌^◌, ◌==◌, if◌then◌else◌, length, min, refl, sym, ap, subst, arith, le_trans, append-nil, append_assoc}
 use Rattle.std.proofs.lemmas.Bool.{and_parts, and_from}
 use Rattle.review_policy.specs.declared.ask.Request.{Request}
 use Rattle.review_policy.specs.declared.fault.Fault.{Fault as TheFault}
@@ -10,20 +10,21 @@ use Rattle.office_policy.specs.declared.judge.Allowed.{Allowed}
 use Rattle.office_policy.specs.History.{Event, History}
 use Rattle.office_policy.specs.Verdict.{Verdict, accepted, denied, verdict}
 use Rattle.office_policy.specs.Runs.{IsAnswer, event_of, history_after, with_event as with_was}
-use Rattle.office_policy.specs.Meaning.{Meaning}
-use Rattle.office_policy.specs.Handled.{AreWithEvent, HasCause, HasRisen, HasStray, HasStrayOf, IsFault, IsHandled, IsUnwritten, Stands, Survives, only_reads}
+use Rattle.office_policy.specs.Meaning.{Meaning, entry_of, no_entry, struck_entry_of}
+use Rattle.office_policy.specs.Handled.{AddsBy, AddsStruck, AreBegun, AreInPart, AreWithEvent, HasCause, HasRisen, HasStray, HasStrayOf, IsFault, IsHandled, LeavesUndone, Stands, Survives, only_reads}
 use Rattle.office_policy.specs.Judging.{IsAllowedTo, IsPermitted, LeavesAll, event_for}
 use Rattle.office_policy.proofs.AskedFacts.{changing}
 use Rattle.office_policy.proofs.SurvivalFacts.{closes_all, closes_by_fault, risen_after, risen_before, survives_on}
 use Rattle.office_policy.proofs.CauseFacts.{cause_before}
-use Rattle.sealed_log.specs.Sealed.{IsBody, sealed_text}
+use Rattle.sealed_log.specs.Sealed.{IsBody, no_seal, seal_of, sealed_line, sealed_text}
+use Rattle.sealed_log.proofs.SealFacts.{sealed_lines-push}
 use Rattle.journal.specs.Forms.{HasForms, HasNumber}
-use Rattle.journal.specs.Journal.{EndsWithEvent, IsEntry, Says}
+use Rattle.journal.specs.Journal.{EndsWithEvent, IsEntry, IsJournalOf, Says}
 use Rattle.journal.specs.Lines.{happened, strike, text_of}
 use Rattle.journal.proofs.Lengths.{allowed_entry}
 use Rattle.journal.specs.declared.journaled.Journaled.{Journaled}
-use Rattle.journal.specs.Begun.{IsLeftOf, done_bodies}
-use Rattle.journal.specs.Journals.{HasAsStray, HasStruck, HasUnstruck, IsHalfStruck, IsOf, IsStray, IsStruck, IsTakenBack, IsUnstruck, KeepsJournal, LeavesFile, LeavesOffice, goes_on, is_clean, journaled, stops, struck_body, struck_none, unsettled, with_office}
+use Rattle.journal.specs.Begun.{IsBegun, done_bodies}
+use Rattle.journal.specs.Journals.{Adds, BeginsWith, Grows, HasAsStray, HasStruck, HasUnstruck, IsHalfStruck, IsOf, IsStray, IsStruck, IsTakenBack, IsUnstruck, KeepsJournal, begins_on, goes_on, is_clean, journaled, stops, struck_body, struck_none, text_begins, unsettled, with_office}
 use Rattle.journal.specs.Writing.{IsAppended, IsLeftIn, IsMet, Writing}
 use Rattle.journal.proofs.Offices.{all_left, caused, open_of, risen_first, risen_second, stands_with}
 use Rattle.journal.proofs.Settling.{settled_says}
@@ -35,6 +36,9 @@ by_flag false is = refl
 
 pub never_both : (b : Bool) → b ≡ true → b ≡ false → ⊥
 never_both b is_true is_false = let c : true ≡ false = sym is_true ∙ is_false in absurd cc
+
+same_length : (n : ℕ) → n ≤ n
+same_length n = omega arith
 
 none_below : (n : ℕ) → 0 ≤ n
 none_below n = omega arith
@@ -70,12 +74,13 @@ module _ {O J : Type 0} (m : Meaning O) (w : Writing J) (x : Journaled O J) (goe
   no_line = record {
     survives = still.survives;
     answer = λ h of clean. tt;
-    cause = λ h of clean. inl (still.kept clean, still.crash clean);
+    cause = λ h of clean. inl (still.kept clean, λ left may. inl (still.crash clean left may));
     closes = λ h of. still_closes h (Fault faults.NoMemory);
     approved = λ h of clean. tt;
     office = still.office;
     stands = λ h of clean. tt;
     kept = still.kept;
+    adds = λ h of clean. inl (still.adds clean);
     crash = λ h of clean left may. inl (still.crash clean left may);
   }
 
@@ -116,6 +121,7 @@ module _ {O J : Type 0} (m : Meaning O) (w : Writing J) (x : Journaled O J) (goe
       office = still.office;
       stands = λ h of clean. tt;
       kept = still.kept;
+      adds = λ h of clean. inl (still.adds clean);
       crash = λ h of clean left may. inl (still.crash clean left may);
     }
 
@@ -142,33 +148,35 @@ module _ {O J : Type 0} (m : Meaning O) (w : Writing J) (x : Journaled O J) (goe
           (one_struck base h event (entry h allowed) says_base)
 
       -- the lines are there, or what is left of them
-      first_part : (left : List ℕ) → IsLeftIn (w.bodies x.journal) settling body left → IsLeftOf h left
-      first_part left part = inr (inl (record {
+      first_part : (left : List ℕ) → IsLeftIn (w.bodies x.journal) settling body left → IsBegun h event left
+      first_part left part = record {
         before = w.bodies x.journal;
         says = says;
         settling = unsettled w x;
         settled = says_base;
-        event = event;
         allowed = allowed.lawful;
         forms = formed h allowed;
         left = inl (subst (λ b. IsLeftIn (w.bodies x.journal) settling b left) said part);
-      }))
+      }
 
       -- and behind it what is left of the line that strikes it out
-      half_line : (bodies : List (List ℕ)) (left : List ℕ) → bodies ≡ base ++ body ∷ [] → IsLeftIn bodies [] (text_of strike) left → IsLeftOf h left
-      half_line bodies left is part = inr (inl (record {
+      half_line : (bodies : List (List ℕ)) (left : List ℕ) → bodies ≡ base ++ body ∷ [] → IsLeftIn bodies [] (text_of strike) left → IsBegun h event left
+      half_line bodies left is part = record {
         before = w.bodies x.journal;
         says = says;
         settling = unsettled w x;
         settled = says_base;
-        event = event;
         allowed = allowed.lawful;
         forms = formed h allowed;
         left = inr (subst (λ b. IsLeftIn b [] (text_of strike) left) (is ∙ ap (λ l. base ++ l ∷ []) said) part);
-      }))
+      }
 
-      whole_line : (bodies : List (List ℕ)) (left : List ℕ) → bodies ≡ base ++ body ∷ [] → left ≡ sealed_text bodies → IsLeftOf h left
+      whole_line : (bodies : List (List ℕ)) (left : List ℕ) → bodies ≡ base ++ body ∷ [] → left ≡ sealed_text bodies → IsBegun h event left
       whole_line bodies left is whole = half_line bodies left is (record { tail = []; short = none_below _; is = whole ∙ sym (append-nil (sealed_text bodies)) })
+
+      -- the office of the history is left, and its event was begun
+      begun_left : (left : m.Left × List ℕ) → m.are_of h left.0 ⊎ m.are_begun h event left.0 → IsBegun h event left.1 → AreBegun (journaled m w) h (verdict h r) left
+      begun_left left office begun = subst (λ v. AreBegun (journaled m w) h v left) (sym allowed.verdict) (office, begun)
 
     -- ---- the line was not written
 
@@ -208,17 +216,40 @@ module _ {O J : Type 0} (m : Meaning O) (w : Writing J) (x : Journaled O J) (goe
       told h faults.Full met = tt
       told h faults.NotAnOffice met = met
 
-      office_left : m.is_clean mid → (left : m.Left) → LeavesOffice m w unwritten left → LeavesOffice m w x left
-      office_left clean left (inl may) = inl (permitted.leaves.crash clean left may)
-      office_left clean left (inr each) = inr (λ h of. each h (unwritten_of h of))
+      -- what a crash leaves could be left before, or has a part of the line
+      left_unwritten : is_clean m w unwritten → (h : History) → IsOf m w h x → (left : m.Left × List ℕ) → (journaled m w).may_leave unwritten left
+          → (journaled m w).may_leave x left ⊎ AreBegun (journaled m w) h (verdict h r) left
+      left_unwritten clean h of left may = elim (appended.crash clean.1 left.1 may.1) [
+        | inl before ↦ inl (permitted.leaves.crash clean.0 left.0 may.0, before)
+        | inr part ↦
+            inr (begun_left h of clean.0 (appended.clean clean.1) left (inl ((permitted.stands h of.office clean.0).leaves left.0 may.0))
+            (first_part h of clean.0 (appended.clean clean.1) left.1 part.left))
+      ]
 
-      file_left : is_clean m w unwritten → (left : List ℕ) → LeavesFile m w unwritten left → LeavesFile m w x left
-      file_left clean left (inl may) =
-          elim (appended.crash clean.1 left may) [
-            | inl before ↦ inl before
-            | inr part ↦ inr (goes, λ h of. first_part h of clean.0 (appended.clean clean.1) left part.left)
-          ]
-      file_left clean left (inr each) = inr (goes, λ h of. each.1 h (unwritten_of h of))
+      -- the journal is what it was
+      same_bodies : is_clean m w unwritten → IsTrue (goes_on m w unwritten) → w.bodies j ≡ w.bodies x.journal
+      same_bodies clean on = appended.written.0 clean.1 (open_of m w unwritten on)
+
+      same_lines : is_clean m w unwritten → IsTrue (goes_on m w unwritten) → w.lines j ≡ w.lines x.journal
+      same_lines clean on =
+          w.counted j clean.1 (open_of m w unwritten on) ∙ ap (λ b. min (length b) (2 ^ 64 - 1)) (same_bodies clean on)
+          ∙ sym (w.counted x.journal (appended.clean clean.1) is_open)
+
+      none_added : is_clean m w unwritten → Adds m w no_entry x unwritten
+      none_added clean on = (
+        goes,
+        same_bodies clean on,
+        ap (λ n. if x.is_settled then None else if n == 2 ^ 64 - 1 then None else Some n) (same_lines clean on),
+      )
+
+      grown : is_clean m w unwritten → Grows m w x unwritten
+      grown clean = record {
+        bodies = λ on. (goes, record { more = []; is = same_bodies clean on ∙ sym (append-nil (w.bodies x.journal)) });
+        files = λ file may. elim (appended.crash clean.1 file may) [
+          | inl before ↦ inl before
+          | inr part ↦ inr (goes, record { more = part.left.tail; is = part.left.is })
+        ];
+      }
 
       kept_still : is_clean m w unwritten → (journaled m w).keeps x unwritten
       kept_still clean = (
@@ -226,14 +257,11 @@ module _ {O J : Type 0} (m : Meaning O) (w : Writing J) (x : Journaled O J) (goe
         λ on. (goes, subst (HasStruck (w.bodies x.journal)) (sym (appended.written.0 clean.1 (open_of m w unwritten on))) (struck_none (w.bodies x.journal))),
       )
 
-      nothing_left : is_clean m w unwritten → (left : m.Left × List ℕ) → (journaled m w).may_leave unwritten left → (journaled m w).may_leave x left
-      nothing_left clean left may = (office_left clean.0 left.0 may.0, file_left clean left.1 may.1)
-
-      cause : is_clean m w unwritten → (h : History) (f : TheFault) → IsMet w x.journal j f → HasCause (journaled m w) x unwritten h r (Fault f)
-      cause clean h faults.NoMemory met = inl (kept_still clean, nothing_left clean)
-      cause clean h faults.Disk met = λ stood. inl (risen (met is_open))
-      cause clean h faults.Full met = inl (risen met)
-      cause clean h faults.NotAnOffice met = met
+      cause : is_clean m w unwritten → (h : History) → IsOf m w h x → (f : TheFault) → IsMet w x.journal j f → HasCause (journaled m w) x unwritten h r (Fault f)
+      cause clean h of faults.NoMemory met = inl (kept_still clean, left_unwritten clean h of)
+      cause clean h of faults.Disk met = λ stood. inl (risen (met is_open))
+      cause clean h of faults.Full met = inl (risen met)
+      cause clean h of faults.NotAnOffice met = met
 
       pub not_appended : IsHandled (journaled m w) x unwritten r (Fault fault)
       not_appended = record {
@@ -243,15 +271,20 @@ module _ {O J : Type 0} (m : Meaning O) (w : Writing J) (x : Journaled O J) (goe
           closes = λ clean stood. closes (HasStray (journaled m w) unwritten) clean stood.0;
           shut = λ clean stood. (permitted.leaves.survives.shut clean.0 stood.0, goes);
           stays = stays_in unwritten permitted.leaves.survives.stays;
+          grows = grown;
         };
         answer = λ h of clean. told h fault (appended.written.1 clean.1);
-        cause = λ h of clean. cause clean h fault (appended.written.1 clean.1);
+        cause = λ h of clean. cause clean h of fault (appended.written.1 clean.1);
         closes = λ h of clean stood. closes (LeavesStray h (Fault fault) unwritten) clean stood.0;
         approved = λ h of clean. tt;
         office = unwritten_of;
         stands = λ h of clean. tt;
         kept = kept_still;
-        crash = λ h of clean left may. inl (nothing_left clean left may);
+        adds = λ h of clean. inl (none_added clean);
+        crash = λ h of clean left may. elim (left_unwritten clean h of left may) [
+          | inl before ↦ inl before
+          | inr begun ↦ inr (inr begun)
+        ];
       }
 
     -- ---- the line was written
@@ -262,6 +295,17 @@ module _ {O J : Type 0} (m : Meaning O) (w : Writing J) (x : Journaled O J) (goe
 
       line_there : w.is_clean j → w.bodies j ≡ base ++ body ∷ []
       line_there clean = behind_base body (w.bodies j) (appended.written.1 clean)
+
+      -- behind all that was there
+      line_begins : w.is_clean j → BeginsWith (w.bodies x.journal) (w.bodies j)
+      line_begins clean = record { more = settling ++ body ∷ []; is = appended.written.1 clean }
+
+      file_begins : w.is_clean j → (file : List ℕ) → BeginsWith (sealed_text (w.bodies j)) file → BeginsWith (sealed_text (w.bodies x.journal)) file
+      file_begins clean file begins = begins_on (sealed_text (w.bodies x.journal)) (sealed_text (w.bodies j)) file (text_begins (w.bodies x.journal) (w.bodies j) (line_begins clean)) begins
+
+      whole_begins : w.is_clean j → (file : List ℕ) → w.may_leave j file → BeginsWith (sealed_text (w.bodies x.journal)) file
+      whole_begins clean file may =
+          file_begins clean file (record { more = []; is = w.settled j clean appended.written.0 file may ∙ sym (append-nil (sealed_text (w.bodies j))) })
 
       goes_still : IsTrue (goes_on m w written)
       goes_still = and_from (w.is_open j) _ appended.written.0 has_room
@@ -298,6 +342,7 @@ module _ {O J : Type 0} (m : Meaning O) (w : Writing J) (x : Journaled O J) (goe
             ];
             shut = λ clean stood. (handled.survives.shut clean.0 stood.0, goes);
             stays = stays_in written handled.survives.stays;
+            grows = λ clean. record { bodies = λ on. (goes, line_begins clean.1); files = λ file may. inr (goes, whole_begins clean.1 file may) };
           };
           answer = λ h of clean. handled.answer h of.office clean.0;
           cause = λ h of clean. tt;
@@ -310,10 +355,13 @@ module _ {O J : Type 0} (m : Meaning O) (w : Writing J) (x : Journaled O J) (goe
           office = done_of;
           stands = done_stands;
           kept = λ clean reads. absurd (never_both (only_reads r.ask) reads (changing a.caller.name r.ask event permitted.asked));
+          adds = λ h of clean.
+              let one : Adds m w (entry_of event) x written = λ on. (goes, appended.written.1 clean.1 ∙ ap (λ b. w.bodies x.journal ++ (settling ++ b ∷ [])) said) in
+              subst (λ v. AddsBy (journaled m w) v (Done a.reply) x written) (sym (permitted.allowed h of.office (clean_mid clean.0)).verdict) one;
           crash = λ h of clean left may.
               let allowed = permitted.allowed h of.office (clean_mid clean.0) in
               let are : (journaled m w).are_of (event ∷ h) left = subst (λ k. (journaled m w).are_of k left) (after_is h allowed) ((done_stands h of clean).leaves left may) in
-              inr (subst (λ v. AreWithEvent (journaled m w) h v left) (sym allowed.verdict) are);
+              inr (inl (subst (λ v. AreWithEvent (journaled m w) h v left) (sym allowed.verdict) are));
         }
 
       -- ---- and there was a fault
@@ -439,76 +487,103 @@ module _ {O J : Type 0} (m : Meaning O) (w : Writing J) (x : Journaled O J) (goe
         keeps_by (inr (inl half)) clean on = absurd (never_both z.has_stray half.stray (on_without on))
         keeps_by (inr (inr stray)) clean on = absurd (never_both z.has_stray stray.stray (on_without on))
 
-        -- what is left was left before, or has the event of the verdict
-        abbrev IsLeft : History → m.Left × List ℕ → Type 0
-        IsLeft h left = (journaled m w).may_leave x left ⊎ AreWithEvent (journaled m w) h (verdict h r) left
+        -- and all that it had is there still
+        all_there : w.is_clean z.journal → Grows m w x z
+        all_there clean = record { bodies = bodies_by back.journal; files = files_by back.journal }
+          where
+            bodies_by : IsStruck m w written z ⊎ (IsHalfStruck m w written z ⊎ IsStray m w r written z) → IsTrue (goes_on m w z) → IsTrue (goes_on m w x) × BeginsWith (w.bodies x.journal) (w.bodies z.journal)
+            bodies_by (inl struck) on = (goes, begins_on (w.bodies x.journal) (w.bodies j) (w.bodies z.journal) (line_begins (back.clean clean)) (record { more = text_of strike ∷ []; is = struck.bodies clean }))
+            bodies_by (inr (inl half)) on = absurd (never_both z.has_stray half.stray (on_without on))
+            bodies_by (inr (inr stray)) on = absurd (never_both z.has_stray stray.stray (on_without on))
 
-        module _ (clean : m.is_clean z.office) (clean_j : w.is_clean z.journal) where
-          -- where the office stands still
-          office_still : ((h : History) → m.is_of h o → m.is_clean z.office → Stands m h z.office) → (left : m.Left) → LeavesOffice m w z left → LeavesOffice m w x left
-          office_still stands left (inl may) = inr (λ h of. (stands h (handled.office h of.office) clean).leaves left may)
-          office_still stands left (inr each) = inr (λ h of. each h (back_of h of))
+            files_by : IsStruck m w written z ⊎ (IsHalfStruck m w written z ⊎ IsStray m w r written z) → (file : List ℕ) → w.may_leave z.journal file
+                → w.may_leave x.journal file ⊎ (IsTrue (goes_on m w x) × BeginsWith (sealed_text (w.bodies x.journal)) file)
+            files_by (inl struck) file may =
+                inr (
+                  goes,
+                  file_begins (back.clean clean) file (subst (BeginsWith (sealed_text (w.bodies j))) (sym (w.settled z.journal clean struck.is_open file may))
+                      (text_begins (w.bodies j) (w.bodies z.journal) (record { more = text_of strike ∷ []; is = struck.bodies clean }))),
+                )
+            files_by (inr (inl half)) file may = elim (half.append.crash clean file may) [
+              | inl before ↦ inr (goes, whole_begins (back.clean clean) file before)
+              | inr part ↦ inr (goes, file_begins (back.clean clean) file (record { more = part.left.tail; is = part.left.is }))
+            ]
+            files_by (inr (inr stray)) file may = inr (goes, whole_begins (back.clean clean) file (subst (λ k. w.may_leave k file) stray.journal may))
 
-          unstruck : (left : List ℕ) → w.may_leave j left → left ≡ sealed_text (w.bodies j)
-          unstruck left may = w.settled j (back.clean clean_j) appended.written.0 left may
+        -- its event is struck out, or the journal doesn't go on
+        added : IsStruck m w written z ⊎ (IsHalfStruck m w written z ⊎ IsStray m w r written z) → (h : History) → IsOf m w h x → is_clean m w z → AddsBy (journaled m w) (verdict h r) (Fault fault) x z
+        added (inl struck) h of clean =
+            let one : Adds m w (struck_entry_of event) x z = λ on. (
+              goes,
+              both_there struck clean.1 ∙ append_assoc base (body ∷ []) (text_of strike ∷ []) ∙ append_assoc (w.bodies x.journal) settling (body ∷ text_of strike ∷ [])
+                  ∙ ap (λ b. w.bodies x.journal ++ (settling ++ b ∷ text_of strike ∷ [])) said,
+            ) in
+            inr (subst (λ v. AddsStruck (journaled m w) v x z) (sym (permitted.allowed h of.office (clean_z clean.0)).verdict) one)
+        added (inr (inl half)) h of clean = inl (λ on. absurd (never_both z.has_stray half.stray (on_without on)))
+        added (inr (inr stray)) h of clean = inl (λ on. absurd (never_both z.has_stray stray.stray (on_without on)))
 
-          struck_file : IsStruck m w written z → (file : List ℕ) → LeavesFile m w z file → (h : History) → IsOf m w h x → IsLeftOf h file
-          struck_file struck file (inl may) h of = inl (record {
-            bodies = w.bodies z.journal;
-            is = w.settled z.journal clean_j struck.is_open file may;
-            says = with_strike h of (clean_z clean) (clean_x clean_j) (w.bodies z.journal) (both_there struck clean_j);
-          })
-          struck_file struck file (inr each) h of = each.1 h (back_of h of)
+        module _ (h : History) (of : IsOf m w h x) (clean : m.is_clean z.office) (clean_j : w.is_clean z.journal) where
+          -- the event was begun behind the journal of the history
+          whole_file : (file : List ℕ) → w.may_leave j file → IsBegun h event file
+          whole_file file may = whole_line h of (clean_z clean) (clean_x clean_j) (w.bodies j) file (one_there clean_j) (w.settled j (back.clean clean_j) appended.written.0 file may)
 
-          half_file : IsHalfStruck m w written z → (file : List ℕ) → LeavesFile m w z file → (h : History) → IsOf m w h x → IsLeftOf h file
-          half_file half file (inl may) h of = elim (half.append.crash clean_j file may) [
-            | inl before ↦ whole_line h of (clean_z clean) (clean_x clean_j) (w.bodies j) file (one_there clean_j) (unstruck file before)
-            | inr part ↦ half_line h of (clean_z clean) (clean_x clean_j) (w.bodies j) file (one_there clean_j) part.left
+          part_file : (file : List ℕ) → IsLeftIn (w.bodies j) [] (text_of strike) file → IsBegun h event file
+          part_file file part = half_line h of (clean_z clean) (clean_x clean_j) (w.bodies j) file (one_there clean_j) part
+
+          struck_part : IsStruck m w written z → (file : List ℕ) → w.may_leave z.journal file → IsLeftIn (w.bodies j) [] (text_of strike) file
+          struck_part struck file may = record {
+            tail = sealed_line (seal_of (w.bodies j)) (text_of strike);
+            short = same_length _;
+            is = w.settled z.journal clean_j struck.is_open file may ∙ ap sealed_text (struck.bodies clean_j) ∙ sealed_lines-push no_seal (w.bodies j) (text_of strike);
+          }
+
+          file_begun : IsStruck m w written z ⊎ (IsHalfStruck m w written z ⊎ IsStray m w r written z) → (file : List ℕ) → w.may_leave z.journal file → IsBegun h event file
+          file_begun (inl struck) file may = part_file file (struck_part struck file may)
+          file_begun (inr (inl half)) file may = elim (half.append.crash clean_j file may) [
+            | inl before ↦ whole_file file before
+            | inr part ↦ part_file file part.left
           ]
-          half_file half file (inr each) h of = absurd (never_both z.has_stray half.stray (on_without each.0))
+          file_begun (inr (inr stray)) file may = whole_file file (subst (λ k. w.may_leave k file) stray.journal may)
 
-          file_is : IsStray m w r written z → (file : List ℕ) → LeavesFile m w z file → file ≡ sealed_text (w.bodies j)
-          file_is stray file (inl may) = unstruck file (subst (λ k. w.may_leave k file) stray.journal may)
-          file_is stray file (inr each) = absurd (never_both z.has_stray stray.stray (on_without each.0))
+          begun_by : (left : m.Left × List ℕ) → m.are_of h left.0 ⊎ m.are_begun h event left.0 → w.may_leave z.journal left.1 → AreBegun (journaled m w) h (verdict h r) left
+          begun_by left office may = begun_left h of (clean_z clean) (clean_x clean_j) left office (file_begun back.journal left.1 may)
 
-          module _ (h : History) (of : IsOf m w h x) (file : List ℕ) (may_file : LeavesFile m w z file) where
-            stray_file : IsStray m w r written z → LeavesFile m w x file
-            stray_file stray = inr (goes, λ k of_k. whole_line k of_k (clean_z clean) (clean_x clean_j) (w.bodies j) file (one_there clean_j) (file_is stray file may_file))
+          -- the office stood before the line was written
+          stood : (left : m.Left) → m.may_leave x.office left → m.are_of h left
+          stood left may = (permitted.stood h of.office (clean_z clean)).leaves left may
 
-            by_crash : IsStray m w r written z → (office : m.Left) → m.may_leave x.office office ⊎ AreWithEvent m h (verdict h r) office → IsLeft h (office, file)
-            by_crash stray office (inl before) = inl (inl before, stray_file stray)
-            by_crash stray office (inr with_one) =
-                let allowed = permitted.allowed h of.office (clean_z clean) in
-                let are : m.are_of (event ∷ h) office = subst (λ v. AreWithEvent m h v office) allowed.verdict with_one in
-                let says : IsLeftOf (event ∷ h) file = inl (record {
-                  bodies = w.bodies j;
-                  is = file_is stray file may_file;
-                  says = with_line h of (clean_z clean) (clean_x clean_j) (w.bodies j) (one_there clean_j);
-                }) in
-                inr (subst (λ v. AreWithEvent (journaled m w) h v (office, file)) (sym allowed.verdict) (are, says))
+          -- where the event wasn't struck out it may have happened
+          by_office : IsStray m w r written z → (left : m.Left × List ℕ) → w.may_leave z.journal left.1 → m.may_leave x.office left.0 ⊎ AreInPart m h (verdict h r) left.0
+              → AreInPart (journaled m w) h (verdict h r) left
+          by_office stray left may (inl before) = inr (begun_by left (inl (stood left.0 before)) may)
+          by_office stray left may (inr (inl with_one)) =
+              let allowed = permitted.allowed h of.office (clean_z clean) in
+              let are : m.are_of (event ∷ h) left.0 = subst (λ v. AreWithEvent m h v left.0) allowed.verdict with_one in
+              let says : IsJournalOf left.1 (event ∷ h) = record {
+                bodies = w.bodies j;
+                is = w.settled j (back.clean clean_j) appended.written.0 left.1 (subst (λ k. w.may_leave k left.1) stray.journal may);
+                says = with_line h of (clean_z clean) (clean_x clean_j) (w.bodies j) (one_there clean_j);
+              } in
+              inl (subst (λ v. AreWithEvent (journaled m w) h v left) (sym allowed.verdict) (are, says))
+          by_office stray left may (inr (inr begun)) =
+              inr (begun_by left (inr (subst (λ v. AreBegun m h v left.0) (permitted.allowed h of.office (clean_z clean)).verdict begun)) may)
 
-            by_office : IsStray m w r written z → (office : m.Left) → LeavesOffice m w z office → IsLeft h (office, file)
-            by_office stray office (inl may) = by_crash stray office (handled.crash h of.office (clean_before clean) office (back.leaves.crash clean office may))
-            by_office stray office (inr each) = inl (inr (λ k of_k. each k (back_of k of_k)), stray_file stray)
+          crash_by : IsStruck m w written z ⊎ (IsHalfStruck m w written z ⊎ IsStray m w r written z) → (left : m.Left × List ℕ) → (journaled m w).may_leave z left
+              → AreInPart (journaled m w) h (verdict h r) left
+          crash_by (inl struck) left may = inr (begun_by left (inl ((struck.stands h (handled.office h of.office) clean).leaves left.0 may.0)) may.1)
+          crash_by (inr (inl half)) left may = inr (begun_by left (inl ((half.stands h (handled.office h of.office) clean).leaves left.0 may.0)) may.1)
+          crash_by (inr (inr stray)) left may =
+              by_office stray left may.1 (handled.crash h of.office (clean_before clean) left.0 (back.leaves.crash clean left.0 may.0))
 
-          crash_by : IsStruck m w written z ⊎ (IsHalfStruck m w written z ⊎ IsStray m w r written z) → (h : History) → IsOf m w h x → (left : m.Left × List ℕ) → (journaled m w).may_leave z left → IsLeft h left
-          crash_by (inl struck) h of left may = inl (office_still struck.stands left.0 may.0, inr (goes, struck_file struck left.1 may.1))
-          crash_by (inr (inl half)) h of left may = inl (office_still half.stands left.0 may.0, inr (goes, half_file half left.1 may.1))
-          crash_by (inr (inr stray)) h of left may = by_office h of left.1 may.1 stray left.0 may.0
-
-          -- where the office was asked to write nothing, nothing more is left
-          module _ (none : IsUnwritten m x.office z.office) where
-            office_none : (left : m.Left) → LeavesOffice m w z left → LeavesOffice m w x left
-            office_none left (inl may) = inl (none.1 left may)
-            office_none left (inr each) = inr (λ h of. each h (back_of h of))
-
-            file_none : IsStruck m w written z ⊎ (IsHalfStruck m w written z ⊎ IsStray m w r written z) → (file : List ℕ) → LeavesFile m w z file → (h : History) → IsOf m w h x → IsLeftOf h file
-            file_none (inl struck) file may h of = struck_file struck file may h of
-            file_none (inr (inl half)) file may h of = half_file half file may h of
-            file_none (inr (inr stray)) file may h of = whole_line h of (clean_z clean) (clean_x clean_j) (w.bodies j) file (one_there clean_j) (file_is stray file may)
-
-            nothing_more : IsUnwritten (journaled m w) x z
-            nothing_more = ((none.0, keeps_by back.journal clean_j), λ left may. (office_none left.0 may.0, inr (goes, file_none back.journal left.1 may.1)))
+          -- where nothing happened in the office, nothing did
+          nothing_more : LeavesUndone m x.office z.office h (verdict h r) → LeavesUndone (journaled m w) x z h (verdict h r)
+          nothing_more none = (
+            (none.0, keeps_by back.journal clean_j),
+            λ left may. elim (none.1 left.0 may.0) [
+              | inl before ↦ inr (begun_by left (inl (stood left.0 before)) may.1)
+              | inr begun ↦ inr (begun_by left (inr (subst (λ v. AreBegun m h v left.0) (permitted.allowed h of.office (clean_z clean)).verdict begun)) may.1)
+            ],
+          )
 
         pub taken_back : IsHandled (journaled m w) x z r (Fault fault)
         taken_back = record {
@@ -518,15 +593,17 @@ module _ {O J : Type 0} (m : Meaning O) (w : Writing J) (x : Journaled O J) (goe
             closes = λ clean stood. closes_back clean.0 stood.0;
             shut = λ clean stood. (survives_both.shut clean.0 stood.0, goes);
             stays = stays_in z survives_both.stays;
+            grows = λ clean. all_there clean.1;
           };
           answer = λ h of clean. handled.answer h of.office (clean_before clean.0);
           cause = λ h of clean.
-              caused m w x z h r (Fault fault) more_faults (nothing_more clean.0 clean.1)
+              caused m w x z h r (Fault fault) more_faults (nothing_more h of clean.0 clean.1)
               (cause_before m x.office o z.office h r (Fault fault) (back.leaves.kept clean.0, back.leaves.crash clean.0) back.leaves.survives.counts (handled.cause h of.office (clean_before clean.0)));
           closes = λ h of clean stood. closes_of h of clean stood.0;
           approved = λ h of clean. tt;
           office = back_of;
           stands = λ h of clean. tt;
           kept = λ clean. (m.keeps_on x.office o z.office (handled.kept (clean_before clean.0)) (back.leaves.kept clean.0), keeps_by back.journal clean.1);
-          crash = λ h of clean left may. crash_by clean.0 clean.1 back.journal h of left may;
+          adds = λ h of clean. added back.journal h of clean;
+          crash = λ h of clean left may. inr (crash_by h of clean.0 clean.1 back.journal left may);
         }

@@ -1,5 +1,5 @@
 -- An office with a journal, where the office alone was asked.
-use Rattle.std.proofs.Common.{inl, inr, ◌≡◌, ◌∙◌, ◌≤◌, ◌+◌, ℕ, List, true, false, Some, None, IsTrue, sym, subst, arith}
+use Rattle.std.proofs.Common.{inl, inr, ◌≡◌, ◌∙◌, ◌≤◌, ◌+◌, ◌∷◌, [], ℕ, List, true, false, Some, None, IsTrue, refl, sym, ap, subst, arith, length, append-nil}
 use Rattle.std.proofs.lemmas.Bool.{and_parts}
 use Rattle.review_policy.specs.declared.ask.Ask.{Ask}
 use Rattle.review_policy.specs.declared.ask.Request.{Request}
@@ -9,15 +9,14 @@ use Rattle.review_policy.specs.declared.fault.Fault.{Fault as TheFault}
 use Rattle.review_policy.specs.declared.fault.Fault.TheVariants as faults
 use Rattle.office_policy.specs.History.{Event, History}
 use Rattle.office_policy.specs.Verdict.{Verdict, accepted, denied, verdict}
-use Rattle.office_policy.specs.Runs.{history_after}
-use Rattle.office_policy.specs.Meaning.{Meaning}
-use Rattle.office_policy.specs.Handled.{HasCause, HasRisen, HasStrayOf, IsFault, IsHandled, IsMet, IsUnwritten, RefusesEvent, Stands, Survives, UnlessChanged, UnlessFaulty}
+use Rattle.office_policy.specs.Runs.{event_of, history_after, with_event}
+use Rattle.office_policy.specs.Meaning.{Meaning, no_entry}
+use Rattle.office_policy.specs.Handled.{HasCause, HasRisen, HasStrayOf, IsFault, IsHandled, AddsBy, IsMet, LeavesUndone, RefusesEvent, Stands, Survives, UnlessChanged, UnlessFaulty}
 use Rattle.office_policy.specs.Judging.{IsAnswered, LeavesAll}
 use Rattle.office_policy.proofs.SurvivalFacts.{closes_all, survives_none}
 use Rattle.journal.specs.Journal.{Says}
 use Rattle.journal.specs.declared.journaled.Journaled.{Journaled}
-use Rattle.journal.specs.Begun.{IsLeftOf}
-use Rattle.journal.specs.Journals.{HasAsStray, IsOf, LeavesFile, LeavesOffice, goes_on, is_clean, journaled, struck_none, with_office}
+use Rattle.journal.specs.Journals.{Adds, Grows, HasAsStray, IsOf, goes_on, is_clean, journaled, struck_none, with_office}
 use Rattle.journal.specs.Writing.{Writing}
 
 -- ---- counts of faults
@@ -43,6 +42,10 @@ unless_faulty (Done reply) P Q to p = to p
 unless_faulty (Denied denial fault) P Q to p = to p
 unless_faulty (Fault fault) P Q to p = tt
 
+-- no history is the one with an event more
+longer : (e : Event) (h : History) → e ∷ h ≡ h → ⊥
+longer e h is = omega (arith, ap length is)
+
 module _ {O J : Type 0} (m : Meaning O) (w : Writing J) where
   -- it is open, where it goes on
   pub open_of : (x : Journaled O J) → IsTrue (goes_on m w x) → IsTrue (w.is_open x.journal)
@@ -61,14 +64,14 @@ module _ {O J : Type 0} (m : Meaning O) (w : Writing J) where
   met x y h r fault more (inr refuses) = inr (refused x h (verdict h r) fault refuses)
 
   pub caused : (x y : Journaled O J) (h : History) (r : Request) (told : Answer) → w.faults x.journal ≤ w.faults y.journal
-      → (IsUnwritten m x.office y.office → IsUnwritten (journaled m w) x y) → HasCause m x.office y.office h r told → HasCause (journaled m w) x y h r told
-  caused x y h r (Done reply) more unwritten cause = tt
-  caused x y h r (Denied denial fault) more unwritten cause = tt
-  caused x y h r (Fault faults.NoMemory) more unwritten (inl none) = inl (unwritten none)
-  caused x y h r (Fault faults.NoMemory) more unwritten (inr refuses) = inr (refused x h (verdict h r) faults.NoMemory refuses)
-  caused x y h r (Fault faults.Disk) more unwritten cause = λ is_open. met x y h r faults.Disk more (cause is_open.0)
-  caused x y h r (Fault faults.Full) more unwritten cause = met x y h r faults.Full more cause
-  caused x y h r (Fault faults.NotAnOffice) more unwritten cause = cause
+      → (LeavesUndone m x.office y.office h (verdict h r) → LeavesUndone (journaled m w) x y h (verdict h r)) → HasCause m x.office y.office h r told → HasCause (journaled m w) x y h r told
+  caused x y h r (Done reply) more undone cause = tt
+  caused x y h r (Denied denial fault) more undone cause = tt
+  caused x y h r (Fault faults.NoMemory) more undone (inl none) = inl (undone none)
+  caused x y h r (Fault faults.NoMemory) more undone (inr refuses) = inr (refused x h (verdict h r) faults.NoMemory refuses)
+  caused x y h r (Fault faults.Disk) more undone cause = λ is_open. met x y h r faults.Disk more (cause is_open.0)
+  caused x y h r (Fault faults.Full) more undone cause = met x y h r faults.Full more cause
+  caused x y h r (Fault faults.NotAnOffice) more undone cause = cause
 
   -- ---- what stands
 
@@ -77,16 +80,15 @@ module _ {O J : Type 0} (m : Meaning O) (w : Writing J) where
   stands_with x h clean goes of stands = record {
     is_of = of;
     is_open = (stands.is_open, goes);
-    leaves = λ left may. (office left.0 may.0, file left.1 may.1);
+    leaves = λ left may. (
+      stands.leaves left.0 may.0,
+      record {
+        bodies = w.bodies x.journal;
+        is = w.settled x.journal clean.1 (open_of x goes) left.1 may.1;
+        says = of.says clean goes;
+      },
+    );
   }
-    where
-      office : (left : m.Left) → LeavesOffice m w x left → m.are_of h left
-      office left (inl may) = stands.leaves left may
-      office left (inr each) = each h of
-
-      file : (left : List ℕ) → LeavesFile m w x left → IsLeftOf h left
-      file left (inl may) = inl (record { bodies = w.bodies x.journal; is = w.settled x.journal clean.1 (open_of x goes) left may; says = of.says clean goes })
-      file left (inr each) = each.1 h of
 
   module _ (x : Journaled O J) (office : O) (leaves : LeavesAll m x.office office) where
     still_of : (h : History) → IsOf m w h x → IsOf m w h (with_office x office)
@@ -106,6 +108,12 @@ module _ {O J : Type 0} (m : Meaning O) (w : Writing J) where
     strays e (inl within) = inl (leaves.strays e within)
     strays e (inr last) = inr (record { stray = last.stray; line = last.line })
 
+    same_journal : (o : O) → Grows m w x (with_office x o)
+    same_journal o = record {
+      bodies = λ goes. (goes, record { more = []; is = sym (append-nil (w.bodies x.journal)) });
+      files = λ file may. inl may;
+    }
+
     survives : Survives (journaled m w) x (with_office x office)
     survives = record {
       clean = λ clean. (leaves.survives.clean clean.0, clean.1);
@@ -117,15 +125,8 @@ module _ {O J : Type 0} (m : Meaning O) (w : Writing J) where
       ];
       shut = λ clean is_open. (leaves.survives.shut clean.0 is_open.0, is_open.1);
       stays = stays;
+      grows = λ clean. same_journal office;
     }
-
-    office_before : m.is_clean office → (left : m.Left) → LeavesOffice m w (with_office x office) left → LeavesOffice m w x left
-    office_before clean left (inl may) = inl (leaves.crash clean left may)
-    office_before clean left (inr each) = inr (λ h of. each h (still_of h of))
-
-    file_before : (left : List ℕ) → LeavesFile m w (with_office x office) left → LeavesFile m w x left
-    file_before left (inl may) = inl may
-    file_before left (inr each) = inr (each.0, λ h of. each.1 h (still_of h of))
 
     -- nothing was changed
     pub all_left : LeavesAll (journaled m w) x (with_office x office)
@@ -133,9 +134,20 @@ module _ {O J : Type 0} (m : Meaning O) (w : Writing J) where
       survives = survives;
       office = still_of;
       kept = λ clean. (leaves.kept clean.0, λ goes. (goes, struck_none (w.bodies x.journal)));
-      crash = λ clean left may. (office_before clean.0 left.0 may.0, file_before left.1 may.1);
+      crash = λ clean left may. (leaves.crash clean.0 left.0 may.0, may.1);
+      adds = λ clean goes. (goes, refl, refl);
       strays = strays;
     }
+
+  -- nothing is written down of what was answered
+  none_added : (x y : Journaled O J) (v : Verdict) (h : History) (r : Request) (told : Answer) → verdict h r ≡ v → history_after h r told ≡ h
+      → Adds m w no_entry x y → AddsBy (journaled m w) v told x y
+  none_added x y (accepted reply (Some e)) h r (Done other) is same none =
+      absurd (longer e h (sym (ap (λ v. with_event (event_of v) h) is) ∙ same))
+  none_added x y (accepted reply None) h r (Done other) is same none = none
+  none_added x y (denied denial fault) h r (Done other) is same none = none
+  none_added x y v h r (Denied denial fault) is same none = none
+  none_added x y v h r (Fault fault) is same none = inl none
 
   -- the office answered the request
   pub answered : (x : Journaled O J) (office : O) (r : Request) (told : Answer) → IsTrue (goes_on m w x) → IsAnswered m x.office office r told
@@ -151,7 +163,7 @@ module _ {O J : Type 0} (m : Meaning O) (w : Writing J) where
         survives = all.survives;
         answer = λ h of clean. is.handled.answer h of.office clean.0;
         cause = λ h of clean.
-            caused x (with_office x office) h r told (none_fewer (w.faults x.journal)) (λ none. (all.kept clean, all.crash clean)) (is.handled.cause h of.office clean.0);
+            caused x (with_office x office) h r told (none_fewer (w.faults x.journal)) (λ none. (all.kept clean, λ left may. inl (all.crash clean left may))) (is.handled.cause h of.office clean.0);
         closes = λ h of. closes_all (journaled m w) x (with_office x office) (IsFault told × HasStrayOf (journaled m w) (verdict h r) (with_office x office)) all;
         approved = λ h of clean. is.handled.approved h of.office clean.0;
         office = of_after;
@@ -159,6 +171,7 @@ module _ {O J : Type 0} (m : Meaning O) (w : Writing J) where
             unless_faulty told (Stands m (history_after h r told) office) (Stands (journaled m w) (history_after h r told) (with_office x office))
             (stands_with (with_office x office) (history_after h r told) clean goes (of_after h of)) (is.handled.stands h of.office clean.0);
         kept = λ clean. kept_anyhow r.ask told ((journaled m w).keeps x (with_office x office)) (all.kept clean);
+        adds = λ h of clean. none_added x (with_office x office) (verdict h r) h r told refl (is.same h of.office clean.0) (all.adds clean);
         crash = λ h of clean left may. inl (all.crash clean left may);
       }
 
@@ -176,5 +189,6 @@ module _ {O J : Type 0} (m : Meaning O) (w : Writing J) where
     office = λ h of. of;
     stands = λ h of clean. tt;
     kept = λ clean. (journaled m w).keeps_itself x;
+    adds = λ h of clean. inl ((journaled m w).adds_none x);
     crash = λ h of clean left may. inl may;
   }

@@ -10,7 +10,7 @@ use Rattle.sealed_log.proofs.SealFacts.{last_seal-push, sealed_lines-push}
 use Rattle.sealed_log.proofs.ToldFacts.{told_text}
 use Rattle.office_policy.specs.History.{Event}
 use Rattle.journal.specs.declared.seal_at.SealAt.{SealAt}
-use Rattle.journal.specs.SealsAt.{Finds, IsSeen, IsSealAt, Sees}
+use Rattle.journal.specs.SealsAt.{Finds, IsFound, IsSealAsked, IsSealAt, IsSeen, Sees}
 use Rattle.journal.specs.Told.{Ends, Place, start}
 
 -- before the first line
@@ -101,6 +101,13 @@ seen_whole (Some text) p at line found is end seen finds =
         let few : at.line ≤ length seen.bodies = subst (λ (n : ℕ). at.line ≤ n) seen.counted finds.0 in
         (few, finds.1 ∙ seen.at few)
     there None finds = subst (λ (n : ℕ). n < at.line) seen.counted finds
+
+-- and the seal is that of the line that is asked for, where one is
+pub seen_asked : (bytes : Option (List ℕ)) (p : Place) (at : SealAt) (line : ℕ) (asked : Option ℕ) (found : Option (List ℕ)) → at.line ≡ line → IfSome asked (λ n. line ≡ n)
+    → IfSome bytes (λ _. p.left ≡ Some []) → IsSeen bytes p at → IsFound asked at p.taken found → IfSome bytes (λ text. IsSealAsked asked (told text) found)
+seen_asked None p at line asked found is same end seen finds = tt
+seen_asked (Some text) p at line None found is same end seen finds = finds
+seen_asked (Some text) p at line (Some n) found is same end seen finds = seen_whole (Some text) p at n found (is ∙ same) end seen finds
 
 -- where no event was left none of the bytes is
 pub seen_to_end : (bytes : Option (List ℕ)) (here end : Place) (at : SealAt) → IsSeen bytes here at → Ends here end → IfSome bytes (λ _. end.left ≡ Some [])

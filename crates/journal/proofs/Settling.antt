@@ -1,6 +1,6 @@
 -- The line that says that the last event is carried out, behind that of the event.
 use Rattle.std.proofs.Common.{inl, inr, ◌⊎◌, ◌≡◌, ◌≢◌, ◌∙◌, ◌≤◌, ◌<◌, ◌-◌, ◌^◌, ◌==◌, [], ◌∷◌, ◌++◌, ℕ, List, Bool, true, false, not, if◌then◌else◌, Option, Some, None, Result, Ok, Err, IsTrue, length, refl, sym, ap, subst, arith, append-nil}
-use Rattle.std.specs.Prelude.{⊤, IfErr, OnOk}
+use Rattle.std.specs.Prelude.{⊤}
 use Rattle.std.proofs.lemmas.Bool.{and_parts, and_from, eq-eqb, eqb-true}
 use Rattle.review_policy.specs.declared.fault.Fault.{Fault}
 use Rattle.review_policy.specs.declared.fault.Fault.TheVariants as faults
@@ -11,8 +11,8 @@ use Rattle.office_policy.proofs.SurvivalFacts.{survives_none}
 use Rattle.journal.specs.Journal.{EndsWithEvent, Says}
 use Rattle.journal.specs.Lines.{done, text_of}
 use Rattle.journal.specs.declared.journaled.Journaled.{Journaled}
-use Rattle.journal.specs.Begun.{IsLeftOf, done_bodies}
-use Rattle.journal.specs.Journals.{HasAsStray, IsOf, IsSettled, LeavesFile, LeavesOffice, goes_on, is_clean, journaled, stops, unsettled}
+use Rattle.journal.specs.Begun.{IsEnding, done_bodies}
+use Rattle.journal.specs.Journals.{BeginsWith, HasAsStray, IsOf, IsSettled, goes_on, is_clean, journaled, stops, unsettled}
 use Rattle.journal.specs.Writing.{IsAppended, IsLeftIn, IsLeftInPart, Writing}
 use Rattle.journal.proofs.Offices.{none_fewer, open_of, risen_second}
 use Rattle.journal.proofs.Texts.{one_done}
@@ -74,30 +74,23 @@ module _ {O J : Type 0} (m : Meaning O) (w : Writing J) (x : Journaled O J) (goe
 
 module _ {O J : Type 0} (m : Meaning O) (w : Writing J) (x : Journaled O J) where
   -- nothing is written
-  unchanged : (result : Result ⊤ Fault) → (IsTrue (goes_on m w x) → (x.is_settled ≡ true) ⊎ (2 ^ 64 - 1 ≤ w.lines x.journal)) → IsSettled m w x x result
-  unchanged result settled = record {
+  unchanged : (IsTrue (goes_on m w x) → IsNotLast w x) → IsSettled m w x x (Ok tt)
+  unchanged settled = record {
     office = refl;
     survives = survives_none (journaled m w) x;
     of = λ h of. of;
-    settled = on_ok result;
+    settled = λ goes. (goes, settled goes);
     bodies = λ clean goes. inl refl;
-    failed = if_err result;
-    crash = λ clean left may. may;
+    failed = tt;
+    cause = tt;
+    crash = λ clean left may. inl may;
   }
-    where
-      on_ok : (r : Result ⊤ Fault) → OnOk r (IsTrue (goes_on m w x) → IsTrue (goes_on m w x) × ((x.is_settled ≡ true) ⊎ (2 ^ 64 - 1 ≤ w.lines x.journal)))
-      on_ok (Ok well) = λ goes. (goes, settled goes)
-      on_ok (Err fault) = tt
-
-      if_err : (r : Result ⊤ Fault) → IfErr r (λ fault. w.is_clean x.journal → IsTrue (goes_on m w x) → w.bodies x.journal ≡ w.bodies x.journal)
-      if_err (Ok well) = tt
-      if_err (Err fault) = λ clean goes. refl
 
   pub is_shut : goes_on m w x ≡ false → IsSettled m w x x (Ok tt)
-  is_shut ends = unchanged (Ok tt) (λ goes. absurd (let k : goes_on m w x ≡ true = goes in let c : true ≡ false = sym k ∙ ends in cc))
+  is_shut ends = unchanged (λ goes. absurd (let k : goes_on m w x ≡ true = goes in let c : true ≡ false = sym k ∙ ends in cc))
 
   pub none_last : None ≡ unsettled w x → IsSettled m w x x (Ok tt)
-  none_last none = unchanged (Ok tt) (λ goes. is_not_last w x none)
+  none_last none = unchanged (λ goes. is_not_last w x none)
 
   pub no_text : IsSettled m w x x (Err faults.NoMemory)
   no_text = record {
@@ -107,7 +100,8 @@ module _ {O J : Type 0} (m : Meaning O) (w : Writing J) (x : Journaled O J) wher
     settled = tt;
     bodies = λ clean goes. inl refl;
     failed = λ clean goes. refl;
-    crash = λ clean left may. may;
+    cause = λ clean. tt;
+    crash = λ clean left may. inl may;
   }
 
   module _ (goes : IsTrue (goes_on m w x)) (of_line : ℕ) (last : IsLast w x of_line) (fits : of_line < 2 ^ 64) (body : List ℕ) (said : body ≡ text_of (done of_line)) where
@@ -137,14 +131,14 @@ module _ {O J : Type 0} (m : Meaning O) (w : Writing J) (x : Journaled O J) wher
         (one_done (w.bodies x.journal) h (of.says clean goes) (of.ends clean goes last.unsaid) (small clean.1))
 
     -- what is left of the line
-    part_left : (h : History) → IsOf m w h x → is_clean m w x → (file : List ℕ) → IsLeftInPart w x.journal [] body file → IsLeftOf h file
-    part_left h of clean file part = inr (inr (record {
+    part_left : (h : History) → IsOf m w h x → is_clean m w x → (file : List ℕ) → IsLeftInPart w x.journal [] body file → IsEnding h file
+    part_left h of clean file part = record {
       before = w.bodies x.journal;
       says = of.says clean goes;
       number = of_line;
       with_done = says_on h of clean (w.bodies x.journal ++ text_of (done of_line) ∷ []) (ap (λ b. w.bodies x.journal ++ b ∷ []) (sym said));
       left = subst (λ b. IsLeftIn (w.bodies x.journal) [] b file) said part.left;
-    }))
+    }
 
     module _ (j : J) (settled : Bool) (result : Result ⊤ Fault) (appended : IsAppended w x.journal j [] body result) where
       abbrev new : Journaled O J
@@ -155,8 +149,8 @@ module _ {O J : Type 0} (m : Meaning O) (w : Writing J) (x : Journaled O J) wher
       stays_stray e (inl within) = inl within
       stays_stray e (inr last) = absurd (stops m w x last.stray goes)
 
-      survives : Survives (journaled m w) x new
-      survives = record {
+      survives : (w.is_clean j → IsTrue (goes_on m w new) → BeginsWith (w.bodies x.journal) (w.bodies j)) → Survives (journaled m w) x new
+      survives begins = record {
         clean = λ clean. (clean.0, appended.clean clean.1);
         counts = let counts = appended.counts in omega (arith, counts);
         closes = λ clean stood. elim (appended.closes clean.1 is_open) [
@@ -165,22 +159,21 @@ module _ {O J : Type 0} (m : Meaning O) (w : Writing J) (x : Journaled O J) wher
         ];
         shut = λ clean stood. (stood.0, goes);
         stays = stays_stray;
+        grows = λ clean. record {
+          bodies = λ on. (goes, begins clean.1 on);
+          files = λ file may. elim (appended.crash clean.1 file may) [
+            | inl before ↦ inl before
+            | inr part ↦ inr (goes, record { more = part.left.tail; is = part.left.is })
+          ];
+        };
       }
 
-      module _ (still_of : (h : History) → IsOf m w h x → IsOf m w h new) where
-        left_before : is_clean m w new → (left : m.Left × List ℕ) → (journaled m w).may_leave new left → (journaled m w).may_leave x left
-        left_before clean left may = (office may.0, file may.1)
-          where
-            office : LeavesOffice m w new left.0 → LeavesOffice m w x left.0
-            office (inl may) = inl may
-            office (inr each) = inr (λ h of. each h (still_of h of))
-
-            file : LeavesFile m w new left.1 → LeavesFile m w x left.1
-            file (inl may) = elim (appended.crash clean.1 left.1 may) [
-              | inl before ↦ inl before
-              | inr part ↦ inr (goes, λ h of. part_left h of (clean.0, appended.clean clean.1) left.1 part)
-            ]
-            file (inr each) = inr (goes, λ h of. each.1 h (still_of h of))
+      left_before : is_clean m w new → (left : m.Left × List ℕ) → (journaled m w).may_leave new left
+          → (journaled m w).may_leave x left ⊎ (m.may_leave x.office left.0 × ((h : History) → IsOf m w h x → IsEnding h left.1))
+      left_before clean left may = elim (appended.crash clean.1 left.1 may.1) [
+        | inl before ↦ inl (may.0, before)
+        | inr part ↦ inr (may.0, λ h of. part_left h of (clean.0, appended.clean clean.1) left.1 part)
+      ]
 
     pub not_written : (j : J) (fault : Fault) (appended : IsAppended w x.journal j [] body (Err fault))
         → IsSettled m w x (record { office = x.office; journal = j; has_stray = x.has_stray; is_settled = x.is_settled }) (Err fault)
@@ -194,12 +187,13 @@ module _ {O J : Type 0} (m : Meaning O) (w : Writing J) (x : Journaled O J) wher
         } in
         record {
           office = refl;
-          survives = survives j x.is_settled (Err fault) appended;
+          survives = survives j x.is_settled (Err fault) appended (λ clean on. record { more = []; is = same clean on ∙ sym (append-nil (w.bodies x.journal)) });
           of = still;
           settled = tt;
           bodies = λ clean on. inl (same clean on);
           failed = same;
-          crash = left_before j x.is_settled (Err fault) appended still;
+          cause = λ clean. appended.written.1 clean;
+          crash = left_before j x.is_settled (Err fault) appended;
         }
 
     pub written : (j : J) (appended : IsAppended w x.journal j [] body (Ok tt))
@@ -213,10 +207,11 @@ module _ {O J : Type 0} (m : Meaning O) (w : Writing J) (x : Journaled O J) wher
         } in
         record {
           office = refl;
-          survives = survives j true (Ok tt) appended;
+          survives = survives j true (Ok tt) appended (λ clean on. record { more = body ∷ []; is = appended.written.1 clean });
           of = still;
           settled = λ on. (and_from (w.is_open j) _ appended.written.0 has_room, inl refl);
           bodies = λ clean on. inr (with_body (appended.clean clean) (w.bodies j) (appended.written.1 clean));
           failed = tt;
-          crash = left_before j true (Ok tt) appended still;
+          cause = tt;
+          crash = left_before j true (Ok tt) appended;
         }

@@ -21,15 +21,14 @@ abbrev pub done_bodies : Option ℕ → List (List ℕ)
 done_bodies None = []
 done_bodies (Some number) = text_of (done number) ∷ []
 
--- the journal of the history, and behind it what is left of the line of an event that the policy
+-- the journal of the history, and behind it what is left of the line of this event, which the policy
 -- allows then, and of the one before it which says that the last event is carried out, if there is
 -- one; or these lines too, and what is left of the one that strikes the event out
-pub record IsBegun (h : History) (file : List ℕ) : Type 0 where
+pub record IsBegun (h : History) (event : Event) (file : List ℕ) : Type 0 where
   pub before : List (List ℕ)
   pub says : Says before h
   pub settling : Option ℕ
   pub settled : Says (before ++ done_bodies settling) h
-  pub event : Event
   pub allowed : IsAllowed h event
   pub forms : HasForms event
   pub left : IsLeftIn before (done_bodies settling) (text_of (happened event)) file
@@ -46,4 +45,5 @@ pub record IsEnding (h : History) (file : List ℕ) : Type 0 where
 
 -- the journal of the history, or it with one event more that was begun, or with its end
 abbrev pub IsLeftOf : History → List ℕ → Type 0
-IsLeftOf h file = IsJournalOf file h ⊎ IsBegun h file ⊎ IsEnding h file
+IsLeftOf h file =
+    IsJournalOf file h ⊎ ((event : Event) × IsBegun h event file) ⊎ IsEnding h file

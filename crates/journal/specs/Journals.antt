@@ -2,21 +2,23 @@
 use Rattle.std.proofs.Common.{◌≡◌, ◌⊎◌, inl, inr, ◌∙◌, ◌+◌, ◌-◌, ◌^◌, [], ◌∷◌, ◌++◌, ◌≤◌, ◌&&◌, ℕ, List}
 use Rattle.std.proofs.Common.{Bool, true, false, not, length, flat_map, if◌then◌else◌, IsTrue, ap}
 use Rattle.std.proofs.lemmas.Bool.{and_parts, false≢true}
-use Rattle.std.proofs.Common.{sym, subst, append-nil, append_assoc, ◌==◌, Option, Some, None}
+use Rattle.std.proofs.Common.{refl, sym, subst, append-nil, append_assoc, ◌==◌, Option, Some, None}
 use Rattle.std.specs.Prelude.{Result, Err, ⊤, IfErr, OnOk}
 use Rattle.std.proofs.lemmas.Grind.{flat_map-append}
 use Rattle.review_policy.specs.declared.ask.Request.{Request}
 use Rattle.review_policy.specs.declared.answer.Answer.{Answer}
 use Rattle.review_policy.specs.declared.fault.Fault.{Fault}
 use Rattle.office_policy.specs.History.{Event, History}
-use Rattle.office_policy.specs.Meaning.{Meaning}
+use Rattle.office_policy.specs.Meaning.{Meaning, Entry, no_entry, entry_of, struck_entry_of}
 use Rattle.office_policy.specs.Handled.{Stands, Survives}
 use Rattle.office_policy.specs.Judging.{IsAnswered, LeavesAll}
-use Rattle.journal.specs.Journal.{EndsWithEvent, Says}
+use Rattle.sealed_log.specs.Sealed.{no_seal, seal_of, sealed_lines, sealed_text}
+use Rattle.sealed_log.proofs.SealFacts.{sealed_lines-append}
+use Rattle.journal.specs.Journal.{EndsWithEvent, IsJournalOf, Says}
 use Rattle.journal.specs.Lines.{done, happened, strike, text_of}
 use Rattle.journal.specs.declared.journaled.Journaled.{Journaled}
-use Rattle.journal.specs.Begun.{IsLeftOf, done_bodies, with_event}
-use Rattle.journal.specs.Writing.{Writing, IsAppended, IsLeftIn}
+use Rattle.journal.specs.Begun.{IsBegun, IsEnding, done_bodies, with_event}
+use Rattle.journal.specs.Writing.{Writing, IsAppended, IsLeftIn, IsMet}
 
 -- the journal, as it stands, with another office
 abbrev pub with_office : {O J : Type 0} → Journaled O J → O → Journaled O J
@@ -64,6 +66,35 @@ unsettled w x =
     if x.is_settled then None
     else if w.lines x.journal == 2 ^ 64 - 1 then None else Some (w.lines x.journal)
 
+-- the second are the first, or these and the line that says that their last event is carried out
+abbrev pub HasSettled : (old new : List (List ℕ)) → Type 0
+HasSettled old new = (new ≡ old) ⊎ (new ≡ old ++ text_of (done (length old)) ∷ [])
+
+-- the bodies of what is written down of an event
+abbrev pub bodies_for : Entry → List (List ℕ)
+bodies_for no_entry = []
+bodies_for (entry_of e) = text_of (happened e) ∷ []
+bodies_for (struck_entry_of e) = text_of (happened e) ∷ text_of strike ∷ []
+
+-- the second begin with the first
+pub record BeginsWith {A : Type 0} (first all : List A) : Type 0 where
+  pub more : List A
+  pub is : all ≡ first ++ more
+
+pub begins_on : {A : Type 0} (a b c : List A) → BeginsWith a b → BeginsWith b c → BeginsWith a c
+begins_on a b c first then_ = record {
+  more = first.more ++ then_.more;
+  is = then_.is ∙ ap (λ l. l ++ then_.more) first.is ∙ append_assoc a first.more then_.more;
+}
+
+-- and so do their texts
+pub text_begins : (a b : List (List ℕ)) → BeginsWith a b
+    → BeginsWith (sealed_text a) (sealed_text b)
+text_begins a b begins = record {
+  more = sealed_lines (seal_of a) begins.more;
+  is = ap sealed_text begins.is ∙ sealed_lines-append no_seal a begins.more;
+}
+
 module _ {O J : Type 0} (m : Meaning O) (w : Writing J) where
   -- the journal is open, and has no event that didn't happen
   abbrev pub goes_on : Journaled O J → Bool
@@ -87,17 +118,24 @@ module _ {O J : Type 0} (m : Meaning O) (w : Writing J) where
   KeepsJournal old new = IsTrue (goes_on new)
       → IsTrue (goes_on old) × HasStruck (w.bodies old.journal) (w.bodies new.journal)
 
-  -- what a crash may leave of the office, or what is of each history that it is of
-  abbrev pub LeavesOffice : Journaled O J → m.Left → Type 0
-  LeavesOffice x left =
-      m.may_leave x.office left ⊎ ((h : History) → IsOf h x → m.are_of h left)
+  -- A journal that goes on went on before, and has what it had, and just this entry behind that: before
+  -- it stands the line that says that the last event is carried out, where no line said so.
+  abbrev pub Adds : Entry → (old new : Journaled O J) → Type 0
+  Adds no_entry old new = IsTrue (goes_on new)
+      → IsTrue (goes_on old) × (w.bodies new.journal ≡ w.bodies old.journal)
+      × (unsettled w new ≡ unsettled w old)
+  Adds entry old new = IsTrue (goes_on new)
+      → IsTrue (goes_on old) × (w.bodies new.journal
+      ≡ w.bodies old.journal ++ (done_bodies (unsettled w old) ++ bodies_for entry))
 
-  -- what a crash may leave of the journal. While that goes on, also what may be left of the journal of
-  -- each history that the office is of
-  abbrev pub LeavesFile : Journaled O J → List ℕ → Type 0
-  LeavesFile x file =
-      w.may_leave x.journal file
-      ⊎ (IsTrue (goes_on x) × ((h : History) → IsOf h x → IsLeftOf h file))
+  -- a journal that goes on went on before, and begins with what it had; what a crash leaves could be left
+  -- before, or begins with all that the journal had, which went on
+  pub record Grows (old new : Journaled O J) : Type 0 where
+    pub bodies : IsTrue (goes_on new)
+        → IsTrue (goes_on old) × BeginsWith (w.bodies old.journal) (w.bodies new.journal)
+    pub files : (file : List ℕ) → w.may_leave new.journal file
+        → w.may_leave old.journal file
+        ⊎ (IsTrue (goes_on old) × BeginsWith (sealed_text (w.bodies old.journal)) file)
 
   -- an event that didn't happen is the last one of its journal, and couldn't be struck out
   pub record IsUnstruck (e : Event) (x : Journaled O J) : Type 0 where
@@ -120,6 +158,61 @@ module _ {O J : Type 0} (m : Meaning O) (w : Writing J) where
   strays_shut e x (inl within) is_open = m.strays_shut e x.office within is_open.0
   strays_shut e x (inr last) is_open = stops x last.stray is_open.1
 
+  pub adds_none : (x : Journaled O J) → Adds no_entry x x
+  adds_none x = λ goes. (goes, refl, refl)
+
+  pub adds_on : (e : Entry) (x y z : Journaled O J) → Adds no_entry x y → Adds e y z → Adds e x z
+  adds_on no_entry x y z first then_ = λ goes.
+      let later = then_ goes in
+      let earlier = first later.0 in
+      (earlier.0, later.1 ∙ earlier.1, later.2 ∙ earlier.2)
+  adds_on (entry_of e) x y z first then_ = λ goes.
+      let later = then_ goes in
+      let earlier = first later.0 in (
+        earlier.0,
+        later.1 ∙ ap (λ l. l ++ (done_bodies (unsettled w y) ++ bodies_for (entry_of e))) earlier.1
+            ∙ ap (λ n. w.bodies x.journal ++ (done_bodies n ++ bodies_for (entry_of e)))
+            earlier.2,
+      )
+  adds_on (struck_entry_of e) x y z first then_ = λ goes.
+      let later = then_ goes in
+      let earlier = first later.0 in (
+        earlier.0,
+        later.1
+            ∙ ap (λ l. l ++ (done_bodies (unsettled w y) ++ bodies_for (struck_entry_of e)))
+            earlier.1
+            ∙ ap (λ n. w.bodies x.journal ++ (done_bodies n ++ bodies_for (struck_entry_of e)))
+            earlier.2,
+      )
+
+  pub grows_itself : (x : Journaled O J) → Grows x x
+  grows_itself x = record {
+    bodies = λ goes. (goes, record { more = []; is = sym (append-nil (w.bodies x.journal)) });
+    files = λ file may. inl may;
+  }
+
+  pub grows_on : (x y z : Journaled O J) → Grows x y → Grows y z → Grows x z
+  grows_on x y z first then_ = record {
+    bodies = λ goes.
+        let later = then_.bodies goes in
+        let earlier = first.bodies later.0 in (
+          earlier.0,
+          begins_on (w.bodies x.journal) (w.bodies y.journal) (w.bodies z.journal)
+              earlier.1 later.1,
+        );
+    files = λ file may. elim (then_.files file may) [
+      | inl before ↦ first.files file before
+      | inr behind ↦
+          let earlier = first.bodies behind.0 in
+          inr (
+            earlier.0,
+            begins_on (sealed_text (w.bodies x.journal))
+                (sealed_text (w.bodies y.journal)) file
+                (text_begins (w.bodies x.journal) (w.bodies y.journal) earlier.1) behind.1,
+          )
+    ];
+  }
+
   -- the meaning of an office with a journal: what is left of it are tables and a file
   abbrev pub journaled : Meaning (Journaled O J)
   journaled = record {
@@ -130,9 +223,13 @@ module _ {O J : Type 0} (m : Meaning O) (w : Writing J) where
     is_of = IsOf;
     keeps = λ x y. m.keeps x.office y.office × KeepsJournal x y;
     is_stray = HasAsStray;
+    adds = Adds;
+    grows = Grows;
     Left = m.Left × List ℕ;
-    may_leave = λ x left. LeavesOffice x left.0 × LeavesFile x left.1;
-    are_of = λ h left. m.are_of h left.0 × IsLeftOf h left.1;
+    may_leave = λ x left. m.may_leave x.office left.0 × w.may_leave x.journal left.1;
+    are_of = λ h left. m.are_of h left.0 × IsJournalOf left.1 h;
+    are_begun = λ h e left.
+        (m.are_of h left.0 ⊎ m.are_begun h e left.0) × IsBegun h e left.1;
     lawful = λ h x of. m.lawful h x.office of.office;
     keeps_itself = λ x. (m.keeps_itself x.office, λ goes. (goes, struck_none (w.bodies x.journal)));
     keeps_on = λ x y z first then_. (
@@ -145,6 +242,10 @@ module _ {O J : Type 0} (m : Meaning O) (w : Writing J) where
                 earlier.1 later.1,
           ),
     );
+    adds_none = adds_none;
+    adds_on = adds_on;
+    grows_itself = grows_itself;
+    grows_on = grows_on;
     strays_shut = strays_shut;
   }
 
@@ -196,10 +297,6 @@ module _ {O J : Type 0} (m : Meaning O) (w : Writing J) where
   IsUndone r old new e = (new.has_stray ≡ old.has_stray)
       ⊎ ((mid : Journaled O J) × HasWritten old mid e × IsTakenBack r mid new)
 
-  -- the second are the first, or these and the line that says that their last event is carried out
-  abbrev pub HasSettled : (old new : List (List ℕ)) → Type 0
-  HasSettled old new = (new ≡ old) ⊎ (new ≡ old ++ text_of (done (length old)) ∷ [])
-
   -- the last event is settled, where it wasn't and the journal goes on
   pub record IsSettled (old new : Journaled O J) (result : Result ⊤ Fault) : Type 0 where
     -- the office is as it was, and nothing of it was asked
@@ -216,6 +313,10 @@ module _ {O J : Type 0} (m : Meaning O) (w : Writing J) where
         → HasSettled (w.bodies old.journal) (w.bodies new.journal)
     pub failed : IfErr result (λ fault. w.is_clean new.journal → IsTrue (goes_on new)
         → w.bodies new.journal ≡ w.bodies old.journal)
-    -- a crash leaves what it could leave before, or a journal that goes on with a part of that line
+    -- a fault has a cause
+    pub cause : IfErr result (λ fault. w.is_clean new.journal
+        → IsMet w old.journal new.journal fault)
+    -- a crash leaves what it could leave before, or the journal with that line or a part of it
     pub crash : is_clean new → (left : m.Left × List ℕ) → journaled.may_leave new left
         → journaled.may_leave old left
+        ⊎ (m.may_leave old.office left.0 × ((h : History) → IsOf h old → IsEnding h left.1))

@@ -10,6 +10,11 @@ abbrev pub IsSealAt : ℕ → List (List ℕ) → Option (List ℕ) → Type 0
 IsSealAt line bodies (Some seal) = (line ≤ length bodies) × (seal ≡ seal_of (take line bodies))
 IsSealAt line bodies None = length bodies < line
 
+-- the same where it is asked for; and none where it isn't
+abbrev pub IsSealAsked : Option ℕ → List (List ℕ) → Option (List ℕ) → Type 0
+IsSealAsked None bodies at = at ≡ None
+IsSealAsked (Some line) bodies at = IsSealAt line bodies at
+
 -- the seal of the lines that were taken is kept just where their number is the one that is asked
 -- for
 pub record Sees (old new : SealAt) (taken : ℕ) (seal : List ℕ) : Type 0 where
@@ -21,6 +26,11 @@ pub record Sees (old new : SealAt) (taken : ℕ) (seal : List ℕ) : Type 0 wher
 abbrev pub Finds : SealAt → (taken : ℕ) → Option (List ℕ) → Type 0
 Finds kept taken (Some seal) = (kept.line ≤ taken) × (seal ≡ kept.seal)
 Finds kept taken None = taken < kept.line
+
+-- the same where it is asked for; and none where it isn't
+abbrev pub IsFound : Option ℕ → SealAt → (taken : ℕ) → Option (List ℕ) → Type 0
+IsFound None kept taken at = at ≡ None
+IsFound (Some line) kept taken at = Finds kept taken at
 
 -- up to the place sealed lines were taken of the bytes, and the seal of the first so many is kept,
 -- where there are as many

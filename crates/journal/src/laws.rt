@@ -2,11 +2,16 @@
 //! is the law; it does nothing.
 
 ghost use Rattle.std.specs.Prelude.{◌≡◌, ◌≤◌, ◌<◌, ◌^◌, [], ◌∷◌, ◌++◌, ℕ, List, All, length};
-ghost use Rattle.std.specs.Prelude.{IfSome, Some, None};
+ghost use Rattle.std.specs.Prelude.{IfSome, Result, Some, None, ⊤};
+ghost use Rattle.review_policy.specs.declared.answer.Answer.{Answer};
+ghost use Rattle.review_policy.specs.declared.ask.Request.{Request};
+ghost use Rattle.review_policy.specs.declared.fault.Fault.{Fault};
 ghost use Rattle.sealed_log.specs.Sealed.{longest, sealed_with};
 ghost use Rattle.office_policy.specs.History.{Event, History};
 ghost use Rattle.office_policy.specs.Lawful.{IsAllowed, IsFounding, IsLawfulHistory};
+ghost use Rattle.office_policy.specs.Ran.{HaveRun};
 ghost use Rattle.office_policy.specs.TablesOf.{tables_of};
+ghost use Rattle.journal.specs.declared.journaled.Journaled.{Journaled};
 ghost use Rattle.journal.specs.declared.events.Unreadable.{Unreadable};
 ghost use Rattle.journal.specs.Examples.{founding, enrolment, submission, vote, issue};
 ghost use Rattle.journal.specs.Examples.{withdrawal, adoption, hold, release, founding_text};
@@ -16,10 +21,14 @@ ghost use Rattle.journal.specs.Examples.{hold_text, release_text, settlement, st
 ghost use Rattle.journal.specs.Forms.{HasForms, IsFormed};
 ghost use Rattle.journal.specs.Journal.{EndsWithEvent, IsEntry, IsJournalOf, IsSealedJournal};
 ghost use Rattle.journal.specs.Journal.{Says, history_in};
+ghost use Rattle.journal.specs.Journals.{Grows, IsSettled, is_clean, journaled};
 ghost use Rattle.journal.specs.Lines.{Line, done, happened, strike, text_of};
 ghost use Rattle.journal.specs.Told.{Begins, Ends, GoesOn, IsJournalTo, IsOutside, Place};
 ghost use Rattle.journal.specs.Told.{Stops, Tells, history_told, standing, start, told};
 ghost use Rattle.journal.specs.Writers.{ShowsWriters, writers_of};
+
+use crate::journal::Journal;
+use office_policy::Judge;
 
 /// A text is that of one line: it says what happened, by whom, and of what.
 pub fn a_text_is_of_one_line()
@@ -50,6 +59,24 @@ pub fn what_is_allowed_can_be_written()
 pub fn a_done_line_changes_nothing()
     ensures { (bodies : List (List ℕ)) (h : History) → Says bodies h → EndsWithEvent bodies
         → length bodies < 2 ^ 64 → Says (bodies ++ text_of (done (length bodies)) ∷ []) h }
+{}
+
+/// The journal of an office only grows. Whatever is asked, and when the last event is settled, one that
+/// still goes on begins with all the lines that it had; and what a crash leaves of its file could be left
+/// before, or begins with their text.
+pub fn a_journal_only_grows<O: Judge, J: Journal>()
+    ensures asked { (old new : Journaled O J) (requests : List Request) (answers : List Answer)
+        → HaveRun (journaled O.Handler.meaning J.Journal.writing) old new requests answers
+        → is_clean O.Handler.meaning J.Journal.writing new
+        → Grows O.Handler.meaning J.Journal.writing old new }
+    ensures settled { (old new : Journaled O J) (result : Result ⊤ Fault)
+        → IsSettled O.Handler.meaning J.Journal.writing old new result
+        → is_clean O.Handler.meaning J.Journal.writing new
+        → Grows O.Handler.meaning J.Journal.writing old new }
+    ensures after { (first next last : Journaled O J)
+        → Grows O.Handler.meaning J.Journal.writing first next
+        → Grows O.Handler.meaning J.Journal.writing next last
+        → Grows O.Handler.meaning J.Journal.writing first last }
 {}
 
 /// A text is the journal of one history at most.

@@ -8,7 +8,7 @@ use Rattle.office_tables.specs.Tables.{Tables}
 use Rattle.office_policy.specs.History.{Event, founded, enrolled, submitted, voted, issued, withdrawn, adopted, held, released}
 use Rattle.office_policy.specs.Handled.{HasRisen}
 use Rattle.office_policy.specs.Judging.{LeavesAll}
-use Rattle.office_policy.specs.Meaning.{Meaning}
+use Rattle.office_policy.specs.Meaning.{Meaning, no_entry}
 use Rattle.office_policy.specs.ShowsEvent.{Shows}
 use Rattle.office_policy.specs.TablesOf.{tables_of}
 use Rattle.office_policy.specs.declared.event.Event as values
@@ -57,6 +57,7 @@ left_on m old mid new first then = record {
   office = λ h of. then.office h (first.office h of);
   kept = λ clean. m.keeps_on old mid new (first.kept (then.survives.clean clean)) (then.kept clean);
   crash = λ clean left may. first.crash (then.survives.clean clean) left (then.crash clean left may);
+  adds = λ clean. m.adds_on no_entry old mid new (first.adds (then.survives.clean clean)) (then.adds clean);
   strays = λ e stray. first.strays e (then.strays e stray);
 }
 
@@ -184,34 +185,14 @@ module _ {X : Type 0} (m : Meaning X) (old new : X) (e : Event) where
 pub stays_itself : {X : Type 0} (m : Meaning X) (x : X) → Stays m x x
 stays_itself m x h stands clean = stands
 
--- ---- all writers, one behind the other
-
--- this was looked for, and holds
-abbrev pub HasLookedFor : {X : Type 0} (m : Meaning X) → (old new : X) → (Tables → Type 0) → Type 0
-HasLookedFor m old new P = LeavesAll m old new × LooksFor m old new P (Ok tt)
-
-module _ {X : Type 0} (m : Meaning X) (old mid new : X) (P Q : Tables → Type 0) (first : HasLookedFor m old mid P) (then : LeavesAll m mid new) where
-  pub and_also : LooksFor m mid new Q (Ok tt) → HasLookedFor m old new (λ t. P t × Q t)
-  and_also two = (leaves_both m old mid new first.0 then, looks_then m old mid new first.0 then P Q (Ok tt) first.1 two)
-
-  pub and_last : (result : Result ⊤ NotReopened) → LooksFor m mid new Q result → LooksFor m old new (λ t. P t × Q t) result
-  and_last result two = looks_then m old mid new first.0 then P Q result first.1 two
+-- ---- all writers
 
 module _ (w : TheWriters) (t : Tables) where
-  abbrev pub First : Type 0
-  First = ShowsIf t (boxed_meant w.users)
+  abbrev pub Four : Type 0
+  Four = (ShowsIf t (boxed_meant w.users) × ShowsIf t (boxed_meant w.revisions)) × (ShowsIf t (boxed_meant w.votes) × ShowsIf t (boxed_meant w.baselines))
 
-  abbrev pub Second : Type 0
-  Second = First × ShowsIf t (boxed_meant w.revisions)
-
-  abbrev pub Third : Type 0
-  Third = Second × ShowsIf t (boxed_meant w.votes)
-
-  abbrev pub Fourth : Type 0
-  Fourth = Third × ShowsIf t (boxed_meant w.baselines)
-
-  abbrev pub Fifth : Type 0
-  Fifth = Fourth × ShowsIf t (boxed_meant w.holds)
+  abbrev pub Five : Type 0
+  Five = Four × ShowsIf t (boxed_meant w.holds)
 
   user_if : (user : Option (Box values.Event Global)) → ShowsOne t (boxed_meant user) → ShowsIf t (boxed_meant user)
   user_if None shows = absurd shows
@@ -225,12 +206,12 @@ module _ (w : TheWriters) (t : Tables) where
   no_one None is shows = shows
   no_one (Some b) is shows = cc
 
-  pub in_order : ShowsWriters t (writers_meant w) → Fifth
-  in_order all = ((((user_if w.users all.users, all.revisions), all.votes), all.baselines), all.holds)
+  pub in_order : ShowsWriters t (writers_meant w) → Five
+  in_order all = (((user_if w.users all.users, all.revisions), (all.votes, all.baselines)), all.holds)
 
-  pub are_all : is_some w.users ≡ true → Fifth → ShowsWriters t (writers_meant w)
+  pub are_all : is_some w.users ≡ true → Five → ShowsWriters t (writers_meant w)
   are_all some shows =
-      record { users = user_one w.users some shows.0.0.0.0; revisions = shows.0.0.0.1; votes = shows.0.0.1; baselines = shows.0.1; holds = shows.1 }
+      record { users = user_one w.users some shows.0.0.0; revisions = shows.0.0.1; votes = shows.0.1.0; baselines = shows.0.1.1; holds = shows.1 }
 
   pub no_user : is_some w.users ≡ false → ShowsWriters t (writers_meant w) → ⊥
   no_user none all = no_one w.users none all.users

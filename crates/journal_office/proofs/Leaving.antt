@@ -7,7 +7,7 @@ use Rattle.sealed_log.proofs.ToldFacts.{told_after_both, told_after_crash, told_
 use Rattle.office_policy.specs.History.{Event, History}
 use Rattle.office_policy.specs.Lawful.{IsAllowed}
 use Rattle.journal.specs.Forms.{HasForms}
-use Rattle.journal.specs.Journal.{Says}
+use Rattle.journal.specs.Journal.{IsJournalOf, Says}
 use Rattle.journal.specs.Lines.{done, happened, strike, text_of}
 use Rattle.journal.proofs.JournalFacts.{bodies_of_says}
 use Rattle.journal.proofs.Lengths.{allowed_entry}
@@ -59,17 +59,20 @@ module _ (h : History) (file : List ℕ) (event : Event) (allowed : IsAllowed h 
         | inr struck ↦ says_it (with_struck bodies event) (one_struck bodies h event entry says) struck
       ]
 
-begun_tells : (h : History) (file : List ℕ) (b : IsBegun h file)
-    (left : IsLeftIn b.before (done_bodies b.settling) (text_of (happened b.event)) file ⊎ IsLeftIn (with_event (b.before ++ done_bodies b.settling) b.event) [] (text_of strike) file)
-    → HasOwnLine h file b left → TellsOf h (told file)
-begun_tells h file b (inl left) own = event_tells h file b.event b.allowed b.forms b.before b.settling b.says b.settled left own
-begun_tells h file b (inr left) own = strike_tells h file b.event b.allowed b.forms (b.before ++ done_bodies b.settling) b.settled left own
+begun_tells : (h : History) (event : Event) (file : List ℕ) (b : IsBegun h event file)
+    (left : IsLeftIn b.before (done_bodies b.settling) (text_of (happened event)) file ⊎ IsLeftIn (with_event (b.before ++ done_bodies b.settling) event) [] (text_of strike) file)
+    → HasOwnLine h event file b left → TellsOf h (told file)
+begun_tells h event file b (inl left) own = event_tells h file event b.allowed b.forms b.before b.settling b.says b.settled left own
+begun_tells h event file b (inr left) own = strike_tells h file event b.allowed b.forms (b.before ++ done_bodies b.settling) b.settled left own
+
+pub journal_tells : (h : History) (file : List ℕ) → IsJournalOf file h → Says (told file) h
+journal_tells h file journal =
+    let same : told file ≡ journal.bodies = ap told journal.is ∙ told_text journal.bodies (bodies_of_says journal.bodies h journal.says) in
+    subst (λ (l : List (List ℕ)). Says l h) (sym same) journal.says
 
 pub left_tells : (h : History) (file : List ℕ) (left : IsLeftOf h file) → HasOwn h file left → TellsOf h (told file)
-left_tells h file (inl journal) own =
-    let same : told file ≡ journal.bodies = ap told journal.is ∙ told_text journal.bodies (bodies_of_says journal.bodies h journal.says) in
-    inl (subst (λ (l : List (List ℕ)). Says l h) (sym same) journal.says)
-left_tells h file (inr (inl b)) own = begun_tells h file b b.left own
+left_tells h file (inl journal) own = inl (journal_tells h file journal)
+left_tells h file (inr (inl (event, b))) own = begun_tells h event file b b.left own
 left_tells h file (inr (inr e)) own =
     elim (told_after_crash e.before (text_of (done e.number)) file (bodies_of_says e.before h e.says) e.left own) [
       | inl same ↦ inl (subst (λ (l : List (List ℕ)). Says l h) (sym same) e.says)

@@ -1,10 +1,12 @@
--- The texts of why no office is built anew from a journal.
+-- The texts of why no office is built anew from a journal, or opened again with one.
 use Rattle.std.specs.Prelude.{ℕ, List, [], ◌++◌, ◌==◌, if◌then◌else◌, codes, decimal}
 use Rattle.review_policy.specs.WordTables.{fault_word, rule_word}
 use Rattle.office_founding.specs.Faults.{founding_fault_word}
 use Rattle.office_desk.specs.declared.replay.Unreplayed.{Unreplayed}
 use Rattle.office_desk.specs.declared.replay.Unreplayed.TheVariants as causes
 use Rattle.journal.specs.FaultTexts.{unreadable_word}
+use Rattle.journal_office.specs.declared.not_reopened.NotReopened.{NotReopened}
+use Rattle.journal_office.specs.declared.not_reopened.NotReopened.TheVariants as reopening
 use Rattle.journal_office.specs.declared.refused.Refused.{Refused}
 use Rattle.journal_office.specs.declared.refused.Why.{Why}
 use Rattle.journal_office.specs.declared.refused.Why.TheVariants as why
@@ -31,3 +33,13 @@ line_text line = if line == 0 then [] else codes "line " ++ decimal line ++ code
 -- where and why
 abbrev pub refused_text : Refused → List ℕ
 refused_text refused = line_text refused.line ++ why_text refused.why
+
+-- why an office wasn't opened again with its journal
+abbrev pub not_reopened_text : NotReopened → List ℕ
+not_reopened_text reopening.Unsealed = codes "unsealed"
+not_reopened_text reopening.NotALine = codes "not-a-journal"
+not_reopened_text (reopening.Changed at) = codes "changed at " ++ decimal at
+not_reopened_text reopening.OtherJournal = codes "other-journal"
+not_reopened_text (reopening.Office why) = fault_word why
+not_reopened_text reopening.Log = codes "journal"
+not_reopened_text reopening.NoMemory = codes "memory"

@@ -1,5 +1,5 @@
 -- An office that is built anew as far as its journal can be read.
-use Rattle.std.specs.Prelude.{◌≡◌, ◌⊎◌, ◌+◌, ◌-◌, ◌^◌, ◌++◌, [], ℕ, min, Bool, true, false}
+use Rattle.std.specs.Prelude.{◌≡◌, ◌⊎◌, ◌+◌, ◌-◌, ◌^◌, ◌++◌, [], ◌∷◌, ℕ, min, Bool, true, false}
 use Rattle.std.specs.Prelude.{List, Option, Result, Ok, Err, ⊤}
 use Rattle.sqlite.specs.Held.{Held, state}
 use Rattle.sqlite.specs.Store.{Ghosts}
@@ -13,13 +13,13 @@ use Rattle.office_desk.specs.Meant.{meaning_over}
 use Rattle.office_desk.specs.Replayed.{IsReplayed}
 use Rattle.journal.specs.declared.events.Unreadable.{Unreadable}
 use Rattle.journal.specs.declared.events.Unreadable.TheVariants as unreadable
-use Rattle.journal.specs.Told.{CannotGoOn, GoesOn, IsOutside, Place, history_told}
+use Rattle.journal.specs.Told.{CannotGoOn, GoesOn, Place, history_told}
 use Rattle.journal.specs.Told.{standing, start}
 use Rattle.journal_office.specs.declared.refused.Refused.{Refused}
 use Rattle.journal_office.specs.declared.refused.Why.{Why}
 use Rattle.journal_office.specs.declared.refused.Why.TheVariants as halt
 use Rattle.journal_office.specs.Rebuilt.{HasReplayed, IsRebuilt, line_behind}
-use Rattle.journal_office.specs.Steps.{ComesNext, IsUnbegun}
+use Rattle.journal_office.specs.Steps.{IsLast, IsUnbegun}
 
 -- the journal ends before a line that can't be: it isn't that the input or memory failed, of which
 -- the line may be one that strikes out
@@ -27,6 +27,25 @@ abbrev pub ends_there : Why → Bool
 ends_there (halt.Unread unreadable.Read) = false
 ends_there (halt.Unread unreadable.NoMemory) = false
 ends_there _ = true
+
+abbrev pub ends_at : Unreadable → Bool
+ends_at fault = ends_there (halt.Unread fault)
+
+-- the event that is held back before a line that can't be read, behind these events, as far as it is
+-- kept: where the journal ends there, and else where it is the first, without which there is no office
+abbrev pub kept_by : (ends : Bool) → (before held : List (ℕ × Event)) → List (ℕ × Event)
+kept_by true before held = held
+kept_by false [] held = held
+kept_by false (e ∷ before) held = []
+
+abbrev pub kept_at : Unreadable → (before : List (ℕ × Event)) → Place → List (ℕ × Event)
+kept_at fault before last = kept_by (ends_at fault) before (standing last.taken last.held)
+
+-- the event is the next one behind the place: it stands, or is held back where the journal ends
+abbrev pub ComesThere : Place → (ℕ × Event) → Type 0
+ComesThere here placed =
+    ((behind : Place) × GoesOn here behind (placed ∷ []))
+    ⊎ ((last : IsLast here placed) × (ends_at last.fault ≡ true))
 
 -- of a journal with these bytes, where they are known, and the office that is left
 module _ (bytes : Option (List ℕ)) {X : Type 0} (m : Meaning X) (left : X) where
@@ -39,17 +58,17 @@ module _ (bytes : Option (List ℕ)) {X : Type 0} (m : Meaning X) (left : X) whe
 
   -- The line of this number can't be read, for this fault. The office stands of the events of all
   -- lines before it that aren't struck out: with that of the last of them, which no line behind it
-  -- can strike out any more; or without, where the input or memory failed.
+  -- can strike out any more. Where the input or memory failed it is without, unless that founds it.
   pub record IsBuiltTo (line : ℕ) (fault : Unreadable) : Type 0 where
     pub last : Place
     pub before : List (ℕ × Event)
     pub told : GoesOn (start bytes) last before
     pub cannot : CannotGoOn fault last
     pub counted : line ≡ line_behind last.taken
-    pub kept : List (ℕ × Event)
-    pub held : (kept ≡ standing last.taken last.held) ⊎ (IsOutside fault × (kept ≡ []))
-    pub lawful : m.is_clean left → IsLawfulHistory (history_told (before ++ kept))
-    pub stands : m.is_clean left → Stands m (history_told (before ++ kept)) left
+    pub lawful : m.is_clean left
+        → IsLawfulHistory (history_told (before ++ kept_at fault before last))
+    pub stands : m.is_clean left
+        → Stands m (history_told (before ++ kept_at fault before last)) left
 
   -- the office was of the events before that of this line, which doesn't happen again in it
   pub record IsKeptOut (line : ℕ) (cause : Unreplayed) : Type 0 where
@@ -58,7 +77,7 @@ module _ (bytes : Option (List ℕ)) {X : Type 0} (m : Meaning X) (left : X) whe
     pub office : X
     pub replayed : HasReplayed bytes m here before office
     pub event : Event
-    pub comes : ComesNext here (line, event)
+    pub comes : ComesThere here (line, event)
     pub refused : IsReplayed m office left event (Err cause)
 
   -- why no more of it happens again

@@ -74,6 +74,21 @@ fn look_for<S: Alter>(
     }
 }
 
+// Looks whether the tables show two events, where there are two.
+fn look_for_both<S: Alter>(
+    alloc: Global,
+    office: &mut Office<S>,
+    first: &Option<Box<Event>>,
+    second: &Option<Box<Event>>,
+) -> Result<(), NotReopened>
+    ensures leaves { LeavesAll (meaning_over S.Store) office.old office.new }
+    ensures looks { LooksFor (meaning_over S.Store) office.old office.new
+        (λ t. ShowsIf t (boxed_meant first.now) × ShowsIf t (boxed_meant second.now)) result }
+{
+    look_for(alloc, office, first)?;
+    look_for(alloc, office, second)
+}
+
 // Looks whether the tables show all of these, and one that enrolled a user.
 fn look_for_all<S: Alter>(
     alloc: Global,
@@ -87,10 +102,8 @@ fn look_for_all<S: Alter>(
     if writers.users.is_none() {
         return Err(NotReopened::OtherJournal);
     }
-    look_for(alloc, office, &writers.users)?;
-    look_for(alloc, office, &writers.revisions)?;
-    look_for(alloc, office, &writers.votes)?;
-    look_for(alloc, office, &writers.baselines)?;
+    look_for_both(alloc, office, &writers.users, &writers.revisions)?;
+    look_for_both(alloc, office, &writers.votes, &writers.baselines)?;
     look_for(alloc, office, &writers.holds)
 }
 

@@ -4,35 +4,51 @@ use journal::Faulty;
 use review_policy::Fault;
 use sealed_log::LogFault;
 use std::alloc::AllocError;
-use thiserror::Error;
+use std::error::Error;
+use std::fmt;
 
-/// Why an office and its journal aren't opened again.
-#[derive(Clone, Copy, Debug, Drop, PartialEq, Eq, Error)]
+/// Why an office and its journal aren't opened again. Its text is one word; where the file was changed,
+/// `changed at` and the offset.
+#[derive(Clone, Copy, Debug, Drop, PartialEq, Eq)]
 pub enum NotReopened {
     /// No line of the journal is sealed.
-    #[error("unsealed")]
     Unsealed,
     /// A line that is sealed is none of a journal, or can't stand behind those before it.
-    #[error("not-a-line")]
     NotALine,
     /// More stands behind what is sealed, which ends at this offset, than a line: no crash left that.
-    #[error("changed at {at}")]
     Changed { at: usize },
     /// The journal has fewer lines than the mark of the tables; or these don't show the newest event
     /// that wrote to each of them, with or without the one on the last line: it is of another office,
     /// or of this one at another time.
-    #[error("other-journal")]
     OtherJournal,
     /// The office met this fault when it was asked about events.
-    #[error("office")]
     Office(Fault),
     /// The file of the journal can't be read, cut, written or synced.
-    #[error("log")]
     Log,
     /// There was no memory to read a line. No contract can say when.
-    #[error("memory")]
     NoMemory,
 }
+
+impl fmt::Display for NotReopened {
+    ghost use Rattle.std.specs.Prelude.{Some};
+    ghost use Rattle.journal_office.specs.FaultTexts.{not_reopened_text};
+
+    ghost output = { λ why. Some (not_reopened_text why) };
+
+    fn fmt<W: fmt::Write>(&self, f: &mut fmt::Formatter<W>) -> fmt::Result {
+        match self {
+            NotReopened::Unsealed => f.write_str("unsealed"),
+            NotReopened::NotALine => f.write_str("not-a-journal"),
+            NotReopened::Changed { at } => write!(f, "changed at {at}"),
+            NotReopened::OtherJournal => f.write_str("other-journal"),
+            NotReopened::Office(fault) => f.write_str(fault.word()),
+            NotReopened::Log => f.write_str("journal"),
+            NotReopened::NoMemory => f.write_str("memory"),
+        }
+    }
+}
+
+impl Error for NotReopened {}
 
 impl From<LogFault> for NotReopened {
     ghost use Rattle.std.specs.Prelude.{◌≡◌};

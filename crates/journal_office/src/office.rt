@@ -8,7 +8,7 @@ ghost use Rattle.office_store.specs.Schema.{no_schema};
 ghost use Rattle.office_store.specs.Shown.{IsIdle};
 ghost use Rattle.office_policy.specs.History.{Event as TheEvent};
 ghost use Rattle.sealed_log.specs.Told.{told};
-ghost use Rattle.journal.specs.SealsAt.{IsSealAt, IsSeen};
+ghost use Rattle.journal.specs.SealsAt.{IsFound, IsSealAsked, IsSeen};
 ghost use Rattle.journal.specs.Told.{place};
 ghost use Rattle.office_desk.specs.Meant.{meaning_over};
 ghost use Rattle.journal_office.specs.Rebuilt.{HasReplayed, Rebuilds, Refutes};
@@ -57,14 +57,35 @@ pub struct Rebuilt<S: Alter> {
     pub seal: Seal,
     /// How many lines the journal has.
     pub lines: u64,
-    /// The seal of the first so many lines as were asked for; `None` where it has fewer, or
-    /// none were asked for.
+    /// The seal of the first so many lines as were asked for; `None` where it has fewer, or it wasn't
+    /// asked for.
     pub at: Option<Seal>,
+}
+
+// The number of lines of which the seal is kept.
+fn kept_lines(line: Option<u64>) -> u64
+    ensures { IfSome line (λ n. result ≡ n) }
+{
+    match line {
+        Some(line) => line,
+        None => 0,
+    }
+}
+
+// The seal of these lines, where it is asked for.
+fn seal_asked<S: Alter, R: BufRead>(replay: &Replay<S, R>, line: Option<u64>) -> Option<Seal>
+    ensures { IsFound line replay.now.events.at
+        (place R.remaining replay.now.events).taken result }
+{
+    match line {
+        Some(_) => replay.seal_at(),
+        None => None,
+    }
 }
 
 /// Builds an office anew over a connection to an empty store: the first event of a journal founds
 /// it, and each later one happens again in it, where the policy allows it to the caller that it
-/// names. The seal of the first so many lines is kept.
+/// names. The seal of the first so many lines is given, where it is asked for.
 ///
 /// # Errors
 ///
@@ -75,24 +96,24 @@ pub fn rebuild<S: Alter, R: BufRead + Drop>(
     alloc: Global,
     conn: Connection<S>,
     journal: R,
-    line: u64,
+    line: Option<u64>,
 ) -> Result<Rebuilt<S>, (Refused, Connection<S>)>
     requires { IsIdle (state S.Store conn) }
     ensures rebuilt { Rebuilds (R.remaining journal) S.Store conn result }
     ensures at { IfOk result (λ built. IfSome (R.remaining journal)
-        (λ text. IsSealAt line (told text) built.at)) }
+        (λ text. IsSealAsked line (told text) built.at)) }
     ensures unlawful { IfErr result (λ refusal. Refutes (R.remaining journal)
         (HasCleanDisk (state S.Store refusal.1)) refusal.0.why) }
     ensures empty { OnOk result ((state S.Store conn).now.schema ≡ no_schema) }
     ensures idle { IfErr result (λ refusal. IsIdle (state S.Store refusal.1)) }
 {
-    let (mut replay, first) = Replay::begin(alloc, conn, journal, line)?;
+    let (mut replay, first) = Replay::begin(alloc, conn, journal, kept_lines(line))?;
     drop(first);
     let replayed = replay_rest(alloc, &mut replay);
     let events = replay.count();
     let seal = replay.seal();
     let lines = replay.taken();
-    let at = replay.seal_at();
+    let at = seal_asked(&replay, line);
     let office = replay.into_office();
     match replayed {
         Ok(()) => Ok(Rebuilt {

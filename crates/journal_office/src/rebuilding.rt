@@ -1,6 +1,6 @@
 //! An office, built anew over a store as far as its journal can be read.
 
-ghost use Rattle.std.specs.Prelude.{◌≡◌, ◌+◌, ◌-◌, ◌∷◌, ◌^◌, [], ℕ, List, Option, None, IfErr, IfOk};
+ghost use Rattle.std.specs.Prelude.{◌≡◌, ◌<◌, ◌+◌, ◌-◌, ◌∷◌, ◌^◌, [], ℕ, List, Option, None, IfErr, IfOk};
 ghost use Rattle.std.specs.Prelude.{OnOk, length};
 ghost use Rattle.sqlite.specs.Held.{state};
 ghost use Rattle.sqlite.specs.State.{HasCleanDisk};
@@ -44,7 +44,7 @@ fn rebuild_last<S: Alter, R: BufRead>(
     refused: Refused,
 ) -> Refused
     ensures { (bytes : Option (List ℕ)) (here : Place) (es : List (ℕ × TheEvent))
-        → HasReplayed bytes (meaning_over S.Store) here es replay.old.office
+        → HasReplayed bytes (meaning_over S.Store) here es replay.old.office → 0 < length es
         → IsLeft here (place R.remaining replay.old.events) refused.line refused.why
         → IsHalted bytes (meaning_over S.Store) replay.new.office result.line result.why }
 {
@@ -74,7 +74,7 @@ fn next_event<S: Alter, R: BufRead>(
     ensures count { IfOk result (CountsNext replay.old.count replay.new.count) }
     ensures halted { IfErr result (λ refused. (bytes : Option (List ℕ)) (es : List (ℕ × TheEvent))
         → HasReplayed bytes (meaning_over S.Store)
-        (place R.remaining replay.old.events) es replay.old.office
+        (place R.remaining replay.old.events) es replay.old.office → 0 < length es
         → IsHalted bytes (meaning_over S.Store) replay.new.office refused.line refused.why) }
 {
     match replay.next(alloc) {

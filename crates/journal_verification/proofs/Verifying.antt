@@ -17,7 +17,7 @@ use Rattle.office_desk.specs.Meant.{meaning_over}
 use Rattle.office_desk.specs.Replayed.{HasOtherText, IsDeniedBy, IsRefused as IsDenied}
 use Rattle.journal.specs.declared.events.Unreadable.TheVariants as unreadable
 use Rattle.journal.specs.Journal.{IsJournalOf, IsSealedJournal}
-use Rattle.journal.specs.SealsAt.{IsSealAt}
+use Rattle.journal.specs.SealsAt.{IsSealAsked}
 use Rattle.journal.specs.Told.{history_told, start}
 use Rattle.journal_office.specs.declared.refused.Refused.{Refused}
 use Rattle.journal_office.specs.declared.refused.Why.{Why}
@@ -38,8 +38,8 @@ unsealed None h seal is = tt
 unsealed (Some text) h seal is = is.journal
 
 -- the seal at its line is the one that was kept
-pub same_seal : (bytes : Option (List ℕ)) (kept : Option KeptSeal) (at : Option (List ℕ)) (is : Bool) → IfSome bytes (λ text. IsSealAt (line_of kept) (told text) at)
-    → ((bodies : List (List ℕ)) → IsSealAt (line_of kept) bodies at → IsTrue is ↔ HaveSeal kept bodies) → is ≡ true → IfSome bytes (λ text. HaveSeal kept (told text))
+pub same_seal : (bytes : Option (List ℕ)) (kept : Option KeptSeal) (at : Option (List ℕ)) (is : Bool) → IfSome bytes (λ text. IsSealAsked (line_of kept) (told text) at)
+    → ((bodies : List (List ℕ)) → IsSealAsked (line_of kept) bodies at → IsTrue is ↔ HaveSeal kept bodies) → is ≡ true → IfSome bytes (λ text. HaveSeal kept (told text))
 same_seal None kept at is there tells same = tt
 same_seal (Some text) kept at is there tells same = (tells (told text) there).0 same
 
@@ -114,8 +114,8 @@ module _ (bytes : Option (List ℕ)) where
     still_shows conn is = subst (λ (b : Held MemoryStore). Shows (state over_memory b) (tables_of rebuilt.history)) (sym is) built_shows
 
     -- its lines haven't the seal that was kept
-    pub other_seal : (kept : Option KeptSeal) (at : Option (List ℕ)) (is : Bool) → IfSome bytes (λ text. IsSealAt (line_of kept) (told text) at)
-        → ((bodies : List (List ℕ)) → IsSealAt (line_of kept) bodies at → IsTrue is ↔ HaveSeal kept bodies) → is ≡ false → HasOtherSeal bytes kept
+    pub other_seal : (kept : Option KeptSeal) (at : Option (List ℕ)) (is : Bool) → IfSome bytes (λ text. IsSealAsked (line_of kept) (told text) at)
+        → ((bodies : List (List ℕ)) → IsSealAsked (line_of kept) bodies at → IsTrue is ↔ HaveSeal kept bodies) → is ≡ false → HasOtherSeal bytes kept
     other_seal kept at is there tells none = record {
       history = rebuilt.history;
       journal = unsealed bytes rebuilt.history seal rebuilt.journal;
@@ -123,7 +123,7 @@ module _ (bytes : Option (List ℕ)) where
       other = none_of bytes there;
     }
       where
-        none_of : (bytes : Option (List ℕ)) → IfSome bytes (λ text. IsSealAt (line_of kept) (told text) at) → IfSome bytes (λ text. HaveSeal kept (told text) → ⊥)
+        none_of : (bytes : Option (List ℕ)) → IfSome bytes (λ text. IsSealAsked (line_of kept) (told text) at) → IfSome bytes (λ text. HaveSeal kept (told text) → ⊥)
         none_of None there = tt
         none_of (Some text) there = λ has. (let yes : IsTrue is = (tells (told text) there).1 has in let no : false ≡ true = sym none ∙ yes in absurd (let c : false ≡ true = no in cc))
 

@@ -1,5 +1,5 @@
 -- A seal that was kept of a journal.
-use Rattle.std.specs.Prelude.{◌≡◌, ◌≤◌, ℕ, List, length, take, Option, Some, None}
+use Rattle.std.specs.Prelude.{◌≡◌, ◌≤◌, ℕ, List, length, take, Option, Some, None, option_map}
 use Rattle.sealed_log.specs.Sealed.{seal_of}
 use Rattle.journal_verification.specs.declared.verification.KeptSeal.{KeptSeal}
 
@@ -9,7 +9,6 @@ HaveSeal None bodies = Unit {0}
 HaveSeal (Some kept) bodies =
     (kept.line ≤ length bodies) × (kept.seal ≡ seal_of (take kept.line bodies))
 
--- the line that is asked for; none is before the first
-abbrev pub line_of : Option KeptSeal → ℕ
-line_of None = 0
-line_of (Some kept) = kept.line
+-- the line of which the seal is asked for
+abbrev pub line_of : Option KeptSeal → Option ℕ
+line_of kept = option_map (λ k. k.line) kept

@@ -4,7 +4,7 @@ ghost use Rattle.std.specs.Prelude.{◌≡◌, ◌↔◌, ℕ, List, IfErr, IfOk
 ghost use Rattle.sqlite.specs.Held.{state};
 ghost use Rattle.sqlite.specs.State.{HasCleanDisk};
 ghost use Rattle.office_store.specs.Shown.{IsIdle};
-ghost use Rattle.journal.specs.SealsAt.{IsSealAt};
+ghost use Rattle.journal.specs.SealsAt.{IsSealAsked};
 ghost use Rattle.journal_verification.specs.KeptSeals.{HaveSeal, line_of};
 ghost use Rattle.journal_verification.specs.Looked.{HasLooked};
 ghost use Rattle.journal_verification.specs.Verified.{IsUnverified, IsVerified};
@@ -52,18 +52,18 @@ pub enum Unverified {
 }
 
 // The line of which the seal is asked for.
-fn line_of(kept: Option<KeptSeal>) -> u64
+fn line_of(kept: Option<KeptSeal>) -> Option<u64>
     ensures { result ≡ line_of kept }
 {
     match kept {
-        Some(kept) => kept.line,
-        None => 0,
+        Some(kept) => Some(kept.line),
+        None => None,
     }
 }
 
 // Whether that seal is the one that was kept.
 fn is_kept(kept: Option<KeptSeal>, at: Option<Seal>) -> bool
-    ensures { (bodies : List (List ℕ)) → IsSealAt (line_of kept) bodies at
+    ensures { (bodies : List (List ℕ)) → IsSealAsked (line_of kept) bodies at
         → IsTrue result ↔ HaveSeal kept bodies }
 {
     match (kept, at) {

@@ -35,7 +35,7 @@ use Rattle.office_policy.specs.Verdict.{Verdict, accepted, verdict}
 use Rattle.office_policy.specs.Lawful.{IsAllowed, IsLawfulHistory}
 use Rattle.office_policy.specs.TablesOf.{tables_of}
 use Rattle.office_policy.specs.Runs.{IsAnswer, answer_of, event_of, with_event}
-use Rattle.office_policy.specs.Handled.{AreWithEvent, HasRisen, HasStrayOf, IsFault, IsHandled, RefusesEvent, Stands, Survives, only_reads}
+use Rattle.office_policy.specs.Handled.{AreInPart, AreWithEvent, HasRisen, HasStrayOf, IsFault, IsHandled, RefusesEvent, Stands, Survives, only_reads}
 use Rattle.office_policy.specs.Happened.{event_by}
 use Rattle.office_policy.specs.Judging.{IsNext, IsPermitted, LeavesAll, answer_in, event_for}
 use Rattle.office_policy.proofs.AskedFacts.{changing}
@@ -96,6 +96,7 @@ module _ {S : Type 0} (g : Ghosts S) (old new : Held S) where
     closes = λ clean is_open. or_more (asks.written.leaves.survives.closes clean is_open);
     shut = λ clean. was_open_by (state g old).is_open (state g new).is_open (λ shut. (asks.written.leaves.shut clean shut).0);
     stays = λ e stray. stray;
+    grows = λ clean. tt;
   }
 
 -- this was allowed on a history to a user of then
@@ -231,6 +232,15 @@ module _ {S : Type 0} (g : Ghosts S) (before old new : Held S) (r : Request) (al
       → IsTrue (state g new).is_open ⊎ (HasRisen (state g before).faults (state g new).faults ⊎ Else)
   shuts result asks Else = closes_without (meaning_over g) before new Else (written_survives g before old new allowed (λ h. verdict h r) permitted.leaves granted result asks) (λ e none. none)
 
+  -- a crash leaves what it could, or the event too
+  in_part : (result : Result ⊤ TheFault) → Asks g (write_of allowed) old new result → (h : History) → IsOffice h (state g before) → HasCleanDisk (state g new) → (trees : Trees)
+      → (state g new).may_leave trees → (state g before).may_leave trees ⊎ AreInPart (meaning_over g) h (verdict h r) trees
+  in_part result asks h office clean trees may =
+      elim (written_crash g before old new allowed (λ h. verdict h r) permitted.leaves granted result asks h office clean trees may) [
+        | inl earlier ↦ inl earlier
+        | inr with_event ↦ inr (inl with_event)
+      ]
+
   -- it is written
   done : Asks g (write_of allowed) old new (Ok tt) → IsHandled (meaning_over g) before new r (Done allowed.reply)
   done asks =
@@ -251,7 +261,8 @@ module _ {S : Type 0} (g : Ghosts S) (before old new : Held S) (r : Request) (al
         };
         stands = λ h office clean. written_stands g before old new allowed (λ h. verdict h r) permitted.leaves granted asks h office clean (lawful h office);
         kept = λ clean reads. absurd (let k : only_reads r.ask ≡ true = reads in let c : true ≡ false = sym k ∙ changing allowed.caller.name r.ask (event_for allowed) permitted.asked in cc);
-        crash = written_crash g before old new allowed (λ h. verdict h r) permitted.leaves granted (Ok tt) asks;
+        adds = λ h office clean. tt;
+        crash = in_part (Ok tt) asks;
       }
 
   -- there was a fault
@@ -272,7 +283,8 @@ module _ {S : Type 0} (g : Ghosts S) (before old new : Held S) (r : Request) (al
         office = unwritten_office g before old new allowed (λ h. verdict h r) permitted.leaves granted fault asks;
         stands = λ h office clean. tt;
         kept = unwritten_kept g before old new allowed (λ h. verdict h r) permitted.leaves granted fault asks;
-        crash = written_crash g before old new allowed (λ h. verdict h r) permitted.leaves granted (Err fault) asks;
+        adds = λ h office clean. inl tt;
+        crash = in_part (Err fault) asks;
       }
 
   -- whatever it came to

@@ -85,6 +85,7 @@ module _ {S : Type 0} (g : Ghosts S) (old new : Held S) where
         closes = λ clean is_open. or_more (judged.survives.closes clean is_open);
         shut = λ clean. was_open_by (state g old).is_open (state g new).is_open (judged.shut clean);
         stays = λ e stray. stray;
+        grows = λ clean. tt;
       } in
       record {
         survives = survives;
@@ -95,10 +96,11 @@ module _ {S : Type 0} (g : Ghosts S) (old new : Held S) where
         };
         kept = λ clean. record { shut = survives.shut clean; same = λ settled. judged.same settled clean };
         crash = judged.crash;
+        adds = λ clean. tt;
         strays = λ e stray. stray;
       }
 
-  module _ (leaves : LeavesAll (meaning_over g) old new) (settled : IsSettled (state g new)) where
+  module _ (leaves : LeavesAll (meaning_over g) old new) (was_settled : IsSettled (state g old)) (settled : IsSettled (state g new)) where
     stands : (h : History) → IsOffice h (state g new) → HasCleanDisk (state g new) → IsTrue (state g new).is_open → Stands (meaning_over g) h new
     stands h office clean is_open = record { is_of = office; is_open = is_open; leaves = settled (tables_of h) (office.tables clean is_open) }
 
@@ -131,6 +133,7 @@ module _ {S : Type 0} (g : Ghosts S) (old new : Held S) where
                 office = unchanged none;
                 stands = λ h office clean. stands (with_event (event_of (verdict h r)) h) (unchanged none h office) clean (is_open clean);
                 kept = λ clean reads. leaves.kept clean;
+                adds = λ h office clean. tt;
                 crash = λ h office clean left may. inl (leaves.crash clean left may);
               };
               same = λ h office clean. ap (λ e. with_event e h) (none h office clean);
@@ -151,6 +154,7 @@ module _ {S : Type 0} (g : Ghosts S) (old new : Held S) where
                 office = unchanged none;
                 stands = λ h office clean. stands (with_event (event_of (verdict h r)) h) (unchanged none h office) clean (is_open clean);
                 kept = leaves.kept;
+                adds = λ h office clean. tt;
                 crash = λ h office clean left may. inl (leaves.crash clean left may);
               };
               same = λ h office clean. ap (λ e. with_event e h) (none h office clean);
@@ -174,6 +178,9 @@ module _ {S : Type 0} (g : Ghosts S) (old new : Held S) where
                 next = told.next;
                 lawful = requested_allowed h (event_for allowed) (record { request = r; formed = formed; reply = allowed.reply; allowed = told.verdict });
               };
+          stood = λ h office clean.
+              let before = leaves.survives.shut clean (is_open clean) in
+              record { is_of = office; is_open = before; leaves = was_settled (tables_of h) (office.tables (leaves.survives.clean clean) before) };
           stands = λ h office clean. stands h (leaves.office h office) clean (is_open clean);
         }
 
@@ -190,6 +197,7 @@ module _ {S : Type 0} (g : Ghosts S) (old new : Held S) where
           office = leaves.office;
           stands = λ h office clean. tt;
           kept = leaves.kept;
+          adds = λ h office clean. inl tt;
           crash = λ h office clean left may. inl (leaves.crash clean left may);
         };
         same = λ h office clean. refl;
@@ -197,31 +205,31 @@ module _ {S : Type 0} (g : Ghosts S) (old new : Held S) where
 
   -- whatever it came to
   pub judged_is : (r : Request) → is_token r.token ≡ true → HasForms r.ask → (result : Result Judgement Refusal) → JudgesRequest (state g old) (state g new) result r → IsAskedIfAllowed r.ask result
-      → (HasCleanDisk (state g new) → UnlessFault result (IsTrue (state g old).is_open)) → IsSettled (state g new) → (told : Judgement) → told ≡ judgement_of result → IsJudged (meaning_over g) old new r told
-  judged_is r token forms result judged has was_open settled told is = subst (IsJudged (meaning_over g) old new r) (sym is) (by_result result judged has was_open)
+      → (HasCleanDisk (state g new) → UnlessFault result (IsTrue (state g old).is_open)) → IsSettled (state g old) → IsSettled (state g new) → (told : Judgement) → told ≡ judgement_of result → IsJudged (meaning_over g) old new r told
+  judged_is r token forms result judged has was_open was_settled settled told is = subst (IsJudged (meaning_over g) old new r) (sym is) (by_result result judged has was_open)
     where
       by_result : (result : Result Judgement Refusal) → JudgesRequest (state g old) (state g new) result r → IsAskedIfAllowed r.ask result
           → (HasCleanDisk (state g new) → UnlessFault result (IsTrue (state g old).is_open)) → IsJudged (meaning_over g) old new r (judgement_of result)
       by_result (Ok (judgements.Answered (Done reply))) judged has was_open =
-          answered_done (left_all (Ok (judgements.Answered (Done reply))) (λ h. verdict h r) judged) settled r token forms (λ clean. judged.stays clean (was_open clean)) reply
+          answered_done (left_all (Ok (judgements.Answered (Done reply))) (λ h. verdict h r) judged) was_settled settled r token forms (λ clean. judged.stays clean (was_open clean)) reply
           (λ h office clean. judged.told h office.lawful (office.tables (judged.clean clean)) clean)
       by_result (Ok (judgements.Answered (Denied d fault))) judged has was_open =
-          answered_denied (left_all (Ok (judgements.Answered (Denied d fault))) (λ h. verdict h r) judged) settled r token forms (λ clean. judged.stays clean (was_open clean)) d fault
+          answered_denied (left_all (Ok (judgements.Answered (Denied d fault))) (λ h. verdict h r) judged) was_settled settled r token forms (λ clean. judged.stays clean (was_open clean)) d fault
           (λ h office clean. absurd (judged.told h office.lawful (office.tables (judged.clean clean)) clean))
       by_result (Ok (judgements.Answered (Fault fault))) judged has was_open =
-          answered_fault (left_all (Ok (judgements.Answered (Fault fault))) (λ h. verdict h r) judged) settled r token forms fault
+          answered_fault (left_all (Ok (judgements.Answered (Fault fault))) (λ h. verdict h r) judged) was_settled settled r token forms fault
           (λ h office clean. absurd (judged.told h office.lawful (office.tables (judged.clean clean)) clean))
           (λ h office clean. absurd (judged.told h office.lawful (office.tables (judged.clean clean)) clean))
       by_result (Ok (judgements.Allowed allowed)) judged has was_open =
-          permitted (left_all (Ok (judgements.Allowed allowed)) (λ h. verdict h r) judged) settled r token forms (λ clean. judged.stays clean (was_open clean)) allowed has
+          permitted (left_all (Ok (judgements.Allowed allowed)) (λ h. verdict h r) judged) was_settled settled r token forms (λ clean. judged.stays clean (was_open clean)) allowed has
           (λ h office clean. judged.told h office.lawful (office.tables (judged.clean clean)) clean)
       by_result (Err (refusals.Denied d fault)) judged has was_open =
-          answered_denied (left_all {A = Judgement} (Err (refusals.Denied d fault)) (λ h. verdict h r) judged) settled r token forms (λ clean. judged.stays clean (was_open clean)) d fault
+          answered_denied (left_all {A = Judgement} (Err (refusals.Denied d fault)) (λ h. verdict h r) judged) was_settled settled r token forms (λ clean. judged.stays clean (was_open clean)) d fault
           (λ h office clean. judged.told h office.lawful (office.tables (judged.clean clean)) clean)
       by_result (Err (refusals.Fault fault)) judged has was_open =
-          answered_fault (left_all {A = Judgement} (Err (refusals.Fault fault)) (λ h. verdict h r) judged) settled r token forms fault
+          answered_fault (left_all {A = Judgement} (Err (refusals.Fault fault)) (λ h. verdict h r) judged) was_settled settled r token forms fault
           (λ h office clean. passing h r fault (judged.told h office.lawful (office.tables (judged.clean clean)) clean))
           (λ h office clean.
           let shows = office.tables (judged.clean clean) in
           let leaves = left_all {A = Judgement} (Err (refusals.Fault fault)) (λ h. verdict h r) judged in
-          caused g old new h r fault (judged.told h office.lawful shows clean) (λ is. inl (leaves.kept clean, leaves.crash clean)) (inl (judged.cause h office.lawful shows clean)))
+          caused g old new h r fault (judged.told h office.lawful shows clean) (λ is. inl (leaves.kept clean, λ left may. inl (leaves.crash clean left may))) (inl (judged.cause h office.lawful shows clean)))

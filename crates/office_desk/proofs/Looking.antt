@@ -59,6 +59,7 @@ module _ {S : Type 0} (g : Ghosts S) (old new : Held S) where
         closes = λ clean is_open. or_more (read.leaves.survives.closes clean is_open);
         shut = λ clean. was_open_by (state g old).is_open (state g new).is_open (λ shut. (read.leaves.shut clean shut).0);
         stays = λ e stray. stray;
+        grows = λ clean. tt;
       } in
       record {
         survives = survives;
@@ -69,6 +70,7 @@ module _ {S : Type 0} (g : Ghosts S) (old new : Held S) where
         };
         kept = λ clean. record { shut = survives.shut clean; same = λ settled. read.same settled clean };
         crash = read.crash;
+        adds = λ clean. tt;
         strays = λ e stray. stray;
       }
 

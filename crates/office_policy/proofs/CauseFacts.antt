@@ -6,8 +6,9 @@ use Rattle.review_policy.specs.declared.answer.Answer.TheVariants.{Done, Denied,
 use Rattle.review_policy.specs.declared.fault.Fault.{Fault as TheFault}
 use Rattle.review_policy.specs.declared.fault.Fault.TheVariants as faults
 use Rattle.office_policy.specs.History.{History}
+use Rattle.office_policy.specs.Verdict.{Verdict, verdict}
 use Rattle.office_policy.specs.Meaning.{Meaning}
-use Rattle.office_policy.specs.Handled.{HasRisen, IsMet, IsUnwritten, HasCause, IsHandled}
+use Rattle.office_policy.specs.Handled.{HasRisen, IsMet, LeavesUndone, IsUnwritten, HasCause, IsHandled}
 use Rattle.office_policy.specs.Ran.{HandlesEach}
 
 risen_before : (a b c : ℕ) → HasRisen a b → b ≤ c → HasRisen a c
@@ -18,14 +19,14 @@ module _ {X : Type 0} (m : Meaning X) where
   met_before old mid new h r fault after (inl risen) = inl (risen_before (m.faults old) (m.faults mid) (m.faults new) risen after)
   met_before old mid new h r fault after (inr refused) = inr refused
 
-  pub unwritten_on : (old mid new : X) → IsUnwritten m old mid → IsUnwritten m mid new → IsUnwritten m old new
-  unwritten_on old mid new first then = (m.keeps_on old mid new first.0 then.0, λ left may. first.1 left (then.1 left may))
+  undone_on : (old mid new : X) (h : History) (v : Verdict) → LeavesUndone m old mid h v → IsUnwritten m mid new → LeavesUndone m old new h v
+  undone_on old mid new h v first then = (m.keeps_on old mid new first.0 then.0, λ left may. first.1 left (then.1 left may))
 
   -- a call after which nothing was written
   pub cause_before : (old mid new : X) (h : History) (r : Request) (a : Answer) → IsUnwritten m mid new → m.faults mid ≤ m.faults new → HasCause m old mid h r a → HasCause m old new h r a
   cause_before old mid new h r (Done reply) then after cause = tt
   cause_before old mid new h r (Denied denial fault) then after cause = tt
-  cause_before old mid new h r (Fault faults.NoMemory) then after (inl unwritten) = inl (unwritten_on old mid new unwritten then)
+  cause_before old mid new h r (Fault faults.NoMemory) then after (inl undone) = inl (undone_on old mid new h (verdict h r) undone then)
   cause_before old mid new h r (Fault faults.NoMemory) then after (inr refused) = inr refused
   cause_before old mid new h r (Fault faults.Disk) then after cause = λ is_open. met_before old mid new h r faults.Disk after (cause is_open)
   cause_before old mid new h r (Fault faults.Full) then after cause = met_before old mid new h r faults.Full after cause

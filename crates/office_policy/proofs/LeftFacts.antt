@@ -7,7 +7,7 @@ use Rattle.office_policy.specs.History.{History}
 use Rattle.office_policy.specs.Verdict.{verdict}
 use Rattle.office_policy.specs.Runs.{history_after, history_after_all}
 use Rattle.office_policy.specs.Meaning.{Meaning}
-use Rattle.office_policy.specs.Handled.{LeavesOnly, AreWithEvent, IsHandled}
+use Rattle.office_policy.specs.Handled.{LeavesOnly, AreInPart, IsHandled}
 use Rattle.office_policy.specs.Left.{LeftAfterOne, LeftAfter, AreOfFaulty, AreLeft}
 
 module _ {X : Type 0} (m : Meaning X) where
@@ -36,7 +36,7 @@ module _ {X : Type 0} (m : Meaning X) where
 
   later_faulty : (h : History) (x : Request) (rs : List Request) (b : Answer) (told : List Answer) (rest : m.Left)
       → AreOfFaulty m h rs told rest → AreOfFaulty m h (x ∷ rs) (b ∷ told) rest
-  later_faulty h x rs b told rest it = record { at = suc it.at; request = it.request; fault = it.fault; asked = it.asked; told = it.told; with_event = it.with_event }
+  later_faulty h x rs b told rest it = record { at = suc it.at; request = it.request; fault = it.fault; asked = it.asked; told = it.told; in_part = it.in_part }
 
   later : (h : History) (x : Request) (rs : List Request) (b : Answer) (told : List Answer) (rest : m.Left)
       → AreLeft m h rs told rest → AreLeft m h (x ∷ rs) (b ∷ told) rest
@@ -73,7 +73,7 @@ module _ {X : Type 0} (m : Meaning X) where
             fault = fault;
             asked = refl;
             told = refl;
-            with_event = subst (λ (k : History). AreWithEvent m k (verdict k x) rest) (sym from.1) written;
+            in_part = subst (λ (k : History). AreInPart m k (verdict k x) rest) (sym from.1) written;
           }))
         ]
         | inr left ↦ inr (later (history_after_all h rs told) x rs (Fault fault) told rest left)

@@ -33,6 +33,7 @@ module _ {X : Type 0} (m : Meaning X) where
         ];
     shut = λ clean is_open. first.shut (then.clean clean) (then.shut clean is_open);
     stays = λ e stray. then.stays e (first.stays e stray);
+    grows = λ clean. m.grows_on old mid new (first.grows (then.clean clean)) (then.grows clean);
   }
 
   -- no call
@@ -43,6 +44,7 @@ module _ {X : Type 0} (m : Meaning X) where
     closes = λ clean is_open. inl is_open;
     shut = λ clean is_open. is_open;
     stays = λ e stray. stray;
+    grows = λ clean. m.grows_itself x;
   }
 
   -- where no stray came only a fault shuts it
@@ -70,5 +72,6 @@ module _ {X : Type 0} (m : Meaning X) where
     office = λ h of. of;
     kept = λ clean. m.keeps_itself x;
     crash = λ clean left may. may;
+    adds = λ clean. m.adds_none x;
     strays = λ e stray. stray;
   }

@@ -12,7 +12,7 @@ use Rattle.office_policy.specs.History.{Event, History}
 use Rattle.office_policy.specs.Verdict.{Verdict, accepted, denied, verdict}
 use Rattle.office_policy.specs.Runs.{IsAnswer, history_after}
 use Rattle.office_policy.specs.Headline.{GivesOutApproved}
-use Rattle.office_policy.specs.Meaning.{Meaning}
+use Rattle.office_policy.specs.Meaning.{Meaning, Entry, no_entry, entry_of, struck_entry_of}
 
 -- whether what is asked changes nothing, whatever it is answered
 abbrev pub only_reads : Ask → Bool
@@ -43,6 +43,12 @@ IsFault _ = ⊥
 abbrev pub HasRisen : ℕ → ℕ → Type 0
 HasRisen old new = min (old + 1) (2 ^ 64 - 1) ≤ new
 
+-- the event of a verdict as it is written down, where it has one
+abbrev pub entry_in : Verdict → Entry
+entry_in (accepted reply (Some e)) = entry_of e
+entry_in (accepted reply None) = no_entry
+entry_in (denied denial fault) = no_entry
+
 module _ {X : Type 0} (m : Meaning X) where
   -- what it keeps its tables in refuses the event of the verdict with this fault
   abbrev pub RefusesEvent : X → History → Verdict → TheFault → Type 0
@@ -61,10 +67,34 @@ module _ {X : Type 0} (m : Meaning X) where
   IsUnwritten old new =
       m.keeps old new × ((left : m.Left) → m.may_leave new left → m.may_leave old left)
 
-  -- memory was lacking before anything was written, or for what the request is to write
+  -- what is left is the office of the history with the event of the verdict, where it has one
+  abbrev pub AreWithEvent : History → Verdict → m.Left → Type 0
+  AreWithEvent h (accepted reply (Some e)) left = m.are_of (e ∷ h) left
+  AreWithEvent h (accepted reply None) left = ⊥
+  AreWithEvent h (denied denial fault) left = ⊥
+
+  -- what is left is the office of the history, behind which the event of the verdict was begun
+  abbrev pub AreBegun : History → Verdict → m.Left → Type 0
+  AreBegun h (accepted reply (Some e)) left = m.are_begun h e left
+  AreBegun h (accepted reply None) left = ⊥
+  AreBegun h (denied denial fault) left = ⊥
+
+  -- what is left has the event of the verdict, or what was begun of it
+  abbrev pub AreInPart : History → Verdict → m.Left → Type 0
+  AreInPart h v left = AreWithEvent h v left ⊎ AreBegun h v left
+
+  -- nothing happened: it has what it had, and a crash leaves nothing that it couldn't leave before, but
+  -- what was begun of the event of the verdict
+  abbrev pub LeavesUndone : (old new : X) → History → Verdict → Type 0
+  LeavesUndone old new h v =
+      m.keeps old new
+      × ((left : m.Left) → m.may_leave new left → m.may_leave old left ⊎ AreBegun h v left)
+
+  -- memory was lacking before anything happened, or for what the request is to write
   abbrev pub LacksMemory : (old new : X) → History → Request → Type 0
   LacksMemory old new h request =
-      IsUnwritten old new ⊎ RefusesEvent old h (verdict h request) faults.NoMemory
+      LeavesUndone old new h (verdict h request)
+      ⊎ RefusesEvent old h (verdict h request) faults.NoMemory
 
   -- a fault other than `memory` was met so, or it is `disk` and the office was shut before;
   -- none is for the form of its tables
@@ -77,11 +107,18 @@ module _ {X : Type 0} (m : Meaning X) where
   HasCause old new h request (Fault faults.Full) = IsMet old new h request faults.Full
   HasCause old new h request (Fault faults.NotAnOffice) = ⊥
 
-  -- what is left is the office of the history with the event of the verdict, where it has one
-  abbrev pub AreWithEvent : History → Verdict → m.Left → Type 0
-  AreWithEvent h (accepted reply (Some e)) left = m.are_of (e ∷ h) left
-  AreWithEvent h (accepted reply None) left = ⊥
-  AreWithEvent h (denied denial fault) left = ⊥
+  -- the event of the verdict was written down, and that it is struck out
+  abbrev pub AddsStruck : Verdict → (old new : X) → Type 0
+  AddsStruck (accepted reply (Some e)) old new = m.adds (struck_entry_of e) old new
+  AddsStruck (accepted reply None) old new = ⊥
+  AddsStruck (denied denial fault) old new = ⊥
+
+  -- of what was done the event is written down, of what was denied nothing; and of a fault nothing, or
+  -- the event and that it is struck out
+  abbrev pub AddsBy : Verdict → Answer → (old new : X) → Type 0
+  AddsBy v (Done reply) old new = m.adds (entry_in v) old new
+  AddsBy v (Denied denial fault) old new = m.adds no_entry old new
+  AddsBy v (Fault fault) old new = m.adds no_entry old new ⊎ AddsStruck v old new
 
   -- a crash leaves the office of this history and no other
   abbrev pub LeavesOnly : History → X → Type 0
@@ -116,6 +153,8 @@ module _ {X : Type 0} (m : Meaning X) where
     pub shut : m.is_clean new → m.is_open new → m.is_open old
     -- a stray stays one
     pub stays : (e : Event) → m.is_stray e old → m.is_stray e new
+    -- what was written down of events is not lost, nor changed
+    pub grows : m.is_clean new → m.grows old new
 
   -- a request was handled, and answered by this
   pub record IsHandled (old new : X) (request : Request) (told : Answer) : Type 0 where
@@ -137,7 +176,10 @@ module _ {X : Type 0} (m : Meaning X) where
         → UnlessFaulty told (Stands (history_after h request told) new)
     -- where nothing was changed it has what it had, whatever that is
     pub kept : m.is_clean new → UnlessChanged request.ask told (m.keeps old new)
+    -- just what was answered is written down
+    pub adds : (h : History) → m.is_of h old → m.is_clean new
+        → AddsBy (verdict h request) told old new
     -- a crash may leave what it could leave before, or the office with the event of the verdict,
-    -- where it has one
+    -- where it has one, or with what was begun of it
     pub crash : (h : History) → m.is_of h old → m.is_clean new → (left : m.Left)
-        → m.may_leave new left → m.may_leave old left ⊎ AreWithEvent h (verdict h request) left
+        → m.may_leave new left → m.may_leave old left ⊎ AreInPart h (verdict h request) left

@@ -21,7 +21,7 @@ use Rattle.office_policy.specs.Formed.{HasForms, IsFormed}
 use Rattle.office_policy.specs.Lawful.{IsAllowed}
 use Rattle.office_policy.specs.Asked.{IsAsked}
 use Rattle.office_policy.specs.Runs.{history_after}
-use Rattle.office_policy.specs.Meaning.{Meaning}
+use Rattle.office_policy.specs.Meaning.{Meaning, no_entry}
 use Rattle.office_policy.specs.Handled.{IsHandled, Stands, Survives}
 
 -- the event of what was allowed
@@ -61,6 +61,7 @@ module _ {X : Type 0} (m : Meaning X) where
     pub kept : m.is_clean new → m.keeps old new
     pub crash : m.is_clean new → (left : m.Left) → m.may_leave new left → m.may_leave old left
     -- and no event was written down
+    pub adds : m.is_clean new → m.adds no_entry old new
     pub strays : (e : Event) → m.is_stray e new → m.is_stray e old
 
   -- the request was answered, and changed nothing
@@ -76,6 +77,8 @@ module _ {X : Type 0} (m : Meaning X) where
     pub forms : HasForms r.ask
     pub asked : IsAsked a.caller.name r.ask (Some (event_for a))
     pub allowed : (h : History) → m.is_of h old → m.is_clean new → IsAllowedTo h r a
+    -- the office stands, and stood before
+    pub stood : (h : History) → m.is_of h old → m.is_clean new → Stands m h old
     pub stands : (h : History) → m.is_of h old → m.is_clean new → Stands m h new
 
   -- what judging a request comes to

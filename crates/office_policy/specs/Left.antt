@@ -8,14 +8,15 @@ use Rattle.office_policy.specs.History.{History}
 use Rattle.office_policy.specs.Verdict.{verdict}
 use Rattle.office_policy.specs.Runs.{history_after}
 use Rattle.office_policy.specs.Meaning.{Meaning}
-use Rattle.office_policy.specs.Handled.{AreWithEvent}
+use Rattle.office_policy.specs.Handled.{AreInPart}
 
 module _ {X : Type 0} (m : Meaning X) where
   -- after a fault it may leave what it might leave before, or the office with the event of the
-  -- verdict; after any other answer the office of the history after it, and no other
+  -- verdict or what was begun of that; after any other answer the office of the history after it, and no
+  -- other
   abbrev pub LeftAfterOne : (m.Left → Type 0) → History → Request → Answer → m.Left → Type 0
   LeftAfterOne Before h r (answered.Fault fault) left =
-      Before left ⊎ AreWithEvent m h (verdict h r) left
+      Before left ⊎ AreInPart m h (verdict h r) left
   LeftAfterOne Before h r answer left = m.are_of (history_after h r answer) left
 
   -- what may be left after requests that were answered one after the other
@@ -25,7 +26,8 @@ module _ {X : Type 0} (m : Meaning X) where
       requests answers
   LeftAfter Before h _ _ = Before
 
-  -- what is left is the office with the event of one of the requests, which was answered by a fault
+  -- what is left is the office with the event of one of the requests, which was answered by a fault, or
+  -- with what was begun of that event
   pub record AreOfFaulty
       (h : History) (requests : List Request) (answers : List Answer)
       (left : m.Left) : Type 0 where
@@ -34,9 +36,9 @@ module _ {X : Type 0} (m : Meaning X) where
     pub fault : Fault
     pub asked : slice_get requests at ≡ Some request
     pub told : slice_get answers at ≡ Some (answered.Fault fault)
-    pub with_event : AreWithEvent m h (verdict h request) left
+    pub in_part : AreInPart m h (verdict h request) left
 
-  -- what is left is the office of the history, or of that with one event more of a request answered
-  -- by a fault
+  -- what is left is the office of the history, or of that with one event more, or a begun one, of a
+  -- request answered by a fault
   abbrev pub AreLeft : History → List Request → List Answer → m.Left → Type 0
   AreLeft h requests answers left = m.are_of h left ⊎ AreOfFaulty h requests answers left

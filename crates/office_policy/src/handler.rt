@@ -26,8 +26,8 @@ pub trait Handler {
     /// Handles the requests in their order, and gives an answer to each.
     ///
     /// After a crash what is left is the office of the last history, or that office with one event
-    /// more: that of a request of this call that was answered by a fault, as a fault may come once
-    /// what was asked for is written.
+    /// more, or with what was begun of one: that of a request of this call that was answered by a
+    /// fault, as a fault may come once what was asked for is written.
     ///
     /// # Errors
     ///

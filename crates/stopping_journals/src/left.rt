@@ -37,7 +37,7 @@ struct Told {
 impl Told {
     fn of(alloc: Global, text: &[u8]) -> Result<Told, Fail> {
         let conn = at_rest(Connection::open_in_memory(alloc)?)?;
-        match rebuild(alloc, conn, text, 0) {
+        match rebuild(alloc, conn, text, None) {
             Ok(rebuilt) => {
                 let seal = rebuilt.seal;
                 let Rebuilt {

@@ -1,11 +1,22 @@
 //! What an office keeps of its journal, and what lines say.
 
-ghost use Rattle.std.specs.Prelude.{◌≡◌, [], ◌∷◌, Some, None};
+ghost use Rattle.std.specs.Prelude.{◌≡◌, ℕ, List, [], ◌∷◌, Option, Some, None, Err};
+ghost use Rattle.review_policy.specs.declared.answer.Answer.TheVariants.{Done, Denied, Fault};
+ghost use Rattle.review_policy.specs.declared.answer.Reply.{Reply};
+ghost use Rattle.review_policy.specs.declared.denial.Denial.{Denial};
+ghost use Rattle.review_policy.specs.declared.fault.Fault.{Fault as TheFault};
+ghost use Rattle.review_policy.specs.declared.fault.Fault.TheVariants as faults;
+ghost use Rattle.office_policy.specs.Handled.{AddsBy};
+ghost use Rattle.office_policy.specs.Meaning.{entry_of, no_entry, struck_entry_of};
+ghost use Rattle.office_policy.specs.Verdict.{Verdict, accepted};
 ghost use Rattle.journal.specs.Journal.{history_in};
-ghost use Rattle.journal.specs.Journals.{HasSettled, KeepsJournal};
+ghost use Rattle.journal.specs.Journals.{Adds, Grows, HasSettled, IsSettled, KeepsJournal};
+ghost use Rattle.journal.specs.declared.journaled.Journaled.{Journaled};
 ghost use Rattle.journal.specs.Lines.{happened, strike, done, text_of};
-ghost use Rattle.example_tests.specs.Examples.{enrols, enrolment, founds, founding, quiet};
-ghost use Rattle.example_tests.specs.JournalExamples.{one, two, paged, with_bodies, with_stray};
+ghost use Rattle.example_tests.specs.Examples.{Sketch, counting, enrols, enrolment, founds};
+ghost use Rattle.example_tests.specs.Examples.{founding, grown, quiet};
+ghost use Rattle.example_tests.specs.JournalExamples.{Pages, one, two, paged, with_bodies};
+ghost use Rattle.example_tests.specs.JournalExamples.{with_stray, with_unsettled};
 
 /// A journal that goes on has the lines that it had, and behind them events that are struck out,
 /// each with the line before it that settles one that isn't.
@@ -32,13 +43,77 @@ pub fn examples_of_kept_journals()
         (with_bodies (one ∷ [])) → ⊥ }
 {}
 
+/// One entry is written down: no line, that of an event, or that and its strike; and before them the
+/// line that settles the last event, where none does. No more, no less, and no other.
+pub fn examples_of_what_is_written_down()
+    ensures nothing { Adds quiet paged no_entry (with_bodies (one ∷ [])) (with_bodies (one ∷ [])) }
+    ensures event { Adds quiet paged (entry_of enrols) (with_bodies (one ∷ []))
+        (with_bodies (one ∷ text_of (happened enrols) ∷ [])) }
+    ensures settled { Adds quiet paged (entry_of enrols) (with_unsettled (one ∷ []))
+        (with_bodies (one ∷ text_of (done 1) ∷ text_of (happened enrols) ∷ [])) }
+    ensures struck { Adds quiet paged (struck_entry_of enrols) (with_bodies (one ∷ []))
+        (with_bodies (one ∷ text_of (happened enrols) ∷ text_of strike ∷ [])) }
+    ensures ended { Adds quiet paged no_entry (with_bodies (one ∷ [])) (with_stray []) }
+    ensures more_than_nothing { Adds quiet paged no_entry (with_bodies (one ∷ []))
+        (with_bodies (one ∷ text_of (happened enrols) ∷ text_of strike ∷ [])) → ⊥ }
+    ensures not_settled { Adds quiet paged (entry_of enrols) (with_unsettled (one ∷ []))
+        (with_bodies (one ∷ text_of (happened enrols) ∷ [])) → ⊥ }
+    ensures struck_twice { Adds quiet paged (struck_entry_of enrols) (with_bodies (one ∷ []))
+        (with_bodies (one ∷ text_of (happened enrols) ∷ text_of strike ∷ text_of (happened enrols)
+        ∷ text_of strike ∷ [])) → ⊥ }
+    ensures missing { Adds quiet paged no_entry (with_bodies (one ∷ two ∷ []))
+        (with_bodies (one ∷ [])) → ⊥ }
+    ensures settled_at_once { Adds quiet paged no_entry (with_unsettled (one ∷ []))
+        (with_bodies (one ∷ [])) → ⊥ }
+    ensures ended_before { Adds quiet paged no_entry (with_stray (one ∷ []))
+        (with_bodies (one ∷ [])) → ⊥ }
+{}
+
+/// A journal grows where all that it had is there still, in its lines and in what a crash leaves.
+pub fn examples_of_journals_that_grow()
+    ensures same { Grows quiet paged (with_bodies (one ∷ [])) (with_bodies (one ∷ [])) }
+    ensures more { Grows quiet paged (with_bodies (one ∷ [])) (with_bodies (one ∷ two ∷ [])) }
+    ensures missing { Grows quiet paged (with_bodies (one ∷ two ∷ [])) (with_bodies (one ∷ [])) → ⊥ }
+    ensures changed { Grows quiet paged (with_bodies (one ∷ [])) (with_bodies (two ∷ [])) → ⊥ }
+    ensures left_without { Grows quiet paged (with_bodies (one ∷ [])) (with_stray []) → ⊥ }
+    ensures ended_before { Grows quiet paged (with_stray (one ∷ [])) (with_bodies (one ∷ [])) → ⊥ }
+{}
+
+/// What was done is written down, what was denied isn't, and of a fault only what is struck out.
+pub fn examples_of_what_an_answer_adds()
+    ensures done { (reply : Reply) → AddsBy quiet (accepted reply (Some enrols)) (Done reply)
+        (counting 3) (grown 3) }
+    ensures read { (reply : Reply) → AddsBy quiet (accepted reply None) (Done reply)
+        (counting 3) (counting 3) }
+    ensures fault { (v : Verdict) (f : TheFault) → AddsBy quiet v (Fault f) (counting 3)
+        (counting 3) }
+    ensures not_done { (reply : Reply) → AddsBy quiet (accepted reply (Some enrols)) (Done reply)
+        (counting 3) (counting 3) → ⊥ }
+    ensures read_written { (reply : Reply) → AddsBy quiet (accepted reply None) (Done reply)
+        (counting 3) (grown 3) → ⊥ }
+    ensures denied_written { (v : Verdict) (d : Denial) (told : Option (List ℕ))
+        → AddsBy quiet v (Denied d told) (counting 3) (grown 3) → ⊥ }
+    ensures fault_written { (v : Verdict) (f : TheFault) → AddsBy quiet v (Fault f) (counting 3)
+        (grown 3) → ⊥ }
+{}
+
+/// The last event isn't settled for a fault that no call met.
+pub fn examples_of_faults_while_settling()
+    ensures disk { (new : Journaled Sketch Pages) → IsSettled quiet paged
+        (with_unsettled (one ∷ [])) new (Err faults.Disk) → ⊥ }
+    ensures room { (new : Journaled Sketch Pages) → IsSettled quiet paged
+        (with_unsettled (one ∷ [])) new (Err faults.Full) → ⊥ }
+    ensures form { (old new : Journaled Sketch Pages) → IsSettled quiet paged old new
+        (Err faults.NotAnOffice) → ⊥ }
+{}
+
 /// Lines are settled by none more, or by the one that says of the last that it is carried out.
 pub fn examples_of_settled_lines()
-    ensures none_more { HasSettled quiet paged (one ∷ []) (one ∷ []) }
-    ensures carried_out { HasSettled quiet paged (one ∷ []) (one ∷ text_of (done 1) ∷ []) }
-    ensures other_line { HasSettled quiet paged (one ∷ []) (one ∷ text_of (done 2) ∷ []) → ⊥ }
-    ensures struck { HasSettled quiet paged (one ∷ []) (one ∷ text_of strike ∷ []) → ⊥ }
-    ensures missing { HasSettled quiet paged (one ∷ []) [] → ⊥ }
+    ensures none_more { HasSettled (one ∷ []) (one ∷ []) }
+    ensures carried_out { HasSettled (one ∷ []) (one ∷ text_of (done 1) ∷ []) }
+    ensures other_line { HasSettled (one ∷ []) (one ∷ text_of (done 2) ∷ []) → ⊥ }
+    ensures struck { HasSettled (one ∷ []) (one ∷ text_of strike ∷ []) → ⊥ }
+    ensures missing { HasSettled (one ∷ []) [] → ⊥ }
 {}
 
 /// The events that stand, the newest first: one that is struck out doesn't, and nothing is said

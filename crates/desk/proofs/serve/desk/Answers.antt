@@ -1,6 +1,6 @@
 use Rattle.std.proofs.Common.{◌∙◌, Err, refl, sym, ap, arith}
 use Rattle.streams.specs.Held.{size}
-use Rattle.desk.proofs.ServeFacts.{progress_none, progress_read, progress_more, none_has, passed_on, none_leaves, some_leaves, served_leaves, all_answered, unfinished, next_whole, next_last, served_handled, served_later, last_answered, stands_passed, stands_last}
+use Rattle.desk.proofs.ServeFacts.{progress_none, progress_read, progress_more, none_has, passed_on, all_answered, unfinished, next_whole, next_last, served_handled, served_later, last_answered, stands_passed, stands_last}
 use Rattle.desk.proofs.serve.desk.Goals as goal
 
 pub returns-in-Err-clause-handled : goal.returns-in-Err-clause-handled
@@ -94,32 +94,3 @@ pub returns-in-TooManyReads-clause-stopped :
 returns-in-TooManyReads-clause-stopped g c =
     let read = progress_read g.H.Handler.meaning _ _ _ _ _ _ _ _ _ _ c.loop-office.invariant.progress c.in-TooManyReads.ensures.handed in
     unfinished g.H.Handler.meaning _ _ _ _ _ _ _ _ read c.in-TooManyReads.ensures.found
-
-pub returns-in-Err-clause-left : goal.returns-in-Err-clause-left
-returns-in-Err-clause-left g c =
-    none_leaves g.H.Handler.meaning _ _
-
-pub returns-in_err-serve_first-in-Line-clause-left : goal.returns-in_err-serve_first-in-Line-clause-left
-returns-in_err-serve_first-in-Line-clause-left g c =
-    let read = progress_read g.H.Handler.meaning _ _ _ _ _ _ _ _ _ _ c.loop-office.invariant.progress c.in-Line.ensures.handed in
-    let next = next_whole g.H.Handler.meaning _ _ _ _ _ _ _ _ read c.in-Line.ensures.found in
-    served_leaves g.H.Handler.meaning _ _ _ _ _ _ _ _ _ _ read next (Err c.in_err-serve_first-in-Line.field-0.0) c.in_err-serve_first-in-Line.ensures.told
-
-pub returns-in-LastLine-clause-left : goal.returns-in-LastLine-clause-left
-returns-in-LastLine-clause-left g c =
-    let read = progress_read g.H.Handler.meaning _ _ _ _ _ _ _ _ _ _ c.loop-office.invariant.progress c.in-LastLine.ensures.handed in
-    let found = c.in-LastLine.ensures.found in
-    let next = next_last g.H.Handler.meaning _ _ _ _ _ _ _ _ read found.0 found.1 found.2 in
-    served_leaves g.H.Handler.meaning _ _ _ _ _ _ _ _ _ _ read next c.serve_first-in-LastLine.result c.serve_first-in-LastLine.ensures.told
-
-pub returns-in-End-clause-left : goal.returns-in-End-clause-left
-returns-in-End-clause-left g c =
-    some_leaves g.H.Handler.meaning _ _ _ _ _ _ _ _ c.loop-office.invariant.progress
-
-pub returns-in-Failed-clause-left : goal.returns-in-Failed-clause-left
-returns-in-Failed-clause-left g c =
-    some_leaves g.H.Handler.meaning _ _ _ _ _ _ _ _ c.loop-office.invariant.progress
-
-pub returns-in-TooManyReads-clause-left : goal.returns-in-TooManyReads-clause-left
-returns-in-TooManyReads-clause-left g c =
-    some_leaves g.H.Handler.meaning _ _ _ _ _ _ _ _ c.loop-office.invariant.progress

@@ -1,7 +1,7 @@
 use Rattle.std.proofs.Common.{rules, ◌≡◌, Err, ◌∙◌, ◌∷◌, [], ℕ, List, sym, subst}
 use Rattle.office_desk.specs.Meant.{meaning_over}
 use Rattle.journal.specs.Told.{place, placed_meant}
-use Rattle.journal.proofs.SeenFacts.{seen_whole}
+use Rattle.journal.proofs.SeenFacts.{seen_asked}
 use Rattle.journal_office.specs.Rebuilt.{IsRebuilt, IsRefused}
 use Rattle.journal_office.proofs.Refusals.{none_behind}
 use Rattle.journal_office.proofs.Unlawful.{refutes}
@@ -47,4 +47,5 @@ returns-in-Ok-clause-at g c =
     let bytes = g.R.Read.remaining c.args.journal in
     let end = c.replay_rest-replayed.new.replay.events in
     let seen = c.in-Ok.ensures.seen bytes c.in_ok-replay.ensures.seen in
-    seen_whole bytes (place g.R.Read.remaining end) end.at c.args.line c.seal_at-at.result (c.in-Ok.ensures.line ∙ c.in_ok-replay.ensures.line) seen.1 seen.0 c.seal_at-at.ensures
+    seen_asked bytes (place g.R.Read.remaining end) end.at c.kept_lines.result c.args.line c.seal_asked-at.result (c.in-Ok.ensures.line ∙ c.in_ok-replay.ensures.line) c.kept_lines.ensures
+    seen.1 seen.0 c.seal_asked-at.ensures

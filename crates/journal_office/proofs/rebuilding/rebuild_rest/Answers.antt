@@ -14,7 +14,7 @@ pub returns-in_err-placed : goal.returns-in_err-placed
 returns-in_err-placed g c = λ bytes es all one.
     let before = c.events.invariant.replayed bytes es all one in
     left_by (meaning_over g.S.Store) bytes _ _ _ _ _ c.from_residual.result c.in_err-placed.field-0.0 c.from_residual.ensures.1
-    (c.in_err-placed.ensures.halted bytes before.0 before.1)
+    (c.in_err-placed.ensures.halted bytes before.0 before.1 (omega (arith, before.2)))
 
 pub returns-in_err-happen : goal.returns-in_err-happen
 returns-in_err-happen g c = λ bytes es all one.

@@ -1,10 +1,10 @@
-use Rattle.std.proofs.Common.{inl, inr, refl, subst, arith, ℕ, IfSome}
+use Rattle.std.proofs.Common.{inl, inr, refl, subst, arith, ℕ, IfSome, Option}
 use Rattle.sqlite.specs.Held.{Held, state}
 use Rattle.memory_database.specs.MemoryStore.{MemoryStore, over_memory}
 use Rattle.memory_database.proofs.MemoryFacts.{memory_is_clean}
 use Rattle.office_policy.specs.TablesOf.{tables_of}
 use Rattle.sealed_log.specs.Told.{told}
-use Rattle.journal.specs.SealsAt.{IsSealAt}
+use Rattle.journal.specs.SealsAt.{IsSealAsked}
 use Rattle.journal_verification.specs.Compared.{Differs}
 use Rattle.journal_verification.proofs.Looks.{looked_itself}
 use Rattle.journal_verification.proofs.Verifying.{ahead, not_rebuilt, other, other_seal, same_seal, still_shows, verified}
@@ -19,7 +19,7 @@ returns-in-Ok-None-clause-verified g c clean =
     let shows = still_shows bytes anew.office anew.events anew.seal anew.lines rebuilt c.into_connection-built.result c.into_connection-built.ensures.connection in
     verified bytes anew.office anew.events anew.seal anew.lines rebuilt g.T.Store c.compare.new.office c.compare.ensures.office.idle (g.met.T.Store.settled c.compare.new.office.store)
     (rw c.in-Ok-None.field-0-is at (c.in-Ok-None.ensures.told t shows (memory_is_clean c.compare.new.built) clean)) c.args.kept
-    (same_seal bytes c.args.kept anew.at c.is_kept.result (subst (λ (n : ℕ). IfSome bytes (λ text. IsSealAt n (told text) anew.at)) c.line_of.ensures c.in-Ok-rebuild.ensures.at) c.is_kept.ensures c.if-not-is_kept.false)
+    (same_seal bytes c.args.kept anew.at c.is_kept.result (subst (λ (n : Option ℕ). IfSome bytes (λ text. IsSealAsked n (told text) anew.at)) c.line_of.ensures c.in-Ok-rebuild.ensures.at) c.is_kept.ensures c.if-not-is_kept.false)
     c.args.mark (let few = c.if-lines-mark.false in omega (arith, few))
 
 pub returns-in-Ok-Some-clause-unverified : goal.returns-in-Ok-Some-clause-unverified
@@ -69,4 +69,4 @@ returns-then-not-is_kept-clause-unverified g c clean =
     let bytes = g.R.Read.remaining c.args.journal in
     let anew = c.in-Ok-rebuild.rebuilt in
     other_seal bytes anew.office anew.events anew.seal anew.lines c.in-Ok-rebuild.ensures.rebuilt c.args.kept anew.at c.is_kept.result
-    (subst (λ (n : ℕ). IfSome bytes (λ text. IsSealAt n (told text) anew.at)) c.line_of.ensures c.in-Ok-rebuild.ensures.at) c.is_kept.ensures c.if-not-is_kept.true
+    (subst (λ (n : Option ℕ). IfSome bytes (λ text. IsSealAsked n (told text) anew.at)) c.line_of.ensures c.in-Ok-rebuild.ensures.at) c.is_kept.ensures c.if-not-is_kept.true

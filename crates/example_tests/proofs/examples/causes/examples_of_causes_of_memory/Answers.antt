@@ -6,7 +6,7 @@ use Rattle.example_tests.proofs.Causes.{memory_there, not_in_doubt, not_written,
 use Rattle.example_tests.proofs.examples.causes.examples_of_causes_of_memory.Goals as goal
 
 pub returns-clause-unwritten : goal.returns-clause-unwritten
-returns-clause-unwritten c = λ h r. inl (refl, λ left may. may)
+returns-clause-unwritten c = λ h r. inl (refl, λ left may. inl may)
 
 pub returns-clause-refused : goal.returns-clause-refused
 returns-clause-refused c = λ h r reply e is. inr (refuses_one NoMemory (counting 3) h (verdict h r) reply e is)
@@ -24,7 +24,7 @@ returns-clause-refused_for_room c = λ h r lacks. elim lacks [
 ]
 
 pub returns-clause-lacks : goal.returns-clause-lacks
-returns-clause-lacks c = λ h r. inl (refl, λ left may. may)
+returns-clause-lacks c = λ h r. inl (refl, λ left may. inl may)
 
 pub returns-clause-has : goal.returns-clause-has
 returns-clause-has c = λ h r. memory_there (grown 3) h r not_written

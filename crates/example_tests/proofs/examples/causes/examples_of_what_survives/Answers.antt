@@ -1,4 +1,4 @@
-use Rattle.std.proofs.Common.{◌≡◌, ◌≤◌, inl, inr, true, false, refl, arith}
+use Rattle.std.proofs.Common.{[], ◌≡◌, ◌≤◌, inl, inr, true, false, refl, arith}
 use Rattle.office_policy.proofs.SurvivalFacts.{survives_none}
 use Rattle.example_tests.specs.Examples.{counting, quiet}
 use Rattle.example_tests.proofs.Causes.{not_risen}
@@ -17,6 +17,7 @@ returns-clause-shut_by_a_fault c = record {
   closes = λ clean is_open. inr (inl (omega arith));
   shut = λ clean is_open. refl;
   stays = λ e stray. stray;
+  grows = λ clean. ([], refl);
 }
 
 pub returns-clause-forgotten : goal.returns-clause-forgotten

@@ -8,7 +8,7 @@ use Rattle.example_tests.proofs.examples.replays.examples_of_events_that_happene
 
 pub returns-clause-enrolment : goal.returns-clause-enrolment
 returns-clause-enrolment c = record {
-  survives = record { clean = λ clean. clean; counts = omega arith; closes = λ clean is_open. inl is_open; shut = λ clean is_open. is_open; stays = λ e stray. stray };
+  survives = record { clean = λ clean. clean; counts = omega arith; closes = λ clean is_open. inl is_open; shut = λ clean is_open. is_open; stays = λ e stray. stray; grows = λ clean. (enrols ∷ [], refl) };
   allowed = λ h of clean. allowed_of h of.1;
   stands = λ h of clean. stands_grown h of.1;
   crash = λ h of clean left may. inr (

@@ -9,7 +9,7 @@ use Rattle.example_tests.proofs.examples.replays.examples_of_faults_of_a_replay.
 
 pub returns-clause-room : goal.returns-clause-room
 returns-clause-room c = record {
-  survives = record { clean = λ clean. clean; counts = omega arith; closes = λ clean is_open. inl is_open; shut = λ clean is_open. is_open; stays = λ e stray. stray };
+  survives = record { clean = λ clean. clean; counts = omega arith; closes = λ clean is_open. inl is_open; shut = λ clean is_open. is_open; stays = λ e stray. stray; grows = λ clean. ([], refl) };
   cause = λ h of clean. inl (omega arith);
   office = λ h of. of;
   kept = λ clean. refl;

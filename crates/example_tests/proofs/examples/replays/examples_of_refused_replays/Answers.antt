@@ -2,12 +2,13 @@ use Rattle.std.proofs.Common.{◌≡◌, ℕ, List, true, false, Option, Some, N
 use Rattle.example_tests.specs.Examples.{counting, founding, quiet, root}
 use Rattle.example_tests.proofs.Causes.{other_history}
 use Rattle.example_tests.proofs.Founded.{enrols_allowed}
-use Rattle.example_tests.proofs.Replays.{founded_of, leaves_itself, once_of, stands_founded}
+use Rattle.office_policy.proofs.SurvivalFacts.{left_itself}
+use Rattle.example_tests.proofs.Replays.{founded_of, once_of, stands_founded}
 use Rattle.example_tests.proofs.examples.replays.examples_of_refused_replays.Goals as goal
 
 pub returns-clause-second_founding : goal.returns-clause-second_founding
 returns-clause-second_founding c = record {
-  leaves = leaves_itself quiet (counting 3);
+  leaves = left_itself quiet (counting 3);
   why = λ h of clean. refl;
   never = λ h of clean allowed. once_of h of.1 allowed;
   stands = λ h of clean is_open. stands_founded 3 h of;
