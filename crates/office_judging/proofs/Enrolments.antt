@@ -1,6 +1,6 @@
 -- How an enrolment meets its verdict.
-use Rattle.std.proofs.Common.{◌≡◌, ◌∙◌, ℕ, List, Bool, true, false, not, Option, Some, None, Err, Ok, ap, subst}
-use Rattle.std.specs.Prelude.{Result, ⊤}
+use Rattle.std.proofs.Common.{◌≡◌, ◌∙◌, ℕ, List, Bool, true, false, not, Option, Some, None, Err, Ok, IfSome, sym, ap, subst}
+use Rattle.std.specs.Prelude.{Result, ⊤, is_some}
 use Rattle.review_policy.specs.declared.ask.Ask.TheVariants as ask
 use Rattle.review_policy.specs.declared.answer.Reply.TheVariants.{Enrolled}
 use Rattle.review_policy.specs.declared.denial.Denial.{Denial}
@@ -16,7 +16,9 @@ use Rattle.office_policy.specs.Users.{user_of, user_showing, is_named}
 use Rattle.office_policy.specs.Facts.{enrol_facts, is_elsewhere, is_another}
 use Rattle.office_policy.specs.Verdict.{accepted, denied, verdict_of}
 use Rattle.office_policy.specs.LooksBack.{LooksBack}
+use Rattle.office_policy.proofs.LawFacts.{lawful_apart}
 use Rattle.office_policy.proofs.LookUps.{shower_is}
+use Rattle.office_policy.proofs.UserFacts.{showing_one, user_named}
 use Rattle.office_judging.proofs.Verdicts.{denied_is, allowed_is}
 
 by_caller : (missing own fixed taken : Bool) (d : Denial)
@@ -32,6 +34,18 @@ pub users_found : (user digest : List ℕ) (known shower : Option UserRow) (t : 
 users_found user digest known shower t known_is showing h lawful is =
     let named : known ≡ user_of h user = known_is ∙ ap (λ (t : Tables). t.users user) is in
     let shown = shower_is h lawful digest shower (subst (λ t. IsUserShowing t digest shower) is showing) in
+    λ i. (named i, shown i)
+
+-- a user of that name who shows the digest is the one that shows it
+pub itself_found : (user digest : List ℕ) (known itself : Option UserRow) (t : Tables) → known ≡ t.users user
+    → IfSome itself (λ shower. (known ≡ Some shower) × (shower.digest ≡ digest)) → is_some itself ≡ true
+    → LooksBack {A = Option UserRow × Option UserRow} (λ h. (user_of h user, user_showing h digest)) t (known, itself)
+itself_found user digest known None t known_is shows there h lawful is = absurd cc
+itself_found user digest known (Some shower) t known_is shows there h lawful is =
+    let named : known ≡ user_of h user = known_is ∙ ap (λ (t : Tables). t.users user) is in
+    let at : user_of h user ≡ Some shower = sym named ∙ shows.0 in
+    let own : user_of h shower.name ≡ Some shower = ap (user_of h) (user_named h user shower at) ∙ at in
+    let shown = sym (showing_one h (lawful_apart h lawful) digest shower own shows.1) in
     λ i. (named i, shown i)
 
 -- the rules of an enrolment by what was found: the user that has the name, and the one that shows the digest

@@ -20,9 +20,7 @@ use Rattle.office_policy.specs.History.{History, issued}
 use Rattle.office_policy.specs.Revisions.{revision_of, is_author}
 use Rattle.office_policy.specs.Votes.{tally_at}
 use Rattle.office_policy.specs.Holds.{is_held}
-use Rattle.office_policy.specs.Baseline.{document_or_closed}
-use Rattle.office_policy.specs.Documents.{document_of}
-use Rattle.office_policy.specs.Need.{need_against, need_of_row, need_at}
+use Rattle.office_policy.specs.Need.{need_of_row, need_at}
 use Rattle.office_policy.specs.Facts.{issue_facts}
 use Rattle.office_policy.specs.Verdict.{accepted, denied, of_revision, verdict_of}
 use Rattle.office_policy.proofs.VoterFacts.{tally_is}
@@ -30,7 +28,7 @@ use Rattle.office_policy.specs.LooksBack.{LooksBack}
 use Rattle.office_policy.proofs.LookUps.{author_is}
 use Rattle.office_judging.specs.declared.baseline.Comparison.{Comparison}
 use Rattle.office_judging.specs.declared.issue.Looked.{Looked}
-use Rattle.office_judging.specs.Compared.{compared_at}
+use Rattle.office_judging.specs.Compared.{compared_at, need_of}
 use Rattle.office_judging.specs.Issuing.{deciding_need, is_enough_for_any, looked_at, one_approval}
 use Rattle.office_judging.proofs.Early.{alike_behind, refused_early}
 use Rattle.office_judging.proofs.Verdicts.{denied_is, allowed_is}
@@ -90,6 +88,16 @@ pub decided_alike : (caller : UserRow) (l : Looked) (need : Need)
     → first_denial (issue_rules (facts_by caller l (deciding_need l.tally need))) ≡ first_denial (issue_rules (facts_by caller l need))
 decided_alike caller l need = decided_by caller l need (is_enough_for_any l.tally) refl
 
+-- a need that decides, where nothing is read for it
+pub enough_decides : (team : List ℕ) (tally : Tally) (body : List ℕ) (t : Tables) → is_enough_for_any tally ≡ true
+    → LooksBack (λ h. deciding_need tally (need_of (compared_at h team) body)) t One
+enough_decides team tally body t enough h lawful same = rw enough refl
+
+-- and where it is worked out
+pub need_decides : (team : List ℕ) (tally : Tally) (body : List ℕ) (t : Tables) (c : Comparison) (need : Need) → is_enough_for_any tally ≡ false → need ≡ need_of c body
+    → LooksBack (λ h. compared_at h team) t c → LooksBack (λ h. deciding_need tally (need_of (compared_at h team) body)) t need
+need_decides team tally body t c need few is looks h lawful same = rw few (is ∙ ap (λ k. need_of k body) (looks h lawful same))
+
 -- ---- how it is decided
 
 module _ (h : History) (caller : UserRow) (p : ProfileName) (n : ℕ) where
@@ -115,18 +123,16 @@ module _ (h : History) (caller : UserRow) (p : ProfileName) (n : ℕ) where
         denied_by d (refused_early (take 6 all) (drop 6 (issue_rules (facts_early caller l))) (drop 6 all) d refl e)
 
     -- the need of the revision
-    module _ (r : RevisionRow) (there : l.revision ≡ Some r) (c : Comparison) (is_compared : c ≡ compared_at h p.team) (asked : Need)
-        (is_asked : asked ≡ deciding_need l.tally (need_against c.listed (document_or_closed c.adopted) (document_of r.body))) where
+    module _ (r : RevisionRow) (there : l.revision ≡ Some r) (asked : Need)
+        (is_asked : asked ≡ deciding_need l.tally (need_of (compared_at h p.team) r.body)) where
       row_is : revision_of h p n ≡ Some r
       row_is = sym (ap (λ k. k.revision) is) ∙ there
 
       abbrev need : Need
-      need = need_against c.listed (document_or_closed c.adopted) (document_of r.body)
+      need = need_of (compared_at h p.team) r.body
 
       need_is : need ≡ need_at h p n
-      need_is =
-          ap (λ k. need_against k.listed (document_or_closed k.adopted) (document_of r.body)) is_compared
-          ∙ ap (need_of_row h p.team) (sym row_is)
+      need_is = ap (need_of_row h p.team) (sym row_is)
 
       decides : first_denial (issue_rules (facts_by caller l (need_at h p n))) ≡ first_denial (issue_rules (facts_by caller l asked))
       decides =

@@ -1,4 +1,5 @@
 pub mod Judging
+pub mod Unread
 pub mod Verdicts
 pub mod Deciding
 pub mod LookedBack

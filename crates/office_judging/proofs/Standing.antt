@@ -1,6 +1,6 @@
 -- How a profile stands, by what a few reads find.
 use Rattle.std.proofs.Common.{◌≡◌, ◌≢◌, ◌∙◌, ◌≤◌, ℕ, zero, suc, List, Option, Some, None, Result, Ok, Err, Bool, true, false, cond, true≢false, refl, sym, ap, subst, arith}
-use Rattle.std.specs.Prelude.{is_some, option_map, unwrap_or}
+use Rattle.std.specs.Prelude.{is_some, option_map}
 use Rattle.review_policy.specs.declared.ask.ProfileName.{ProfileName}
 use Rattle.review_policy.specs.declared.answer.ListedProfile.{ListedProfile}
 use Rattle.review_policy.specs.declared.revision.State.{State}
@@ -8,13 +8,14 @@ use Rattle.review_policy.specs.declared.revision.State.TheVariants.{Open, Issued
 use Rattle.review_policy.specs.Rules.{is_issued}
 use Rattle.sqlite.specs.State.{State as State_}
 use Rattle.review_policy.specs.declared.fault.Fault.{Fault}
-use Rattle.office_tables.specs.declared.row.RevisionRow.{RevisionRow}
 use Rattle.office_tables.specs.declared.listed.ListedRevision.{ListedRevision}
 use Rattle.office_tables.specs.Tables.{Tables}
 use Rattle.office_tables.specs.Lists.{profile_of, IsListed}
 use Rattle.office_tables.specs.Reads.{IsLast, IsIssued}
 use Rattle.office_store.specs.Calls.{IsRead}
 use Rattle.office_store.specs.Lists.{IsNumberOf}
+use Rattle.office_store.specs.Numbered.{IsNumberedOf}
+use Rattle.office_store.specs.declared.numbers.Numbered.{Numbered}
 use Rattle.office_policy.specs.History.{History}
 use Rattle.office_policy.specs.Listing.{listed_profile}
 use Rattle.office_policy.specs.LooksBack.{LooksBack}
@@ -29,10 +30,7 @@ use Rattle.office_policy.proofs.StateFacts.{row_at}
 use Rattle.office_policy.proofs.Submissions.{last_number}
 use Rattle.office_judging.specs.declared.profiles.Standing.{Standing}
 use Rattle.office_judging.proofs.Judging.{read_as, read_fails_as, read_both, second_fails}
-use Rattle.office_store.specs.Summaries.{summary_of}
-use Rattle.office_store.specs.declared.summaries.Summary.{Summary}
-use Rattle.office_judging.specs.Listed.{standing_of, issued_if, IsOneOf, StandsWhere}
-use Rattle.office_judging.specs.Summarized.{as_asked}
+use Rattle.office_judging.specs.Listed.{standing_of, issued_if, IsOneOf, IsLastOf, StandsWhere}
 
 -- ---- one read, and one after another, whatever comes of the last
 
@@ -48,26 +46,11 @@ read_then old mid new F G H a (Err f) first both second = second_fails old mid n
 
 -- ---- single reads
 
-pub counted : (p : ProfileName) (n : ℕ) (t : Tables) → IsNumberOf (IsLast t p) (Some n) → LooksBack (λ h. revision_count h p) t n
-counted p n t it h lawful same = sym it.2 ∙ last_number h p (Some it.0) (subst (λ u. IsLast u p (Some it.0)) same it.1)
-
-pub none_counted : (p : ProfileName) (t : Tables) → IsNumberOf (IsLast t p) None → LooksBack (λ h. revision_count h p) t 0
-none_counted p t none h lawful same = last_number h p None (subst (λ u. IsLast u p None) same none)
-
 pub issue_numbered : (p : ProfileName) (n : ℕ) (t : Tables) → IsNumberOf (IsIssued t p) (Some n) → LooksBack (λ h. number_of (issued_revision h p)) t n
 issue_numbered p n t it h lawful same = sym it.2 ∙ ap number_of (issued_is h p (Some it.0) (subst (λ u. IsIssued u p (Some it.0)) same it.1))
 
 pub none_issued : (p : ProfileName) (t : Tables) → IsNumberOf (IsIssued t p) None → LooksBack (λ h. number_of (issued_revision h p)) t 0
 none_issued p t none h lawful same = ap number_of (issued_is h p None (subst (λ u. IsIssued u p None) same none))
-
-pub in_state : (p : ProfileName) (n : ℕ) (found : Option Summary) (t : Tables) → found ≡ option_map summary_of (t.revisions p n)
-    → LooksBack (λ h. state_in (revision_of h p n)) t (state_in (as_asked found))
-in_state p n found t is h lawful same =
-    ap (λ s. state_in (as_asked s)) (is ∙ ap (λ u. option_map summary_of (u.revisions p n)) same) ∙ kept (revision_of h p n)
-  where
-    kept : (r : Option RevisionRow) → state_in (as_asked (option_map summary_of r)) ≡ state_in r
-    kept None = refl
-    kept (Some r) = refl
 
 -- ---- what they say together
 
@@ -76,12 +59,6 @@ module _ (h : History) (p : ProfileName) where
   pub last_is_issue : (n : ℕ) (s : State) → n ≡ revision_count h p → 1 ≤ n → s ≡ state_of h p n → s ≡ Issued → n ≡ number_of (issued_revision h p)
   last_is_issue n s count first state is =
       (issue_of h p.team p.profile).one n first (omega (arith, count)) (ap (λ (x : State). is_issued (Some x)) (sym state ∙ is))
-
-  -- where the issued one is the last, that is issued
-  pub issue_is_last : (n : ℕ) → n ≡ number_of (issued_revision h p) → n ≢ 0 → state_of h p n ≡ Issued
-  issue_is_last n is some =
-      let it = (issue_of h p.team p.profile).issued (λ none. some (is ∙ none)) in
-      issued_state (state_of h p n) (subst (λ (m : ℕ). is_issued (Some (state_of h p m)) ≡ true) (sym is) it.1)
 
   -- the only revision, where it isn't issued
   pub none_is_issue : (s : State) → revision_count h p ≡ 1 → s ≡ state_of h p 1 → s ≢ Issued → 0 ≡ number_of (issued_revision h p)
@@ -135,28 +112,19 @@ module _ (h : History) (p : ProfileName) where
       go true issued = is ∙ last_is_issue n s count first state (issued_state s issued)
       go false other = let none : 0 ≡ n = subst (λ (b : Bool). cond b n 0 ≡ n) other is in absurd (omega (arith, first, none))
 
-  pub known_only : (last number : ℕ) (s : State) → last ≡ revision_count h p → IsOneOf h p number s → last ≡ 1
-      → ◌≡◌ {A = Standing} (record { last = last; issued = issued_if number s; state = s }) (standing_of h p)
-  known_only last number s count one only =
-      let first : number ≡ 1 = omega (arith, one.first, one.last, only, count) in
-      let state = one.state_is ∙ ap (state_of h p) (first ∙ sym only ∙ count) in
-      let issue = only_issue number s (sym count ∙ only) first one.state_is in
-      λ i. record { last = count i; issued = issue i; state = state i }
+  pub known_only : (last : ℕ) (s : State) → IsLastOf h p last s → last ≡ 1
+      → ◌≡◌ {A = Standing} (record { last = last; issued = issued_if last s; state = s }) (standing_of h p)
+  known_only last s it only =
+      let state = it.one.state_is ∙ ap (state_of h p) it.last in
+      let issue = only_issue last s (sym it.last ∙ only) only it.one.state_is in
+      λ i. record { last = it.last i; issued = issue i; state = state i }
 
-  pub known_issued : (last number : ℕ) (s : State) → last ≡ revision_count h p → IsOneOf h p number s → issued_if number s ≡ last
-      → ◌≡◌ {A = Standing} (record { last = last; issued = issued_if number s; state = s }) (standing_of h p)
-  known_issued last number s count one is = go (is_issued (Some s)) refl
-    where
-      go : (b : Bool) → is_issued (Some s) ≡ b → ◌≡◌ {A = Standing} (record { last = last; issued = issued_if number s; state = s }) (standing_of h p)
-      go true issued =
-          let same : number ≡ last = subst (λ (b : Bool). cond b number 0 ≡ last) issued is in
-          let number_is = same ∙ count in
-          let state = one.state_is ∙ ap (state_of h p) number_is in
-          let issue = issued_last number s number_is one.first one.state_is (is ∙ sym same) in
-          λ i. record { last = count i; issued = issue i; state = state i }
-      go false other =
-          let none : 0 ≡ last = subst (λ (b : Bool). cond b number 0 ≡ last) other is in
-          absurd (omega (arith, one.first, one.last, count, none))
+  pub known_issued : (last : ℕ) (s : State) → IsLastOf h p last s → issued_if last s ≡ last
+      → ◌≡◌ {A = Standing} (record { last = last; issued = issued_if last s; state = s }) (standing_of h p)
+  known_issued last s it is =
+      let state = it.one.state_is ∙ ap (state_of h p) it.last in
+      let issue = issued_last last s it.last it.one.first it.one.state_is is in
+      λ i. record { last = it.last i; issued = issue i; state = state i }
 
 -- what is listed of a profile that stands so
 pub stands_as : (h : History) (team name : List ℕ) (s : Standing) → s ≡ standing_of h (profile_of team name)
@@ -167,39 +135,29 @@ stands_as h team name s is = λ i. record { profile = name; issued = (is i).issu
 pub one_listed : (h : History) (team : List ℕ) (l : ListedRevision) → IsListed (tables_of h) team l → IsOneOf h (profile_of team l.profile) l.number l.state
 one_listed h team l listed = let it = row_listed h team l listed in record { first = it.first; last = it.last; state_is = it.state_is }
 
-abbrev pub IsOne : ProfileName → ℕ → ℕ → State → History → Type 0
-IsOne p last number s h = (last ≡ revision_count h p) × IsOneOf h p number s
+module _ (p : ProfileName) (t : Tables) where
+  -- the row of the last revision
+  pub last_found : (l : Numbered) → IsNumberedOf (IsLast t p) (Some l) → (h : History) → t ≡ tables_of h → 1 ≤ revision_count h p → IsLastOf h p l.number l.state
+  last_found l it h same some =
+      let is : IsLast (tables_of h) p (Some it.0) = subst (λ u. IsLast u p (Some it.0)) same it.1 in
+      let count : it.0.number ≡ revision_count h p = last_number h p (Some it.0) is in
+      let there : Some it.0.state ≡ Some (state_of h p it.0.number) = sym (ap state_in is.0) ∙ there_in h p it.0.number (omega (arith, some, count)) (omega (arith, count)) in
+      let state : it.0.state ≡ state_of h p it.0.number = cc in
+      subst (λ (k : Numbered). IsLastOf h p k.number k.state) it.2 (record {
+        last = count;
+        one = record { first = omega (arith, some, count); last = omega (arith, count); state_is = state };
+      })
 
-module _ (p : ProfileName) (last number : ℕ) (s : State) (issued : ℕ) (t : Tables) (looks : LooksBack (λ h. number_of (issued_revision h p)) t issued) where
-  -- the revision that is known is the last one
-  pub by_known : number ≡ last → StandsWhere (IsOne p last number s) p t (record { last = last; issued = issued; state = s })
-  by_known is h lawful same known =
-      let state = known.1.state_is ∙ ap (state_of h p) (is ∙ known.0) in
+  -- a profile without one has none
+  pub never_without : (s : Standing) → IsLast t p None → StandsWhere (λ h. 1 ≤ revision_count h p) p t s
+  never_without s none h lawful same some =
+      let count : 0 ≡ revision_count h p = last_number h p None (subst (λ u. IsLast u p None) same none) in
+      absurd (omega (arith, count, some))
+
+  -- the last revision is known, and the issued one was read
+  pub by_last : (last issued : ℕ) (s : State) → LooksBack (λ h. number_of (issued_revision h p)) t issued
+      → StandsWhere (λ h. IsLastOf h p last s) p t (record { last = last; issued = issued; state = s })
+  by_last last issued s looks h lawful same it =
+      let state = it.one.state_is ∙ ap (state_of h p) it.last in
       let issue = looks h lawful same in
-      λ i. record { last = known.0 i; issued = issue i; state = state i }
-
-  -- the issued one is the last
-  pub by_issue : issued ≡ last → StandsWhere (IsOne p last number s) p t (record { last = last; issued = issued; state = Issued })
-  by_issue is h lawful same known =
-      let issue = looks h lawful same in
-      let state = sym (issue_is_last h p last (sym is ∙ issue) (λ none. absurd (omega (arith, none, known.0, known.1.first, known.1.last)))) ∙ ap (state_of h p) known.0 in
-      λ i. record { last = known.0 i; issued = issue i; state = state i }
-
-  -- the last one was read
-  pub by_row : (found : Option State) → LooksBack (λ h. state_in (revision_of h p last)) t found
-      → StandsWhere (IsOne p last number s) p t (record { last = last; issued = issued; state = unwrap_or found s })
-  by_row found reads h lawful same known =
-      let there = there_in h p last (omega (arith, known.0, known.1.first, known.1.last)) (omega (arith, known.0)) in
-      let state : unwrap_or found s ≡ state_of h p last = ap (λ o. unwrap_or o s) (reads h lawful same ∙ there) in
-      let state_now = state ∙ ap (state_of h p) known.0 in
-      let issue = looks h lawful same in
-      λ i. record { last = known.0 i; issued = issue i; state = state_now i }
-
--- the open revision is known
-pub by_open : (p : ProfileName) (number issued : ℕ) (t : Tables) → LooksBack (λ h. number_of (issued_revision h p)) t issued
-    → StandsWhere (λ h. IsOneOf h p number Open) p t (record { last = number; issued = issued; state = Open })
-by_open p number issued t looks h lawful same one =
-    let count = open_is_last h p number one in
-    let state = one.state_is ∙ ap (state_of h p) count in
-    let issue = looks h lawful same in
-    λ i. record { last = count i; issued = issue i; state = state i }
+      λ i. record { last = it.last i; issued = issue i; state = state i }

@@ -33,6 +33,11 @@ pub record IsOneOf (h : History) (p : ProfileName) (number : ℕ) (state : State
   pub last : number ≤ revision_count h p
   pub state_is : state ≡ state_of h p number
 
+-- the last revision of the profile
+pub record IsLastOf (h : History) (p : ProfileName) (number : ℕ) (state : State) : Type 0 where
+  pub last : number ≡ revision_count h p
+  pub one : IsOneOf h p number state
+
 -- how the profile stands, over the tables of a lawful history in which this is known
 abbrev pub StandsWhere : (History → Type 0) → ProfileName → Tables → Standing → Type 0
 StandsWhere Known p t s =

@@ -1,6 +1,6 @@
 //! Enrolments.
 
-ghost use Rattle.std.specs.Prelude.{◌≡◌, Some, IfOk, not};
+ghost use Rattle.std.specs.Prelude.{◌≡◌, Some, IfOk, IfSome, not};
 ghost use Rattle.sqlite.specs.Held.{state};
 ghost use Rattle.review_policy.specs.declared.ask.Ask.TheVariants as ask;
 ghost use Rattle.review_policy.specs.declared.facts.TheConstants.EnrolFacts.{PASSING};
@@ -71,22 +71,6 @@ fn all_facts(
     }
 }
 
-// The user that has the name, and the one that shows the digest.
-fn users_of<S: Alter>(
-    alloc: Global,
-    conn: &mut Connection<S>,
-    user: &Word,
-    digest: &[u8; 32],
-) -> Result<(Option<UserRow>, Option<UserRow>), Fault>
-    requires { IsIdle (state S.Store conn.old) }
-    ensures { IsRead (state S.Store conn.old) (state S.Store conn.new) result
-        (LooksBack (λ h. (user_of h user.now, user_showing h digest.now))) }
-{
-    let known = user_by_name(alloc, conn, user)?;
-    let shower = user_by_token(alloc, conn, digest)?;
-    Ok((known, shower))
-}
-
 // The row of a user who is enrolled.
 fn row_of(user: &Word, team: &Word, roles: Roles, digest: &[u8; 32]) -> Result<UserRow, AllocError>
     ensures { IfOk result (λ row. row
@@ -98,6 +82,41 @@ fn row_of(user: &Word, team: &Word, roles: Roles, digest: &[u8; 32]) -> Result<U
         roles,
         digest: *digest,
     })
+}
+
+// A copy of a user that is there and shows the digest.
+fn shower_in(user: &Option<UserRow>, digest: &[u8; 32]) -> Result<Option<UserRow>, AllocError>
+    ensures { IfOk result (λ found. IfSome found
+        (λ shower. (user.now ≡ Some shower) × (shower.digest ≡ digest.now))) }
+{
+    match user {
+        Some(row) if row.digest == *digest => {
+            let shower = row_of(&row.name, &row.team, row.roles, &row.digest)?;
+            Ok(Some(shower))
+        }
+        _ => Ok(None),
+    }
+}
+
+// The user that has the name, and the one that shows the digest, who isn't looked up where that is
+// the same.
+fn users_of<S: Alter>(
+    alloc: Global,
+    conn: &mut Connection<S>,
+    user: &Word,
+    digest: &[u8; 32],
+) -> Result<(Option<UserRow>, Option<UserRow>), Fault>
+    requires { IsIdle (state S.Store conn.old) }
+    ensures { IsRead (state S.Store conn.old) (state S.Store conn.new) result
+        (LooksBack (λ h. (user_of h user.now, user_showing h digest.now))) }
+{
+    let known = user_by_name(alloc, conn, user)?;
+    let itself = shower_in(&known, digest)?;
+    if itself.is_some() {
+        return Ok((known, itself));
+    }
+    let shower = user_by_token(alloc, conn, digest)?;
+    Ok((known, shower))
 }
 
 // Judges an enrolment.

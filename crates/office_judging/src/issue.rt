@@ -1,31 +1,30 @@
 //! Revisions that are issued.
 
-ghost use Rattle.std.specs.Prelude.{◌≡◌, Some, false, not, IfOk};
+ghost use Rattle.std.specs.Prelude.{◌≡◌, Some, false, not, IfOk, IsTrue};
 ghost use Rattle.sqlite.specs.Held.{state};
+ghost use Rattle.sqlite.specs.State.{HasCleanDisk};
 ghost use Rattle.review_policy.specs.declared.ask.Ask.TheVariants as ask;
 ghost use Rattle.review_policy.specs.declared.denial.Need.TheVariants as needs;
 ghost use Rattle.review_policy.specs.declared.facts.TheConstants.IssueFacts.{PASSING};
 ghost use Rattle.office_tables.specs.Lists.{holds_role};
 ghost use Rattle.office_store.specs.Shown.{IsIdle};
 ghost use Rattle.office_store.specs.Calls.{IsRead};
-ghost use Rattle.office_policy.specs.Baseline.{document_or_closed};
-ghost use Rattle.office_policy.specs.Documents.{document_of};
 ghost use Rattle.office_policy.specs.Facts.{issue_facts};
-ghost use Rattle.office_policy.specs.Need.{need_against};
 ghost use Rattle.office_policy.specs.LooksBack.{LooksBack};
 ghost use Rattle.office_judging.specs.Judged.{IsAskedBy, JudgesChange};
+ghost use Rattle.office_judging.specs.Compared.{compared_at, need_of};
 ghost use Rattle.office_judging.specs.Issuing.{deciding_need, is_enough_for_any, looked_at};
 ghost use Rattle.office_judging.specs.Issuing.{one_approval};
 
-use crate::baseline::{Comparison, compared_with, need_of};
+use crate::baseline::{compared_with, need_of};
 use crate::refusal::Refusal;
 use crate::revisions::state_in;
 use office_policy::{Allowed, Change};
 use office_store::{held, is_author, revision, tally};
 use office_tables::{RevisionRow, Tally, UserRow};
-use review_policy::{Fault, IssueFacts, Need, ProfileName, Reply, Role, Text, decide_issue};
+use review_policy::{Fault, IssueFacts, Need, ProfileName, Reply, Role, Text, Word, decide_issue};
 use sqlite::{Alter, Connection};
-use std::alloc::{AllocError, Global};
+use std::alloc::Global;
 
 // What the rules ask of a revision, its profile and the caller, besides the need.
 #[derive(Drop)]
@@ -107,21 +106,26 @@ fn is_enough_for_any(tally: &Tally) -> bool
 }
 
 // A need by which the rules decide as by that of the text, which is worked out only where it can
-// matter.
-fn deciding_need(
+// matter: else nothing is read for it.
+fn deciding_need<S: Alter>(
     alloc: Global,
+    conn: &mut Connection<S>,
+    team: &Word,
     tally: &Tally,
-    compared: &Comparison,
     body: &Text,
-) -> Result<Need, AllocError>
-    ensures { IfOk result (λ need. need ≡ deciding_need tally.now
-        (need_against compared.now.listed (document_or_closed compared.now.adopted)
-        (document_of body.now))) }
+) -> Result<Need, Fault>
+    requires idle { IsIdle (state S.Store conn.old) }
+    requires is_open { HasCleanDisk (state S.Store conn.old)
+        → IsTrue (state S.Store conn.old).is_open }
+    ensures { IsRead (state S.Store conn.old) (state S.Store conn.new) result
+        (LooksBack (λ h. deciding_need tally.now (need_of (compared_at h team.now) body.now))) }
 {
     if is_enough_for_any(tally) {
         return Ok(Need::One);
     }
-    need_of(alloc, compared, body)
+    let compared = compared_with(alloc, conn, team)?;
+    let need = need_of(alloc, &compared, body)?;
+    Ok(need)
 }
 
 // Judges an issue. The need of the revision is asked for where nothing else refuses it.
@@ -143,8 +147,7 @@ pub(crate) fn judge_issue<S: Alter>(
     let Some(row) = &looked.revision else {
         unreachable!()
     };
-    let compared = compared_with(alloc, conn, &name.team)?;
-    let need = deciding_need(alloc, &looked.tally, &compared, &row.body)?;
+    let need = deciding_need(alloc, conn, &name.team, &looked.tally, &row.body)?;
     decide_issue(&all_facts(&caller, &looked, need))?;
     let change = Change::Issue {
         name: name.clone()?,

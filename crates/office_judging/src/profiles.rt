@@ -1,7 +1,7 @@
-//! The profiles of a team, from one to the next: of each a few entries of indexes are read, and not
-//! all its revisions.
+//! The profiles of a team, from one to the next: of each a few entries of indexes are read, and of
+//! its revisions the last one at most.
 
-ghost use Rattle.std.specs.Prelude.{◌≡◌, ℕ, List, IfSome, unwrap_or};
+ghost use Rattle.std.specs.Prelude.{◌≡◌, ◌≤◌, ℕ, List, IfSome};
 ghost use Rattle.sqlite.specs.Held.{state};
 ghost use Rattle.review_policy.specs.declared.ask.ProfileName.{ProfileName as Name};
 ghost use Rattle.office_tables.specs.Lists.{IsListed, profile_of};
@@ -10,13 +10,12 @@ ghost use Rattle.office_store.specs.Shown.{IsIdle};
 ghost use Rattle.office_policy.specs.History.{History};
 ghost use Rattle.office_policy.specs.Listing.{listed_profile, listing_of};
 ghost use Rattle.office_policy.specs.LooksBack.{LooksBack};
-ghost use Rattle.office_policy.specs.Revisions.{revision_count, revision_of, issued_revision};
-ghost use Rattle.office_policy.specs.Revisions.{number_of, state_in};
+ghost use Rattle.office_policy.specs.Revisions.{revision_count, issued_revision, number_of};
 ghost use Rattle.office_policy.specs.TablesOf.{tables_of};
-ghost use Rattle.office_judging.specs.Listed.{IsOneOf, StandsWhere, IsStep, issued_if, standing_of};
+ghost use Rattle.office_judging.specs.Listed.{IsOneOf, IsLastOf, StandsWhere, IsStep, issued_if};
+ghost use Rattle.office_judging.specs.Listed.{standing_of};
 
-use crate::revisions::state_of;
-use office_store::{first_listed, issued_number, last_number, next_listed, summary_at};
+use office_store::{first_listed, issued_number, last_numbered, next_listed};
 use office_tables::ListedRevision;
 use review_policy::{Fault, ListedProfile, Listing, ProfileName, State, Word};
 use sqlite::{Alter, Connection};
@@ -31,17 +30,12 @@ pub(crate) struct Standing {
     pub(crate) state: State,
 }
 
-// How many revisions a profile has.
-fn count<S: Alter>(conn: &mut Connection<S>, name: &ProfileName) -> Result<u32, Fault>
-    requires { IsIdle (state S.Store conn.old) }
-    ensures { IsRead (state S.Store conn.old) (state S.Store conn.new) result
-        (LooksBack (λ h. revision_count h name.now)) }
-{
-    match last_number(conn, name)? {
-        Some(number) => Ok(number),
-        None => Ok(0),
-    }
-}
+// Of a profile without a revision, which no list has.
+const NO_REVISION: Standing = Standing {
+    last: 0,
+    issued: 0,
+    state: State::Open,
+};
 
 // The number of the revision of a profile that is issued, or 0.
 fn issue<S: Alter>(conn: &mut Connection<S>, name: &ProfileName) -> Result<u32, Fault>
@@ -53,20 +47,6 @@ fn issue<S: Alter>(conn: &mut Connection<S>, name: &ProfileName) -> Result<u32, 
         Some(number) => Ok(number),
         None => Ok(0),
     }
-}
-
-// The state of a revision.
-fn state_at<S: Alter>(
-    conn: &mut Connection<S>,
-    name: &ProfileName,
-    number: u32,
-) -> Result<Option<State>, Fault>
-    requires { IsIdle (state S.Store conn.old) }
-    ensures { IsRead (state S.Store conn.old) (state S.Store conn.new) result
-        (LooksBack (λ h. state_in (revision_of h name.now number))) }
-{
-    let found = summary_at(conn, name, number)?;
-    Ok(state_of(&found))
 }
 
 // How a profile stands whose first revision is open: it has no other.
@@ -94,13 +74,13 @@ fn issued_if(number: u32, in_state: State) -> u32
     }
 }
 
-// How a profile stands of which a revision is known, where the last number says the rest: there is
-// no other, or that one is the last and issued.
-fn known(last: u32, number: u32, in_state: State) -> Option<Standing>
-    ensures { (h : History) (p : Name) → last ≡ revision_count h p → IsOneOf h p number in_state
+// How a profile stands of which this is the last revision, where that says it: it is the issued
+// one, or the only one.
+fn known(last: u32, in_state: State) -> Option<Standing>
+    ensures { (h : History) (p : Name) → IsLastOf h p last in_state
         → IfSome result (λ standing. standing ≡ standing_of h p) }
 {
-    let issued = issued_if(number, in_state);
+    let issued = issued_if(last, in_state);
     let standing = Standing {
         last,
         issued,
@@ -115,90 +95,41 @@ fn known(last: u32, number: u32, in_state: State) -> Option<Standing>
     None
 }
 
-// A state, or the other where there is none.
-fn state_or(found: Option<State>, other: State) -> State
-    ensures { result ≡ unwrap_or found other }
-{
-    match found {
-        Some(state) => state,
-        None => other,
-    }
-}
-
-// How a profile stands, by the issued one of its revisions, and where that says too little by the
-// row of the last one.
-fn looked_up<S: Alter>(
+// How a profile stands of which this is the last revision.
+fn with_last<S: Alter>(
     conn: &mut Connection<S>,
     name: &ProfileName,
     last: u32,
-    number: u32,
     in_state: State,
 ) -> Result<Standing, Fault>
     requires { IsIdle (state S.Store conn.old) }
     ensures { IsRead (state S.Store conn.old) (state S.Store conn.new) result
-        (StandsWhere (λ h. (last ≡ revision_count h name.now)
-        × IsOneOf h name.now number in_state) name.now) }
+        (StandsWhere (λ h. IsLastOf h name.now last in_state) name.now) }
 {
     let issued = issue(conn, name)?;
-    if number == last {
-        return Ok(Standing {
-            last,
-            issued,
-            state: in_state,
-        });
-    }
-    if issued == last {
-        return Ok(Standing {
-            last,
-            issued,
-            state: State::Issued,
-        });
-    }
-    let found = state_at(conn, name, last)?;
     Ok(Standing {
         last,
         issued,
-        state: state_or(found, in_state),
+        state: in_state,
     })
 }
 
-// How a profile stands of which the open revision is known, which is its last one.
-fn with_open<S: Alter>(
-    conn: &mut Connection<S>,
-    name: &ProfileName,
-    number: u32,
-) -> Result<Standing, Fault>
+// How a profile stands that has a revision, by its last one.
+fn without_open<S: Alter>(conn: &mut Connection<S>, name: &ProfileName) -> Result<Standing, Fault>
     requires { IsIdle (state S.Store conn.old) }
     ensures { IsRead (state S.Store conn.old) (state S.Store conn.new) result
-        (StandsWhere (λ h. IsOneOf h name.now number State.Open) name.now) }
+        (StandsWhere (λ h. 1 ≤ revision_count h name.now) name.now) }
 {
-    let issued = issue(conn, name)?;
-    Ok(Standing {
-        last: number,
-        issued,
-        state: State::Open,
-    })
-}
-
-// How a profile stands of which a revision is known that isn't open.
-fn without_open<S: Alter>(
-    conn: &mut Connection<S>,
-    name: &ProfileName,
-    number: u32,
-    in_state: State,
-) -> Result<Standing, Fault>
-    requires { IsIdle (state S.Store conn.old) }
-    ensures { IsRead (state S.Store conn.old) (state S.Store conn.new) result
-        (StandsWhere (λ h. IsOneOf h name.now number in_state) name.now) }
-{
-    let last = count(conn, name)?;
-    match known(last, number, in_state) {
+    let Some(last) = last_numbered(conn, name)? else {
+        return Ok(NO_REVISION);
+    };
+    match known(last.number, last.state) {
         Some(standing) => Ok(standing),
-        None => looked_up(conn, name, last, number, in_state),
+        None => with_last(conn, name, last.number, last.state),
     }
 }
 
-// How a profile stands of which a revision is known.
+// How a profile stands of which a revision is known. The open one is the last.
 fn stands<S: Alter>(
     conn: &mut Connection<S>,
     name: &ProfileName,
@@ -210,8 +141,8 @@ fn stands<S: Alter>(
         (StandsWhere (λ h. IsOneOf h name.now number in_state) name.now) }
 {
     match in_state {
-        State::Open => with_open(conn, name, number),
-        _ => without_open(conn, name, number, in_state),
+        State::Open => with_last(conn, name, number, in_state),
+        _ => without_open(conn, name),
     }
 }
 

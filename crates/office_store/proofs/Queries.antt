@@ -8,7 +8,7 @@ use Rattle.office_store.specs.declared.author.TheConstants.{REVISION_BY, AUTHORS
 use Rattle.office_store.specs.declared.baselines.TheConstants.{BASELINE_OF}
 use Rattle.office_store.specs.declared.holds.TheConstants.{HOLD_OF}
 use Rattle.office_store.specs.declared.listing.TheConstants.{REVISIONS_OF}
-use Rattle.office_store.specs.declared.numbers.TheConstants.{LAST_NUMBER, ISSUED_NUMBER}
+use Rattle.office_store.specs.declared.numbers.TheConstants.{LAST_NUMBERED, ISSUED_NUMBER}
 use Rattle.office_store.specs.declared.revisions.TheConstants.{REVISION_AT, REVISION_OF, ISSUED_OF, LAST_OF}
 use Rattle.office_store.specs.declared.standing_votes.TheConstants.{VOTES_ON}
 use Rattle.office_store.specs.declared.summaries.TheConstants.{STATE_AND_DIGEST}
@@ -68,9 +68,9 @@ pub listed_above : IsQuery LISTED_ABOVE.now
 unfolding everything first returning
 listed_above = is_query LISTED_ABOVE.now _ (record { is = refl; bare = λ schema base. refl })
 
-pub last_number : IsQuery LAST_NUMBER.now
+pub last_numbered : IsQuery LAST_NUMBERED.now
 unfolding everything first returning
-last_number = is_query LAST_NUMBER.now _ (record { is = refl; bare = λ schema base. refl })
+last_numbered = is_query LAST_NUMBERED.now _ (record { is = refl; bare = λ schema base. refl })
 
 pub issued_number : IsQuery ISSUED_NUMBER.now
 unfolding everything first returning

@@ -31,12 +31,13 @@ use Rattle.office_rows.proofs.Stored.{find_own}
 use Rattle.office_rows.proofs.Finding.{IsFound, finds_some, found_own}
 use Rattle.office_rows.proofs.Ordered.{first_query, IsFirst, IsFirstRow, finds_first}
 use Rattle.office_store.specs.declared.revisions.TheConstants.{REVISION_AT, ISSUED_OF, LAST_OF, REVISION_OF}
-use Rattle.office_store.specs.declared.numbers.TheConstants.{LAST_NUMBER, ISSUED_NUMBER}
+use Rattle.office_store.specs.declared.numbers.TheConstants.{LAST_NUMBERED, ISSUED_NUMBER}
 use Rattle.office_store.specs.declared.summaries.Summary.{Summary}
 use Rattle.office_store.specs.declared.summaries.TheConstants.{STATE_AND_DIGEST}
 use Rattle.office_store.specs.Schema.{office_schema}
 use Rattle.office_store.specs.Entries.{Revision, same_revision, revision_key, revision_row, revision_columns, IsRevision, state_number}
 use Rattle.office_store.specs.Lists.{IsRowOfNumber}
+use Rattle.office_store.specs.Numbered.{numbered_of, numbered_row, IsRowOfNumbered}
 use Rattle.office_store.specs.Reads.{IsIssuedRow, IsLastRow}
 use Rattle.office_store.specs.Shown.{Shows}
 use Rattle.office_store.specs.Summaries.{summary_of, summary_row}
@@ -75,9 +76,12 @@ any_means : Means office_schema REVISION_OF.now (Select (record { lets = []; bod
 unfolding understood everything
 any_means = record { is = refl; plain = (refl, refl); unlisted = refl }
 
-last_number_means : Means office_schema LAST_NUMBER.now (Select (record { lets = []; body = first_query number_column at_profile 4 greatest }) (codes "number" ∷ []))
+abbrev numbered_columns : List Term
+numbered_columns = col 1 3 ∷ col 1 5 ∷ []
+
+last_numbered_means : Means office_schema LAST_NUMBERED.now (Select (record { lets = []; body = first_query numbered_columns at_profile 4 greatest }) (codes "number" ∷ codes "state" ∷ []))
 unfolding understood everything
-last_number_means = record { is = refl; plain = (refl, refl); unlisted = refl }
+last_numbered_means = record { is = refl; plain = (refl, refl); unlisted = refl }
 
 issued_number_means : Means office_schema ISSUED_NUMBER.now (Select (record { lets = []; body = plain_query number_column (in_state_of Issued) 4 }) (codes "number" ∷ []))
 unfolding understood everything
@@ -110,6 +114,9 @@ shown e = revision_columns e.1
 
 abbrev summarized : Revision → Row
 summarized e = summary_row (summary_of e.1)
+
+abbrev numbered : Revision → Row
+numbered e = numbered_row (numbered_of e.1)
 
 abbrev pub is_at : ProfileName × ℕ → Revision → Bool
 is_at k e = same_revision k (revision_key e)
@@ -225,22 +232,22 @@ module _ (old new : State) (t : Tables) (shows : Shows old t) where
         office_schema LAST_OF.now 4 names last_means old new o.schema shows.settled idle o.revisions.entries o.revisions.kept r h in
         last_shown p r it.0
 
-    -- ---- the numbers alone
+    -- ---- without the text
 
-    last_numbered : (p : ProfileName) (r : Result (Option Row) Fault) → IfOk r (IsFirstOf p number_of number_column) → IfOk r (IsRowOfNumber (IsLast t p))
-    last_numbered p (Ok (Some row)) it =
-        let last = first_is_last p number_of number_column it.0 it.1 in
+    last_is_numbered : (p : ProfileName) (r : Result (Option Row) Fault) → IfOk r (IsFirstOf p numbered numbered_columns) → IfOk r (IsRowOfNumbered (IsLast t p))
+    last_is_numbered p (Ok (Some row)) it =
+        let last = first_is_last p numbered numbered_columns it.0 it.1 in
         (it.0.1, last, (revision_formed p it.0.1.number it.0.1 last.0).number, it.2)
-    last_numbered p (Ok None) none = none_is_last p none
-    last_numbered p (Err f) it = it
+    last_is_numbered p (Ok None) none = none_is_last p none
+    last_is_numbered p (Err f) it = it
 
-    pub reads_last_number : (p : ProfileName) (r : Result (Option Row) Fault) → FindsRow LAST_NUMBER.now (profile_params p) old new r
-        → IfOk r (IsRowOfNumber (IsLast t p))
-    reads_last_number p r h =
+    pub reads_last_numbered : (p : ProfileName) (r : Result (Option Row) Fault) → FindsRow LAST_NUMBERED.now (profile_params p) old new r
+        → IfOk r (IsRowOfNumbered (IsLast t p))
+    reads_last_numbered p r h =
         let o = shows.office in
-        let it = finds_first revision_row number_of number_of (is_of p) number_column at_profile greatest (profile_params p) (profile_tested p) (λ k. refl) (λ k. refl)
-        office_schema LAST_NUMBER.now 4 (codes "number" ∷ []) last_number_means old new o.schema shows.settled idle o.revisions.entries o.revisions.kept r h in
-        last_numbered p r it.0
+        let it = finds_first revision_row numbered number_of (is_of p) numbered_columns at_profile greatest (profile_params p) (profile_tested p) (λ k. refl) (λ k. refl)
+        office_schema LAST_NUMBERED.now 4 (codes "number" ∷ codes "state" ∷ []) last_numbered_means old new o.schema shows.settled idle o.revisions.entries o.revisions.kept r h in
+        last_is_numbered p r it.0
 
     issued_numbered : (p : ProfileName) (r : Result (Option Row) Fault) → IfOk r (IsFound (is_in_state p Issued) number_of shows.office.revisions.entries) → IfOk r (IsRowOfNumber (IsIssued t p))
     issued_numbered p (Ok (Some row)) it =

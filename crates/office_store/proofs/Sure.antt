@@ -11,7 +11,7 @@ use Rattle.office_store.specs.declared.author.TheConstants.{REVISION_BY, AUTHORS
 use Rattle.office_store.specs.declared.baselines.TheConstants.{BASELINE_OF}
 use Rattle.office_store.specs.declared.holds.TheConstants.{HOLD_OF}
 use Rattle.office_store.specs.declared.listing.TheConstants.{REVISIONS_OF}
-use Rattle.office_store.specs.declared.numbers.TheConstants.{LAST_NUMBER, ISSUED_NUMBER}
+use Rattle.office_store.specs.declared.numbers.TheConstants.{LAST_NUMBERED, ISSUED_NUMBER}
 use Rattle.office_store.specs.declared.revisions.TheConstants.{REVISION_AT, REVISION_OF, ISSUED_OF, LAST_OF}
 use Rattle.office_store.specs.declared.standing_votes.TheConstants.{VOTES_ON}
 use Rattle.office_store.specs.declared.summaries.TheConstants.{STATE_AND_DIGEST}
@@ -47,9 +47,9 @@ pub last_of : (p : ProfileName) → IsSure office_schema LAST_OF.now (profile_pa
 unfolding understood everything
 last_of p = record { text = record { whole = refl; given = refl; bare = refl; timeless = refl; query = (refl, refl, refl, refl) }; unlisted = refl }
 
-pub last_number : (p : ProfileName) → IsSure office_schema LAST_NUMBER.now (profile_params p)
+pub last_numbered : (p : ProfileName) → IsSure office_schema LAST_NUMBERED.now (profile_params p)
 unfolding understood everything
-last_number p = record { text = record { whole = refl; given = refl; bare = refl; timeless = refl; query = (refl, refl, refl, refl) }; unlisted = refl }
+last_numbered p = record { text = record { whole = refl; given = refl; bare = refl; timeless = refl; query = (refl, refl, refl, refl) }; unlisted = refl }
 
 pub issued_number : (p : ProfileName) → IsSure office_schema ISSUED_NUMBER.now (profile_params p)
 unfolding understood everything

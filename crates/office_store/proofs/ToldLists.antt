@@ -18,6 +18,8 @@ use Rattle.review_policy.specs.declared.revision.VoteRow.{VoteRow}
 use Rattle.office_tables.specs.declared.listed.Tally.{Tally}
 use Rattle.office_tables.specs.declared.row.UserRow.{UserRow}
 use Rattle.office_tables.specs.Lists.{holds_role, tally_of}
+use Rattle.office_store.specs.declared.numbers.Numbered.{Numbered}
+use Rattle.office_store.specs.Numbered.{numbered_row}
 use Rattle.office_store.specs.Lists.{number_row, name_row, listed_row, Cast, roles_of, cast_row, standing_of, IsCastForm, IsCastAs, AreCastAs, TellsVotes, TellsTally}
 use Rattle.office_store.specs.Shown.{Shows}
 use Rattle.office_store.specs.Calls.{IsRead}
@@ -112,6 +114,14 @@ same_listed_row a b same =
     let numbers : state_number a.state ≡ state_number b.state = cc in
     let state = numbered_as a.state b.state numbers in
     λ i. record { profile = profile i; number = number i; state = state i }
+
+pub same_numbered_row : (a b : Numbered) (row : Row) → row ≡ numbered_row a → row ≡ numbered_row b → a ≡ b
+same_numbered_row a b row is other =
+    let same : numbered_row a ≡ numbered_row b = sym is ∙ other in
+    let number : a.number ≡ b.number = cc in
+    let numbers : state_number a.state ≡ state_number b.state = cc in
+    let state = numbered_as a.state b.state numbers in
+    λ i. record { number = number i; state = state i }
 
 -- ---- votes, one for each row
 

@@ -12,3 +12,4 @@ pub mod Ballots
 pub mod Lists
 pub mod Refusing
 pub mod Summaries
+pub mod Numbered

@@ -10,7 +10,7 @@ use cap_sets::Caps;
 use office_founding::{OpeningFault, check_office, listed};
 use office_store::{
     Ballot, add_revision, baseline, delete_hold, first_listed, has_revision, held, is_author,
-    issued, issued_number, last, last_number, next_listed, put_baseline, put_hold, put_user,
+    issued, issued_number, last, last_numbered, next_listed, put_baseline, put_hold, put_user,
     put_vote, revision, set_issued, set_withdrawn, standing, summary_at, tally, user_by_name,
     user_by_token,
 };
@@ -171,7 +171,7 @@ fn make<S: Alter>(
         Call::HasRevision => has_revision(conn, profile),
         Call::IsAuthor => is_author(conn, profile, &user.name),
         Call::SummaryAt => is_there(summary_at(conn, profile, 1)),
-        Call::LastNumber => is_there(last_number(conn, profile)),
+        Call::LastNumber => is_there(last_numbered(conn, profile)),
         Call::IssuedNumber => is_there(issued_number(conn, profile)),
         Call::FirstListed => is_there(first_listed(alloc, conn, &profile.team)),
         Call::NextListed => is_there(next_listed(alloc, conn, &profile.team, &profile.profile)),

@@ -34,68 +34,60 @@ returns-in_err-decide_issue-2-clause-judged g c =
     (λ h lawful looks. refused_early_on h c.args.caller c.args.name.now c.args.number looked (looks h lawful refl) d
     (ap (λ f. first_denial (issue_rules f)) (sym c.facts_before_need.ensures) ∙ sym c.in_err-decide_issue-2.ensures)))
 
-pub returns-in_err-compared-clause-judged : goal.returns-in_err-compared-clause-judged
-returns-in_err-compared-clause-judged g c =
-    let old = state g.S.Store c.args.conn.now in
-    let mid = state g.S.Store c.look_up.new.conn in
-    let new = state g.S.Store c.compared_with.new.conn in
-    let fault = c.in_err-compared.field-0.0 in
-    left _ _ _ _ (refusals.Fault fault) c.from_residual-in_err-compared.ensures.1
-    (read_fails _ old new (λ t (x : Unit {0}). Unit {0}) fault
-    (second_fails old mid new _ _ c.in_ok-looked.looked c.in_ok-looked.ensures _ fault c.in_err-compared.ensures))
+pub deciding_need-requires-clause-is_open : goal.deciding_need-requires-clause-is_open
+deciding_need-requires-clause-is_open g c clean = (c.in_ok-looked.ensures.leaves.answered clean).1
 
 pub returns-in_err-need-clause-judged : goal.returns-in_err-need-clause-judged
 returns-in_err-need-clause-judged g c =
     let old = state g.S.Store c.args.conn.now in
     let mid = state g.S.Store c.look_up.new.conn in
-    let new = state g.S.Store c.compared_with.new.conn in
-    let looked = c.in_ok-looked.looked in
-    let compared = c.in_ok-compared.compared in
-    let both = read_pair old mid new _ _ looked compared c.in_ok-looked.ensures c.in_ok-compared.ensures in
-    left _ _ _ _ (refusals.Fault NoMemory) c.from_residual-in_err-need.ensures.1
-    (fails_after _ old new _ (looked, compared) both NoMemory refl)
+    let new = state g.S.Store c.deciding_need.new.conn in
+    let fault = c.in_err-need.field-0.0 in
+    left _ _ _ _ (refusals.Fault fault) c.from_residual-in_err-need.ensures.1
+    (read_fails _ old new (λ t (x : Unit {0}). Unit {0}) fault
+    (second_fails old mid new _ _ c.in_ok-looked.looked c.in_ok-looked.ensures _ fault c.in_err-need.ensures))
 
 pub returns-in_err-decide_issue-3-clause-judged : goal.returns-in_err-decide_issue-3-clause-judged
 returns-in_err-decide_issue-3-clause-judged g c =
     let old = state g.S.Store c.args.conn.now in
     let mid = state g.S.Store c.look_up.new.conn in
-    let new = state g.S.Store c.compared_with.new.conn in
+    let new = state g.S.Store c.deciding_need.new.conn in
     let looked = c.in_ok-looked.looked in
-    let compared = c.in_ok-compared.compared in
-    let both = read_pair old mid new _ _ looked compared c.in_ok-looked.ensures c.in_ok-compared.ensures in
+    let need = c.in_ok-need.need in
+    let both = read_pair old mid new _ _ looked need c.in_ok-looked.ensures c.in_ok-need.ensures in
     let d = c.in_err-decide_issue-3.field-0.0 in
     left _ _ _ _ (refusals.Denied d None) c.from_residual-in_err-decide_issue-3.ensures.1
-    (refused_after _ old new _ (looked, compared) both d None
+    (refused_after _ old new _ (looked, need) both d None
     (λ h lawful looks. refused_by_need h c.args.caller c.args.name.now c.args.number looked (looks.0 h lawful refl) c.in-Some.row c.in-Some.is
-    compared (looks.1 h lawful refl) c.in_ok-need.need c.in_ok-need.ensures d
+    need (looks.1 h lawful refl) d
     (ap (λ f. first_denial (issue_rules f)) (sym c.all_facts.ensures) ∙ sym c.in_err-decide_issue-3.ensures)))
 
 pub returns-in_err-clone-clause-judged : goal.returns-in_err-clone-clause-judged
 returns-in_err-clone-clause-judged g c =
     let old = state g.S.Store c.args.conn.now in
     let mid = state g.S.Store c.look_up.new.conn in
-    let new = state g.S.Store c.compared_with.new.conn in
+    let new = state g.S.Store c.deciding_need.new.conn in
     let looked = c.in_ok-looked.looked in
-    let compared = c.in_ok-compared.compared in
-    let both = read_pair old mid new _ _ looked compared c.in_ok-looked.ensures c.in_ok-compared.ensures in
+    let need = c.in_ok-need.need in
+    let both = read_pair old mid new _ _ looked need c.in_ok-looked.ensures c.in_ok-need.ensures in
     left _ _ _ _ (refusals.Fault NoMemory) c.from_residual-in_err-clone.ensures.1
-    (fails_after _ old new _ (looked, compared) both NoMemory refl)
+    (fails_after _ old new _ (looked, need) both NoMemory refl)
 
 pub returns-clause-judged : goal.returns-clause-judged
 returns-clause-judged g c =
     let same : c.in_ok-clone.field-0 ≡ c.args.name.now = search rules in
     let old = state g.S.Store c.args.conn.now in
     let mid = state g.S.Store c.look_up.new.conn in
-    let new = state g.S.Store c.compared_with.new.conn in
+    let new = state g.S.Store c.deciding_need.new.conn in
     let looked = c.in_ok-looked.looked in
-    let compared = c.in_ok-compared.compared in
-    let both = read_pair old mid new _ _ looked compared c.in_ok-looked.ensures c.in_ok-compared.ensures in
-    found_after _ old new _ (looked, compared) both
+    let need = c.in_ok-need.need in
+    let both = read_pair old mid new _ _ looked need c.in_ok-looked.ensures c.in_ok-need.ensures in
+    found_after _ old new _ (looked, need) both
     (record { caller = c.args.caller; change = changes.Issue c.in_ok-clone.field-0 c.args.number; reply = Issued c.in-Some.row.digest })
     (λ h lawful looks. record {
       caller = refl;
       verdict = accepts h c.args.caller c.args.name.now c.args.number looked (looks.0 h lawful refl) c.in-Some.row c.in-Some.is
-          compared (looks.1 h lawful refl) c.in_ok-need.need c.in_ok-need.ensures
+          need (looks.1 h lawful refl)
           (ap (λ f. first_denial (issue_rules f)) (sym c.all_facts.ensures) ∙ sym c.in_ok-decide_issue-3.ensures)
           ∙ ap (λ p. accepted (Issued c.in-Some.row.digest) (Some (issued c.args.caller.name p c.args.number))) (sym same);
       next = tt;
