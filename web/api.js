@@ -6,7 +6,7 @@ const SECONDS = 60;
 const TIMES = 6;
 
 /**
- * @typedef {{ team?: string, profile?: string, revision?: number, user?: string }} About what a request is about
+ * @typedef {{ team?: string, profile?: string, revision?: number, before?: number, user?: string }} About what a request is about
  * @typedef {{ status: number, text: string, bytes: ArrayBuffer, json: any, done: boolean, lost: 'time' | 'connection' | null,
  *   seconds: number }} Answer an answer; `json` where it is one of the office, `lost` where none came
  */
@@ -28,6 +28,9 @@ const REQUESTS = {
   fetch: ['GET', (about) => `/issued/${about.team}/${about.profile}`],
   hold: ['POST', (about) => `/hold/${about.team}/${about.profile}`],
   release: ['POST', (about) => `/release/${about.team}/${about.profile}`],
+  me: ['GET', () => '/me'],
+  revisions: ['GET', (about) => `/p/${about.team}/${about.profile}${about.before ? `?before=${about.before}` : ''}`],
+  issued: ['GET', (about) => `/issued/${about.team}/${about.profile}/digest`],
 };
 
 /**

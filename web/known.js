@@ -1,10 +1,14 @@
-// What the answers have shown: which roles the user of the token holds, which profiles are held, and what this office has listed.
+// What the answers have shown: who the user of the token is, which roles that user holds, which profiles are held, and what this office has
+// listed.
 
 import { rolesFor } from './refusals.js';
+import { ROLES } from './words.js';
 
 /** What is known of the user of a token, of holds and of what is listed, by the answers that came. */
 export class Known {
   constructor() {
+    /** @type {{ user: string, team: string, roles: string[] } | null} who the office says that it is */
+    this.me = null;
     /** @type {Map<string, boolean>} a role, or several in a row of which at least one is held, by what `rolesFor` gives */
     this.roles = new Map();
     /** @type {Map<string, { held: boolean, at: Date }>} by TEAM/PROFILE */
@@ -24,18 +28,29 @@ export class Known {
     const { json, done } = answer;
     const word = json?.answer === 'denied' ? json.word : '';
     this.unknown = word === 'caller-unknown' || (this.unknown && !done && !word);
-    if (done || (word && word !== 'caller-unknown')) {
+    if (this.unknown) this.me = null;
+    if (kind === 'me' && done && Array.isArray(json?.roles)) {
+      this.me = { user: String(json.user), team: String(json.team), roles: json.roles };
+      this.roles = new Map(ROLES.map((role) => [role, json.roles.includes(role)]));
+    } else if (done || (word && word !== 'caller-unknown')) {
       const roles = rolesFor(kind);
       if (word === 'role-missing') for (const role of roles) this.roles.set(role, false);
-      else if (['list', 'show', 'sheet'].includes(kind) && word === 'other-team') {
+      else if (['list', 'show', 'sheet', 'revisions'].includes(kind) && word === 'other-team') {
         // who may read every team isn't refused so, and who holds none of the roles is refused before
         for (const role of roles) this.roles.set(role, role === 'author');
-      } else if (roles.length === 1) this.roles.set(roles[0], true);
-      else this.roles.set(roles.join(), true);
+      } else if (roles.length) this.roles.set(roles.join(), true);
     }
     const held = word === 'held' || word === 'already-held' || (kind === 'hold' && done) ? true
-      : word === 'not-held' || (done && ['release', 'issue', 'fetch'].includes(kind)) ? false : null;
+      : word === 'not-held' || (done && ['release', 'issue', 'fetch', 'issued'].includes(kind)) ? false : null;
     if (held !== null) this.holds.set(`${about.team}/${about.profile}`, { held, at: new Date() });
+  }
+
+  /**
+   * Whether the user holds this role, as the office last said, or undefined.
+   * @param {string} role
+   */
+  may(role) {
+    return this.roles.get(role);
   }
 
   /** Which of the roles are known to be held, which not, and of which sets one at least is. */

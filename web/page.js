@@ -13,7 +13,10 @@ import { tabToken } from './token.js';
 /** @typedef {{ view: string, team: string, profile: string, revision: number, other: number, digest: string, teams: string[] }} Place */
 
 /** What the page keeps, in memory alone: it is gone with the tab, and with the token. */
-export const memory = { token: '', name: '', teams: /** @type {string[]} */ ([]), known: new Known() };
+export const memory = { token: '', teams: /** @type {string[]} */ ([]), known: new Known() };
+
+/** The name of the user whose token it is, as the office said; nothing where it hasn't. */
+export const self = () => memory.known.me?.user ?? '';
 
 /** The token over a reload, where that was chosen. */
 export const tab = tabToken(() => sessionStorage);
@@ -37,8 +40,9 @@ export const ask = asker({
   token: () => memory.token, fetch: (target, how) => fetch(target, how), sleep: (time) => new Promise((on) => setTimeout(on, time)),
   heard: (kind, about, answer) => {
     memory.known.learn(kind, about, answer);
-    const said = rolesSaid();
-    if (at('who-roles') && at('who-roles').textContent !== said) at('who-roles').textContent = said;
+    for (const [id, said] of [['who-name', whoSaid()], ['who-roles', rolesSaid()]]) {
+      if (at(id) && at(id).textContent !== said) at(id).textContent = said;
+    }
   },
 });
 
@@ -160,22 +164,30 @@ function header() {
   const focused = document.activeElement?.id;
   at('places').replaceChildren(el('ul', {}, targets.map(([view, text, target]) => el('li', {}, link(target, text, {
     id: `to-${view}`, 'aria-current': view === here ? 'page' : null })))));
-  at('who').replaceChildren(el('span', { id: 'who-name' }, memory.name ? `${memory.name} (as typed, not checked)` : 'Token in memory'), ' ',
+  at('who').replaceChildren(el('span', { id: 'who-name' }, whoSaid()), ' ',
     el('span', { id: 'who-roles' }, rolesSaid()), ' ', button('forget', 'Forget the token', forget, 'quiet'));
   if (focused && document.activeElement?.id !== focused) at(focused)?.focus({ preventScroll: true });
 }
 
-// Which roles the answers have shown.
+// Whose the token is, as the office said.
+function whoSaid() {
+  const { me, unknown } = memory.known;
+  if (unknown) return 'Nobody shows this token';
+  return me ? `${me.user}, of the team ${me.team}` : 'Token in memory';
+}
+
+// Which roles the user of the token holds; where the office hasn't said, which the answers have shown.
 function rolesSaid() {
-  if (memory.known.unknown) return 'nobody shows this token';
   const { yes, no, one } = memory.known.shown();
+  if (memory.known.unknown) return '';
+  if (memory.known.me) return `Roles: ${yes.length ? yes.join(', ') : 'none'}`;
   const parts = [...yes, ...one.map((roles) => listed(roles, 'or'))];
   return `Roles, by the answers: ${parts.length ? parts.join(', ') : 'none seen'}${no.length ? `; not ${listed(no, 'or')}` : ''}`;
 }
 
 function forget() {
   tab.drop();
-  memory.token = memory.name = '';
+  memory.token = '';
   memory.known = new Known();
   kept.clear();
   hush();
@@ -251,6 +263,7 @@ export async function draw(moved, back) {
   /** @type {any[]} */
   let parts;
   try {
+    if (memory.token && !memory.known.me) await read('me', {});
     parts = [memory.token ? await views[now.view](now) : views.entrance(now)];
   } catch (error) {
     if (mine !== turn) return '';
@@ -283,7 +296,7 @@ export async function draw(moved, back) {
 // Takes the token that the tab kept.
 function resume() {
   const shown = tab.read();
-  if (shown && TOKEN.test(shown.token)) [memory.token, memory.name] = [shown.token, WORD.test(shown.name) ? shown.name : ''];
+  if (shown && TOKEN.test(shown)) memory.token = shown;
 }
 
 /** Begins: draws the place of the address, and each that one goes to. */
@@ -296,7 +309,7 @@ export function begin() {
   });
   addEventListener('error', (event) => sayBug(event.error ?? { message: event.message }));
   addEventListener('unhandledrejection', (event) => sayBug(event.reason));
-  addEventListener('pagehide', () => { memory.token = memory.name = ''; });
+  addEventListener('pagehide', () => { memory.token = ''; });
   addEventListener('pageshow', (event) => {
     if (!event.persisted) return;
     resume();
@@ -329,7 +342,7 @@ export async function sent(pressed, kind, about, body, again) {
   hush();
   const answer = await ask(kind, about, body);
   if (!answer.lost) return answer;
-  beside(pressed, [lostSaid(answer.lost, answer.seconds), '', kind === 'fetch' ? 'Nothing was changed.'
+  beside(pressed, [lostSaid(answer.lost, answer.seconds), '', ['fetch', 'issued'].includes(kind) ? 'Nothing was changed.'
     : 'Nobody knows whether the office did it. Asking again does no harm: what stands already is told so.'], again);
   return null;
 }

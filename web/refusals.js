@@ -6,13 +6,15 @@ import { DOCUMENT_FAULTS, NEEDED, NO_REQUEST, RULES, STORE_FAULTS, listed, plain
 const DOES = {
   enrol: 'Enrolling', submit: 'Handing in', vote: 'Voting', issue: 'Issuing', withdraw: 'Withdrawing', adopt: 'Adopting',
   hold: 'Holding', release: 'Releasing', fetch: 'Fetching', list: 'Listing', show: 'Reading a revision', sheet: 'Reading a sheet',
+  me: 'Asking who one is', revisions: 'Listing revisions', issued: 'Asking what is issued',
 };
 
 /**
- * The roles of which a request needs one.
+ * The roles of which a request needs one; none where anybody may ask.
  * @param {string} kind
+ * @returns {string[]}
  */
-export const rolesFor = (kind) => NEEDED.find(([, kinds]) => kinds.includes(kind))[0];
+export const rolesFor = (kind) => NEEDED.find(([, kinds]) => kinds.includes(kind))?.[0] ?? [];
 
 const some = (number, one) => `${number} ${one}${number === 1 ? '' : 's'}`;
 const article = (role) => (role === 'security' ? role : `${/^[aeiou]/.test(role) ? 'an' : 'a'} ${role}`);
@@ -42,6 +44,7 @@ const REFUSALS = {
   'token-taken': () => ['Another user shows a token with this digest now.', 'Make another token, and enrol with its digest.'],
   'other-team': (kind, answer, about) => [`The user of this token is of another team than ${about.team}.`,
     { submit: 'An author hands in for the own team alone.', fetch: 'A machine fetches what is issued for the own team alone.',
+      issued: 'A machine sees what is issued for the own team alone.',
       withdraw: 'An author of that team or security has to withdraw it.' }[kind]
       ?? 'A reviewer, security or an issuer may read every team.'],
   'document': (kind, answer) => faultSaid(answer.fault),

@@ -2,18 +2,15 @@
 
 const NAME = 'office';
 
-/** @typedef {{ token: string, name: string }} Shown a token, and the name that was typed with it */
-
 /**
  * What keeps a token for the life of a tab. Reading gives null where nothing of this form is there; a browser may refuse to keep anything.
  * @param {() => Storage} storage
  */
 export const tabToken = (storage) => ({
-  /** @returns {Shown | null} */
+  /** @returns {string | null} */
   read() {
     try {
-      const { token, name } = JSON.parse(storage().getItem(NAME) ?? 'null') ?? {};
-      return typeof token === 'string' && typeof name === 'string' ? { token, name } : null;
+      return storage().getItem(NAME);
     } catch {
       return null;
     }
@@ -21,11 +18,11 @@ export const tabToken = (storage) => ({
 
   /**
    * Keeps it; false where the browser doesn't.
-   * @param {Shown} shown
+   * @param {string} token
    */
-  keep({ token, name }) {
+  keep(token) {
     try {
-      storage().setItem(NAME, JSON.stringify({ token, name }));
+      storage().setItem(NAME, token);
       return true;
     } catch {
       return false;

@@ -20,8 +20,8 @@ export const NEEDED = [
   [['issuer'], ['issue']],
   [['author', 'security'], ['withdraw']],
   [['security'], ['adopt', 'hold', 'release']],
-  [['author', 'reviewer', 'security', 'issuer'], ['show', 'sheet', 'list']],
-  [['machine'], ['fetch']],
+  [['author', 'reviewer', 'security', 'issuer'], ['show', 'sheet', 'list', 'revisions']],
+  [['machine'], ['fetch', 'issued']],
 ];
 
 /**
@@ -76,13 +76,13 @@ export const listed = (words, last = 'and') =>
  */
 export const RULES = [
   [['caller-unknown'], "no user's present digest is that of the token"],
-  [['role-missing'], `the caller doesn't hold the role. It is ${NEEDED.map(([roles, kinds]) =>
+  [['role-missing'], `the caller lacks the role. It is ${NEEDED.map(([roles, kinds]) =>
     `${listed(roles, 'or')} for ${listed(kinds.map((kind) => `\`${kind}\``))}`).join('. It is ')}`],
   [['own-row'], 'the user to be enrolled is the caller'],
   [['team-fixed'], 'the user is enrolled already, in another team'],
   [['token-taken'], 'another user shows this digest now'],
-  [['other-team'], 'the caller is of another team. For `show`, `sheet` and `list` a reviewer, security or an issuer passes; for '
-    + '`withdraw` security does'],
+  [['other-team'], 'the caller is of another team. For `show`, `sheet`, `list` and `revisions` a reviewer, security or an issuer '
+    + 'passes; for `withdraw` security does'],
   [['document'], "the document doesn't read; the answer names its fault"],
   [['same-as-open'], "the document's canonical text is that of the profile's open revision"],
   [['revisions-full'], 'the profile has 9,999 revisions'],
@@ -152,7 +152,7 @@ export const NO_REQUEST = [
   ['it has at most one `Content-Length`, which is digits alone; without one the body is empty', '400', '`bad-length`'],
   ['the body has at most 262,144 bytes', '413', '`too-large`'],
   ['the target is one of the routes', '404', '`no-route`'],
-  ['the method is that of the route, which `Allow` names', '405', '`wrong-method`'],
+  ["the method is one of the target's, which `Allow` names", '405', '`wrong-method`'],
   ['there is one `Authorization` that shows a token', '400', '`no-token`'],
   ['the body comes whole', '', 'no answer; it prints `fault ended`'],
   ['the body is of the form of its route, or empty', '400', '`not-a-request`'],

@@ -23,10 +23,14 @@ test('each kind has its method and target', async () => {
   const kinds = { enrol: 'POST /users', submit: 'POST /p/blue/web', list: 'GET /p/blue', show: 'GET /p/blue/web/3',
     sheet: 'GET /p/blue/web/3/sheet', vote: 'POST /p/blue/web/3/vote', issue: 'POST /p/blue/web/3/issue',
     withdraw: 'POST /p/blue/web/3/withdraw', adopt: 'POST /p/blue/web/3/adopt', fetch: 'GET /issued/blue/web',
-    hold: 'POST /hold/blue/web', release: 'POST /release/blue/web' };
+    hold: 'POST /hold/blue/web', release: 'POST /release/blue/web', me: 'GET /me', revisions: 'GET /p/blue/web',
+    issued: 'GET /issued/blue/web/digest' };
   const { ask, asked } = over(Object.keys(kinds).map(() => response(200, '{"answer":"done"}')));
   for (const kind of Object.keys(kinds)) assert.equal((await ask(kind, ABOUT)).done, true);
   assert.deepEqual(asked, Object.values(kinds).map((one) => `${one} Bearer t`));
+  const older = over([response(200, '{"answer":"done"}')]);
+  await older.ask('revisions', { ...ABOUT, before: 7 });
+  assert.deepEqual(older.asked, ['GET /p/blue/web?before=7 Bearer t']);
 });
 
 test('an answer of the office is told from a sheet and from what a proxy says', async () => {
@@ -93,11 +97,24 @@ test('what answers show of roles', () => {
   assert.deepEqual(shown(['withdraw', '']).one, [['author', 'security']]);
 });
 
+test('who the office says that one is', () => {
+  const known = new Known();
+  const hear = (kind, json) => known.learn(kind, ABOUT, { status: json.answer === 'done' ? 200 : 403, done: json.answer === 'done', json });
+  hear('me', { answer: 'done', roles: ['author', 'reviewer'], team: 'blue', user: 'ben' });
+  assert.deepEqual(known.me, { user: 'ben', team: 'blue', roles: ['author', 'reviewer'] });
+  assert.deepEqual(known.shown(), { yes: ['author', 'reviewer'], no: ['registrar', 'security', 'issuer', 'machine'], one: [] });
+  assert.deepEqual([known.may('reviewer'), known.may('issuer')], [true, false]);
+  hear('vote', { answer: 'denied', rule: 2, word: 'role-missing' });
+  assert.equal(known.may('reviewer'), false);
+  hear('me', { answer: 'denied', rule: 1, word: 'caller-unknown' });
+  assert.deepEqual([known.unknown, known.me], [true, null]);
+});
+
 test('what answers show of holds', () => {
   const known = new Known();
   const hear = (kind, word) => known.learn(kind, ABOUT, { status: 0, done: !word, json: word ? { answer: 'denied', word } : null });
   const rows = [['issue', 'held', true], ['issue', '', false], ['hold', '', true], ['release', '', false], ['hold', 'already-held', true],
-    ['fetch', '', false], ['fetch', 'held', true], ['release', 'not-held', false], ['fetch', 'nothing-issued', false], ['vote', '', false]];
+    ['fetch', '', false], ['fetch', 'held', true], ['issued', '', false], ['issued', 'held', true], ['release', 'not-held', false], ['fetch', 'nothing-issued', false], ['vote', '', false]];
   assert.equal(known.hold(ABOUT), undefined);
   for (const [kind, word, held] of rows) {
     hear(kind, word);

@@ -14,21 +14,15 @@ test('a token that is kept is read again, and is gone once it is dropped', () =>
   const given = storage();
   const tab = over(given);
   assert.equal(tab.read(), null);
-  assert.equal(tab.keep({ token: 't-bea', name: 'bea' }), true);
-  assert.deepEqual(tab.read(), { token: 't-bea', name: 'bea' });
+  assert.equal(tab.keep('t-bea'), true);
+  assert.equal(tab.read(), 't-bea');
   assert.equal(given.items.size, 1);
   tab.drop();
   assert.equal(tab.read(), null);
   assert.equal(given.items.size, 0);
 });
 
-test('what isn’t of the form is no token', () => {
-  for (const kept of ['', 'x', 'null', '[]', '7', '{"token":7,"name":"bea"}', '{"token":"t"}', '{"name":"bea"}']) {
-    assert.equal(over(storage({ office: kept })).read(), null, kept);
-  }
-});
-
 test('a browser that keeps nothing is no fault', () => {
   const tab = tabToken(() => { throw new DOMException('', 'SecurityError'); });
-  assert.deepEqual([tab.read(), tab.keep({ token: 't', name: '' }), tab.drop()], [null, false, undefined]);
+  assert.deepEqual([tab.read(), tab.keep('t'), tab.drop()], [null, false, undefined]);
 });

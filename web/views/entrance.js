@@ -6,21 +6,22 @@ import { TOKEN, areNames, ask, draw, hush, memory, place, say, tab, to } from '.
 export function entranceView() {
   const enter = async (event) => {
     event.preventDefault();
-    const [token, name, named] = ['token', 'name', 'teams'].map((id) => at(id).value.trim());
-    const list = [...new Set(named.split(/[\s,]+/).filter(Boolean))];
+    const [token, named] = ['token', 'teams'].map((id) => at(id).value.trim());
+    let list = [...new Set(named.split(/[\s,]+/).filter(Boolean))];
     if (!TOKEN.test(token)) return say('refused', 'A token is 1 to 128 characters without spaces.', '', 'Enter the one that you were given.');
-    if (!areNames([...list, ...(name ? [name] : [])], 'a user or a team')) return;
+    if (!areNames(list, 'a team')) return;
     const keep = at('keep').checked;
     memory.token = token;
-    memory.name = name;
     at('token').value = '';
     hush();
     tab.drop();
-    if (keep && !tab.keep({ token, name })) say('plain', 'This browser keeps nothing for the page, so a reload will ask for the token again.');
+    if (keep && !tab.keep(token)) say('plain', 'This browser keeps nothing for the page, so a reload will ask for the token again.');
     const now = place();
+    await ask('me', {});
+    // an author works on the own team
+    const { me } = memory.known;
+    if (!list.length && me?.roles.includes('author')) list = [me.team];
     if (list.length) memory.teams = list;
-    // the answer to a list tells which roles a user may have; where a place asks for one itself this one isn't needed
-    if (!['queue', 'profiles', 'profile', 'compare'].includes(now.view) && list.length) await ask('list', { team: list[0] });
     if (now.view === 'queue' && list.length && list.join() !== now.teams.join()) to(`queue/${list.join(',')}`);
     else draw(true);
   };
@@ -30,8 +31,6 @@ export function entranceView() {
       + 'alone, and is gone with the tab or a reload, unless you choose otherwise.'),
     el('form', { id: 'entrance', submit: enter },
       field('token', 'Token', null, { type: 'password', required: true, maxlength: '128', 'data-first': true }),
-      field('name', 'Your name in the office',
-        'Optional, and not checked: no answer of the office says whose a token is. The page finds your votes by it.', { maxlength: '64' }),
       field('teams', 'Teams', 'Optional, with commas between them, as: blue, green',
         { value: place().teams.join(', ') || memory.teams.join(', ') }),
       el('p', { class: 'field' },

@@ -1,16 +1,33 @@
 // Fetching what is issued, as a host does.
 
 import { sha256 } from '../api.js';
-import { at, el, field, some } from '../elements.js';
+import { at, button, el, field, some } from '../elements.js';
 import { indented } from '../json.js';
 import { alone, areNames, memory, say, sent } from '../page.js';
 import { refusal } from '../refusals.js';
 import { opened } from './differing.js';
 
-async function send() {
+// The profile that is named in the form, or null where it is none.
+function named() {
   const [team, profile] = [at('fetch-team').value.trim(), at('fetch-profile').value.trim()];
-  if (!areNames([team, profile], 'a team or a profile')) return;
+  if (!areNames([team, profile], 'a team or a profile')) return null;
   at('fetched').replaceChildren();
+  return { team, profile };
+}
+
+async function look() {
+  const about = named();
+  const answer = about && await sent('fetch-look', 'issued', about, undefined, () => alone(look));
+  if (!answer) return;
+  if (!answer.done || !answer.json) return say('refused', ...refusal('issued', answer, about));
+  const { revision, digest } = answer.json;
+  say('done', `Revision ${revision} of ${about.team}/${about.profile} is issued, with the digest ${digest}.`);
+}
+
+async function send() {
+  const about = named();
+  if (!about) return;
+  const { team, profile } = about;
   const answer = await sent('fetch-send', 'fetch', { team, profile }, undefined, () => alone(send));
   if (!answer) return;
   if (!answer.done) return say('refused', ...refusal('fetch', answer, { team, profile }));
@@ -33,6 +50,7 @@ export function fetchView(now) {
       field('fetch-team', 'Team', null, { value: now.team || (memory.teams.length === 1 ? memory.teams[0] : ''), required: true,
         maxlength: '64' }),
       field('fetch-profile', 'Profile', null, { value: now.profile, required: true, maxlength: '64' }),
-      el('p', {}, el('button', { id: 'fetch-send', class: 'main' }, 'Fetch'))),
+      el('p', { class: 'buttons' }, el('button', { id: 'fetch-send', class: 'main' }, 'Fetch'),
+        button('fetch-look', 'Which is issued', () => alone(look), ''))),
     el('div', { id: 'fetched' }));
 }

@@ -4,12 +4,16 @@ import { sha256 } from '../api.js';
 import { SETS } from '../document.js';
 import { at, badge, button, chips, code, el, link, notice, some } from '../elements.js';
 import { indented, squeezed } from '../json.js';
-import { memory, read, to } from '../page.js';
+import { memory, read, self, to } from '../page.js';
 import { against, holds, readSheet, sheetOf, still, voteSaid } from '../sheet.js';
 import { decideCard } from './decide.js';
 import { baselineOf, differing, documentOf, opened } from './differing.js';
 import { findingsList } from './findings.js';
+import { nameSaid, revisionsCard } from './revisions.js';
 import { heldBadge, refused } from './teams.js';
+
+/** How many revisions the office lists at once. */
+const LISTED = 100;
 
 /** @typedef {import('../document.js').Profile} Profile */
 /** @typedef {import('../sheet.js').Sheet} Sheet */
@@ -27,7 +31,10 @@ export async function profileView(now) {
   const own = list.json.profiles.find((one) => one.profile === about.profile);
   if (!own) return [title, el('p', { class: 'empty' }, `The team ${about.team} has no profile ${about.profile}.`)];
   if (!about.revision) about.revision = own.revisions;
-  const [shown, told] = await Promise.all([read('show', about), read('sheet', about)]);
+  // the newest revisions, or those around one that isn't among them
+  const before = own.revisions - about.revision < LISTED ? undefined : about.revision + LISTED / 2;
+  const [shown, told, revisions] = await Promise.all(
+    [read('show', about), read('sheet', about), read('revisions', { ...about, before })]);
   if (!shown.done || typeof shown.json?.document !== 'string') return [title, refused('show', shown, about)];
   const sheet = told.done ? readSheet(told.text) : null;
   if (!sheet) return [title, told.done ? el('p', { class: 'notice refused inline' }, 'What came as its sheet is no review sheet.')
@@ -46,11 +53,11 @@ export async function profileView(now) {
     el('div', { class: 'title' }, title, badge(state), heldBadge(about)),
     el('div', { class: 'deciding' },
       el('div', { class: 'read' },
-        summaryCard(about, own, sheet, reading, needs),
+        summaryCard(about, own, sheet, reading, needs, revisions.json?.revisions?.find((one) => one.revision === about.revision)),
         el('div', { class: 'beside' },
           el('div', {}, findingsCard(sheet, reading, profile, base.profile), keepsCard(sheet)),
           el('div', {}, await differsCard(about, own, profile), votesCard(sheet, needs, isWrong(reading)))),
-        grantsCard(sheet), documentCard(text, wrong, pre),
+        grantsCard(sheet), documentCard(text, wrong, pre), revisionsCard(about, revisions),
         el('details', { class: 'card' }, el('summary', {}, 'The sheet as the office wrote it'),
           el('pre', { id: 'sheet', tabindex: '0', role: 'region', 'aria-label': 'The sheet as the office wrote it' }, sheet.text))),
       decideCard(about, state, sheet, reading, own)),
@@ -81,7 +88,7 @@ async function verified(about, json, sheet, profile, base, pre, text) {
 }
 
 // What decides, in short.
-function summaryCard(about, own, sheet, reading, needs) {
+function summaryCard(about, own, sheet, reading, needs, handed) {
   const issued = !own.issued ? 'no revision' : own.issued === about.revision ? 'this revision'
     : ['revision ', link(`profile/${about.team}/${about.profile}/${own.issued}`, String(own.issued))];
   const told = reading.same ? 'It is the digest that the sheet names.'
@@ -95,6 +102,7 @@ function summaryCard(about, own, sheet, reading, needs) {
     el('dl', {},
       el('div', {}, el('dt', {}, 'Still needed'), el('dd', { id: 'needed', class: needs.ready ? 'ready' : '' }, needs.text)),
       el('div', {}, el('dt', {}, 'Issued now'), el('dd', {}, issued)),
+      handed && el('div', {}, el('dt', {}, 'Handed in by'), el('dd', { id: 'handed-by' }, nameSaid(handed.by))),
       el('div', {}, el('dt', {}, 'Compared with'), el('dd', { id: 'baseline' }, baselineSaid(sheet, about))),
       el('div', { class: 'wide' }, el('dt', {}, 'SHA-256 of the text below'),
         el('dd', {}, el('code', { id: 'digest', class: 'digest' }, reading.digest),
@@ -182,7 +190,7 @@ function votesCard(sheet, needs, wrong) {
   return el('section', { class: 'card', 'aria-labelledby': 'votes-title' }, el('h2', { id: 'votes-title' }, 'Votes'),
     sheet.votes.length ? el('ul', { class: 'plain', id: 'votes' },
       sheet.votes.map((vote) => el('li', { class: vote.lapsed ? 'lapsed' : vote.vote },
-        el('strong', {}, vote.name), vote.name === memory.name ? ' (you) ' : ' ', voteSaid(vote))))
+        el('strong', {}, vote.name), vote.name === self() ? ' (you) ' : ' ', voteSaid(vote))))
       : el('p', { class: 'empty' }, 'Nobody has voted.'),
     el('p', {}, !wrong && `It needs ${sheet.need === 2 ? 'two approvals, at least one with security' : 'one approval'}. `,
       el('span', { class: needs.ready ? 'ready' : '' }, needs.text)));

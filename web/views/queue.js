@@ -1,8 +1,8 @@
 // What is open in teams, and what it still needs.
 
 import { eachOf } from '../api.js';
-import { at, button, el, field, link, some } from '../elements.js';
-import { ask, memory, read, stays } from '../page.js';
+import { at, badge, button, el, field, link, some } from '../elements.js';
+import { ask, memory, read, self, stays } from '../page.js';
 import { readSheet, still } from '../sheet.js';
 import { heldBadge, noProfile, refused, teamsForm } from './teams.js';
 
@@ -10,6 +10,7 @@ import { heldBadge, noProfile, refused, teamsForm } from './teams.js';
 const AT_A_TIME = 6;
 
 /** @typedef {{ about: { team: string, profile: string, revision: number }, item: any, voted: any }} Row */
+/** @typedef {{ mine: boolean, author: boolean }} Handed whether the user handed in what is open, and whether any revision of the profile */
 
 // A row of the queue: the name of what is open, and then what its sheet says.
 function rowOf(team, one, voted) {
@@ -21,18 +22,51 @@ function rowOf(team, one, voted) {
   return { about, item, voted };
 }
 
-// Fills a row by the answer to its sheet, and puts it behind those that wait where one has voted on it.
-function fill({ about, item, voted }, answer) {
+/**
+ * What the user handed in of a profile. A team's profiles are handed in by users of that team alone, so of another team nothing is asked.
+ * @returns {Promise<Handed>}
+ */
+async function handedIn({ team, profile }) {
+  const found = { mine: false, author: false };
+  const { me } = memory.known;
+  const votes = memory.known.may('reviewer');
+  if (team !== me?.team || !(votes || memory.known.may('author'))) return found;
+  for (let before = 0; ;) {
+    const { done, json } = await ask('revisions', before ? { team, profile, before } : { team, profile });
+    if (!done || !json?.revisions?.length) return found;
+    const own = json.revisions.map((one) => one.by === me.user);
+    found.mine ||= !before && own[0];
+    found.author ||= own.includes(true);
+    if (found.author || !votes || !json.more) return found;
+    before = json.revisions.at(-1).revision;
+  }
+}
+
+// What a row says of the user's vote: nothing where that user may not vote.
+function voteOf(own, handed) {
+  if (own) return `you ${own.vote === 'approve' ? 'approved' : 'rejected'}${own.lapsed ? ', lapsed' : ''}`;
+  return memory.known.may('reviewer') && !handed.author ? 'not yet' : '';
+}
+
+/**
+ * Fills a row by the answer to its sheet, and puts it behind those that wait where one has voted on it.
+ * @param {Row} row
+ * @param {any} answer
+ * @param {Handed} handed
+ */
+function fill({ about, item, voted }, answer, handed) {
   const sheet = answer.done ? readSheet(answer.text) : null;
-  const own = sheet?.votes.find((vote) => vote.name === memory.name);
+  const own = sheet?.votes.find((vote) => vote.name === self());
   const needs = sheet && still(sheet);
   const held = memory.known.hold(about)?.held;
+  const vote = voteOf(own, handed);
+  const marks = [handed.mine && 'mine', sheet?.rejecting.length && 'rejected'].filter(Boolean);
+  item.firstChild.append(...marks.flatMap((one) => [' ', badge(one)]));
   item.lastChild.replaceWith(!sheet ? refused('sheet', answer, about) : el('dl', {},
     el('div', { class: 'wide' }, el('dt', {}, 'Still needs'), el('dd', { class: needs.ready && !held ? 'ready' : '' },
       needs.ready && held ? 'A release by security: it has its approvals, and is held.' : needs.text)),
     el('div', {}, el('dt', {}, 'New'), el('dd', {}, some(sheet.findings.length, 'finding'))),
-    memory.name && el('div', {}, el('dt', {}, 'Your vote'),
-      el('dd', {}, own ? `you ${own.vote === 'approve' ? 'approved' : 'rejected'}${own.lapsed ? ', lapsed' : ''}` : 'not yet'))));
+    vote && el('div', {}, el('dt', {}, 'Your vote'), el('dd', {}, vote))));
   if (!own) return;
   const focused = item.contains(document.activeElement) ? document.activeElement : null;
   voted.append(item);
@@ -76,7 +110,6 @@ export async function queueView() {
       el('span', { id: 'sifted', role: 'status' })), el('p', { class: 'hint', id: 'asked', role: 'status' }, 'Asking for the sheets …'));
     fillAll(rows);
   }
-  if (!memory.name) sections.push(el('p', { class: 'hint' }, 'You gave no name, so the page can’t tell which votes are yours.'));
   return [parts, sections];
 }
 
@@ -87,10 +120,11 @@ async function fillAll(rows) {
   const filled = new Set();
   await eachOf(rows, AT_A_TIME, async (row) => {
     const answer = await ask('sheet', row.about);
+    const handed = answer.lost ? null : await handedIn(row.about);
     if (!here()) return;
     if (answer.lost) lost = true;
     else {
-      fill(row, answer);
+      fill(row, answer, handed);
       filled.add(row);
       if (at('filter')?.value) sift(rows);
     }

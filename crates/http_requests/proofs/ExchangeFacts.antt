@@ -8,7 +8,7 @@ use Rattle.http_requests.specs.Ends.{HasNoEnd, IsHeadEnd}
 use Rattle.http_requests.specs.Exchanges.{Exchange, ended, exchange_of, token_of, with_fields, with_route, with_token, IsExchange, IsOfHead}
 use Rattle.http_requests.specs.Fields.{judge_fields}
 use Rattle.http_requests.specs.Heads.{fields_of}
-use Rattle.http_requests.specs.Targets.{answer_of, route_of}
+use Rattle.http_requests.specs.Targets.{answer_of, resource_of}
 use Rattle.http_requests.specs.declared.refusal.Refusal.{Refusal}
 use Rattle.http_requests.specs.declared.route.Route.{Route}
 use Rattle.http_requests.proofs.HeadFacts.{end_stays, head_end_stays}
@@ -73,7 +73,7 @@ module _ (rest more : List ℕ) where
 
   fields_stay : (h : RequestHead) (judged : Result ℕ Refusal) → with_fields h rest judged ≢ ended → with_fields h (rest ++ more) judged ≡ with_fields h rest judged
   fields_stay h (Err why) whole = refl
-  fields_stay h (Ok size) whole = route_stays size (token_of h) (answer_of h.method (route_of h.target)) whole
+  fields_stay h (Ok size) whole = route_stays size (token_of h) (answer_of h.method (resource_of h.target)) whole
 
   of_head_stays : (head : List ℕ) (x : Exchange) → IsOfHead head rest x → x ≢ ended → IsOfHead head (rest ++ more) x
   of_head_stays head x (inl (h, of, is)) whole =

@@ -18,7 +18,7 @@ use Rattle.http_requests.specs.Exchanges.{Exchange, asks, refused, ended, with_r
 use Rattle.http_requests.specs.Fields.{shown, shown_token}
 use Rattle.http_requests.specs.Heads.{Answers, IsHeadOf, IsAnswerTo}
 use Rattle.http_requests.specs.Heard.{HasCome, HasRoute, HasToken, IsBody, IsHeard, IsUnheard, LacksBody, TooFew, of_line_fault}
-use Rattle.http_requests.specs.Targets.{answer_of, route_of}
+use Rattle.http_requests.specs.Targets.{answer_of, resource_of}
 use Rattle.http_requests.specs.declared.head.Head.{Head}
 use Rattle.http_requests.specs.declared.refusal.Refusal.{Refusal}
 use Rattle.http_requests.specs.declared.refusal.Refusal.TheVariants.{HeadTooLong, BadHead, BadHost, TransferEncoding, BadLength, TooLarge, NoRoute, WrongMethod, NoToken, NotARequest}
@@ -52,7 +52,7 @@ head_read bytes head (inr (none, wrong)) = absurd cc
 module _ (bytes : List ℕ) (head : Head) where
   -- the answer to the method and the target of a head
   abbrev pub answered : Result Route Refusal
-  answered = answer_of (span_bytes bytes head.method) (route_of (span_bytes bytes head.target))
+  answered = answer_of (span_bytes bytes head.method) (resource_of (span_bytes bytes head.target))
 
   -- the token that it shows
   abbrev pub token_shown : Option (List ℕ)
@@ -122,10 +122,10 @@ module _ (bytes : List ℕ) (head : Head) where
 
 -- the answer to a method and a target, by their bytes
 pub routed_at : (method method' target target' : List ℕ) (result : Result Route Unheard) → method ≡ method' → target ≡ target'
-    → (IsUtf8 target → HasRoute (answer_of method (route_of target)) result) → IsUtf8 target' → HasRoute (answer_of method' (route_of target')) result
+    → (IsUtf8 target → HasRoute (answer_of method (resource_of target)) result) → IsUtf8 target' → HasRoute (answer_of method' (resource_of target')) result
 routed_at method method' target target' result same_method same_target has =
-    subst (λ (t : List ℕ). IsUtf8 t → HasRoute (answer_of method' (route_of t)) result) same_target
-    (subst (λ (m : List ℕ). IsUtf8 target → HasRoute (answer_of m (route_of target)) result) same_method has)
+    subst (λ (t : List ℕ). IsUtf8 t → HasRoute (answer_of method' (resource_of t)) result) same_target
+    (subst (λ (m : List ℕ). IsUtf8 target → HasRoute (answer_of m (resource_of target)) result) same_method has)
 
 -- ---- with the bytes of the head
 

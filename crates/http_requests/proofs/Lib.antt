@@ -1,4 +1,6 @@
 pub mod TextFacts
+pub mod QueryFacts
+pub mod TargetFacts
 pub mod Named
 pub mod Walks
 pub mod ShapeFacts

@@ -1,21 +1,23 @@
 -- The shapes of the routes, by patterns: parts fit a shape where their pattern, with a token for each that stands at a parameter, is its own.
-use Rattle.std.proofs.Common.{◌≡◌, ◌++◌, ◌&&◌, ℕ, Bool, true, false, cond, not, List, [], ◌∷◌, Some, option_map, refl, arith, suc, nat_eq}
+use Rattle.std.proofs.Common.{◌≡◌, ◌∙◌, ◌++◌, ◌&&◌, ℕ, Bool, true, false, cond, not, List, [], ◌∷◌, Some, option_map, refl, arith, nat_eq, subst}
 use Rattle.std.specs.List.{find}
-use Rattle.std.proofs.lemmas.Bool.Decides.{nat_tests}
+use Rattle.std.proofs.lemmas.Bool.Decides.{nat_tests, Decides-eqb}
+use Rattle.std.proofs.lemmas.Slice.Eq.{slice_eq-Decides}
 use Rattle.matchit.specs.Order.{lookup}
 use Rattle.matchit.specs.Rows.{RowsOf}
 use Rattle.matchit.specs.Seek.{has_slash, same_text}
 use Rattle.http_requests.specs.Parts.{Part, Shapes, any, fits_part, fits_parts, form_in, word}
 use Rattle.http_requests.specs.declared.form.Form.{Form}
 use Rattle.http_requests.proofs.Split.{AreParts}
-use Rattle.http_requests.proofs.Walks.{both, slash_free}
+use Rattle.http_requests.proofs.Walks.{Slash, both, slash_free}
 
--- which parts of the routes are words, from some part on: the others are parameters
+-- behind which patterns, which end in a slash, the routes have a word: behind the others they have a parameter
 abbrev pub Kinds : Type 0
-Kinds = ℕ → Bool
+Kinds = List ℕ → Bool
 
-abbrev pub later : Kinds → Kinds
-later words = λ n. words (suc n)
+-- the same behind a pattern
+abbrev pub behind : Kinds → List ℕ → Kinds
+behind words front = λ rest. words (front ++ rest)
 
 -- the pattern of the parts of a path
 abbrev pub taken : Bool → List ℕ → List ℕ
@@ -25,7 +27,7 @@ taken false (b ∷ w) = 256 ∷ []
 
 abbrev pub pattern_of : Kinds → List (List ℕ) → List ℕ
 pattern_of words [] = []
-pattern_of words (w ∷ ws) = 47 ∷ taken (words 0) w ++ pattern_of (later words) ws
+pattern_of words (w ∷ ws) = 47 ∷ taken (words Slash) w ++ pattern_of (behind words (47 ∷ taken (words Slash) w)) ws
 
 abbrev front : Part → List ℕ
 front (word t) = t
@@ -47,7 +49,7 @@ is_at false any = true
 
 abbrev follows : Kinds → List Part → Bool
 follows words [] = true
-follows words (p ∷ ps) = is_at (words 0) p && follows (later words) ps
+follows words (p ∷ ps) = is_at (words Slash) p && follows (behind words (47 ∷ front p)) ps
 
 abbrev pub all_follow : Kinds → Shapes → Bool
 all_follow words [] = true
@@ -74,11 +76,22 @@ word_fits (x ∷ t) (y ∷ w) ps words ws h plain = go (nat_eq x y) (word_fits t
     go true ih = ih
     go false ih = refl
 
-any_fits : (w : List ℕ) (ps : List Part) (words : Kinds) (ws : List (List ℕ)) → fits_parts ps ws ≡ same_text (pattern ps) (pattern_of words ws)
-    → (fits_part any w && fits_parts ps ws) ≡ same_text (256 ∷ pattern ps) (taken false w ++ pattern_of words ws)
+any_fits : (w : List ℕ) (ps : List Part) (words : Kinds) (ws : List (List ℕ)) → fits_parts ps ws ≡ same_text (pattern ps) (pattern_of (behind words (47 ∷ 256 ∷ [])) ws)
+    → (fits_part any w && fits_parts ps ws) ≡ same_text (256 ∷ pattern ps) (taken false w ++ pattern_of (behind words (47 ∷ taken false w)) ws)
 any_fits [] ps words [] same = refl
 any_fits [] ps words (v ∷ vs) same = refl
 any_fits (b ∷ w) ps words ws same = same
+
+-- behind a word that is the route's, the parts are looked at; behind another one nothing fits
+same_word : (t w : List ℕ) (ps : List Part) (words : Kinds) (ws : List (List ℕ)) → fits_parts ps ws ≡ same_text (pattern ps) (pattern_of (behind words (47 ∷ t)) ws)
+    → (same_text t w && fits_parts ps ws) ≡ (same_text t w && same_text (pattern ps) (pattern_of (behind words (47 ∷ w)) ws))
+same_word t w ps words ws same = go (same_text t w) refl
+  where
+    go : (v : Bool) → same_text t w ≡ v → (v && fits_parts ps ws) ≡ (v && same_text (pattern ps) (pattern_of (behind words (47 ∷ w)) ws))
+    go true e =
+        let is : t ≡ w = (slice_eq-Decides Decides-eqb t w (same_text t w) refl).0 e in
+        subst (λ (u : List ℕ). fits_parts ps ws ≡ same_text (pattern ps) (pattern_of (behind words (47 ∷ u)) ws)) is same
+    go false e = refl
 
 -- parts fit a shape where their pattern is that of the shape
 fits_is : (words : Kinds) (ps : List Part) (ws : List (List ℕ)) → follows words ps ≡ true → AreParts ws → fits_parts ps ws ≡ same_text (pattern ps) (pattern_of words ws)
@@ -86,15 +99,15 @@ fits_is words [] [] f are = refl
 fits_is words [] (w ∷ ws) f are = refl
 fits_is words (p ∷ ps) [] f are = refl
 fits_is words (p ∷ ps) (w ∷ ws) f are =
-    let here = both (is_at (words 0) p) (follows (later words) ps) f in
-    part (words 0) p here.0 (fits_is (later words) ps ws here.1 are.2)
+    let here = both (is_at (words Slash) p) (follows (behind words (47 ∷ front p)) ps) f in
+    part (words Slash) p here.0 (fits_is (behind words (47 ∷ front p)) ps ws here.1 are.2)
   where
-    part : (v : Bool) (q : Part) → is_at v q ≡ true → fits_parts ps ws ≡ same_text (pattern ps) (pattern_of (later words) ws)
-        → (fits_part q w && fits_parts ps ws) ≡ same_text (front q ++ pattern ps) (taken v w ++ pattern_of (later words) ws)
+    part : (v : Bool) (q : Part) → is_at v q ≡ true → fits_parts ps ws ≡ same_text (pattern ps) (pattern_of (behind words (47 ∷ front q)) ws)
+        → (fits_part q w && fits_parts ps ws) ≡ same_text (front q ++ pattern ps) (taken v w ++ pattern_of (behind words (47 ∷ taken v w)) ws)
     part true any e same = cc e
     part false (word t) e same = cc e
-    part true (word t) e same = rw same (word_fits t w ps (later words) ws (not_true (has_slash t) e) are.1)
-    part false any e same = any_fits w ps (later words) ws same
+    part true (word t) e same = same_word t w ps words ws same ∙ word_fits t w ps (behind words (47 ∷ w)) ws (not_true (has_slash t) e) are.1
+    part false any e same = any_fits w ps words ws same
 
 pub shapes_find : (words : Kinds) (ss : Shapes) (ws : List (List ℕ)) → all_follow words ss ≡ true → AreParts ws → form_in ss ws ≡ lookup (pattern_of words ws) (rows ss)
 shapes_find words [] ws f are = refl

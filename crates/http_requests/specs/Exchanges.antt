@@ -7,7 +7,7 @@ use Rattle.http_requests.specs.Asks.{asked_of}
 use Rattle.http_requests.specs.Ends.{IsHeadEnd, HasNoEnd, most_head}
 use Rattle.http_requests.specs.Fields.{judge_fields, shown_token, values_of}
 use Rattle.http_requests.specs.Heads.{IsHeadOf, HasNoHead, fields_of}
-use Rattle.http_requests.specs.Targets.{answer_of, route_of}
+use Rattle.http_requests.specs.Targets.{answer_of, resource_of}
 use Rattle.http_requests.specs.declared.refusal.Refusal.{Refusal}
 use Rattle.http_requests.specs.declared.refusal.Refusal.TheVariants.{HeadTooLong, BadHead, NoToken}
 use Rattle.http_requests.specs.declared.refusal.Refusal.TheVariants.{NotARequest}
@@ -45,7 +45,7 @@ token_of h = shown_token (values_of (codes "authorization") (fields_of h))
 abbrev pub with_fields : RequestHead → List ℕ → Result ℕ Refusal → Exchange
 with_fields h rest (Err refusal) = refused refusal
 with_fields h rest (Ok size) =
-    with_route rest size (token_of h) (answer_of h.method (route_of h.target))
+    with_route rest size (token_of h) (answer_of h.method (resource_of h.target))
 
 -- what a head and the bytes behind it come to
 abbrev pub exchange_of : RequestHead → List ℕ → Exchange

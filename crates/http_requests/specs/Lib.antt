@@ -6,6 +6,8 @@ pub mod Fields
 pub mod Heads
 pub mod Parts
 pub mod Table
+pub mod Methods
+pub mod Queries
 pub mod Targets
 pub mod Asks
 pub mod Exchanges

@@ -6,6 +6,8 @@ use Rattle.http_requests.specs.declared.message.ContentType.{ContentType}
 use Rattle.http_requests.specs.declared.message.ContentType.TheVariants.{Json, PlainText}
 use Rattle.http_requests.specs.declared.method.Method.{Method}
 use Rattle.http_requests.specs.declared.method.Method.TheVariants.{Get, Post}
+use Rattle.http_requests.specs.declared.method.Methods.{Methods}
+use Rattle.http_requests.specs.declared.method.Methods.TheVariants as methods
 use Rattle.http_requests.specs.declared.status.Status.{Status}
 use Rattle.http_requests.specs.declared.status.Status.TheVariants.{Done, BadRequest, Forbidden}
 use Rattle.http_requests.specs.declared.status.Status.TheVariants.{NotFound, MethodNotAllowed}
@@ -20,10 +22,16 @@ crlf = 13 ∷ 10 ∷ []
 abbrev pub joined : List (List ℕ) → List ℕ
 joined = flat_map (λ text. text)
 
--- a method, as requests and the field Allow name it
+-- a method, as requests name it
 abbrev pub method_text : Method → List ℕ
 method_text Get = codes "GET"
 method_text Post = codes "POST"
+
+-- methods, as the field Allow names them (RFC 9110, section 10.2.1)
+abbrev pub methods_text : Methods → List ℕ
+methods_text methods.Get = codes "GET"
+methods_text methods.Post = codes "POST"
+methods_text methods.GetAndPost = codes "GET, POST"
 
 -- the number of each status
 abbrev pub code_of : Status → ℕ
@@ -31,7 +39,7 @@ code_of Done = 200
 code_of BadRequest = 400
 code_of Forbidden = 403
 code_of NotFound = 404
-code_of (MethodNotAllowed method) = 405
+code_of (MethodNotAllowed allowed) = 405
 code_of PayloadTooLarge = 413
 code_of ServiceUnavailable = 503
 
@@ -39,9 +47,9 @@ code_of ServiceUnavailable = 503
 unfoldable pub phrase_of : ℕ → List ℕ
 phrase_of code = unwrap_or (reason_phrase code) []
 
--- the field that names the method to use instead, in the one status that has it
+-- the field that names the methods to use instead, in the one status that has it
 abbrev pub allow_field : Status → List ℕ
-allow_field (MethodNotAllowed method) = joined (codes "Allow: " ∷ method_text method ∷ crlf ∷ [])
+allow_field (MethodNotAllowed allowed) = joined (codes "Allow: " ∷ methods_text allowed ∷ crlf ∷ [])
 allow_field _ = []
 
 -- the text of each type of a body

@@ -3,9 +3,9 @@ use Rattle.std.specs.Prelude.{ℕ, ◌==◌, ◌&&◌, Bool, true, false, List, 
 use Rattle.std.specs.Prelude.{option_map, find, codes, get_or, if◌then◌else◌}
 use Rattle.matchit.specs.Seek.{same_text}
 use Rattle.http_requests.specs.declared.form.Form.{Form}
-use Rattle.http_requests.specs.declared.form.Form.TheVariants.{OfUsers, OfTeam, OfProfile}
-use Rattle.http_requests.specs.declared.form.Form.TheVariants.{OfRevision}
-use Rattle.http_requests.specs.declared.route.ProfileAct.TheVariants.{Submit, Fetch, Hold, Release}
+use Rattle.http_requests.specs.declared.form.Form.TheVariants.{OfUsers, OfMe, OfTeam, OfRevisions}
+use Rattle.http_requests.specs.declared.form.Form.TheVariants.{OfProfile, OfRevision}
+use Rattle.http_requests.specs.declared.route.ProfileAct.TheVariants.{Fetch, Issued, Hold, Release}
 use Rattle.http_requests.specs.declared.route.RevisionAct.TheVariants.{Show, Sheet, Vote, Issue}
 use Rattle.http_requests.specs.declared.route.RevisionAct.TheVariants.{Withdraw, Adopt}
 
@@ -36,8 +36,9 @@ form_in shapes ws = option_map (λ s. s.1) (find (λ s. fits_parts s.0 ws) shape
 -- every route by its parts, which stand for a team, a profile and a number where they are any
 abbrev pub shapes : Shapes
 shapes = (word (codes "users") ∷ [], OfUsers)
+    ∷ (word (codes "me") ∷ [], OfMe)
     ∷ (word (codes "p") ∷ any ∷ [], OfTeam)
-    ∷ (word (codes "p") ∷ any ∷ any ∷ [], OfProfile Submit)
+    ∷ (word (codes "p") ∷ any ∷ any ∷ [], OfRevisions)
     ∷ (word (codes "p") ∷ any ∷ any ∷ any ∷ [], OfRevision Show)
     ∷ (word (codes "p") ∷ any ∷ any ∷ any ∷ word (codes "adopt") ∷ [], OfRevision Adopt)
     ∷ (word (codes "p") ∷ any ∷ any ∷ any ∷ word (codes "issue") ∷ [], OfRevision Issue)
@@ -45,6 +46,7 @@ shapes = (word (codes "users") ∷ [], OfUsers)
     ∷ (word (codes "p") ∷ any ∷ any ∷ any ∷ word (codes "vote") ∷ [], OfRevision Vote)
     ∷ (word (codes "p") ∷ any ∷ any ∷ any ∷ word (codes "withdraw") ∷ [], OfRevision Withdraw)
     ∷ (word (codes "issued") ∷ any ∷ any ∷ [], OfProfile Fetch)
+    ∷ (word (codes "issued") ∷ any ∷ any ∷ word (codes "digest") ∷ [], OfProfile Issued)
     ∷ (word (codes "hold") ∷ any ∷ any ∷ [], OfProfile Hold)
     ∷ (word (codes "release") ∷ any ∷ any ∷ [], OfProfile Release) ∷ []
 

@@ -28,7 +28,7 @@ refused_status TooLarge = PayloadTooLarge
 -- 15.5.5
 refused_status NoRoute = NotFound
 -- 15.5.6
-refused_status (WrongMethod method) = MethodNotAllowed method
+refused_status (WrongMethod allowed) = MethodNotAllowed allowed
 -- no credentials of the scheme Bearer (11.6.2)
 refused_status NoToken = BadRequest
 -- 15.5.1

@@ -7,9 +7,9 @@ use Rattle.matchit.specs.Route.{Scan, parse_route}
 use Rattle.matchit.specs.Router.{RouteOf, nearest, route_from}
 use Rattle.matchit.specs.declared.error.InsertError.{InsertError}
 use Rattle.http_requests.specs.declared.form.Form.{Form}
-use Rattle.http_requests.specs.declared.form.Form.TheVariants.{OfUsers, OfTeam, OfProfile}
-use Rattle.http_requests.specs.declared.form.Form.TheVariants.{OfRevision}
-use Rattle.http_requests.specs.declared.route.ProfileAct.TheVariants.{Submit, Fetch, Hold, Release}
+use Rattle.http_requests.specs.declared.form.Form.TheVariants.{OfUsers, OfMe, OfTeam, OfRevisions}
+use Rattle.http_requests.specs.declared.form.Form.TheVariants.{OfProfile, OfRevision}
+use Rattle.http_requests.specs.declared.route.ProfileAct.TheVariants.{Fetch, Issued, Hold, Release}
 use Rattle.http_requests.specs.declared.route.RevisionAct.TheVariants.{Show, Sheet, Vote, Issue}
 use Rattle.http_requests.specs.declared.route.RevisionAct.TheVariants.{Withdraw, Adopt}
 
@@ -35,7 +35,9 @@ fits rows (entry ∷ rest) = fits_read rows (parse_route entry.0) && fits (with_
 
 -- the routes, in the order in which they are inserted
 abbrev pub table : List (List ℕ × Form)
-table = (codes "/users", OfUsers) ∷ (codes "/p/{team}/{profile}", OfProfile Submit)
+table = (codes "/users", OfUsers)
+    ∷ (codes "/me", OfMe)
+    ∷ (codes "/p/{team}/{profile}", OfRevisions)
     ∷ (codes "/p/{team}", OfTeam)
     ∷ (codes "/p/{team}/{profile}/{n}", OfRevision Show)
     ∷ (codes "/p/{team}/{profile}/{n}/sheet", OfRevision Sheet)
@@ -44,6 +46,7 @@ table = (codes "/users", OfUsers) ∷ (codes "/p/{team}/{profile}", OfProfile Su
     ∷ (codes "/p/{team}/{profile}/{n}/withdraw", OfRevision Withdraw)
     ∷ (codes "/p/{team}/{profile}/{n}/adopt", OfRevision Adopt)
     ∷ (codes "/issued/{team}/{profile}", OfProfile Fetch)
+    ∷ (codes "/issued/{team}/{profile}/digest", OfProfile Issued)
     ∷ (codes "/hold/{team}/{profile}", OfProfile Hold)
     ∷ (codes "/release/{team}/{profile}", OfProfile Release) ∷ []
 

@@ -1,49 +1,26 @@
--- What a target names, and which method it has.
-use Rattle.std.specs.Prelude.{ℕ, List, Option, Some, None, option_map, option_and_then, Result, Ok}
-use Rattle.std.specs.Prelude.{Err, bytes_eq, if◌then◌else◌}
+-- What a target names, and what a method asks of it.
+use Rattle.std.specs.Prelude.{ℕ, List, Option, Some, None, option_map, option_and_then, Result}
+use Rattle.std.specs.Prelude.{Err, if◌then◌else◌}
 use Rattle.review_policy.specs.Words.{is_word}
 use Rattle.review_policy.specs.declared.ask.ProfileName.{ProfileName}
 use Rattle.json_requests.specs.Members.{◌>>=◌}
-use Rattle.http_requests.specs.Message.{method_text}
+use Rattle.http_requests.specs.Methods.{method_named, with_method}
 use Rattle.http_requests.specs.Numbers.{revision_number_of}
 use Rattle.http_requests.specs.Parts.{form_of, part_at}
+use Rattle.http_requests.specs.Queries.{before_of, path_of, query_of}
 use Rattle.http_requests.specs.declared.form.Form.{Form}
-use Rattle.http_requests.specs.declared.form.Form.TheVariants.{OfUsers, OfTeam, OfProfile}
-use Rattle.http_requests.specs.declared.form.Form.TheVariants.{OfRevision}
-use Rattle.http_requests.specs.declared.method.Method.{Method}
-use Rattle.http_requests.specs.declared.method.Method.TheVariants.{Get, Post}
+use Rattle.http_requests.specs.declared.form.Form.TheVariants.{OfUsers, OfMe, OfTeam, OfRevisions}
+use Rattle.http_requests.specs.declared.form.Form.TheVariants.{OfProfile, OfRevision}
 use Rattle.http_requests.specs.declared.refusal.Refusal.{Refusal}
-use Rattle.http_requests.specs.declared.refusal.Refusal.TheVariants.{NoRoute, WrongMethod}
+use Rattle.http_requests.specs.declared.refusal.Refusal.TheVariants.{NoRoute}
+use Rattle.http_requests.specs.declared.resource.Resource.{Resource}
+use Rattle.http_requests.specs.declared.resource.Resource.TheVariants as resources
+use Rattle.http_requests.specs.declared.resource.Resource.TheVariants.{One}
 use Rattle.http_requests.specs.declared.route.ProfileAct.{ProfileAct}
-use Rattle.http_requests.specs.declared.route.ProfileAct.TheVariants.{Submit, Fetch, Hold, Release}
 use Rattle.http_requests.specs.declared.route.RevisionAct.{RevisionAct}
-use Rattle.http_requests.specs.declared.route.RevisionAct.TheVariants.{Show, Sheet, Vote, Issue}
-use Rattle.http_requests.specs.declared.route.RevisionAct.TheVariants.{Withdraw, Adopt}
 use Rattle.http_requests.specs.declared.route.Route.{Route}
-use Rattle.http_requests.specs.declared.route.Route.TheVariants.{Users, Team, Profile, Revision}
-
--- the method of what is asked of a profile
-abbrev pub profile_method : ProfileAct → Method
-profile_method Submit = Post
-profile_method Fetch = Get
-profile_method Hold = Post
-profile_method Release = Post
-
--- the method of what is asked of a revision
-abbrev pub revision_method : RevisionAct → Method
-revision_method Show = Get
-revision_method Sheet = Get
-revision_method Vote = Post
-revision_method Issue = Post
-revision_method Withdraw = Post
-revision_method Adopt = Post
-
--- the method of each route
-abbrev pub method_of : Route → Method
-method_of Users = Post
-method_of (Team team) = Get
-method_of (Profile act name) = profile_method act
-method_of (Revision act name number) = revision_method act
+use Rattle.http_requests.specs.declared.route.Route.TheVariants.{Users, Me, Team, Revisions}
+use Rattle.http_requests.specs.declared.route.Route.TheVariants.{Profile, Revision}
 
 -- a word
 abbrev pub word_of : List ℕ → Option (List ℕ)
@@ -56,42 +33,62 @@ name_of team profile = do
   p ← word_of profile
   Some (record { team = t; profile = p })
 
--- the routes with these parameters, where they are of their forms
-abbrev pub team_route : List ℕ → Option Route
-team_route team = option_map Team (word_of team)
+-- ---- what these parameters name, where they are of their forms
 
-abbrev pub profile_route : ProfileAct → List ℕ → List ℕ → Option Route
-profile_route act team profile = option_map (Profile act) (name_of team profile)
+abbrev pub of_team : List ℕ → Option Resource
+of_team team = option_map (λ t. One (Team t)) (word_of team)
 
-abbrev pub revision_route : RevisionAct → List ℕ → List ℕ → List ℕ → Option Route
-revision_route act team profile number = do
+abbrev pub of_revisions : List ℕ → List ℕ → Option Resource
+of_revisions team profile = option_map (λ name. resources.Revisions name) (name_of team profile)
+
+-- the revisions before the number that a query has
+abbrev pub of_before : List ℕ → List ℕ → List ℕ → Option Resource
+of_before team profile query = do
+  n ← before_of query
+  name ← name_of team profile
+  Some (One (Revisions name (Some n)))
+
+abbrev pub of_profile : ProfileAct → List ℕ → List ℕ → Option Resource
+of_profile act team profile = option_map (λ name. One (Profile act name)) (name_of team profile)
+
+abbrev pub of_revision : RevisionAct → List ℕ → List ℕ → List ℕ → Option Resource
+of_revision act team profile number = do
   n ← revision_number_of number
   name ← name_of team profile
-  Some (Revision act name n)
+  Some (One (Revision act name n))
 
--- the route of a form, with this team, profile and number, where those that it has are of their
--- forms
-abbrev pub route_with : Form → List ℕ → List ℕ → List ℕ → Option Route
-route_with OfUsers team profile number = Some Users
-route_with OfTeam team profile number = team_route team
-route_with (OfProfile act) team profile number = profile_route act team profile
-route_with (OfRevision act) team profile number = revision_route act team profile number
+-- what a path of a form names, with this team, profile and number
+abbrev pub resource_with : Form → List ℕ → List ℕ → List ℕ → Option Resource
+resource_with OfUsers team profile number = Some (One Users)
+resource_with OfMe team profile number = Some (One Me)
+resource_with OfTeam team profile number = of_team team
+resource_with OfRevisions team profile number = of_revisions team profile
+resource_with (OfProfile act) team profile number = of_profile act team profile
+resource_with (OfRevision act) team profile number = of_revision act team profile number
 
--- the route of a form, with the parts of this path that stand at team, profile and number
-abbrev pub route_at : List ℕ → Form → Option Route
-route_at path form = route_with form (part_at path 2) (part_at path 3) (part_at path 4)
+-- with a query, which the revisions of a profile alone have
+abbrev pub of_query : Form → List ℕ → List ℕ → List ℕ → Option Resource
+of_query OfUsers team profile query = None
+of_query OfMe team profile query = None
+of_query OfTeam team profile query = None
+of_query OfRevisions team profile query = of_before team profile query
+of_query (OfProfile act) team profile query = None
+of_query (OfRevision act) team profile query = None
 
--- what a path names: it has a route, and team, profile and number are its own parts
-abbrev pub route_of : List ℕ → Option Route
-route_of path = option_and_then (route_at path) (form_of path)
+-- ---- a target
 
--- the route, where the method is its own
-abbrev pub with_method : List ℕ → Route → Result Route Refusal
-with_method method route =
-    if bytes_eq method (method_text (method_of route)) then Ok route
-    else Err (WrongMethod (method_of route))
+-- what a path of a form names, with a query or with none, where team, profile and number are its own
+-- parts
+abbrev pub resource_at : List ℕ → Option (List ℕ) → Form → Option Resource
+resource_at path None form = resource_with form (part_at path 2) (part_at path 3) (part_at path 4)
+resource_at path (Some query) form = of_query form (part_at path 2) (part_at path 3) query
 
--- the answer to a method and a path
-abbrev pub answer_of : List ℕ → Option Route → Result Route Refusal
+-- what a target names: its path has a route, and its query is one that the route has
+abbrev pub resource_of : List ℕ → Option Resource
+resource_of target =
+    option_and_then (resource_at (path_of target) (query_of target)) (form_of (path_of target))
+
+-- the answer to a method and what a target names
+abbrev pub answer_of : List ℕ → Option Resource → Result Route Refusal
 answer_of method None = Err NoRoute
-answer_of method (Some route) = with_method method route
+answer_of method (Some resource) = with_method resource (method_named method)

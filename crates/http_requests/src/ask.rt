@@ -20,18 +20,15 @@ fn without_body(ask: Ask, body: &[u8]) -> Result<Ask, LineFault>
     }
 }
 
-// What is asked of a profile. A document is the body itself.
-fn of_profile(act: ProfileAct, name: ProfileName, body: Vec<u8>) -> Result<Ask, LineFault>
-    ensures { Gives plain_ask result (of_profile act name body.items) }
+// What is asked of a profile.
+fn of_profile(act: ProfileAct, name: ProfileName, body: &[u8]) -> Result<Ask, LineFault>
+    ensures { Gives plain_ask result (of_profile act name body.now) }
 {
     match act {
-        ProfileAct::Submit => Ok(Ask::Submit {
-            name,
-            document: body,
-        }),
-        ProfileAct::Fetch => without_body(Ask::Fetch { name }, &body),
-        ProfileAct::Hold => without_body(Ask::Hold { name }, &body),
-        ProfileAct::Release => without_body(Ask::Release { name }, &body),
+        ProfileAct::Fetch => without_body(Ask::Fetch { name }, body),
+        ProfileAct::Issued => without_body(Ask::Issued { name }, body),
+        ProfileAct::Hold => without_body(Ask::Hold { name }, body),
+        ProfileAct::Release => without_body(Ask::Release { name }, body),
     }
 }
 
@@ -67,8 +64,14 @@ pub(crate) fn ask_of(alloc: Global, route: Route, body: Vec<u8>) -> Result<Ask, 
 {
     match route {
         Route::Users => read_enrol(alloc, &body),
+        Route::Me => without_body(Ask::Me, &body),
         Route::Team(team) => without_body(Ask::List { team }, &body),
-        Route::Profile(act, name) => of_profile(act, name, body),
+        Route::Revisions(name, before) => without_body(Ask::Revisions { name, before }, &body),
+        Route::Submit(name) => Ok(Ask::Submit {
+            name,
+            document: body,
+        }),
+        Route::Profile(act, name) => of_profile(act, name, &body),
         Route::Revision(act, name, number) => of_revision(alloc, act, name, number, &body),
     }
 }

@@ -7,8 +7,12 @@ use crate::route::{ProfileAct, RevisionAct};
 pub(crate) enum Form {
     /// To enrol a user.
     OfUsers,
+    /// To see who the caller is.
+    OfMe,
     /// To see the profiles of a team.
     OfTeam,
+    /// To see the revisions of a profile, or to hand one in.
+    OfRevisions,
     /// This of a profile.
     OfProfile(ProfileAct),
     /// This of a revision.

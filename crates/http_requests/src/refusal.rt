@@ -3,7 +3,7 @@
 ghost use Rattle.std.specs.Prelude.{◌≡◌};
 ghost use Rattle.http_requests.specs.Refusals.{refused_status, refused_word};
 
-use crate::method::Method;
+use crate::method::Methods;
 use crate::status::Status;
 
 /// Why what came over HTTP is no request, in the order in which it is looked at.
@@ -27,8 +27,8 @@ pub enum Refusal {
     TooLarge,
     /// The target has no route (RFC 9110, section 15.5.5).
     NoRoute,
-    /// The target's route has this method, and the request another (RFC 9110, section 15.5.6).
-    WrongMethod(Method),
+    /// The target has these methods, and the request another (RFC 9110, section 15.5.6).
+    WrongMethod(Methods),
     /// There isn't one field `Authorization` that shows a token (RFC 9110, section 11.6.2).
     NoToken,
     /// The body isn't of the form that its route asks for (RFC 9110, section 15.5.1).
@@ -43,7 +43,7 @@ impl Refusal {
         match self {
             Refusal::TooLarge => Status::PayloadTooLarge,
             Refusal::NoRoute => Status::NotFound,
-            Refusal::WrongMethod(method) => Status::MethodNotAllowed(method),
+            Refusal::WrongMethod(methods) => Status::MethodNotAllowed(methods),
             Refusal::HeadTooLong
             | Refusal::BadHead
             | Refusal::BadHost

@@ -1,18 +1,24 @@
-//! What targets ask for.
+//! What targets and methods ask for.
 
 ghost use Rattle.std.specs.Prelude.{◌≡◌};
-ghost use Rattle.http_requests.specs.Targets.{method_of, profile_method, revision_method};
+ghost use Rattle.http_requests.specs.Methods.{method_of, profile_method, revision_method};
 
 use crate::method::Method;
 use review_policy::{ProfileName, Word};
 
-/// What a target asks for.
+/// What a target and a method ask for.
 #[derive(Debug, Drop)]
 pub(crate) enum Route {
     /// To enrol a user.
     Users,
+    /// To see who the caller is.
+    Me,
     /// To see the profiles of this team.
     Team(Word),
+    /// To see the revisions of this profile: all, or those before this number.
+    Revisions(ProfileName, Option<u32>),
+    /// To hand in a document for this profile.
+    Submit(ProfileName),
     /// This of a profile.
     Profile(ProfileAct, ProfileName),
     /// This of the revision of a profile with this number, from 1 to 9,999.
@@ -22,10 +28,10 @@ pub(crate) enum Route {
 /// What may be asked of a profile.
 #[derive(Clone, Copy, Debug, PartialEq, Eq)]
 pub(crate) enum ProfileAct {
-    /// To hand in a document.
-    Submit,
     /// To fetch what was issued.
     Fetch,
+    /// To see which revision a fetch would give.
+    Issued,
     /// To hold it back from being issued and fetched.
     Hold,
     /// To release it.
@@ -55,8 +61,8 @@ impl Route {
         ensures { result ≡ method_of self.now }
     {
         match self {
-            Route::Users => Method::Post,
-            Route::Team(_) => Method::Get,
+            Route::Users | Route::Submit(_) => Method::Post,
+            Route::Me | Route::Team(_) | Route::Revisions(_, _) => Method::Get,
             Route::Profile(act, _) => act.method(),
             Route::Revision(act, _, _) => act.method(),
         }
@@ -68,8 +74,8 @@ impl ProfileAct {
         ensures { result ≡ profile_method self }
     {
         match self {
-            ProfileAct::Fetch => Method::Get,
-            ProfileAct::Submit | ProfileAct::Hold | ProfileAct::Release => Method::Post,
+            ProfileAct::Fetch | ProfileAct::Issued => Method::Get,
+            ProfileAct::Hold | ProfileAct::Release => Method::Post,
         }
     }
 }

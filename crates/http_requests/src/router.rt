@@ -11,9 +11,10 @@ use matchit::{InsertError, Router};
 use std::alloc::{AllocError, Global};
 
 // The routes, with what each asks for.
-static ROUTES: [(&str, Form); 12] = [
+static ROUTES: [(&str, Form); 14] = [
     ("/users", Form::OfUsers),
-    ("/p/{team}/{profile}", Form::OfProfile(ProfileAct::Submit)),
+    ("/me", Form::OfMe),
+    ("/p/{team}/{profile}", Form::OfRevisions),
     ("/p/{team}", Form::OfTeam),
     (
         "/p/{team}/{profile}/{n}",
@@ -42,6 +43,10 @@ static ROUTES: [(&str, Form); 12] = [
     (
         "/issued/{team}/{profile}",
         Form::OfProfile(ProfileAct::Fetch),
+    ),
+    (
+        "/issued/{team}/{profile}/digest",
+        Form::OfProfile(ProfileAct::Issued),
     ),
     ("/hold/{team}/{profile}", Form::OfProfile(ProfileAct::Hold)),
     (

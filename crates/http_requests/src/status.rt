@@ -4,7 +4,7 @@ ghost use Rattle.std.specs.Prelude.{◌≡◌};
 ghost use Rattle.http.specs.StatusCode.{code_digits};
 ghost use Rattle.http_requests.specs.Message.{allow_field, code_of, phrase_of};
 
-use crate::method::Method;
+use crate::method::Methods;
 use http::StatusCode;
 
 /// The status of a response (RFC 9110, section 15).
@@ -18,8 +18,8 @@ pub enum Status {
     Forbidden,
     /// 404: the target has no route.
     NotFound,
-    /// 405: the route has this method, and the request another.
-    MethodNotAllowed(Method),
+    /// 405: the target has these methods, and the request another.
+    MethodNotAllowed(Methods),
     /// 413: the body is announced as longer than the office reads.
     PayloadTooLarge,
     /// 503: the office failed, and did nothing.
@@ -54,8 +54,9 @@ impl Status {
         ensures { result.now ≡ allow_field self }
     {
         match self {
-            Status::MethodNotAllowed(Method::Get) => "Allow: GET\r\n",
-            Status::MethodNotAllowed(Method::Post) => "Allow: POST\r\n",
+            Status::MethodNotAllowed(Methods::Get) => "Allow: GET\r\n",
+            Status::MethodNotAllowed(Methods::Post) => "Allow: POST\r\n",
+            Status::MethodNotAllowed(Methods::GetAndPost) => "Allow: GET, POST\r\n",
             _ => "",
         }
     }

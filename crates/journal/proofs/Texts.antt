@@ -166,3 +166,6 @@ numbered_by caller (ask.List team) e is number = absurd cc
 numbered_by caller (ask.Fetch p) e is number = absurd cc
 numbered_by caller (ask.Hold p) e is number = subst HasNumber (sym (same_event e (held caller p) is)) tt
 numbered_by caller (ask.Release p) e is number = subst HasNumber (sym (same_event e (released caller p) is)) tt
+numbered_by caller ask.Me e is number = absurd cc
+numbered_by caller (ask.Revisions p before) e is number = absurd cc
+numbered_by caller (ask.Issued p) e is number = absurd cc

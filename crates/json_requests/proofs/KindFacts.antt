@@ -23,6 +23,9 @@ each_found kinds.List = refl
 each_found kinds.Fetch = refl
 each_found kinds.Hold = refl
 each_found kinds.Release = refl
+each_found kinds.Me = refl
+each_found kinds.Revisions = refl
+each_found kinds.Issued = refl
 
 -- and each kind is found by its word
 pub known_kind : (text : List ℕ) (kind : Kind) → kind_word kind ≡ text → kind_of text ≡ Some kind

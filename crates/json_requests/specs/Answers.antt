@@ -1,14 +1,15 @@
 -- The text of an answer.
-use Rattle.std.specs.Prelude.{ℕ, List, [], ◌∷◌, ◌++◌, Option, Some, None, map, codes}
+use Rattle.std.specs.Prelude.{ℕ, List, [], ◌∷◌, ◌++◌, Option, Some, None, map, filter, codes}
 use Rattle.hex.specs.Hex.{encode_lower}
 use Rattle.serde_json.specs.Data.{Data, number, unsigned, string, array, object, Members, member}
-use Rattle.serde_json.specs.Data.{no_members}
+use Rattle.serde_json.specs.Data.{no_members, boolean}
 use Rattle.serde_json.specs.View.{items_of}
 use Rattle.serde_json.specs.Written.{compact_text}
 use Rattle.review_policy.specs.declared.answer.Answer.{Answer}
 use Rattle.review_policy.specs.declared.answer.Answer.TheVariants.{Done, Denied, Fault}
 use Rattle.review_policy.specs.declared.fault.Fault as faults
 use Rattle.review_policy.specs.declared.answer.ListedProfile.{ListedProfile}
+use Rattle.review_policy.specs.declared.answer.ProfileRevision.{ProfileRevision}
 use Rattle.review_policy.specs.declared.answer.Reply.{Reply}
 use Rattle.review_policy.specs.declared.answer.Reply.TheVariants as reply
 use Rattle.review_policy.specs.declared.denial.Denial.{Denial}
@@ -16,7 +17,9 @@ use Rattle.review_policy.specs.declared.denial.Need.{Need}
 use Rattle.review_policy.specs.declared.denial.Need.TheVariants.{One, TwoWithSecurity}
 use Rattle.review_policy.specs.declared.denial.Rule.{Rule}
 use Rattle.review_policy.specs.declared.denial.Rule.TheVariants.{ApprovalsShort}
-use Rattle.review_policy.specs.WordTables.{fault_word, rule_word, state_word}
+use Rattle.review_policy.specs.declared.role.Role.{Role}
+use Rattle.review_policy.specs.Role.{has_role}
+use Rattle.review_policy.specs.WordTables.{all_roles, fault_word, role_word, rule_word, state_word}
 
 -- a member whose value is a text, and one whose value is a number
 abbrev pub text_member : List ℕ → List ℕ → Members → Members
@@ -43,6 +46,26 @@ listed_data p =
 abbrev pub listing_data : List ListedProfile → Data
 listing_data profiles = array (items_of (map listed_data profiles))
 
+-- a revision of a profile's
+abbrev pub revision_data : ProfileRevision → Data
+revision_data r =
+    object (text_member (codes "by") r.by
+    (digest_member r.digest
+    (number_member (codes "revision") r.revision
+    (text_member (codes "state") (state_word r.state) no_members))))
+
+-- a list of a profile's revisions
+abbrev pub revisions_data : List ProfileRevision → Data
+revisions_data revisions = array (items_of (map revision_data revisions))
+
+-- the words of those of these roles that are in a set
+abbrev pub words_among : ℕ → List Role → List (List ℕ)
+words_among roles among = map role_word (filter (has_role roles) among)
+
+-- the roles in a set, as a list of their words
+abbrev pub roles_data : ℕ → Data
+roles_data roles = array (items_of (map string (words_among roles all_roles)))
+
 -- the members of an answer that a request is done, besides `answer`
 abbrev pub reply_members : Reply → Members
 reply_members reply.Enrolled = no_members
@@ -64,6 +87,15 @@ reply_members (reply.Fetched digest document revision) =
     (number_member (codes "revision") revision no_members))
 reply_members reply.Held = no_members
 reply_members reply.Released = no_members
+reply_members (reply.Me user team roles) =
+    member (codes "roles") (roles_data roles)
+    (text_member (codes "team") team
+    (text_member (codes "user") user no_members))
+reply_members (reply.Revisions revisions more) =
+    member (codes "more") (boolean more)
+    (member (codes "revisions") (revisions_data revisions) no_members)
+reply_members (reply.IssuedNow digest revision) =
+    digest_member digest (number_member (codes "revision") revision no_members)
 
 -- ---- denied
 

@@ -5,7 +5,7 @@ use Rattle.std.specs.Str.{bytes_eq}
 use Rattle.json_requests.specs.declared.kind.Kind.{Kind}
 use Rattle.json_requests.specs.declared.kind.Kind.TheVariants.{Enrol, Submit, Vote, Issue, Withdraw}
 use Rattle.json_requests.specs.declared.kind.Kind.TheVariants.{Adopt, Show, Sheet, Fetch, Hold}
-use Rattle.json_requests.specs.declared.kind.Kind.TheVariants.{Release}
+use Rattle.json_requests.specs.declared.kind.Kind.TheVariants.{Release, Me, Revisions, Issued}
 use Rattle.json_requests.specs.declared.kind.Kind.TheVariants as kinds
 
 -- the word of each kind
@@ -22,18 +22,21 @@ kind_word kinds.List = codes "list"
 kind_word Fetch = codes "fetch"
 kind_word Hold = codes "hold"
 kind_word Release = codes "release"
+kind_word Me = codes "me"
+kind_word Revisions = codes "revisions"
+kind_word Issued = codes "issued"
 
 -- every kind
 abbrev pub all_kinds : List Kind
 all_kinds =
     Enrol ∷ Submit ∷ Vote ∷ Issue ∷ Withdraw ∷ Adopt ∷ Show ∷ Sheet ∷ kinds.List
-    ∷ Fetch ∷ Hold ∷ Release ∷ []
+    ∷ Fetch ∷ Hold ∷ Release ∷ Me ∷ Revisions ∷ Issued ∷ []
 
 -- the kind of this word, if there is one
 abbrev pub kind_of : List ℕ → Option Kind
 kind_of text = find (λ kind. bytes_eq text (kind_word kind)) all_kinds
 
--- the members of a line of each kind, besides `ask` and `token`
+-- the members that a line of each kind may have, besides `ask` and `token`
 abbrev pub members_of : Kind → List (List ℕ)
 members_of Enrol = codes "user" ∷ codes "team" ∷ codes "roles" ∷ codes "digest" ∷ []
 members_of Submit = codes "team" ∷ codes "profile" ∷ codes "document" ∷ []
@@ -48,6 +51,9 @@ members_of kinds.List = codes "team" ∷ []
 members_of Fetch = codes "team" ∷ codes "profile" ∷ []
 members_of Hold = codes "team" ∷ codes "profile" ∷ []
 members_of Release = codes "team" ∷ codes "profile" ∷ []
+members_of Me = []
+members_of Revisions = codes "team" ∷ codes "profile" ∷ codes "before" ∷ []
+members_of Issued = codes "team" ∷ codes "profile" ∷ []
 
 -- whether a line of this kind has a member of this name, besides `ask` and `token`
 abbrev pub has_own_member : Kind → List ℕ → Bool

@@ -1,6 +1,6 @@
 -- The members of a request's line, each of its form.
 use Rattle.std.specs.Prelude.{ℕ, ◌^◌, ◌&&◌, List, Bool, true, false, Option, Some, None}
-use Rattle.std.specs.Prelude.{if◌then◌else◌, option_and_then, codes, nat_le}
+use Rattle.std.specs.Prelude.{if◌then◌else◌, option_and_then, option_map, codes, nat_le}
 use Rattle.std.specs.Str.{bytes_eq}
 use Rattle.std.specs.Int.RustNames.{bit_or}
 use Rattle.serde_json.specs.Data.{Data, Items, no_items, item}
@@ -51,6 +51,15 @@ if_revision n = if nat_le 1 n && nat_le n 9999 then Some n else None
 
 unfoldable pub revision_at : Data → Option ℕ
 revision_at d = option_and_then if_revision (whole_at (codes "revision") d)
+
+-- the number of a revision that may be left out, and is none where it is
+abbrev pub before_in : Option Data → Option (Option ℕ)
+before_in None = Some None
+before_in (Some d) =
+    option_map (λ n. Some n) (option_and_then if_revision (option_and_then as_u64 (as_number d)))
+
+unfoldable pub before_at : Data → Option (Option ℕ)
+before_at d = before_in (get (codes "before") d)
 
 -- a digest of 64 lower-case hexadecimal digits
 unfoldable pub digest_at : Data → Option (List ℕ)

@@ -1,5 +1,5 @@
 -- Requests, without where the bytes of a document lie in memory.
-use Rattle.std.specs.Prelude.{ℕ, List, Bool}
+use Rattle.std.specs.Prelude.{ℕ, List, Bool, Option}
 use Rattle.review_policy.specs.declared.ask.Ask.{Ask}
 use Rattle.review_policy.specs.declared.ask.Ask.TheVariants as asks
 use Rattle.review_policy.specs.declared.ask.ProfileName.{ProfileName}
@@ -19,6 +19,9 @@ pub data PlainAsk : Type 0 where
   fetch : ProfileName → PlainAsk
   hold : ProfileName → PlainAsk
   release : ProfileName → PlainAsk
+  me : PlainAsk
+  revisions : ProfileName → (before : Option ℕ) → PlainAsk
+  issued : ProfileName → PlainAsk
 
 pub record PlainRequest : Type 0 where
   pub token : List ℕ
@@ -37,6 +40,9 @@ plain_ask (asks.List team) = list team
 plain_ask (asks.Fetch name) = fetch name
 plain_ask (asks.Hold name) = hold name
 plain_ask (asks.Release name) = release name
+plain_ask asks.Me = me
+plain_ask (asks.Revisions name before) = revisions name before
+plain_ask (asks.Issued name) = issued name
 
 -- a request, as a line has it
 abbrev pub plain : Request → PlainRequest

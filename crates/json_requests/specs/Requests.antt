@@ -12,11 +12,12 @@ use Rattle.json_requests.specs.declared.kind.Kind.{Kind}
 use Rattle.json_requests.specs.declared.kind.Kind.TheVariants as kinds
 use Rattle.json_requests.specs.Kinds.{kind_of}
 use Rattle.json_requests.specs.Members.{◌>>=◌, text_at, word_at, token_at, name_at, revision_at}
-use Rattle.json_requests.specs.Members.{digest_at, vote_at, roles_at}
+use Rattle.json_requests.specs.Members.{digest_at, vote_at, roles_at, before_at}
 use Rattle.json_requests.specs.Shapes.{has_no_other}
 use Rattle.json_requests.specs.declared.shape.Shape.TheVariants.{Line}
 use Rattle.json_requests.specs.Plain.{PlainAsk, PlainRequest, plain, enrol, submit, vote, issue}
 use Rattle.json_requests.specs.Plain.{withdraw, adopt, show, sheet, list, fetch, hold, release}
+use Rattle.json_requests.specs.Plain.{me, revisions, issued}
 
 -- ---- by kind, from the members of the kind
 
@@ -60,6 +61,13 @@ of_profile ask d = do
   name ← name_at d
   Some (ask name)
 
+-- the revisions of a profile, or those before a number
+unfoldable pub revisions_at : Data → Option PlainAsk
+revisions_at d = do
+  name ← name_at d
+  before ← before_at d
+  Some (revisions name before)
+
 abbrev pub ask_at : Kind → Data → Option PlainAsk
 ask_at kinds.Enrol d = enrol_at d
 ask_at kinds.Submit d = submit_at d
@@ -73,6 +81,9 @@ ask_at kinds.List d = list_at d
 ask_at kinds.Fetch d = of_profile fetch d
 ask_at kinds.Hold d = of_profile hold d
 ask_at kinds.Release d = of_profile release d
+ask_at kinds.Me d = Some me
+ask_at kinds.Revisions d = revisions_at d
+ask_at kinds.Issued d = of_profile issued d
 
 -- ---- a whole line
 

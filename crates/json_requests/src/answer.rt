@@ -5,12 +5,15 @@ ghost use Rattle.serde_json.specs.Data.{member, no_members, object};
 ghost use Rattle.json_tree.specs.Tokens.{Appends, open_tokens, tokens_of};
 ghost use Rattle.json_requests.specs.Answers.{answer_data, answer_members, answer_text, line_of};
 ghost use Rattle.json_requests.specs.Answers.{fault_members, listed_data, listing_data};
-ghost use Rattle.json_requests.specs.Answers.{reply_members};
+ghost use Rattle.json_requests.specs.Answers.{reply_members, text_member, digest_member};
+ghost use Rattle.json_requests.specs.Answers.{number_member, roles_data};
 
 use crate::denial::write_denied;
+use crate::revisions::write_revisions;
+use crate::roles::write_roles;
 use crate::write::{write_digest, write_number, write_text};
 use json_tree::{Writer, written_text};
-use review_policy::{Answer, Fault, ListedProfile, Reply};
+use review_policy::{Answer, Fault, ListedProfile, Reply, Roles, Word};
 use std::alloc::{AllocError, Global};
 
 // How many bytes a text has room for before it grows.
@@ -41,15 +44,37 @@ fn write_listing(out: &mut Writer, profiles: &[ListedProfile]) -> Result<(), All
     out.end_array()
 }
 
+// A revision by its digest and its number.
+fn write_numbered(
+    out: &mut Writer,
+    alloc: Global,
+    digest: &[u8; 32],
+    revision: u32,
+) -> Result<(), AllocError>
+    ensures { OnOk result (Appends out.old out.new (open_tokens
+        (digest_member digest.now (number_member (codes "revision") revision no_members)))) }
+{
+    write_digest(out, alloc, digest)?;
+    write_number(out, "revision", revision as u64)
+}
+
+// Who a user is.
+fn write_user(out: &mut Writer, user: &Word, team: &Word, roles: Roles) -> Result<(), AllocError>
+    ensures { OnOk result (Appends out.old out.new (open_tokens
+        (member (codes "roles") (roles_data roles)
+        (text_member (codes "team") team.now (text_member (codes "user") user.now no_members))))) }
+{
+    write_roles(out, roles)?;
+    write_text(out, "team", team.as_str())?;
+    write_text(out, "user", user.as_str())
+}
+
 // What an answer that a request is done has besides `answer`.
 fn write_reply(out: &mut Writer, alloc: Global, reply: &Reply) -> Result<(), AllocError>
     ensures { OnOk result (Appends out.old out.new (open_tokens (reply_members reply.now))) }
 {
     match reply {
-        Reply::Submitted { digest, revision } => {
-            write_digest(out, alloc, digest)?;
-            write_number(out, "revision", *revision as u64)
-        }
+        Reply::Submitted { digest, revision } => write_numbered(out, alloc, digest, *revision),
         Reply::Issued { digest } => write_digest(out, alloc, digest),
         Reply::Shown {
             digest,
@@ -71,6 +96,11 @@ fn write_reply(out: &mut Writer, alloc: Global, reply: &Reply) -> Result<(), All
             write_text(out, "document", document.as_str())?;
             write_number(out, "revision", *revision as u64)
         }
+        Reply::Me { user, team, roles } => write_user(out, user, team, *roles),
+        Reply::Revisions { revisions, more } => {
+            write_revisions(out, alloc, revisions.revisions(), *more)
+        }
+        Reply::IssuedNow { digest, revision } => write_numbered(out, alloc, digest, *revision),
         Reply::Enrolled
         | Reply::Voted
         | Reply::Withdrawn

@@ -5,13 +5,15 @@ ghost use Rattle.json_tree.specs.View.{view};
 ghost use Rattle.review_policy.specs.declared.ask.ProfileName.{ProfileName};
 ghost use Rattle.json_requests.specs.Faults.{Gives};
 ghost use Rattle.json_requests.specs.Plain.{PlainAsk, plain_ask, issue, withdraw, adopt, show};
-ghost use Rattle.json_requests.specs.Plain.{sheet, fetch, hold, release};
+ghost use Rattle.json_requests.specs.Plain.{sheet, fetch, hold, release, issued};
 ghost use Rattle.json_requests.specs.Requests.{ask_at, enrol_at, submit_at, vote_on, of_revision};
-ghost use Rattle.json_requests.specs.Requests.{list_at, of_profile};
+ghost use Rattle.json_requests.specs.Requests.{list_at, of_profile, revisions_at};
 
 use crate::fault::LineFault;
 use crate::kind::Kind;
-use crate::member::{digest_of, document_of, name_of, revision_of, roles_of, vote_of, word_of};
+use crate::member::{
+    before_of, digest_of, document_of, name_of, revision_of, roles_of, vote_of, word_of,
+};
 use json_tree::Tree;
 use review_policy::{Ask, ProfileName};
 use std::alloc::Global;
@@ -33,6 +35,9 @@ pub(crate) fn ask_of(alloc: Global, kind: Kind, value: &Tree<'_>) -> Result<Ask,
         Kind::Fetch => fetch_of(alloc, value),
         Kind::Hold => hold_of(alloc, value),
         Kind::Release => release_of(alloc, value),
+        Kind::Me => Ok(Ask::Me),
+        Kind::Revisions => revisions_of(alloc, value),
+        Kind::Issued => issued_of(alloc, value),
     }
 }
 
@@ -153,4 +158,21 @@ fn release_of(alloc: Global, value: &Tree<'_>) -> Result<Ask, LineFault>
 {
     let name = name_of(alloc, value)?;
     Ok(Ask::Release { name })
+}
+
+#[tactic(auto, unfolding(crate::specs::Requests::revisions_at))]
+fn revisions_of(alloc: Global, value: &Tree<'_>) -> Result<Ask, LineFault>
+    ensures { Gives plain_ask result (revisions_at (view value.now)) }
+{
+    let name = name_of(alloc, value)?;
+    let before = before_of(value)?;
+    Ok(Ask::Revisions { name, before })
+}
+
+#[tactic(auto, unfolding(crate::specs::Requests::of_profile))]
+fn issued_of(alloc: Global, value: &Tree<'_>) -> Result<Ask, LineFault>
+    ensures { Gives plain_ask result (of_profile issued (view value.now)) }
+{
+    let name = name_of(alloc, value)?;
+    Ok(Ask::Issued { name })
 }

@@ -20,6 +20,9 @@ pub enum Kind {
     Fetch,
     Hold,
     Release,
+    Me,
+    Revisions,
+    Issued,
 }
 
 // The kind of this word, by a comparison with each.
@@ -39,6 +42,9 @@ fn kind_named(text: &str) -> Option<Kind>
         "fetch" => Some(Kind::Fetch),
         "hold" => Some(Kind::Hold),
         "release" => Some(Kind::Release),
+        "me" => Some(Kind::Me),
+        "revisions" => Some(Kind::Revisions),
+        "issued" => Some(Kind::Issued),
         _ => None,
     }
 }
@@ -74,7 +80,7 @@ impl Kind {
         kind_named(text)
     }
 
-    /// Whether a line of this kind has a member of this name.
+    /// Whether a line of this kind may have a member of this name.
     pub fn has_member(self, name: &str) -> bool
         ensures { result ≡ has_member self name.now }
     {
@@ -93,7 +99,9 @@ impl Kind {
                 names_revision(name)
             }
             Kind::List => name == "team",
-            Kind::Fetch | Kind::Hold | Kind::Release => names_profile(name),
+            Kind::Fetch | Kind::Hold | Kind::Release | Kind::Issued => names_profile(name),
+            Kind::Me => false,
+            Kind::Revisions => names_profile(name) || name == "before",
         }
     }
 }

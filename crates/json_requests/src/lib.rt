@@ -12,6 +12,8 @@ pub mod kind;
 pub mod laws;
 pub mod member;
 pub mod request;
+mod revisions;
+mod roles;
 mod shape;
 pub mod write;
 

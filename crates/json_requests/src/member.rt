@@ -7,6 +7,7 @@ ghost use Rattle.review_policy.specs.WordTables.{role_of};
 ghost use Rattle.json_requests.specs.Faults.{Gives};
 ghost use Rattle.json_requests.specs.Members.{text_at, word_at, token_at, name_at, revision_at};
 ghost use Rattle.json_requests.specs.Members.{digest_at, vote_at, roles_of, roles_at};
+ghost use Rattle.json_requests.specs.Members.{before_at, if_revision};
 
 use crate::fault::LineFault;
 use json_tree::Tree;
@@ -60,12 +61,11 @@ pub fn name_of(alloc: Global, value: &Tree<'_>) -> Result<ProfileName, LineFault
     Ok(ProfileName { team, profile })
 }
 
-/// The number of a revision, 1 to 9,999.
-#[tactic(auto, unfolding(crate::specs::Members::revision_at))]
-pub fn revision_of(value: &Tree<'_>) -> Result<u32, LineFault>
-    ensures { Gives (λ number. number) result (revision_at (view value.now)) }
+// The number of a revision that a value is.
+fn number_of(number: Option<u64>) -> Result<u32, LineFault>
+    ensures { Gives (λ number. number) result (option_and_then if_revision number) }
 {
-    match value.get("revision").and_then(Tree::as_u64) {
+    match number {
         None => Err(LineFault::NotARequest),
         Some(number) => {
             if 1 <= number && number <= 9999 {
@@ -73,6 +73,29 @@ pub fn revision_of(value: &Tree<'_>) -> Result<u32, LineFault>
             } else {
                 Err(LineFault::NotARequest)
             }
+        }
+    }
+}
+
+/// The number of a revision, 1 to 9,999.
+#[tactic(auto, unfolding(crate::specs::Members::revision_at))]
+pub fn revision_of(value: &Tree<'_>) -> Result<u32, LineFault>
+    ensures { Gives (λ number. number) result (revision_at (view value.now)) }
+{
+    number_of(value.get("revision").and_then(Tree::as_u64))
+}
+
+/// The number of the revision before which others are asked for, 1 to 9,999; `None` where it is left
+/// out.
+#[tactic(auto, unfolding(crate::specs::Members::before_at))]
+pub fn before_of(value: &Tree<'_>) -> Result<Option<u32>, LineFault>
+    ensures { Gives (λ number. number) result (before_at (view value.now)) }
+{
+    match value.get("before") {
+        None => Ok(None),
+        Some(number) => {
+            let number = number_of(number.as_u64())?;
+            Ok(Some(number))
         }
     }
 }

@@ -3,8 +3,8 @@
 ghost use Rattle.std.specs.Prelude.{◌≡◌, ◌∷◌, [], IfOk, OnOk, decimal, string_bytes};
 ghost use Rattle.json.specs.Print.{IsPrintable, ends, print};
 ghost use Rattle.json.specs.Reads.{token_of};
-ghost use Rattle.json.specs.Token.{begin_array, begin_object, end_array, end_object, key};
-ghost use Rattle.json.specs.Token.{number, string};
+ghost use Rattle.json.specs.Token.{begin_array, begin_object, boolean, end_array, end_object};
+ghost use Rattle.json.specs.Token.{key, number, string};
 ghost use Rattle.json_tree.specs.Tokens.{Appends};
 
 use crate::token::put_token;
@@ -155,6 +155,17 @@ impl Writer {
     {
         let mut buffer = itoa::Buffer::new();
         self.token(Token::Number(buffer.format(n)))
+    }
+
+    /// Whether something holds: `true` or `false`.
+    ///
+    /// # Errors
+    ///
+    /// Memory was refused. No contract can say when.
+    pub fn bool(&mut self, holds: bool) -> Result<(), AllocError>
+        ensures { OnOk result (Appends self.old self.new (boolean holds ∷ [])) }
+    {
+        self.token(Token::Bool(holds))
     }
 }
 

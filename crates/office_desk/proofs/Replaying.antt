@@ -45,7 +45,7 @@ use Rattle.office_policy.specs.Verdict.{Verdict, accepted, denied, new_revision,
 use Rattle.office_policy.specs.Votes.{tally_at}
 use Rattle.office_policy.proofs.CallerFacts.{allowed_by}
 use Rattle.office_policy.proofs.GivenOut.{carried_out_of}
-use Rattle.office_policy.proofs.LawFacts.{of_revision_by}
+use Rattle.office_policy.proofs.LawFacts.{of_revision_by, of_user_by}
 use Rattle.office_policy.proofs.Numbered.{number_there}
 use Rattle.office_policy.proofs.RuleFacts.{none_refuses}
 use Rattle.office_policy.proofs.SurvivalFacts.{left_itself, survives_none}
@@ -177,6 +177,9 @@ module _ (h : History) (caller : Option UserRow) where
   same_done (ask.Fetch p) = of_revision_by (IsSame h caller (ask.Fetch p)) (issued_revision h p) (λ r. accepted (reply.Fetched r.digest r.body r.number) None) tt (λ r. tt)
   same_done (ask.Hold p) = λ a is. (ap (rules_of h caller) is, ap (done_of h caller) is)
   same_done (ask.Release p) = λ a is. (ap (rules_of h caller) is, ap (done_of h caller) is)
+  same_done ask.Me = of_user_by (IsSame h caller ask.Me) caller (λ u. accepted (reply.Me u.name u.team u.roles) None) tt (λ u. tt)
+  same_done (ask.Revisions p before) = tt
+  same_done (ask.Issued p) = of_revision_by (IsSame h caller (ask.Issued p)) (issued_revision h p) (λ r. accepted (reply.IssuedNow r.digest r.number) None) tt (λ r. tt)
 
 pub allowed_again : (h : History) (e : Event) (is : IsAllowed h e) (a : Ask) → IsAskOf e a → verdict_for e a h ≡ accepted is.reply (Some e)
 allowed_again h e is a asks =

@@ -66,7 +66,10 @@ pub(crate) fn ask_forms(ask: &Ask)
         | Ask::Sheet { name, .. }
         | Ask::Fetch { name }
         | Ask::Hold { name }
-        | Ask::Release { name } => name_form(name),
+        | Ask::Release { name }
+        | Ask::Revisions { name, .. }
+        | Ask::Issued { name } => name_form(name),
+        Ask::Me => {}
     }
 }
 

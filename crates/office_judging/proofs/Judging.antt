@@ -171,6 +171,22 @@ module _ {A : Type 0} {Found : History → A → Type 0} (judge : History → Ve
     crash = λ clean trees may. may;
   }
 
+  -- it comes to this, and nothing is read for it
+  pub found_at_once : (s : State) (a : A) → IsIdle s → ((h : History) → IsLawfulHistory h → Found h a) → Judges s s (Ok a) judge Found
+  found_at_once s a idle is = record {
+    idle = idle;
+    clean = λ clean. clean;
+    survives = survives_same s _;
+    settled = λ settled. settled;
+    stays = λ clean is_open. is_open;
+    shut = λ clean shut. shut;
+    told = λ h lawful shows clean. is h lawful;
+    cause = λ h lawful shows clean. tt;
+    shown = λ t shows clean. shows;
+    same = λ settled clean is_open. (refl, refl);
+    crash = λ clean trees may. may;
+  }
+
   -- nothing is done for no memory
   pub failed_at_once : (s : State) (f : Fault) → IsIdle s → f ≡ NoMemory → Judges {A = A} s s (Err (refusals.Fault f)) judge Found
   failed_at_once s f idle memory = record {

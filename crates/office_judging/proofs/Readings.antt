@@ -1,18 +1,25 @@
--- What looks at a revision, at its sheet, or at the profiles of a team are decided by.
-use Rattle.std.proofs.Common.{◌≡◌, ℕ, List, Bool, true, false, not, ◌||◌, Option, Some, Err, refl}
-use Rattle.std.specs.Prelude.{is_some, is_none}
+-- What looks at a revision, at its sheet, at the profiles of a team, or at the revisions of a profile are decided by.
+use Rattle.std.proofs.Common.{◌≡◌, ◌∙◌, ℕ, List, Bool, true, false, not, ◌||◌, Option, Some, Err, map, take, length, min, refl, ap, arith}
+use Rattle.std.specs.Prelude.{is_some, is_none, nat_lt}
+use Rattle.std.proofs.lemmas.Bool.Decides.{nat_tests}
+use Rattle.std.proofs.lemmas.List.{length-map, length-take, take-map, take-take}
 use Rattle.review_policy.specs.declared.ask.Ask.TheVariants as ask
 use Rattle.review_policy.specs.declared.ask.ProfileName.{ProfileName}
+use Rattle.review_policy.specs.declared.answer.ProfileRevision.{ProfileRevision}
+use Rattle.review_policy.specs.declared.answer.Reply.TheVariants.{Revisions}
 use Rattle.review_policy.specs.declared.denial.Denial.{Denial}
 use Rattle.review_policy.specs.declared.role.Role.TheVariants.{Author}
-use Rattle.review_policy.specs.Rules.{first_denial, read_rules}
+use Rattle.review_policy.specs.Rules.{first_denial, read_rules, revisions_rules, max_listed}
 use Rattle.office_tables.specs.declared.row.UserRow.{UserRow}
 use Rattle.office_tables.specs.declared.row.RevisionRow.{RevisionRow}
-use Rattle.office_tables.specs.Lists.{holds_role}
+use Rattle.office_tables.specs.Lists.{holds_role, told_revision}
+use Rattle.office_store.specs.Lists.{most_read}
 use Rattle.office_policy.specs.Users.{is_of_team}
 use Rattle.office_policy.specs.Revisions.{revision_of}
-use Rattle.office_policy.specs.Facts.{read_facts, sees_every_team}
+use Rattle.office_policy.specs.Facts.{read_facts, revisions_facts, sees_every_team}
 use Rattle.office_policy.specs.Listing.{listing_of}
+use Rattle.office_policy.specs.Newest.{newest_told}
+use Rattle.office_judging.specs.Looked.{none_at}
 use Rattle.office_judging.proofs.Deciding.{Kind}
 
 pub showing : (caller : UserRow) (p : ProfileName) (n : ℕ)
@@ -43,3 +50,37 @@ read_early caller p d e found =
 pub none_told : (missing : Bool) (found : Option RevisionRow) → is_some found ≡ not missing → missing ≡ is_none found
 none_told true found e = rw e refl
 none_told false found e = rw e refl
+
+-- ---- the revisions of a profile
+
+pub newest_listing : (caller : UserRow) (p : ProfileName) (before : Option ℕ)
+    → Kind (Some caller) (ask.Revisions p before) (none_at p) (λ none. revisions_rules (revisions_facts (Some caller) p.team none))
+newest_listing caller p before = record { plain = λ h rule. refl; asked = λ h. refl }
+
+of_profile : (missing other none : Bool) (d : Denial)
+    → first_denial (revisions_rules (record { caller_unknown = false; role_missing = missing; other_team = other; no_profile = false })) ≡ Err d
+    → first_denial (revisions_rules (record { caller_unknown = false; role_missing = missing; other_team = other; no_profile = none })) ≡ Err d
+of_profile true other none d e = e
+of_profile false true none d e = e
+of_profile false false none d e = absurd cc
+
+-- a caller whose role or team refuses is refused whatever the profile
+pub newest_early : (caller : UserRow) (p : ProfileName) (d : Denial) → first_denial (revisions_rules (revisions_facts (Some caller) p.team false)) ≡ Err d
+    → (none : Bool) → first_denial (revisions_rules (revisions_facts (Some caller) p.team none)) ≡ Err d
+newest_early caller p d e none =
+    of_profile (not (holds_role (Some caller) Author || sees_every_team (Some caller)))
+    (not (is_of_team (Some caller) p.team || sees_every_team (Some caller))) none d e
+
+-- of one more than a list has, the list tells the first, and whether there are more
+pub page_told : (rows : List RevisionRow) (told : List ProfileRevision) → told ≡ map told_revision (take most_read rows)
+    → Revisions (take max_listed told) (nat_lt max_listed (length told)) ≡ newest_told rows
+page_told rows told is = λ i. Revisions (first i) (longer i)
+  where
+    first : take max_listed told ≡ map told_revision (take max_listed rows)
+    first = ap (take max_listed) is ∙ take-map told_revision max_listed (take most_read rows) ∙ ap (map told_revision) (take-take max_listed most_read rows (omega arith))
+
+    longer : nat_lt max_listed (length told) ≡ nat_lt max_listed (length rows)
+    longer = ap (λ l. nat_lt max_listed (length l)) is ∙ ap (nat_lt max_listed) (length-map told_revision (take most_read rows) ∙ length-take most_read rows) ∙ above (length rows)
+
+    above : (n : ℕ) → nat_lt max_listed (min most_read n) ≡ nat_lt max_listed n
+    above n = grind (arith, nat_tests)

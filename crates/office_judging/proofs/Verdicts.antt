@@ -53,6 +53,9 @@ stranger h (ask.List team) = refl
 stranger h (ask.Fetch p) = refl
 stranger h (ask.Hold p) = refl
 stranger h (ask.Release p) = refl
+stranger h ask.Me = refl
+stranger h (ask.Revisions p before) = refl
+stranger h (ask.Issued p) = refl
 
 -- the caller is the user who was found by the token's digest
 pub called : (h : History) → IsLawfulHistory h → (r : Request) (digest : List ℕ) (user : Option UserRow) → digest ≡ digest_of r.token → IsUserShowing (tables_of h) digest user

@@ -21,7 +21,7 @@ use sqlite::{Alter, Connection};
 use std::alloc::Global;
 
 // What the rules ask of a caller and a team.
-fn facts_of_caller(caller: &UserRow, team: &Word) -> FetchFacts
+pub(crate) fn facts_of_caller(caller: &UserRow, team: &Word) -> FetchFacts
     ensures { result ≡ record PASSING {
       role_missing = not (holds_role (Some caller.now) Role.Machine);
       other_team = not (is_of_team (Some caller.now) team.now);

@@ -9,11 +9,14 @@ ghost use Rattle.office_judging.specs.Judged.{JudgesNamed, ReadsIfAnswered, Unle
 ghost use Rattle.office_judging.specs.Steps.{allowed_of, answered_of};
 
 use crate::adopt::judge_adoption;
+use crate::caller::me;
 use crate::enrol::judge_enrolment;
 use crate::fetch::fetch;
 use crate::hold::{judge_hold, judge_release};
 use crate::issue::judge_issue;
+use crate::issued::issued_now;
 use crate::list::list;
+use crate::newest::revisions;
 use crate::refusal::Refusal;
 use crate::sheet::sheet;
 use crate::show::show;
@@ -83,6 +86,11 @@ fn judge_for<S: Alter>(
         Ask::Fetch { name } => answered(fetch(alloc, conn, &caller, name)),
         Ask::Hold { name } => allowed(judge_hold(conn, caller, name)),
         Ask::Release { name } => allowed(judge_release(conn, caller, name)),
+        Ask::Me => answered(Ok(me(caller))),
+        Ask::Revisions { name, before } => {
+            answered(revisions(alloc, conn, &caller, name, *before))
+        }
+        Ask::Issued { name } => answered(issued_now(conn, &caller, name)),
     }
 }
 

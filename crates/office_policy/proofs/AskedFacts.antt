@@ -16,12 +16,14 @@ use Rattle.office_tables.specs.declared.row.RevisionRow.{RevisionRow}
 use Rattle.office_tables.specs.declared.row.UserRow.{UserRow}
 use Rattle.office_policy.specs.History.{Event, issued, History}
 use Rattle.office_policy.specs.Users.{user_showing, name_of}
+use Rattle.office_policy.specs.Newest.{revisions_before, newest_told}
 use Rattle.office_policy.specs.Revisions.{revision_of, issued_revision}
 use Rattle.office_policy.specs.Sheets.{sheet_of}
-use Rattle.office_policy.specs.Verdict.{Verdict, accepted, denied, new_revision, of_revision, done_of, verdict}
-use Rattle.office_policy.specs.Asked.{IsAsked, IsSeen, OfRevision}
+use Rattle.office_policy.specs.Verdict.{Verdict, accepted, denied, new_revision, of_revision, of_user, done_of, verdict}
+use Rattle.office_policy.specs.Asked.{IsAsked, IsSeen, OfRevision, TellsCaller}
 use Rattle.office_policy.specs.Handled.{only_reads}
-use Rattle.office_policy.proofs.LawFacts.{of_revision_by}
+use Rattle.office_policy.proofs.UserFacts.{showing_is}
+use Rattle.office_policy.proofs.LawFacts.{of_revision_by, of_user_by}
 use Rattle.office_policy.proofs.GivenOut.{carried_out}
 use Rattle.office_policy.proofs.ReplyFacts.{caller_in}
 
@@ -52,6 +54,10 @@ done_asked h caller (ask.Fetch p) =
     of_revision_by (DoesAsked (name_of caller) (ask.Fetch p)) (issued_revision h p) (λ r. accepted (reply.Fetched r.digest r.body r.number) None) tt (λ r. refl)
 done_asked h caller (ask.Hold p) = refl
 done_asked h caller (ask.Release p) = refl
+done_asked h caller ask.Me = of_user_by (DoesAsked (name_of caller) ask.Me) caller (λ u. accepted (reply.Me u.name u.team u.roles) None) tt (λ u. refl)
+done_asked h caller (ask.Revisions p before) = refl
+done_asked h caller (ask.Issued p) =
+    of_revision_by (DoesAsked (name_of caller) (ask.Issued p)) (issued_revision h p) (λ r. accepted (reply.IssuedNow r.digest r.number) None) tt (λ r. refl)
 
 pub asked_by : (h : History) (r : Request) (reply : Reply) (e : Option Event) → verdict h r ≡ accepted reply e → IsAsked (caller_in h r) r.ask e
 asked_by h r reply e is =
@@ -71,6 +77,9 @@ changing caller (ask.Show p n) e is = absurd cc
 changing caller (ask.Sheet p n) e is = absurd cc
 changing caller (ask.List team) e is = absurd cc
 changing caller (ask.Fetch p) e is = absurd cc
+changing caller ask.Me e is = absurd cc
+changing caller (ask.Revisions p before) e is = absurd cc
+changing caller (ask.Issued p) e is = absurd cc
 
 -- what is answered of a revision that is there
 told_of : (h : History) (p : ProfileName) (n : ℕ) (tell : RevisionRow → Reply) (told : Reply) (e : Option Event)
@@ -94,6 +103,22 @@ done_seen h caller (ask.List team) told e done = cc
 done_seen h caller (ask.Fetch p) told e done = tt
 done_seen h caller (ask.Hold p) told e done = tt
 done_seen h caller (ask.Release p) told e done = tt
+done_seen h caller ask.Me told e done = tt
+done_seen h caller (ask.Revisions p before) told e done = cc
+done_seen h caller (ask.Issued p) told e done = tt
 
 pub seen_by : (h : History) (r : Request) (told : Reply) (e : Option Event) → verdict h r ≡ accepted told e → IsSeen h r.ask told
 seen_by h r told e is = done_seen h (user_showing h (digest_of r.token)) r.ask told e (carried_out h r r.ask told e refl is).done
+
+-- who asks who that is, is told
+pub caller_told : (h : History) (r : Request) (told : Reply) (e : Option Event) → r.ask ≡ ask.Me → verdict h r ≡ accepted told e → TellsCaller h r told
+caller_told h r told e asks is = by_user (user_showing h (digest_of r.token)) refl (carried_out h r ask.Me told e asks is).done
+  where
+    by_user : (u : Option UserRow) → user_showing h (digest_of r.token) ≡ u → of_user u (λ u. accepted (reply.Me u.name u.team u.roles) None) ≡ accepted told e → TellsCaller h r told
+    by_user None shown done = absurd (cc)
+    by_user (Some u) shown done = record {
+      user = u;
+      enrolled = (showing_is h (digest_of r.token) u shown).0;
+      shows = (showing_is h (digest_of r.token) u shown).1;
+      is_told = cc;
+    }

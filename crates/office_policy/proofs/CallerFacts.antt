@@ -24,7 +24,7 @@ use Rattle.office_policy.specs.Callers.{is_of_caller, of_caller, may_ask, caller
 use Rattle.office_policy.specs.CallerTable.{decided}
 use Rattle.office_policy.specs.Lawful.{IsAllowed}
 use Rattle.office_policy.proofs.UserFacts.{showing_is}
-use Rattle.office_policy.proofs.LawFacts.{of_revision_by}
+use Rattle.office_policy.proofs.LawFacts.{of_revision_by, of_user_by}
 use Rattle.office_policy.proofs.GivenOut.{IsCarriedOut, carried_out_of, carried_out}
 
 -- where no rule refuses, none of those that ask who the caller is does
@@ -67,6 +67,9 @@ done_by h caller (ask.List team) = tt
 done_by h caller (ask.Fetch p) = of_revision_by (IsDoneBy (name_of caller)) (issued_revision h p) (λ r. accepted (reply.Fetched r.digest r.body r.number) None) tt (λ r. tt)
 done_by h caller (ask.Hold p) = refl
 done_by h caller (ask.Release p) = refl
+done_by h caller ask.Me = of_user_by (IsDoneBy (name_of caller)) caller (λ u. accepted (reply.Me u.name u.team u.roles) None) tt (λ u. tt)
+done_by h caller (ask.Revisions p before) = tt
+done_by h caller (ask.Issued p) = of_revision_by (IsDoneBy (name_of caller)) (issued_revision h p) (λ r. accepted (reply.IssuedNow r.digest r.number) None) tt (λ r. tt)
 
 -- nobody who is no user is let through
 stranger_out : (h : History) (a : Ask) → is_ok (decided h None a) ≡ false

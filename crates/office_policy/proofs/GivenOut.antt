@@ -1,6 +1,6 @@
 -- What is shown and fetched was submitted, and nothing of a held profile is given out.
 use Rattle.std.proofs.Common.{◌≡◌, ◌∙◌, ℕ, List, true, false, cond, Some, None, Option, Ok, Err, refl, sym, ap, subst}
-use Rattle.std.specs.Prelude.{option_map, option_and_then, nat_lt}
+use Rattle.std.specs.Prelude.{Result, ⊤, option_map, option_and_then, nat_lt}
 use Rattle.std.specs.List.{list_any}
 use Rattle.profile_text.specs.Digest.{digest_of}
 use Rattle.review_policy.specs.declared.ask.ProfileName.{ProfileName}
@@ -9,6 +9,7 @@ use Rattle.review_policy.specs.declared.ask.Ask.TheVariants as ask
 use Rattle.review_policy.specs.declared.ask.Request.{Request}
 use Rattle.review_policy.specs.declared.answer.Reply.{Reply}
 use Rattle.review_policy.specs.declared.answer.Reply.TheVariants as reply
+use Rattle.review_policy.specs.declared.denial.Denial.{Denial}
 use Rattle.review_policy.specs.declared.revision.State.{State}
 use Rattle.review_policy.specs.declared.revision.State.TheVariants.{Open, Closed, Issued, Replaced, Withdrawn}
 use Rattle.review_policy.specs.Rules.{is_issued, issue_rules, fetch_rules, first_denial}
@@ -22,7 +23,7 @@ use Rattle.office_policy.specs.Holds.{is_held}
 use Rattle.office_policy.specs.Need.{need_at}
 use Rattle.office_policy.specs.Facts.{issue_facts, fetch_facts}
 use Rattle.office_policy.specs.Verdict.{Verdict, accepted, of_revision, rules_of, done_of, judged, verdict_of, verdict}
-use Rattle.office_policy.specs.Duty.{IsTextOf, IsDigestOf, IsFetched}
+use Rattle.office_policy.specs.Duty.{IsTextOf, IsDigestOf, IsFetched, without_text}
 use Rattle.office_policy.proofs.RuleFacts.{none_refuses}
 use Rattle.office_policy.proofs.Histories.{issued_by}
 
@@ -135,3 +136,18 @@ fetched_text h r p n digest text e asks is = by_issue (last_issue h p) (carried_
     by_issue : (o : Option ℕ) → of_revision (if_issued (option_and_then (revision_of h p) o)) tells ≡ accepted (reply.Fetched digest text n) e → IsFetched h p n digest text
     by_issue None done = absurd (cc)
     by_issue (Some k) done = by_submission k (submission_of h p k) refl done
+
+-- what is told of the issued revision is what a fetch comes to, without the text
+pub told_as_fetched : (h : History) (token : List ℕ) (p : ProfileName) → verdict h (record { token = token; ask = ask.Issued p }) ≡ without_text (verdict h (record { token = token; ask = ask.Fetch p }))
+told_as_fetched h token p = decided (first_denial (rules_of h caller (ask.Fetch p)))
+  where
+    caller : Option UserRow
+    caller = user_showing h (digest_of token)
+
+    issued_told : (r : Option RevisionRow) → of_revision r (λ r. accepted (reply.IssuedNow r.digest r.number) None) ≡ without_text (of_revision r (λ r. accepted (reply.Fetched r.digest r.body r.number) None))
+    issued_told None = refl
+    issued_told (Some r) = refl
+
+    decided : (d : Result ⊤ Denial) → judged h caller (ask.Issued p) d ≡ without_text (judged h caller (ask.Fetch p) d)
+    decided (Ok u) = issued_told (issued_revision h p)
+    decided (Err d) = refl

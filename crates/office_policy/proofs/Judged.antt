@@ -9,7 +9,7 @@ use Rattle.review_policy.specs.declared.answer.Reply.TheVariants as reply
 use Rattle.review_policy.specs.declared.denial.Denial.{Denial}
 use Rattle.review_policy.specs.declared.denial.Rule.{Rule}
 use Rattle.review_policy.specs.declared.denial.Rule.TheVariants.{NoRevision}
-use Rattle.review_policy.specs.Rules.{submit_rules, issue_rules, read_rules, fetch_rules, first_from, first_denial}
+use Rattle.review_policy.specs.Rules.{submit_rules, issue_rules, read_rules, fetch_rules, me_rules, first_from, first_denial}
 use Rattle.profile_text.specs.declared.profile.Profile.{Profile}
 use Rattle.profile_text.specs.declared.fault.DocFault.{DocFault}
 use Rattle.profile_text.specs.Reading.{reading_of}
@@ -25,7 +25,7 @@ use Rattle.office_policy.specs.Need.{need_at}
 use Rattle.office_policy.specs.Sheets.{sheet_of}
 use Rattle.review_sheet.specs.Sheet.{sheet_text}
 use Rattle.office_policy.specs.Facts.{submit_facts, issue_facts, read_facts, fetch_facts}
-use Rattle.office_policy.specs.Verdict.{Verdict, accepted, denied, unreached, of_revision, new_revision, verdict_of, judged, rules_of, done_of, fault_beside}
+use Rattle.office_policy.specs.Verdict.{Verdict, accepted, denied, unreached, of_revision, of_user, new_revision, verdict_of, judged, rules_of, done_of, fault_beside}
 use Rattle.office_policy.specs.Laws.{IsDecided}
 use Rattle.office_policy.proofs.RuleFacts.{none_refuses}
 
@@ -55,6 +55,11 @@ there_done : (r : Option RevisionRow) (done : RevisionRow → Verdict) → is_no
 there_done None done there each e = cc
 there_done (Some row) done there each e = each row e
 
+-- what is done with a user who is there
+known_done : (u : Option UserRow) (done : UserRow → Verdict) → is_none u ≡ false → ((user : UserRow) → done user ≢ unreached) → of_user u done ≢ unreached
+known_done None done there each e = cc
+known_done (Some user) done there each e = each user e
+
 with_state : (r : Option RevisionRow) → is_none (state_in r) ≡ false → is_none r ≡ false
 with_state None there = there
 with_state (Some row) there = refl
@@ -82,6 +87,12 @@ allowed_done h caller (ask.Fetch p) none e =
     (none_refuses 1 (fetch_rules (fetch_facts caller p.team (issued_revision h p) (is_held h p))) none).1.1.1.0 (λ row same. cc) e
 allowed_done h caller (ask.Hold p) none e = cc
 allowed_done h caller (ask.Release p) none e = cc
+allowed_done h caller ask.Me none e =
+    known_done caller (λ u. accepted (reply.Me u.name u.team u.roles) None) (none_refuses 1 (me_rules (is_none caller)) none).0 (λ user same. cc) e
+allowed_done h caller (ask.Revisions p before) none e = cc
+allowed_done h caller (ask.Issued p) none e =
+    there_done (issued_revision h p) (λ r. accepted (reply.IssuedNow r.digest r.number) None)
+    (none_refuses 1 (fetch_rules (fetch_facts caller p.team (issued_revision h p) (is_held h p))) none).1.1.1.0 (λ row same. cc) e
 
 -- the verdict on what is asked
 verdict_told : (h : History) (caller : Option UserRow) (a : Ask) → verdict_of h caller a ≢ unreached

@@ -28,7 +28,7 @@ use Rattle.office_policy.specs.Holds.{is_held}
 use Rattle.office_policy.specs.Need.{need_at}
 use Rattle.office_policy.specs.Sheets.{sheet_of}
 use Rattle.office_policy.specs.Facts.{is_elsewhere, is_another, canonical, is_text_of, has_digest, enrol_facts, submit_facts, vote_facts, issue_facts, withdraw_facts, adopt_facts}
-use Rattle.office_policy.specs.Verdict.{Verdict, accepted, denied, unreached, of_revision, new_revision, verdict_of, verdict, judged, rules_of, done_of}
+use Rattle.office_policy.specs.Verdict.{Verdict, accepted, denied, unreached, of_revision, of_user, new_revision, verdict_of, verdict, judged, rules_of, done_of}
 use Rattle.office_policy.specs.Lawful.{IsLawfulHistory, IsAllowed, IsRequested}
 use Rattle.office_policy.specs.Laws.{AreApart}
 use Rattle.office_policy.proofs.RuleFacts.{none_refuses}
@@ -104,6 +104,11 @@ pub of_revision_by : (P : Verdict → Type 0) (r : Option RevisionRow) (done : R
 of_revision_by P None done none each = none
 of_revision_by P (Some row) done none each = each row
 
+-- what holds of each user, and of none
+pub of_user_by : (P : Verdict → Type 0) (u : Option UserRow) (done : UserRow → Verdict) → P unreached → ((user : UserRow) → P (done user)) → P (of_user u done)
+of_user_by P None done none each = none
+of_user_by P (Some user) done none each = each user
+
 -- the caller is the user of that name
 known_caller : (h : History) (digest : List ℕ) → is_none (user_showing h digest) ≡ false → user_of h (name_of (user_showing h digest)) ≡ user_showing h digest
 known_caller h digest known = by_user (user_showing h digest) refl known
@@ -168,6 +173,9 @@ module _ (h : History) (caller : Option UserRow) (named : is_none caller ≡ fal
   done_follows (ask.Fetch p) e = of_revision_by (FollowsIn h) (issued_revision h p) (λ r. accepted (reply.Fetched r.digest r.body r.number) None) tt (λ r. tt)
   done_follows (ask.Hold p) e = tt
   done_follows (ask.Release p) e = tt
+  done_follows ask.Me e = of_user_by (FollowsIn h) caller (λ u. accepted (reply.Me u.name u.team u.roles) None) tt (λ u. tt)
+  done_follows (ask.Revisions p before) e = tt
+  done_follows (ask.Issued p) e = of_revision_by (FollowsIn h) (issued_revision h p) (λ r. accepted (reply.IssuedNow r.digest r.number) None) tt (λ r. tt)
 
   -- the event of every verdict is one that the policy's leave speaks of
   verdict_of_follows : (a : Ask) → FollowsIn h (verdict_of h caller a)
@@ -205,6 +213,9 @@ stranger_denied h (ask.List team) = tt
 stranger_denied h (ask.Fetch p) = tt
 stranger_denied h (ask.Hold p) = tt
 stranger_denied h (ask.Release p) = tt
+stranger_denied h ask.Me = tt
+stranger_denied h (ask.Revisions p before) = tt
+stranger_denied h (ask.Issued p) = tt
 
 -- the event of an accepted request is allowed, to the user that shows its token
 pub requested_allowed : (h : History) (e : Event) → IsRequested h e → IsAllowed h e

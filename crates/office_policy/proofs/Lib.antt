@@ -36,3 +36,4 @@ pub mod LeftFacts
 pub mod CauseFacts
 pub mod RunFacts
 pub mod SurvivalFacts
+pub mod NewestFacts

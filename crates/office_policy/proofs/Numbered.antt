@@ -31,7 +31,7 @@ use Rattle.office_policy.specs.Lawful.{IsLawfulHistory}
 use Rattle.office_policy.proofs.RuleFacts.{none_refuses}
 use Rattle.office_policy.proofs.RevisionFacts.{count_more}
 use Rattle.office_policy.proofs.StateFacts.{same_profile}
-use Rattle.office_policy.proofs.LawFacts.{Follows, allowed_follows, of_revision_by}
+use Rattle.office_policy.proofs.LawFacts.{Follows, allowed_follows, of_revision_by, of_user_by}
 use Rattle.office_policy.proofs.Histories.{numbers}
 
 -- a submission is allowed below the greatest number
@@ -94,6 +94,9 @@ done_numbered h lawful caller (ask.List team) e = tt
 done_numbered h lawful caller (ask.Fetch p) e = of_revision_by (NumberedIn (ask.Fetch p)) (issued_revision h p) (λ r. accepted (reply.Fetched r.digest r.body r.number) None) tt (λ r. tt)
 done_numbered h lawful caller (ask.Hold p) e = tt
 done_numbered h lawful caller (ask.Release p) e = tt
+done_numbered h lawful caller ask.Me e = of_user_by (NumberedIn ask.Me) caller (λ u. accepted (reply.Me u.name u.team u.roles) None) tt (λ u. tt)
+done_numbered h lawful caller (ask.Revisions p before) e = tt
+done_numbered h lawful caller (ask.Issued p) e = of_revision_by (NumberedIn (ask.Issued p)) (issued_revision h p) (λ r. accepted (reply.IssuedNow r.digest r.number) None) tt (λ r. tt)
 
 verdict_numbered : (h : History) → IsLawfulHistory h → (caller : Option UserRow) (a : Ask) → NumberedIn a (verdict_of h caller a)
 verdict_numbered h lawful caller a =

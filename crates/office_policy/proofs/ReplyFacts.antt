@@ -19,7 +19,7 @@ use Rattle.office_policy.specs.Revisions.{revision_of, issued_revision}
 use Rattle.office_policy.specs.Sheets.{sheet_of}
 use Rattle.office_policy.specs.Verdict.{Verdict, accepted, denied, new_revision, done_of, verdict}
 use Rattle.office_policy.specs.Duty.{IsSubmission}
-use Rattle.office_policy.proofs.LawFacts.{of_revision_by}
+use Rattle.office_policy.proofs.LawFacts.{of_revision_by, of_user_by}
 use Rattle.office_policy.proofs.GivenOut.{carried_out}
 
 -- an issue is asked for, and happens
@@ -66,6 +66,10 @@ done_fits h caller (ask.Adopt p n) = tt
 done_fits h caller (ask.List team) = tt
 done_fits h caller (ask.Hold p) = tt
 done_fits h caller (ask.Release p) = tt
+done_fits h caller ask.Me = of_user_by (Fits h (name_of caller) ask.Me) caller (λ u. accepted (reply.Me u.name u.team u.roles) None) tt (λ u. tt)
+done_fits h caller (ask.Revisions p before) = tt
+done_fits h caller (ask.Issued p) =
+    of_revision_by (Fits h (name_of caller) (ask.Issued p)) (issued_revision h p) (λ r. accepted (reply.IssuedNow r.digest r.number) None) tt (λ r. tt)
 
 -- who shows the token of a request
 abbrev pub caller_in : History → Request → List ℕ

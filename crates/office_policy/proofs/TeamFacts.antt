@@ -14,7 +14,7 @@ use Rattle.review_policy.specs.declared.ask.Request.{Request}
 use Rattle.review_policy.specs.declared.answer.Reply.TheVariants as reply
 use Rattle.review_policy.specs.declared.denial.Denial.{Denial}
 use Rattle.review_policy.specs.declared.role.Role.TheVariants.{Security}
-use Rattle.review_policy.specs.Rules.{first_denial, enrol_rules, submit_rules, vote_rules, issue_rules, withdraw_rules, adopt_rules, read_rules, fetch_rules, hold_rules, release_rules}
+use Rattle.review_policy.specs.Rules.{first_denial, enrol_rules, submit_rules, vote_rules, issue_rules, withdraw_rules, adopt_rules, read_rules, fetch_rules, hold_rules, release_rules, revisions_rules}
 use Rattle.review_sheet.specs.Sheet.{sheet_text}
 use Rattle.office_tables.specs.declared.row.UserRow.{UserRow}
 use Rattle.office_tables.specs.declared.row.RevisionRow.{RevisionRow}
@@ -31,7 +31,8 @@ use Rattle.office_policy.specs.Baseline.{listed_of, adoption_of, unless_withdraw
 use Rattle.office_policy.specs.Need.{need_against, need_of_row, need_at}
 use Rattle.office_policy.specs.Listing.{profiles_of, listing_of}
 use Rattle.office_policy.specs.Sheets.{sheet_of}
-use Rattle.office_policy.specs.Facts.{enrol_facts, submit_facts, vote_facts, issue_facts, withdraw_facts, adopt_facts, read_facts, fetch_facts, hold_facts, release_facts}
+use Rattle.office_policy.specs.Facts.{enrol_facts, submit_facts, vote_facts, issue_facts, withdraw_facts, adopt_facts, read_facts, fetch_facts, hold_facts, release_facts, revisions_facts}
+use Rattle.office_policy.specs.Newest.{revisions_among, revisions_of, is_before, revisions_before, newest_told}
 use Rattle.office_policy.specs.Verdict.{accepted, of_revision, new_revision, rules_of, done_of, judged, verdict_of, verdict}
 use Rattle.office_policy.specs.Teams.{concerns, team_of}
 use Rattle.office_policy.proofs.RevisionFacts.{count_more}
@@ -147,6 +148,41 @@ module _ (p : ProfileName) where
 
   last_alone : (h : History) → last_revision (filter (concerns p.team) h) p ≡ last_revision h p
   last_alone h = λ i. revision_alone (count_alone h i) h i
+
+  among_alone : (g h : History) → revisions_among g (filter (concerns p.team) h) p ≡ revisions_among g h p
+  among_alone g = alone p.team (λ h. revisions_among g h p) past more
+    where
+      past : (h : History) (e : Event) → concerns p.team e ≡ false → revisions_among g (e ∷ h) p ≡ revisions_among g h p
+      past h (submitted c q t) other = rw other refl
+      past h _ other = refl
+
+      more : (h : History) (e : Event) → revisions_among g (filter (concerns p.team) h) p ≡ revisions_among g h p → revisions_among g (e ∷ filter (concerns p.team) h) p ≡ revisions_among g (e ∷ h) p
+      more h (submitted c q t) same = λ i. cond (is_profile p q) (record {
+        number = suc (count_alone h i);
+        author = c;
+        state = state_of g p (suc (count_alone h i));
+        body = t;
+        digest = digest_of t;
+      } ∷ same i) (same i)
+      more h _ same = same
+
+  -- the same of histories in which the revisions have the same states
+  in_states : (g h : History) → ((n : ℕ) → state_of g p n ≡ state_of h p n) → (k : History) → revisions_among g k p ≡ revisions_among h k p
+  in_states g h same [] = refl
+  in_states g h same (submitted c q t ∷ k) = λ i. cond (is_profile p q) (record {
+    number = suc (revision_count k p);
+    author = c;
+    state = same (suc (revision_count k p)) i;
+    body = t;
+    digest = digest_of t;
+  } ∷ in_states g h same k i) (in_states g h same k i)
+  in_states g h same (_ ∷ k) = in_states g h same k
+
+  all_alone : (h : History) → revisions_of (filter (concerns p.team) h) p ≡ revisions_of h p
+  all_alone h = among_alone (filter (concerns p.team) h) h ∙ in_states (filter (concerns p.team) h) h (λ n. state_alone n h) h
+
+  before_alone : (before : Option ℕ) (h : History) → revisions_before (filter (concerns p.team) h) p before ≡ revisions_before h p before
+  before_alone before h = ap (filter (is_before before)) (all_alone h)
 
   author_alone : (name : List ℕ) (h : History) → is_author (filter (concerns p.team) h) p name ≡ is_author h p name
   author_alone name = any_alone p.team (is_submission_by name p) (no_author name)
@@ -298,6 +334,9 @@ rules_alone h caller (ask.List team) = refl
 rules_alone h caller (ask.Fetch p) = λ i. fetch_rules (fetch_facts caller p.team (issued_alone p h i) (held_alone p h i))
 rules_alone h caller (ask.Hold p) = λ i. hold_rules (hold_facts caller (count_alone p h i == 0) (held_alone p h i))
 rules_alone h caller (ask.Release p) = λ i. release_rules (release_facts caller (count_alone p h i == 0) (held_alone p h i))
+rules_alone h caller ask.Me = refl
+rules_alone h caller (ask.Revisions p before) = λ i. revisions_rules (revisions_facts caller p.team (count_alone p h i == 0))
+rules_alone h caller (ask.Issued p) = λ i. fetch_rules (fetch_facts caller p.team (issued_alone p h i) (held_alone p h i))
 
 new_alone : (h : History) (caller : Option UserRow) (p : ProfileName) (reading : Result Profile DocFault) → new_revision (filter (concerns p.team) h) caller p reading ≡ new_revision h caller p reading
 new_alone h caller p (Err f) = refl
@@ -316,6 +355,9 @@ done_alone h caller (ask.List team) = λ i. accepted (reply.Listed (listing_alon
 done_alone h caller (ask.Fetch p) = λ i. of_revision (issued_alone p h i) (λ r. accepted (reply.Fetched r.digest r.body r.number) None)
 done_alone h caller (ask.Hold p) = refl
 done_alone h caller (ask.Release p) = refl
+done_alone h caller ask.Me = refl
+done_alone h caller (ask.Revisions p before) = λ i. accepted (newest_told (before_alone p before h i)) None
+done_alone h caller (ask.Issued p) = λ i. of_revision (issued_alone p h i) (λ r. accepted (reply.IssuedNow r.digest r.number) None)
 
 judged_alone : (h : History) (caller : Option UserRow) (a : Ask) (decided : Result ⊤ Denial) → judged (filter (concerns (team_of a)) h) caller a decided ≡ judged h caller a decided
 judged_alone h caller a (Ok u) = done_alone h caller a

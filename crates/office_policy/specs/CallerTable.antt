@@ -1,6 +1,7 @@
 -- Which single role may ask what, as tables: a row for each kind of request, a column for each
 -- role.
-use Rattle.std.specs.Prelude.{ℕ, List, [], ◌∷◌, true, Option, Some, codes, map, Result, Ok, Vec, ⊤}
+use Rattle.std.specs.Prelude.{ℕ, List, [], ◌∷◌, true, Option, Some, None, codes, map, Result, Ok}
+use Rattle.std.specs.Prelude.{Vec, ⊤}
 use Rattle.std.specs.declared.alloc.Global.{Global}
 use Rattle.review_policy.specs.declared.ask.Ask.{Ask}
 use Rattle.review_policy.specs.declared.ask.Ask.TheVariants as ask
@@ -28,6 +29,9 @@ each_kind document =
     ∷ ask.Fetch web
     ∷ ask.Hold web
     ∷ ask.Release web
+    ∷ ask.Me
+    ∷ ask.Revisions web None
+    ∷ ask.Issued web
     ∷ []
 
 -- a user of a team with these roles
@@ -81,6 +85,9 @@ of_own_team =
     ∷ row role role role role role pass
     ∷ row role role role pass role role
     ∷ row role role role pass role role
+    ∷ row pass pass pass pass pass pass
+    ∷ row role pass pass pass pass role
+    ∷ row role role role role role pass
     ∷ []
 
 -- each row is a kind of request, in the order above: of another team
@@ -98,4 +105,7 @@ of_other_team =
     ∷ row role role role role role team
     ∷ row role role role pass role role
     ∷ row role role role pass role role
+    ∷ row pass pass pass pass pass pass
+    ∷ row role team pass pass pass role
+    ∷ row role role role role role team
     ∷ []

@@ -39,6 +39,9 @@ roles_for_any_team (ask.List team) = onlookers
 roles_for_any_team (ask.Fetch p) = []
 roles_for_any_team (ask.Hold p) = Security ∷ []
 roles_for_any_team (ask.Release p) = Security ∷ []
+roles_for_any_team ask.Me = []
+roles_for_any_team (ask.Revisions p before) = onlookers
+roles_for_any_team (ask.Issued p) = []
 
 -- the roles that may ask it of the own team alone
 abbrev pub roles_for_own_team : Ask → List Role
@@ -48,7 +51,14 @@ roles_for_own_team (ask.Show p n) = Author ∷ []
 roles_for_own_team (ask.Sheet p n) = Author ∷ []
 roles_for_own_team (ask.List team) = Author ∷ []
 roles_for_own_team (ask.Fetch p) = Machine ∷ []
+roles_for_own_team (ask.Revisions p before) = Author ∷ []
+roles_for_own_team (ask.Issued p) = Machine ∷ []
 roles_for_own_team _ = []
+
+-- whether every user may ask it, whatever the roles
+abbrev pub is_for_all : Ask → Bool
+is_for_all ask.Me = true
+is_for_all _ = false
 
 -- whether a user holds one of these roles
 abbrev pub holds_one : UserRow → List Role → Bool
@@ -57,7 +67,8 @@ holds_one user roles = list_any (holds_role (Some user)) roles
 -- whether a user may ask this
 abbrev pub may_ask : UserRow → Ask → Bool
 may_ask user a =
-    holds_one user (roles_for_any_team a)
+    is_for_all a
+    || holds_one user (roles_for_any_team a)
     || (bytes_eq user.team (team_of a) && holds_one user (roles_for_own_team a))
 
 -- ---- the rules that say so

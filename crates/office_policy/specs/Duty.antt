@@ -14,6 +14,7 @@ use Rattle.profile_text.specs.declared.sets.CapSet.{CapSet}
 use Rattle.review_policy.specs.declared.ask.ProfileName.{ProfileName}
 use Rattle.review_policy.specs.declared.ask.Ask.{Ask}
 use Rattle.review_policy.specs.declared.ask.Ask.TheVariants as ask
+use Rattle.review_policy.specs.declared.answer.Reply.TheVariants as reply
 use Rattle.review_policy.specs.declared.denial.Need.TheVariants.{TwoWithSecurity}
 use Rattle.review_policy.specs.declared.revision.State.TheVariants.{Issued}
 use Rattle.review_policy.specs.declared.role.Role.TheVariants.{Reviewer}
@@ -28,6 +29,7 @@ use Rattle.office_policy.specs.Votes.{CastVote, vote_of, approvals, secure_appro
 use Rattle.office_policy.specs.Documents.{document_of}
 use Rattle.office_policy.specs.Baseline.{baseline_of, listed_of}
 use Rattle.office_policy.specs.Need.{need_at}
+use Rattle.office_policy.specs.Verdict.{Verdict, accepted}
 
 -- ---- by whom
 
@@ -122,6 +124,11 @@ pub record IsFetched (h : History) (p : ProfileName) (n : ℕ) (digest text : Li
   pub was_submitted : IsTextOf h p n digest text
   pub was_issued : list_any (issues p n) h ≡ true
   pub is_issued : state_of h p n ≡ Issued
+
+-- what a fetch comes to, without the text
+abbrev pub without_text : Verdict → Verdict
+without_text (accepted (reply.Fetched digest text n) e) = accepted (reply.IssuedNow digest n) e
+without_text v = v
 
 -- each text that was submitted is the canonical text of the document that it reads as
 abbrev pub ReadsBack : History → Type 0

@@ -7,12 +7,14 @@ use Rattle.profile_text.specs.declared.fault.DocFault.TheVariants.{TooLong}
 use Rattle.profile_text.specs.declared.profile.Profile.{Profile}
 use Rattle.profile_text.specs.Digest.{digest_of}
 use Rattle.profile_text.specs.Profile.{no_caps}
+use Rattle.review_policy.specs.declared.answer.ProfileRevision.{ProfileRevision}
 use Rattle.review_policy.specs.declared.ask.ProfileName.{ProfileName}
 use Rattle.review_policy.specs.declared.ask.Ask.{Ask}
 use Rattle.review_policy.specs.declared.ask.Ask.TheVariants as ask
 use Rattle.review_policy.specs.declared.denial.Denial.{Denial}
 use Rattle.review_policy.specs.declared.denial.Need.{Need}
 use Rattle.review_policy.specs.declared.denial.Rule.{Rule}
+use Rattle.review_policy.specs.declared.revision.State.{State}
 use Rattle.review_policy.specs.declared.revision.State.TheVariants.{Open}
 use Rattle.review_policy.specs.Rules.{first_denial, submit_rules, vote_rules, issue_rules}
 use Rattle.office_tables.specs.declared.row.RevisionRow.{RevisionRow}
@@ -197,6 +199,11 @@ after_an_adoption old new =
 abbrev pub open_row : ℕ → List ℕ → RevisionRow
 open_row number bytes =
     record { number = number; author = ann; state = Open; body = bytes; digest = digest_of bytes }
+
+-- what is told of a revision in a list
+abbrev pub listed_as : ℕ → State → (by : List ℕ) → ProfileRevision
+listed_as number state by =
+    record { revision = number; state = state; digest = digest_of text; by = by }
 
 -- ---- what is decided
 

@@ -14,6 +14,7 @@ use Rattle.review_policy.specs.declared.facts.ReadFacts.{ReadFacts}
 use Rattle.review_policy.specs.declared.facts.FetchFacts.{FetchFacts}
 use Rattle.review_policy.specs.declared.facts.HoldFacts.{HoldFacts}
 use Rattle.review_policy.specs.declared.facts.ReleaseFacts.{ReleaseFacts}
+use Rattle.review_policy.specs.declared.facts.RevisionsFacts.{RevisionsFacts}
 use Rattle.profile_text.specs.declared.profile.Profile.{Profile}
 use Rattle.profile_text.specs.declared.fault.DocFault.{DocFault}
 use Rattle.profile_text.specs.Text.{text_of}
@@ -129,7 +130,8 @@ module _ (caller : Option UserRow) where
     no_revision = no_revision;
   }
 
-  -- of a fetch: the issued revision of the team's profile, and whether that is held
+  -- of a fetch, and of what is issued: the issued revision of the team's profile, and whether that
+  -- is held
   abbrev pub fetch_facts : (team : List ℕ) → (issued : Option RevisionRow) → (held : Bool)
       → FetchFacts
   fetch_facts team issued held = record {
@@ -155,4 +157,13 @@ module _ (caller : Option UserRow) where
     role_missing = not (holds_role caller Security);
     no_profile = no_profile;
     not_held = not held;
+  }
+
+  -- of the revisions of a team's profile: whether it has none
+  abbrev pub revisions_facts : (team : List ℕ) → (no_profile : Bool) → RevisionsFacts
+  revisions_facts team no_profile = record {
+    caller_unknown = is_none caller;
+    role_missing = not (holds_role caller Author || sees_every_team caller);
+    other_team = not (is_of_team caller team || sees_every_team caller);
+    no_profile = no_profile;
   }

@@ -1,6 +1,6 @@
 -- The forms of what callers hand in: a request and a founding are of them by their types, but for a
 -- revision's number.
-use Rattle.std.specs.Prelude.{◌≡◌, ◌<◌, ◌≤◌, ◌^◌, ℕ, List, true, length, All}
+use Rattle.std.specs.Prelude.{◌≡◌, ◌<◌, ◌≤◌, ◌^◌, ℕ, List, true, length, All, Some}
 use Rattle.review_policy.specs.declared.ask.ProfileName.{ProfileName}
 use Rattle.review_policy.specs.declared.ask.Ask.{Ask}
 use Rattle.review_policy.specs.declared.ask.Ask.TheVariants as ask
@@ -37,6 +37,9 @@ HasForms (ask.List team) = IsWord team
 HasForms (ask.Fetch p) = IsName p
 HasForms (ask.Hold p) = IsName p
 HasForms (ask.Release p) = IsName p
+HasForms ask.Me = Unit {0}
+HasForms (ask.Revisions p before) = IsName p
+HasForms (ask.Issued p) = IsName p
 
 abbrev pub IsNumber : ℕ → Type 0
 IsNumber n = (1 ≤ n) × (n ≤ max_revisions)
@@ -49,6 +52,7 @@ HasNumber (ask.Withdraw p n) = IsNumber n
 HasNumber (ask.Adopt p n) = IsNumber n
 HasNumber (ask.Show p n) = IsNumber n
 HasNumber (ask.Sheet p n) = IsNumber n
+HasNumber (ask.Revisions p (Some n)) = IsNumber n
 HasNumber _ = Unit {0}
 
 -- a request that callers can make

@@ -20,6 +20,9 @@ only_reads (ask.Show p n) = true
 only_reads (ask.Sheet p n) = true
 only_reads (ask.List team) = true
 only_reads (ask.Fetch p) = true
+only_reads ask.Me = true
+only_reads (ask.Revisions p before) = true
+only_reads (ask.Issued p) = true
 only_reads _ = false
 
 -- a fact holds where nothing was changed: what was asked was refused, met a fault, or only reads

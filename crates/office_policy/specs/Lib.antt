@@ -9,6 +9,7 @@ pub mod Documents
 pub mod Baseline
 pub mod Need
 pub mod Listing
+pub mod Newest
 pub mod Sheets
 pub mod Facts
 pub mod Verdict

@@ -1,5 +1,5 @@
 -- What concerns a team.
-use Rattle.std.specs.Prelude.{ℕ, List, Bool, true, bytes_eq}
+use Rattle.std.specs.Prelude.{ℕ, List, [], Bool, true, bytes_eq}
 use Rattle.review_policy.specs.declared.ask.Ask.{Ask}
 use Rattle.review_policy.specs.declared.ask.Ask.TheVariants as ask
 use Rattle.office_policy.specs.History.{Event, founded, enrolled, submitted, voted, issued}
@@ -18,7 +18,7 @@ concerns team (adopted c p n) = bytes_eq team p.team
 concerns team (held c p) = bytes_eq team p.team
 concerns team (released c p) = bytes_eq team p.team
 
--- the team that a request names
+-- the team that a request names; who asks who that is names none
 abbrev pub team_of : Ask → List ℕ
 team_of (ask.Enrol user team roles digest) = team
 team_of (ask.Submit p document) = p.team
@@ -32,3 +32,6 @@ team_of (ask.List team) = team
 team_of (ask.Fetch p) = p.team
 team_of (ask.Hold p) = p.team
 team_of (ask.Release p) = p.team
+team_of ask.Me = []
+team_of (ask.Revisions p before) = p.team
+team_of (ask.Issued p) = p.team

@@ -13,7 +13,8 @@ use Rattle.review_policy.specs.declared.denial.Rule.{Rule}
 use Rattle.review_policy.specs.declared.denial.Rule.TheVariants.{Document, NoRevision}
 use Rattle.review_policy.specs.Rules.{first_denial, enrol_rules, submit_rules, vote_rules}
 use Rattle.review_policy.specs.Rules.{issue_rules, withdraw_rules, adopt_rules, read_rules}
-use Rattle.review_policy.specs.Rules.{fetch_rules, hold_rules, release_rules}
+use Rattle.review_policy.specs.Rules.{fetch_rules, hold_rules, release_rules, me_rules}
+use Rattle.review_policy.specs.Rules.{revisions_rules}
 use Rattle.profile_text.specs.declared.profile.Profile.{Profile}
 use Rattle.profile_text.specs.declared.fault.DocFault.{DocFault}
 use Rattle.profile_text.specs.Reading.{reading_of}
@@ -34,7 +35,8 @@ use Rattle.office_policy.specs.Sheets.{sheet_of}
 use Rattle.office_policy.specs.Listing.{listing_of}
 use Rattle.office_policy.specs.Facts.{enrol_facts, submit_facts, vote_facts, issue_facts}
 use Rattle.office_policy.specs.Facts.{withdraw_facts, adopt_facts, read_facts, fetch_facts}
-use Rattle.office_policy.specs.Facts.{hold_facts, release_facts}
+use Rattle.office_policy.specs.Facts.{hold_facts, release_facts, revisions_facts}
+use Rattle.office_policy.specs.Newest.{revisions_before, newest_told}
 
 -- a request is carried out, with its reply and, where its kind changes something, its event, or a
 -- rule refuses it
@@ -50,6 +52,11 @@ unreached = denied (record { number = 0; rule = NoRevision }) None
 abbrev pub of_revision : Option RevisionRow → (RevisionRow → Verdict) → Verdict
 of_revision None done = unreached
 of_revision (Some r) done = done r
+
+-- what is done with a user, who is there where the rules let the request through
+abbrev pub of_user : Option UserRow → (UserRow → Verdict) → Verdict
+of_user None done = unreached
+of_user (Some u) done = done u
 
 -- a document that doesn't read is answered with its fault
 abbrev pub fault_told : Rule → Result Profile DocFault → Option (List ℕ)
@@ -93,6 +100,11 @@ module _ (h : History) where
       hold_rules (hold_facts caller (revision_count h p == 0) (is_held h p))
   rules_of caller (ask.Release p) =
       release_rules (release_facts caller (revision_count h p == 0) (is_held h p))
+  rules_of caller ask.Me = me_rules (is_none caller)
+  rules_of caller (ask.Revisions p before) =
+      revisions_rules (revisions_facts caller p.team (revision_count h p == 0))
+  rules_of caller (ask.Issued p) =
+      fetch_rules (fetch_facts caller p.team (issued_revision h p) (is_held h p))
 
   -- what is done where none refuses
   abbrev pub done_of : Option UserRow → Ask → Verdict
@@ -118,6 +130,11 @@ module _ (h : History) where
       (λ r. accepted (reply.Fetched r.digest r.body r.number) None)
   done_of caller (ask.Hold p) = accepted reply.Held (Some (held (name_of caller) p))
   done_of caller (ask.Release p) = accepted reply.Released (Some (released (name_of caller) p))
+  done_of caller ask.Me = of_user caller (λ u. accepted (reply.Me u.name u.team u.roles) None)
+  done_of caller (ask.Revisions p before) =
+      accepted (newest_told (revisions_before h p before)) None
+  done_of caller (ask.Issued p) =
+      of_revision (issued_revision h p) (λ r. accepted (reply.IssuedNow r.digest r.number) None)
 
   -- what is answered of a refusal besides its rule: why a document doesn't read
   abbrev pub fault_beside : Ask → Rule → Option (List ℕ)

@@ -5,6 +5,7 @@ ghost use Rattle.std.specs.Prelude.{◌≡◌, ℕ, true, Vec, Option, Some, Non
 ghost use Rattle.std.specs.declared.alloc.Global.{Global};
 ghost use Rattle.profile_text.specs.Digest.{digest_of};
 ghost use Rattle.review_policy.specs.declared.ask.Ask.{Ask};
+ghost use Rattle.review_policy.specs.declared.ask.Ask.TheVariants.{Me};
 ghost use Rattle.review_policy.specs.declared.ask.Request.{Request};
 ghost use Rattle.review_policy.specs.declared.answer.Reply.{Reply};
 ghost use Rattle.review_policy.specs.declared.denial.Rule.TheVariants.{CallerUnknown};
@@ -13,7 +14,7 @@ ghost use Rattle.office_policy.specs.History.{Event, History};
 ghost use Rattle.office_policy.specs.Verdict.{verdict, accepted};
 ghost use Rattle.office_policy.specs.Lawful.{IsAllowed};
 ghost use Rattle.office_policy.specs.Callers.{IsForCaller, may_ask, caller_of};
-ghost use Rattle.office_policy.specs.Asked.{IsAsked, IsSeen};
+ghost use Rattle.office_policy.specs.Asked.{IsAsked, IsSeen, TellsCaller};
 ghost use Rattle.office_policy.specs.Users.{name_of, user_showing};
 ghost use Rattle.office_policy.specs.Examples.{blue, red, refused};
 ghost use Rattle.office_policy.specs.CallerTable.{decided, decided_for_each, each_kind};
@@ -64,8 +65,15 @@ pub fn what_happens_was_asked()
         ≡ accepted reply e → IsAsked (name_of (user_showing h (digest_of r.token))) r.ask e }
 {}
 
-/// What is shown is the revision that was asked for, a sheet is of just that one, and what is
-/// listed is the profiles of the team.
+/// Who asks who that is, is told: the name, the team and the roles that the user has now whose
+/// present digest is that of the whole token that was shown.
+pub fn callers_are_told_who_they_are()
+    ensures { (h : History) (r : Request) (reply : Reply) (e : Option Event) → r.ask ≡ Me
+        → verdict h r ≡ accepted reply e → TellsCaller h r reply }
+{}
+
+/// What is shown is the revision that was asked for, a sheet is of just that one, what is listed is
+/// the profiles of the team, and the revisions are the newest of the profile.
 pub fn what_is_seen_was_asked()
     ensures { (h : History) (r : Request) (reply : Reply) (e : Option Event) → verdict h r
         ≡ accepted reply e → IsSeen h r.ask reply }

@@ -17,7 +17,7 @@ ghost use Rattle.office_policy.specs.Lawful.{IsLawfulHistory};
 ghost use Rattle.office_policy.specs.Teams.{concerns, team_of};
 ghost use Rattle.office_policy.specs.Duty.{IsSubmission, AreOthers, AreOfTheText, AreEnough};
 ghost use Rattle.office_policy.specs.Duty.{LacksTwo, IsPlainRevision, IsTextOf, IsDigestOf};
-ghost use Rattle.office_policy.specs.Duty.{IsFetched, ReadsBack};
+ghost use Rattle.office_policy.specs.Duty.{IsFetched, ReadsBack, without_text};
 ghost use Rattle.office_policy.specs.Headline.{IsOfApproved, WasApproved};
 
 /// What is submitted is known by the digest of the text that happens, the canonical text of the
@@ -41,6 +41,14 @@ pub fn what_is_fetched_was_issued()
     ensures { (h : History) (r : Request) (p : ProfileName) (n : ℕ) (digest text : List ℕ)
         (e : Option Event) → r.ask ≡ ask.Fetch p
         → verdict h r ≡ accepted (reply.Fetched digest text n) e → IsFetched h p n digest text }
+{}
+
+/// What is told of the issued revision is what a fetch comes to on the same history, without the
+/// text: the digest of what would be fetched and its number, or the rule that would refuse it.
+pub fn what_is_issued_now_is_what_is_fetched()
+    ensures { (h : History) (token : List ℕ) (p : ProfileName)
+        → verdict h (record { token = token; ask = ask.Issued p })
+        ≡ without_text (verdict h (record { token = token; ask = ask.Fetch p })) }
 {}
 
 /// What is issued is known by the digest of the text that the submission of that number carried.

@@ -46,11 +46,11 @@ ghost use Rattle.office_policy.specs.LawExamples.{each_event, text_approved, one
 ghost use Rattle.office_policy.specs.LawExamples.{reviewers_approve_text, author_approves_text};
 ghost use Rattle.office_policy.specs.LawExamples.{sue_shows, asks_hold, open_profile};
 
-/// Of the twelve kinds four only read: to see a revision, its sheet, the profiles of a team, and to
-/// fetch.
+/// Of the fifteen kinds seven only read: to see a revision, its sheet, the profiles of a team, to
+/// fetch, and to see who one is, the revisions of a profile, and which one is issued.
 pub fn examples_of_what_only_reads()
     ensures { (document : Vec ℕ Global) → map only_reads (each_kind document)
-        ≡ replicate 6 false ++ replicate 4 true ++ replicate 2 false }
+        ≡ replicate 6 false ++ replicate 4 true ++ replicate 2 false ++ replicate 3 true }
 {}
 
 /// The founding and the enrolments concern each team; whatever else happens, the team of its
@@ -59,7 +59,7 @@ pub fn examples_of_what_concerns_a_team()
     ensures own_team { map (concerns blue) (each_event web) ≡ replicate 9 true }
     ensures other_team { map (concerns red) (each_event web) ≡ true ∷ true ∷ replicate 7 false }
     ensures asked { (document : Vec ℕ Global) → map team_of (each_kind document)
-        ≡ replicate 12 blue }
+        ≡ replicate 12 blue ++ [] ∷ replicate 2 blue }
 {}
 
 /// What a user of then may ask is allowed, whatever token the user shows. What is in the name of

@@ -14,6 +14,7 @@ mod judge;
 pub mod law_examples;
 pub mod laws;
 pub mod listing;
+pub mod question_examples;
 pub mod reads;
 pub mod shown;
 pub mod standing;

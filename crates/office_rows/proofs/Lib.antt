@@ -15,6 +15,7 @@ pub mod Upserting
 pub mod InOrder
 pub mod Distinct
 pub mod Asked
+pub mod Limited
 pub mod Creating
 pub mod Queries
 pub mod Shut

@@ -15,6 +15,7 @@ pub mod AuthorReads
 pub mod ListingReads
 pub mod Following
 pub mod WalkReads
+pub mod NewestReads
 pub mod VoteReads
 pub mod BallotReads
 pub mod Calls

@@ -6,9 +6,11 @@ use Rattle.office_rows.specs.Queries.{IsQuery}
 use Rattle.office_rows.proofs.Queries.{is_query}
 use Rattle.office_store.specs.declared.author.TheConstants.{REVISION_BY, AUTHORS_OF}
 use Rattle.office_store.specs.declared.baselines.TheConstants.{BASELINE_OF}
+use Rattle.office_store.specs.declared.briefs.TheConstants.{ISSUED_BRIEF}
 use Rattle.office_store.specs.declared.holds.TheConstants.{HOLD_OF}
 use Rattle.office_store.specs.declared.listing.TheConstants.{REVISIONS_OF}
 use Rattle.office_store.specs.declared.numbers.TheConstants.{LAST_NUMBERED, ISSUED_NUMBER}
+use Rattle.office_store.specs.declared.newest.TheConstants.{NEWEST_BELOW}
 use Rattle.office_store.specs.declared.revisions.TheConstants.{REVISION_AT, REVISION_OF, ISSUED_OF, LAST_OF}
 use Rattle.office_store.specs.declared.standing_votes.TheConstants.{VOTES_ON}
 use Rattle.office_store.specs.declared.summaries.TheConstants.{STATE_AND_DIGEST}
@@ -43,6 +45,14 @@ issued_of = is_query ISSUED_OF.now _ (record { is = refl; bare = λ schema base.
 pub last_of : IsQuery LAST_OF.now
 unfolding everything first returning
 last_of = is_query LAST_OF.now _ (record { is = refl; bare = λ schema base. refl })
+
+pub issued_brief : IsQuery ISSUED_BRIEF.now
+unfolding everything first returning
+issued_brief = is_query ISSUED_BRIEF.now _ (record { is = refl; bare = λ schema base. refl })
+
+pub newest_below : IsQuery NEWEST_BELOW.now
+unfolding everything first returning
+newest_below = is_query NEWEST_BELOW.now _ (record { is = refl; bare = λ schema base. refl })
 
 pub baseline_of : IsQuery BASELINE_OF.now
 unfolding everything first returning

@@ -32,8 +32,11 @@ use Rattle.office_rows.proofs.Finding.{IsFound, finds_some, found_own}
 use Rattle.office_rows.proofs.Ordered.{first_query, IsFirst, IsFirstRow, finds_first}
 use Rattle.office_store.specs.declared.revisions.TheConstants.{REVISION_AT, ISSUED_OF, LAST_OF, REVISION_OF}
 use Rattle.office_store.specs.declared.numbers.TheConstants.{LAST_NUMBERED, ISSUED_NUMBER}
+use Rattle.office_store.specs.declared.briefs.TheConstants.{ISSUED_BRIEF}
+use Rattle.office_store.specs.declared.briefs.Brief.{Brief}
 use Rattle.office_store.specs.declared.summaries.Summary.{Summary}
 use Rattle.office_store.specs.declared.summaries.TheConstants.{STATE_AND_DIGEST}
+use Rattle.office_store.specs.Briefs.{brief_of, brief_row, IsRowOfBrief}
 use Rattle.office_store.specs.Schema.{office_schema}
 use Rattle.office_store.specs.Entries.{Revision, same_revision, revision_key, revision_row, revision_columns, IsRevision, state_number}
 use Rattle.office_store.specs.Lists.{IsRowOfNumber}
@@ -87,6 +90,10 @@ issued_number_means : Means office_schema ISSUED_NUMBER.now (Select (record { le
 unfolding understood everything
 issued_number_means = record { is = refl; plain = (refl, refl); unlisted = refl }
 
+brief_means : Means office_schema ISSUED_BRIEF.now (Select (record { lets = []; body = plain_query (col 1 3 ∷ col 1 7 ∷ []) (in_state_of Issued) 4 }) (codes "number" ∷ codes "digest" ∷ []))
+unfolding understood everything
+brief_means = record { is = refl; plain = (refl, refl); unlisted = refl }
+
 abbrev number_of : Revision → Row
 number_of e = Int (pos e.1.number) ∷ []
 
@@ -117,6 +124,9 @@ summarized e = summary_row (summary_of e.1)
 
 abbrev numbered : Revision → Row
 numbered e = numbered_row (numbered_of e.1)
+
+abbrev in_brief : Revision → Row
+in_brief e = brief_row (brief_of e.1)
 
 abbrev pub is_at : ProfileName × ℕ → Revision → Bool
 is_at k e = same_revision k (revision_key e)
@@ -264,6 +274,24 @@ module _ (old new : State) (t : Tables) (shows : Shows old t) where
         old new o.schema shows.settled idle o.revisions.entries o.revisions.kept r h in
         issued_numbered p r it.0
 
+    -- ---- the number and the digest
+
+    issued_in_brief : (p : ProfileName) (r : Result (Option Row) Fault) → IfOk r (IsFound (is_in_state p Issued) in_brief shows.office.revisions.entries) → IfOk r (IsRowOfBrief (IsIssued t p))
+    issued_in_brief p (Ok (Some row)) it =
+        let is = issued_entry p it.0 it.1 it.2 in
+        let formed = revision_formed p it.0.1.number it.0.1 is.0 in
+        (it.0.1, is, record { number = formed.number; digest = formed.digest }, it.3)
+    issued_in_brief p (Ok None) none = none_issued p none
+    issued_in_brief p (Err f) it = it
+
+    pub reads_issued_brief : (p : ProfileName) (r : Result (Option Row) Fault) → FindsRow ISSUED_BRIEF.now (profile_params p) old new r
+        → IfOk r (IsRowOfBrief (IsIssued t p))
+    reads_issued_brief p r h =
+        let o = shows.office in
+        let it = finds_some revision_row in_brief (is_in_state p Issued) (col 1 3 ∷ col 1 7 ∷ []) (in_state_of Issued) office_schema ISSUED_BRIEF.now (profile_params p) 4 (codes "number" ∷ codes "digest" ∷ []) brief_means (state_tested p Issued) (λ k. refl)
+        old new o.schema shows.settled idle o.revisions.entries o.revisions.kept r h in
+        issued_in_brief p r it.0
+
     any_row : (p : ProfileName) (r : Result (Option Row) Fault) → IfOk r (IsFound (is_of p) number_of shows.office.revisions.entries) → IfOk r (λ row. is_some row ≡ true ↔ HasRevision t p)
     any_row p (Ok (Some row)) it = (
       (λ _. record { number = it.0.1.number; revision = it.0.1; there = subst (λ q. t.revisions q it.0.1.number ≡ Some it.0.1) (sym (same_profile p it.0.0 it.2)) (found_at it.0 it.1) }),
@@ -301,3 +329,9 @@ same_summary r s same =
     let state : r.state ≡ s.state = same_state r.state s.state (subst (λ n. (state_number r.state == n) ≡ true) numbered (let k : (state_number r.state == state_number r.state) ≡ true = grind (arith, nat_tests) in k)) in
     let digest : r.digest ≡ s.digest = cc in
     λ i. record { state = state i; digest = digest i }
+
+pub same_brief : (r s : Brief) → brief_row r ≡ brief_row s → r ≡ s
+same_brief r s same =
+    let number : r.number ≡ s.number = cc in
+    let digest : r.digest ≡ s.digest = cc in
+    λ i. record { number = number i; digest = digest i }

@@ -9,9 +9,11 @@ use Rattle.office_store.specs.Schema.{office_schema}
 use Rattle.office_store.specs.Keys.{profile_params, revision_params, author_params, vote_params}
 use Rattle.office_store.specs.declared.author.TheConstants.{REVISION_BY, AUTHORS_OF}
 use Rattle.office_store.specs.declared.baselines.TheConstants.{BASELINE_OF}
+use Rattle.office_store.specs.declared.briefs.TheConstants.{ISSUED_BRIEF}
 use Rattle.office_store.specs.declared.holds.TheConstants.{HOLD_OF}
 use Rattle.office_store.specs.declared.listing.TheConstants.{REVISIONS_OF}
 use Rattle.office_store.specs.declared.numbers.TheConstants.{LAST_NUMBERED, ISSUED_NUMBER}
+use Rattle.office_store.specs.declared.newest.TheConstants.{NEWEST_BELOW}
 use Rattle.office_store.specs.declared.revisions.TheConstants.{REVISION_AT, REVISION_OF, ISSUED_OF, LAST_OF}
 use Rattle.office_store.specs.declared.standing_votes.TheConstants.{VOTES_ON}
 use Rattle.office_store.specs.declared.summaries.TheConstants.{STATE_AND_DIGEST}
@@ -54,6 +56,14 @@ last_numbered p = record { text = record { whole = refl; given = refl; bare = re
 pub issued_number : (p : ProfileName) → IsSure office_schema ISSUED_NUMBER.now (profile_params p)
 unfolding understood everything
 issued_number p = record { text = record { whole = refl; given = refl; bare = refl; timeless = refl; query = (refl, refl, refl, refl) }; unlisted = refl }
+
+pub issued_brief : (p : ProfileName) → IsSure office_schema ISSUED_BRIEF.now (profile_params p)
+unfolding understood everything
+issued_brief p = record { text = record { whole = refl; given = refl; bare = refl; timeless = refl; query = (refl, refl, refl, refl) }; unlisted = refl }
+
+pub newest_below : (p : ProfileName) (below : ℕ) → IsSure office_schema NEWEST_BELOW.now (revision_params p below)
+unfolding understood everything
+newest_below p below = record { text = record { whole = refl; given = refl; bare = refl; timeless = refl; query = (refl, refl, refl, refl) }; unlisted = refl }
 
 pub baseline_of : (team : List ℕ) → IsSure office_schema BASELINE_OF.now (Text team ∷ [])
 unfolding understood everything

@@ -10,6 +10,7 @@ use Rattle.review_policy.specs.declared.fault.Fault.TheVariants.{NoMemory, NotAn
 use Rattle.office_rows.specs.Rows.{IsFaultOf}
 use Rattle.office_rows.specs.Told.{IsOfRow, IsUnread, IsTold, TellsAll, FindsRows, map_ok}
 use Rattle.office_tables.specs.declared.listed.ListedRevision.{ListedRevision}
+use Rattle.review_policy.specs.declared.answer.ProfileRevision.{ProfileRevision}
 use Rattle.review_policy.specs.declared.revision.State.{State as State_}
 use Rattle.office_store.specs.Entries.{state_number, bit}
 use Rattle.review_policy.specs.Role.{has_role}
@@ -20,7 +21,7 @@ use Rattle.office_tables.specs.declared.row.UserRow.{UserRow}
 use Rattle.office_tables.specs.Lists.{holds_role, tally_of}
 use Rattle.office_store.specs.declared.numbers.Numbered.{Numbered}
 use Rattle.office_store.specs.Numbered.{numbered_row}
-use Rattle.office_store.specs.Lists.{number_row, name_row, listed_row, Cast, roles_of, cast_row, standing_of, IsCastForm, IsCastAs, AreCastAs, TellsVotes, TellsTally}
+use Rattle.office_store.specs.Lists.{number_row, name_row, listed_row, told_row, Cast, roles_of, cast_row, standing_of, IsCastForm, IsCastAs, AreCastAs, TellsVotes, TellsTally}
 use Rattle.office_store.specs.Shown.{Shows}
 use Rattle.office_store.specs.Calls.{IsRead}
 use Rattle.office_store.proofs.Calls.{read_told}
@@ -122,6 +123,15 @@ same_numbered_row a b row is other =
     let numbers : state_number a.state ≡ state_number b.state = cc in
     let state = numbered_as a.state b.state numbers in
     λ i. record { number = number i; state = state i }
+
+pub same_told_row : (a b : ProfileRevision) → told_row a ≡ told_row b → a ≡ b
+same_told_row a b same =
+    let revision : a.revision ≡ b.revision = cc in
+    let numbers : state_number a.state ≡ state_number b.state = cc in
+    let state = numbered_as a.state b.state numbers in
+    let digest : a.digest ≡ b.digest = cc in
+    let by : a.by ≡ b.by = cc in
+    λ i. record { revision = revision i; state = state i; digest = digest i; by = by i }
 
 -- ---- votes, one for each row
 

@@ -13,3 +13,4 @@ pub mod Lists
 pub mod Refusing
 pub mod Summaries
 pub mod Numbered
+pub mod Briefs

@@ -1,11 +1,13 @@
 -- What the reads of several rows show.
-use Rattle.std.specs.Prelude.{◌≡◌, ◌≢◌, ◌<◌, ◌^◌, ℕ, pos, true, List, [], ◌∷◌, map, Option, Some}
-use Rattle.std.specs.Prelude.{None, Result, Ok, Err}
+use Rattle.std.specs.Prelude.{◌≡◌, ◌≢◌, ◌<◌, ◌^◌, ℕ, suc, pos, true, List, [], ◌∷◌, map, Option}
+use Rattle.std.specs.Prelude.{Some, None, length, Result, Ok, Err}
 use Rattle.std.specs.List.{AllByRecursion}
 use Rattle.std.specs.declared.cmp.Ordering.TheVariants.{Less}
-use Rattle.sqlite.specs.declared.types.Value.TheVariants.{Int, Text}
+use Rattle.sqlite.specs.declared.types.Value.TheVariants.{Int, Text, Blob}
 use Rattle.sqlite.specs.Order.{Row}
+use Rattle.review_policy.specs.Rules.{max_listed}
 use Rattle.review_policy.specs.Words.{is_word}
+use Rattle.review_policy.specs.declared.answer.ProfileRevision.{ProfileRevision}
 use Rattle.review_policy.specs.declared.ask.ProfileName.{ProfileName}
 use Rattle.review_policy.specs.declared.revision.VoteRow.{VoteRow}
 use Rattle.office_tables.specs.declared.row.UserRow.{UserRow}
@@ -13,7 +15,7 @@ use Rattle.office_tables.specs.declared.row.RevisionRow.{RevisionRow}
 use Rattle.office_tables.specs.declared.listed.ListedRevision.{ListedRevision}
 use Rattle.office_tables.specs.Tables.{Tables, Vote}
 use Rattle.office_tables.specs.Lists.{AreAuthors, IsListed, AreRevisionsOf, AreStanding, name_cmp}
-use Rattle.office_tables.specs.Lists.{standing_vote, tally_of}
+use Rattle.office_tables.specs.Lists.{standing_vote, tally_of, AreNewest}
 use Rattle.review_policy.specs.declared.fault.Fault.{Fault}
 use Rattle.office_tables.specs.declared.listed.Tally.{Tally}
 use Rattle.office_rows.specs.Told.{IsUnread}
@@ -49,6 +51,28 @@ pub record AreListedRows (t : Tables) (team : List ℕ) (rows : List Row) : Type
   pub rows_are : rows ≡ map listed_row listed
   pub revisions : AreRevisionsOf t team listed
   pub formed : AllByRecursion IsListedForm listed
+
+-- ---- the newest revisions of a profile
+
+-- one more than a list has, so that the list can tell whether there are more
+abbrev pub most_read : ℕ
+most_read = suc max_listed
+
+abbrev pub told_row : ProfileRevision → Row
+told_row l =
+    Int (pos l.revision) ∷ Int (pos (state_number l.state)) ∷ Blob l.digest ∷ Text l.by ∷ []
+
+pub record IsToldForm (l : ProfileRevision) : Type 0 where
+  pub revision : l.revision < 2 ^ 32
+  pub digest : length l.digest ≡ 32
+  pub by : is_word l.by ≡ true
+
+-- the rows of the newest revisions of a profile below a number
+pub record AreNewestRows (t : Tables) (p : ProfileName) (below : ℕ) (rows : List Row) : Type 0 where
+  pub told : List ProfileRevision
+  pub rows_are : rows ≡ map told_row told
+  pub newest : AreNewest t p below most_read told
+  pub formed : AllByRecursion IsToldForm told
 
 -- ---- from one profile of a team to the next
 

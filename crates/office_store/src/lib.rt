@@ -6,9 +6,11 @@
 pub mod author;
 pub mod baselines;
 mod bind;
+pub mod briefs;
 mod column;
 pub mod holds;
 pub mod listing;
+pub mod newest;
 pub mod numbers;
 pub mod refusing;
 pub mod revisions;
@@ -22,10 +24,12 @@ mod write;
 
 pub use author::{authors, is_author};
 pub use baselines::{Adopted, baseline, put_baseline};
+pub use briefs::{Brief, issued_brief};
 pub use column::{bytes_of, number_at, word_at};
 pub use holds::{delete_hold, held, put_hold};
 pub use listing::revisions_of;
 pub use numbers::{Numbered, issued_number, last_numbered};
+pub use newest::newest_below;
 pub use revisions::{
     add_revision, has_revision, issued, last, revision, set_issued, set_withdrawn,
 };

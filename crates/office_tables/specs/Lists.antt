@@ -1,10 +1,12 @@
 -- What each read of several rows answers: the rows that the tables have, each once, in order.
-use Rattle.std.specs.Prelude.{◌≡◌, ℕ, List, Bool, false, not, ◌&&◌, Option, Some, None, count_by}
+use Rattle.std.specs.Prelude.{◌≡◌, ◌<◌, ℕ, List, Bool, false, not, ◌&&◌, Option, Some, None}
+use Rattle.std.specs.Prelude.{count_by, map, take}
 use Rattle.std.specs.List.{AllPairs, Contains}
 use Rattle.std.specs.Ordering.{nat_cmp, ordering_then}
 use Rattle.std.specs.Cmp.Lexicographic.{slice_cmp}
 use Rattle.std.specs.declared.cmp.Ordering.{Ordering}
 use Rattle.std.specs.declared.cmp.Ordering.TheVariants.{Less}
+use Rattle.review_policy.specs.declared.answer.ProfileRevision.{ProfileRevision}
 use Rattle.review_policy.specs.declared.ask.ProfileName.{ProfileName}
 use Rattle.review_policy.specs.declared.revision.VoteRow.{VoteRow}
 use Rattle.review_policy.specs.declared.role.Role.{Role}
@@ -55,6 +57,26 @@ pub record AreRevisionsOf (t : Tables) (team : List ℕ) (listed : List ListedRe
   pub rising : AllPairs (λ a b. listed_cmp a b ≡ Less) listed
   pub each : (l : ListedRevision) → Contains listed l → IsListed t team l
   pub all : (l : ListedRevision) → IsListed t team l → Contains listed l
+
+-- ---- the revisions of a profile
+
+-- what is told of a revision in a list of its profile's
+abbrev pub told_revision : RevisionRow → ProfileRevision
+told_revision r = record { revision = r.number; state = r.state; digest = r.digest; by = r.author }
+
+-- the revisions of a profile with a number below this one, each once, by falling numbers
+pub record AreBelow (t : Tables) (p : ProfileName) (below : ℕ) (rows : List RevisionRow) : Type 0 where
+  pub falling : AllPairs (λ (a b : RevisionRow). b.number < a.number) rows
+  pub each : (r : RevisionRow) → Contains rows r
+      → (t.revisions p r.number ≡ Some r) × (r.number < below)
+  pub all : (r : RevisionRow) → t.revisions p r.number ≡ Some r → r.number < below → Contains rows r
+
+-- the first of them are told, as many as the limit lets
+pub record AreNewest (t : Tables) (p : ProfileName) (below limit : ℕ)
+    (told : List ProfileRevision) : Type 0 where
+  pub rows : List RevisionRow
+  pub below_it : AreBelow t p below rows
+  pub newest : told ≡ map told_revision (take limit rows)
 
 -- ---- votes
 

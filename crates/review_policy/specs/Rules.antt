@@ -29,10 +29,15 @@ use Rattle.review_policy.specs.declared.facts.ReadFacts.{ReadFacts}
 use Rattle.review_policy.specs.declared.facts.FetchFacts.{FetchFacts}
 use Rattle.review_policy.specs.declared.facts.HoldFacts.{HoldFacts}
 use Rattle.review_policy.specs.declared.facts.ReleaseFacts.{ReleaseFacts}
+use Rattle.review_policy.specs.declared.facts.RevisionsFacts.{RevisionsFacts}
 
 -- the greatest number of revisions of a profile
 abbrev pub max_revisions : ℕ
 max_revisions = 9999
+
+-- the greatest number of revisions in one list of a profile's
+abbrev pub max_listed : ℕ
+max_listed = 100
 
 -- a revision that is there and open
 abbrev pub is_open : Option State → Bool
@@ -139,7 +144,7 @@ read_rules f =
     ∷ (NoRevision, f.no_revision)
     ∷ []
 
--- a machine of the team fetches what is issued, unless the profile is held
+-- fetch and issued: a machine of the team gets what is issued, unless the profile is held
 abbrev pub fetch_rules : FetchFacts → List (Rule × Bool)
 fetch_rules f =
     (CallerUnknown, f.caller_unknown)
@@ -165,6 +170,19 @@ release_rules f =
     ∷ (RoleMissing, f.role_missing)
     ∷ (NoProfile, f.no_profile)
     ∷ (NotHeld, f.not_held)
+    ∷ []
+
+-- every user sees who that is
+abbrev pub me_rules : (caller_unknown : Bool) → List (Rule × Bool)
+me_rules caller_unknown = (CallerUnknown, caller_unknown) ∷ []
+
+-- an author of the team, or a reviewer, security or an issuer, looks at the revisions of a profile
+abbrev pub revisions_rules : RevisionsFacts → List (Rule × Bool)
+revisions_rules f =
+    (CallerUnknown, f.caller_unknown)
+    ∷ (RoleMissing, f.role_missing)
+    ∷ (OtherTeam, f.other_team)
+    ∷ (NoProfile, f.no_profile)
     ∷ []
 
 -- the first rule that refuses, where the first of the list has this number

@@ -5,6 +5,7 @@ ghost use Rattle.std.specs.Prelude.{◌≡◌};
 use crate::denial::Denial;
 use crate::fault::Fault;
 use crate::revision::State;
+use crate::role::Roles;
 use crate::text::Text;
 use crate::word::Word;
 use std::marker::Model;
@@ -53,6 +54,49 @@ impl Listing {
     }
 }
 
+/// A revision in a list of a profile's revisions.
+#[derive(Debug, Drop)]
+pub struct ProfileRevision {
+    /// Its number, from 1.
+    pub revision: u32,
+    pub state: State,
+    /// SHA-256 of its text.
+    pub digest: [u8; 32],
+    /// Who handed it in.
+    pub by: Word,
+}
+
+/// Revisions of a profile, the newest first.
+#[derive(Debug, Drop)]
+pub struct RevisionList {
+    revisions: Vec<ProfileRevision>,
+}
+
+impl Model for RevisionList {
+    ghost use Rattle.std.specs.Prelude.{List};
+    ghost use Rattle.review_policy.specs.declared.answer.ProfileRevision.{ProfileRevision};
+
+    ghost Value = { List ProfileRevision };
+
+    ghost view = { λ l. l.revisions.items };
+}
+
+impl RevisionList {
+    /// These revisions, in their order.
+    pub fn new(revisions: Vec<ProfileRevision>) -> RevisionList
+        ensures { result ≡ revisions.items }
+    {
+        RevisionList { revisions }
+    }
+
+    /// The revisions in their order.
+    pub fn revisions(&self) -> &[ProfileRevision]
+        ensures { result.now ≡ self.now }
+    {
+        self.revisions.as_slice()
+    }
+}
+
 /// What a request that was done is answered. Digests are of SHA-256; revisions are numbered from 1.
 #[derive(Debug, Drop)]
 pub enum Reply {
@@ -98,6 +142,23 @@ pub enum Reply {
     Held,
     /// The profile is no longer held.
     Released,
+    /// Who the caller is.
+    Me {
+        user: Word,
+        team: Word,
+        roles: Roles,
+    },
+    /// The newest revisions of a profile, at most [`crate::MAX_LISTED`], and whether there are
+    /// older ones.
+    Revisions {
+        revisions: RevisionList,
+        more: bool,
+    },
+    /// Which revision of a profile is issued, and the digest of its text.
+    IssuedNow {
+        digest: [u8; 32],
+        revision: u32,
+    },
 }
 
 /// The answer to a request.

@@ -77,6 +77,17 @@ pub enum Ask {
     Release {
         name: ProfileName,
     },
+    /// To see who the caller is.
+    Me,
+    /// To see the newest revisions of a profile: of all, or of those before this number.
+    Revisions {
+        name: ProfileName,
+        before: Option<u32>,
+    },
+    /// To see which revision a fetch of the profile would give, without its text.
+    Issued {
+        name: ProfileName,
+    },
 }
 
 /// A request: what is asked, and the token that its caller shows.

@@ -183,7 +183,7 @@ pub struct ReadFacts {
     pub no_revision: bool,
 }
 
-/// What the rules of fetch ask.
+/// What the rules of fetch and issued ask.
 #[derive(Clone, Copy)]
 pub struct FetchFacts {
     /// No user's present token is the one that is shown.
@@ -253,4 +253,17 @@ impl ReleaseFacts {
         no_profile: false,
         not_held: false,
     };
+}
+
+/// What the rules of revisions ask.
+#[derive(Clone, Copy)]
+pub struct RevisionsFacts {
+    /// No user's present token is the one that is shown.
+    pub caller_unknown: bool,
+    /// The caller is none of author, reviewer, security and issuer.
+    pub role_missing: bool,
+    /// The team isn't the caller's, who is none of reviewer, security and issuer.
+    pub other_team: bool,
+    /// The profile has no revision.
+    pub no_profile: bool,
 }

@@ -8,6 +8,9 @@ use crate::word::Word;
 /// The greatest number of revisions of a profile.
 pub const MAX_REVISIONS: u32 = 9_999;
 
+/// The greatest number of revisions in one list of a profile's revisions.
+pub const MAX_LISTED: usize = 100;
+
 /// Where a revision stands.
 #[derive(Clone, Copy, Debug, PartialEq, Eq)]
 pub enum State {

@@ -24,10 +24,13 @@ Issue {"ask":"issue","token":"$other$","team":"$team$","profile":"$profile$","re
 Adopt {"ask":"adopt","token":"$other$","team":"$team$","profile":"$profile$","revision":$revision$}
 Show {"ask":"show","token":"$author$","team":"$team$","profile":"$profile$","revision":$revision$}
 List {"ask":"list","token":"$author$","team":"$team$"}
+Revisions {"ask":"revisions","token":"$author$","team":"$team$","profile":"$profile$"}
 Fetch {"ask":"fetch","token":"$author$","team":"$team$","profile":"$profile$"}
+Issued {"ask":"issued","token":"$author$","team":"$team$","profile":"$profile$"}
 Hold {"ask":"hold","token":"$other$","team":"$team$","profile":"$profile$"}
 Release {"ask":"release","token":"$other$","team":"$team$","profile":"$profile$"}
 Withdraw {"ask":"withdraw","token":"$author$","team":"$team$","profile":"$profile$","revision":$revision$}
+Me {"ask":"me","token":"$author$"}
 "#;
 
 // What requests are about.
@@ -159,7 +162,7 @@ pub fn time_requests<S: Alter>(
     profiles: Profiles,
     sizes: &Sizes,
 ) -> Result<()> {
-    let mut figures = [Figure::NONE; 13];
+    let mut figures = [Figure::NONE; 16];
     for index in 0..times_of(sizes) {
         let mut about = About::new(profiles, index, sizes.count);
         make_each(rt, office, &mut about, &mut figures)?;

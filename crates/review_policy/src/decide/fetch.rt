@@ -1,4 +1,4 @@
-//! When what was issued of a profile may be fetched.
+//! When what was issued of a profile may be fetched, or asked for.
 
 ghost use Rattle.std.specs.Prelude.{◌≡◌};
 ghost use Rattle.review_policy.specs.Rules.{first_denial, fetch_rules};
@@ -7,7 +7,8 @@ use super::first_denial;
 use crate::denial::{Denial, Rule};
 use crate::facts::FetchFacts;
 
-/// Whether what was issued of a profile may be fetched, or the first rule that refuses it.
+/// Whether what was issued of a profile may be fetched, or its revision seen, or the first rule that
+/// refuses it.
 pub fn decide_fetch(facts: &FetchFacts) -> Result<(), Denial>
     ensures { result ≡ first_denial (fetch_rules facts.now) }
 {

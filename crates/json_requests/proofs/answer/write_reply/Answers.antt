@@ -8,4 +8,4 @@ returns-in_ok-write_text-in-Shown c =
 
 pub returns-in_ok-write_text-in-Fetched : goal.returns-in_ok-write_text-in-Fetched
 returns-in_ok-write_text-in-Fetched c =
-    rw c.in-Fetched.is (after_last _ _ _ c.in_ok-write_digest-in-Fetched.ensures (after_last _ _ _ (rw c.as_str-in-Fetched.ensures at c.in_ok-write_text-in-Fetched.ensures) c.write_number-in-Fetched.ensures))
+    rw c.in-Fetched.is (after_last _ _ _ c.in_ok-write_digest-in-Fetched.ensures (after_last _ _ _ (rw c.as_str-in-Fetched.ensures at c.in_ok-write_text-in-Fetched.ensures) c.write_number.ensures))

@@ -1,7 +1,9 @@
-use Rattle.std.proofs.Common.{ap}
+use Rattle.std.proofs.Common.{Ok, Some, None, ap, sym}
 use Rattle.sqlite.specs.Held.{state}
 use Rattle.review_policy.specs.declared.ask.Ask.TheVariants as ask
 use Rattle.office_policy.specs.Handled.{only_reads}
+use Rattle.office_policy.specs.Verdict.{accepted, verdict_of}
+use Rattle.office_judging.proofs.Judging.{found_at_once}
 use Rattle.office_judging.proofs.Verdicts.{answers_none, answers_reads, changes, reads}
 use Rattle.office_judging.proofs.judge.judge_for.Goals as goal
 
@@ -65,6 +67,23 @@ returns-in-Fetch-clause-judged g c =
     reads (state g.S.Store c.args.conn.now) (state g.S.Store c.fetch.new.conn) c.args.caller (ask.Fetch c.in-Fetch.name) c.args.ask.now c.in-Fetch.is
     c.fetch.result c.fetch.ensures c.answered-in-Fetch.result c.answered-in-Fetch.ensures
 
+pub returns-in-Me-clause-judged : goal.returns-in-Me-clause-judged
+returns-in-Me-clause-judged g c =
+    let s = state g.S.Store c.args.conn.now in
+    reads s s c.args.caller ask.Me c.args.ask.now c.in-Me.is (Ok c.me.result)
+    (found_at_once (λ h. verdict_of h (Some c.args.caller) ask.Me) s c.me.result c.requires (λ h lawful. ap (λ r. accepted r None) (sym c.me.ensures)))
+    c.answered-in-Me.result c.answered-in-Me.ensures
+
+pub returns-in-Revisions-clause-judged : goal.returns-in-Revisions-clause-judged
+returns-in-Revisions-clause-judged g c =
+    reads (state g.S.Store c.args.conn.now) (state g.S.Store c.revisions.new.conn) c.args.caller (ask.Revisions c.in-Revisions.name c.in-Revisions.before) c.args.ask.now c.in-Revisions.is
+    c.revisions.result c.revisions.ensures c.answered-in-Revisions.result c.answered-in-Revisions.ensures
+
+pub returns-in-Issued-clause-judged : goal.returns-in-Issued-clause-judged
+returns-in-Issued-clause-judged g c =
+    reads (state g.S.Store c.args.conn.now) (state g.S.Store c.issued_now.new.conn) c.args.caller (ask.Issued c.in-Issued.name) c.args.ask.now c.in-Issued.is
+    c.issued_now.result c.issued_now.ensures c.answered-in-Issued.result c.answered-in-Issued.ensures
+
 pub returns-in-Submit-clause-reads : goal.returns-in-Submit-clause-reads
 returns-in-Submit-clause-reads g c = answers_none c.args.ask.now c.judge_submission.result c.allowed-in-Submit.result c.allowed-in-Submit.ensures
 
@@ -100,3 +119,12 @@ returns-in-List-clause-reads g c = answers_reads c.args.ask.now (ap only_reads c
 
 pub returns-in-Fetch-clause-reads : goal.returns-in-Fetch-clause-reads
 returns-in-Fetch-clause-reads g c = answers_reads c.args.ask.now (ap only_reads c.in-Fetch.is) c.fetch.result c.answered-in-Fetch.result c.answered-in-Fetch.ensures
+
+pub returns-in-Me-clause-reads : goal.returns-in-Me-clause-reads
+returns-in-Me-clause-reads g c = answers_reads c.args.ask.now (ap only_reads c.in-Me.is) (Ok c.me.result) c.answered-in-Me.result c.answered-in-Me.ensures
+
+pub returns-in-Revisions-clause-reads : goal.returns-in-Revisions-clause-reads
+returns-in-Revisions-clause-reads g c = answers_reads c.args.ask.now (ap only_reads c.in-Revisions.is) c.revisions.result c.answered-in-Revisions.result c.answered-in-Revisions.ensures
+
+pub returns-in-Issued-clause-reads : goal.returns-in-Issued-clause-reads
+returns-in-Issued-clause-reads g c = answers_reads c.args.ask.now (ap only_reads c.in-Issued.is) c.issued_now.result c.answered-in-Issued.result c.answered-in-Issued.ensures

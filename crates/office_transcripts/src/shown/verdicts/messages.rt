@@ -26,7 +26,7 @@ pub fn is_change(alloc: Global, request: &str, answer: &str) -> Result<bool> {
     let request = Value::from_str(alloc, request)?;
     let answer = Value::from_str(alloc, answer)?;
     Ok(match text_of(&request, "ask") {
-        "show" | "sheet" | "list" | "fetch" => false,
+        "show" | "sheet" | "list" | "fetch" | "me" | "revisions" | "issued" => false,
         _ => is_done(&answer),
     })
 }
@@ -70,6 +70,9 @@ fn route_of(kind: &str) -> Option<Route> {
         "fetch" => get("/issued/$team$/$profile$"),
         "hold" => post("/hold/$team$/$profile$", ""),
         "release" => post("/release/$team$/$profile$", ""),
+        "me" => get("/me"),
+        "revisions" => get("/p/$team$/$profile$$before$"),
+        "issued" => get("/issued/$team$/$profile$/digest"),
         _ => None,
     }
 }
@@ -82,11 +85,23 @@ fn json_of(alloc: Global, request: &Value, name: &str) -> Result<String> {
     }
 }
 
+// The query of a request for revisions before a number; nothing where it has none.
+fn query_of(alloc: Global, request: &Value) -> Result<String> {
+    match request.get("before") {
+        Some(number) => {
+            let number = number.to_string(alloc)?;
+            Ok(format!(in alloc; "?before={number}")?)
+        }
+        None => Ok(String::new(alloc)),
+    }
+}
+
 // What stands for a part of a target: for the name of a member that, and else the part.
 fn filled(alloc: Global, request: &Value, part: &str) -> Result<String> {
     match part {
         "team" | "profile" => Ok(String::from_str(alloc, text_of(request, part))?),
         "revision" => json_of(alloc, request, part),
+        "before" => query_of(alloc, request),
         _ => Ok(String::from_str(alloc, part)?),
     }
 }

@@ -1,0 +1,81 @@
+//! The issued revision of a profile without its text.
+
+ghost use Rattle.std.specs.Prelude.{◌≡◌, IfOk, IfErr};
+ghost use Rattle.sqlite.specs.Held.{state};
+ghost use Rattle.office_rows.specs.Told.{IsOfRow, IsTold, TellsOne};
+ghost use Rattle.office_tables.specs.Reads.{IsIssued};
+ghost use Rattle.office_store.specs.Briefs.{brief_row, IsBrief, IsBriefOf, IsRowOfBrief};
+ghost use Rattle.office_store.specs.Connections.{AcceptsFormed, FindsFirst, Reads, ReadsFirst};
+ghost use Rattle.office_store.specs.Keys.{profile_params};
+ghost use Rattle.office_store.specs.Shown.{IsIdle};
+
+use crate::bind::of_profile;
+use crate::column::{digest_at, number_at};
+use office_rows::first_row;
+use review_policy::{Fault, ProfileName};
+use sqlite::{Alter, Connection, Row};
+
+pub(crate) const ISSUED_BRIEF: &str =
+    "SELECT number, digest FROM revisions WHERE team = ?1 AND profile = ?2 AND state = 2";
+
+/// What names a revision of a profile and its text.
+#[derive(Clone, Copy, Debug, PartialEq, Eq)]
+pub struct Brief {
+    /// Its number, from 1.
+    pub number: u32,
+    /// SHA-256 of its text.
+    pub digest: [u8; 32],
+}
+
+// The brief that a row stands for.
+fn read_brief(row: &Row) -> Result<Brief, Fault>
+    ensures brief { IfOk result (λ brief. row.now ≡ brief_row brief) }
+    ensures formed { AcceptsFormed brief_row IsBrief row.now result }
+    ensures cause { IfErr result IsOfRow }
+{
+    if row.column_count() != 2 {
+        return Err(Fault::NotAnOffice);
+    }
+    Ok(Brief {
+        number: number_at(row, 0)?,
+        digest: digest_at(row, 1)?,
+    })
+}
+
+// The brief of the row that a query found, if it found one.
+fn found_brief(found: Result<Option<Row>, Fault>) -> Result<Option<Brief>, Fault>
+    ensures { IsTold (TellsOne brief_row IsBrief) found result }
+{
+    match found? {
+        Some(row) => Ok(Some(read_brief(&row)?)),
+        None => Ok(None),
+    }
+}
+
+// The row of the issued revision of a profile without its text.
+fn issued_row<S: Alter>(
+    conn: &mut Connection<S>,
+    profile: &ProfileName,
+) -> Result<Option<Row>, Fault>
+    requires { IsIdle (state S.Store conn.old) }
+    ensures read { Reads S.Store conn.old conn.new result
+        (λ t row. IsRowOfBrief (IsIssued t profile.now) row) }
+    ensures row { FindsFirst S.Store conn.old conn.new
+        ISSUED_BRIEF.now (profile_params profile.now) result }
+{
+    first_row(conn, ISSUED_BRIEF, &of_profile(profile))
+}
+
+/// The number and the digest of the revision of a profile that is issued, whose text isn't read.
+pub fn issued_brief<S: Alter>(
+    conn: &mut Connection<S>,
+    profile: &ProfileName,
+) -> Result<Option<Brief>, Fault>
+    requires { IsIdle (state S.Store conn.old) }
+    ensures read { Reads S.Store conn.old conn.new result
+        (λ t brief. IsBriefOf (IsIssued t profile.now) brief) }
+    ensures told { ReadsFirst S.Store conn.old conn.new
+        ISSUED_BRIEF.now (profile_params profile.now) (TellsOne brief_row IsBrief) result }
+{
+    found_brief(issued_row(conn, profile))
+}
