@@ -1,5 +1,5 @@
 -- The office in which requests are tried.
-use Rattle.std.proofs.Common.{◌≡◌, Result, Ok, Err, inr, subst, sym}
+use Rattle.std.proofs.Common.{◌≡◌, ◌∙◌, Result, Ok, Err, inr, refl, subst, sym}
 use Rattle.std.specs.Prelude.{IfErr, IfOk, OnOk}
 use Rattle.sqlite.specs.Held.{Held}
 use Rattle.sqlite.specs.Store.{Ghosts}
@@ -8,11 +8,20 @@ use Rattle.changing_commands.specs.Foundings.{Described, Gives, IsFoundedAs, IsF
 use Rattle.changing_commands.specs.Trials.{trial_founding, HasTried}
 use Rattle.command_host.specs.declared.fault.CommandFault.{CommandFault}
 use Rattle.changing_commands.specs.declared.founding.Founding.{Founding}
+use Rattle.command_host.specs.declared.founding_fault.FoundingWordsFault.TheVariants as refusal
+use Rattle.no_memory.specs.Witness.{witness}
 
 -- what is answered is what is described
 pub gives_described : (answered described : Described) → Gives answered described → IfOk answered (λ founding. described ≡ Ok founding)
 gives_described (Ok founding) described is = is
 gives_described (Err why) described is = tt
+
+-- where a founding is described, only want of memory keeps it back
+pub only_memory : (answered described : Described) (founding : Founding) → described ≡ Ok founding → Gives answered described → IfErr answered (λ why. why ≡ refusal.NoMemory witness)
+only_memory (Ok given) described founding is gives = tt
+only_memory (Err refusal.BadWord) described founding is gives = absurd (let never : Ok founding ≡ Err refusal.BadWord = sym is ∙ gives in cc)
+only_memory (Err refusal.UnknownCapability) described founding is gives = absurd (let never : Ok founding ≡ Err refusal.UnknownCapability = sym is ∙ gives in cc)
+only_memory (Err (refusal.NoMemory _)) described founding is gives = refl
 
 -- what is founded by a founding is founded as it is described
 pub founded_as : {S : Type 0} (g : Ghosts S) (described : Described) (founding : Founding) (office : Held S) → described ≡ Ok founding → IsFoundedBy g founding office

@@ -50,7 +50,7 @@ abbrev pub Gives : Described → Described → Type 0
 Gives (Ok founding) described = described ≡ Ok founding
 Gives (Err refusal.BadWord) described = described ≡ Err refusal.BadWord
 Gives (Err refusal.UnknownCapability) described = described ≡ Err refusal.UnknownCapability
-Gives (Err refusal.NoMemory) described = Unit {0}
+Gives (Err (refusal.NoMemory _)) described = Unit {0}
 
 -- the founding that the words of `init` describe
 abbrev pub founding_of_words : InitWords → Described

@@ -26,6 +26,7 @@ use Rattle.changing_commands.specs.Foundings.{IsFoundedIn, IsUndescribed, IsUnfo
 use Rattle.command_host.specs.NoFiles.{file_fault}
 use Rattle.command_host.specs.Openings.{IsEnded, IsOfOpening, IsOpenedOffice}
 use Rattle.command_host.specs.declared.databases.Databases as databases
+use Rattle.no_memory.specs.Witness.{witness}
 
 -- the one holds without a journal, the other with a journal at a path
 abbrev pub IfJournaled : Option (List ℕ) → (Without : Type 0) → (With : List ℕ → Type 0) → Type 0
@@ -78,7 +79,7 @@ abbrev pub IsUnbegun : {L : Type 0} (Created : Result L NoFile → Type 0)
 IsUnbegun {L} Created Removed why =
     ((e : NoFile) × Created (Err e) × (why ≡ file_fault e))
     ⊎ ((why ≡ fault.Journal) × ((made : L) × Created (Ok made)) × IsRemoved Removed)
-    ⊎ (why ≡ fault.NoMemory)
+    ⊎ (why ≡ fault.NoMemory witness)
 
 -- an office with the journal that was begun for it
 abbrev pub begun_with : {S L : Type 0} {f : DiskGhosts L} → Held S → SealedLog L f

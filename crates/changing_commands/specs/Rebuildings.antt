@@ -85,7 +85,7 @@ module _ {S D F : Type 0} (g : Ghosts S) (d : databases.Ghosts D (Held S)) (path
 
     -- the line of an office that was built anew wasn't printed, for want of memory, or was cut
     abbrev pub IsUnsaid : Built → CommandFault → Type 0
-    IsUnsaid built fault.NoMemory = wrote ≡ output
+    IsUnsaid built (fault.NoMemory _) = wrote ≡ output
     IsUnsaid built fault.Write = IsCut contents output wrote (seal_line (codes "rebuilt") built.events built.seal)
     IsUnsaid built _ = ⊥
 

@@ -20,6 +20,7 @@ use Rattle.desk_http.specs.declared.served.Served.{Served}
 use Rattle.command_host.specs.declared.fault.CommandFault.{CommandFault}
 use Rattle.command_host.specs.declared.fault.CommandFault.TheVariants as fault
 use Rattle.command_host.specs.Networks.{IsLoopback}
+use Rattle.no_memory.specs.Witness.{witness}
 
 -- an exchange lasts ten seconds at most
 abbrev pub longest_exchange : ℕ
@@ -51,7 +52,7 @@ IsTellingPort Tells network listener port =
 
 -- nothing listens
 abbrev pub IsUnbound : CommandFault → Type 0
-IsUnbound why = (why ≡ fault.Bind) ⊎ (why ≡ fault.NoMemory)
+IsUnbound why = (why ≡ fault.Bind) ⊎ (why ≡ fault.NoMemory witness)
 
 module _ {N O X : Type 0} (Shows : N → Result Duration Error → Type 0)
     (Binds : N → SocketAddr → Result TcpListener Error → Type 0)

@@ -8,6 +8,7 @@ use Rattle.changing_commands.specs.Foundings.{founding_of, Described, IsFoundedA
 use Rattle.changing_commands.specs.Lines.{HasAnswered, HasStopped}
 use Rattle.command_host.specs.declared.fault.CommandFault.{CommandFault}
 use Rattle.command_host.specs.declared.fault.CommandFault.TheVariants as fault
+use Rattle.no_memory.specs.Witness.{witness}
 
 -- the founding of a trial desk: root of the team office, who shows the token abc, and CAP_SYS_ADMIN
 unfoldable pub trial_founding : Described
@@ -28,7 +29,7 @@ abbrev pub HasTried : (Done : (old new : Held MemoryStore) → Type 0)
     → (Stops : CommandFault → (old new : Held MemoryStore) → Type 0)
     → Result (Unit {0}) CommandFault → Type 0
 HasTried Done Stops (Ok done) = WasTried Done
-HasTried Done Stops (Err why) = (why ≡ fault.NoMemory) ⊎ WasTried (Stops why)
+HasTried Done Stops (Err why) = (why ≡ fault.NoMemory witness) ⊎ WasTried (Stops why)
 
 -- of the lines that were to come, of those that are left, and of an output
 module _ {O : Type 0} (contents : O → Option (List ℕ)) (came left : Option (List ℕ))

@@ -100,8 +100,9 @@ pub(crate) fn begin_journal<J: Journals>(
         (J.removes journals.now path.now)) }
 {
     read_forms(founding);
-    let Ok(text) = founding_text(alloc, founding) else {
-        return Err(CommandFault::NoMemory);
+    let text = match founding_text(alloc, founding) {
+        Ok(text) => text,
+        Err(refused) => return Err(CommandFault::NoMemory(refused.into())),
     };
     let file = match journals.create(path) {
         Ok(file) => file,

@@ -99,8 +99,9 @@ pub fn run_rebuild<F: PassFiles, S: Alter + Drop, D: Databases<Database = Connec
         (F.opens files.now journal.now) F.gives F.File.remaining O.contents output.old output.new) }
 {
     let built = rebuild_at(files, databases, alloc, database, journal)?;
-    let Ok(line) = seal_line(alloc, "rebuilt", built.events, &built.seal) else {
-        return Err(CommandFault::NoMemory);
+    let line = match seal_line(alloc, "rebuilt", built.events, &built.seal) {
+        Ok(line) => line,
+        Err(refused) => return Err(CommandFault::NoMemory(refused.into())),
     };
     print_bytes(output, &line)?;
     Ok(0)

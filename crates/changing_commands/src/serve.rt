@@ -73,12 +73,14 @@ fn serve_bound<N: Network, H: Handler, O: Write>(
     ensures { IsServing N.shows N.binds N.tells O.contents H.meaning words.now
         office.old office.new output.old output.new result }
 {
-    let Ok(server) = Server::new(network, alloc, longest()) else {
-        return Err(CommandFault::NoMemory);
+    let server = match Server::new(network, alloc, longest()) {
+        Ok(server) => server,
+        Err(refused) => return Err(CommandFault::NoMemory(refused.into())),
     };
     let (listener, port) = bind(network, words.port)?;
-    let Ok(line) = listening_line(alloc, port) else {
-        return Err(CommandFault::NoMemory);
+    let line = match listening_line(alloc, port) {
+        Ok(line) => line,
+        Err(refused) => return Err(CommandFault::NoMemory(refused.into())),
     };
     print(output, line.as_str())?;
     let exchanges = words.requests.exchanges();

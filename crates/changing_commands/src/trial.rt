@@ -5,12 +5,13 @@ ghost use Rattle.memory_database.specs.MemoryStore.{over_memory};
 ghost use Rattle.changing_commands.specs.Foundings.{IsFoundedAs};
 ghost use Rattle.changing_commands.specs.Trials.{trial_founding, IsTrial};
 ghost use Rattle.streams.specs.CallsLeft.{HasCallsLeft, HasFaultsLeft};
+ghost use Rattle.no_memory.specs.Witness.{witness};
 
 use crate::founding::{Founding, founding_of};
 use crate::init::found_in;
 use crate::lines::answer_lines;
 use command_host::{CommandFault, FoundingWordsFault};
-use memory_database::{MemoryStore, open_in_memory};
+use memory_database::{MemoryStore, open_in_memory, want_of_memory};
 use office_desk::Office;
 use std::alloc::Global;
 use std::io::{Read, Write};
@@ -23,7 +24,8 @@ const DIGEST: &str = "ba7816bf8f01cfea414140de5dae2223b00361a396177a9cb410ff61f2
 // office, a registrar with the token abc, and its one listed capability is CAP_SYS_ADMIN.
 #[tactic(auto, unfolding(crate::specs::Trials::trial_founding))]
 fn trial_founding(alloc: Global) -> Result<Founding, FoundingWordsFault>
-    ensures { IfOk result (λ founding. trial_founding ≡ Ok founding) }
+    ensures founding { IfOk result (λ founding. trial_founding ≡ Ok founding) }
+    ensures memory { IfErr result (λ why. why ≡ FoundingWordsFault.NoMemory witness) }
 {
     founding_of(alloc, "root", "office", DIGEST, &["CAP_SYS_ADMIN"])
 }
@@ -31,17 +33,20 @@ fn trial_founding(alloc: Global) -> Result<Founding, FoundingWordsFault>
 // The office of that founding, in memory.
 fn trial_office(alloc: Global) -> Result<Office<MemoryStore>, CommandFault>
     ensures founded { IfOk result (IsFoundedAs over_memory trial_founding) }
-    ensures fault { IfErr result (λ fault. fault ≡ CommandFault.NoMemory) }
+    ensures fault { IfErr result (λ fault. fault ≡ CommandFault.NoMemory witness) }
 {
-    let Ok(founding) = trial_founding(alloc) else {
-        return Err(CommandFault::NoMemory);
+    let founding = match trial_founding(alloc) {
+        Ok(founding) => founding,
+        Err(FoundingWordsFault::NoMemory(witness)) => return Err(CommandFault::NoMemory(witness)),
+        Err(_) => unreachable!(),
     };
-    let Ok(conn) = open_in_memory(alloc) else {
-        return Err(CommandFault::NoMemory);
+    let conn = match open_in_memory(alloc) {
+        Ok(conn) => conn,
+        Err(refused) => return Err(CommandFault::NoMemory(refused.into())),
     };
     match found_in(conn, &founding) {
         Ok(office) => Ok(office),
-        Err(_) => Err(CommandFault::NoMemory),
+        Err((failed, _)) => Err(CommandFault::NoMemory(want_of_memory(failed))),
     }
 }
 

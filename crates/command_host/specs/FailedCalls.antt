@@ -12,6 +12,8 @@ use Rattle.journal_reports.specs.declared.fault.Unwritten.TheVariants as unwritt
 use Rattle.journal_verification.specs.declared.verification.Unverified.TheVariants as unverified
 use Rattle.command_host.specs.declared.fault.CommandFault.{CommandFault}
 use Rattle.command_host.specs.declared.fault.CommandFault.TheVariants as fault
+use Rattle.profile_commands.specs.declared.fault.FileFault.TheVariants as file
+use Rattle.streams.specs.declared.up_to.Unread.TheVariants as unread
 
 -- a journal couldn't be read
 abbrev pub is_read : Why → Bool
@@ -41,8 +43,8 @@ module _ {F : Type 0} (Gives : F → F → Result ℕ Error → List ℕ → Typ
     pub failed : error_kind error ≢ kind.Interrupted
 
   -- Where this fault was met, that is told: the same, and a call of read failed where it tells that
-  -- the journal couldn't be read; or, where it tells that, a want of memory.
+  -- the journal couldn't be read; or, where it tells that, too many calls.
   abbrev pub IsToldOf : (met told : CommandFault) → Type 0
   IsToldOf met told =
       ((told ≡ met) × (tells_of_read met ≡ true → ∥ CallFailed ∥₁))
-      ⊎ ((told ≡ fault.NoMemory) × (tells_of_read met ≡ true))
+      ⊎ ((told ≡ fault.File (file.Unread unread.TooManyReads)) × (tells_of_read met ≡ true))

@@ -21,7 +21,7 @@ use Rattle.command_host.specs.declared.founding_fault.FoundingWordsFault.TheVari
 abbrev pub founding_words_fault_word : FoundingWordsFault → List ℕ
 founding_words_fault_word words.BadWord = codes "bad-word"
 founding_words_fault_word words.UnknownCapability = codes "unknown-capability"
-founding_words_fault_word words.NoMemory = codes "memory"
+founding_words_fault_word (words.NoMemory _) = codes "memory"
 
 -- why those of `execve` describe no execution
 abbrev pub execution_fault_word : ExecutionFault → List ℕ
@@ -62,4 +62,4 @@ command_fault_text fault.NotAWord = codes "bad-word"
 command_fault_text (fault.Desk why) = desk_fault_word why
 command_fault_text fault.Bind = codes "bind"
 command_fault_text fault.Write = codes "write"
-command_fault_text fault.NoMemory = codes "memory"
+command_fault_text (fault.NoMemory _) = codes "memory"

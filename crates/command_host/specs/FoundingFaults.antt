@@ -8,4 +8,4 @@ use Rattle.command_host.specs.declared.founding_fault.FoundingWordsFault.TheVari
 -- what is reported where NAME or TEAM gave no word
 abbrev pub IsFaultOfWord : WordFault → FoundingWordsFault → Type 0
 IsFaultOfWord words.NotAWord told = told ≡ refusal.BadWord
-IsFaultOfWord words.NoMemory told = told ≡ refusal.NoMemory
+IsFaultOfWord (words.NoMemory refused) told = told ≡ refusal.NoMemory refused

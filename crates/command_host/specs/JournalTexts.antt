@@ -14,5 +14,5 @@ pub record IsTextAt {F : Type 0} (Opened : Result F Error → Type 0) (bytes_of 
 -- no journal can be opened; or one was, and there was no memory to read it
 abbrev pub IsNoText : {F : Type 0} → (Result F Error → Type 0) → CommandFault → Type 0
 IsNoText Opened fault.Open = (e : Error) × Opened (Err e)
-IsNoText {F} Opened fault.NoMemory = (file : F) × Opened (Ok file)
+IsNoText {F} Opened (fault.NoMemory _) = (file : F) × Opened (Ok file)
 IsNoText Opened _ = ⊥

@@ -1,5 +1,6 @@
 -- What is known of what a program gets from outside.
 use Rattle.std.specs.Prelude.{ℕ, List, Bool, Option, Result, ⊤}
+use Rattle.std.specs.declared.alloc.AllocError.{AllocError}
 use Rattle.std.specs.declared.alloc.Global.{Global}
 use Rattle.std.specs.declared.io.Error.{Error}
 use Rattle.std.specs.declared.net.socket_addr.SocketAddr.{SocketAddr}
@@ -33,7 +34,7 @@ pub record Known (S D F L N : Type 0) : Type 1 where
   pub tells : N → TcpListener → Result SocketAddr Error → Type 0
   pub places : List ℕ → Result (PathBuf Global) Error → Type 0
   pub stamps : List ℕ → Option Stamp → Type 0
-  pub compares : (journal database : List ℕ) → Result Bool Error → Type 0
+  pub compares : (journal database : List ℕ) → Result Bool AllocError → Type 0
 
 -- all of it being known is no claim: it stands in the type of what a program gets from outside
 abbrev pub AreKnown : {S D F J L N M C : Type 1} {R : Type 0}

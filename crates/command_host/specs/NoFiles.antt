@@ -7,5 +7,5 @@ use Rattle.command_host.specs.declared.no_file.NoFile.TheVariants as files
 abbrev pub file_fault : NoFile → CommandFault
 file_fault files.There = fault.JournalThere
 file_fault files.Busy = fault.JournalBusy
-file_fault files.NoMemory = fault.NoMemory
+file_fault (files.NoMemory refused) = fault.NoMemory refused
 file_fault files.Failed = fault.Journal

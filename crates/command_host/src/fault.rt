@@ -8,6 +8,7 @@ use desk::DeskFault;
 use journal_office::{NotReopened, Refused};
 use journal_reports::{NoEvidence, Unwritten};
 use journal_verification::Unverified;
+use no_memory::NoMemory;
 use office_founding::{FoundingFault, MigrationFault, OpeningFault};
 use profile_commands::{ComparedFault, ExecutionFault, FileFault};
 use review_policy::Fault;
@@ -66,8 +67,8 @@ pub enum CommandFault {
     Bind,
     /// Standard output can't be written.
     Write,
-    /// Memory was refused. No contract can say when: it may stand in place of any answer.
-    NoMemory,
+    /// Memory was refused.
+    NoMemory(NoMemory),
 }
 
 // The word of why words describe no execution.
@@ -115,7 +116,7 @@ impl fmt::Display for CommandFault {
             CommandFault::TooLarge => f.write_str("too-large"),
             CommandFault::Bind => f.write_str("bind"),
             CommandFault::Write => f.write_str("write"),
-            CommandFault::NoMemory => f.write_str("memory"),
+            CommandFault::NoMemory(_) => f.write_str("memory"),
         }
     }
 }

@@ -1,10 +1,12 @@
 //! Which file something is, and where a name leads.
 
+use no_memory::NoMemory;
+use std::alloc::AllocError;
+use std::fs;
 use std::fs::Metadata;
 use std::io::ErrorKind;
 use std::os::unix::fs::MetadataExt;
 use std::path::Path;
-use std::{fs, io};
 
 /// Which file something is, by whatever name: its device, and its number there.
 #[derive(Clone, Copy, Debug, PartialEq, Eq)]
@@ -66,16 +68,16 @@ fn is_one(one: Place<'_>, other: Place<'_>) -> bool {
 const BESIDE: [&str; 4] = ["", "-wal", "-journal", "-shm"];
 
 // The name without a link in it; the name itself where nothing is there.
-fn real_name(rt: &HostRuntime, name: &str) -> io::Result<String> {
+fn real_name(rt: &HostRuntime, name: &str) -> Result<String, AllocError> {
     match fs::canonicalize(rt, name) {
-        Ok(real) => Ok(String::from_str(rt.alloc(), real.as_str())?),
-        Err(error) if error.kind() == ErrorKind::OutOfMemory => Err(error),
-        Err(_) => Ok(String::from_str(rt.alloc(), name)?),
+        Ok(real) => String::from_str(rt.alloc(), real.as_str()),
+        Err(error) if error.kind() == ErrorKind::OutOfMemory => Err(NoMemory::told().into()),
+        Err(_) => String::from_str(rt.alloc(), name),
     }
 }
 
 // Whether a name leads where a file is, or what is made beside it.
-fn is_at(rt: &HostRuntime, place: Place<'_>, file: &str) -> io::Result<bool> {
+fn is_at(rt: &HostRuntime, place: Place<'_>, file: &str) -> Result<bool, AllocError> {
     for ending in BESIDE {
         let name = format!(in rt.alloc(); "{file}{ending}")?;
         if is_one(place, place_of(rt, name.as_str())) {
@@ -91,7 +93,7 @@ fn is_at(rt: &HostRuntime, place: Place<'_>, file: &str) -> io::Result<bool> {
 /// # Errors
 ///
 /// Only where there is no memory.
-pub(crate) fn is_one_file(rt: &HostRuntime, one: &str, other: &str) -> io::Result<bool> {
+pub(crate) fn is_one_file(rt: &HostRuntime, one: &str, other: &str) -> Result<bool, AllocError> {
     let one = real_name(rt, one)?;
     let other = real_name(rt, other)?;
     for ending in BESIDE {

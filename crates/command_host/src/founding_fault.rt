@@ -1,5 +1,6 @@
 //! Why words describe no founding.
 
+use no_memory::NoMemory;
 use review_policy::WordFault;
 use std::error::Error;
 use std::fmt;
@@ -11,8 +12,8 @@ pub enum FoundingWordsFault {
     BadWord,
     /// A CAP is no name of a capability.
     UnknownCapability,
-    /// Memory was refused. No contract can say when: it may stand in place of any answer.
-    NoMemory,
+    /// Memory was refused.
+    NoMemory(NoMemory),
 }
 
 impl fmt::Display for FoundingWordsFault {
@@ -25,7 +26,7 @@ impl fmt::Display for FoundingWordsFault {
         f.write_str(match self {
             FoundingWordsFault::BadWord => "bad-word",
             FoundingWordsFault::UnknownCapability => "unknown-capability",
-            FoundingWordsFault::NoMemory => "memory",
+            FoundingWordsFault::NoMemory(_) => "memory",
         })
     }
 }
@@ -40,7 +41,7 @@ impl From<WordFault> for FoundingWordsFault {
     fn from(fault: WordFault) -> FoundingWordsFault {
         match fault {
             WordFault::NotAWord => FoundingWordsFault::BadWord,
-            WordFault::NoMemory => FoundingWordsFault::NoMemory,
+            WordFault::NoMemory(witness) => FoundingWordsFault::NoMemory(witness),
         }
     }
 }

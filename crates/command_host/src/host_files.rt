@@ -7,7 +7,9 @@ ghost use Rattle.command_host.specs.HostFiles.{IsClosedInto, IsFoundIn};
 use crate::databases::Databases;
 use database_head::{HEAD, user_version};
 use marked_store::close_with;
+use no_memory::NoMemory;
 use sqlite::{Connection, Error, ErrorCode, FileFrom, FileStore, Start};
+use std::alloc::AllocError;
 use std::fs::{File, OpenOptions, Permissions};
 use std::io::{ErrorKind, Read};
 use std::os::unix::fs::{OpenOptionsExt, PermissionsExt};
@@ -41,7 +43,7 @@ fn have_file(rt: &HostRuntime, path: &str) -> Result<(), Error> {
         Ok(()) => Ok(()),
         Err(error) if error.kind() == ErrorKind::AlreadyExists => Ok(()),
         Err(error) if error.kind() == ErrorKind::OutOfMemory => {
-            Err(Error::SqliteFailure(ErrorCode::OutOfMemory))
+            Err(AllocError::from(NoMemory::told()).into())
         }
         Err(_) => Err(Error::SqliteFailure(ErrorCode::CannotOpen)),
     }

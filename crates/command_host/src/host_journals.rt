@@ -4,9 +4,11 @@ use crate::file_id::{FileId, folder_of, id_of, is_one_file};
 use crate::journals::Journals;
 use crate::no_file::NoFile;
 use named_disk::{Name, NamedDisk};
+use no_memory::NoMemory;
 use sqlite::{FileFrom, Start};
 use sqlite_disk::{Disk, Files};
 use sqlite_std_file::{OpenError, open};
+use std::alloc::AllocError;
 use std::fs::{File, OpenOptions, Permissions};
 use std::io::ErrorKind;
 use std::os::unix::fs::{OpenOptionsExt, PermissionsExt};
@@ -35,7 +37,7 @@ fn make_file(rt: &HostRuntime, path: &str) -> io::Result<()> {
 fn unmade(error: &io::Error) -> NoFile {
     match error.kind() {
         ErrorKind::AlreadyExists => NoFile::There,
-        ErrorKind::OutOfMemory => NoFile::NoMemory,
+        ErrorKind::OutOfMemory => NoFile::NoMemory(NoMemory::told()),
         _ => NoFile::Failed,
     }
 }
@@ -44,9 +46,9 @@ fn unmade(error: &io::Error) -> NoFile {
 fn unopened(error: OpenError) -> NoFile {
     match error {
         OpenError::Busy => NoFile::Busy,
-        OpenError::OutOfMemory => NoFile::NoMemory,
+        OpenError::OutOfMemory => NoFile::NoMemory(NoMemory::told()),
         OpenError::Io(error) => match error.kind() {
-            ErrorKind::OutOfMemory => NoFile::NoMemory,
+            ErrorKind::OutOfMemory => NoFile::NoMemory(NoMemory::told()),
             _ => NoFile::Failed,
         },
         OpenError::HotJournal => NoFile::Failed,
@@ -56,7 +58,7 @@ fn unopened(error: OpenError) -> NoFile {
 // Why a file can't be looked at.
 fn unseen(error: &io::Error) -> NoFile {
     match error.kind() {
-        ErrorKind::OutOfMemory => NoFile::NoMemory,
+        ErrorKind::OutOfMemory => NoFile::NoMemory(NoMemory::told()),
         _ => NoFile::Failed,
     }
 }
@@ -190,7 +192,7 @@ impl<T: Start + Copy> Journals for HostJournals<'_, T> {
 
     ghost compares = { λ _ _ _ _. ⊤ };
 
-    fn is_one_file(&self, path: &str, database: &str) -> io::Result<bool> {
+    fn is_one_file(&self, path: &str, database: &str) -> Result<bool, AllocError> {
         is_one_file(self.rt, path, database)
     }
 }

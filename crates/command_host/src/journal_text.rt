@@ -12,8 +12,11 @@ use journal::Unreadable;
 use journal_office::{Refused, Why};
 use journal_reports::{NoEvidence, Unwritten};
 use journal_verification::Unverified;
+use no_memory::NoMemory;
+use profile_commands::FileFault;
 use std::alloc::Global;
-use std::io::BufReader;
+use std::io::{BufReader, ErrorKind};
+use streams::Unread;
 
 /// The text of a journal in a file, which notes whether a call of read failed.
 pub type JournalText<'f, F> = BufReader<Noted<'f, F>>;
@@ -38,7 +41,10 @@ pub fn text_at<'f, F: PassFiles>(
     };
     match BufReader::new(alloc, Noted::new(files, file)) {
         Ok(text) => Ok(text),
-        Err(_) => Err(CommandFault::NoMemory),
+        Err(error) => match error.kind() {
+            ErrorKind::OutOfMemory => Err(CommandFault::NoMemory(NoMemory::told())),
+            _ => unreachable!(),
+        },
     }
 }
 
@@ -64,12 +70,12 @@ pub(crate) fn tells_of_read(fault: &CommandFault) -> bool
 
 /// What is told where a text was read and this fault was met: the fault. But where it tells that the
 /// journal couldn't be read, and no call of read failed, more lines or calls were wanted than can be
-/// counted, which is told as `NoMemory`.
+/// counted, which is told so.
 pub fn told_of_text<F: PassFiles>(text: &JournalText<'_, F>, met: CommandFault) -> CommandFault
     ensures { IsToldOf F.gives met result }
 {
     if tells_of_read(&met) && !text.get_ref().has_failed() {
-        return CommandFault::NoMemory;
+        return CommandFault::File(FileFault::Unread(Unread::TooManyReads));
     }
     met
 }

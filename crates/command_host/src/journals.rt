@@ -1,12 +1,14 @@
 //! Journals at paths.
 
 ghost use Rattle.std.specs.Prelude.{ℕ, List, Bool, Result, ⊤, IfOk};
+ghost use Rattle.std.specs.declared.alloc.AllocError.{AllocError as Refused};
 ghost use Rattle.std.specs.declared.io.Error.{Error};
 ghost use Rattle.sqlite_disk.specs.Disk.{Only};
 ghost use Rattle.command_host.specs.declared.no_file.NoFile.{NoFile};
 
 use crate::no_file::NoFile;
 use sqlite_disk::Disk;
+use std::alloc::AllocError;
 use std::io;
 
 /// The files of journals at paths, so that a test can stand in for those of the host. Of `creates`,
@@ -48,7 +50,7 @@ pub trait Journals {
         ensures { removes self.now path.now result };
 
     /// What came of asking whether the file at a path and a database at another are one file.
-    ghost compares: { Self → List ℕ → List ℕ → Result Bool Error → Type 0 };
+    ghost compares: { Self → List ℕ → List ℕ → Result Bool Refused → Type 0 };
 
     /// Whether the file at a path and the database at another are one file, or one of them is made
     /// beside the other, by whatever names.
@@ -56,6 +58,6 @@ pub trait Journals {
     /// # Errors
     ///
     /// Only where there is no memory.
-    fn is_one_file(&self, path: &str, database: &str) -> io::Result<bool>
+    fn is_one_file(&self, path: &str, database: &str) -> Result<bool, AllocError>
         ensures { compares self.now path.now database.now result };
 }

@@ -4,6 +4,7 @@ ghost use Rattle.std.specs.Prelude.{◌≡◌};
 ghost use Rattle.command_host.specs.NoFiles.{file_fault};
 
 use crate::fault::CommandFault;
+use no_memory::NoMemory;
 
 /// Why the file of a journal can't be had.
 #[derive(Clone, Copy, Debug, Drop, PartialEq, Eq)]
@@ -13,7 +14,7 @@ pub enum NoFile {
     /// Another command has it open.
     Busy,
     /// There was no memory.
-    NoMemory,
+    NoMemory(NoMemory),
     /// It can't be made or opened.
     Failed,
 }
@@ -25,7 +26,7 @@ pub fn fault_of(why: NoFile) -> CommandFault
     match why {
         NoFile::There => CommandFault::JournalThere,
         NoFile::Busy => CommandFault::JournalBusy,
-        NoFile::NoMemory => CommandFault::NoMemory,
+        NoFile::NoMemory(witness) => CommandFault::NoMemory(witness),
         NoFile::Failed => CommandFault::Journal,
     }
 }

@@ -161,7 +161,7 @@ refused_as_told kinds found error (Version text) (inl memory) told = cc
 refused_as_told kinds found error (Version text) (inr among) told = rw told at among
 refused_as_told kinds found error (Refused text) (inl memory) told = absurd (told.2 memory)
 refused_as_told kinds found error (Refused text) (inr among) told = inl (kind_of error, among, told.0, told.1)
-refused_as_told kinds found error NoMemory has told = tt
+refused_as_told kinds found error (NoMemory _) has told = tt
 
 -- a text that names no line with a seal gives none
 pub no_seal_given : (text : Text) → NoKeptSeal text → NoSealGiven (Some text)

@@ -19,7 +19,7 @@ abbrev pub IsTold : ErrorKind → WordsFault → Type 0
 IsTold kind (Help text) = kind ≡ DisplayHelp
 IsTold kind (Version text) = kind ≡ DisplayVersion
 IsTold kind (Refused text) = (kind ≢ DisplayHelp) × (kind ≢ DisplayVersion) × (kind ≢ OutOfMemory)
-IsTold kind NoMemory = Unit {0}
+IsTold kind (NoMemory _) = Unit {0}
 
 -- the text, if there is one, writes no number from low to high
 abbrev pub NoNumberIn : ℕ → ℕ → Option Text → Type 0
@@ -71,4 +71,4 @@ abbrev pub IsRefused : Kinds → Option (Text × List Row) → WordsFault → Ty
 IsRefused kinds found (Help text) = AsksForHelp kinds
 IsRefused kinds found (Version text) = AsksForVersion kinds
 IsRefused kinds found (Refused text) = HasMistake kinds ⊎ NamesNoCommand found
-IsRefused kinds found NoMemory = Unit {0}
+IsRefused kinds found (NoMemory _) = Unit {0}

@@ -1,6 +1,7 @@
 //! Why words ask for no command.
 
 use clap::error::ErrorKind;
+use no_memory::NoMemory;
 use std::alloc::{AllocError, Global};
 use thiserror::Error;
 
@@ -16,9 +17,9 @@ pub enum WordsFault {
     /// They are refused: what `clap` says of them, for standard error.
     #[error("{0}")]
     Refused(String),
-    /// Memory was refused. No contract can say when: it may stand in place of any answer.
+    /// Memory was refused.
     #[error("memory")]
-    NoMemory,
+    NoMemory(NoMemory),
 }
 
 impl WordsFault {
@@ -30,8 +31,8 @@ impl WordsFault {
         ensures { IsTold (kind_of error.now) result }
     {
         match (error.kind(), format!(in alloc; "{error}")) {
-            (ErrorKind::OutOfMemory, _) => WordsFault::NoMemory,
-            (_, Err(_)) => WordsFault::NoMemory,
+            (ErrorKind::OutOfMemory, _) => WordsFault::NoMemory(NoMemory::told()),
+            (_, Err(refused)) => WordsFault::NoMemory(refused.into()),
             (ErrorKind::DisplayHelp, Ok(text)) => WordsFault::Help(text),
             (ErrorKind::DisplayVersion, Ok(text)) => WordsFault::Version(text),
             (_, Ok(text)) => WordsFault::Refused(text),
@@ -42,10 +43,11 @@ impl WordsFault {
 impl From<AllocError> for WordsFault {
     ghost use Rattle.std.specs.Prelude.{◌≡◌};
     ghost use Rattle.command_line.specs.declared.fault.WordsFault.TheVariants.{NoMemory};
+    ghost use Rattle.no_memory.specs.Witness.{witness};
 
-    ghost from_gives = { λ _ fault. fault ≡ NoMemory };
+    ghost from_gives = { λ _ fault. fault ≡ NoMemory witness };
 
-    fn from(_error: AllocError) -> WordsFault {
-        WordsFault::NoMemory
+    fn from(refused: AllocError) -> WordsFault {
+        WordsFault::NoMemory(refused.into())
     }
 }

@@ -16,6 +16,7 @@ use Rattle.desk.specs.declared.outcome.LineOutcome.TheVariants.{Bad, NoMemory, A
 use Rattle.desk.specs.Stands.{IsHandled}
 use Rattle.office_policy.proofs.LeftFacts.{left_by_one}
 use Rattle.office_policy.proofs.SurvivalFacts.{survives_none}
+use Rattle.no_memory.specs.Witness.{witness}
 
 pub asked_long : (line : List ℕ) → 300000 < length line → asked line ≡ Err TooLong
 unfolding asked
@@ -44,7 +45,7 @@ module _ {X : Type 0} (m : Meaning X) where
   handled_as old new line same outcome is handled = subst (λ (l : List ℕ). IsHandled m old new l outcome) is handled
 
   -- it was not read
-  pub handled_unread : (s : X) (line : List ℕ) → IsHandled m s s line NoMemory
+  pub handled_unread : (s : X) (line : List ℕ) → IsHandled m s s line (NoMemory witness)
   handled_unread s line = record {
     survives = survives_none m s;
     policy = λ h office clean. tt;

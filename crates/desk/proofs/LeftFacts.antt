@@ -16,7 +16,7 @@ use Rattle.desk.specs.Left.{LeavesWithin, LeftAfterLine, LeftAfterLines}
 after_requests : (h : History) (os : List LineOutcome) → history_after_lines h os ≡ history_after_all h (requests_of os) (answers_of os)
 after_requests h [] = refl
 after_requests h (Bad fault ∷ os) = after_requests h os
-after_requests h (NoMemory ∷ os) = after_requests h os
+after_requests h ((NoMemory _) ∷ os) = after_requests h os
 after_requests h (Answered r a ∷ os) = after_requests (history_after h r a) os
 
 module _ {X : Type 0} (m : Meaning X) where
@@ -29,7 +29,7 @@ module _ {X : Type 0} (m : Meaning X) where
   pub left_by_more : (Before More : m.Left → Type 0) (h : History) (o : LineOutcome) → ((rest : m.Left) → Before rest → More rest)
       → (rest : m.Left) → LeftAfterLine m Before h o rest → LeftAfterLine m More h o rest
   left_by_more Before More h (Bad fault) more rest left = more rest left
-  left_by_more Before More h NoMemory more rest left = more rest left
+  left_by_more Before More h (NoMemory _) more rest left = more rest left
   left_by_more Before More h (Answered r (Done reply)) more rest left = left
   left_by_more Before More h (Answered r (Denied denial fault)) more rest left = left
   left_by_more Before More h (Answered r (Fault fault)) more rest left =
@@ -45,7 +45,7 @@ module _ {X : Type 0} (m : Meaning X) where
       → LeftAfterLines m Before h os rest → LeftAfter m Before h (requests_of os) (answers_of os) rest
   left_requests Before h [] rest left = left
   left_requests Before h (Bad fault ∷ os) rest left = left_requests Before h os rest left
-  left_requests Before h (NoMemory ∷ os) rest left = left_requests Before h os rest left
+  left_requests Before h ((NoMemory _) ∷ os) rest left = left_requests Before h os rest left
   left_requests Before h (Answered r a ∷ os) rest left = left_requests (LeftAfterOne m Before h r a) (history_after h r a) os rest left
 
   pub left_within : (old new : X) (h : History) (os : List LineOutcome) → LeavesOnly m h old → LeavesWithin m new (LeftAfterLines m (m.may_leave old) h os)

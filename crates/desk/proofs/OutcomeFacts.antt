@@ -21,6 +21,7 @@ use Rattle.desk.specs.Outcomes.{IsOutcome, history_after_line, told, AreOutcomes
 use Rattle.desk.specs.Left.{LeavesWithin, LeftAfterLines}
 use Rattle.desk.specs.Stands.{StandsAfterLine, HandlesLine, IsHandled, AreHandled, AreAnswered, AreCutShort}
 use Rattle.desk.proofs.LeftFacts.{left_more_lines, left_by_more, left_within}
+use Rattle.no_memory.specs.Witness.{witness}
 
 outcomes_more : (h : History) (lines : List (List ℕ)) (os : List LineOutcome) (line : List ℕ) (o : LineOutcome) → AreOutcomes h lines os
     → IsOutcome (history_after_lines h os) line o → AreOutcomes h (lines ++ line ∷ []) (os ++ o ∷ [])
@@ -41,26 +42,26 @@ transcript_more (x ∷ os) o = ap (λ t. told x ++ t) (transcript_more os o) ∙
 told_some : (o : LineOutcome) → 0 < length (told o)
 unfolding line_of bad_line
 told_some (Bad fault) = omega (arith, length-append {A = ℕ})
-told_some NoMemory = omega (arith, length-append {A = ℕ})
+told_some (NoMemory _) = omega (arith, length-append {A = ℕ})
 told_some (Answered request answer) = omega (arith, length-append {A = ℕ})
 
 -- a line that asks nothing adds no answer
 answers_bad : (os : List LineOutcome) (fault : BadLine) → answers_of (os ++ Bad fault ∷ []) ≡ answers_of os
 answers_bad [] fault = refl
 answers_bad (Bad other ∷ os) fault = answers_bad os fault
-answers_bad (NoMemory ∷ os) fault = answers_bad os fault
+answers_bad ((NoMemory _) ∷ os) fault = answers_bad os fault
 answers_bad (Answered r a ∷ os) fault = ap (λ answers. a ∷ answers) (answers_bad os fault)
 
-answers_unread : (os : List LineOutcome) → answers_of (os ++ NoMemory ∷ []) ≡ answers_of os
+answers_unread : (os : List LineOutcome) → answers_of (os ++ (NoMemory witness) ∷ []) ≡ answers_of os
 answers_unread [] = refl
 answers_unread (Bad fault ∷ os) = answers_unread os
-answers_unread (NoMemory ∷ os) = answers_unread os
+answers_unread ((NoMemory _) ∷ os) = answers_unread os
 answers_unread (Answered r a ∷ os) = ap (λ answers. a ∷ answers) (answers_unread os)
 
 answers_more : (os : List LineOutcome) (r : Request) (a : Answer) → answers_of (os ++ Answered r a ∷ []) ≡ answers_of os ++ a ∷ []
 answers_more [] r a = refl
 answers_more (Bad fault ∷ os) r a = answers_more os r a
-answers_more (NoMemory ∷ os) r a = answers_more os r a
+answers_more ((NoMemory _) ∷ os) r a = answers_more os r a
 answers_more (Answered q b ∷ os) r a = ap (λ answers. b ∷ answers) (answers_more os r a)
 
 -- what holds unless the last answer is a fault
@@ -85,8 +86,8 @@ module _ {X : Type 0} (m : Meaning X) where
   stands_more mid new h os (Bad fault) before last =
       rw (after_more h os (Bad fault), answers_bad os fault)
       (unless_weaker (answers_of os) (Stands m (history_after_lines h os) mid) (Stands m (history_after_lines h os) new) last before)
-  stands_more mid new h os NoMemory before last =
-      rw (after_more h os NoMemory, answers_unread os)
+  stands_more mid new h os (NoMemory _) before last =
+      rw (after_more h os (NoMemory witness), answers_unread os)
       (unless_weaker (answers_of os) (Stands m (history_after_lines h os) mid) (Stands m (history_after_lines h os) new) last before)
   stands_more mid new h os (Answered r a) before last =
       rw (after_more h os (Answered r a), answers_more os r a)
@@ -96,10 +97,10 @@ module _ {X : Type 0} (m : Meaning X) where
   each_more : (old mid new : X) (os : List LineOutcome) (o : LineOutcome) → HandlesEach m old mid (requests_of os) (answers_of os) → HandlesLine m mid new o
       → HandlesEach m old new (requests_of (os ++ o ∷ [])) (answers_of (os ++ o ∷ []))
   each_more old mid new [] (Bad fault) each line = line ∙ each
-  each_more old mid new [] NoMemory each line = line ∙ each
+  each_more old mid new [] (NoMemory _) each line = line ∙ each
   each_more old mid new [] (Answered r a) each line = (new, subst (λ x. IsRequestHandled m x new r a) each line, refl)
   each_more old mid new (Bad fault ∷ os) o each line = each_more old mid new os o each line
-  each_more old mid new (NoMemory ∷ os) o each line = each_more old mid new os o each line
+  each_more old mid new ((NoMemory _) ∷ os) o each line = each_more old mid new os o each line
   each_more old mid new (Answered r a ∷ os) o each line = (each.0, each.1, each_more each.0 mid new os o each.2 line)
 
   crash_more : (old mid new : X) (lines : List (List ℕ)) (os : List LineOutcome) (line : List ℕ) (o : LineOutcome) → AreHandled m old mid lines os → IsHandled m mid new line o

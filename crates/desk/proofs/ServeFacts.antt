@@ -15,6 +15,7 @@ use Rattle.desk.specs.Outcomes.{told}
 use Rattle.desk.specs.Stands.{IsHandled, HasHandled, AreAnswered, AreCutShort, StopsWriting, StandsAfter, IsUnfinished}
 use Rattle.desk.specs.Written.{IsServed}
 use Rattle.desk.proofs.OutcomeFacts.{answered_none, answered_more, cut_short, cut_before, none_handled, handled_more}
+use Rattle.no_memory.specs.Witness.{witness}
 
 -- what an exit of `?` passes on
 pub passed_on : (r : Result ⊤ DeskFault) (e : DeskFault) → IsErrAnd r (λ x. x ≡ e) → r ≡ Err e
@@ -111,9 +112,9 @@ module _ {X : Type 0} (m : Meaning X) where
         }
 
     -- its number is not 0
-    pub served_later : (result : Result ⊤ DeskFault) → ServesFirst mid new held between after (number + 1) result → result ≡ Err (NoMemory 0) → ⊥
+    pub served_later : (result : Result ⊤ DeskFault) → ServesFirst mid new held between after (number + 1) result → result ≡ Err (NoMemory 0 witness) → ⊥
     served_later result serves is =
-        let none : ServesFirst mid new held between after (number + 1) (Err (NoMemory 0)) =
+        let none : ServesFirst mid new held between after (number + 1) (Err (NoMemory 0 witness)) =
         subst (λ (r : Result ⊤ DeskFault). ServesFirst mid new held between after (number + 1) r) is serves in
         omega (arith, (none p.handed.rest p.handed.holds).2.0)
 
@@ -157,7 +158,7 @@ module _ {X : Type 0} (m : Meaning X) where
           let cut : (count : ℕ) × AreCutShort m old new before after (p.lines ++ line ∷ []) count =
           cut_short m old mid new before between after p.lines line o p.answered handled served.1 in
           rw (served.0) (omega arith, within, cut.0, rw up_to cut.1)
-      stops (NoMemory n) o handled served =
+      stops (NoMemory n _) o handled served =
           rw (served.0) (omega arith, within, rw (up_to, served.1) (cut_before m old mid new before between after p.lines line o p.answered handled))
       stops (Read n) o handled served = absurd served
       stops (TooManyReads n) o handled served = absurd served
@@ -176,8 +177,8 @@ module _ {X : Type 0} (m : Meaning X) where
         stands : (e : DeskFault) (o : LineOutcome) → IsHandled m mid new line o → IsServed between after (told o) (number + 1) (Err e)
             → StandsAfter m old new unread rest before after e
         stands (Write n) o handled served = stops_in unread next (Write n) o handled served
-        stands (NoMemory zero) o handled served = absurd (omega (arith, served.0))
-        stands (NoMemory (suc k)) o handled served = stops_in unread next (NoMemory (suc k)) o handled served
+        stands (NoMemory zero _) o handled served = absurd (omega (arith, served.0))
+        stands (NoMemory (suc k) _) o handled served = stops_in unread next (NoMemory (suc k) witness) o handled served
         stands (Read n) o handled served = absurd served
         stands (TooManyReads n) o handled served = absurd served
 

@@ -7,4 +7,4 @@ abbrev pub desk_fault_word : DeskFault → List ℕ
 desk_fault_word (Read line) = codes "read"
 desk_fault_word (Write line) = codes "write"
 desk_fault_word (TooManyReads line) = codes "too-many-reads"
-desk_fault_word (NoMemory line) = codes "memory"
+desk_fault_word (NoMemory line _) = codes "memory"

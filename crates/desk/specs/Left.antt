@@ -15,7 +15,7 @@ module _ {X : Type 0} (m : Meaning X) where
   -- a line that asks nothing leaves what might be left before it
   abbrev pub LeftAfterLine : (m.Left → Type 0) → History → LineOutcome → m.Left → Type 0
   LeftAfterLine Before h (Bad fault) = Before
-  LeftAfterLine Before h NoMemory = Before
+  LeftAfterLine Before h (NoMemory _) = Before
   LeftAfterLine Before h (Answered request answer) = LeftAfterOne m Before h request answer
 
   -- what may be left after lines that were handled one after the other

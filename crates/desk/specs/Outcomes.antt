@@ -11,38 +11,39 @@ use Rattle.json_requests.specs.Bad.{bad_line}
 use Rattle.json_requests.specs.Requests.{asked, Asks}
 use Rattle.desk.specs.declared.outcome.LineOutcome.{LineOutcome}
 use Rattle.desk.specs.declared.outcome.LineOutcome.TheVariants.{Bad, NoMemory, Answered}
+use Rattle.no_memory.specs.Witness.{witness}
 
 -- what may come of a line: it is no request, there was no memory to read it, or its request
 -- has this answer
 abbrev pub IsOutcome : History → List ℕ → LineOutcome → Type 0
 IsOutcome h line (Bad fault) = asked line ≡ Err fault
-IsOutcome h line NoMemory = Unit {0}
+IsOutcome h line (NoMemory _) = Unit {0}
 IsOutcome h line (Answered request answer) = Asks line request × IsAnswer h request answer
 
 -- the history after it: only a request that is carried out adds an event
 abbrev pub history_after_line : History → LineOutcome → History
 history_after_line h (Bad fault) = h
-history_after_line h NoMemory = h
+history_after_line h (NoMemory _) = h
 history_after_line h (Answered request answer) = history_after h request answer
 
 -- the line that answers it
 abbrev pub told : LineOutcome → List ℕ
 told (Bad fault) = bad_line fault
-told NoMemory = line_of (Fault faults.NoMemory)
+told (NoMemory _) = line_of (Fault (faults.NoMemory witness))
 told (Answered request answer) = line_of answer
 
 -- the requests that were asked, in their order
 abbrev pub requests_of : List LineOutcome → List Request
 requests_of [] = []
 requests_of (Bad fault ∷ outcomes) = requests_of outcomes
-requests_of (NoMemory ∷ outcomes) = requests_of outcomes
+requests_of ((NoMemory _) ∷ outcomes) = requests_of outcomes
 requests_of (Answered request answer ∷ outcomes) = request ∷ requests_of outcomes
 
 -- the answers to the requests that were asked, in their order
 abbrev pub answers_of : List LineOutcome → List Answer
 answers_of [] = []
 answers_of (Bad fault ∷ outcomes) = answers_of outcomes
-answers_of (NoMemory ∷ outcomes) = answers_of outcomes
+answers_of ((NoMemory _) ∷ outcomes) = answers_of outcomes
 answers_of (Answered request answer ∷ outcomes) = answer ∷ answers_of outcomes
 
 -- each line has one outcome, on the history that the lines before it left

@@ -18,6 +18,7 @@ use Rattle.desk.specs.Outcomes.{requests_of, answers_of, told, transcript}
 use Rattle.desk.specs.Parts.{IsCut}
 use Rattle.desk.specs.declared.fault.DeskFault.{DeskFault}
 use Rattle.desk.specs.declared.fault.DeskFault.TheVariants.{Read, Write, TooManyReads, NoMemory}
+use Rattle.no_memory.specs.Witness.{witness}
 
 -- bytes, and bytes that may be known
 abbrev Bytes : Type 0
@@ -31,7 +32,7 @@ module _ {X : Type 0} (m : Meaning X) where
   -- standing
   abbrev pub StandsAfterLine : History → (old new : X) → LineOutcome → Type 0
   StandsAfterLine h old new (came.Bad fault) = Stands m h old → Stands m h new
-  StandsAfterLine h old new came.NoMemory = Stands m h old → Stands m h new
+  StandsAfterLine h old new (came.NoMemory _) = Stands m h old → Stands m h new
   StandsAfterLine h old new (came.Answered request answer) =
       UnlessFaulty answer (Stands m (history_after h request answer) new)
 
@@ -39,7 +40,7 @@ module _ {X : Type 0} (m : Meaning X) where
   -- nothing changes nothing
   abbrev pub HandlesLine : (old new : X) → LineOutcome → Type 0
   HandlesLine old new (came.Bad fault) = new ≡ old
-  HandlesLine old new came.NoMemory = new ≡ old
+  HandlesLine old new (came.NoMemory _) = new ≡ old
   HandlesLine old new (came.Answered request answer) = IsRequestHandled m old new request answer
 
   -- the line was handled, and this is what came of it
@@ -98,7 +99,7 @@ module _ {X : Type 0} (m : Meaning X) where
   abbrev pub StopsWriting : X → X → Known → Known → List Bytes → DeskFault → Type 0
   StopsWriting old new before after lines (Write line) = (0 < line) × (line ≤ length lines)
       × (count : ℕ) × AreCutShort old new before after (take line lines) count
-  StopsWriting old new before after lines (NoMemory line) = (0 < line) × (line ≤ length lines)
+  StopsWriting old new before after lines (NoMemory line _) = (0 < line) × (line ≤ length lines)
       × AreCutShort old new before after (take line lines) 0
   StopsWriting old new before after lines (Read line) = ⊥
   StopsWriting old new before after lines (TooManyReads line) = ⊥
@@ -121,7 +122,7 @@ module _ {X : Type 0} (m : Meaning X) where
     StandsAfter (TooManyReads line) = IsUnfinished line
     StandsAfter (Write line) =
         IfSome unread (λ input. StopsWriting old new before after (lines_of input) (Write line))
-    StandsAfter (NoMemory zero) = Keeps before after
-    StandsAfter (NoMemory (suc k)) =
+    StandsAfter (NoMemory zero _) = Keeps before after
+    StandsAfter (NoMemory (suc k) _) =
         IfSome unread
-        (λ input. StopsWriting old new before after (lines_of input) (NoMemory (suc k)))
+        (λ input. StopsWriting old new before after (lines_of input) (NoMemory (suc k) witness))

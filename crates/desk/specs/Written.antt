@@ -12,7 +12,7 @@ abbrev pub IsServed : Option (List ℕ) → Option (List ℕ) → List ℕ → �
 IsServed before after text number (Ok u) = Appends before after text
 IsServed before after text number (Err (fault.Write line)) =
     (line ≡ number) × AppendsPart before after text
-IsServed before after text number (Err (fault.NoMemory line)) = (line ≡ number) × (after ≡ before)
+IsServed before after text number (Err (fault.NoMemory line _)) = (line ≡ number) × (after ≡ before)
 IsServed before after text number (Err (fault.Read line)) = ⊥
 IsServed before after text number (Err (fault.TooManyReads line)) = ⊥
 
@@ -20,6 +20,6 @@ IsServed before after text number (Err (fault.TooManyReads line)) = ⊥
 abbrev pub CountsServed : ℕ → ℕ → Result ⊤ DeskFault → Type 0
 CountsServed old new (Ok u) = new ≡ old
 CountsServed old new (Err (fault.Write line)) = new ≡ one_more old
-CountsServed old new (Err (fault.NoMemory line)) = new ≡ old
+CountsServed old new (Err (fault.NoMemory line _)) = new ≡ old
 CountsServed old new (Err (fault.Read line)) = ⊥
 CountsServed old new (Err (fault.TooManyReads line)) = ⊥

@@ -5,6 +5,7 @@ ghost use Rattle.streams.specs.Held.{Holds};
 ghost use Rattle.streams.specs.Lines.{first_line};
 
 use json_requests::{BadLine, LineFault, read_line};
+use no_memory::NoMemory;
 use office_policy::Handler;
 use review_policy::{Answer, Request};
 use std::alloc::Global;
@@ -15,8 +16,8 @@ use streams::{Lines, MAX_LINE};
 pub enum LineOutcome {
     /// It is no request.
     Bad(BadLine),
-    /// There was no memory to read it. No contract can say when.
-    NoMemory,
+    /// There was no memory to read it.
+    NoMemory(NoMemory),
     /// The request that it asks was answered.
     Answered { request: Request, answer: Answer },
 }
@@ -38,7 +39,7 @@ impl LineOutcome {
             }
             Err(LineFault::NotJson) => LineOutcome::Bad(BadLine::NotJson),
             Err(LineFault::NotARequest) => LineOutcome::Bad(BadLine::NotARequest),
-            Err(LineFault::NoMemory) => LineOutcome::NoMemory,
+            Err(LineFault::NoMemory(witness)) => LineOutcome::NoMemory(witness),
         }
     }
     // Handles the first line that is held.

@@ -9,6 +9,7 @@ ghost use Rattle.desk.specs.declared.outcome.LineOutcome.{LineOutcome};
 ghost use Rattle.desk.specs.Stands.{IsHandled, HasHandled, AreAnswered, StandsAfter};
 ghost use Rattle.desk.specs.Written.{IsServed, CountsServed};
 ghost use Rattle.streams.specs.CallsLeft.{HasCallsLeft, HasFaultsLeft};
+ghost use Rattle.no_memory.specs.Witness.{witness};
 
 use crate::fault::DeskFault;
 use crate::outcome::LineOutcome;
@@ -25,7 +26,7 @@ pub const MAX_READS: u64 = 4_194_304;
 // The line that says that it is out of memory.
 #[tactic(auto, unfolding(json_requests::specs::Answers::line_of, json_requests::specs::Answers::answer_text, serde_json::proofs::OnLiterals::serde_json_on_literals))]
 fn memory_line() -> &'static str
-    ensures { result.now ≡ line_of (Answer.Fault Fault.NoMemory) }
+    ensures { result.now ≡ line_of (Answer.Fault (Fault.NoMemory witness)) }
 {
     "{\"answer\":\"fault\",\"word\":\"memory\"}\n"
 }
@@ -43,10 +44,13 @@ fn tell<W: Write>(
 {
     let written = match outcome {
         LineOutcome::Bad(bad) => write_whole(writer, bad.line().as_bytes()),
-        LineOutcome::NoMemory => write_whole(writer, memory_line().as_bytes()),
+        LineOutcome::NoMemory(_) => write_whole(writer, memory_line().as_bytes()),
         LineOutcome::Answered { request: _, answer } => match line(alloc, answer) {
             Ok(text) => write_whole(writer, text.as_bytes()),
-            Err(_) => return Err(DeskFault::NoMemory { line: number }),
+            Err(refused) => return Err(DeskFault::NoMemory {
+                line: number,
+                witness: refused.into(),
+            }),
         },
     };
     written.map_err(|_| DeskFault::Write { line: number })
@@ -99,7 +103,7 @@ pub fn desk<H: Handler, R: Read, W: Write>(
         (R.remaining reader.old.inner) (R.remaining reader.new.inner)
         (W.contents writer.old.inner) (W.contents writer.new.inner)) }
     ensures handled { HasHandled H.meaning office.old office.new }
-    ensures nothing { result ≡ Err (DeskFault.NoMemory 0) → office.new ≡ office.old }
+    ensures nothing { result ≡ Err (DeskFault.NoMemory 0 witness) → office.new ≡ office.old }
     ensures read { IfErr result (λ e. (line : ℕ) → e ≡ DeskFault.Read line →
         reader.old.faults < reader.new.faults) }
     ensures write { IfErr result (λ e. (line : ℕ) → e ≡ DeskFault.Write line →
@@ -112,7 +116,10 @@ pub fn desk<H: Handler, R: Read, W: Write>(
 {
     let mut lines = match Lines::new(alloc) {
         Ok(lines) => lines,
-        Err(_) => return Err(DeskFault::NoMemory { line: 0 }),
+        Err(refused) => return Err(DeskFault::NoMemory {
+            line: 0,
+            witness: refused.into(),
+        }),
     };
     let most_calls = reader.calls() + MAX_READS;
     let mut answered = 0u64;

@@ -14,13 +14,14 @@ use Rattle.desk_http.specs.declared.outcome.ExchangeOutcome.{ExchangeOutcome}
 use Rattle.desk_http.specs.declared.outcome.ExchangeOutcome.TheVariants.{Refused, NoMemory, Answered}
 use Rattle.desk_http.specs.declared.served.Served.{Served}
 use Rattle.desk_http.specs.Exchanged.{Tells, Leaves, IsExchanged, requests_in, answers_in, AreTold, HaveExchanged}
+use Rattle.no_memory.specs.Witness.{witness}
 
 -- ---- one exchange
 
 module _ (Same : Type 0) (Handled : Request → Answer → Type 0) (unread rest : Option (List ℕ)) where
   leaves_come : (outcome : ExchangeOutcome) → HasOutcome Same Handled unread rest (Ok outcome) → Leaves Same Handled (Some outcome)
   leaves_come (Refused why) has = has.1
-  leaves_come NoMemory has = has
+  leaves_come (NoMemory _) has = has
   leaves_come (Answered request answer) has = has.1
 
   untold : (e : HttpFault) → HasOutcome Same Handled unread rest (Err e) → IsExchanged Same Handled (Err e)
@@ -28,13 +29,13 @@ module _ (Same : Type 0) (Handled : Request → Answer → Type 0) (unread rest 
   untold fault.Read has = (None, has.1, tt)
   untold fault.TooManyReads has = (None, has.1, tt)
   untold (fault.Write status) has = absurd has
-  untold (fault.NoMemory status) has = absurd has
+  untold (fault.NoMemory status _) has = absurd has
 
   told_so : (before after : Option (List ℕ)) (outcome : ExchangeOutcome) (result : Result Served HttpFault) → HasOutcome Same Handled unread rest (Ok outcome)
       → IsTold before after outcome result → IsExchanged Same Handled result
   told_so before after outcome (Ok status) has told = (Some outcome, leaves_come outcome has, told.0)
   told_so before after outcome (Err (fault.Write status)) has told = (Some outcome, leaves_come outcome has, told.0)
-  told_so before after outcome (Err (fault.NoMemory status)) has told = (Some outcome, leaves_come outcome has, told.0)
+  told_so before after outcome (Err (fault.NoMemory status _)) has told = (Some outcome, leaves_come outcome has, told.0)
   told_so before after outcome (Err fault.Ended) has told = absurd told
   told_so before after outcome (Err fault.Read) has told = absurd told
   told_so before after outcome (Err fault.TooManyReads) has told = absurd told
@@ -54,14 +55,14 @@ requests_more : (came : List (Option ExchangeOutcome)) (c : Option ExchangeOutco
 requests_more [] c = refl
 requests_more (Some (Answered request answer) ∷ came) c = ap (λ rs. request ∷ rs) (requests_more came c)
 requests_more (Some (Refused why) ∷ came) c = requests_more came c
-requests_more (Some NoMemory ∷ came) c = requests_more came c
+requests_more (Some (NoMemory _) ∷ came) c = requests_more came c
 requests_more (None ∷ came) c = requests_more came c
 
 answers_more : (came : List (Option ExchangeOutcome)) (c : Option ExchangeOutcome) → answers_in (came ++ c ∷ []) ≡ answers_in came ++ answers_in (c ∷ [])
 answers_more [] c = refl
 answers_more (Some (Answered request answer) ∷ came) c = ap (λ answers. answer ∷ answers) (answers_more came c)
 answers_more (Some (Refused why) ∷ came) c = answers_more came c
-answers_more (Some NoMemory ∷ came) c = answers_more came c
+answers_more (Some (NoMemory _) ∷ came) c = answers_more came c
 answers_more (None ∷ came) c = answers_more came c
 
 told_more : (came : List (Option ExchangeOutcome)) (results : List (Result Served HttpFault)) (c : Option ExchangeOutcome) (r : Result Served HttpFault) → AreTold came results
@@ -102,7 +103,7 @@ module _ {X : Type 0} (m : Meaning X) where
         rw (requests_more came (Some (Answered request answer)), answers_more came (Some (Answered request answer)))
         (run_more m old was now (requests_in came) (answers_in came) request answer ran handled)
     ran_more came (Some (Refused why)) ran same = by_none came (Some (Refused why)) refl refl same ran
-    ran_more came (Some NoMemory) ran same = by_none came (Some NoMemory) refl refl same ran
+    ran_more came (Some (NoMemory _)) ran same = by_none came (Some (NoMemory witness)) refl refl same ran
     ran_more came None ran same = by_none came None refl refl same ran
 
   -- one more

@@ -17,7 +17,7 @@ use Rattle.desk_http.specs.declared.served.Served.{Served}
 abbrev pub Tells : Option ExchangeOutcome → Result Served HttpFault → Type 0
 Tells (Some outcome) (Ok served) = served ≡ told_as outcome
 Tells (Some outcome) (Err (fault.Write status)) = status ≡ told_code outcome
-Tells (Some outcome) (Err (fault.NoMemory status)) = status ≡ told_code outcome
+Tells (Some outcome) (Err (fault.NoMemory status _)) = status ≡ told_code outcome
 Tells None (Err fault.Read) = Unit {0}
 Tells None (Err fault.Ended) = Unit {0}
 Tells None (Err fault.TooManyReads) = Unit {0}
@@ -28,7 +28,7 @@ Tells came result = ⊥
 abbrev pub Leaves : (Same : Type 0) (Handled : Request → Answer → Type 0) → Option ExchangeOutcome → Type 0
 Leaves Same Handled (Some (Answered request answer)) = Handled request answer
 Leaves Same Handled (Some (Refused why)) = Same
-Leaves Same Handled (Some NoMemory) = Same
+Leaves Same Handled (Some (NoMemory _)) = Same
 Leaves Same Handled None = Same
 
 -- an outcome came of an exchange, or none, and was told so

@@ -10,17 +10,18 @@ use Rattle.http_requests.specs.declared.refusal.Refusal.TheVariants.{NotARequest
 use Rattle.desk_http.specs.declared.outcome.ExchangeOutcome.{ExchangeOutcome}
 use Rattle.desk_http.specs.declared.outcome.ExchangeOutcome.TheVariants.{Refused, NoMemory, Answered}
 use Rattle.desk_http.specs.declared.served.Served.{Served}
+use Rattle.no_memory.specs.Witness.{witness}
 
 -- the response to it
 abbrev pub told : ExchangeOutcome → List ℕ
 told (Refused why) = refusal_with (refused_status why) (refused_word why)
-told NoMemory = response_to (Fault faults.NoMemory)
+told (NoMemory _) = response_to (Fault (faults.NoMemory witness))
 told (Answered request answer) = response_to answer
 
 -- the status of that response
 abbrev pub told_status : ExchangeOutcome → Status
 told_status (Refused why) = refused_status why
-told_status NoMemory = status_of (Fault faults.NoMemory)
+told_status (NoMemory _) = status_of (Fault (faults.NoMemory witness))
 told_status (Answered request answer) = status_of answer
 
 -- the number of the response's status
@@ -32,7 +33,7 @@ told_code outcome = code_of (told_status outcome)
 abbrev pub is_unread : ExchangeOutcome → Bool
 is_unread (Refused NotARequest) = false
 is_unread (Refused why) = true
-is_unread NoMemory = true
+is_unread (NoMemory _) = true
 is_unread (Answered request answer) = false
 
 -- what an exchange comes to whose response is written whole

@@ -27,7 +27,7 @@ abbrev pub IsWritten : Option (List ℕ) → Option (List ℕ) → List ℕ → 
 IsWritten before after response meant (Ok served) = (served ≡ meant) × Appends before after response
 IsWritten before after response meant (Err (fault.Write status)) =
     (status ≡ meant.status) × AppendsPart before after response
-IsWritten before after response meant (Err (fault.NoMemory status)) =
+IsWritten before after response meant (Err (fault.NoMemory status _)) =
     (status ≡ meant.status) × (after ≡ before)
 IsWritten before after response meant (Err _) = ⊥
 
@@ -47,7 +47,7 @@ module _ (Same : Type 0) (Handled : Request → Answer → Type 0) where
   HasOutcome unread rest (Ok (Refused why)) = HasCome unread rest IsExchange (refused why) × Same
   HasOutcome unread rest (Ok (Answered request answer)) =
       HasCome unread rest IsExchange (asks (plain request)) × Handled request answer
-  HasOutcome unread rest (Ok NoMemory) = Same
+  HasOutcome unread rest (Ok (NoMemory _)) = Same
   HasOutcome unread rest (Err fault.Ended) =
       HasCome unread rest IsExchange ended × IsAtEnd rest × Same
   HasOutcome unread rest (Err fault.Read) = HasCome unread rest IsExchange ended × Same
@@ -60,7 +60,7 @@ module _ (Same : Type 0) (Handled : Request → Answer → Type 0) where
   HasOutcomeOf input (Ok (Refused why)) = IsExchange input (refused why) × Same
   HasOutcomeOf input (Ok (Answered request answer)) =
       IsExchange input (asks (plain request)) × Handled request answer
-  HasOutcomeOf input (Ok NoMemory) = Same
+  HasOutcomeOf input (Ok (NoMemory _)) = Same
   HasOutcomeOf input (Err fault.Ended) = IsExchange input ended × Same
   HasOutcomeOf input (Err fault.Read) = Same
   HasOutcomeOf input (Err fault.TooManyReads) = Same

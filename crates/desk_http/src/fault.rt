@@ -3,6 +3,7 @@
 ghost use Rattle.std.specs.Prelude.{◌≡◌};
 ghost use Rattle.desk_http.specs.Faults.{fault_word};
 
+use no_memory::NoMemory;
 use std::error::Error;
 use std::fmt;
 
@@ -20,7 +21,7 @@ pub enum HttpFault {
     Write { status: u16 },
     /// There was no memory for the response with this status, of which nothing was written. What it
     /// reports was done.
-    NoMemory { status: u16 },
+    NoMemory { status: u16, witness: NoMemory },
 }
 
 impl HttpFault {
@@ -33,7 +34,10 @@ impl HttpFault {
             HttpFault::Ended => "ended",
             HttpFault::TooManyReads => "too-many-reads",
             HttpFault::Write { status: _ } => "write",
-            HttpFault::NoMemory { status: _ } => "memory",
+            HttpFault::NoMemory {
+                status: _,
+                witness: _,
+            } => "memory",
         }
     }
 }

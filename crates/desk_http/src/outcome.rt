@@ -6,6 +6,7 @@ ghost use Rattle.office_policy.specs.Handled.{IsHandled};
 use crate::fault::HttpFault;
 use crate::served::Served;
 use http_requests::{OfficeRouter, Refusal, Status, Unheard, answer_status, hear};
+use no_memory::NoMemory;
 use office_policy::Handler;
 use review_policy::{Answer, Request};
 use std::alloc::Global;
@@ -17,8 +18,8 @@ use streams::{Counted, Unread};
 pub enum ExchangeOutcome {
     /// What came is no request.
     Refused(Refusal),
-    /// There was no memory to read it. No contract can say when.
-    NoMemory,
+    /// There was no memory to read it.
+    NoMemory(NoMemory),
     /// The request that it asks was answered.
     Answered { request: Request, answer: Answer },
 }
@@ -53,7 +54,9 @@ impl ExchangeOutcome {
             Err(Unheard::Ended) => Err(HttpFault::Ended),
             Err(Unheard::Unread(Unread::Failed)) => Err(HttpFault::Read),
             Err(Unheard::Unread(Unread::TooManyReads)) => Err(HttpFault::TooManyReads),
-            Err(Unheard::Unread(Unread::NoMemory)) => Ok(ExchangeOutcome::NoMemory),
+            Err(Unheard::Unread(Unread::NoMemory(witness))) => Ok(ExchangeOutcome::NoMemory(
+                witness,
+            )),
         }
     }
 
@@ -63,7 +66,7 @@ impl ExchangeOutcome {
     {
         match self {
             ExchangeOutcome::Refused(refusal) => refusal.status(),
-            ExchangeOutcome::NoMemory => Status::ServiceUnavailable,
+            ExchangeOutcome::NoMemory(_) => Status::ServiceUnavailable,
             ExchangeOutcome::Answered { request: _, answer } => answer_status(answer),
         }
     }
@@ -75,7 +78,7 @@ impl ExchangeOutcome {
         match self {
             ExchangeOutcome::Refused(Refusal::NotARequest) | ExchangeOutcome::Answered { .. } =>
                 false,
-            ExchangeOutcome::Refused(_) | ExchangeOutcome::NoMemory => true,
+            ExchangeOutcome::Refused(_) | ExchangeOutcome::NoMemory(_) => true,
         }
     }
 

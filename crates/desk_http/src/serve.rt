@@ -6,13 +6,14 @@ ghost use Rattle.office_policy.specs.Handled.{IsHandled, LeavesOnly};
 ghost use Rattle.desk_http.specs.Served.{IsServed, IsServedOf, IsTold, IsWritten, LeftByOne};
 ghost use Rattle.desk_http.specs.Served.{ReadCounts, StaysWhole, TellCounts};
 ghost use Rattle.streams.specs.CallsLeft.{HasCallsLeft, HasFaultsLeft};
+ghost use Rattle.no_memory.specs.Witness.{witness};
 
 use crate::fault::HttpFault;
 use crate::outcome::ExchangeOutcome;
 use crate::served::Served;
 use http_requests::{OfficeRouter, answer_response, memory_response, refusal_response};
 use office_policy::Handler;
-use std::alloc::Global;
+use std::alloc::{AllocError, Global};
 use std::io::{Read, Write};
 use streams::{Counted, write_whole};
 
@@ -36,6 +37,16 @@ fn write_response<W: Write>(
     }
 }
 
+// Why a response with this status isn't made.
+fn unmade(status: u16, refused: AllocError) -> HttpFault
+    ensures { result ≡ HttpFault.NoMemory status witness }
+{
+    HttpFault::NoMemory {
+        status,
+        witness: refused.into(),
+    }
+}
+
 // Writes the response that reports an outcome.
 fn tell<W: Write>(
     alloc: Global,
@@ -50,13 +61,13 @@ fn tell<W: Write>(
     let served = outcome.served();
     let code = served.status;
     let text = match outcome {
-        ExchangeOutcome::NoMemory => return write_response(writer, memory_response(), served),
+        ExchangeOutcome::NoMemory(_) => return write_response(writer, memory_response(), served),
         ExchangeOutcome::Refused(why) => refusal_response(alloc, status, why.word()),
         ExchangeOutcome::Answered { request: _, answer } => answer_response(alloc, status, answer),
     };
     match text {
         Ok(text) => write_response(writer, &text, served),
-        Err(_) => Err(HttpFault::NoMemory { status: code }),
+        Err(refused) => Err(unmade(code, refused)),
     }
 }
 

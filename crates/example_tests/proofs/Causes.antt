@@ -8,6 +8,7 @@ use Rattle.office_policy.specs.Handled.{AreBegun, HasRisen, IsMet, IsUnwritten, 
 use Rattle.office_policy.specs.History.{Event, History}
 use Rattle.office_policy.specs.Verdict.{Verdict, accepted, denied, verdict}
 use Rattle.example_tests.specs.Examples.{Sketch, counting, enrolment, founding, grown, maybe_grown, quiet, refusing}
+use Rattle.no_memory.specs.Witness.{witness}
 
 pub other_history : enrolment ≡ founding → ⊥
 other_history is = let k : ◌≡◌ {A = ℕ} 2 1 = ap (λ (h : History). length h) is in absurd (omega (arith, k))
@@ -65,4 +66,4 @@ memory_there y h r written (inl none) = written (
     | inr begun ↦ absurd (none_begun h (verdict h r) left begun)
   ],
 )
-memory_there y h r written (inr refuses) = refuses_none (counting 3) h (verdict h r) NoMemory refuses
+memory_there y h r written (inr refuses) = refuses_none (counting 3) h (verdict h r) (NoMemory witness) refuses

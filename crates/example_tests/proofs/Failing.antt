@@ -19,6 +19,7 @@ use Rattle.office_store.specs.Refusing.{LacksPlace, LacksPlaceFor, Makes, Refuse
 use Rattle.office_store.specs.Refusing.{puts_user, adds_revision, issues, withdraws, puts_vote, puts_baseline, puts_hold, deletes_hold}
 use Rattle.office_store.specs.Writes.{releasing}
 use Rattle.example_tests.specs.Examples.{IsAtRest}
+use Rattle.no_memory.specs.Witness.{witness}
 
 -- ---- no memory
 
@@ -38,14 +39,14 @@ module _ {S : Type 0} (g : Ghosts S) (conn : Held S) (rest : IsAtRest g conn) wh
   no_memory sql params = inl (inl (inr (stored.OutOfMemory, refl, tt, undone, λ kind is fault. absurd (let k : false ≡ true = fault in cc))), inr undone)
 
   -- there is none for the first statement of a transaction
-  pub memory_lacks : (s : Statement) (ss : List Statement) → IsCause g (s ∷ ss) conn NoMemory
+  pub memory_lacks : (s : Statement) (ss : List Statement) → IsCause g (s ∷ ss) conn (NoMemory witness)
   memory_lacks s ss = record { error = SqliteFailure code.OutOfMemory; failed = inl (conn, no_memory s.sql s.params); fault = refl }
 
 -- ---- a row is taken out
 
 -- a row that is taken out needs no place
 never_lacks : (p : ProfileName) (db : Database) (f : Fault) → LacksPlace (deletes_hold p) db f → ⊥
-never_lacks p db NoMemory lacks = lacks
+never_lacks p db (NoMemory _) lacks = lacks
 never_lacks p db Disk lacks = lacks
 never_lacks p db Full lacks = lacks.1
 never_lacks p db NotAnOffice lacks = lacks

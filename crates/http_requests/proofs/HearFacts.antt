@@ -73,7 +73,7 @@ module _ (bytes : List ℕ) (head : Head) where
     route_left Ended has = absurd has
     route_left (Unread Failed) has = absurd has
     route_left (Unread TooManyReads) has = absurd has
-    route_left (Unread NoMemory) has = tt
+    route_left (Unread (NoMemory _)) has = tt
 
     module _ (route : Route) (routed : answered ≡ Ok route) where
       -- it shows no token
@@ -91,7 +91,7 @@ module _ (bytes : List ℕ) (head : Head) where
       token_left Ended has = absurd has
       token_left (Unread Failed) has = absurd has
       token_left (Unread TooManyReads) has = absurd has
-      token_left (Unread NoMemory) has = tt
+      token_left (Unread (NoMemory _)) has = tt
 
       module _ (token : List ℕ) (shows : token_shown ≡ Some token) (after : Option (List ℕ)) where
         -- its body is too short
@@ -103,7 +103,7 @@ module _ (bytes : List ℕ) (head : Head) where
         body_left Ended (few, at_end) = (too_few few, at_end)
         body_left (Unread Failed) few = too_few few
         body_left (Unread TooManyReads) few = too_few few
-        body_left (Unread NoMemory) has = tt
+        body_left (Unread (NoMemory _)) has = tt
 
         module _ (body : List ℕ) (has : IsBody before after front head.length body) where
           -- its body asks nothing
@@ -112,7 +112,7 @@ module _ (bytes : List ℕ) (head : Head) where
           ask_left fault.NotJson lacks = absurd lacks
           ask_left fault.NotARequest lacks =
               (has.0, has.1, comes (front ++ has.0) (refused NotARequest) r (rw (routed, shows, le-ltb _ _ has.2, sym has.3, lacks) refl))
-          ask_left fault.NoMemory lacks = tt
+          ask_left (fault.NoMemory _) lacks = tt
 
           -- it asks this
           pub asks_this : (ask : PlainAsk) → asked_of route body ≡ Some ask
@@ -142,7 +142,7 @@ module _ (before mid after : Option (List ℕ)) (bytes : List ℕ) (n : ℕ) (re
   unheard_on Ended (come, at_end) = (come_on ended come, at_end)
   unheard_on (Unread Failed) come = come_on ended come
   unheard_on (Unread TooManyReads) come = come_on ended come
-  unheard_on (Unread NoMemory) come = tt
+  unheard_on (Unread (NoMemory _)) come = tt
 
   pub heard_on : (result : Result Request Unheard) → IsHeard mid after (λ more. IsOfHead (take n bytes) (drop n bytes ++ more)) result
       → IsHeard before after IsExchange result

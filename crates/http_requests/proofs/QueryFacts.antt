@@ -1,5 +1,5 @@
 -- The path and the query of a target, as `split_once` cuts it.
-use Rattle.std.proofs.Common.{◌≡◌, ◌<◌, ◌∙◌, ℕ, List, Option, Some, None, Bor, length, refl, sym, ap, lt-ltb, le-ltb, arith}
+use Rattle.std.proofs.Common.{◌≡◌, ℕ, List, Option, Some, None, Bor, length, refl, sym, ap, lt-ltb, le-ltb, arith}
 use Rattle.std.proofs.lemmas.List.{take_all}
 use Rattle.std.proofs.lemmas.Str.Pattern.{IsSplitOnceResult, split_once_first}
 use Rattle.http_requests.specs.Queries.{path_of, query_of}

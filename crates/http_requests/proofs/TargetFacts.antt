@@ -1,5 +1,5 @@
 -- What a target names, by its path and its query.
-use Rattle.std.proofs.Common.{◌≡◌, ◌∙◌, List, ℕ, Option, Some, None, ap, refl}
+use Rattle.std.proofs.Common.{◌≡◌, ℕ, List, Option, Some, None, refl}
 use Rattle.http_requests.specs.Parts.{form_of}
 use Rattle.http_requests.specs.Queries.{path_of, query_of}
 use Rattle.http_requests.specs.Targets.{resource_at, resource_of}

@@ -36,7 +36,7 @@ module _ (before after : Option (List ℕ)) where
   IsUnheard Come Ended = HasCome Come ended × IsAtEnd after
   IsUnheard Come (Unread Failed) = HasCome Come ended
   IsUnheard Come (Unread TooManyReads) = HasCome Come ended
-  IsUnheard Come (Unread NoMemory) = Unit {0}
+  IsUnheard Come (Unread (NoMemory _)) = Unit {0}
 
   -- the bytes that were read ask this request, or there is none
   abbrev pub IsHeard : Comes → Result Request Unheard → Type 0
@@ -90,7 +90,7 @@ module _ (before after : Option (List ℕ)) where
   LacksBody front size (Refused why) = ⊥
   LacksBody front size (Unread Failed) = TooFew front size
   LacksBody front size (Unread TooManyReads) = TooFew front size
-  LacksBody front size (Unread NoMemory) = Unit {0}
+  LacksBody front size (Unread (NoMemory _)) = Unit {0}
 
   -- the body is there, or too few bytes are
   abbrev pub HasBody : {X : Type 0} → (X → List ℕ) → List ℕ → ℕ → Result X Unheard → Type 0
@@ -101,14 +101,14 @@ module _ (before after : Option (List ℕ)) where
 abbrev pub HasRoute : Result Route Refusal → Result Route Unheard → Type 0
 HasRoute answer (Ok route) = answer ≡ Ok route
 HasRoute answer (Err (Refused why)) = answer ≡ Err why
-HasRoute answer (Err (Unread NoMemory)) = Unit {0}
+HasRoute answer (Err (Unread (NoMemory _))) = Unit {0}
 HasRoute answer (Err _) = ⊥
 
 -- the token is the one that is shown; else none is
 abbrev pub HasToken : Option (List ℕ) → Result (List ℕ) Unheard → Type 0
 HasToken shown (Ok token) = shown ≡ Some token
 HasToken shown (Err (Refused NoToken)) = shown ≡ None
-HasToken shown (Err (Unread NoMemory)) = Unit {0}
+HasToken shown (Err (Unread (NoMemory _))) = Unit {0}
 HasToken shown (Err _) = ⊥
 
 -- one call failed just where that is reported, and there were as many calls as are allowed
@@ -122,11 +122,11 @@ HearCounts calls calls_after most faults faults_after (Err (Unread Failed)) =
     faults_after ≡ one_more faults
 HearCounts calls calls_after most faults faults_after (Err (Unread TooManyReads)) =
     (calls_after ≡ most) × (faults_after ≡ faults)
-HearCounts calls calls_after most faults faults_after (Err (Unread NoMemory)) =
+HearCounts calls calls_after most faults faults_after (Err (Unread (NoMemory _))) =
     faults_after ≡ faults
 
 -- a body that asks nothing
 abbrev pub of_line_fault : LineFault → Unheard
 of_line_fault fault.NotJson = Refused NotARequest
 of_line_fault fault.NotARequest = Refused NotARequest
-of_line_fault fault.NoMemory = Unread NoMemory
+of_line_fault (fault.NoMemory refused) = Unread (NoMemory refused)

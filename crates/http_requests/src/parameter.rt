@@ -26,7 +26,7 @@ fn word_with(alloc: Global, text: &str) -> Result<Option<Word>, AllocError>
     match Word::new(alloc, text) {
         Ok(word) => Ok(Some(word)),
         Err(WordFault::NotAWord) => Ok(None),
-        Err(WordFault::NoMemory) => Err(AllocError),
+        Err(WordFault::NoMemory(witness)) => Err(witness.into()),
     }
 }
 

@@ -3,6 +3,7 @@
 ghost use Rattle.std.specs.Prelude.{◌≡◌, IfOk, string_bytes};
 ghost use Rattle.http_requests.specs.Responses.{refusal_with, response_to, response_with};
 ghost use Rattle.http_requests.specs.Responses.{status_of};
+ghost use Rattle.no_memory.specs.Witness.{witness};
 
 use crate::message::{ContentType, message_text};
 use crate::status::Status;
@@ -60,7 +61,7 @@ pub fn refusal_response(alloc: Global, status: Status, word: &str) -> Result<Str
 /// be no memory to make it.
 #[tactic(auto, unfolding(crate::proofs::OnLiterals::response_on_literals))]
 pub fn memory_response() -> &'static str
-    ensures { result.now ≡ response_to (Answer.Fault Fault.NoMemory) }
+    ensures { result.now ≡ response_to (Answer.Fault (Fault.NoMemory witness)) }
 {
     "HTTP/1.1 503 Service Unavailable\r\n\
      Content-Type: application/json\r\n\

@@ -8,6 +8,7 @@ ghost use Rattle.http_requests.specs.Table.{fits, office_rows, with_route};
 use crate::form::Form;
 use crate::route::{ProfileAct, RevisionAct};
 use matchit::{InsertError, Router};
+use no_memory::NoMemory;
 use std::alloc::{AllocError, Global};
 
 // The routes, with what each asks for.
@@ -72,7 +73,8 @@ impl OfficeRouter {
         let mut router = Router::new(alloc);
         match insert_all(&mut router, &ROUTES) {
             Ok(()) => Ok(OfficeRouter { router }),
-            Err(_) => Err(AllocError),
+            Err(InsertError::OutOfMemory) => Err(NoMemory::told().into()),
+            Err(_) => unreachable!(),
         }
     }
 

@@ -48,6 +48,6 @@ fn token_of(alloc: Global, text: &str) -> Result<Option<Token>, AllocError>
     match Token::new(alloc, text) {
         Ok(token) => Ok(Some(token)),
         Err(WordFault::NotAWord) => Ok(None),
-        Err(WordFault::NoMemory) => Err(AllocError),
+        Err(WordFault::NoMemory(witness)) => Err(witness.into()),
     }
 }

@@ -21,11 +21,12 @@ impl From<AllocError> for Unheard {
     ghost use Rattle.std.specs.Prelude.{◌≡◌};
     ghost use Rattle.streams.specs.declared.up_to.Unread.TheVariants.{NoMemory};
     ghost use Rattle.http_requests.specs.declared.unheard.Unheard.TheVariants.{Unread};
+    ghost use Rattle.no_memory.specs.Witness.{witness};
 
-    ghost from_gives = { λ _ e. e ≡ Unread NoMemory };
+    ghost from_gives = { λ _ e. e ≡ Unread (NoMemory witness) };
 
-    fn from(_error: AllocError) -> Unheard {
-        Unheard::Unread(Unread::NoMemory)
+    fn from(refused: AllocError) -> Unheard {
+        Unheard::Unread(Unread::NoMemory(refused.into()))
     }
 }
 
@@ -49,7 +50,7 @@ impl From<LineFault> for Unheard {
     fn from(fault: LineFault) -> Unheard {
         match fault {
             LineFault::NotJson | LineFault::NotARequest => Unheard::Refused(Refusal::NotARequest),
-            LineFault::NoMemory => Unheard::Unread(Unread::NoMemory),
+            LineFault::NoMemory(witness) => Unheard::Unread(Unread::NoMemory(witness)),
         }
     }
 }

@@ -29,6 +29,7 @@ use Rattle.journal.specs.Writing.{IsAppended, IsLeftIn, IsMet, Writing}
 use Rattle.journal.proofs.Offices.{all_left, caused, open_of, risen_first, risen_second, stands_with}
 use Rattle.journal.proofs.Settling.{settled_says}
 use Rattle.journal.proofs.Texts.{numbered_by, one_more, one_struck}
+use Rattle.no_memory.specs.Witness.{witness}
 
 by_flag : (b : Bool) → IsTrue (not b) → b ≡ false
 by_flag true is = absurd (let c : false ≡ true = is in cc)
@@ -70,12 +71,12 @@ module _ {O J : Type 0} (m : Meaning O) (w : Writing J) (x : Journaled O J) (goe
   still_closes h told = closes_all (journaled m w) x (with_office x mid) (LeavesStray h told (with_office x mid)) still
 
   -- there was no memory for the line
-  pub no_line : IsHandled (journaled m w) x (with_office x mid) r (Fault faults.NoMemory)
+  pub no_line : IsHandled (journaled m w) x (with_office x mid) r (Fault (faults.NoMemory witness))
   no_line = record {
     survives = still.survives;
     answer = λ h of clean. tt;
     cause = λ h of clean. inl (still.kept clean, λ left may. inl (still.crash clean left may));
-    closes = λ h of. still_closes h (Fault faults.NoMemory);
+    closes = λ h of. still_closes h (Fault (faults.NoMemory witness));
     approved = λ h of clean. tt;
     office = still.office;
     stands = λ h of clean. tt;
@@ -211,7 +212,7 @@ module _ {O J : Type 0} (m : Meaning O) (w : Writing J) (x : Journaled O J) (goe
       ]
 
       told : (h : History) (f : TheFault) → IsMet w x.journal j f → IsAnswer h r (Fault f)
-      told h faults.NoMemory met = tt
+      told h (faults.NoMemory _) met = tt
       told h faults.Disk met = tt
       told h faults.Full met = tt
       told h faults.NotAnOffice met = met
@@ -258,7 +259,7 @@ module _ {O J : Type 0} (m : Meaning O) (w : Writing J) (x : Journaled O J) (goe
       )
 
       cause : is_clean m w unwritten → (h : History) → IsOf m w h x → (f : TheFault) → IsMet w x.journal j f → HasCause (journaled m w) x unwritten h r (Fault f)
-      cause clean h of faults.NoMemory met = inl (kept_still clean, left_unwritten clean h of)
+      cause clean h of (faults.NoMemory _) met = inl (kept_still clean, left_unwritten clean h of)
       cause clean h of faults.Disk met = λ stood. inl (risen (met is_open))
       cause clean h of faults.Full met = inl (risen met)
       cause clean h of faults.NotAnOffice met = met

@@ -27,7 +27,7 @@ cannot_nothing NoEventBefore n last prior h = absurd (no_line prior h.0.body h.0
 cannot_nothing Unsealed n last prior h = absurd (unsealed_none prior h)
 cannot_nothing TornLine n last prior h = absurd (h.1 refl)
 cannot_nothing Read n last prior h = tt
-cannot_nothing NoMemory n last prior h = tt
+cannot_nothing (NoMemory _) n last prior h = tt
 
 -- a line that says that one is carried out is taken only behind that one
 settled_true : (b : Bool) (e : Event) (t : Option Event × Option Event) → settled_if b e ≡ Some t → b ≡ true
@@ -66,7 +66,7 @@ cannot_line Unsealed n last prior l rest t entry is h =
 cannot_line TornLine n last prior l rest t entry is h =
     absurd (tells_one prior l rest entry (told_unended prior (sealed_line prior (text_of l) ++ rest) h.0))
 cannot_line Read n last prior l rest t entry is h = tt
-cannot_line NoMemory n last prior l rest t entry is h = tt
+cannot_line (NoMemory _) n last prior l rest t entry is h = tt
 
 -- ---- all of them
 

@@ -254,7 +254,7 @@ none_more bodies body none h says =
 pub still_faulty : (bodies : List (List ℕ)) (body : List ℕ) (fault : Faulty) → IsFaulty bodies fault → IsFaulty (bodies ++ body ∷ []) fault
 still_faulty bodies body NotALine none = none_more bodies body none
 still_faulty bodies body NoEventBefore none = none_more bodies body none
-still_faulty bodies body NoMemory none = tt
+still_faulty bodies body (NoMemory _) none = tt
 
 -- a line that says of another line than the one before that it is carried out isn't taken
 other_number : (n k : ℕ) (held : Option Event) (t : Taken) → k ≢ n → taken n held (done k) ≡ Some t → ⊥
@@ -302,7 +302,7 @@ is_kept bodies body old new (Err NotALine) fault is_body k takes is =
     subst (λ f. keeps_by f (bodies ++ body ∷ []) new) (sym is) (not_a_line bodies body (writers_meant old.settled) (held old.reader) k takes)
 is_kept bodies body old new (Err NoEventBefore) fault is_body k takes is =
     subst (λ f. keeps_by f (bodies ++ body ∷ []) new) (sym is) (no_event_before bodies body (writers_meant old.settled) (held old.reader) k takes.0 takes.1)
-is_kept bodies body old new (Err NoMemory) fault is_body k takes is = subst (λ f. keeps_by f (bodies ++ body ∷ []) new) (sym is) tt
+is_kept bodies body old new (Err (NoMemory _)) fault is_body k takes is = subst (λ f. keeps_by f (bodies ++ body ∷ []) new) (sym is) tt
 
 -- behind a line that can't stand there nothing is kept
 pub still_kept : (fault : Option Faulty) (bodies : List (List ℕ)) (body : List ℕ) (old new : Kept) → is_some fault ≡ true → keeps_by fault bodies old → keeps_by fault (bodies ++ body ∷ []) new

@@ -47,7 +47,7 @@ pub unread : (bytes : List ℕ) (e : UnreadLine) → IsCandidate (Err e) (candid
 unread bytes NotALine none = λ line formed same.
     let both : ◌≡◌ {A = Option Line} None (Some line) = sym none ∙ ap candidate_in same ∙ candidate_back line formed in
     cc
-unread bytes NoMemory none = tt
+unread bytes (NoMemory _) none = tt
 
 -- and neither is one that isn't the text of what it may be
 pub read_other : (bytes : List ℕ) (l : of_lines.Line) → candidate_in bytes ≡ Some (shown l) → bytes_eq (text_of (shown l)) bytes ≡ false → IsRead bytes (Err NotALine)

@@ -17,7 +17,7 @@ use Rattle.journal.specs.Writing.{IsAppended, IsMet, IsWritten}
 
 module _ {D : Type 0} (g : Ghosts D) (old new : SealedLog D g) where
   met : (fault : LogFault) → IsMetBy g old new fault → IsTrue (g.is_clean new.disk) → IsMet (in_log g) old new (fault_meant fault)
-  met logs.Memory by clean = tt
+  met (logs.NoMemory _) by clean = tt
   met logs.Disk by clean = λ is_open. by clean is_open
   met logs.Full by clean = by clean
 

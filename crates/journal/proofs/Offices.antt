@@ -18,6 +18,7 @@ use Rattle.journal.specs.Journal.{Says}
 use Rattle.journal.specs.declared.journaled.Journaled.{Journaled}
 use Rattle.journal.specs.Journals.{Adds, Grows, HasAsStray, IsOf, goes_on, is_clean, journaled, struck_none, with_office}
 use Rattle.journal.specs.Writing.{Writing}
+use Rattle.no_memory.specs.Witness.{witness}
 
 -- ---- counts of faults
 
@@ -67,8 +68,8 @@ module _ {O J : Type 0} (m : Meaning O) (w : Writing J) where
       → (LeavesUndone m x.office y.office h (verdict h r) → LeavesUndone (journaled m w) x y h (verdict h r)) → HasCause m x.office y.office h r told → HasCause (journaled m w) x y h r told
   caused x y h r (Done reply) more undone cause = tt
   caused x y h r (Denied denial fault) more undone cause = tt
-  caused x y h r (Fault faults.NoMemory) more undone (inl none) = inl (undone none)
-  caused x y h r (Fault faults.NoMemory) more undone (inr refuses) = inr (refused x h (verdict h r) faults.NoMemory refuses)
+  caused x y h r (Fault (faults.NoMemory _)) more undone (inl none) = inl (undone none)
+  caused x y h r (Fault (faults.NoMemory _)) more undone (inr refuses) = inr (refused x h (verdict h r) (faults.NoMemory witness) refuses)
   caused x y h r (Fault faults.Disk) more undone cause = λ is_open. met x y h r faults.Disk more (cause is_open.0)
   caused x y h r (Fault faults.Full) more undone cause = met x y h r faults.Full more cause
   caused x y h r (Fault faults.NotAnOffice) more undone cause = cause

@@ -16,6 +16,7 @@ use Rattle.journal.specs.Journals.{BeginsWith, HasAsStray, IsOf, IsSettled, goes
 use Rattle.journal.specs.Writing.{IsAppended, IsLeftIn, IsLeftInPart, Writing}
 use Rattle.journal.proofs.Offices.{none_fewer, open_of, risen_second}
 use Rattle.journal.proofs.Texts.{one_done}
+use Rattle.no_memory.specs.Witness.{witness}
 
 -- ---- which line says it
 
@@ -92,7 +93,7 @@ module _ {O J : Type 0} (m : Meaning O) (w : Writing J) (x : Journaled O J) wher
   pub none_last : None ≡ unsettled w x → IsSettled m w x x (Ok tt)
   none_last none = unchanged (λ goes. is_not_last w x none)
 
-  pub no_text : IsSettled m w x x (Err faults.NoMemory)
+  pub no_text : IsSettled m w x x (Err (faults.NoMemory witness))
   no_text = record {
     office = refl;
     survives = survives_none (journaled m w) x;

@@ -29,7 +29,7 @@ cannot_read before held prior (Some bytes) bodies.Unsealed h = h
 cannot_read before held prior (Some bytes) bodies.TooLong h = inr (inl h)
 cannot_read before held prior (Some bytes) bodies.Torn h = h
 cannot_read before held prior (Some bytes) bodies.Read h = tt
-cannot_read before held prior (Some bytes) bodies.NoMemory h = tt
+cannot_read before held prior (Some bytes) (bodies.NoMemory _) h = tt
 
 pub no_body : (before : ℕ) (held : Option Event) (prior : List ℕ) (old : Option (List ℕ)) (fault : NoBody) → IfSome old (λ bytes. HasNoBody fault prior bytes)
     → Stops (record { taken = before; held = held; seal = prior; left = old }) before (body_fault fault)
@@ -70,7 +70,7 @@ cannot_take before was kept (Some bytes) new prior seal given text_is NotALine h
 ]
 cannot_take before was kept (Some bytes) new prior seal given text_is NoEventBefore h =
     (record { body = given; rest = text_is.rest; is = text_is.is; is_body = text_is.is_body; on = h.0 }, h.1)
-cannot_take before was kept (Some bytes) new prior seal given text_is NoMemory h = tt
+cannot_take before was kept (Some bytes) new prior seal given text_is (NoMemory _) h = tt
 
 pub step_refused : (before : ℕ) (was kept : Reader) (old new : Option (List ℕ)) (prior seal text given : List ℕ) (more : Bool) (fault : Faulty)
     → ReadsBody old new prior seal text (Ok more) → more ≡ true → given ≡ text → Takes before was kept given (Err fault)
@@ -82,7 +82,7 @@ step_refused before was kept old new prior seal text given more fault read there
 held_still : (before : ℕ) (was kept : Reader) (given : List ℕ) (fault : Faulty) → Takes before was kept given (Err fault) → held kept ≡ held was
 held_still before was kept given NotALine h = h.1
 held_still before was kept given NoEventBefore h = h.2 ∙ sym h.1
-held_still before was kept given NoMemory h = h
+held_still before was kept given (NoMemory _) h = h
 
 pub refused_left : (before : ℕ) (was kept : Reader) (old new : Option (List ℕ)) (prior seal text given : List ℕ) (more : Bool) (result : Result Step Unreadable) (fault : Faulty)
     → IsErrAnd result (λ e. e ≡ line_fault fault) → ReadsBody old new prior seal text (Ok more) → more ≡ true → given ≡ text → Takes before was kept given (Err fault)

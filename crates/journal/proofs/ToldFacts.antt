@@ -216,7 +216,7 @@ no_line_there NoEventBefore n k held kept prior h = absurd (no_line prior h.0.bo
 no_line_there Unsealed n k held kept prior h = absurd (unsealed_none prior h)
 no_line_there TornLine n k held kept prior h = absurd (h.1 refl)
 no_line_there Read n k held kept prior h = tt
-no_line_there NoMemory n k held kept prior h = tt
+no_line_there (NoMemory _) n k held kept prior h = tt
 
 -- and only a failing input or memory keeps from it
 stopped_none : (before : ℕ) (prior bytes : List ℕ) (e : Event) (after : ℕ) (fault : Unreadable) → bytes ≡ [] → IsStopped before None prior [] after fault

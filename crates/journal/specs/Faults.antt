@@ -12,10 +12,10 @@ use Rattle.journal.specs.Shown.{shown}
 abbrev pub IsRead : List ℕ → Result of_lines.Line UnreadLine → Type 0
 IsRead text (Ok line) = (text ≡ text_of (shown line)) × IsFormed (shown line)
 IsRead text (Err NotALine) = (line : Line) → IsFormed line → text ≢ text_of line
-IsRead text (Err NoMemory) = Unit {0}
+IsRead text (Err (NoMemory _)) = Unit {0}
 
 -- what a text may be is found as the definition has it
 abbrev pub IsCandidate : Result of_lines.Line UnreadLine → Option Line → Type 0
 IsCandidate (Ok line) candidate = candidate ≡ Some (shown line)
 IsCandidate (Err NotALine) candidate = candidate ≡ None
-IsCandidate (Err NoMemory) candidate = Unit {0}
+IsCandidate (Err (NoMemory _)) candidate = Unit {0}

@@ -47,7 +47,7 @@ SaysNone bodies = (h : History) → Says bodies h → ⊥
 abbrev pub IsFaulty : List (List ℕ) → Faulty → Type 0
 IsFaulty bodies NotALine = SaysNone bodies
 IsFaulty bodies NoEventBefore = SaysNone bodies
-IsFaulty bodies NoMemory = Unit {0}
+IsFaulty bodies (NoMemory _) = Unit {0}
 
 -- the writers, and behind them an event where one stands
 abbrev pub with_stood : Option Event → Writers → Writers
@@ -63,7 +63,7 @@ TakesBody before body old new (Ok done) =
 TakesBody before body old new (Err NotALine) =
     ((line : Line) → IsFormed line → body ≢ text_of line) ⊎ IsOfOther before body
 TakesBody before body old new (Err NoEventBefore) = IsOnEvent body × (held old.reader ≡ None)
-TakesBody before body old new (Err NoMemory) = Unit {0}
+TakesBody before body old new (Err (NoMemory _)) = Unit {0}
 
 abbrev pub keeps_by : Option Faulty → List (List ℕ) → Kept → Type 0
 keeps_by None bodies k = IsKept bodies (writers_meant k.settled) (held k.reader)

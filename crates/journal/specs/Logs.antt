@@ -12,7 +12,7 @@ use Rattle.journal.specs.Writing.{Writing}
 
 -- the fault of an office that a fault of its log is
 abbrev pub fault_meant : LogFault → Fault
-fault_meant logs.Memory = faults.NoMemory
+fault_meant (logs.NoMemory refused) = faults.NoMemory refused
 fault_meant logs.Disk = faults.Disk
 fault_meant logs.Full = faults.Full
 

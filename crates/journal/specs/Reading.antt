@@ -47,7 +47,7 @@ Takes before old new text (Err NotALine) =
     × (held new ≡ held old)
 Takes before old new text (Err NoEventBefore) =
     IsOnEvent text × (held old ≡ None) × (held new ≡ None)
-Takes before old new text (Err NoMemory) = held new ≡ held old
+Takes before old new text (Err (NoMemory _)) = held new ≡ held old
 
 -- what becomes of a line that says that one is carried out
 abbrev pub Settles : (before of : ℕ) → Reader → Reader → Result (Option values.Event) Faulty → Type 0
@@ -55,4 +55,4 @@ Settles before of old new (Ok stands) =
     taken before (held old) (done of) ≡ Some (option_map event_meant stands, held new)
 Settles before of old new (Err NotALine) = (of ≢ before) × (held new ≡ held old)
 Settles before of old new (Err NoEventBefore) = (held old ≡ None) × (held new ≡ None)
-Settles before of old new (Err NoMemory) = ⊥
+Settles before of old new (Err (NoMemory _)) = ⊥

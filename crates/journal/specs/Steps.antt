@@ -18,13 +18,13 @@ body_fault bodies.Unsealed = unreadable.Unsealed
 body_fault bodies.TooLong = unreadable.NotALine
 body_fault bodies.Torn = unreadable.TornLine
 body_fault bodies.Read = unreadable.Read
-body_fault bodies.NoMemory = unreadable.NoMemory
+body_fault (bodies.NoMemory refused) = unreadable.NoMemory refused
 
 -- why a line isn't taken
 abbrev pub line_fault : Faulty → Unreadable
 line_fault faulty.NotALine = unreadable.NotALine
 line_fault faulty.NoEventBefore = unreadable.NoEventBefore
-line_fault faulty.NoMemory = unreadable.NoMemory
+line_fault (faulty.NoMemory refused) = unreadable.NoMemory refused
 
 -- the event that was held back stands, where one was, at the line of this number
 abbrev pub IsLast : ℕ → Option Event → Step → Type 0

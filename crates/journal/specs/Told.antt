@@ -145,7 +145,7 @@ CannotTake NoEventBefore before held prior bytes = HasOnEvent prior bytes × (he
 CannotTake Unsealed before held prior bytes = IsUnsealed prior bytes
 CannotTake TornLine before held prior bytes = NoFeed bytes × (bytes ≢ [])
 CannotTake Read before held prior bytes = Unit {0}
-CannotTake NoMemory before held prior bytes = Unit {0}
+CannotTake (NoMemory _) before held prior bytes = Unit {0}
 
 -- the input or memory failed, and not the journal
 abbrev pub IsOutside : Unreadable → Type 0
@@ -154,7 +154,7 @@ IsOutside NoEventBefore = ⊥
 IsOutside Unsealed = ⊥
 IsOutside TornLine = ⊥
 IsOutside Read = Unit {0}
-IsOutside NoMemory = Unit {0}
+IsOutside (NoMemory _) = Unit {0}
 
 -- lines that can stand in a journal can be taken, to this number of lines, and the one behind them
 -- can't

@@ -37,7 +37,7 @@ IsLeftIn bodies settling body left =
 module _ {X : Type 0} (w : Writing X) where
   -- a fault other than `memory` was met, or it is `disk` and the value was shut before
   abbrev pub IsMet : (old new : X) → Fault → Type 0
-  IsMet old new faults.NoMemory = Unit {0}
+  IsMet old new (faults.NoMemory _) = Unit {0}
   IsMet old new faults.Disk = IsTrue (w.is_open old) → HasRisen (w.faults old) (w.faults new)
   IsMet old new faults.Full = HasRisen (w.faults old) (w.faults new)
   IsMet old new faults.NotAnOffice = ⊥

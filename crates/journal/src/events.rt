@@ -10,6 +10,7 @@ ghost use Rattle.journal.specs.Told.{placed_meant, start, without_held};
 
 use crate::reader::{Faulty, Reader};
 use crate::seal_at::SealAt;
+use no_memory::NoMemory;
 use office_policy::Event;
 use sealed_log::{NoBody, Seal, no_seal, read_body};
 use std::alloc::Global;
@@ -33,8 +34,8 @@ pub enum Unreadable {
     TornLine,
     /// The input failed, or gave 2^64 - 1 lines. No contract can say when.
     Read,
-    /// There was no memory to read the line. No contract can say when.
-    NoMemory,
+    /// There was no memory to read the line.
+    NoMemory(NoMemory),
 }
 
 impl fmt::Display for Unreadable {
@@ -50,7 +51,7 @@ impl fmt::Display for Unreadable {
             Unreadable::Unsealed => "unsealed",
             Unreadable::TornLine => "torn-line",
             Unreadable::Read => "read",
-            Unreadable::NoMemory => "memory",
+            Unreadable::NoMemory(_) => "memory",
         })
     }
 }
@@ -64,7 +65,7 @@ impl From<Faulty> for Unreadable {
         match fault {
             Faulty::NotALine => Unreadable::NotALine,
             Faulty::NoEventBefore => Unreadable::NoEventBefore,
-            Faulty::NoMemory => Unreadable::NoMemory,
+            Faulty::NoMemory(witness) => Unreadable::NoMemory(witness),
         }
     }
 }
@@ -78,7 +79,7 @@ impl From<NoBody> for Unreadable {
             NoBody::TooLong => Unreadable::NotALine,
             NoBody::Torn => Unreadable::TornLine,
             NoBody::Read => Unreadable::Read,
-            NoBody::NoMemory => Unreadable::NoMemory,
+            NoBody::NoMemory(witness) => Unreadable::NoMemory(witness),
         }
     }
 }

@@ -1,5 +1,6 @@
 //! Why no line was read of a text.
 
+use no_memory::NoMemory;
 use std::alloc::AllocError;
 use thiserror::Error;
 
@@ -9,18 +10,19 @@ pub enum UnreadLine {
     /// The text is that of no line.
     #[error("not-a-line")]
     NotALine,
-    /// There was no memory to read it. No contract can say when.
+    /// There was no memory to read it.
     #[error("memory")]
-    NoMemory,
+    NoMemory(NoMemory),
 }
 
 impl From<AllocError> for UnreadLine {
     ghost use Rattle.std.specs.Prelude.{◌≡◌};
     ghost use Rattle.journal.specs.declared.fault.UnreadLine.TheVariants.{NoMemory};
+    ghost use Rattle.no_memory.specs.Witness.{witness};
 
-    ghost from_gives = { λ _ e. e ≡ NoMemory };
+    ghost from_gives = { λ _ e. e ≡ NoMemory witness };
 
-    fn from(_error: AllocError) -> UnreadLine {
-        UnreadLine::NoMemory
+    fn from(refused: AllocError) -> UnreadLine {
+        UnreadLine::NoMemory(refused.into())
     }
 }

@@ -41,8 +41,9 @@ fn write_event<J: Journal>(
     match last {
         None => journal.append(alloc, body),
         Some(of) => {
-            let Ok(done) = done_text(alloc, of) else {
-                return Err(Fault::NoMemory);
+            let done = match done_text(alloc, of) {
+                Ok(done) => done,
+                Err(refused) => return Err(Fault::NoMemory(refused.into())),
             };
             journal.append_both(alloc, done.as_str().as_bytes(), body)
         }
@@ -120,8 +121,9 @@ impl<O: Judge, J: Journal> Journaled<O, J> {
         let Some(of) = self.unsettled() else {
             return Ok(());
         };
-        let Ok(text) = done_text(alloc, of) else {
-            return Err(Fault::NoMemory);
+        let text = match done_text(alloc, of) {
+            Ok(text) => text,
+            Err(refused) => return Err(Fault::NoMemory(refused.into())),
         };
         let body = text.as_str().as_bytes();
         self.journal.append(alloc, body)?;
@@ -168,8 +170,9 @@ impl<O: Judge, J: Journal> Journaled<O, J> {
         ensures undone { OnErr result (IsUndone O.Handler.meaning J.Journal.writing request.now
             self.old self.new (event_for allowed.now)) }
     {
-        let Ok(text) = change_text(alloc, &allowed.caller.name, &allowed.change) else {
-            return Err(Fault::NoMemory);
+        let text = match change_text(alloc, &allowed.caller.name, &allowed.change) {
+            Ok(text) => text,
+            Err(refused) => return Err(Fault::NoMemory(refused.into())),
         };
         if !is_body(text.as_str().as_bytes()) {
             // No event that the policy allows is too long for a line.

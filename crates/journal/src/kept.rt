@@ -40,7 +40,7 @@ impl Kept {
         };
         match self.settled.put(alloc, event) {
             Ok(()) => Ok(()),
-            Err(_) => Err(Faulty::NoMemory),
+            Err(refused) => Err(Faulty::NoMemory(refused.into())),
         }
     }
 

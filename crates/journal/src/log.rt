@@ -15,7 +15,7 @@ fn told(done: Result<(), LogFault>) -> Result<(), Fault>
 {
     match done {
         Ok(()) => Ok(()),
-        Err(LogFault::Memory) => Err(Fault::NoMemory),
+        Err(LogFault::NoMemory(witness)) => Err(Fault::NoMemory(witness)),
         Err(LogFault::Disk) => Err(Fault::Disk),
         Err(LogFault::Full) => Err(Fault::Full),
     }

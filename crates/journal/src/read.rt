@@ -25,10 +25,10 @@ fn candidate(alloc: Global, bytes: &[u8]) -> Result<Line, UnreadLine>
         Ok(value) => match candidate_of(alloc, &value) {
             Ok(line) => Ok(line),
             Err(LineFault::NotJson | LineFault::NotARequest) => Err(UnreadLine::NotALine),
-            Err(LineFault::NoMemory) => Err(UnreadLine::NoMemory),
+            Err(LineFault::NoMemory(witness)) => Err(UnreadLine::NoMemory(witness)),
         },
         Err(ReadFault::NotJson) => Err(UnreadLine::NotALine),
-        Err(ReadFault::NoMemory) => Err(UnreadLine::NoMemory),
+        Err(ReadFault::NoMemory(witness)) => Err(UnreadLine::NoMemory(witness)),
     }
 }
 

@@ -7,6 +7,7 @@ ghost use Rattle.journal.specs.Reading.{Settles, Takes, held};
 use crate::fault::UnreadLine;
 use crate::line::Line;
 use crate::read::read_line;
+use no_memory::NoMemory;
 use office_policy::Event;
 use std::alloc::Global;
 use thiserror::Error;
@@ -22,9 +23,9 @@ pub enum Faulty {
     /// nothing that happened.
     #[error("no-event-before")]
     NoEventBefore,
-    /// There was no memory to read it. No contract can say when.
+    /// There was no memory to read it.
     #[error("memory")]
-    NoMemory,
+    NoMemory(NoMemory),
 }
 
 /// Reads a journal, the oldest line first. The event of the last line is held back, since the next
@@ -55,7 +56,7 @@ impl Reader {
             },
             Ok(Line::Done { of }) => self.settle(before, of),
             Err(UnreadLine::NotALine) => Err(Faulty::NotALine),
-            Err(UnreadLine::NoMemory) => Err(Faulty::NoMemory),
+            Err(UnreadLine::NoMemory(witness)) => Err(Faulty::NoMemory(witness)),
         }
     }
 

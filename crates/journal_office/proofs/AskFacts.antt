@@ -62,7 +62,7 @@ left_on m old mid new first then = record {
 }
 
 met_on : {X : Type 0} (m : Meaning X) (old mid new : X) (fault : Fault) → m.faults old ≤ m.faults mid → (m.is_open old → m.is_open mid ⊎ HasRisen (m.faults old) (m.faults mid)) → m.faults mid ≤ m.faults new → IsMetBetween m mid new fault → IsMetBetween m old new fault
-met_on m old mid new faults.NoMemory counts closes rest met = tt
+met_on m old mid new (faults.NoMemory _) counts closes rest met = tt
 met_on m old mid new faults.Disk counts closes rest met = λ is_open. elim (closes is_open) [
   | inl still ↦ let risen = met still in omega (arith, counts, risen)
   | inr risen ↦ omega (arith, risen, rest)
@@ -97,7 +97,7 @@ module _ {X : Type 0} (m : Meaning X) (old mid new : X) (first : LeavesAll m old
   looks_then P Q (Err NotALine) one two = two
   looks_then P Q (Err (Changed at)) one two = two
   looks_then P Q (Err Log) one two = two
-  looks_then P Q (Err NoMemory) one two = two
+  looks_then P Q (Err (NoMemory _)) one two = two
 
   last_on : (w after : Writers) (event : Option Event) (answer : Last) → IsLastOf m old mid w after event answer → IsLastOf m old new w after event answer
   last_on w after (Some e) last.Shown found = (holds_on (λ t. Shows t e) found.0, found.1)
@@ -142,7 +142,7 @@ module _ {X : Type 0} (m : Meaning X) (old mid new : X) (first : LeavesAll m old
     not_answered NotALine never = never
     not_answered (Changed at) never = never
     not_answered Log never = never
-    not_answered NoMemory never = tt
+    not_answered (NoMemory _) never = tt
 
 -- what isn't so, or wasn't asked for, isn't where more is
 pub looks_wider : {X : Type 0} (m : Meaning X) (old new : X) (P Q : Tables → Type 0) (why : NotReopened) → ((t : Tables) → Q t → P t) → LooksFor m old new P (Err why) → LooksFor m old new Q (Err why)
@@ -152,7 +152,7 @@ looks_wider m old new P Q Unsealed less never = never
 looks_wider m old new P Q NotALine less never = never
 looks_wider m old new P Q (Changed at) less never = never
 looks_wider m old new P Q Log less never = never
-looks_wider m old new P Q NoMemory less never = never
+looks_wider m old new P Q (NoMemory _) less never = never
 
 -- and what is so is
 pub looks_as : {X : Type 0} (m : Meaning X) (old new : X) (P Q : Tables → Type 0) (result : Result ⊤ NotReopened) → ((t : Tables) → P t → Q t) → ((t : Tables) → Q t → P t)
@@ -168,7 +168,7 @@ not_looked m old new w after event Unsealed never = never
 not_looked m old new w after event NotALine never = never
 not_looked m old new w after event (Changed at) never = never
 not_looked m old new w after event Log never = never
-not_looked m old new w after event NoMemory never = tt
+not_looked m old new w after event (NoMemory _) never = tt
 
 -- ---- an event
 

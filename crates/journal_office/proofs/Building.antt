@@ -18,6 +18,7 @@ use Rattle.journal_office.proofs.Comes.{held_stands, none_stands}
 use Rattle.journal_office.proofs.Refusals.{held_there}
 use Rattle.journal_office.proofs.Replays.{goes_then, more_lawful, more_stands}
 use Rattle.journal_office.specs.Rebuilding.{BuildsOn, ComesThere, IsBuiltTo, IsHalted, ends_at, ends_there, kept_at, kept_by}
+use Rattle.no_memory.specs.Witness.{witness}
 
 abbrev no_event : List (ℕ × Event)
 no_event = []
@@ -102,7 +103,7 @@ module _ {X : Type 0} (m : Meaning X) (bytes : Option (List ℕ)) where
   outside here after es office line (halt.Unread unreadable.Unsealed) ends before some at = absurd cc
   outside here after es office line (halt.Unread unreadable.TornLine) ends before some at = absurd cc
   outside here after es office line (halt.Unread unreadable.Read) ends before some at = built_alone here after es office office line unreadable.Read refl before at (none_kept es (standing after.taken after.held) some)
-  outside here after es office line (halt.Unread unreadable.NoMemory) ends before some at = built_alone here after es office office line unreadable.NoMemory refl before at (none_kept es (standing after.taken after.held) some)
+  outside here after es office line (halt.Unread (unreadable.NoMemory _)) ends before some at = built_alone here after es office office line (unreadable.NoMemory witness) refl before at (none_kept es (standing after.taken after.held) some)
   outside here after es office line halt.NotFounded ends before some at = absurd at
   outside here after es office line (halt.Unfounded fault) ends before some at = absurd at
   outside here after es office line (halt.Unreplayed cause) ends before some at = absurd at

@@ -40,6 +40,7 @@ use Rattle.journal_office.specs.declared.not_reopened.NotReopened.{NotReopened}
 use Rattle.journal_office.specs.declared.not_reopened.NotReopened.TheVariants.{Unsealed, NotALine, Changed, OtherJournal, Office, Log, NoMemory}
 use Rattle.journal_office.specs.Faults.{IsOutside, IsRefusal, line_fault, log_fault}
 use Rattle.journal_office.specs.Mending.{Asks, HasOfficeCause, HasTablesOf, IsAnswer, IsLastOf, IsMended, IsOneMore, IsStruckOut, Mends, SaysNow, SaysOther, TellsOf}
+use Rattle.no_memory.specs.Witness.{witness}
 
 -- ---- what the tables tell of it
 
@@ -140,13 +141,13 @@ outside_no_refusal (Changed at) outside is = absurd outside
 outside_no_refusal OtherJournal outside is = absurd outside
 outside_no_refusal (Office fault) outside is = absurd outside
 outside_no_refusal Log outside is = absurd is
-outside_no_refusal NoMemory outside is = absurd is
+outside_no_refusal (NoMemory _) outside is = absurd is
 
 refused_by : {A : Type 0} (why other : NotReopened) → IsOutside why → IsRefusal other → why ≡ other → A
 refused_by why other outside is same = outside_no_refusal why outside (subst IsRefusal (sym same) is)
 
 pub log_outside : (fault : LogFault) → IsOutside (log_fault fault)
-log_outside logs.Memory = tt
+log_outside (logs.NoMemory _) = tt
 log_outside logs.Disk = tt
 log_outside logs.Full = tt
 
@@ -157,7 +158,7 @@ outside_cause m old new (Changed at) outside = tt
 outside_cause m old new OtherJournal outside = tt
 outside_cause m old new (Office fault) outside = absurd outside
 outside_cause m old new Log outside = tt
-outside_cause m old new NoMemory outside = tt
+outside_cause m old new (NoMemory _) outside = tt
 
 -- a `?` that leaves with this fault
 pub left_with : {A : Type 0} (P : Result A NotReopened → Type 0) (r : Result A NotReopened) (why : NotReopened) → IsErrAnd r (λ e. e ≡ why) → P (Err why) → P r
@@ -247,7 +248,7 @@ module _ {X D : Type 0} (m : Meaning X) (g : Ghosts D) (mark : ℕ) where
     pub no_journal : (fault : Faulty) → (IsTrue (g.is_clean after.disk) → IsFaulty (bodies_of g before) fault) → Mends m g mark x x before after (Err (line_fault fault))
     no_journal faulty.NotALine none = no_history none
     no_journal faulty.NoEventBefore none = no_history none
-    no_journal faulty.NoMemory none = not_read NoMemory tt
+    no_journal (faulty.NoMemory _) none = not_read (NoMemory witness) tt
 
     module _ (found : Through) (through : IsTrue (g.is_clean after.disk) → IsThrough (g.seen before.disk) found) where
       none_told : found.lines ≡ 0 → IsTrue (g.is_clean after.disk) → bodies_of g before ≡ []
@@ -365,7 +366,7 @@ module _ {X D : Type 0} (m : Meaning X) (g : Ghosts D) (mark : ℕ) where
     asked_line OtherJournal asks = (λ same. cc, λ same. cc)
     asked_line (Office fault) asks = (λ same. cc, λ same. cc)
     asked_line Log asks = absurd asks
-    asked_line NoMemory asks = (λ same. cc, λ same. cc)
+    asked_line (NoMemory _) asks = (λ same. cc, λ same. cc)
 
     asked_cause : (why : NotReopened) → Asks m old new w event (Err why) → (h : History) → m.is_of h old → m.is_clean new → HasOfficeCause m old new why
     asked_cause Unsealed asks h of clean = tt
@@ -374,7 +375,7 @@ module _ {X D : Type 0} (m : Meaning X) (g : Ghosts D) (mark : ℕ) where
     asked_cause OtherJournal asks h of clean = tt
     asked_cause (Office fault) asks h of clean = asks h of clean
     asked_cause Log asks h of clean = tt
-    asked_cause NoMemory asks h of clean = tt
+    asked_cause (NoMemory _) asks h of clean = tt
 
     -- another office's journal
     asked_other : (why : NotReopened) → Asks m old new w event (Err why) → IsTrue (g.is_clean before.disk) → (h : History) → m.is_of h old → m.is_clean new → why ≡ OtherJournal
@@ -393,7 +394,7 @@ module _ {X D : Type 0} (m : Meaning X) (g : Ghosts D) (mark : ℕ) where
         })
     asked_other (Office fault) asks clean h of is_clean same = absurd cc
     asked_other Log asks clean h of is_clean same = absurd asks
-    asked_other NoMemory asks clean h of is_clean same = absurd cc
+    asked_other (NoMemory _) asks clean h of is_clean same = absurd cc
 
     never_changed : (why : NotReopened) (at : ℕ) → Asks m old new w event (Err why) → why ≡ Changed at → ⊥
     never_changed Unsealed at asks same = asks
@@ -402,7 +403,7 @@ module _ {X D : Type 0} (m : Meaning X) (g : Ghosts D) (mark : ℕ) where
     never_changed OtherJournal at asks same = cc
     never_changed (Office fault) at asks same = cc
     never_changed Log at asks same = asks
-    never_changed NoMemory at asks same = cc
+    never_changed (NoMemory _) at asks same = cc
 
     pub not_asked : (why : NotReopened) → Asks m old new w event (Err why) → Mends m g mark old new before before (Err why)
     not_asked why asks = record {

@@ -42,4 +42,4 @@ not_reopened_text (reopening.Changed at) = codes "changed at " ++ decimal at
 not_reopened_text reopening.OtherJournal = codes "other-journal"
 not_reopened_text (reopening.Office why) = fault_word why
 not_reopened_text reopening.Log = codes "journal"
-not_reopened_text reopening.NoMemory = codes "memory"
+not_reopened_text (reopening.NoMemory _) = codes "memory"

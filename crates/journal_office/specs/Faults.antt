@@ -12,11 +12,11 @@ use Rattle.journal_office.specs.declared.not_reopened.NotReopened.TheVariants.{O
 abbrev pub line_fault : Faulty → NotReopened
 line_fault faulty.NotALine = NotALine
 line_fault faulty.NoEventBefore = NotALine
-line_fault faulty.NoMemory = NoMemory
+line_fault (faulty.NoMemory refused) = NoMemory refused
 
 -- why the file of a journal can't be used
 abbrev pub log_fault : LogFault → NotReopened
-log_fault logs.Memory = NoMemory
+log_fault (logs.NoMemory refused) = NoMemory refused
 log_fault logs.Disk = Log
 log_fault logs.Full = Log
 
@@ -28,7 +28,7 @@ IsOutside (Changed at) = ⊥
 IsOutside OtherJournal = ⊥
 IsOutside (Office fault) = ⊥
 IsOutside Log = Unit {0}
-IsOutside NoMemory = Unit {0}
+IsOutside (NoMemory _) = Unit {0}
 
 -- the journal is none, or another's, or was changed
 abbrev pub IsRefusal : NotReopened → Type 0
@@ -38,4 +38,4 @@ IsRefusal (Changed at) = Unit {0}
 IsRefusal OtherJournal = Unit {0}
 IsRefusal (Office fault) = ⊥
 IsRefusal Log = ⊥
-IsRefusal NoMemory = ⊥
+IsRefusal (NoMemory _) = ⊥

@@ -96,7 +96,7 @@ module _ {X : Type 0} (m : Meaning X) where
   LooksFor old new P (Err NotALine) = ⊥
   LooksFor old new P (Err (Changed at)) = ⊥
   LooksFor old new P (Err Log) = ⊥
-  LooksFor old new P (Err NoMemory) = ⊥
+  LooksFor old new P (Err (NoMemory _)) = ⊥
 
   -- the tables show the event that is held back, and it is one of the writers then; or they don't; or
   -- none is held back
@@ -121,7 +121,7 @@ module _ {X : Type 0} (m : Meaning X) where
   LooksAt old new before after event (Err NotALine) = ⊥
   LooksAt old new before after event (Err (Changed at)) = ⊥
   LooksAt old new before after event (Err Log) = ⊥
-  LooksAt old new before after event (Err NoMemory) = Unit {0}
+  LooksAt old new before after event (Err (NoMemory _)) = Unit {0}
 
   -- the answer is that of the event that is held back, and the tables show all writers
   pub record IsAnswer (old new : X) (writers : Writers) (event : Option Event) (answer : Last)
@@ -143,7 +143,7 @@ module _ {X : Type 0} (m : Meaning X) where
   Asks old new writers event (Err NotALine) = ⊥
   Asks old new writers event (Err (Changed at)) = ⊥
   Asks old new writers event (Err Log) = ⊥
-  Asks old new writers event (Err NoMemory) = Unit {0}
+  Asks old new writers event (Err (NoMemory _)) = Unit {0}
 
   -- a fault of the office has a cause
   abbrev pub HasOfficeCause : (old new : X) → NotReopened → Type 0

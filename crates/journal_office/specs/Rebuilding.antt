@@ -25,7 +25,7 @@ use Rattle.journal_office.specs.Steps.{IsLast, IsUnbegun}
 -- the line may be one that strikes out
 abbrev pub ends_there : Why → Bool
 ends_there (halt.Unread unreadable.Read) = false
-ends_there (halt.Unread unreadable.NoMemory) = false
+ends_there (halt.Unread (unreadable.NoMemory _)) = false
 ends_there _ = true
 
 abbrev pub ends_at : Unreadable → Bool

@@ -127,7 +127,7 @@ module _ (bytes : Option (List ℕ)) where
   Refutes clean (why.Unread unreadable.Unsealed) = IsUnlawful
   Refutes clean (why.Unread unreadable.TornLine) = IsUnlawful
   Refutes clean (why.Unread unreadable.Read) = Unit {0}
-  Refutes clean (why.Unread unreadable.NoMemory) = Unit {0}
+  Refutes clean (why.Unread (unreadable.NoMemory _)) = Unit {0}
   Refutes clean why.NotFounded = IsUnlawful
   Refutes clean (why.Unfounded fault) = Unit {0}
   Refutes clean (why.Unreplayed (causes.Denied denial)) = clean → IsUnlawful

@@ -1,6 +1,7 @@
 //! Why an office and its journal aren't opened again.
 
 use journal::Faulty;
+use no_memory::NoMemory;
 use review_policy::Fault;
 use sealed_log::LogFault;
 use std::alloc::AllocError;
@@ -25,8 +26,8 @@ pub enum NotReopened {
     Office(Fault),
     /// The file of the journal can't be read, cut, written or synced.
     Log,
-    /// There was no memory to read a line. No contract can say when.
-    NoMemory,
+    /// There was no memory to read a line.
+    NoMemory(NoMemory),
 }
 
 impl fmt::Display for NotReopened {
@@ -43,7 +44,7 @@ impl fmt::Display for NotReopened {
             NotReopened::OtherJournal => f.write_str("other-journal"),
             NotReopened::Office(fault) => f.write_str(fault.word()),
             NotReopened::Log => f.write_str("journal"),
-            NotReopened::NoMemory => f.write_str("memory"),
+            NotReopened::NoMemory(_) => f.write_str("memory"),
         }
     }
 }
@@ -58,7 +59,7 @@ impl From<LogFault> for NotReopened {
 
     fn from(fault: LogFault) -> NotReopened {
         match fault {
-            LogFault::Memory => NotReopened::NoMemory,
+            LogFault::NoMemory(witness) => NotReopened::NoMemory(witness),
             LogFault::Disk | LogFault::Full => NotReopened::Log,
         }
     }
@@ -67,11 +68,12 @@ impl From<LogFault> for NotReopened {
 impl From<AllocError> for NotReopened {
     ghost use Rattle.std.specs.Prelude.{◌≡◌};
     ghost use Rattle.journal_office.specs.declared.not_reopened.NotReopened.TheVariants.{NoMemory};
+    ghost use Rattle.no_memory.specs.Witness.{witness};
 
-    ghost from_gives = { λ _ e. e ≡ NoMemory };
+    ghost from_gives = { λ _ e. e ≡ NoMemory witness };
 
-    fn from(_error: AllocError) -> NotReopened {
-        NotReopened::NoMemory
+    fn from(refused: AllocError) -> NotReopened {
+        NotReopened::NoMemory(refused.into())
     }
 }
 
@@ -84,7 +86,7 @@ impl From<Faulty> for NotReopened {
     fn from(why: Faulty) -> NotReopened {
         match why {
             Faulty::NotALine | Faulty::NoEventBefore => NotReopened::NotALine,
-            Faulty::NoMemory => NotReopened::NoMemory,
+            Faulty::NoMemory(witness) => NotReopened::NoMemory(witness),
         }
     }
 }

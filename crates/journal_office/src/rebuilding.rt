@@ -31,7 +31,7 @@ fn ends_there(why: &Why) -> bool
 {
     match why {
         Why::Unread(Unreadable::Read) => false,
-        Why::Unread(Unreadable::NoMemory) => false,
+        Why::Unread(Unreadable::NoMemory(_)) => false,
         _ => true,
     }
 }

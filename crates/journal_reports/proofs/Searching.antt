@@ -29,13 +29,14 @@ use Rattle.journal_reports.specs.Lines.{line_of, text_of}
 use Rattle.journal_reports.specs.Steps.{HasSeen, IsInVain, Looks, LooksInVain, NoneWanted, Searches}
 use Rattle.journal_reports.specs.Writing.{HasLookedUp, HasMet}
 use Rattle.journal_reports.proofs.Looks.{looked_on}
+use Rattle.no_memory.specs.Witness.{witness}
 
 module _ {X : Type 0} (m : Meaning X) (bytes : Option (List ℕ)) where
   -- ---- what stands below a sheet
 
   module _ (here : Place) (es : List (ℕ × Event)) (old new : X) (line : ℕ) where
     -- there was no memory
-    pub no_memory : (none : NoEvidence) → none ≡ why.NoMemory → LooksInVain bytes m here es old new line none
+    pub no_memory : (none : NoEvidence) → none ≡ why.NoMemory witness → LooksInVain bytes m here es old new line none
     no_memory none is = subst (LooksInVain bytes m here es old new line) (sym is) tt
 
     -- the line of the event
@@ -54,7 +55,7 @@ module _ {X : Type 0} (m : Meaning X) (bytes : Option (List ℕ)) where
 
   -- of an issue nothing is looked up
   pub issue_seen : (here : Place) (es : List (ℕ × Event)) (office : X) (placed : ℕ × Event) (result : Result (List ℕ) NoEvidence) → HasReplayed bytes m here es office
-      → IfOk result (λ text. text ≡ issue_text placed) → IfErr result (λ none. none ≡ why.NoMemory) → Looks bytes m here es office office placed.0 (λ h. ending_of None h placed) result
+      → IfOk result (λ text. text ≡ issue_text placed) → IfErr result (λ none. none ≡ why.NoMemory witness) → Looks bytes m here es office office placed.0 (λ h. ending_of None h placed) result
   issue_seen here es office placed (Ok text) before is none = record { clean = λ clean. clean; replayed = before; says = λ clean. is }
   issue_seen here es office placed (Err e) before is none = no_memory here es office office placed.0 e none
 
@@ -85,7 +86,7 @@ module _ {X : Type 0} (m : Meaning X) (bytes : Option (List ℕ)) where
       ending_unseen seen new at why.NotIssued vain = absurd vain
       ending_unseen seen new at why.NoEvent vain = absurd vain
       ending_unseen seen new at why.NoRevision vain = absurd vain
-      ending_unseen seen new at why.NoMemory vain = tt
+      ending_unseen seen new at (why.NoMemory _) vain = tt
 
       -- the revision isn't there
       pub none_seen : (new : X) → HasLookedBack m old new (sheet_at p n) (Ok None) → HasSeen bytes m here es old new look None
@@ -169,7 +170,7 @@ module _ {X : Type 0} (m : Meaning X) (bytes : Option (List ℕ)) where
       unseen why.NotIssued vain = absurd vain
       unseen why.NoEvent vain = absurd vain
       unseen why.NoRevision vain = absurd vain
-      unseen why.NoMemory vain = tt
+      unseen (why.NoMemory _) vain = tt
 
     -- ---- the events
 
@@ -228,4 +229,4 @@ none_found g bytes p n line conn left (why.Unseen at fault) vain = vain
 none_found g bytes p n line conn left why.NotIssued vain = vain
 none_found g bytes p n line conn left why.NoEvent vain = vain
 none_found g bytes p n line conn left why.NoRevision vain = vain
-none_found g bytes p n line conn left why.NoMemory vain = vain
+none_found g bytes p n line conn left (why.NoMemory _) vain = vain

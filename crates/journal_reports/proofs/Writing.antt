@@ -33,6 +33,7 @@ use Rattle.journal_reports.specs.Passing.{Asked, passes}
 use Rattle.journal_reports.specs.Struck.{struck_lines}
 use Rattle.journal_reports.specs.Writing.{AreWritten, HasLine, HasLookedUp, HasNoLine, IsStopped, LooksUp, WritesAll, WritesFirst, WritesNext, WritesPart, WritesText}
 use Rattle.journal_reports.proofs.Looks.{looked_on}
+use Rattle.no_memory.specs.Witness.{witness}
 
 abbrev Line : Type 0
 Line = ℕ × Event
@@ -170,7 +171,7 @@ module _ {X : Type 0} (m : Meaning X) (bytes : Option (List ℕ)) where
         met = none.1.met;
       }
       no_more new why.Write none = absurd none
-      no_more new why.NoMemory none =
+      no_more new (why.NoMemory _) none =
           record { here = here; before = es; told = before.replayed.told; line = placed.0 - 1; none = inr (inl (placed, comes, refl)); written = λ clean. before.written (none clean) }
 
       module _ (seen new : X) (text : List ℕ) (line : HasLine bytes m here es old seen asked placed text) (survives : Survives m seen new) where
@@ -251,7 +252,7 @@ module _ {X : Type 0} (m : Meaning X) (bytes : Option (List ℕ)) where
             Appends-trans from out end (lines_told asked es) (take cut.0 (struck_lines asked (last_line es) (line - last_line es))) (subst (Appends from out) (no_more_lines asked es behind last) was) cut.2,
           );
     })
-    struck_stopped here es old left behind line end why.NoMemory same before last none part = record {
+    struck_stopped here es old left behind line end (why.NoMemory _) same before last none part = record {
       here = here;
       before = es;
       told = before.replayed.told;
@@ -385,7 +386,7 @@ module _ {X : Type 0} (m : Meaning X) (bytes : Option (List ℕ)) where
       stands = stands;
       written = λ clean. (part.0, part.1, Appends-trans old mid new (struck_lines asked 0 (placed.0 - 1 - 0)) (take part.0 (shown_of asked [] placed)) before part.2);
     })
-    first_stopped comes why.NoMemory part = record {
+    first_stopped comes (why.NoMemory _) part = record {
       here = start bytes;
       before = [];
       told = stays (start bytes);
@@ -408,7 +409,7 @@ module _ {X : Type 0} (m : Meaning X) (bytes : Option (List ℕ)) where
     lawful = λ clean. inl refl;
     written = λ clean. part;
   })
-  none_first asked old new placed office comes why.NoMemory part = record {
+  none_first asked old new placed office comes (why.NoMemory _) part = record {
     here = start bytes;
     before = [];
     told = stays (start bytes);
@@ -423,7 +424,7 @@ first_text old new text line (Ok done) same wrote = subst (Appends old new) same
 first_text old new text line (Err reason) same wrote =
     subst (WritesPart old new line) (sym wrote.0) (subst (AppendsPart old new) same wrote.1)
 
-pub first_none : (old new : Option (List ℕ)) (line : List ℕ) (reason : Unwritten) → reason ≡ why.NoMemory → new ≡ old → WritesPart old new line reason
+pub first_none : (old new : Option (List ℕ)) (line : List ℕ) (reason : Unwritten) → reason ≡ why.NoMemory witness → new ≡ old → WritesPart old new line reason
 first_none old new line reason memory same = subst (WritesPart old new line) (sym memory) same
 
 -- why not all lines were written, from the connection on
@@ -432,4 +433,4 @@ pub unwritten : {S : Type 0} (g : Ghosts S) (bytes : Option (List ℕ)) (asked :
 unwritten g bytes asked old new conn left (why.Refused refused) stopped = inr stopped
 unwritten g bytes asked old new conn left (why.Unseen line fault) stopped = stopped
 unwritten g bytes asked old new conn left why.Write stopped = stopped
-unwritten g bytes asked old new conn left why.NoMemory stopped = stopped
+unwritten g bytes asked old new conn left (why.NoMemory _) stopped = stopped

@@ -102,7 +102,7 @@ module _ (bytes : Option (List ℕ)) (p : ProfileName) (n : ℕ) (line : Option 
     IsNoEvidence why.NotIssued = (line ≡ None) × IsNever (meaning_over g) left
     IsNoEvidence why.NoEvent = (is_none line ≡ false) × IsNever (meaning_over g) left
     IsNoEvidence why.NoRevision = IsWithoutRevision (meaning_over g) left
-    IsNoEvidence why.NoMemory = Unit {0}
+    IsNoEvidence (why.NoMemory _) = Unit {0}
 
     -- the evidence, or why there is none
     abbrev pub Proves : Result (List ℕ) NoEvidence → Type 0

@@ -14,11 +14,11 @@ no_evidence_text (why.Unseen line fault) =
 no_evidence_text why.NotIssued = codes "not-issued"
 no_evidence_text why.NoEvent = codes "no-event"
 no_evidence_text why.NoRevision = codes "no-revision"
-no_evidence_text why.NoMemory = codes "memory"
+no_evidence_text (why.NoMemory _) = codes "memory"
 
 abbrev pub unwritten_text : Unwritten → List ℕ
 unwritten_text (unwritten.Refused refused) = refused_text refused
 unwritten_text (unwritten.Unseen line fault) =
     codes "line " ++ decimal line ++ codes ": " ++ fault_word fault
 unwritten_text unwritten.Write = codes "write"
-unwritten_text unwritten.NoMemory = codes "memory"
+unwritten_text (unwritten.NoMemory _) = codes "memory"

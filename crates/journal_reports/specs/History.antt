@@ -177,4 +177,4 @@ module _ (bytes : Option (List ℕ)) (asked : Asked) (old new : Option (List ℕ
         ⊎ IsHalted (meaning_over g) left refused.line refused.why
     IsUnwritten (why.Unseen line fault) = IsBlind (meaning_over g) left line fault
     IsUnwritten why.Write = IsCutIn (meaning_over g) left ⊎ IsCutBehind (meaning_over g) left
-    IsUnwritten why.NoMemory = IsGivenUp (meaning_over g) left
+    IsUnwritten (why.NoMemory _) = IsGivenUp (meaning_over g) left

@@ -37,7 +37,7 @@ module _ (bytes : Option (List ℕ)) {X : Type 0} (m : Meaning X) where
     LooksInVain line why.NotIssued = ⊥
     LooksInVain line why.NoEvent = ⊥
     LooksInVain line why.NoRevision = ⊥
-    LooksInVain line why.NoMemory = Unit {0}
+    LooksInVain line (why.NoMemory _) = Unit {0}
 
     abbrev pub Looks : {A : Type 0} → (line : ℕ) → (History → A) → Result A NoEvidence → Type 0
     Looks line look (Ok found) = HasSeen look found
@@ -58,7 +58,7 @@ module _ (bytes : Option (List ℕ)) (p : ProfileName) (n : ℕ) (line : Option 
   IsInVain left why.NotIssued = (line ≡ None) × IsNever bytes p n line m left
   IsInVain left why.NoEvent = (is_none line ≡ false) × IsNever bytes p n line m left
   IsInVain left why.NoRevision = IsWithoutRevision bytes p n line m left
-  IsInVain left why.NoMemory = Unit {0}
+  IsInVain left (why.NoMemory _) = Unit {0}
 
   abbrev pub Searches : X → Result (List ℕ) NoEvidence → Type 0
   Searches left (Ok text) = IsEvidence bytes p n line m left text

@@ -30,7 +30,7 @@ abbrev pub WritesPart : (old new : Option (List ℕ)) → List ℕ → Unwritten
 WritesPart old new text (why.Refused refused) = ⊥
 WritesPart old new text (why.Unseen line fault) = ⊥
 WritesPart old new text why.Write = AppendsPart old new text
-WritesPart old new text why.NoMemory = new ≡ old
+WritesPart old new text (why.NoMemory _) = new ≡ old
 
 -- the first line was written, or it wasn't
 abbrev pub WritesFirst : (old new : Option (List ℕ)) → List ℕ → Result ⊤ Unwritten → Type 0
@@ -66,7 +66,7 @@ module _ (bytes : Option (List ℕ)) {X : Type 0} (m : Meaning X) where
     HasNoLine placed (why.Refused refused) = ⊥
     HasNoLine placed (why.Unseen line fault) = (line ≡ placed.0) × HasMet fault
     HasNoLine placed why.Write = ⊥
-    HasNoLine placed why.NoMemory = m.is_clean new → m.is_clean old
+    HasNoLine placed (why.NoMemory _) = m.is_clean new → m.is_clean old
 
     abbrev pub MakesLine : Asked → (placed : ℕ × Event) → Result (String Global) Unwritten → Type 0
     MakesLine asked placed (Ok text) = HasLine asked placed (string_bytes text)
@@ -80,7 +80,7 @@ module _ (bytes : Option (List ℕ)) {X : Type 0} (m : Meaning X) where
     IsStopped (why.Unseen line fault) = IsBlind bytes asked old new m left line fault
     IsStopped why.Write =
         IsCutIn bytes asked old new m left ⊎ IsCutBehind bytes asked old new m left
-    IsStopped why.NoMemory = IsGivenUp bytes asked old new m left
+    IsStopped (why.NoMemory _) = IsGivenUp bytes asked old new m left
 
     -- the events are a lawful history, of which the office stands, and the lines up to that of the
     -- last were written

@@ -1,6 +1,7 @@
 //! Why there is no evidence, and why not the whole history was written.
 
 use journal_office::Refused;
+use no_memory::NoMemory;
 use review_policy::Fault;
 use std::alloc::AllocError;
 use std::error::Error;
@@ -20,8 +21,8 @@ pub enum NoEvidence {
     NoEvent,
     /// The revision isn't there before the event of the line.
     NoRevision,
-    /// There was no memory for the text. No contract can say when.
-    NoMemory,
+    /// There was no memory for the text.
+    NoMemory(NoMemory),
 }
 
 impl From<Refused> for NoEvidence {
@@ -51,7 +52,7 @@ impl fmt::Display for NoEvidence {
             NoEvidence::NotIssued => f.write_str("not-issued"),
             NoEvidence::NoEvent => f.write_str("no-event"),
             NoEvidence::NoRevision => f.write_str("no-revision"),
-            NoEvidence::NoMemory => f.write_str("memory"),
+            NoEvidence::NoMemory(_) => f.write_str("memory"),
         }
     }
 }
@@ -69,7 +70,7 @@ pub enum Unwritten {
     /// The writer failed.
     Write,
     /// There was no memory for a line. No contract can say when.
-    NoMemory,
+    NoMemory(NoMemory),
 }
 
 impl From<Refused> for Unwritten {
@@ -86,11 +87,12 @@ impl From<Refused> for Unwritten {
 impl From<AllocError> for Unwritten {
     ghost use Rattle.std.specs.Prelude.{◌≡◌};
     ghost use Rattle.journal_reports.specs.declared.fault.Unwritten.TheVariants.{NoMemory};
+    ghost use Rattle.no_memory.specs.Witness.{witness};
 
-    ghost from_gives = { λ _ e. e ≡ NoMemory };
+    ghost from_gives = { λ _ e. e ≡ NoMemory witness };
 
-    fn from(_error: AllocError) -> Unwritten {
-        Unwritten::NoMemory
+    fn from(refused: AllocError) -> Unwritten {
+        Unwritten::NoMemory(refused.into())
     }
 }
 
@@ -108,7 +110,7 @@ impl fmt::Display for Unwritten {
                 write!(f, "line {line}: {word}")
             }
             Unwritten::Write => f.write_str("write"),
-            Unwritten::NoMemory => f.write_str("memory"),
+            Unwritten::NoMemory(_) => f.write_str("memory"),
         }
     }
 }

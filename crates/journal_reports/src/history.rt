@@ -20,6 +20,7 @@ ghost use Rattle.journal_reports.specs.Lines.{text_in};
 ghost use Rattle.journal_reports.specs.Writing.{IsStopped, LooksUp, MakesLine, WritesAll};
 ghost use Rattle.journal_reports.specs.Writing.{WritesFirst};
 ghost use Rattle.journal_reports.specs.Writing.{WritesNext, WritesText};
+ghost use Rattle.no_memory.specs.Witness.{witness};
 
 use crate::fault::Unwritten;
 use crate::filter::Filter;
@@ -104,7 +105,7 @@ fn line_of<S: Alter>(
             drop(found);
             match made {
                 Ok(text) => Ok(text),
-                Err(_) => Err(Unwritten::NoMemory),
+                Err(refused) => Err(Unwritten::NoMemory(refused.into())),
             }
         }
         Err(fault) => Err(Unwritten::Unseen {
@@ -290,14 +291,14 @@ fn first_line(alloc: Global, first: &Placed, filter: &Filter<'_>) -> Result<Stri
     requires { IsFounding (event_meant first.now.event) }
     ensures line { IfOk result (λ text.
         string_bytes text ≡ shown_of filter.now [] (placed_meant first.now)) }
-    ensures none { IfErr result (λ why. why ≡ Unwritten.NoMemory) }
+    ensures none { IfErr result (λ why. why ≡ Unwritten.NoMemory witness) }
 {
     if !filter.passes(first) {
         return Ok(String::new(alloc));
     }
     match text_in(alloc, filter, first, &None) {
         Ok(text) => Ok(text),
-        Err(_) => Err(Unwritten::NoMemory),
+        Err(refused) => Err(Unwritten::NoMemory(refused.into())),
     }
 }
 

@@ -15,6 +15,7 @@ ghost use Rattle.journal_reports.specs.Evidence.{IsEvidence, IsNoEvidence, endin
 ghost use Rattle.journal_reports.specs.Evidence.{evidence_of, is_wanted, issue_text, none_of};
 ghost use Rattle.journal_reports.specs.Lines.{line_of};
 ghost use Rattle.journal_reports.specs.Steps.{Looks, NoneWanted, Searches};
+ghost use Rattle.no_memory.specs.Witness.{witness};
 
 use crate::fault::NoEvidence;
 use crate::filter::doer_of;
@@ -64,13 +65,13 @@ fn is_wanted(placed: &Placed, name: &ProfileName, number: u32, line: Option<u64>
 // Who issued the revision, and the line that says so.
 fn issue_text(alloc: Global, placed: &Placed) -> Result<Text, NoEvidence>
     ensures text { IfOk result (λ text. text ≡ issue_text (placed_meant placed.now)) }
-    ensures none { IfErr result (λ why. why ≡ NoEvidence.NoMemory) }
+    ensures none { IfErr result (λ why. why ≡ NoEvidence.NoMemory witness) }
 {
     let issuer = doer_of(&placed.event).as_str();
     let line = placed.line;
     match format!(in alloc; "issuer: {issuer}\nline: {line}\n") {
         Ok(text) => Ok(Text::new(text)),
-        Err(_) => Err(NoEvidence::NoMemory),
+        Err(refused) => Err(NoEvidence::NoMemory(refused.into())),
     }
 }
 
@@ -91,7 +92,7 @@ fn history_text<S: Alter>(
             drop(found);
             match made {
                 Ok(text) => Ok(Text::new(text)),
-                Err(_) => Err(NoEvidence::NoMemory),
+                Err(refused) => Err(NoEvidence::NoMemory(refused.into())),
             }
         }
         Err(fault) => Err(NoEvidence::Unseen {
@@ -122,13 +123,13 @@ fn ending<S: Alter>(
 // The sheet, and what stands below it.
 fn joined(alloc: Global, sheet: &Text, ending: &Text) -> Result<Text, NoEvidence>
     ensures text { IfOk result (λ text. text ≡ sheet.now ++ ending.now) }
-    ensures none { IfErr result (λ why. why ≡ NoEvidence.NoMemory) }
+    ensures none { IfErr result (λ why. why ≡ NoEvidence.NoMemory witness) }
 {
     let sheet = sheet.as_str();
     let ending = ending.as_str();
     match format!(in alloc; "{sheet}{ending}") {
         Ok(text) => Ok(Text::new(text)),
-        Err(_) => Err(NoEvidence::NoMemory),
+        Err(refused) => Err(NoEvidence::NoMemory(refused.into())),
     }
 }
 

@@ -5,6 +5,7 @@ ghost use Rattle.review_sheet.specs.Layout.{Adds};
 ghost use Rattle.journal_reports.specs.Struck.{pair_lines, strike_of, strike_text, struck_lines};
 ghost use Rattle.journal_reports.specs.Struck.{struck_of, struck_text};
 ghost use Rattle.journal_reports.specs.declared.fault.Unwritten.TheVariants.{NoMemory};
+ghost use Rattle.no_memory.specs.Witness.{witness};
 
 use crate::fault::Unwritten;
 use crate::filter::Filter;
@@ -105,12 +106,12 @@ pub(crate) fn struck(
 ) -> Result<String, Unwritten>
     ensures text { IfOk result (λ text.
         string_bytes text ≡ struck_lines filter.now behind (last - behind)) }
-    ensures none { IfErr result (λ why. why ≡ NoMemory) }
+    ensures none { IfErr result (λ why. why ≡ NoMemory witness) }
 {
     let mut text = String::new(alloc);
     let first = first_pair(behind, last);
     match push_struck_lines(&mut text, filter, first, last) {
         Ok(()) => Ok(text),
-        Err(_) => Err(Unwritten::NoMemory),
+        Err(refused) => Err(Unwritten::NoMemory(refused.into())),
     }
 }

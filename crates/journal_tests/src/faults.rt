@@ -1,28 +1,36 @@
 //! The words of the faults of logs and of journals, where no command and no line shows them.
 
 use journal::{Faulty, UnreadLine, Unreadable};
+use no_memory::NoMemory;
 use sealed_log::{LogFault, NoBody};
 use std::alloc::AllocError;
 
 // Those of logs, whose lines are sealed.
 fn push_logs(text: &mut String) -> Result<(), AllocError> {
     let (disk, full) = (LogFault::Disk, LogFault::Full);
-    writeln!(text, "{} {disk} {full}", LogFault::Memory)?;
+    let witness = NoMemory::told();
+    writeln!(text, "{} {disk} {full}", LogFault::NoMemory(witness))?;
     let (unsealed, too_long, torn) = (NoBody::Unsealed, NoBody::TooLong, NoBody::Torn);
     writeln!(
         text,
         "{unsealed} {too_long} {torn} {} {}",
         NoBody::Read,
-        NoBody::NoMemory
+        NoBody::NoMemory(witness)
     )
 }
 
 // And those of journals and their lines.
 fn push_journals(text: &mut String) -> Result<(), AllocError> {
-    writeln!(text, "{} {}", UnreadLine::NotALine, UnreadLine::NoMemory)?;
+    let witness = NoMemory::told();
+    writeln!(
+        text,
+        "{} {}",
+        UnreadLine::NotALine,
+        UnreadLine::NoMemory(witness)
+    )?;
     let (not_a_line, nothing) = (Faulty::NotALine, Faulty::NoEventBefore);
-    writeln!(text, "{not_a_line} {nothing} {}", Faulty::NoMemory)?;
-    let (read, memory) = (Unreadable::Read, Unreadable::NoMemory);
+    writeln!(text, "{not_a_line} {nothing} {}", Faulty::NoMemory(witness))?;
+    let (read, memory) = (Unreadable::Read, Unreadable::NoMemory(witness));
     writeln!(text, "{read} {memory}")
 }
 

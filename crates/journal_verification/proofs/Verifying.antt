@@ -50,7 +50,7 @@ module _ (bytes : Option (List ℕ)) where
   refuted Clean clean (why.Unread unreadable.Unsealed) h = h
   refuted Clean clean (why.Unread unreadable.TornLine) h = h
   refuted Clean clean (why.Unread unreadable.Read) h = h
-  refuted Clean clean (why.Unread unreadable.NoMemory) h = h
+  refuted Clean clean (why.Unread (unreadable.NoMemory _)) h = h
   refuted Clean clean why.NotFounded h = h
   refuted Clean clean (why.Unfounded fault) h = h
   refuted Clean clean (why.Unreplayed (causes.Denied denial)) h = λ _. h clean

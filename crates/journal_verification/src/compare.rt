@@ -21,6 +21,8 @@ use crate::rows::Rising;
 use crate::schema::is_same_schema;
 use crate::side_by_side::readings_differ;
 use crate::table::{FURTHER, Table};
+use memory_database::want_of_memory;
+use no_memory::NoMemory;
 use office_rows::fault_of_error;
 use review_policy::Fault;
 use sqlite::{Alter, Connection, Rows};
@@ -52,7 +54,7 @@ fn rowids_rise<S: Alter>(rows: &mut Rows<'_, S>) -> Result<bool, Fault>
         };
         rising = rising.with(row);
     }
-    Err(Fault::NoMemory)
+    Err(Fault::NoMemory(NoMemory::beyond()))
 }
 
 // Whether the rowids of a table rise.
@@ -131,7 +133,7 @@ fn rows_differ<S: Alter, T: Alter>(
 {
     match built.query(table.rows(), &[]) {
         Ok(mut rows) => office_differs(alloc, &mut rows, office, table),
-        Err(_) => Err(Fault::NoMemory),
+        Err(failed) => Err(Fault::NoMemory(want_of_memory(failed))),
     }
 }
 

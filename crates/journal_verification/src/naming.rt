@@ -4,6 +4,7 @@ ghost use Rattle.std.specs.Prelude.{◌≡◌, ◌≢◌, Err, IfOk, IfErr};
 ghost use Rattle.office_rows.specs.Told.{IsOfRow};
 ghost use Rattle.journal_verification.specs.Named.{HasKey, HasProfile, IsKeyOf, IsNamed};
 ghost use Rattle.journal_verification.specs.Named.{IsProfileAt};
+ghost use Rattle.no_memory.specs.Witness.{witness};
 
 use crate::difference::Difference;
 use crate::table::Table;
@@ -50,7 +51,7 @@ fn with_key(alloc: Global, table: Table, row: &Row) -> Result<Difference, Fault>
 /// The difference that a row of a table makes.
 pub(crate) fn named(alloc: Global, table: Table, row: &Row) -> Result<Difference, Fault>
     ensures named { IfOk result (IsNamed table row.now) }
-    ensures cause { IfErr result (λ fault. fault ≡ Fault.NoMemory) }
+    ensures cause { IfErr result (λ fault. fault ≡ Fault.NoMemory witness) }
 {
     match with_key(alloc, table, row) {
         Err(Fault::NotAnOffice) => Ok(Difference::Row(table)),

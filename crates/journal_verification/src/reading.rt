@@ -10,6 +10,7 @@ ghost use Rattle.office_store.specs.Shown.{IsIdle};
 ghost use Rattle.journal_verification.specs.Looked.{HasLooked};
 ghost use Rattle.journal_verification.specs.Reading.{GivesBehind, GivesNext, GivesRest, IsGiving};
 
+use no_memory::NoMemory;
 use office_rows::fault_of_error;
 use review_policy::Fault;
 use sqlite::{Alter, Rows};
@@ -58,7 +59,7 @@ fn read_out<S: Alter>(rows: &mut Rows<'_, S>) -> Result<(), Fault>
             return Ok(());
         };
     }
-    Err(Fault::NoMemory)
+    Err(Fault::NoMemory(NoMemory::beyond()))
 }
 
 /// Reads all rows behind the one that was read last, unless that was the end.

@@ -16,12 +16,15 @@ ghost use Rattle.journal_verification.specs.Reading.{GivesBehind, GivesNext, IsA
 ghost use Rattle.journal_verification.specs.Reading.{TellsNext};
 ghost use Rattle.journal_verification.specs.Same.{TellsRows};
 ghost use Rattle.journal_verification.specs.Texts.{key_width, rows_text};
+ghost use Rattle.no_memory.specs.Witness.{witness};
 
 use crate::difference::Difference;
 use crate::naming::named;
 use crate::reading::{read_on, read_rest};
 use crate::rows::earlier;
 use crate::table::Table;
+use memory_database::want_of_memory;
+use no_memory::NoMemory;
 use review_policy::Fault;
 use sqlite::{Alter, Row, Rows};
 use std::alloc::Global;
@@ -37,7 +40,7 @@ fn row_differs(
         (option_copied left.entry ≡ option_copied right.entry) (λ d. (row : Values)
         × IsEarlier (key_width table) (option_copied left.entry) (option_copied right.entry) row
         × IsNamed table row d)) }
-    ensures cause { IfErr result (λ fault. fault ≡ Fault.NoMemory) }
+    ensures cause { IfErr result (λ fault. fault ≡ Fault.NoMemory witness) }
 {
     let Some(row) = earlier(left, right, table.key_width()) else {
         return Ok(None);
@@ -74,10 +77,10 @@ fn read_both<S: Alter, T: Alter>(
         → IsGiving T.Store office.old.conn.now → IfErr result
         (HasFailed (state T.Store office.old.conn.now) (state T.Store office.new.conn.now)) }
 {
-    let Ok(()) = read_on(built) else {
-        return Err(Fault::NoMemory);
-    };
-    read_on(office)
+    match read_on(built) {
+        Ok(()) => read_on(office),
+        Err(failed) => Err(Fault::NoMemory(want_of_memory(failed))),
+    }
 }
 
 // Reads all further rows of both.
@@ -111,10 +114,10 @@ fn read_rests<S: Alter, T: Alter>(
         → (IsTrue office.old.has_row → IsGiving T.Store office.old.conn.now) → IfErr result
         (HasFailed (state T.Store office.old.conn.now) (state T.Store office.new.conn.now)) }
 {
-    let Ok(()) = read_rest(built) else {
-        return Err(Fault::NoMemory);
-    };
-    read_rest(office)
+    match read_rest(built) {
+        Ok(()) => read_rest(office),
+        Err(failed) => Err(Fault::NoMemory(want_of_memory(failed))),
+    }
 }
 
 // The difference of the next rows, where they aren't one; then all further ones are read too.
@@ -201,5 +204,5 @@ pub(crate) fn readings_differ<S: Alter, T: Alter>(
             return Ok(None);
         };
     }
-    Err(Fault::NoMemory)
+    Err(Fault::NoMemory(NoMemory::beyond()))
 }

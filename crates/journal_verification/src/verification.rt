@@ -97,8 +97,9 @@ pub fn verify<T: Alter, R: BufRead + Drop>(
     ensures unverified { HasCleanDisk (state T.Store office.new) → IfErr result
         (IsUnverified (R.remaining journal) T.Store kept mark office.old office.new) }
 {
-    let Ok(conn) = open_in_memory(alloc) else {
-        return Err(Unverified::Fault(Fault::NoMemory));
+    let conn = match open_in_memory(alloc) {
+        Ok(conn) => conn,
+        Err(refused) => return Err(Unverified::Fault(Fault::NoMemory(refused.into()))),
     };
     match rebuild(alloc, conn, journal, line_of(kept)) {
         Ok(rebuilt) => {

@@ -61,7 +61,7 @@ pub line_reads : (r : Result Request LineFault) (o : Option PlainRequest) → Gi
 line_reads (Ok r) o g = rw g refl
 line_reads (Err NotJson) o g = absurd g
 line_reads (Err NotARequest) o g = rw g refl
-line_reads (Err NoMemory) o g = tt
+line_reads (Err (NoMemory _)) o g = tt
 
 -- ---- the roles of a list
 

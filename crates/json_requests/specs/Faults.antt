@@ -12,7 +12,7 @@ use Rattle.json_requests.specs.Plain.{PlainRequest, plain}
 abbrev pub Lacks : {Y : Type 0} → LineFault → Option Y → Type 0
 Lacks NotJson part = ⊥
 Lacks NotARequest part = part ≡ None
-Lacks NoMemory part = Unit {0}
+Lacks (NoMemory _) part = Unit {0}
 
 -- a part of a line is read as the definition has it
 abbrev pub Gives : {X Y : Type 0} → (X → Y) → Result X LineFault → Option Y → Type 0
@@ -23,7 +23,7 @@ Gives view (Err e) part = Lacks e part
 abbrev pub Tells : LineFault → Result PlainRequest BadLine → Type 0
 Tells NotJson asked = asked ≡ Err bad.NotJson
 Tells NotARequest asked = asked ≡ Err bad.NotARequest
-Tells NoMemory asked = Unit {0}
+Tells (NoMemory _) asked = Unit {0}
 
 -- a line is read as the definition has it
 abbrev pub Reads : Result Request LineFault → Result PlainRequest BadLine → Type 0

@@ -25,7 +25,7 @@ fn value_of<'a>(
     match Tree::from_slice(alloc, body, scratch) {
         Ok(value) => Ok(value),
         Err(ReadFault::NotJson) => Err(LineFault::NotARequest),
-        Err(ReadFault::NoMemory) => Err(LineFault::NoMemory),
+        Err(ReadFault::NoMemory(witness)) => Err(LineFault::NoMemory(witness)),
     }
 }
 

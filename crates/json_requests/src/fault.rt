@@ -1,5 +1,6 @@
 //! Why no request was read of a line.
 
+use no_memory::NoMemory;
 use std::alloc::AllocError;
 use thiserror::Error;
 
@@ -12,18 +13,19 @@ pub enum LineFault {
     /// It is JSON, and not of the form of a request.
     #[error("not-a-request")]
     NotARequest,
-    /// There was no memory to read it. No contract can say when.
+    /// There was no memory to read it.
     #[error("memory")]
-    NoMemory,
+    NoMemory(NoMemory),
 }
 
 impl From<AllocError> for LineFault {
     ghost use Rattle.std.specs.Prelude.{◌≡◌};
     ghost use Rattle.json_requests.specs.declared.fault.LineFault.TheVariants.{NoMemory};
+    ghost use Rattle.no_memory.specs.Witness.{witness};
 
-    ghost from_gives = { λ _ e. e ≡ NoMemory };
+    ghost from_gives = { λ _ e. e ≡ NoMemory witness };
 
-    fn from(_error: AllocError) -> LineFault {
-        LineFault::NoMemory
+    fn from(refused: AllocError) -> LineFault {
+        LineFault::NoMemory(refused.into())
     }
 }

@@ -31,7 +31,7 @@ pub fn word_of(alloc: Global, value: &Tree<'_>, name: &str) -> Result<Word, Line
         Some(text) => match Word::new(alloc, text) {
             Ok(word) => Ok(word),
             Err(WordFault::NotAWord) => Err(LineFault::NotARequest),
-            Err(WordFault::NoMemory) => Err(LineFault::NoMemory),
+            Err(WordFault::NoMemory(witness)) => Err(LineFault::NoMemory(witness)),
         },
     }
 }
@@ -46,7 +46,7 @@ pub fn token_of(alloc: Global, value: &Tree<'_>) -> Result<Token, LineFault>
         Some(text) => match Token::new(alloc, text) {
             Ok(token) => Ok(token),
             Err(WordFault::NotAWord) => Err(LineFault::NotARequest),
-            Err(WordFault::NoMemory) => Err(LineFault::NoMemory),
+            Err(WordFault::NoMemory(witness)) => Err(LineFault::NoMemory(witness)),
         },
     }
 }

@@ -56,6 +56,6 @@ pub fn read_line(alloc: Global, line: &[u8]) -> Result<Request, LineFault>
     match Tree::from_slice(alloc, line, &mut scratch) {
         Ok(value) => request_of(alloc, &value),
         Err(ReadFault::NotJson) => Err(LineFault::NotJson),
-        Err(ReadFault::NoMemory) => Err(LineFault::NoMemory),
+        Err(ReadFault::NoMemory(witness)) => Err(LineFault::NoMemory(witness)),
     }
 }

@@ -1,6 +1,7 @@
 //! Why bytes are no JSON value.
 
 use json::Invalid;
+use no_memory::NoMemory;
 use std::alloc::{AllocError, AllocFailed};
 
 /// Why bytes were not read.
@@ -9,7 +10,7 @@ pub enum ReadFault {
     /// They are no JSON value.
     NotJson,
     /// Memory was refused.
-    NoMemory,
+    NoMemory(NoMemory),
 }
 
 impl From<Invalid> for ReadFault {
@@ -26,21 +27,23 @@ impl From<Invalid> for ReadFault {
 impl From<AllocError> for ReadFault {
     ghost use Rattle.std.specs.Prelude.{◌≡◌};
     ghost use Rattle.json_tree.specs.declared.fault.ReadFault.TheVariants.{NoMemory};
+    ghost use Rattle.no_memory.specs.Witness.{witness};
 
-    ghost from_gives = { λ _ fault. fault ≡ NoMemory };
+    ghost from_gives = { λ _ fault. fault ≡ NoMemory witness };
 
-    fn from(_refused: AllocError) -> ReadFault {
-        ReadFault::NoMemory
+    fn from(refused: AllocError) -> ReadFault {
+        ReadFault::NoMemory(refused.into())
     }
 }
 
 impl<T: Drop> From<AllocFailed<T>> for ReadFault {
     ghost use Rattle.std.specs.Prelude.{◌≡◌};
     ghost use Rattle.json_tree.specs.declared.fault.ReadFault.TheVariants.{NoMemory};
+    ghost use Rattle.no_memory.specs.Witness.{witness};
 
-    ghost from_gives = { λ _ fault. fault ≡ NoMemory };
+    ghost from_gives = { λ _ fault. fault ≡ NoMemory witness };
 
-    fn from(_refused: AllocFailed<T>) -> ReadFault {
-        ReadFault::NoMemory
+    fn from(refused: AllocFailed<T>) -> ReadFault {
+        ReadFault::NoMemory(refused.into())
     }
 }

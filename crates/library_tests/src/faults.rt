@@ -1,6 +1,7 @@
 //! The words of faults, where no command and no line shows them.
 
 use json_requests::LineFault;
+use no_memory::NoMemory;
 use review_policy::WordFault;
 use std::alloc::AllocError;
 use streams::{TooLong, Unread, WriteFailed};
@@ -8,15 +9,29 @@ use streams::{TooLong, Unread, WriteFailed};
 // The faults of streams.
 fn push_streams(text: &mut String) -> Result<(), AllocError> {
     let (failed, too_many) = (Unread::Failed, Unread::TooManyReads);
-    writeln!(text, "{failed} {too_many} {}", Unread::NoMemory)?;
+    writeln!(
+        text,
+        "{failed} {too_many} {}",
+        Unread::NoMemory(NoMemory::told())
+    )?;
     writeln!(text, "{TooLong} {WriteFailed}")
 }
 
 // Those of words, and of the lines of requests.
 fn push_requests(text: &mut String) -> Result<(), AllocError> {
-    writeln!(text, "{} {}", WordFault::NotAWord, WordFault::NoMemory)?;
+    let witness = NoMemory::told();
+    writeln!(
+        text,
+        "{} {}",
+        WordFault::NotAWord,
+        WordFault::NoMemory(witness)
+    )?;
     let (not_json, not_a_request) = (LineFault::NotJson, LineFault::NotARequest);
-    writeln!(text, "{not_json} {not_a_request} {}", LineFault::NoMemory)
+    writeln!(
+        text,
+        "{not_json} {not_a_request} {}",
+        LineFault::NoMemory(witness)
+    )
 }
 
 const WORDS: &str = "\

@@ -6,8 +6,9 @@ ghost use Rattle.memory_database.specs.Errors.{opening_error};
 
 use crate::file::VolatileFile;
 use crate::open::options;
+use crate::want::want_of_memory;
 use sqlite::{Connection, Error, ErrorCode, FileStore, Files};
-use std::alloc::Global;
+use std::alloc::{AllocError, Global};
 
 /// The store of a database in a copy of its files.
 pub type CopyStore = FileStore<VolatileFile>;
@@ -18,7 +19,7 @@ fn opening_error(error: Error) -> Error
 {
     match error {
         Error::SqliteFailure(ErrorCode::SystemIoFailure | ErrorCode::DiskFull) => {
-            Error::SqliteFailure(ErrorCode::OutOfMemory)
+            AllocError::from(want_of_memory(error)).into()
         }
         other => other,
     }

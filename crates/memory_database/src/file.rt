@@ -4,6 +4,7 @@ ghost use Rattle.std.specs.Prelude.{◌≡◌, [], length, true, false, refl, is
 ghost use Rattle.sqlite_disk.specs.Disk.{CountsFault, Cut, Holds, Torn};
 ghost use Rattle.sqlite_disk.specs.Refusal.{finds_no_room};
 
+use no_memory::NoMemory;
 use sqlite_disk::{Disk, Tally};
 use std::alloc::{AllocError, Global};
 use std::io;
@@ -117,9 +118,9 @@ fn count(outcome: Result<(), AllocError>, faults: &mut u64) -> io::Result<()>
 {
     match outcome {
         Ok(()) => Ok(()),
-        Err(_) => {
+        Err(refused) => {
             *faults = faults.saturating_add(1);
-            Err(io::ErrorKind::OutOfMemory.into())
+            Err(refused.into())
         }
     }
 }
@@ -139,7 +140,7 @@ fn overwrite(file: &mut Vec<u8>, at: usize, bytes: &[u8]) -> Result<(), AllocErr
     ensures err { OnErr result (file.new.items ≡ file.old.items) }
 {
     let Some(end) = at.checked_add(bytes.len()) else {
-        return Err(AllocError);
+        return Err(NoMemory::beyond().into());
     };
     if end > file.len() {
         resize(file, end)?;

@@ -7,6 +7,7 @@ ghost use Rattle.memory_database.specs.MemoryStore.{HasNoTable, over_memory};
 
 use crate::file::VolatileFile;
 use crate::store::InMemory;
+use crate::want::want_of_memory;
 use sqlite::{Connection, Error, ErrorCode, FileStore, Files};
 use sqlite_pager::{Options, Pager};
 use sqlite_store::{OpenError, Unopened};
@@ -27,25 +28,21 @@ pub(crate) fn options() -> Options {
     options
 }
 
-// A store without a table, in two new files.
-fn new_store(alloc: Global) -> Result<MemoryStore, OpenError>
-    ensures made { IfOk result HasNoTable }
-    ensures fault { result ≢ Err OpenError.Refused }
+// A store without a table, in two new files. What is refused there is refused for want of memory.
+fn new_store(alloc: Global) -> Result<MemoryStore, AllocError>
+    ensures { IfOk result HasNoTable }
 {
     let size = PageSize::new(PAGE_SIZE).unwrap();
     let files = Files {
         log: VolatileFile::new(alloc),
         db: VolatileFile::new(alloc),
     };
-    let Ok(pager) = Pager::new(alloc, files, size, options()) else {
-        return Err(OpenError::OutOfMemory);
-    };
-    let Ok(unopened) = Unopened::new(alloc, pager, &[]) else {
-        return Err(OpenError::OutOfMemory);
-    };
+    let pager = Pager::new(alloc, files, size, options())?;
+    let unopened = Unopened::new(alloc, pager, &[])?;
     match unopened.create() {
         Ok(store) => Ok(InMemory::new(store)),
-        Err((error, _)) => Err(error),
+        Err((OpenError::Refused, _)) => unreachable!(),
+        Err((failed, _)) => Err(want_of_memory(failed).into()),
     }
 }
 
@@ -67,11 +64,9 @@ pub fn open_in_memory(alloc: Global) -> Result<Connection<MemoryStore>, AllocErr
     ensures empty { IfOk result (λ conn. IsEmpty (state over_memory conn)) }
     ensures fresh { IfOk result IsNew }
 {
-    let Ok(store) = new_store(alloc) else {
-        return Err(AllocError);
-    };
+    let store = new_store(alloc)?;
     match connect(alloc, store) {
         Ok(conn) => Ok(conn),
-        Err(_) => Err(AllocError),
+        Err(failed) => Err(want_of_memory(failed).into()),
     }
 }

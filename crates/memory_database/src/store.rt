@@ -5,6 +5,7 @@ ghost use Rattle.sqlite_trees.specs.View.{is_fault};
 ghost use Rattle.memory_database.specs.Errors.{memory_error};
 ghost use Rattle.sqlite_trees.specs.declared.error.StoreError.TheVariants.{OutOfMemory};
 
+use crate::want::want_of_memory;
 use sqlite_trees::error::StoreError;
 use sqlite_trees::schema::Object;
 use sqlite_trees::store::{Alter, Direction, Shape, Store};
@@ -33,7 +34,7 @@ fn memory_error(error: StoreError) -> StoreError
     match error {
         StoreError::Broken => StoreError::Broken,
         StoreError::Unstorable => StoreError::Unstorable,
-        _ => StoreError::OutOfMemory,
+        failed => AllocError::from(want_of_memory(failed)).into(),
     }
 }
 

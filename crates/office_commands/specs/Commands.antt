@@ -25,6 +25,7 @@ use Rattle.reading_commands.specs.Documents.{HasChecked, HasCompared, HasExecute
 use Rattle.reading_commands.specs.Reports.{HasProved, WasToldAt}
 use Rattle.reading_commands.specs.Verifications.{HasVerified}
 use Rattle.office_commands.specs.Unread.{unread_by}
+use Rattle.no_memory.specs.Witness.{witness}
 
 -- a fact holds where a flag is set
 abbrev pub IfSet : Bool → Type 0 → Type 0
@@ -104,8 +105,8 @@ module _ {E : Type 0} (said_of : E → Option (List ℕ)) (errors said : Counted
     HasTold (Version text) status = IsPrinted (string_bytes text) status
     HasTold (Refused text) status =
         (wrote ≡ output) × AreSaid said_of errors said (string_bytes text) × (status ≡ 2)
-    HasTold NoMemory status =
-        (wrote ≡ output) × IsRefusal said_of errors said fault.NoMemory None × (status ≡ 1)
+    HasTold (NoMemory _) status =
+        (wrote ≡ output) × IsRefusal said_of errors said (fault.NoMemory witness) None × (status ≡ 1)
 
     -- Words were carried out: the command that they ask for, with the first noted and this done where it
     -- ended well, and the second noted and that done where it failed, or why they ask for none was told.

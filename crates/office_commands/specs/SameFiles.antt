@@ -2,12 +2,13 @@
 use Rattle.std.specs.Prelude.{◌≡◌, ◌⊎◌, ℕ, List, Bool, true, false, Option, Some, None, Result, Ok}
 use Rattle.std.specs.Prelude.{Err, option_copied}
 use Rattle.std.proofs.Common.{Bor}
-use Rattle.std.specs.declared.io.Error.{Error}
+use Rattle.std.specs.declared.alloc.AllocError.{AllocError}
 use Rattle.command_line.specs.Meaning.{journal_named}
 use Rattle.command_line.specs.declared.command.Command.{Command}
 use Rattle.command_line.specs.declared.command.Command.TheVariants as command
 use Rattle.command_host.specs.declared.fault.CommandFault.{CommandFault}
 use Rattle.command_host.specs.declared.fault.CommandFault.TheVariants as fault
+use Rattle.no_memory.specs.Witness.{witness}
 
 -- the texts of two paths that may be given
 abbrev pub texts_of : Option (Bor (List ℕ) × Bor (List ℕ)) → Option (List ℕ × List ℕ)
@@ -28,7 +29,7 @@ files_named (command.Rebuild database journal) = Some (journal.now, database.now
 files_named _ = None
 
 -- what came of asking whether the file of a journal and a database are one
-module _ (Compares : (journal database : List ℕ) → Result Bool Error → Type 0) where
+module _ (Compares : (journal database : List ℕ) → Result Bool AllocError → Type 0) where
   -- a command names no two such files; or they aren't one
   abbrev pub AreApart : Option (List ℕ × List ℕ) → Type 0
   AreApart None = Unit {0}
@@ -42,7 +43,7 @@ module _ (Compares : (journal database : List ℕ) → Result Bool Error → Typ
   AreUnapart None why = ⊥
   AreUnapart (Some files) why =
       ((why ≡ fault.SameFile) × Compares files.0 files.1 (Ok true))
-      ⊎ ((why ≡ fault.NoMemory) × ((e : Error) × Compares files.0 files.1 (Err e)))
+      ⊎ ((why ≡ fault.NoMemory witness) × ((e : AllocError) × Compares files.0 files.1 (Err e)))
 
   abbrev pub IsUnapart : Command → CommandFault → Type 0
   IsUnapart asked = AreUnapart (files_named asked)

@@ -221,8 +221,8 @@ fn tell<O: Write, E: Write>(
             say_lines(alloc, errors, text.as_str());
             2
         }
-        WordsFault::NoMemory => {
-            refuse(alloc, errors, &CommandFault::NoMemory, None);
+        WordsFault::NoMemory(witness) => {
+            refuse(alloc, errors, &CommandFault::NoMemory(*witness), None);
             1
         }
     }

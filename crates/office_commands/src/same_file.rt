@@ -48,6 +48,6 @@ pub(crate) fn see_apart<J: Journals>(
     match journals.is_one_file(journal, database) {
         Ok(false) => Ok(()),
         Ok(true) => Err(CommandFault::SameFile),
-        Err(_) => Err(CommandFault::NoMemory),
+        Err(refused) => Err(CommandFault::NoMemory(refused.into())),
     }
 }

@@ -50,6 +50,7 @@ use Rattle.office_desk.specs.Offices.{IsOffice}
 use Rattle.office_desk.specs.Meant.{Keeps, meaning_over}
 use Rattle.office_desk.proofs.Handling.{caused, lawful_after, passing, was_open_by}
 use Rattle.office_judging.proofs.Judging.{never_both}
+use Rattle.no_memory.specs.Witness.{witness}
 
 -- ---- what is written
 
@@ -198,9 +199,9 @@ module _ {S : Type 0} (g : Ghosts S) (before old new : Held S) (allowed : Allowe
         ]
 
     -- or has no memory for it
-    pub unwritten_memory : (h : History) → IsOffice h (state g before) → HasCleanDisk (state g new) → IsTrue (state g old).is_open → fault ≡ NoMemory
-        → RefusesEvent (meaning_over g) before h (judge h) NoMemory
-    unwritten_memory h office clean is_open is = stopped NoMemory (λ t u makes own idle shows. subst (IsCause g (statements_of w) old) is (asks.cause clean).cause) h office clean is_open
+    pub unwritten_memory : (h : History) → IsOffice h (state g before) → HasCleanDisk (state g new) → IsTrue (state g old).is_open → fault ≡ NoMemory witness
+        → RefusesEvent (meaning_over g) before h (judge h) (NoMemory witness)
+    unwritten_memory h office clean is_open is = stopped (NoMemory witness) (λ t u makes own idle shows. subst (IsCause g (statements_of w) old) is (asks.cause clean).cause) h office clean is_open
 
     pub unwritten_office : (h : History) → IsOffice h (state g before) → IsOffice h (state g new)
     unwritten_office h office = record {

@@ -37,6 +37,7 @@ use Rattle.office_judging.specs.Judged.{ComesTo, IsAskedBy, IsAskedIfAllowed, Is
 use Rattle.office_desk.specs.Meant.{meaning_over}
 use Rattle.office_desk.specs.Replayed.{IsCaused}
 use Rattle.office_judging.proofs.Judging.{never_both}
+use Rattle.no_memory.specs.Witness.{witness}
 
 -- ---- the office after a request
 
@@ -51,16 +52,16 @@ lawful_after h r (accepted reply (Some e)) token forms is lawful =
 lawful_after h r (denied denial fault) token forms is lawful = lawful
 
 pub passing : (h : History) (r : Request) (fault : TheFault) → fault ≢ NotAnOffice → IsAnswer h r (Fault fault)
-passing h r NoMemory passes = tt
+passing h r (NoMemory _) passes = tt
 passing h r Disk passes = tt
 passing h r Full passes = tt
 passing h r NotAnOffice passes = absurd (passes refl)
 
 -- a fault over the connection is one of the office, which may refuse what was to be written
 pub caused_by : {S : Type 0} (g : Ghosts S) (old new : Held S) (Refuses : TheFault → Type 0) (fault : TheFault) → fault ≢ NotAnOffice
-    → (fault ≡ NoMemory → IsUnwritten (meaning_over g) old new ⊎ Refuses NoMemory)
+    → (fault ≡ NoMemory witness → IsUnwritten (meaning_over g) old new ⊎ Refuses (NoMemory witness))
     → HasFailed (state g old) (state g new) fault ⊎ Refuses fault → IsCaused (meaning_over g) old new Refuses fault
-caused_by g old new Refuses NoMemory passes memory cause = memory refl
+caused_by g old new Refuses (NoMemory _) passes memory cause = memory refl
 caused_by g old new Refuses Disk passes memory (inl (inl risen)) = λ is_open. inl risen
 caused_by g old new Refuses Disk passes memory (inl (inr shut)) = λ is_open. never_both (state g old).is_open is_open shut
 caused_by g old new Refuses Disk passes memory (inr refused) = λ is_open. inr refused
@@ -68,9 +69,9 @@ caused_by g old new Refuses Full passes memory cause = cause
 caused_by g old new Refuses NotAnOffice passes memory cause = absurd (passes refl)
 
 -- and so is that of a request
-pub caused : {S : Type 0} (g : Ghosts S) (old new : Held S) (h : History) (r : Request) (fault : TheFault) → fault ≢ NotAnOffice → (fault ≡ NoMemory → LacksMemory (meaning_over g) old new h r)
+pub caused : {S : Type 0} (g : Ghosts S) (old new : Held S) (h : History) (r : Request) (fault : TheFault) → fault ≢ NotAnOffice → (fault ≡ NoMemory witness → LacksMemory (meaning_over g) old new h r)
     → HasFailed (state g old) (state g new) fault ⊎ RefusesEvent (meaning_over g) old h (verdict h r) fault → HasCause (meaning_over g) old new h r (Fault fault)
-caused g old new h r NoMemory passes memory cause = memory refl
+caused g old new h r (NoMemory _) passes memory cause = memory refl
 caused g old new h r Disk passes memory cause = caused_by g old new (RefusesEvent (meaning_over g) old h (verdict h r)) Disk passes memory cause
 caused g old new h r Full passes memory cause = cause
 caused g old new h r NotAnOffice passes memory cause = absurd (passes refl)

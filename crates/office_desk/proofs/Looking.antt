@@ -76,7 +76,7 @@ module _ {S : Type 0} (g : Ghosts S) (old new : Held S) where
 
   -- a fault over the connection is one of the office
   met : (fault : Fault) → HasFailed (state g old) (state g new) fault → IsMetBetween (meaning_over g) old new fault
-  met NoMemory failed = tt
+  met (NoMemory _) failed = tt
   met Disk (inl risen) = λ is_open. risen
   met Disk (inr shut) = λ is_open. never_both (state g old).is_open is_open shut
   met Full risen = risen

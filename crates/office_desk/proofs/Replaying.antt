@@ -62,6 +62,7 @@ use Rattle.office_desk.specs.Replayed.{HasNoAsk, HasOtherText, IsAskOf, IsDenied
 use Rattle.office_desk.proofs.Carrying.{IsGranted, lawful_with, unwritten_cause, unwritten_kept, unwritten_memory, unwritten_office, written_crash, written_formed, written_stands, written_survives}
 use Rattle.office_judging.proofs.Verdicts.{allowed_is}
 use Rattle.office_desk.proofs.Handling.{caused_by, left_all}
+use Rattle.no_memory.specs.Witness.{witness}
 
 -- ---- what an event asks
 
@@ -383,7 +384,7 @@ module _ {S : Type 0} (g : Ghosts S) (old mid : Held S) (e : Event) (a : Ask) (a
               (λ same. written_formed g old mid new allowed (λ h. verdict_of h (user_of h name) a) left_mid granted_again (Err fault) asked h office clean (ap Err same))
               (λ same. inr (
                 lawful_again h office before,
-                subst (λ v. RefusesEvent (meaning_over g) old h v faults.NoMemory) (verdict_again h office before)
+                subst (λ v. RefusesEvent (meaning_over g) old h v (faults.NoMemory witness)) (verdict_again h office before)
                     (unwritten_memory g old mid new allowed (λ h. verdict_of h (user_of h name) a) left_mid granted_again fault asked h office clean still same),
               ))
               (elim (unwritten_cause g old mid new allowed (λ h. verdict_of h (user_of h name) a) left_mid granted_again fault asked h office clean still) [

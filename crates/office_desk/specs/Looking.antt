@@ -32,7 +32,7 @@ module _ {X : Type 0} (m : Meaning X) where
   -- a fault other than `memory` was met by a call between the two, or it is `disk` and a fault had
   -- shut the office before; none is for the form of its tables
   abbrev pub IsMetBetween : (old new : X) → Fault → Type 0
-  IsMetBetween old new faults.NoMemory = Unit {0}
+  IsMetBetween old new (faults.NoMemory _) = Unit {0}
   IsMetBetween old new faults.Disk = m.is_open old → HasRisen (m.faults old) (m.faults new)
   IsMetBetween old new faults.Full = HasRisen (m.faults old) (m.faults new)
   IsMetBetween old new faults.NotAnOffice = ⊥

@@ -29,6 +29,7 @@ use Rattle.office_judging.specs.declared.refusal.Refusal.{Refusal}
 use Rattle.office_judging.specs.declared.refusal.Refusal.TheVariants as refusals
 use Rattle.office_desk.specs.declared.replay.Unreplayed.{Unreplayed}
 use Rattle.office_desk.specs.declared.replay.Unreplayed.TheVariants as causes
+use Rattle.no_memory.specs.Witness.{witness}
 
 -- ---- what an event asks
 
@@ -64,7 +65,7 @@ abbrev pub HasNoAsk : Event → Unreplayed → Type 0
 HasNoAsk e (causes.Denied denial) = ⊥
 HasNoAsk e causes.Founding = caller_of e ≡ None
 HasNoAsk e causes.OtherText = ⊥
-HasNoAsk e (causes.Fault fault) = fault ≡ faults.NoMemory
+HasNoAsk e (causes.Fault fault) = fault ≡ faults.NoMemory witness
 
 -- ---- why it doesn't happen again
 
@@ -103,7 +104,7 @@ module _ {X : Type 0} (m : Meaning X) where
   -- a fault was met, or it is `disk` and the office was shut before; there was no memory
   -- before anything was written, or for what was to be written
   abbrev pub IsCaused : (old new : X) → (Refuses : TheFault → Type 0) → TheFault → Type 0
-  IsCaused old new Refuses faults.NoMemory = IsUnwritten m old new ⊎ Refuses faults.NoMemory
+  IsCaused old new Refuses (faults.NoMemory refused) = IsUnwritten m old new ⊎ Refuses (faults.NoMemory refused)
   IsCaused old new Refuses faults.Disk =
       m.is_open old → HasRisen (m.faults old) (m.faults new) ⊎ Refuses faults.Disk
   IsCaused old new Refuses faults.Full =

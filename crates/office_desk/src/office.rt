@@ -161,7 +161,7 @@ impl<S: Alter> Office<S> {
     ///
     /// # Errors
     ///
-    /// `Memory`; `Disk` or `Full` where the disk failed or refused a call, and `Disk` once that has
+    /// `NoMemory`; `Disk` or `Full` where the disk failed or refused a call, and `Disk` once that has
     /// shut the office; `NotAnOffice` only where the tables are those of no lawful history.
     pub fn shows(&mut self, alloc: Global, event: &Event) -> Result<bool, Fault>
         ensures { HasLooked (meaning_over S.Store)

@@ -66,11 +66,12 @@ impl From<AllocError> for Unreplayed {
     ghost use Rattle.std.specs.Prelude.{◌≡◌};
     ghost use Rattle.review_policy.specs.declared.fault.Fault.TheVariants.{NoMemory};
     ghost use Rattle.office_desk.specs.declared.replay.Unreplayed.TheVariants.{Fault};
+    ghost use Rattle.no_memory.specs.Witness.{witness};
 
-    ghost from_gives = { λ _ unreplayed. unreplayed ≡ Fault NoMemory };
+    ghost from_gives = { λ _ unreplayed. unreplayed ≡ Fault (NoMemory witness) };
 
-    fn from(_error: AllocError) -> Unreplayed {
-        Unreplayed::Fault(Fault::NoMemory)
+    fn from(refused: AllocError) -> Unreplayed {
+        Unreplayed::Fault(Fault::NoMemory(refused.into()))
     }
 }
 

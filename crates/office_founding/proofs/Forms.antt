@@ -25,6 +25,7 @@ use Rattle.office_founding.specs.Migration.{ShowsOldIfOpen}
 use Rattle.office_store.proofs.Calls.{by_open, if_open, read_told, told_ok, told_found, told_formed, told_shut}
 use Rattle.office_founding.proofs.OfficeRow.{shown_row}
 use Rattle.office_founding.proofs.OldReads.{IsOldRow, reads_old}
+use Rattle.no_memory.specs.Witness.{witness}
 
 -- ---- the form
 
@@ -127,7 +128,7 @@ module _ (old new : State) (added : Result (Unit {0}) OpeningFault) (form : Resu
       some : (t : Tables) → Shows old t → (f : Form) → f ≡ new_form t.listed → (a : ℕ) → Tells f (Ok a) → a ≡ t.listed
       some t shows f found a tells = let k : ◌≡◌ {A = Result ℕ Fault} (Ok a) (Ok t.listed) = tells ∙ opens t shows f found in let n : a ≡ t.listed = cc in n
 
-      none : (t : Tables) → Shows old t → (f : Form) → f ≡ new_form t.listed → (why : Fault) → Tells f (Err why) → why ≡ NoMemory
+      none : (t : Tables) → Shows old t → (f : Form) → f ≡ new_form t.listed → (why : Fault) → Tells f (Err why) → why ≡ NoMemory witness
       none t shows f found why tells = let k : ◌≡◌ {A = Result ℕ Fault} (Err why) (Ok t.listed) = tells ∙ opens t shows f found in absurd cc
 
   -- an office of schema 1 isn't opened, and is refused for that or by a failure

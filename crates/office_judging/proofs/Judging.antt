@@ -19,15 +19,16 @@ use Rattle.office_policy.specs.TablesOf.{tables_of}
 use Rattle.office_judging.specs.declared.refusal.Refusal.{Refusal}
 use Rattle.office_judging.specs.declared.refusal.Refusal.TheVariants as refusals
 use Rattle.office_judging.specs.Judged.{HasCause, Judges, Tells}
+use Rattle.no_memory.specs.Witness.{witness}
 
 pub never_both : {P : Type 0} (b : Bool) → IsTrue b → b ≡ false → P
 never_both true is_open shut = absurd cc
 never_both false is_open shut = absurd cc
 
-never_memory : {P : Type 0} (f : Fault) → f ≡ NoMemory → f ≡ NotAnOffice → P
-never_memory f memory same = absurd (let k : NoMemory ≡ NotAnOffice = sym memory ∙ same in cc)
+never_memory : {P : Type 0} (f : Fault) → f ≡ NoMemory witness → f ≡ NotAnOffice → P
+never_memory f memory same = absurd (let k : (NoMemory witness) ≡ NotAnOffice = sym memory ∙ same in cc)
 
-of_memory : (old new : State) (f : Fault) → f ≡ NoMemory → HasFailed old new f
+of_memory : (old new : State) (f : Fault) → f ≡ NoMemory witness → HasFailed old new f
 of_memory old new f memory = subst (HasFailed old new) (sym memory) tt
 
 -- a `?` that leaves with this refusal
@@ -82,7 +83,7 @@ read_fails_as old new F H f read = record {
 }
 
 -- a fault of memory after a read
-pub read_in_vain : {A B : Type 0} (old new : State) (F : Tables → A → Type 0) (H : Tables → B → Type 0) (a : A) (f : Fault) → f ≡ NoMemory → IsRead old new (Ok a) F → IsRead {A = B} old new (Err f) H
+pub read_in_vain : {A B : Type 0} (old new : State) (F : Tables → A → Type 0) (H : Tables → B → Type 0) (a : A) (f : Fault) → f ≡ NoMemory witness → IsRead old new (Ok a) F → IsRead {A = B} old new (Err f) H
 read_in_vain old new F H a f memory read = record {
   leaves = record {
     idle = read.leaves.idle;
@@ -188,7 +189,7 @@ module _ {A : Type 0} {Found : History → A → Type 0} (judge : History → Ve
   }
 
   -- nothing is done for no memory
-  pub failed_at_once : (s : State) (f : Fault) → IsIdle s → f ≡ NoMemory → Judges {A = A} s s (Err (refusals.Fault f)) judge Found
+  pub failed_at_once : (s : State) (f : Fault) → IsIdle s → f ≡ NoMemory witness → Judges {A = A} s s (Err (refusals.Fault f)) judge Found
   failed_at_once s f idle memory = record {
     idle = idle;
     clean = λ clean. clean;
@@ -222,7 +223,7 @@ module _ {A : Type 0} {Found : History → A → Type 0} (judge : History → Ve
 
     module _ (b : B) (read : IsRead old new (Ok b) F) where
       -- memory was wanted after it
-      pub fails_after : (f : Fault) → f ≡ NoMemory → Judges {A = A} old new (Err (refusals.Fault f)) judge Found
+      pub fails_after : (f : Fault) → f ≡ NoMemory witness → Judges {A = A} old new (Err (refusals.Fault f)) judge Found
       fails_after f memory = record {
         idle = read.leaves.idle;
         clean = read.leaves.clean;

@@ -86,7 +86,7 @@ no_revision old new p there = read_as old new _ _ there (not there) (λ t tells 
 pub newest : (old new : State) (p : ProfileName) (before : Option ℕ) (below : ℕ) (told : List ProfileRevision) → below ≡ unwrap_or before (suc max_revisions)
     → {A : Type 0} (items : A → List ProfileRevision) (a : A) → items a ≡ told → IsRead old new (Ok a) (λ t found. AreNewest t p below most_read (items found))
     → IsRead old new (Ok told) (LooksBack (newest_at p before))
-newest old new p before below told bound items a are_told = read_as old new _ _ a told (λ t are h lawful same.
+newest old new p before below told bound items a are_told = read_as old new _ _ a told (λ t (are : AreNewest t p below most_read (items a)) h lawful same.
     sym are_told ∙ are.newest ∙ ap (λ rows. map told_revision (take most_read rows)) (all h lawful before bound are.rows (subst (λ u. AreBelow u p below are.rows) same are.below_it)))
   where
     all : (h : History) → IsLawfulHistory h → (before : Option ℕ) → below ≡ unwrap_or before (suc max_revisions) → (rows : List RevisionRow) → AreBelow (tables_of h) p below rows → rows ≡ revisions_before h p before

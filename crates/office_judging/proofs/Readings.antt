@@ -76,11 +76,11 @@ pub page_told : (rows : List RevisionRow) (told : List ProfileRevision) → told
     → Revisions (take max_listed told) (nat_lt max_listed (length told)) ≡ newest_told rows
 page_told rows told is = λ i. Revisions (first i) (longer i)
   where
+    above : (n : ℕ) → nat_lt max_listed (min most_read n) ≡ nat_lt max_listed n
+    above n = grind (arith, nat_tests)
+
     first : take max_listed told ≡ map told_revision (take max_listed rows)
     first = ap (take max_listed) is ∙ take-map told_revision max_listed (take most_read rows) ∙ ap (map told_revision) (take-take max_listed most_read rows (omega arith))
 
     longer : nat_lt max_listed (length told) ≡ nat_lt max_listed (length rows)
-    longer = ap (λ l. nat_lt max_listed (length l)) is ∙ ap (nat_lt max_listed) (length-map told_revision (take most_read rows) ∙ length-take most_read rows) ∙ above (length rows)
-
-    above : (n : ℕ) → nat_lt max_listed (min most_read n) ≡ nat_lt max_listed n
-    above n = grind (arith, nat_tests)
+    longer = ap (λ l. nat_lt max_listed (length l)) is ∙ ap (nat_lt max_listed) (length-map (take most_read rows) told_revision ∙ length-take most_read rows) ∙ above (length rows)

@@ -17,7 +17,7 @@ pub(crate) fn document(alloc: Global, body: &Text) -> Result<Profile, AllocError
 {
     match read_stored(alloc, body.as_str().as_bytes()) {
         Ok(profile) => Ok(profile),
-        Err(DocFault::NoMemory) => Err(AllocError),
+        Err(DocFault::NoMemory(witness)) => Err(witness.into()),
         Err(_) => Ok(Profile::closed(alloc)),
     }
 }

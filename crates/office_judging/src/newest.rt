@@ -61,7 +61,6 @@ pub(crate) fn revisions<S: Alter>(
     decide_revisions(&facts(caller, &name.team, false))?;
     let is_there = has_revision(conn, name)?;
     decide_revisions(&facts(caller, &name.team, !is_there))?;
-    let below = before.unwrap_or(MAX_REVISIONS + 1);
-    let found = newest_below(alloc, conn, name, below)?;
+    let found = newest_below(alloc, conn, name, before.unwrap_or(MAX_REVISIONS + 1))?;
     Ok(page(found))
 }

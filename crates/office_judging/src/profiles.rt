@@ -215,7 +215,9 @@ pub(crate) fn profiles_of<S: Alter>(
             return Ok(Listing::new(profiles));
         };
         let (profile, later) = listed(alloc, conn, team, first)?;
-        profiles.push(profile).map_err(|_| Fault::NoMemory)?;
+        profiles
+            .push(profile)
+            .map_err(|refused| Fault::NoMemory(refused.into()))?;
         next = later;
     }
     unreachable!()

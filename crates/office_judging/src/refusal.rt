@@ -43,10 +43,11 @@ impl From<AllocError> for Refusal {
     ghost use Rattle.std.specs.Prelude.{◌≡◌};
     ghost use Rattle.review_policy.specs.declared.fault.Fault.TheVariants.{NoMemory};
     ghost use Rattle.office_judging.specs.declared.refusal.Refusal.TheVariants.{Fault};
+    ghost use Rattle.no_memory.specs.Witness.{witness};
 
-    ghost from_gives = { λ _ refusal. refusal ≡ Fault NoMemory };
+    ghost from_gives = { λ _ refusal. refusal ≡ Fault (NoMemory witness) };
 
-    fn from(_error: AllocError) -> Refusal {
-        Refusal::Fault(Fault::NoMemory)
+    fn from(refused: AllocError) -> Refusal {
+        Refusal::Fault(Fault::NoMemory(refused.into()))
     }
 }

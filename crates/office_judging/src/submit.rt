@@ -132,7 +132,7 @@ fn handed_in(
     decide_submit(&asked)?;
     match read_with_text(alloc, document.as_slice()) {
         Ok(document) => Ok(Text::new(document.text)),
-        Err(DocFault::NoMemory) => Err(Refusal::Fault(Fault::NoMemory)),
+        Err(DocFault::NoMemory(witness)) => Err(Refusal::Fault(Fault::NoMemory(witness))),
         Err(fault) => {
             let text = Text::new(fault_text(alloc, &fault)?);
             match decide_submit(&SubmitFacts {

@@ -26,8 +26,8 @@ module _ {X : Type 0} (m : Meaning X) where
   pub cause_before : (old mid new : X) (h : History) (r : Request) (a : Answer) → IsUnwritten m mid new → m.faults mid ≤ m.faults new → HasCause m old mid h r a → HasCause m old new h r a
   cause_before old mid new h r (Done reply) then after cause = tt
   cause_before old mid new h r (Denied denial fault) then after cause = tt
-  cause_before old mid new h r (Fault faults.NoMemory) then after (inl undone) = inl (undone_on old mid new h (verdict h r) undone then)
-  cause_before old mid new h r (Fault faults.NoMemory) then after (inr refused) = inr refused
+  cause_before old mid new h r (Fault (faults.NoMemory _)) then after (inl undone) = inl (undone_on old mid new h (verdict h r) undone then)
+  cause_before old mid new h r (Fault (faults.NoMemory _)) then after (inr refused) = inr refused
   cause_before old mid new h r (Fault faults.Disk) then after cause = λ is_open. met_before old mid new h r faults.Disk after (cause is_open)
   cause_before old mid new h r (Fault faults.Full) then after cause = met_before old mid new h r faults.Full after cause
   cause_before old mid new h r (Fault faults.NotAnOffice) then after cause = cause

@@ -13,6 +13,7 @@ use Rattle.office_policy.specs.Verdict.{Verdict, accepted, denied, verdict}
 use Rattle.office_policy.specs.Runs.{IsAnswer, history_after}
 use Rattle.office_policy.specs.Headline.{GivesOutApproved}
 use Rattle.office_policy.specs.Meaning.{Meaning, Entry, no_entry, entry_of, struck_entry_of}
+use Rattle.no_memory.specs.Witness.{witness}
 
 -- whether what is asked changes nothing, whatever it is answered
 abbrev pub only_reads : Ask → Bool
@@ -97,14 +98,14 @@ module _ {X : Type 0} (m : Meaning X) where
   abbrev pub LacksMemory : (old new : X) → History → Request → Type 0
   LacksMemory old new h request =
       LeavesUndone old new h (verdict h request)
-      ⊎ RefusesEvent old h (verdict h request) faults.NoMemory
+      ⊎ RefusesEvent old h (verdict h request) (faults.NoMemory witness)
 
   -- a fault other than `memory` was met so, or it is `disk` and the office was shut before;
   -- none is for the form of its tables
   abbrev pub HasCause : (old new : X) → History → Request → Answer → Type 0
   HasCause old new h request (Done reply) = Unit {0}
   HasCause old new h request (Denied denial fault) = Unit {0}
-  HasCause old new h request (Fault faults.NoMemory) = LacksMemory old new h request
+  HasCause old new h request (Fault (faults.NoMemory _)) = LacksMemory old new h request
   HasCause old new h request (Fault faults.Disk) =
       m.is_open old → IsMet old new h request faults.Disk
   HasCause old new h request (Fault faults.Full) = IsMet old new h request faults.Full

@@ -30,7 +30,7 @@ history_after h r answer = with_event (event_of (verdict h r)) h
 
 -- the answer is the verdict's, or the fault of memory, of the disk or of room on it
 abbrev pub IsAnswer : History → Request → Answer → Type 0
-IsAnswer h r (Fault faults.NoMemory) = Unit {0}
+IsAnswer h r (Fault (faults.NoMemory _)) = Unit {0}
 IsAnswer h r (Fault faults.Disk) = Unit {0}
 IsAnswer h r (Fault faults.Full) = Unit {0}
 IsAnswer h r (Fault faults.NotAnOffice) = ⊥

@@ -45,6 +45,7 @@ ghost use Rattle.office_policy.specs.CallerTable.{each_kind};
 ghost use Rattle.office_policy.specs.LawExamples.{each_event, text_approved, one_approves_text};
 ghost use Rattle.office_policy.specs.LawExamples.{reviewers_approve_text, author_approves_text};
 ghost use Rattle.office_policy.specs.LawExamples.{sue_shows, asks_hold, open_profile};
+ghost use Rattle.no_memory.specs.Witness.{witness};
 
 /// Of the fifteen kinds seven only read: to see a revision, its sheet, the profiles of a team, to
 /// fetch, and to see who one is, the revisions of a profile, and which one is issued.
@@ -199,7 +200,7 @@ pub fn answers_tell_the_verdict()
         → IsAnswer h r (Done reply) ↔ ((e : Option Event) × (verdict h r ≡ accepted reply e)) }
     ensures denied { (h : History) (r : Request) (d : Denial) (f : Option (List ℕ))
         → IsAnswer h r (Denied d f) ↔ (verdict h r ≡ denied d f) }
-    ensures memory { (h : History) (r : Request) → IsAnswer h r (Fault faults.NoMemory) }
+    ensures memory { (h : History) (r : Request) → IsAnswer h r (Fault (faults.NoMemory witness)) }
     ensures disk { (h : History) (r : Request) → IsAnswer h r (Fault faults.Disk) }
     ensures full { (h : History) (r : Request) → IsAnswer h r (Fault faults.Full) }
     ensures no_office { (h : History) (r : Request) → IsAnswer h r (Fault faults.NotAnOffice) → ⊥ }

@@ -160,7 +160,7 @@ was_shut false now stays shut = refl
 
 -- what was met in between was met
 pub met_between : (old now mid new : State) (f : Fault) → old.faults ≤ now.faults → mid.faults ≤ new.faults → (now.is_open ≡ false → old.is_open ≡ false) → HasFailed now mid f → HasFailed old new f
-met_between old now mid new stores.NoMemory before after shut h = tt
+met_between old now mid new (stores.NoMemory _) before after shut h = tt
 met_between old now mid new stores.Disk before after shut (inl risen) = inl (omega arith)
 met_between old now mid new stores.Disk before after shut (inr closed) = inr (shut closed)
 met_between old now mid new stores.Full before after shut h = omega arith

@@ -8,7 +8,7 @@ use Rattle.review_policy.specs.declared.fault.Fault.TheVariants.{NoMemory, Disk,
 -- There was no memory, or between the two the disk failed or refused a call. `Disk` is also the
 -- fault of each call over a connection that was shut. None is for the form of the tables.
 abbrev pub HasFailed : State → State → Fault → Type 0
-HasFailed old new NoMemory = Unit {0}
+HasFailed old new (NoMemory _) = Unit {0}
 HasFailed old new Disk = MoreFaults old.faults new.faults ⊎ (old.is_open ≡ false)
 HasFailed old new Full = MoreFaults old.faults new.faults
 HasFailed old new NotAnOffice = ⊥

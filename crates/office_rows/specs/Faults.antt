@@ -7,9 +7,10 @@ use Rattle.sqlite.specs.declared.error.ErrorCode.TheVariants as code
 use Rattle.sqlite.specs.State.{State, QueriesRow}
 use Rattle.review_policy.specs.declared.fault.Fault.{Fault}
 use Rattle.review_policy.specs.declared.fault.Fault.TheVariants.{NoMemory, Disk, Full, NotAnOffice}
+use Rattle.no_memory.specs.Witness.{witness}
 
 abbrev pub fault_of_error : Error → Fault
-fault_of_error (error.SqliteFailure code.OutOfMemory) = NoMemory
+fault_of_error (error.SqliteFailure code.OutOfMemory) = NoMemory witness
 fault_of_error (error.SqliteFailure code.DiskFull) = Full
 fault_of_error (error.SqliteFailure code.TooBig) = Full
 fault_of_error (error.SqlInputError e) = NotAnOffice

@@ -8,15 +8,16 @@ use Rattle.review_policy.specs.declared.fault.Fault.{Fault}
 use Rattle.review_policy.specs.declared.fault.Fault.TheVariants.{NoMemory, NotAnOffice}
 use Rattle.office_rows.specs.Faults.{FindsRow}
 use Rattle.office_rows.specs.Rows.{IsFaultOf}
+use Rattle.no_memory.specs.Witness.{witness}
 
 -- the faults of reading a row
 abbrev pub IsOfRow : Fault → Type 0
-IsOfRow f = (f ≡ NoMemory) ⊎ (f ≡ NotAnOffice)
+IsOfRow f = (f ≡ NoMemory witness) ⊎ (f ≡ NotAnOffice)
 
 -- a row isn't read: it is that of nothing of the form, or there is no memory
 abbrev pub IsUnread : {X R : Type 0} → (X → R) → (X → Type 0) → R → Fault → Type 0
 IsUnread {X} encode IsFormed row f =
-    (f ≡ NoMemory) ⊎ ((f ≡ NotAnOffice) × ((x : X) → IsFormed x → row ≢ encode x))
+    (f ≡ NoMemory witness) ⊎ ((f ≡ NotAnOffice) × ((x : X) → IsFormed x → row ≢ encode x))
 
 -- a row is read as the value that it is the row of
 abbrev pub IsReadAs : {X R : Type 0} → (X → R) → (X → Type 0) → R → Result X Fault → Type 0

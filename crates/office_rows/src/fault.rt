@@ -9,7 +9,9 @@ ghost use Rattle.sqlite.specs.declared.error.ErrorCode.TheVariants as code;
 ghost use Rattle.sqlite.specs.declared.types.Type.{«Type» as SqlType};
 ghost use Rattle.sqlite_resolve.specs.declared.error.CompileError.{CompileError};
 ghost use Rattle.sqlite_schema.specs.declared.schema.Constraint.{Constraint};
+ghost use Rattle.no_memory.specs.Witness.{witness};
 
+use no_memory::NoMemory;
 use review_policy::Fault;
 use sqlite::{Error, ErrorCode};
 
@@ -19,7 +21,7 @@ pub fn fault_of_error(error: Error) -> Fault
     ensures { result ≡ fault_of_error error }
 {
     match error {
-        Error::SqliteFailure(ErrorCode::OutOfMemory) => Fault::NoMemory,
+        Error::SqliteFailure(ErrorCode::OutOfMemory) => Fault::NoMemory(NoMemory::told()),
         Error::SqliteFailure(ErrorCode::DiskFull | ErrorCode::TooBig) => Fault::Full,
         Error::SqlInputError(_) => Fault::NotAnOffice,
         Error::InvalidColumnIndex(_)
@@ -32,7 +34,7 @@ pub fn fault_of_error(error: Error) -> Fault
 
 /// Which fault each error of `sqlite` is.
 pub fn each_error_is_its_fault()
-    ensures memory { fault_of_error (error.SqliteFailure code.OutOfMemory) ≡ NoMemory }
+    ensures memory { fault_of_error (error.SqliteFailure code.OutOfMemory) ≡ NoMemory witness }
     ensures full { map (λ c. fault_of_error (error.SqliteFailure c))
         (code.DiskFull ∷ code.TooBig ∷ []) ≡ replicate 2 Full }
     ensures disk { map (λ c. fault_of_error (error.SqliteFailure c))

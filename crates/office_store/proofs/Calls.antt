@@ -26,6 +26,7 @@ use Rattle.office_store.specs.Shown.{IsIdle, IsOffice, Shows, ShowsIfOpen, AreOf
 use Rattle.office_store.specs.Steps.{AreSteps}
 use Rattle.office_store.specs.Calls.{Leaves, IsRead, IsWrite, Into}
 use Rattle.office_store.proofs.Committed.{trees_of, all_made, none_made, survives_same}
+use Rattle.no_memory.specs.Witness.{witness}
 
 pub never_both : {P : Type 0} (b : Bool) → IsTrue b → b ≡ false → P
 never_both true is_open shut = absurd cc
@@ -113,7 +114,7 @@ rows_read items sql query given params old new r Found idle mode law survives ro
     finds t shows (subst (λ (p : Row). IfOk r (λ x. Shown sql p old new (items x))) are (rows clean)) (subst (λ (p : Row). IfErr r (IsFaultOf sql p old new)) are (fault clean)))
 
 -- nothing is read where there is no memory
-pub fails_unread : {X : Type 0} (s : State) (f : Fault) (Found : Tables → X → Type 0) → IsIdle s → f ≡ NoMemory → Settles s → IsRead {A = X} s s (Err f) Found
+pub fails_unread : {X : Type 0} (s : State) (f : Fault) (Found : Tables → X → Type 0) → IsIdle s → f ≡ NoMemory witness → Settles s → IsRead {A = X} s s (Err f) Found
 fails_unread s f Found idle memory law = record {
   leaves = record {
     idle = idle;
@@ -155,8 +156,8 @@ module _ {X A : Type 0} (Tells : X → Result A Fault → Type 0) where
   told_formed FoundRow (Err e) r told other row none same = passed_on e r told other same
 
   -- where it reports no other fault of what was found than that there is no memory
-  told_cause : (FoundRow : X → Type 0) (P : Fault → Type 0) (row : Result X Fault) (r : Result A Fault) → IsTold Tells row r → P NoMemory → IfErr row P → IfOk row FoundRow
-      → ((x : X) → FoundRow x → (f : Fault) → Tells x (Err f) → f ≡ NoMemory) → IfErr r P
+  told_cause : (FoundRow : X → Type 0) (P : Fault → Type 0) (row : Result X Fault) (r : Result A Fault) → IsTold Tells row r → P (NoMemory witness) → IfErr row P → IfOk row FoundRow
+      → ((x : X) → FoundRow x → (f : Fault) → Tells x (Err f) → f ≡ NoMemory witness) → IfErr r P
   told_cause FoundRow P (Ok x) (Ok a) told memory fails found none = tt
   told_cause FoundRow P (Ok x) (Err f) told memory fails found none = subst P (sym (none x found f told)) memory
   told_cause FoundRow P (Err e) (Ok a) told memory fails found none = absurd cc
@@ -172,7 +173,7 @@ module _ {X A : Type 0} (Tells : X → Result A Fault → Type 0) where
 
   pub read_told : (old new : State) (FoundRow : Tables → X → Type 0) (Found : Tables → A → Type 0) (row : Result X Fault) (r : Result A Fault) → IsRead old new row FoundRow → IsTold Tells row r
       → ((t : Tables) → Shows old t → (x : X) → FoundRow t x → (a : A) → Tells x (Ok a) → Found t a)
-      → ((t : Tables) → Shows old t → (x : X) → FoundRow t x → (f : Fault) → Tells x (Err f) → f ≡ NoMemory)
+      → ((t : Tables) → Shows old t → (x : X) → FoundRow t x → (f : Fault) → Tells x (Err f) → f ≡ NoMemory witness)
       → IsRead old new r Found
   read_told old new FoundRow Found row r read told some none = record {
     leaves = record {
@@ -199,7 +200,7 @@ module _ {X A : Type 0} (Tells : X → Result A Fault → Type 0) where
 -- a read that failed, and whose fault is passed on, or what is made of its answer
 module _ {X A : Type 0} (old new : State) (FoundRow : Tables → X → Type 0) (Found : Tables → A → Type 0) (row : Result X Fault) (read : IsRead old new row FoundRow) (r : Result A Fault) where
   abbrev Makes : X → Result A Fault → Type 0
-  Makes x s = (t : Tables) → Shows old t → FoundRow t x → IfOk s (Found t) × IfErr s (λ f. f ≡ NoMemory)
+  Makes x s = (t : Tables) → Shows old t → FoundRow t x → IfOk s (Found t) × IfErr s (λ f. f ≡ NoMemory witness)
 
   made : IsTold Makes row r → IsRead old new r Found
   made told = read_told Makes old new FoundRow Found row r read told (λ t shows x found a makes. (makes t shows found).0) (λ t shows x found f makes. (makes t shows found).1)
@@ -207,7 +208,7 @@ module _ {X A : Type 0} (old new : State) (FoundRow : Tables → X → Type 0) (
   pub read_failed : (f : Fault) → row ≡ Err f → r ≡ Err f → IsRead old new r Found
   read_failed f is same = made (subst (λ (s : Result X Fault). IsTold Makes s r) (sym is) same)
 
-  pub read_made : (x : X) → row ≡ Ok x → ((t : Tables) → Shows old t → FoundRow t x → IfOk r (Found t) × IfErr r (λ f. f ≡ NoMemory)) → IsRead old new r Found
+  pub read_made : (x : X) → row ≡ Ok x → ((t : Tables) → Shows old t → FoundRow t x → IfOk r (Found t) × IfErr r (λ f. f ≡ NoMemory witness)) → IsRead old new r Found
   read_made x is makes = made (subst (λ (s : Result X Fault). IsTold Makes s r) (sym is) makes)
 
 -- a write of these statements is one of whatever makes the same tables

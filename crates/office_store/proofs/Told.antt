@@ -14,6 +14,7 @@ use Rattle.office_rows.specs.Told.{IsOfRow, IsTold, IsUnread, TellsOne, TellsOnl
 use Rattle.office_store.specs.Shown.{Shows}
 use Rattle.office_store.specs.Calls.{IsRead}
 use Rattle.office_store.proofs.Calls.{read_told}
+use Rattle.no_memory.specs.Witness.{witness}
 
 pub read_cause : (at : ℕ) (v : Value) (e : Error) → IsReadError at v e → IsOfRow (fault_of_error e)
 read_cause at v e (inl h) = inr (ap fault_of_error h)
@@ -31,7 +32,7 @@ unread {A = A} encode IsFormed row r f is formed cause = elim (subst (λ (s : Re
 ]
 
 -- a reading of a row of the form fails only for no memory
-pub only_memory : {A : Type 0} (r : Result A Fault) → r ≢ Err NotAnOffice → IfErr r IsOfRow → IfErr r (λ f. f ≡ NoMemory)
+pub only_memory : {A : Type 0} (r : Result A Fault) → r ≢ Err NotAnOffice → IfErr r IsOfRow → IfErr r (λ f. f ≡ NoMemory witness)
 only_memory (Ok a) other cause = tt
 only_memory (Err f) other (inl memory) = memory
 only_memory (Err f) other (inr named) = absurd (other (ap Err named))
@@ -51,7 +52,7 @@ module _ {X : Type 0} (encode : X → Row) (IsFormed : X → Type 0) (old new : 
       each t shows (Some w) found (Some y) tells = (some t shows w found).3 y tells
       each t shows (Some w) found None tells = absurd tells
 
-      never : (t : Tables) → Shows old t → (o : Option Row) → FoundRow t o → (f : Fault) → TellsOne encode IsFormed o (Err f) → f ≡ NoMemory
+      never : (t : Tables) → Shows old t → (o : Option Row) → FoundRow t o → (f : Fault) → TellsOne encode IsFormed o (Err f) → f ≡ NoMemory witness
       never t shows None found f tells = absurd cc
       never t shows (Some w) found f (inl memory) = memory
       never t shows (Some w) found f (inr unread) = let it = some t shows w found in absurd (unread.1 it.0 it.1 it.2)
@@ -67,7 +68,7 @@ module _ {X : Type 0} (encode : X → Row) (IsFormed : X → Type 0) (old new : 
       each t shows None found a tells = absurd (none t shows found)
       each t shows (Some w) found a tells = (some t shows w found).3 a tells
 
-      never : (t : Tables) → Shows old t → (o : Option Row) → FoundRow t o → (f : Fault) → TellsOnly encode IsFormed o (Err f) → f ≡ NoMemory
+      never : (t : Tables) → Shows old t → (o : Option Row) → FoundRow t o → (f : Fault) → TellsOnly encode IsFormed o (Err f) → f ≡ NoMemory witness
       never t shows None found f tells = absurd (none t shows found)
       never t shows (Some w) found f (inl memory) = memory
       never t shows (Some w) found f (inr unread) = let it = some t shows w found in absurd (unread.1 it.0 it.1 it.2)

@@ -29,6 +29,7 @@ use Rattle.office_store.proofs.Profiles.{same_state}
 use Rattle.std.specs.Prelude.{ℤ, pos, ◌==◌, ◌&&◌}
 use Rattle.std.specs.Ordering.{int_eq}
 use Rattle.std.proofs.lemmas.Bool.Decides.{nat_tests}
+use Rattle.no_memory.specs.Witness.{witness}
 
 -- ---- a loop that reads each row
 
@@ -82,7 +83,7 @@ module _ {V W X : Type 0} (rows_of : V → List Row) (items_of : W → List X) (
       each (Err e) (Ok w) told = absurd cc
       each (Err e) (Err f) told = let same : f ≡ e = cc in ap Err same
 
-      never : (v : V) (xs : List X) → AllByRecursion IsFormed xs → rows_of v ≡ map encode xs → (f : Fault) → Tells v (Err f) → f ≡ NoMemory
+      never : (v : V) (xs : List X) → AllByRecursion IsFormed xs → rows_of v ≡ map encode xs → (f : Fault) → Tells v (Err f) → f ≡ NoMemory witness
       never v xs all is f (inl memory) = memory
       never v xs all is f (inr unread) = absurd (unread.1 xs all is)
 

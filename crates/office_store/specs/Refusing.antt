@@ -91,7 +91,7 @@ LacksRowidFor _ rows = LacksRowid rows
 -- for this fault a database has no place for a row of the write: it has no rowid for it, or the row
 -- has more than a billion bytes
 abbrev pub LacksPlace : Write → Database → Fault → Type 0
-LacksPlace w db NoMemory = ⊥
+LacksPlace w db (NoMemory _) = ⊥
 LacksPlace w db Disk = LacksRowidFor w (db.trees (tree_of w))
 LacksPlace w db Full = (row : Row) × Has (rows_of w (db.trees (tree_of w))) row × IsBig row
 LacksPlace w db NotAnOffice = ⊥
@@ -115,7 +115,7 @@ module _ {S : Type 0} (g : Ghosts S) (w : Write) where
   -- a write is stopped by this fault: a row has no place, or a statement or the commit has no
   -- memory
   abbrev pub Stops : Held S → Fault → Type 0
-  Stops h NoMemory = IsCause g (statements_of w) h NoMemory
+  Stops h (NoMemory refused) = IsCause g (statements_of w) h (NoMemory refused)
   Stops h Disk = LacksPlaceFor h Disk
   Stops h Full = LacksPlaceFor h Full
   Stops h NotAnOffice = ⊥

@@ -87,7 +87,9 @@ fn read_names(alloc: Global, rows: &[Row]) -> Result<Vec<Word>, Fault>
     let mut names = Vec::new(alloc);
     for row in rows {
         let name = read_name(alloc, row)?;
-        names.push(name).map_err(|_| Fault::NoMemory)?;
+        names
+            .push(name)
+            .map_err(|refused| Fault::NoMemory(refused.into()))?;
     }
     Ok(names)
 }

@@ -46,7 +46,7 @@ pub fn word_at(alloc: Global, row: &Row, at: usize) -> Result<Word, Fault>
     match Word::new(alloc, text.as_str()) {
         Ok(word) => Ok(word),
         Err(WordFault::NotAWord) => Err(Fault::NotAnOffice),
-        Err(WordFault::NoMemory) => Err(Fault::NoMemory),
+        Err(WordFault::NoMemory(witness)) => Err(Fault::NoMemory(witness)),
     }
 }
 

@@ -28,8 +28,8 @@ pub use briefs::{Brief, issued_brief};
 pub use column::{bytes_of, number_at, word_at};
 pub use holds::{delete_hold, held, put_hold};
 pub use listing::revisions_of;
-pub use numbers::{Numbered, issued_number, last_numbered};
 pub use newest::newest_below;
+pub use numbers::{Numbered, issued_number, last_numbered};
 pub use revisions::{
     add_revision, has_revision, issued, last, revision, set_issued, set_withdrawn,
 };

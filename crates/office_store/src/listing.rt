@@ -61,7 +61,9 @@ fn read_all_listed(alloc: Global, rows: &[Row]) -> Result<Vec<ListedRevision>, F
     let mut listed = Vec::new(alloc);
     for row in rows {
         let revision = read_listed(alloc, row)?;
-        listed.push(revision).map_err(|_| Fault::NoMemory)?;
+        listed
+            .push(revision)
+            .map_err(|refused| Fault::NoMemory(refused.into()))?;
     }
     Ok(listed)
 }

@@ -65,7 +65,8 @@ fn read_all_told(alloc: Global, rows: &[Row]) -> Result<Vec<ProfileRevision>, Fa
     let mut told = Vec::new(alloc);
     for row in rows {
         let revision = read_told(alloc, row)?;
-        told.push(revision).map_err(|_| Fault::NoMemory)?;
+        told.push(revision)
+            .map_err(|refused| Fault::NoMemory(refused.into()))?;
     }
     Ok(told)
 }

@@ -80,7 +80,9 @@ fn read_votes(alloc: Global, rows: &[Row]) -> Result<Vec<VoteRow>, Fault>
     let mut votes = Vec::new(alloc);
     for row in rows {
         let vote = read_vote(alloc, row)?;
-        votes.push(vote).map_err(|_| Fault::NoMemory)?;
+        votes
+            .push(vote)
+            .map_err(|refused| Fault::NoMemory(refused.into()))?;
     }
     Ok(votes)
 }

@@ -7,6 +7,7 @@ ghost use Rattle.office_rows.specs.Told.{IsTold, TellsOne};
 ghost use Rattle.office_store.specs.Connections.{FindsFirst, Reads};
 ghost use Rattle.office_store.specs.Lists.{listed_row, IsListedForm, IsRowAbove, IsNextListed};
 ghost use Rattle.office_store.specs.Shown.{IsIdle};
+ghost use Rattle.no_memory.specs.Witness.{witness};
 
 use crate::bind::of_bound;
 use crate::listing::read_listed;
@@ -52,7 +53,7 @@ fn found_listed(
 // low as a space. A scan from the name itself would read all its revisions.
 fn bound_after(alloc: Global, name: &Word) -> Result<String, Fault>
     ensures bound { IfOk result (λ bound. string_bytes bound ≡ name.now ++ 32 ∷ []) }
-    ensures cause { IfErr result (λ f. f ≡ Fault.NoMemory) }
+    ensures cause { IfErr result (λ f. f ≡ Fault.NoMemory witness) }
 {
     let bound = [name.as_str(), " "].concat(alloc)?;
     Ok(bound)

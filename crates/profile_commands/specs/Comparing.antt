@@ -9,23 +9,24 @@ use Rattle.profile_commands.specs.declared.compare.ComparedFault.{ComparedFault}
 use Rattle.profile_commands.specs.declared.compare.ComparedFault.TheVariants.{Base, New, NoMemory}
 use Rattle.profile_commands.specs.declared.fault.FileFault.{FileFault}
 use Rattle.profile_commands.specs.Refusal.{AgreesWithReads, RefusesAs, no_memory}
+use Rattle.no_memory.specs.Witness.{witness}
 
 -- a fault of reading is reported of its document, but out of memory is no fault of it
 abbrev pub IsToldOfBase : FileFault → ComparedFault → Type 0
 IsToldOfBase fault told =
-    ((fault ≡ no_memory) × (told ≡ NoMemory))
+    ((fault ≡ no_memory) × (told ≡ NoMemory witness))
     ⊎ ((fault ≢ no_memory) × (told ≡ Base fault))
 
 abbrev pub IsToldOfNew : FileFault → ComparedFault → Type 0
 IsToldOfNew fault told =
-    ((fault ≡ no_memory) × (told ≡ NoMemory))
+    ((fault ≡ no_memory) × (told ≡ NoMemory witness))
     ⊎ ((fault ≢ no_memory) × (told ≡ New fault))
 
 -- out of memory is reported as such, and of neither document
 abbrev pub HidesNoMemory : ComparedFault → Type 0
 HidesNoMemory (Base fault) = fault ≢ no_memory
 HidesNoMemory (New fault) = fault ≢ no_memory
-HidesNoMemory NoMemory = Unit {0}
+HidesNoMemory (NoMemory _) = Unit {0}
 
 -- the bytes are a document
 abbrev pub IsDocument : List ℕ → Type 0
@@ -37,7 +38,7 @@ abbrev pub IsBase : {X : Type 0} → List ℕ → Result X ComparedFault → Typ
 IsBase bytes (Ok x) = IsDocument bytes
 IsBase bytes (Err (Base fault)) = RefusesAs bytes fault
 IsBase bytes (Err (New fault)) = IsDocument bytes
-IsBase bytes (Err NoMemory) = Unit {0}
+IsBase bytes (Err (NoMemory _)) = Unit {0}
 
 -- the bytes of NEW are a document where there is an answer, and a fault that is reported of NEW is
 -- theirs
@@ -45,7 +46,7 @@ abbrev pub IsNew : {X : Type 0} → List ℕ → Result X ComparedFault → Type
 IsNew bytes (Ok x) = IsDocument bytes
 IsNew bytes (Err (Base fault)) = Unit {0}
 IsNew bytes (Err (New fault)) = RefusesAs bytes fault
-IsNew bytes (Err NoMemory) = Unit {0}
+IsNew bytes (Err (NoMemory _)) = Unit {0}
 
 -- the text is that of the findings between the documents that the bytes are
 abbrev pub IsCompared : List ℕ → List ℕ → String Global → Type 0
@@ -59,7 +60,7 @@ abbrev pub AgreesWithBase : {X : Type 0} → (calls calls_after faults faults_af
 AgreesWithBase {X} calls calls_after faults faults_after (Err (Base fault)) =
     AgreesWithReads {X = X} calls calls_after faults faults_after (Err fault)
 AgreesWithBase calls calls_after faults faults_after (Err (New fault)) = faults_after ≡ faults
-AgreesWithBase calls calls_after faults faults_after (Err NoMemory) = faults_after ≡ faults
+AgreesWithBase calls calls_after faults faults_after (Err (NoMemory _)) = faults_after ≡ faults
 AgreesWithBase calls calls_after faults faults_after (Ok x) = faults_after ≡ faults
 
 -- the calls of NEW's reader and those that failed agree with what is reported of NEW; with a fault
@@ -70,5 +71,5 @@ AgreesWithNew {X} calls calls_after faults faults_after (Err (New fault)) =
     AgreesWithReads {X = X} calls calls_after faults faults_after (Err fault)
 AgreesWithNew calls calls_after faults faults_after (Err (Base fault)) =
     (calls_after ≡ calls) × (faults_after ≡ faults)
-AgreesWithNew calls calls_after faults faults_after (Err NoMemory) = faults_after ≡ faults
+AgreesWithNew calls calls_after faults faults_after (Err (NoMemory _)) = faults_after ≡ faults
 AgreesWithNew calls calls_after faults faults_after (Ok x) = faults_after ≡ faults

@@ -32,7 +32,7 @@ name_told fault = None
 abbrev pub unread_word : Unread → List ℕ
 unread_word unread.Failed = codes "read"
 unread_word unread.TooManyReads = codes "too-many-reads"
-unread_word unread.NoMemory = codes "memory"
+unread_word (unread.NoMemory _) = codes "memory"
 
 -- why a file gave nothing: of bytes that are no document the text of their fault, and the name
 -- behind it
@@ -44,4 +44,4 @@ file_fault_text (file.Document why) = fault_text_of why ++ behind (name_told why
 abbrev pub compared_fault_text : ComparedFault → List ℕ
 compared_fault_text (compared.Base why) = codes "base: " ++ file_fault_text why
 compared_fault_text (compared.New why) = codes "new: " ++ file_fault_text why
-compared_fault_text compared.NoMemory = codes "memory"
+compared_fault_text (compared.NoMemory _) = codes "memory"

@@ -12,16 +12,17 @@ use Rattle.profile_text.specs.Reading.{reading_of}
 use Rattle.profile_text.specs.Text.{text_of}
 use Rattle.profile_commands.specs.declared.fault.FileFault.{FileFault}
 use Rattle.profile_commands.specs.declared.fault.FileFault.TheVariants as file
+use Rattle.no_memory.specs.Witness.{witness}
 
 -- out of memory, as a fault of a file
 abbrev pub no_memory : FileFault
-no_memory = file.Unread NoMemory
+no_memory = file.Unread (NoMemory witness)
 
 -- a fault of a document is reported as it is, but out of memory is no fault of it
 abbrev pub IsRefusalOf : DocFault → FileFault → Type 0
 IsRefusalOf fault refusal =
-    ((fault ≡ faults.NoMemory) × (refusal ≡ no_memory))
-    ⊎ ((fault ≢ faults.NoMemory) × (refusal ≡ file.Document fault))
+    ((fault ≡ faults.NoMemory witness) × (refusal ≡ no_memory))
+    ⊎ ((fault ≢ faults.NoMemory witness) × (refusal ≡ file.Document fault))
 
 -- the calls of a reader and those that failed, before and after, agree with what is answered of its
 -- bytes: `Failed` just where one failed, and `TooManyReads` only where there were as many calls as
@@ -31,7 +32,7 @@ abbrev pub ReadsAgree : {X : Type 0} → (calls calls_after faults faults_after 
 ReadsAgree calls calls_after faults faults_after (Err Failed) = faults < faults_after
 ReadsAgree calls calls_after faults faults_after (Err TooManyReads) =
     (calls_after ≡ calls + 600000) × (faults_after ≡ faults)
-ReadsAgree calls calls_after faults faults_after (Err NoMemory) = faults_after ≡ faults
+ReadsAgree calls calls_after faults faults_after (Err (NoMemory _)) = faults_after ≡ faults
 ReadsAgree calls calls_after faults faults_after (Ok x) = faults_after ≡ faults
 
 -- the calls of a reader and those that failed agree with what is answered of a file

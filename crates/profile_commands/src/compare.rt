@@ -9,6 +9,7 @@ ghost use Rattle.streams.specs.CallsLeft.{HasCallsLeft};
 
 use crate::document::read_document;
 use crate::fault::FileFault;
+use no_memory::NoMemory;
 use profile_text::Profile;
 use review_sheet::findings_text;
 use std::alloc::{AllocError, Global};
@@ -25,8 +26,8 @@ pub enum ComparedFault {
     Base(FileFault),
     /// NEW wasn't read, or is no document: why, which is never out of memory.
     New(FileFault),
-    /// Memory was refused. No contract can say when: it may stand in place of any answer.
-    NoMemory,
+    /// Memory was refused.
+    NoMemory(NoMemory),
 }
 
 /// The fault's words behind `base: ` or `new: `, the document that they are of.
@@ -40,7 +41,7 @@ impl fmt::Display for ComparedFault {
         match self {
             ComparedFault::Base(fault) => write!(f, "base: {fault}"),
             ComparedFault::New(fault) => write!(f, "new: {fault}"),
-            ComparedFault::NoMemory => f.write_str("memory"),
+            ComparedFault::NoMemory(_) => f.write_str("memory"),
         }
     }
 }
@@ -50,11 +51,12 @@ impl Error for ComparedFault {}
 impl From<AllocError> for ComparedFault {
     ghost use Rattle.std.specs.Prelude.{◌≡◌};
     ghost use Rattle.profile_commands.specs.declared.compare.ComparedFault.TheVariants.{NoMemory};
+    ghost use Rattle.no_memory.specs.Witness.{witness};
 
-    ghost from_gives = { λ _ fault. fault ≡ NoMemory };
+    ghost from_gives = { λ _ fault. fault ≡ NoMemory witness };
 
-    fn from(_error: AllocError) -> ComparedFault {
-        ComparedFault::NoMemory
+    fn from(refused: AllocError) -> ComparedFault {
+        ComparedFault::NoMemory(refused.into())
     }
 }
 
@@ -66,7 +68,7 @@ impl ComparedFault {
         ensures { IsToldOfBase fault result }
     {
         match fault {
-            FileFault::Unread(Unread::NoMemory) => ComparedFault::NoMemory,
+            FileFault::Unread(Unread::NoMemory(witness)) => ComparedFault::NoMemory(witness),
             fault => ComparedFault::Base(fault),
         }
     }
@@ -76,7 +78,7 @@ impl ComparedFault {
         ensures { IsToldOfNew fault result }
     {
         match fault {
-            FileFault::Unread(Unread::NoMemory) => ComparedFault::NoMemory,
+            FileFault::Unread(Unread::NoMemory(witness)) => ComparedFault::NoMemory(witness),
             fault => ComparedFault::New(fault),
         }
     }

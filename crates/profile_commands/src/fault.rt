@@ -29,7 +29,7 @@ fn unread_word(unread: Unread) -> &'static str
     match unread {
         Unread::Failed => "read",
         Unread::TooManyReads => "too-many-reads",
-        Unread::NoMemory => "memory",
+        Unread::NoMemory(_) => "memory",
     }
 }
 
@@ -72,8 +72,8 @@ impl From<AllocError> for FileFault {
 
     ghost from_gives = { λ _ fault. fault ≡ no_memory };
 
-    fn from(_error: AllocError) -> FileFault {
-        FileFault::Unread(Unread::NoMemory)
+    fn from(refused: AllocError) -> FileFault {
+        FileFault::Unread(Unread::NoMemory(refused.into()))
     }
 }
 
@@ -84,7 +84,7 @@ impl From<DocFault> for FileFault {
 
     fn from(fault: DocFault) -> FileFault {
         match fault {
-            DocFault::NoMemory => FileFault::Unread(Unread::NoMemory),
+            DocFault::NoMemory(witness) => FileFault::Unread(Unread::NoMemory(witness)),
             fault => FileFault::Document(fault),
         }
     }

@@ -2,6 +2,7 @@
 
 use crate::told::told;
 use cap_sets::{Caps, Eperm, File, execve};
+use no_memory::NoMemory;
 use profile_text::{DocFault, Profile, fault_text, read};
 use std::test::Fail;
 
@@ -52,7 +53,10 @@ fn a_file_with_empty_sets_clears_what_is_ambient(rt: HostRuntime) -> Result<(), 
 fn texts_that_no_document_brings_about(rt: HostRuntime) -> Result<(), Fail> {
     let alloc = rt.alloc();
     assert_eq!(rt; told(alloc, b"{\"\xff\":1}")?.as_str(), "not-json");
-    assert_eq!(rt; fault_text(alloc, &DocFault::NoMemory)?.as_str(), "memory");
+    assert_eq!(rt;
+        fault_text(alloc, &DocFault::NoMemory(NoMemory::told()))?.as_str(),
+        "memory"
+    );
     assert_eq!(rt; Eperm.to_string(alloc)?.as_str(), "EPERM");
     Ok(())
 }
@@ -61,7 +65,7 @@ fn texts_that_no_document_brings_about(rt: HostRuntime) -> Result<(), Fail> {
 fn is_read_or_memory(told: &Result<Profile, DocFault>) -> bool {
     match told {
         Ok(profile) => profile.caps.permitted.bits() == 0b10_0001 && profile.filter.is_some(),
-        Err(fault) => matches!(fault, DocFault::NoMemory),
+        Err(fault) => matches!(fault, DocFault::NoMemory(_)),
     }
 }
 

@@ -22,14 +22,15 @@ use Rattle.profile_text.specs.Reading.{◌>>=◌, caps_or_fault, filter_or_fault
 use Rattle.profile_text.specs.Shape.{Row, Shape, below, items_faults, list_faults, member_of, members_faults, missing_faults, object_faults, optional_faults, refused_faults, row_faults, row_named, word_faults}
 use Rattle.profile_text.specs.State.{state_of}
 use Rattle.profile_text.specs.Text.{text_of}
+use Rattle.no_memory.specs.Witness.{witness}
 
 -- a fault other than out of memory
 abbrev IsFilterFault : FilterFault → Type 0
-IsFilterFault filter_faults.NoMemory = ⊥
+IsFilterFault (filter_faults.NoMemory _) = ⊥
 IsFilterFault _ = Unit {0}
 
 abbrev IsFault : DocFault → Type 0
-IsFault faults.NoMemory = ⊥
+IsFault (faults.NoMemory _) = ⊥
 IsFault (faults.Filter fault) = IsFilterFault fault
 IsFault _ = Unit {0}
 
@@ -268,8 +269,8 @@ reading_told : (bytes : List ℕ) → IfFault (reading_of bytes)
 unfolding reading_of
 reading_told bytes = after (stored_reading_of bytes) if_short (stored_told bytes) (λ p. short_told (nat_lt most_bytes (length (text_of p))) p)
 
-pub never_memory : (bytes : List ℕ) → reading_of bytes ≡ Err faults.NoMemory → ⊥
+pub never_memory : (bytes : List ℕ) → reading_of bytes ≡ Err (faults.NoMemory witness) → ⊥
 never_memory bytes e = subst IfFault e (reading_told bytes)
 
-pub never_memory_of_a_filter : (bytes : List ℕ) → reading_of bytes ≡ Err (faults.Filter filter_faults.NoMemory) → ⊥
+pub never_memory_of_a_filter : (bytes : List ℕ) → reading_of bytes ≡ Err (faults.Filter (filter_faults.NoMemory witness)) → ⊥
 never_memory_of_a_filter bytes e = subst IfFault e (reading_told bytes)

@@ -16,5 +16,5 @@ fault_text_of (faults.NotInProfile path) = codes "not-in-profile " ++ path
 fault_text_of (faults.BadNumber path) = codes "bad-number " ++ path
 fault_text_of (faults.Caps fault) = fault_text fault
 fault_text_of (faults.Filter fault) = filter_fault_text fault
-fault_text_of faults.NoMemory = codes "memory"
+fault_text_of (faults.NoMemory _) = codes "memory"
 fault_text_of faults.TextTooLong = codes "text-too-long"

@@ -19,6 +19,7 @@ use Rattle.profile_text.specs.Document.{document_faults}
 use Rattle.profile_text.specs.Parts.{document_parts}
 use Rattle.profile_text.specs.State.{state_of}
 use Rattle.profile_text.specs.Text.{text_of}
+use Rattle.no_memory.specs.Witness.{witness}
 
 -- how many bytes a document and a canonical text may have
 abbrev pub most_bytes : ℕ
@@ -82,12 +83,12 @@ reading_of bytes = stored_reading_of bytes >>= if_short
 -- what a reader gives is what is read; out of memory may stand in its place
 abbrev pub Gives : {X : Type 0} → Result X DocFault → Result X DocFault → Type 0
 Gives (Ok x) reading = reading ≡ Ok x
-Gives (Err fault) reading = (fault ≡ NoMemory) ⊎ (reading ≡ Err fault)
+Gives (Err fault) reading = (fault ≡ NoMemory witness) ⊎ (reading ≡ Err fault)
 
 -- a reader's value, as a rule sees it, is what is read; out of memory may stand in its place
 abbrev pub GivesAs : {X Y : Type 0} → (X → Y) → Result X DocFault → Result Y DocFault → Type 0
 GivesAs seen (Ok x) reading = reading ≡ Ok (seen x)
-GivesAs seen (Err fault) reading = (fault ≡ NoMemory) ⊎ (reading ≡ Err fault)
+GivesAs seen (Err fault) reading = (fault ≡ NoMemory witness) ⊎ (reading ≡ Err fault)
 
 -- the text of a document is the canonical one of its profile
 abbrev pub HasItsText : Document → Type 0

@@ -135,7 +135,8 @@ fn args_in(
             position: args.len(),
         };
         let arg = arg_of(alloc, place, value)?;
-        args.push(arg).map_err(|_| DocFault::NoMemory)?;
+        args.push(arg)
+            .map_err(|refused| DocFault::NoMemory(refused.into()))?;
     }
     Ok(args)
 }

@@ -162,7 +162,7 @@ pub fn read_stored(alloc: Global, bytes: &[u8]) -> Result<Profile, DocFault>
     match Tree::from_slice(alloc, bytes, &mut scratch) {
         Ok(value) => profile_of(alloc, &value),
         Err(ReadFault::NotJson) => Err(DocFault::NotJson),
-        Err(ReadFault::NoMemory) => Err(DocFault::NoMemory),
+        Err(ReadFault::NoMemory(witness)) => Err(DocFault::NoMemory(witness)),
     }
 }
 

@@ -33,7 +33,9 @@ fn names_in(
     let mut names = Vec::with_capacity(alloc, values.len())?;
     for value in values {
         let text = text_of(alloc, place, name, names.len(), value)?;
-        names.push(text).map_err(|_| DocFault::NoMemory)?;
+        names
+            .push(text)
+            .map_err(|refused| DocFault::NoMemory(refused.into()))?;
     }
     Ok(names)
 }
@@ -171,7 +173,9 @@ fn entries_in(alloc: Global, values: &[Tree<'_>]) -> Result<Vec<EntryParts>, Doc
     let mut entries = Vec::with_capacity(alloc, values.len())?;
     for value in values {
         let entry = entry_of(alloc, entries.len(), value)?;
-        entries.push(entry).map_err(|_| DocFault::NoMemory)?;
+        entries
+            .push(entry)
+            .map_err(|refused| DocFault::NoMemory(refused.into()))?;
     }
     Ok(entries)
 }

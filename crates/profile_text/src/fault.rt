@@ -5,6 +5,7 @@ ghost use Rattle.profile_text.specs.FaultText.{fault_text_of};
 
 use crate::place::Place;
 use cap_sets::CapFault;
+use no_memory::NoMemory;
 use seccomp_doc::FilterFault;
 use std::alloc::{AllocError, Global};
 use std::error::Error;
@@ -102,9 +103,8 @@ pub enum DocFault {
     Caps(CapFault),
     /// The parts of `seccomp` are no filter.
     Filter(FilterFault),
-    /// Memory was refused, and never inside `Filter`. No contract can say when: it may stand in
-    /// place of any answer.
-    NoMemory,
+    /// Memory was refused, and never inside `Filter`.
+    NoMemory(NoMemory),
     /// The canonical text has more than 262,144 bytes.
     TextTooLong,
 }
@@ -112,11 +112,12 @@ pub enum DocFault {
 impl From<AllocError> for DocFault {
     ghost use Rattle.std.specs.Prelude.{◌≡◌};
     ghost use Rattle.profile_text.specs.declared.fault.DocFault.TheVariants.{NoMemory};
+    ghost use Rattle.no_memory.specs.Witness.{witness};
 
-    ghost from_gives = { λ _ fault. fault ≡ NoMemory };
+    ghost from_gives = { λ _ fault. fault ≡ NoMemory witness };
 
-    fn from(_error: AllocError) -> DocFault {
-        DocFault::NoMemory
+    fn from(refused: AllocError) -> DocFault {
+        DocFault::NoMemory(refused.into())
     }
 }
 
@@ -138,7 +139,7 @@ impl fmt::Display for DocFault {
             DocFault::BadNumber(path) => write!(f, "bad-number {}", path.as_str()),
             DocFault::Caps(fault) => write!(f, "{fault}"),
             DocFault::Filter(fault) => write!(f, "{fault}"),
-            DocFault::NoMemory => write!(f, "memory"),
+            DocFault::NoMemory(_) => write!(f, "memory"),
             DocFault::TextTooLong => write!(f, "text-too-long"),
         }
     }

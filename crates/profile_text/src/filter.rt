@@ -140,7 +140,7 @@ pub(crate) fn filter_of(
     };
     match Filter::new(alloc, parts) {
         Ok(filter) => Ok(Some(filter)),
-        Err(FilterFault::NoMemory) => Err(DocFault::NoMemory),
+        Err(FilterFault::NoMemory(witness)) => Err(DocFault::NoMemory(witness)),
         Err(fault) => Err(DocFault::Filter(fault)),
     }
 }

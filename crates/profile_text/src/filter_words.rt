@@ -34,7 +34,7 @@ fn word_of<F: Form>(
             Err(NameFault::NotAWord) => {
                 Err(DocFault::UnknownWord(Path::of_item(alloc, place, name, position)?))
             }
-            Err(NameFault::NoMemory) => Err(DocFault::NoMemory),
+            Err(NameFault::NoMemory(witness)) => Err(DocFault::NoMemory(witness)),
         },
         _ => Err(DocFault::WrongShape(Path::of_item(alloc, place, name, position)?)),
     }
@@ -55,7 +55,9 @@ fn words_in<F: Form>(
     let mut words = Vec::with_capacity(alloc, values.len())?;
     for value in values {
         let word = word_of(alloc, place, name, words.len(), value)?;
-        words.push(word).map_err(|_| DocFault::NoMemory)?;
+        words
+            .push(word)
+            .map_err(|refused| DocFault::NoMemory(refused.into()))?;
     }
     Ok(words)
 }

@@ -5,6 +5,7 @@ ghost use Rattle.profile_text.specs.declared.profile.Profile.{Profile};
 ghost use Rattle.profile_text.specs.Reading.{most_bytes, reading_of};
 ghost use Rattle.profile_text.specs.Reads.{HasKnownCaps, HasWholeFilter, Reads};
 ghost use Rattle.profile_text.specs.Text.{text_of};
+ghost use Rattle.no_memory.specs.Witness.{witness};
 
 use crate::fault::DocFault;
 use seccomp_doc::FilterFault;
@@ -28,7 +29,7 @@ pub fn canonical_texts_keep_the_reading()
 
 /// Want of memory is never what bytes read as, and neither is it a fault of their filter.
 pub fn want_of_memory_is_no_reading()
-    ensures alone { (bytes : List ℕ) → reading_of bytes ≢ Err DocFault.NoMemory }
+    ensures alone { (bytes : List ℕ) → reading_of bytes ≢ Err (DocFault.NoMemory witness) }
     ensures of_a_filter { (bytes : List ℕ)
-        → reading_of bytes ≢ Err (DocFault.Filter FilterFault.NoMemory) }
+        → reading_of bytes ≢ Err (DocFault.Filter (FilterFault.NoMemory witness)) }
 {}

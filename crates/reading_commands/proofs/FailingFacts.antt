@@ -7,12 +7,14 @@ use Rattle.command_line.specs.declared.command.ExecveWords.{ExecveWords}
 use Rattle.desk_http.specs.Lines.{IsCut}
 use Rattle.profile_commands.specs.Comparing.{IsCompared}
 use Rattle.profile_commands.specs.Executions.{execution_of, IsExecuted}
-use Rattle.profile_commands.specs.Refusal.{no_memory, IsChecked, RefusesAs}
+use Rattle.profile_commands.specs.Refusal.{IsChecked, RefusesAs}
 use Rattle.profile_commands.specs.declared.compare.ComparedFault.{ComparedFault}
 use Rattle.profile_commands.specs.declared.execution.Execution.{Execution}
 use Rattle.profile_commands.specs.declared.execution.ExecutionFault.{ExecutionFault}
 use Rattle.profile_commands.specs.declared.execve.ExecveOutcome.{ExecveOutcome}
 use Rattle.profile_commands.specs.declared.fault.FileFault.{FileFault}
+use Rattle.profile_commands.specs.declared.fault.FileFault.TheVariants as faults
+use Rattle.streams.specs.declared.up_to.Unread.TheVariants.{TooManyReads}
 use Rattle.streams.specs.declared.counted.Counted.{Counted}
 use Rattle.reading_commands.specs.Documents.{file_of, outcome_text, source_bytes, IsSource}
 use Rattle.command_host.specs.FailedCalls.{CallFailed}
@@ -28,8 +30,8 @@ pub failed_by : {A : Type 0} (Fails : CommandFault → Type 0) (result : Result 
 failed_by Fails (Ok a) why is fails = tt
 failed_by Fails (Err e) why is fails = subst Fails (sym is) fails
 
--- a want of memory is no fault of bytes
-unread : (known : Option (List ℕ)) → IfSome known (λ bytes. RefusesAs bytes no_memory)
+-- too many calls are no fault of bytes
+unread : (known : Option (List ℕ)) → IfSome known (λ bytes. RefusesAs bytes (faults.Unread TooManyReads))
 unread None = tt
 unread (Some bytes) = tt
 

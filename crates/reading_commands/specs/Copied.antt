@@ -15,6 +15,8 @@ use Rattle.command_host.specs.FailedCalls.{CallFailed}
 use Rattle.command_host.specs.Openings.{fault_of_opening, IsNoOffice, IsOpenedOffice}
 use Rattle.command_host.specs.declared.fault.CommandFault.{CommandFault}
 use Rattle.command_host.specs.declared.fault.CommandFault.TheVariants as fault
+use Rattle.profile_commands.specs.declared.fault.FileFault.TheVariants as file
+use Rattle.streams.specs.declared.up_to.Unread.TheVariants as unread
 use Rattle.reading_commands.specs.Places.{IsMissing}
 use Rattle.reading_commands.specs.declared.place.Place.{Place}
 
@@ -31,7 +33,8 @@ front_of log all = take (extent_of log (take head_bytes all)) all
 abbrev pub IsOfReading : {F : Type 0} (Gives : F → F → Result ℕ Error → List ℕ → Type 0)
     → CommandFault → Type 0
 IsOfReading Gives (fault.Store Disk) = ∥ CallFailed Gives ∥₁
-IsOfReading Gives (fault.Store NoMemory) = Unit {0}
+IsOfReading Gives (fault.Store (NoMemory _)) = Unit {0}
+IsOfReading Gives (fault.File (file.Unread unread.TooManyReads)) = Unit {0}
 IsOfReading Gives _ = ⊥
 
 -- of a file of which this is known as it is opened, and whose bytes are these: a log, or a database
@@ -43,7 +46,7 @@ module _ {F : Type 0} (Opened : Result F Error → Type 0) where
       × IfSome (bytes_of file) (λ all. bytes ≡ front_of log all)
 
   -- The file gave none, for this. Nothing is there; or what is there can't be opened, or a call of
-  -- read on it failed. Or memory was lacking, or more of the file was wanted than is read.
+  -- read on it failed. Or memory was lacking, or more calls or bytes were wanted than are read.
   abbrev pub GaveNone : (Gives : F → F → Result ℕ Error → List ℕ → Type 0)
       → (F → Option (List ℕ)) → Option (List ℕ) → CommandFault → Type 0
   GaveNone Gives bytes_of log (fault.Store NotAnOffice) =
@@ -51,7 +54,9 @@ module _ {F : Type 0} (Opened : Result F Error → Type 0) where
   GaveNone Gives bytes_of log (fault.Store Disk) =
       ((e : Error) × Opened (Err e) × (error_kind e ≢ kind.NotFound))
       ⊎ ((file : F) × Opened (Ok file) × ∥ CallFailed Gives ∥₁)
-  GaveNone Gives bytes_of log (fault.Store NoMemory) = (file : F) × Opened (Ok file)
+  GaveNone Gives bytes_of log (fault.Store (NoMemory _)) = (file : F) × Opened (Ok file)
+  GaveNone Gives bytes_of log (fault.File (file.Unread unread.TooManyReads)) =
+      (file : F) × Opened (Ok file)
   GaveNone Gives bytes_of log fault.TooLarge = (file : F) × Opened (Ok file)
       × IfSome (bytes_of file) (λ all. most_bytes < length (front_of log all))
   GaveNone Gives bytes_of log _ = ⊥

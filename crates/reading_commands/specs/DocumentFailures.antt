@@ -7,7 +7,7 @@ use Rattle.command_line.specs.declared.command.ExecveWords.{ExecveWords}
 use Rattle.desk_http.specs.Lines.{IsCut}
 use Rattle.profile_commands.specs.Comparing.{IsBase, IsCompared, IsNew}
 use Rattle.profile_commands.specs.Executions.{execution_of, IsExecuted}
-use Rattle.profile_commands.specs.Refusal.{no_memory, IsChecked, RefusesAs}
+use Rattle.profile_commands.specs.Refusal.{IsChecked, RefusesAs}
 use Rattle.profile_commands.specs.declared.compare.ComparedFault.{ComparedFault}
 use Rattle.profile_commands.specs.declared.execution.Execution.{Execution}
 use Rattle.profile_commands.specs.declared.execve.ExecveOutcome.{ExecveOutcome}
@@ -26,12 +26,12 @@ abbrev pub failed_read : FileFault
 failed_read = file.Unread unread.Failed
 
 -- Where a file gave nothing by this fault, that is told: the same, and a call of read failed where it
--- is that the file couldn't be read; or, where it is that, a want of memory.
+-- is that the file couldn't be read; or, where it is that, too many calls.
 abbrev pub IsToldOfFile : {F : Type 0} (Gives : F → F → Result ℕ Error → List ℕ → Type 0)
     → (met told : FileFault) → Type 0
 IsToldOfFile Gives met told =
     ((told ≡ met) × (met ≡ failed_read → ∥ CallFailed Gives ∥₁))
-    ⊎ ((told ≡ no_memory) × (met ≡ failed_read))
+    ⊎ ((told ≡ file.Unread unread.TooManyReads) × (met ≡ failed_read))
 
 -- Files of which this is known as they are opened at a path, and whose bytes are these.
 module _ {F : Type 0} (Opens : List ℕ → Result F Error → Type 0)

@@ -31,5 +31,5 @@ module _ (Found : Result (PathBuf Global) Error → Type 0) where
   abbrev pub IsNoPlace : CommandFault → Type 0
   IsNoPlace (fault.Store NotAnOffice) = (e : Error) × Found (Err e) × IsMissing e
   IsNoPlace (fault.Store Disk) = (e : Error) × Found (Err e) × (error_kind e ≢ kind.NotFound)
-  IsNoPlace (fault.Store NoMemory) = Unit {0}
+  IsNoPlace (fault.Store (NoMemory _)) = Unit {0}
   IsNoPlace _ = ⊥

@@ -21,11 +21,12 @@ use Rattle.office_desk.specs.Meant.{meaning_over}
 use Rattle.review_policy.specs.Words.{is_word}
 use Rattle.review_policy.specs.declared.ask.ProfileName.{ProfileName}
 use Rattle.streams.specs.declared.counted.Counted.{Counted}
+use Rattle.no_memory.specs.Witness.{witness}
 
 -- the text is no word, or there was no memory for it
 abbrev pub IsNoWord : List ℕ → CommandFault → Type 0
 IsNoWord text fault.NotAWord = is_word text ≡ false
-IsNoWord text fault.NoMemory = Unit {0}
+IsNoWord text (fault.NoMemory _) = Unit {0}
 IsNoWord text _ = ⊥
 
 -- a text that is given is no word, or there was no memory for it
@@ -87,7 +88,7 @@ module _ {F : Type 0} (Opens : List ℕ → Result F Error → Type 0)
     -- no evidence, which is told
     abbrev pub IsNoEvidenceAt : CommandFault → Type 0
     IsNoEvidenceAt why =
-        IsNoProfile words why ⊎ IsNoText (Opens words.journal.now) why ⊎ (why ≡ fault.NoMemory)
+        IsNoProfile words why ⊎ IsNoText (Opens words.journal.now) why ⊎ (why ≡ fault.NoMemory witness)
         ⊎ ((met : NoEvidence) × HasNoEvidence met × IsToldOf Gives (fault.NoEvidence met) why)
 
   -- What an output has after what it had.
@@ -129,6 +130,6 @@ module _ {F : Type 0} (Opens : List ℕ → Result F Error → Type 0)
       -- lacking, and nothing was written. Or not each line was written, which is told
       abbrev pub IsUntoldAt : CommandFault → Type 0
       IsUntoldAt why =
-          ((NamesNone words why ⊎ IsNoText (Opens words.journal.now) why ⊎ (why ≡ fault.NoMemory))
+          ((NamesNone words why ⊎ IsNoText (Opens words.journal.now) why ⊎ (why ≡ fault.NoMemory witness))
           × (wrote ≡ output))
           ⊎ ((met : Unwritten) × WasUntold met × IsToldOf Gives (fault.Unwritten met) why)

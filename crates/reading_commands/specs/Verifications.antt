@@ -117,7 +117,7 @@ module _ {F : Type 0} (Opens : List ℕ → Result F IoError → Type 0)
     -- the line of an office that was verified wasn't printed, for want of memory, or was cut
     abbrev pub IsUnsaid : (contents : O → Option (List ℕ)) (output wrote : Counted O) → Verified
         → CommandFault → Type 0
-    IsUnsaid contents output wrote verified fault.NoMemory = wrote ≡ output
+    IsUnsaid contents output wrote verified (fault.NoMemory _) = wrote ≡ output
     IsUnsaid contents output wrote verified fault.Write = IsCut contents output wrote
         (seal_line (codes "verified") verified.events verified.seal)
     IsUnsaid contents output wrote verified _ = ⊥

@@ -15,12 +15,14 @@ use crate::place::Place;
 use command_host::{CommandFault, Noted, PassFiles, fault_of_opening};
 use database_head::{HEAD, MOST, database_extent, log_extent};
 use memory_database::{CopyStore, open_copy};
+use no_memory::NoMemory;
 use office_desk::Office;
+use profile_commands::FileFault;
 use review_policy::Fault;
 use sqlite::Connection;
 use std::alloc::Global;
-use std::io::{ErrorKind, Read};
-use streams::{Counted, read_up_to};
+use std::io::{self, ErrorKind, Read};
+use streams::{Counted, Unread, read_up_to};
 
 // The most calls of read for the head of a file.
 const MOST_READS: u64 = 1 << 62;
@@ -44,14 +46,27 @@ fn extent_of(log: Option<&[u8]>, head: &[u8]) -> u64
     }
 }
 
-// Why a file gave no bytes.
-fn unread<F: PassFiles>(file: &Noted<'_, F>) -> CommandFault
+// Why a file gave no bytes, where reading it ended so.
+fn unread<F: PassFiles>(file: &Noted<'_, F>, met: Unread) -> CommandFault
     ensures { IsOfReading F.gives result }
 {
-    if file.has_failed() {
-        CommandFault::Store(Fault::Disk)
-    } else {
-        CommandFault::Store(Fault::NoMemory)
+    match met {
+        Unread::NoMemory(witness) => CommandFault::Store(Fault::NoMemory(witness)),
+        Unread::Failed | Unread::TooManyReads => {
+            if file.has_failed() {
+                CommandFault::Store(Fault::Disk)
+            } else {
+                CommandFault::File(FileFault::Unread(Unread::TooManyReads))
+            }
+        }
+    }
+}
+
+// How reading the rest of a file ended.
+fn unread_rest(error: &io::Error) -> Unread {
+    match error.kind() {
+        ErrorKind::OutOfMemory => Unread::NoMemory(NoMemory::told()),
+        _ => Unread::Failed,
     }
 }
 
@@ -68,13 +83,13 @@ fn front_in<F: PassFiles>(
     let mut counted = Counted::new(file);
     let mut bytes = match read_up_to(alloc, &mut counted, HEAD, MOST_READS) {
         Ok(bytes) => bytes,
-        Err(_) => return Err(unread(&counted.into_inner())),
+        Err(met) => return Err(unread(&counted.into_inner(), met)),
     };
     let rest = extent_of(log, &bytes) - HEAD as u64;
     let mut file = counted.into_inner().take(rest);
     match file.read_to_end(&mut bytes) {
         Ok(_) => Ok(bytes),
-        Err(_) => Err(unread(&file.into_inner())),
+        Err(error) => Err(unread(&file.into_inner(), unread_rest(&error))),
     }
 }
 

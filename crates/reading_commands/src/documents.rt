@@ -31,7 +31,7 @@ fn open<'f, F: PassFiles>(files: &'f F, word: &str) -> Result<Counted<Noted<'f, 
     }
 }
 
-// What is told where a file gave nothing by this fault. `NoMemory` stands in place of a failed read
+// What is told where a file gave nothing by this fault. `TooManyReads` stands in place of a failed read
 // where no call of read failed, which no file has.
 fn told_of_file<F: PassFiles>(reader: Counted<Noted<'_, F>>, met: FileFault) -> FileFault
     ensures { IsToldOfFile F.gives met result }
@@ -39,7 +39,7 @@ fn told_of_file<F: PassFiles>(reader: Counted<Noted<'_, F>>, met: FileFault) -> 
     let file = reader.into_inner();
     match met {
         FileFault::Unread(Unread::Failed) if !file.has_failed() => {
-            FileFault::Unread(Unread::NoMemory)
+            FileFault::Unread(Unread::TooManyReads)
         }
         met => met,
     }

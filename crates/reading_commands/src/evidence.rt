@@ -41,8 +41,9 @@ pub(crate) fn evidence_at<F: PassFiles>(
 {
     let name = profile_of(alloc, words)?;
     let mut text = text_at(files, alloc, words.journal)?;
-    let Ok(conn) = open_in_memory(alloc) else {
-        return Err(CommandFault::NoMemory);
+    let conn = match open_in_memory(alloc) {
+        Ok(conn) => conn,
+        Err(refused) => return Err(CommandFault::NoMemory(refused.into())),
     };
     match evidence(alloc, conn, &mut text, &name, words.revision, words.line) {
         Ok((text, _)) => Ok(text),

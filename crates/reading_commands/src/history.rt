@@ -70,8 +70,9 @@ pub fn run_history<F: PassFiles, O: Write>(
 {
     let names = names_of(alloc, words)?;
     let mut text = text_at(files, alloc, words.journal)?;
-    let Ok(conn) = open_in_memory(alloc) else {
-        return Err(CommandFault::NoMemory);
+    let conn = match open_in_memory(alloc) {
+        Ok(conn) => conn,
+        Err(refused) => return Err(CommandFault::NoMemory(refused.into())),
     };
     let filter = filter_of(&names, words);
     match write_history(alloc, conn, &mut text, &filter, output) {

@@ -19,7 +19,7 @@ pub(crate) fn word_of(alloc: Global, text: &str) -> Result<Word, CommandFault>
     match Word::new(alloc, text) {
         Ok(word) => Ok(word),
         Err(WordFault::NotAWord) => Err(CommandFault::NotAWord),
-        Err(WordFault::NoMemory) => Err(CommandFault::NoMemory),
+        Err(WordFault::NoMemory(witness)) => Err(CommandFault::NoMemory(witness)),
     }
 }
 

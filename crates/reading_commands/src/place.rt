@@ -4,6 +4,7 @@ ghost use Rattle.std.specs.Prelude.{◌≡◌, IfErr, IfOk};
 ghost use Rattle.reading_commands.specs.Places.{IsNoPlace, IsPlace};
 
 use command_host::{CommandFault, PassFiles};
+use no_memory::NoMemory;
 use review_policy::Fault;
 use std::alloc::Global;
 use std::io::ErrorKind;
@@ -36,13 +37,13 @@ pub(crate) fn place_at<F: PassFiles>(
         Err(error) => {
             return Err(CommandFault::Store(match error.kind() {
                 ErrorKind::NotFound => Fault::NotAnOffice,
-                ErrorKind::OutOfMemory => Fault::NoMemory,
+                ErrorKind::OutOfMemory => Fault::NoMemory(NoMemory::told()),
                 _ => Fault::Disk,
             }));
         }
     };
     match format!(in alloc; "{}-wal", database.as_str()) {
         Ok(log) => Ok(Place { database, log }),
-        Err(_) => Err(CommandFault::Store(Fault::NoMemory)),
+        Err(refused) => Err(CommandFault::Store(Fault::NoMemory(refused.into()))),
     }
 }

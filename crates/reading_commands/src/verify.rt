@@ -113,8 +113,9 @@ pub fn run_verify<F: PassFiles, O: Write, E: Write>(
         (F.places files.now words.now.database.now) (F.stamps files.now) words.now.journal.now }
 {
     let verified = verify_at(files, alloc, words, errors)?;
-    let Ok(line) = seal_line(alloc, "verified", verified.events, &verified.seal) else {
-        return Err(CommandFault::NoMemory);
+    let line = match seal_line(alloc, "verified", verified.events, &verified.seal) {
+        Ok(line) => line,
+        Err(refused) => return Err(CommandFault::NoMemory(refused.into())),
     };
     print_bytes(output, &line)?;
     Ok(0)

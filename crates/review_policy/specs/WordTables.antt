@@ -60,7 +60,7 @@ state_word Withdrawn = codes "withdrawn"
 
 -- the word of each fault
 abbrev pub fault_word : Fault → List ℕ
-fault_word NoMemory = codes "memory"
+fault_word (NoMemory _) = codes "memory"
 fault_word Disk = codes "disk"
 fault_word Full = codes "full"
 fault_word NotAnOffice = codes "not-an-office"

@@ -3,7 +3,9 @@
 ghost use Rattle.std.specs.Prelude.{◌≡◌, ◌∷◌, [], codes, map};
 ghost use Rattle.review_policy.specs.WordTables.{fault_word};
 ghost use Rattle.review_policy.specs.declared.fault.Fault.TheVariants as faults;
+ghost use Rattle.no_memory.specs.Witness.{witness};
 
+use no_memory::NoMemory;
 use std::alloc::AllocError;
 use std::error::Error;
 use std::fmt;
@@ -12,8 +14,8 @@ use std::fmt;
 /// open, its tables are as they were. Its text is one word.
 #[derive(Clone, Copy, Debug, Drop, PartialEq, Eq)]
 pub enum Fault {
-    /// There was no memory. No contract can say when: it may stand in place of any answer.
-    NoMemory,
+    /// There was no memory.
+    NoMemory(NoMemory),
     /// The disk failed, or the store refused a call for another cause, as a second row under one
     /// key.
     Disk,
@@ -29,7 +31,7 @@ impl Fault {
         ensures { result.now ≡ fault_word self }
     {
         match self {
-            Fault::NoMemory => "memory",
+            Fault::NoMemory(_) => "memory",
             Fault::Disk => "disk",
             Fault::Full => "full",
             Fault::NotAnOffice => "not-an-office",
@@ -53,16 +55,17 @@ impl Error for Fault {}
 impl From<AllocError> for Fault {
     ghost use Rattle.std.specs.Prelude.{◌≡◌};
     ghost use Rattle.review_policy.specs.declared.fault.Fault.TheVariants.{NoMemory};
+    ghost use Rattle.no_memory.specs.Witness.{witness};
 
-    ghost from_gives = { λ _ e. e ≡ NoMemory };
+    ghost from_gives = { λ _ e. e ≡ NoMemory witness };
 
-    fn from(_error: AllocError) -> Fault {
-        Fault::NoMemory
+    fn from(refused: AllocError) -> Fault {
+        Fault::NoMemory(refused.into())
     }
 }
 
 /// The word of each fault.
 pub fn each_fault_has_its_word()
-    ensures { map fault_word (faults.NoMemory ∷ faults.Disk ∷ faults.Full ∷ faults.NotAnOffice ∷ [])
+    ensures { map fault_word ((faults.NoMemory witness) ∷ faults.Disk ∷ faults.Full ∷ faults.NotAnOffice ∷ [])
         ≡ codes "memory" ∷ codes "disk" ∷ codes "full" ∷ codes "not-an-office" ∷ [] }
 {}

@@ -4,6 +4,7 @@ ghost use Rattle.std.specs.Prelude.{◌≡◌, ◌↔◌, true, false, Err, byte
 ghost use Rattle.review_policy.specs.Words.{is_word, is_word_byte};
 ghost use Rattle.std.specs.List.{list_all};
 
+use no_memory::NoMemory;
 use std::alloc::{AllocError, Global};
 use std::marker::Model;
 use thiserror::Error;
@@ -31,19 +32,20 @@ pub enum WordFault {
     /// The text isn't of the form.
     #[error("not-a-word")]
     NotAWord,
-    /// There was no memory for it. No contract can say when: it may stand in place of any answer.
+    /// There was no memory for it.
     #[error("memory")]
-    NoMemory,
+    NoMemory(NoMemory),
 }
 
 impl From<AllocError> for WordFault {
     ghost use Rattle.std.specs.Prelude.{◌≡◌};
     ghost use Rattle.review_policy.specs.declared.word.WordFault.TheVariants.{NoMemory};
+    ghost use Rattle.no_memory.specs.Witness.{witness};
 
-    ghost from_gives = { λ _ e. e ≡ NoMemory };
+    ghost from_gives = { λ _ e. e ≡ NoMemory witness };
 
-    fn from(_error: AllocError) -> WordFault {
-        WordFault::NoMemory
+    fn from(refused: AllocError) -> WordFault {
+        WordFault::NoMemory(refused.into())
     }
 }
 

@@ -10,7 +10,8 @@ use Rattle.sqlite_disk.specs.declared.Disk.{Ghosts}
 use Rattle.sqlite_disk.specs.declared.tally.Tally.{Tally}
 use Rattle.sealed_log.specs.Faults.{HasFailed, IsMetBetween, IsOfCall, fault_of_kind}
 use Rattle.sealed_log.specs.declared.fault.LogFault.{LogFault}
-use Rattle.sealed_log.specs.declared.fault.LogFault.TheVariants.{Memory}
+use Rattle.sealed_log.specs.declared.fault.LogFault.TheVariants.{NoMemory}
+use Rattle.no_memory.specs.Witness.{witness}
 
 -- a `?` that leaves with this error
 pub left_with : {T E : Type 0} (P : E → Type 0) (result : Result T E) (error : E) → IsErrAnd result (λ e. e ≡ error) → P error → IfErr result P
@@ -106,5 +107,5 @@ module _ {D : Type 0} (g : Ghosts D) where
   left_by_read old new result error is more same =
       left_with (IsMetBetween g old new) result (fault_of_kind (error_kind error)) is (inr (of_call old new error _ (read_failed old new error more same) refl))
 
-  pub without_memory : {T : Type 0} (old new : D) (result : Result T LogFault) → IsErrAnd result (λ e. e ≡ Memory) → IfErr result (IsMetBetween g old new)
-  without_memory old new result is = left_with (IsMetBetween g old new) result Memory is (inl refl)
+  pub without_memory : {T : Type 0} (old new : D) (result : Result T LogFault) → IsErrAnd result (λ e. e ≡ NoMemory witness) → IfErr result (IsMetBetween g old new)
+  without_memory old new result is = left_with (IsMetBetween g old new) result (NoMemory witness) is (inl refl)

@@ -9,6 +9,7 @@ use Rattle.sealed_log.specs.Told.{IsSeal, body_in, is_sealed}
 use Rattle.sealed_log.specs.declared.input.NoBody.{NoBody}
 use Rattle.sealed_log.specs.declared.input.NoBody.TheVariants.{NoMemory, Unsealed}
 use Rattle.sealed_log.proofs.ToldFacts.{IsBody-body_in, whole_line}
+use Rattle.no_memory.specs.Witness.{witness}
 
 -- a `?` that leaves with this fault
 pub left_with : (old new : Option (List ℕ)) (prior seal body : List ℕ) (result : Result Bool NoBody) (fault : NoBody) → IsErrAnd result (λ e. e ≡ fault)
@@ -20,7 +21,7 @@ pub no_text : (old new : Option (List ℕ)) (text prior : List ℕ) (fault : NoB
 no_text None new text prior fault read = tt
 no_text (Some bytes) new text prior fault read = read prior
 
-no_memory : (old : Option (List ℕ)) (prior : List ℕ) → IfSome old (λ bytes. HasNoBody NoMemory prior bytes)
+no_memory : (old : Option (List ℕ)) (prior : List ℕ) → IfSome old (λ bytes. HasNoBody (NoMemory witness) prior bytes)
 no_memory None prior = tt
 no_memory (Some bytes) prior = tt
 

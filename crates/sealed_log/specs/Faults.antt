@@ -9,11 +9,12 @@ use Rattle.sqlite_disk.specs.declared.Disk.{Ghosts}
 use Rattle.sqlite_disk.specs.Disk.{MoreFaults}
 use Rattle.sqlite_disk.specs.Refusal.{is_no_room}
 use Rattle.sealed_log.specs.declared.fault.LogFault.{LogFault}
-use Rattle.sealed_log.specs.declared.fault.LogFault.TheVariants.{Memory, Disk, Full}
+use Rattle.sealed_log.specs.declared.fault.LogFault.TheVariants.{NoMemory, Disk, Full}
+use Rattle.no_memory.specs.Witness.{witness}
 
 -- the fault of a call that failed with an error of this kind
 abbrev pub fault_of_kind : ErrorKind → LogFault
-fault_of_kind OutOfMemory = Memory
+fault_of_kind OutOfMemory = NoMemory witness
 fault_of_kind StorageFull = Full
 fault_of_kind QuotaExceeded = Full
 fault_of_kind FileTooLarge = Full
@@ -38,4 +39,4 @@ module _ {D : Type 0} (g : Ghosts D) where
 
   -- or there was no memory
   abbrev pub IsMetBetween : (old new : D) → LogFault → Type 0
-  IsMetBetween old new fault = (fault ≡ Memory) ⊎ IsOfCall old new fault
+  IsMetBetween old new fault = (fault ≡ NoMemory witness) ⊎ IsOfCall old new fault

@@ -13,10 +13,11 @@ use Rattle.sealed_log.specs.declared.input.Piece.TheVariants.{Nothing, Part, Who
 use Rattle.sealed_log.specs.declared.input.NoBody.{NoBody}
 use Rattle.sealed_log.specs.declared.input.NoBody.TheVariants.{Unsealed, TooLong, Torn, Read}
 use Rattle.sealed_log.specs.declared.input.NoBody.TheVariants.{NoMemory}
+use Rattle.no_memory.specs.Witness.{witness}
 
 -- why the input isn't read
 abbrev pub input_fault : ErrorKind → NoBody
-input_fault OutOfMemory = NoMemory
+input_fault OutOfMemory = NoMemory witness
 input_fault _ = Read
 
 -- what it makes of a piece of a line: a read that was interrupted is made again
@@ -30,7 +31,7 @@ IsOutside Unsealed = ⊥
 IsOutside TooLong = ⊥
 IsOutside Torn = ⊥
 IsOutside Read = Unit {0}
-IsOutside NoMemory = Unit {0}
+IsOutside (NoMemory _) = Unit {0}
 
 -- nothing was read, and it may be tried again; or the input or memory failed
 abbrev pub IsInterruption : Result Piece NoBody → Type 0
@@ -62,7 +63,7 @@ HasNoBody Unsealed prior bytes = IsUnsealed prior bytes
 HasNoBody TooLong prior bytes = IsTooLong bytes
 HasNoBody Torn prior bytes = NoFeed bytes × (bytes ≢ [])
 HasNoBody Read prior bytes = Unit {0}
-HasNoBody NoMemory prior bytes = Unit {0}
+HasNoBody (NoMemory _) prior bytes = Unit {0}
 
 -- a piece of a line was read, and what stands behind it
 pub record IsPiece (old new : Option (List ℕ)) (before after behind : List ℕ) : Type 0 where
@@ -98,7 +99,7 @@ ReadsText old new text (Err fault) =
 abbrev pub Unseals : (prior seal text body : List ℕ) → Result ⊤ NoBody → Type 0
 Unseals prior seal text body (Ok done) = IsSeal prior text seal × (body ≡ body_in text)
 Unseals prior seal text body (Err fault) =
-    (fault ≡ NoMemory) ⊎ ((fault ≡ Unsealed) × (is_sealed prior text ≡ false))
+    (fault ≡ NoMemory witness) ⊎ ((fault ≡ Unsealed) × (is_sealed prior text ≡ false))
 
 -- the first line is that of this body, and this is its seal
 pub record IsBodyOf (prior seal body bytes : List ℕ) (new : Option (List ℕ)) : Type 0 where

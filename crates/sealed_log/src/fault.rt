@@ -1,18 +1,20 @@
 ghost use Rattle.std.specs.Prelude.{◌≡◌};
 ghost use Rattle.std.specs.IoError.{error_kind};
 ghost use Rattle.sealed_log.specs.Faults.{fault_of_kind};
-ghost use Rattle.sealed_log.specs.declared.fault.LogFault.TheVariants.{Memory};
+ghost use Rattle.sealed_log.specs.declared.fault.LogFault.TheVariants.{NoMemory};
+ghost use Rattle.no_memory.specs.Witness.{witness};
 
-use std::alloc::{AllocError, AllocFailed};
+use no_memory::NoMemory;
+use std::alloc::AllocError;
 use std::io;
 use thiserror::Error;
 
 /// Why a log can't be read or written.
 #[derive(Clone, Copy, Debug, Drop, PartialEq, Eq, Error)]
 pub enum LogFault {
-    /// There was no memory. No contract can say when.
+    /// There was no memory.
     #[error("memory")]
-    Memory,
+    NoMemory(NoMemory),
     /// The disk failed, or an earlier failure shut the log.
     #[error("disk")]
     Disk,
@@ -22,10 +24,10 @@ pub enum LogFault {
 }
 
 impl From<AllocError> for LogFault {
-    ghost from_gives = { λ _ fault. fault ≡ Memory };
+    ghost from_gives = { λ _ fault. fault ≡ NoMemory witness };
 
-    fn from(_error: AllocError) -> LogFault {
-        LogFault::Memory
+    fn from(refused: AllocError) -> LogFault {
+        LogFault::NoMemory(refused.into())
     }
 }
 
@@ -34,7 +36,7 @@ impl From<io::Error> for LogFault {
 
     fn from(error: io::Error) -> LogFault {
         match error.kind() {
-            io::ErrorKind::OutOfMemory => LogFault::Memory,
+            io::ErrorKind::OutOfMemory => LogFault::NoMemory(NoMemory::told()),
             io::ErrorKind::StorageFull
             | io::ErrorKind::QuotaExceeded
             | io::ErrorKind::FileTooLarge => LogFault::Full,

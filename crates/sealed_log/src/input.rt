@@ -6,9 +6,11 @@ ghost use Rattle.sealed_log.specs.Input.{IsInterruption, ReadsBody, ReadsPiece, 
 ghost use Rattle.sealed_log.specs.Input.{input_fault, piece_of_kind};
 ghost use Rattle.sealed_log.specs.Sealed.{longest};
 ghost use Rattle.sealed_log.specs.declared.input.NoBody.TheVariants.{NoMemory};
+ghost use Rattle.no_memory.specs.Witness.{witness};
 
 use crate::lines::{LONGEST, find_feed};
 use crate::seals::{Seal, body_of, seal_in};
+use no_memory::NoMemory;
 use std::alloc::{AllocError, Global};
 use std::io::{BufRead, ErrorKind};
 use std::{cmp, io};
@@ -29,16 +31,16 @@ pub enum NoBody {
     /// The input failed. No contract can say when.
     #[error("read")]
     Read,
-    /// There was no memory. No contract can say when.
+    /// There was no memory.
     #[error("memory")]
-    NoMemory,
+    NoMemory(NoMemory),
 }
 
 impl From<AllocError> for NoBody {
-    ghost from_gives = { λ _ fault. fault ≡ NoMemory };
+    ghost from_gives = { λ _ fault. fault ≡ NoMemory witness };
 
-    fn from(_error: AllocError) -> NoBody {
-        NoBody::NoMemory
+    fn from(refused: AllocError) -> NoBody {
+        NoBody::NoMemory(refused.into())
     }
 }
 
@@ -47,7 +49,7 @@ fn fault_of(error: &io::Error) -> NoBody
     ensures { result ≡ input_fault (error_kind error.now) }
 {
     match error.kind() {
-        ErrorKind::OutOfMemory => NoBody::NoMemory,
+        ErrorKind::OutOfMemory => NoBody::NoMemory(NoMemory::told()),
         _ => NoBody::Read,
     }
 }

@@ -89,7 +89,7 @@ impl<D: Disk> SealedLog<D> {
     ///
     /// # Errors
     ///
-    /// The fault of the call of the disk that failed, or `Memory`; `Disk` where a sync had failed.
+    /// The fault of the call of the disk that failed, or `NoMemory`; `Disk` where a sync had failed.
     pub fn read<K: Keeps>(&mut self, alloc: Global, keeper: &mut K) -> Result<Through, LogFault>
         requires begun { K.is_of [] keeper.old }
         ensures through { IfOk result (λ through. IsTrue (D.is_clean self.new.disk)
@@ -191,7 +191,7 @@ impl<D: Disk> SealedLog<D> {
     ///
     /// # Errors
     ///
-    /// The fault of the call of the disk that failed, or `Memory`; `Disk` where the log is shut. A log
+    /// The fault of the call of the disk that failed, or `NoMemory`; `Disk` where the log is shut. A log
     /// that is still open has what it had.
     pub fn put(&mut self, alloc: Global, body: &[u8]) -> Result<(), LogFault>
         requires { IsBody body.now }
@@ -225,7 +225,7 @@ impl<D: Disk> SealedLog<D> {
     ///
     /// # Errors
     ///
-    /// The fault of the call of the disk that failed, or `Memory`; `Disk` where the log is shut. A log
+    /// The fault of the call of the disk that failed, or `NoMemory`; `Disk` where the log is shut. A log
     /// that is still open has what it had.
     pub fn put_both(&mut self, alloc: Global, first: &[u8], body: &[u8]) -> Result<(), LogFault>
         requires first { IsBody first.now }

@@ -17,7 +17,7 @@ use std::alloc::Global;
 ///
 /// # Errors
 ///
-/// The fault of the call of the disk that failed, or `Memory`.
+/// The fault of the call of the disk that failed, or `NoMemory`.
 pub fn read_through<K: Keeps, D: Disk>(
     alloc: Global,
     disk: &mut D,

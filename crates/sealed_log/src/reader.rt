@@ -69,7 +69,7 @@ impl Reader {
     ///
     /// # Errors
     ///
-    /// The fault of the call of the disk that failed, or `Memory`.
+    /// The fault of the call of the disk that failed, or `NoMemory`.
     pub fn next<D: Disk>(
         &mut self,
         alloc: Global,

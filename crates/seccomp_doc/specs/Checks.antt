@@ -17,6 +17,7 @@ use Rattle.seccomp_doc.specs.Filter.{EntryValue}
 use Rattle.seccomp_doc.specs.Meaning.{has_name}
 use Rattle.seccomp_doc.specs.Lawful.{has_repeat}
 use Rattle.seccomp_doc.specs.Parts.{EntryPartsValue, FilterPartsValue, entry_of}
+use Rattle.no_memory.specs.Witness.{witness}
 
 -- a fault, and whether it stands
 abbrev pub Check : Type 0
@@ -94,4 +95,4 @@ fault_of p = first_fault (checks p)
 -- in place of either
 abbrev pub Answers : {X : Type 0} → Option FilterFault → X → Result X FilterFault → Type 0
 Answers fault value (Ok x) = (fault ≡ None) × (x ≡ value)
-Answers fault value (Err e) = e ≢ NoMemory → fault ≡ Some e
+Answers fault value (Err e) = e ≢ NoMemory witness → fault ≡ Some e

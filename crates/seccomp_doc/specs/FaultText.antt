@@ -13,4 +13,4 @@ filter_fault_text faults.ErrnoNotTaken = codes "errno-not-taken"
 filter_fault_text faults.ErrnoTooLarge = codes "errno-too-large"
 filter_fault_text (faults.TwoActions name) = codes "two-actions " ++ name
 filter_fault_text faults.TooMany = codes "too-many"
-filter_fault_text faults.NoMemory = codes "memory"
+filter_fault_text (faults.NoMemory _) = codes "memory"

@@ -53,4 +53,4 @@ is_call_name text = is_name is_call_byte 64 text
 abbrev pub Reads : (List ℕ → Bool) → List ℕ → Result (List ℕ) NameFault → Type 0
 Reads form text (Ok word) = (form text ≡ true) × (word ≡ text)
 Reads form text (Err NotAWord) = form text ≡ false
-Reads form text (Err NoMemory) = form text ≡ true
+Reads form text (Err (NoMemory _)) = form text ≡ true

@@ -8,6 +8,7 @@ ghost use Rattle.seccomp_doc.specs.Lawful.{IsLawfulCompare, IsLawfulEntry, has_r
 ghost use Rattle.seccomp_doc.specs.Parts.{compare_of, entry_of};
 ghost use Rattle.seccomp_doc.specs.Checks.{Answers, arg_checks, entry_checks, first_fault};
 ghost use Rattle.seccomp_doc.specs.Checks.{is_no_call_name};
+ghost use Rattle.no_memory.specs.Witness.{witness};
 
 use crate::action::Action;
 use crate::call_name::CallName;
@@ -122,7 +123,7 @@ fn all_admit(args: &[Compare], words: &[u64; 6]) -> bool
 fn call_names(alloc: Global, texts: Vec<String>) -> Result<Vec<CallName>, FilterFault>
     ensures ok { IfOk result (λ names. (names.items ≡ map string_bytes texts.items)
         × (list_any is_no_call_name (map string_bytes texts.items) ≡ false)) }
-    ensures err { IfErr result (λ e. e ≢ FilterFault.NoMemory
+    ensures err { IfErr result (λ e. e ≢ FilterFault.NoMemory witness
         → (e ≡ FilterFault.BadCallName)
         × (list_any is_no_call_name (map string_bytes texts.items) ≡ true)) }
 {
@@ -131,7 +132,9 @@ fn call_names(alloc: Global, texts: Vec<String>) -> Result<Vec<CallName>, Filter
         let Some(name) = CallName::from_string(text) else {
             return Err(FilterFault::BadCallName);
         };
-        names.push(name).map_err(|_| FilterFault::NoMemory)?;
+        names
+            .push(name)
+            .map_err(|refused| FilterFault::NoMemory(refused.into()))?;
     }
     Ok(names)
 }
@@ -140,7 +143,7 @@ fn call_names(alloc: Global, texts: Vec<String>) -> Result<Vec<CallName>, Filter
 fn compares(alloc: Global, parts: &[ArgParts]) -> Result<SmallVec<Compare, 1>, FilterFault>
     ensures ok { IfOk result (λ args. (args.items ≡ map compare_of parts.now)
         × (first_fault (arg_checks parts.now) ≡ None) × All IsLawfulCompare args.items) }
-    ensures err { IfErr result (λ e. e ≢ FilterFault.NoMemory
+    ensures err { IfErr result (λ e. e ≢ FilterFault.NoMemory witness
         → first_fault (arg_checks parts.now) ≡ Some e) }
 {
     if has_index_above_5(parts) {
@@ -152,7 +155,7 @@ fn compares(alloc: Global, parts: &[ArgParts]) -> Result<SmallVec<Compare, 1>, F
     let mut args = SmallVec::with_capacity(alloc, parts.len())?;
     for arg in parts {
         args.push(compare_with(*arg))
-            .map_err(|_| FilterFault::NoMemory)?;
+            .map_err(|refused| FilterFault::NoMemory(refused.into()))?;
     }
     Ok(args)
 }

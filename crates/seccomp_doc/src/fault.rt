@@ -1,6 +1,7 @@
 //! Why parts are no filter.
 
 use crate::call_name::CallName;
+use no_memory::NoMemory;
 use std::alloc::AllocError;
 use std::error::Error;
 use std::fmt;
@@ -24,18 +25,19 @@ pub enum FilterFault {
     TwoActions(CallName),
     /// A count is above its limit.
     TooMany,
-    /// Memory was refused. No contract can say when: it may stand in place of any answer.
-    NoMemory,
+    /// Memory was refused.
+    NoMemory(NoMemory),
 }
 
 impl From<AllocError> for FilterFault {
     ghost use Rattle.std.specs.Prelude.{◌≡◌};
     ghost use Rattle.seccomp_doc.specs.declared.fault.FilterFault.TheVariants.{NoMemory};
+    ghost use Rattle.no_memory.specs.Witness.{witness};
 
-    ghost from_gives = { λ _ e. e ≡ NoMemory };
+    ghost from_gives = { λ _ e. e ≡ NoMemory witness };
 
-    fn from(_error: AllocError) -> FilterFault {
-        FilterFault::NoMemory
+    fn from(refused: AllocError) -> FilterFault {
+        FilterFault::NoMemory(refused.into())
     }
 }
 
@@ -56,7 +58,7 @@ impl fmt::Display for FilterFault {
             FilterFault::ErrnoTooLarge => write!(f, "errno-too-large"),
             FilterFault::TwoActions(name) => write!(f, "two-actions {name}"),
             FilterFault::TooMany => write!(f, "too-many"),
-            FilterFault::NoMemory => write!(f, "memory"),
+            FilterFault::NoMemory(_) => write!(f, "memory"),
         }
     }
 }

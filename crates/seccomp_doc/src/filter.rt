@@ -8,6 +8,7 @@ ghost use Rattle.seccomp_doc.specs.Lawful.{IsLawfulFilter, IsLawfulEntry};
 ghost use Rattle.seccomp_doc.specs.Parts.{entry_of, filter_of};
 ghost use Rattle.seccomp_doc.specs.Checks.{Answers, entry_checks, fault_of, first_fault};
 ghost use Rattle.seccomp_doc.specs.Checks.{has_too_many, is_large};
+ghost use Rattle.no_memory.specs.Witness.{witness};
 
 use crate::action::Action;
 use crate::arch::Arch;
@@ -187,13 +188,15 @@ fn entries_of(alloc: Global, parts: Vec<EntryParts>) -> Result<Vec<Entry>, Filte
     ensures ok { IfOk result (λ entries. (entries.items ≡ map entry_of parts.items)
         × (first_fault (flat_map entry_checks parts.items) ≡ None)
         × All IsLawfulEntry entries.items) }
-    ensures err { IfErr result (λ e. e ≢ FilterFault.NoMemory
+    ensures err { IfErr result (λ e. e ≢ FilterFault.NoMemory witness
         → first_fault (flat_map entry_checks parts.items) ≡ Some e) }
 {
     let mut entries = Vec::with_capacity(alloc, parts.len())?;
     for part in parts {
         let entry = Entry::new(alloc, part)?;
-        entries.push(entry).map_err(|_| FilterFault::NoMemory)?;
+        entries
+            .push(entry)
+            .map_err(|refused| FilterFault::NoMemory(refused.into()))?;
     }
     Ok(entries)
 }

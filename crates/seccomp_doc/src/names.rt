@@ -9,6 +9,7 @@ ghost use Rattle.seccomp_doc.specs.Filter.{EntryValue};
 ghost use Rattle.seccomp_doc.specs.Lawful.{HasOneAction};
 ghost use Rattle.seccomp_doc.specs.Names.{AgreesWith, DiffersFrom, Knows, action_under, has_action};
 ghost use Rattle.seccomp_doc.specs.Names.{is_unknown};
+ghost use Rattle.no_memory.specs.Witness.{witness};
 
 use crate::action::Action;
 use crate::call_name::CallName;
@@ -119,7 +120,7 @@ fn learn_name<'a>(
     ensures agrees { OnOk result (AgreesWith (action_under actions.old name.now) action) }
     ensures learned { OnOk result ((q : List ℕ) → action_under actions.new q
         ≡ (if bytes_eq name.now q then Some action else action_under actions.old q)) }
-    ensures differs { IfErr result (λ e. e ≢ FilterFault.NoMemory
+    ensures differs { IfErr result (λ e. e ≢ FilterFault.NoMemory witness
         → (e ≡ FilterFault.TwoActions name.now)
         × DiffersFrom (action_under actions.old name.now) action) }
 {
@@ -132,6 +133,6 @@ fn learn_name<'a>(
             }
         }
         Ok(None) => Ok(()),
-        Err(_) => Err(FilterFault::NoMemory),
+        Err(refused) => Err(FilterFault::NoMemory(refused.into())),
     }
 }

@@ -2,6 +2,7 @@
 
 ghost use Rattle.std.specs.Prelude.{◌≡◌, ◌&&◌, length, nat_le, nat_lt};
 
+use no_memory::NoMemory;
 use std::alloc::AllocError;
 use thiserror::Error;
 
@@ -11,19 +12,20 @@ pub enum NameFault {
     /// The text isn't of the form.
     #[error("not a word")]
     NotAWord,
-    /// Memory was refused, which no contract can say when; the text is of the form.
+    /// Memory was refused; the text is of the form.
     #[error("out of memory")]
-    NoMemory,
+    NoMemory(NoMemory),
 }
 
 impl From<AllocError> for NameFault {
     ghost use Rattle.std.specs.Prelude.{◌≡◌};
     ghost use Rattle.seccomp_doc.specs.declared.word.NameFault.TheVariants.{NoMemory};
+    ghost use Rattle.no_memory.specs.Witness.{witness};
 
-    ghost from_gives = { λ _ e. e ≡ NoMemory };
+    ghost from_gives = { λ _ e. e ≡ NoMemory witness };
 
-    fn from(_error: AllocError) -> NameFault {
-        NameFault::NoMemory
+    fn from(refused: AllocError) -> NameFault {
+        NameFault::NoMemory(refused.into())
     }
 }
 

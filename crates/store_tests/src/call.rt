@@ -4,6 +4,7 @@ ghost use Rattle.sqlite.specs.Held.{state};
 ghost use Rattle.office_store.specs.Shown.{IsIdle};
 
 use cap_sets::Caps;
+use no_memory::NoMemory;
 use office_founding::{FoundingFault, check_office, found, listed, migrate};
 use office_store::{
     Ballot, add_revision, authors, baseline, delete_hold, has_revision, held, is_author, issued,
@@ -68,7 +69,7 @@ fn found_office<S: Alter>(alloc: Global, conn: &mut Connection<S>) -> Result<(),
     ensures { IsIdle (state S.Store conn.new) }
 {
     let (Ok(name), Ok(team)) = (Word::new(alloc, "root"), Word::new(alloc, "ops")) else {
-        return Err(FoundingFault::Store(Fault::NoMemory));
+        return Err(FoundingFault::Store(Fault::NoMemory(NoMemory::told())));
     };
     let listed = Caps::from_name("CAP_SYS_ADMIN").unwrap_or(Caps::empty());
     found(conn, &name, &team, &[1; 32], listed)

@@ -18,7 +18,9 @@ fn said_in_memory(alloc: Global, before: &str, calls: &str) -> Result<String, Wo
 // before it or to the read after it.
 fn is_kept(said: &str, before: &str, done: &str, refused: &str) -> bool {
     match said.strip_prefix(before) {
-        Some(rest) => rest == done || rest == refused || rest.ends_with("Err(NoMemory)\n"),
+        Some(rest) => rest == done
+            || rest == refused
+            || rest.ends_with("Err(NoMemory(NoMemory { refused: AllocError }))\n"),
         None => said.contains("NoMemory"),
     }
 }
@@ -26,7 +28,7 @@ fn is_kept(said: &str, before: &str, done: &str, refused: &str) -> bool {
 fn assert_kept(rt: &impl Abort, alloc: Global, before: &str, done: &str, refused: &str) {
     match said_in_memory(alloc, before, done) {
         Ok(said) => assert!(rt; is_kept(said.as_str(), before, done, refused), "{said}"),
-        Err(fault) => assert_eq!(rt; fault, WordFault::NoMemory),
+        Err(fault) => assert!(rt; matches!(fault, WordFault::NoMemory(_))),
     }
 }
 
@@ -47,7 +49,7 @@ ann blue 4 8
 
 const HAS_NO_ROLE: &str = "\
 > put_user blue - ann 4 8
-Err(NoMemory)
+Err(NoMemory(NoMemory { refused: AllocError }))
 > user_by_name - - ann
 ann blue 0 7
 ";
@@ -73,7 +75,7 @@ Ok(2)
 
 const IS_OPEN: &str = "\
 > add_revision blue web ann
-Err(NoMemory)
+Err(NoMemory(NoMemory { refused: AllocError }))
 > revision blue web - 1
 1 ann open {} 7
 ";

@@ -20,7 +20,7 @@ UpToCounts calls calls_after most faults faults_after (Ok bytes) = faults_after 
 UpToCounts calls calls_after most faults faults_after (Err Failed) = faults_after ≡ one_more faults
 UpToCounts calls calls_after most faults faults_after (Err TooManyReads) =
     (calls_after ≡ most) × (faults_after ≡ faults)
-UpToCounts calls calls_after most faults faults_after (Err NoMemory) = faults_after ≡ faults
+UpToCounts calls calls_after most faults faults_after (Err (NoMemory _)) = faults_after ≡ faults
 
 -- fewer bytes than that were consumed; where memory was refused nothing is said
 abbrev pub ReadsPart : Option (List ℕ) → Option (List ℕ) → ℕ → Unread → Type 0
@@ -28,4 +28,4 @@ ReadsPart old new most Failed =
     (bytes : List ℕ) × Consumes old new bytes × (length bytes < most)
 ReadsPart old new most TooManyReads =
     (bytes : List ℕ) × Consumes old new bytes × (length bytes < most)
-ReadsPart old new most NoMemory = Unit {0}
+ReadsPart old new most (NoMemory _) = Unit {0}

@@ -7,6 +7,7 @@ ghost use Rattle.streams.specs.UpTo.{IsWithin, ReadsPart, UpToCounts};
 
 use crate::counted::Counted;
 use crate::some::{SomeRead, read_some};
+use no_memory::NoMemory;
 use std::alloc::{AllocError, Global};
 use std::io::Read;
 use thiserror::Error;
@@ -23,19 +24,20 @@ pub enum Unread {
     /// The reader was called as often as is allowed, without an end or a fault.
     #[error("too-many-reads")]
     TooManyReads,
-    /// Memory was refused. No contract can say when: it may stand in place of any answer.
+    /// Memory was refused.
     #[error("memory")]
-    NoMemory,
+    NoMemory(NoMemory),
 }
 
 impl From<AllocError> for Unread {
     ghost use Rattle.std.specs.Prelude.{◌≡◌};
     ghost use Rattle.streams.specs.declared.up_to.Unread.TheVariants.{NoMemory};
+    ghost use Rattle.no_memory.specs.Witness.{witness};
 
-    ghost from_gives = { λ _ unread. unread ≡ NoMemory };
+    ghost from_gives = { λ _ unread. unread ≡ NoMemory witness };
 
-    fn from(_error: AllocError) -> Unread {
-        Unread::NoMemory
+    fn from(refused: AllocError) -> Unread {
+        Unread::NoMemory(refused.into())
     }
 }
 

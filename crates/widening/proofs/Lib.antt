@@ -11,3 +11,4 @@ pub mod Permitted
 pub mod Closed
 pub mod Itself
 pub mod Ordered
+pub mod NameFacts

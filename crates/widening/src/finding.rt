@@ -1,13 +1,12 @@
 //! Findings.
 
-ghost use Rattle.std.specs.Prelude.{◌≡◌, ℕ, List, IfOk};
+ghost use Rattle.std.specs.Prelude.{◌≡◌, ℕ, List};
 ghost use Rattle.widening.specs.declared.finding.Finding.{Finding};
 
 use profile_text::CapSet;
 use seccomp_doc::arch::ArchForm;
 use seccomp_doc::flag::FlagForm;
-use seccomp_doc::{Arch, CallName, Form, ScmpFlag};
-use std::alloc::{AllocError, Global};
+use seccomp_doc::{Arch, CallName, Form, Formed, ScmpFlag};
 
 /// Something that a new profile permits, or may permit, and its baseline doesn't.
 #[derive(Debug, Drop)]
@@ -30,29 +29,27 @@ pub enum Finding {
 }
 
 // A form of texts that findings are of.
-pub(crate) trait Found: Form {
+pub(crate) trait Found: Form + Clone {
     // The finding of a text.
     ghost finding_of: { List ℕ → Finding };
 
     // The finding of a text of this form.
-    fn finding_of(alloc: Global, text: &str) -> Result<Finding, AllocError>
-        ensures { IfOk result (λ finding. finding ≡ finding_of text.now) };
+    fn finding_of(text: Formed<Self>) -> Finding
+        ensures { result ≡ finding_of text };
 }
 
 impl Found for ArchForm {
     ghost finding_of = { λ text. Finding.Arch text };
 
-    fn finding_of(alloc: Global, text: &str) -> Result<Finding, AllocError> {
-        let arch = Arch::read(alloc, text).map_err(|_| AllocError)?;
-        Ok(Finding::Arch(arch))
+    fn finding_of(text: Arch) -> Finding {
+        Finding::Arch(text)
     }
 }
 
 impl Found for FlagForm {
     ghost finding_of = { λ text. Finding.Flag text };
 
-    fn finding_of(alloc: Global, text: &str) -> Result<Finding, AllocError> {
-        let flag = ScmpFlag::read(alloc, text).map_err(|_| AllocError)?;
-        Ok(Finding::Flag(flag))
+    fn finding_of(text: ScmpFlag) -> Finding {
+        Finding::Flag(text)
     }
 }

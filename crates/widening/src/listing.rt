@@ -1,6 +1,9 @@
 //! The list of findings.
 
-ghost use Rattle.std.specs.Prelude.{◌≡◌, ◌<◌, ◌++◌, filter, length, map, IfOk, OnOk};
+ghost use Rattle.std.specs.Prelude.{◌≡◌, ◌<◌, ◌++◌, false, true, filter, length, map, IfOk, OnOk};
+ghost use Rattle.std.specs.List.{list_any};
+ghost use Rattle.seccomp_doc.specs.Checks.{is_no_call_name};
+ghost use Rattle.seccomp_doc.specs.Word.{is_call_name};
 ghost use Rattle.widening.specs.Calls.{entry_names, is_permitted_more};
 ghost use Rattle.widening.specs.Findings.{between_filters, call_finding, call_findings};
 ghost use Rattle.widening.specs.Findings.{default_findings, filter_findings, findings_of};
@@ -14,7 +17,7 @@ use crate::groups::{Groups, keeps_to};
 use crate::memo::Memo;
 use crate::text_lists::{find_added, find_architectures};
 use profile_text::Profile;
-use seccomp_doc::{CallName, Entry, Filter};
+use seccomp_doc::{CallName, Entry, Filter, NameFault};
 use std::alloc::{AllocError, Global};
 
 /// What the new profile permits, or may permit, and the baseline doesn't.
@@ -67,8 +70,8 @@ fn find_between(
 ) -> Result<(), AllocError>
     ensures { OnOk result (found.new.items ≡ found.old.items ++ between_filters base.now new.now) }
 {
-    find_architectures(alloc, found, base.architectures(), new.architectures())?;
-    find_added(alloc, found, base.flags(), new.flags())?;
+    find_architectures(found, base.architectures(), new.architectures())?;
+    find_added(found, base.flags(), new.flags())?;
     find_calls(alloc, found, base, new)?;
     find_default(found, base, new)
 }
@@ -105,7 +108,8 @@ fn find_named(
     groups: &Groups,
     memo: &mut Memo,
 ) -> Result<(), AllocError>
-    requires { IsMemo groups.now.base.now.entries groups.now.new.now.entries
+    requires names { list_any is_no_call_name (texts_in groups.now.names.now) ≡ false }
+    requires memo { IsMemo groups.now.base.now.entries groups.now.new.now.entries
         memo.old.of_new.items memo.old.of_base.items }
     ensures { OnOk result (found.new.items ≡ found.old.items
         ++ map Finding.Call (filter (is_permitted_more groups.now.base.now groups.now.new.now)
@@ -117,7 +121,20 @@ fn find_named(
     Ok(())
 }
 
+// The name of a call that a text is.
+fn name_of(alloc: Global, text: &str) -> Result<CallName, AllocError>
+    requires { is_call_name text.now ≡ true }
+    ensures { IfOk result (λ name. name ≡ text.now) }
+{
+    match CallName::read(alloc, text) {
+        Ok(name) => Ok(name),
+        Err(NameFault::NoMemory(witness)) => Err(witness.into()),
+        Err(NameFault::NotAWord) => unreachable!(),
+    }
+}
+
 // Adds the name at a place, where the new filter may permit a call of it more.
+#[tactic(auto, using(crate::proofs::NameFacts::named_at))]
 fn find_call(
     alloc: Global,
     found: &mut Vec<Finding>,
@@ -125,6 +142,7 @@ fn find_call(
     memo: &mut Memo,
     at: usize,
 ) -> Result<(), AllocError>
+    requires names { list_any is_no_call_name (texts_in groups.now.names.now) ≡ false }
     requires memo { IsMemo groups.now.base.now.entries groups.now.new.now.entries
         memo.old.of_new.items memo.old.of_base.items }
     requires within { at < length groups.now.names.now }
@@ -134,7 +152,7 @@ fn find_call(
         ++ call_finding groups.now.base.now groups.now.new.now (name_at groups.now.names.now at)) }
 {
     if !keeps_to(alloc, groups, memo, at)? {
-        let name = CallName::read(alloc, groups.names()[at]).map_err(|_| AllocError)?;
+        let name = name_of(alloc, groups.names()[at])?;
         found.push(Finding::Call(name))?;
     }
     Ok(())

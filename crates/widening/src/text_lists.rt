@@ -6,11 +6,10 @@ ghost use Rattle.widening.specs.Texts.{added_texts, adds_a_text, lists};
 
 use crate::finding::{Finding, Found};
 use seccomp_doc::{Arch, Form, Formed};
-use std::alloc::{AllocError, Global};
+use std::alloc::AllocError;
 
 // Adds each architecture that only the new filter lists.
 pub(crate) fn find_architectures(
-    alloc: Global,
     found: &mut Vec<Finding>,
     base: &[Arch],
     new: &[Arch],
@@ -21,12 +20,11 @@ pub(crate) fn find_architectures(
         found.push(Finding::AnyArch)?;
         return Ok(());
     }
-    find_added(alloc, found, base, new)
+    find_added(found, base, new)
 }
 
 // Adds each text that only the new list has.
 pub(crate) fn find_added<F: Found>(
-    alloc: Global,
     found: &mut Vec<Finding>,
     base: &[Formed<F>],
     new: &[Formed<F>],
@@ -35,14 +33,13 @@ pub(crate) fn find_added<F: Found>(
         ≡ found.old.items ++ map F.finding_of (added_texts base.now new.now)) }
 {
     for i in 0..new.len() {
-        find_text(alloc, found, base, &new[..i], &new[i])?;
+        find_text(found, base, &new[..i], &new[i])?;
     }
     Ok(())
 }
 
 // Adds the text, where neither the baseline nor an earlier place lists it.
 fn find_text<F: Found>(
-    alloc: Global,
     found: &mut Vec<Finding>,
     base: &[Formed<F>],
     earlier: &[Formed<F>],
@@ -52,9 +49,8 @@ fn find_text<F: Found>(
         ++ (if not (lists earlier.now text.now)
         && not (lists base.now text.now) then F.finding_of text.now ∷ [] else [])) }
 {
-    let text = text.as_str();
-    if !lists(earlier, text) && !lists(base, text) {
-        found.push(F::finding_of(alloc, text)?)?;
+    if !lists(earlier, text.as_str()) && !lists(base, text.as_str()) {
+        found.push(F::finding_of(text.clone()?))?;
     }
     Ok(())
 }

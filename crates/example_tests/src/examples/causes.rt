@@ -12,6 +12,7 @@ ghost use Rattle.office_policy.specs.History.{Event, History};
 ghost use Rattle.office_policy.specs.Verdict.{accepted, denied, verdict};
 ghost use Rattle.example_tests.specs.Examples.{Sketch, counting, grown, maybe_grown, shut, quiet};
 ghost use Rattle.example_tests.specs.Examples.{refusing};
+ghost use Rattle.no_memory.specs.Witness.{witness};
 
 /// A count of faults rose by one or more, or stands at the greatest `u64`.
 pub fn examples_of_counts_that_rose()
@@ -63,16 +64,16 @@ pub fn examples_of_causes_of_disk()
 /// where an event was written, or a crash may leave one more.
 pub fn examples_of_causes_of_memory()
     ensures unwritten { (h : History) (r : Request)
-        → HasCause quiet (counting 3) (counting 3) h r (Fault faults.NoMemory) }
+        → HasCause quiet (counting 3) (counting 3) h r (Fault (faults.NoMemory witness)) }
     ensures refused { (h : History) (r : Request) (reply : Reply) (e : Event)
         → verdict h r ≡ accepted reply (Some e)
-        → HasCause (refusing faults.NoMemory) (counting 3) (grown 3) h r (Fault faults.NoMemory) }
+        → HasCause (refusing (faults.NoMemory witness)) (counting 3) (grown 3) h r (Fault (faults.NoMemory witness)) }
     ensures written { (h : History) (r : Request)
-        → HasCause quiet (counting 3) (grown 3) h r (Fault faults.NoMemory) → ⊥ }
+        → HasCause quiet (counting 3) (grown 3) h r (Fault (faults.NoMemory witness)) → ⊥ }
     ensures in_doubt { (h : History) (r : Request)
-        → HasCause quiet (counting 3) (maybe_grown 3) h r (Fault faults.NoMemory) → ⊥ }
+        → HasCause quiet (counting 3) (maybe_grown 3) h r (Fault (faults.NoMemory witness)) → ⊥ }
     ensures refused_for_room { (h : History) (r : Request)
-        → HasCause (refusing faults.Full) (counting 3) (grown 3) h r (Fault faults.NoMemory) → ⊥ }
+        → HasCause (refusing faults.Full) (counting 3) (grown 3) h r (Fault (faults.NoMemory witness)) → ⊥ }
     ensures lacks { (h : History) (r : Request) → LacksMemory quiet (counting 3) (shut 4) h r }
     ensures has { (h : History) (r : Request) → LacksMemory quiet (counting 3) (grown 3) h r → ⊥ }
 {}

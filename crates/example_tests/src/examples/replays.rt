@@ -9,6 +9,7 @@ ghost use Rattle.office_desk.specs.Looking.{IsMetBetween};
 ghost use Rattle.office_desk.specs.Replayed.{IsRefused, IsReplayed};
 ghost use Rattle.example_tests.specs.Examples.{Sketch, counting, grown, shut, enrols, founds};
 ghost use Rattle.example_tests.specs.Examples.{quiet, refusing};
+ghost use Rattle.no_memory.specs.Witness.{witness};
 
 /// While an office is looked at there is a fault of room only where the count rose, and one of the
 /// disk only then or where the office was shut before.
@@ -16,7 +17,7 @@ pub fn examples_of_faults_while_looking()
     ensures room { IsMetBetween quiet (counting 3) (counting 4) faults.Full }
     ensures disk { IsMetBetween quiet (counting 3) (counting 4) faults.Disk }
     ensures disk_shut { IsMetBetween quiet (shut 3) (shut 3) faults.Disk }
-    ensures memory { IsMetBetween quiet (counting 3) (counting 3) faults.NoMemory }
+    ensures memory { IsMetBetween quiet (counting 3) (counting 3) (faults.NoMemory witness) }
     ensures no_room { IsMetBetween quiet (counting 3) (counting 3) faults.Full → ⊥ }
     ensures no_disk { IsMetBetween quiet (counting 3) (counting 3) faults.Disk → ⊥ }
     ensures form { (old new : Sketch) → IsMetBetween quiet old new faults.NotAnOffice → ⊥ }

@@ -20,6 +20,7 @@ ghost use Rattle.office_policy.specs.History.{Event, History};
 ghost use Rattle.office_policy.specs.TablesOf.{tables_of};
 ghost use Rattle.office_desk.specs.Meant.{meaning_over};
 ghost use Rattle.example_tests.specs.Examples.{IsAfter, IsAtRest, first_row};
+ghost use Rattle.no_memory.specs.Witness.{witness};
 
 use sqlite::Alter;
 
@@ -28,7 +29,7 @@ use sqlite::Alter;
 pub fn examples_of_refused_writes<S: Alter>()
     ensures memory { (conn : Held S) → IsAtRest S.Store conn
         → Shows (state S.Store conn) (tables_of held_when_issued)
-        → (meaning_over S.Store).refuses conn held_when_issued releases faults.NoMemory }
+        → (meaning_over S.Store).refuses conn held_when_issued releases (faults.NoMemory witness) }
     ensures room { (conn : Held S)
         → (meaning_over S.Store).refuses conn held_when_issued releases faults.Full → ⊥ }
     ensures disk { (conn : Held S)
@@ -46,7 +47,7 @@ pub fn examples_of_failures_to_open<S: Alter>()
         → IsAfter S.Store new false 3
         → IsFailure (state S.Store old) (state S.Store new) (opening.Store faults.Disk) }
     ensures memory { (old new : Held S)
-        → IsFailure (state S.Store old) (state S.Store new) (opening.Store faults.NoMemory) }
+        → IsFailure (state S.Store old) (state S.Store new) (opening.Store (faults.NoMemory witness)) }
     ensures no_room { (old new : Held S) → IsAfter S.Store old true 3 → IsAfter S.Store new true 3
         → IsFailure (state S.Store old) (state S.Store new) (opening.Store faults.Full) → ⊥ }
     ensures no_disk { (old new : Held S) → IsAfter S.Store old true 3 → IsAfter S.Store new true 3
@@ -70,7 +71,7 @@ pub fn examples_of_failures_to_found<S: Alter>()
         → FailsToFound S.Store first_row 5 old new (founding.Store faults.NotAnOffice) }
     ensures memory { (old : Held S) → IsAtRest S.Store old
         → (state S.Store old).now.schema ≡ no_schema
-        → FailsToFound S.Store first_row 5 old old (founding.Store faults.NoMemory) }
+        → FailsToFound S.Store first_row 5 old old (founding.Store (faults.NoMemory witness)) }
     ensures not_already { (old new : Held S) → (state S.Store old).now.schema ≡ no_schema
         → FailsToFound S.Store first_row 5 old new founding.AlreadyFounded → ⊥ }
     ensures nothing_else { (old new : Held S) → (state S.Store old).now.schema ≡ no_schema
@@ -91,7 +92,7 @@ pub fn examples_of_failures_to_migrate<S: Alter>()
     ensures memory { (old mid : Held S) → IsAtRest S.Store mid
         → (state S.Store old).faults ≤ (state S.Store mid).faults
         → FindsForm (state S.Store old) (state S.Store mid) (old_form 5)
-        → MeetsInMigration S.Store old mid faults.NoMemory }
+        → MeetsInMigration S.Store old mid (faults.NoMemory witness) }
     ensures other_fault { (old new : Held S) → (state S.Store old).now.schema ≡ no_schema
         → FailsToMigrate S.Store old new (migration.Store faults.Full) → ⊥ }
     ensures form { (old new : Held S) (t : Tables) → IsOldOffice (state S.Store old).now t

@@ -1,3 +1,4 @@
+use no_memory::NoMemory;
 use std::alloc::{AllocError, Global};
 use std::io;
 use std::io::{ErrorKind, Read, Write};
@@ -314,7 +315,7 @@ fn each_cause_of_unread_bytes_has_its_word(rt: HostRuntime) -> Result<(), AllocE
     for (why, word) in [
         (Unread::Failed, "read"),
         (Unread::TooManyReads, "too-many-reads"),
-        (Unread::NoMemory, "memory"),
+        (Unread::NoMemory(NoMemory::told()), "memory"),
     ] {
         let text = format!(in rt.alloc(); "{why}")?;
         assert_eq!(rt; text.as_str(), word);

@@ -2,6 +2,7 @@
 
 use http_requests::{answer_response, answer_status, memory_response};
 use json_requests::{LineFault, line};
+use no_memory::NoMemory;
 use review_policy::{Answer, Fault, ListedProfile, Listing, Reply, State, Text, Word};
 use std::alloc::{AllocError, Global};
 use std::test::Fail;
@@ -42,7 +43,7 @@ const FAULTS: &str = "\
 
 fn push_faults(text: &mut String, alloc: Global) -> Result<(), AllocError> {
     for fault in [
-        Fault::NoMemory,
+        Fault::NoMemory(NoMemory::told()),
         Fault::Disk,
         Fault::Full,
         Fault::NotAnOffice,
@@ -50,7 +51,8 @@ fn push_faults(text: &mut String, alloc: Global) -> Result<(), AllocError> {
         write!(text, "{} ", fault.word())?;
         push_told(text, alloc, Answer::Fault(fault))?;
     }
-    write!(text, "{} {}", LineFault::NoMemory, memory_response())
+    let fault = LineFault::NoMemory(NoMemory::told());
+    write!(text, "{fault} {}", memory_response())
 }
 
 #[test]

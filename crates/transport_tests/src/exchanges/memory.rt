@@ -20,7 +20,7 @@ fn is_done(
     let (written, is_done) = match trial.serve(message, &mut output).served {
         Ok(503) => (MEMORY.as_bytes(), false),
         Ok(_) => (wanted, true),
-        Err(HttpFault::NoMemory { status }) => (b"".as_slice(), status != 503),
+        Err(HttpFault::NoMemory { status, witness: _ }) => (b"".as_slice(), status != 503),
         Err(_) => return Err(Fail::from("another fault")),
     };
     assert_eq!(rt; output.held.as_slice(), written);

@@ -2,6 +2,7 @@
 
 use crate::exchanges::trial::Trial;
 use desk_http::{HttpFault, MAX_READS};
+use no_memory::NoMemory;
 use std::alloc::{AllocError, Global};
 use std::io::Read;
 use std::process::Abort;
@@ -214,7 +215,10 @@ fn a_reader_is_not_called_without_end(rt: HostRuntime) -> Result<(), Fail> {
 fn each_fault_of_an_exchange_has_its_word(rt: HostRuntime) -> Result<(), Fail> {
     let (cut, lost) = (
         HttpFault::Write { status: 200 },
-        HttpFault::NoMemory { status: 403 },
+        HttpFault::NoMemory {
+            status: 403,
+            witness: NoMemory::told(),
+        },
     );
     let words = format!(in rt.alloc();
         "{} {} {} {cut} {lost}",

@@ -87,7 +87,7 @@ fn hand_in(alloc: Global, office: &mut TrialOffice) -> Result<Option<bool>, Fail
     let (end, sink) = serve(alloc, office, FIRST_PATH.as_bytes(), sink);
     Ok(match end.result {
         Ok(()) => is_submitted(&sink.held),
-        Err(DeskFault::NoMemory { line }) => is_submitted_by(line, &sink.held),
+        Err(DeskFault::NoMemory { line, witness: _ }) => is_submitted_by(line, &sink.held),
         Err(_) => None,
     })
 }

@@ -6,6 +6,7 @@ use crate::lines::texts::{
 };
 use crate::lines::turns::{WHOLE, take_turn, take_turn_anew};
 use desk::{DeskFault, MAX_READS};
+use no_memory::NoMemory;
 use std::alloc::Global;
 use std::process::Abort;
 use std::test::Fail;
@@ -124,7 +125,13 @@ fn each_fault_of_the_desk_has_its_word(rt: HostRuntime) -> Result<(), Fail> {
         (DeskFault::Read { line: 1 }, "read"),
         (DeskFault::Write { line: 1 }, "write"),
         (DeskFault::TooManyReads { line: 1 }, "too-many-reads"),
-        (DeskFault::NoMemory { line: 0 }, "memory"),
+        (
+            DeskFault::NoMemory {
+                line: 0,
+                witness: NoMemory::told(),
+            },
+            "memory",
+        ),
     ] {
         let text = format!(in rt.alloc(); "{fault}")?;
         assert_eq!(rt; text.as_str(), word);

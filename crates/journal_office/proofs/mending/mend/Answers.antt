@@ -9,11 +9,12 @@ use Rattle.journal_office.specs.declared.not_reopened.NotReopened.TheVariants.{N
 use Rattle.journal_office.specs.Mending.{Mends}
 use Rattle.journal_office.proofs.MendFacts.{left_with, log_outside, no_journal, no_seal_there, not_read, seen_on}
 use Rattle.journal_office.proofs.mending.mend.Goals as goal
+use Rattle.no_memory.specs.Witness.{witness}
 
 pub returns-in_err-kept : goal.returns-in_err-kept
 returns-in_err-kept g c =
-    left_with (Mends (meaning_over g.S.Store) g.D.Disk c.args.mark c.args.office.now c.args.office.now c.args.log.now c.args.log.now) c.from_residual.result NoMemory c.from_residual.ensures.1
-    (not_read (meaning_over g.S.Store) g.D.Disk c.args.mark c.args.office.now c.args.log.now c.args.log.now (record { seen = refl; clean = λ clean. clean; crash = λ left may. may }) NoMemory tt)
+    left_with (Mends (meaning_over g.S.Store) g.D.Disk c.args.mark c.args.office.now c.args.office.now c.args.log.now c.args.log.now) c.from_residual.result (NoMemory witness) c.from_residual.ensures.1
+    (not_read (meaning_over g.S.Store) g.D.Disk c.args.mark c.args.office.now c.args.log.now c.args.log.now (record { seen = refl; clean = λ clean. clean; crash = λ left may. may }) (NoMemory witness) tt)
 
 pub read-requires : goal.read-requires
 read-requires g c = record { begun = subst (keeps []) (sym c.deref_mut.ensures.value) c.in_ok-kept.ensures }

@@ -9,23 +9,22 @@ use Rattle.sqlite_store.specs.declared.error.OpenError.TheVariants.{Refused}
 use Rattle.memory_database.proofs.MemoryFacts.{has_no_table}
 use Rattle.memory_database.proofs.open.new_store.Goals as goal
 
-pub returns-in-Ok-create-clause-made : goal.returns-in-Ok-create-clause-made
-returns-in-Ok-create-clause-made c =
-    let is = c.new-in-Ok-create.ensures in
-    let made = c.in-Ok-create.ensures in
-    has_no_table c.new-in-Ok-create.result (subst IsReady (sym is) made.ready) (subst (λ s. IsTrue (view s).is_numbered) (sym is) made.numbered)
-    (ap schema_of is ∙ made.schema ∙ c.in-Ok-new.ensures.schema)
+pub returns-in-Ok : goal.returns-in-Ok
+returns-in-Ok c =
+    let is = c.new-in-Ok.ensures in
+    let made = c.in-Ok.ensures in
+    has_no_table c.new-in-Ok.result (subst IsReady (sym is) made.ready) (subst (λ s. IsTrue (view s).is_numbered) (sym is) made.numbered)
+    (ap schema_of is ∙ made.schema ∙ c.in_ok-unopened.ensures.schema)
 
-pub returns-clause-fault : goal.returns-clause-fault
+pub unreachable-requires : goal.unreachable-requires
 unfolding state
-returns-clause-fault c is =
-    let none = c.in-Ok-new.ensures.schema in
-    let refused : c.in-Err.error ≡ Refused = cc in
-    let it = c.in-Ok-new.unopened in
+unreachable-requires c =
+    let none = c.in_ok-unopened.ensures.schema in
+    let it = c.in_ok-unopened.unopened in
     let left = c.in-Err.field-0-1 in
-    let never = subst (FailsToOpen (state_of it).faults (state_of left).faults (StopsCreating left) (CanCreate it)) refused (c.in-Err.ensures.cause refl) in
+    let never : FailsToOpen (state_of it).faults (state_of left).faults (StopsCreating left) (CanCreate it) Refused = c.in-Err.ensures.cause refl in
     never (record {
       few = rw none (omega arith);
       schema = subst CanBuild (sym none) (record { distinct = refl; shaped = All-nil _; short = All-nil _ });
-      files = inl (inl (ap (λ f. length f.1.bytes.items) (c.in-Ok-new.ensures.files ∙ c.in-Ok.ensures.files) ∙ ap length c.new-3.ensures.bytes));
+      files = inl (inl (ap (λ f. length f.1.bytes.items) (c.in_ok-unopened.ensures.files ∙ c.in_ok-pager.ensures.files) ∙ ap length c.new-3.ensures.bytes));
     })

@@ -11,6 +11,7 @@ use Rattle.office_judging.specs.declared.refusal.Refusal.TheVariants as refusals
 use Rattle.office_judging.proofs.Judging.{left, refused_at_once, read_fails, fails_after, refused_after, found_after}
 use Rattle.office_judging.proofs.Enrolments.{refused_early, refused, accepts}
 use Rattle.office_judging.proofs.enrol.judge_enrolment.Goals as goal
+use Rattle.no_memory.specs.Witness.{witness}
 
 pub returns-in_err-decide_enrol-clause-judged : goal.returns-in_err-decide_enrol-clause-judged
 returns-in_err-decide_enrol-clause-judged g c =
@@ -35,8 +36,8 @@ returns-in_err-decide_enrol-2-clause-judged g c =
 
 pub returns-in_err-row_of-clause-judged : goal.returns-in_err-row_of-clause-judged
 returns-in_err-row_of-clause-judged g c =
-    left _ _ _ _ (refusals.Fault NoMemory) c.from_residual-in_err-row_of.ensures.1
-    (fails_after _ (state g.S.Store c.args.conn.now) (state g.S.Store c.users_of.new.conn) _ (c.in_ok-known.known, c.in_ok-known.shower) c.in_ok-known.ensures NoMemory refl)
+    left _ _ _ _ (refusals.Fault (NoMemory witness)) c.from_residual-in_err-row_of.ensures.1
+    (fails_after _ (state g.S.Store c.args.conn.now) (state g.S.Store c.users_of.new.conn) _ (c.in_ok-known.known, c.in_ok-known.shower) c.in_ok-known.ensures (NoMemory witness) refl)
 
 pub returns-clause-judged : goal.returns-clause-judged
 returns-clause-judged g c =

@@ -10,6 +10,7 @@ use Rattle.office_judging.proofs.Judging.{left, read_fails, fails_after}
 use Rattle.office_judging.proofs.Deciding.{refuses_at_once, refuses, allows}
 use Rattle.office_judging.proofs.Holds.{holding, hold_early, hold_asked}
 use Rattle.office_judging.proofs.hold.judge_hold.Goals as goal
+use Rattle.no_memory.specs.Witness.{witness}
 
 pub returns-in_err-decide_hold-clause-judged : goal.returns-in_err-decide_hold-clause-judged
 returns-in_err-decide_hold-clause-judged g c =
@@ -34,8 +35,8 @@ returns-in_err-decide_hold-2-clause-judged g c =
 
 pub returns-in_err-clone-clause-judged : goal.returns-in_err-clone-clause-judged
 returns-in_err-clone-clause-judged g c =
-    left _ _ _ _ (refusals.Fault NoMemory) c.from_residual-in_err-clone.ensures.1
-    (fails_after _ (state g.S.Store c.args.conn.now) (state g.S.Store c.look_at.new.conn) _ (c.in_ok-no_profile.no_profile, c.in_ok-no_profile.already_held) c.in_ok-no_profile.ensures NoMemory refl)
+    left _ _ _ _ (refusals.Fault (NoMemory witness)) c.from_residual-in_err-clone.ensures.1
+    (fails_after _ (state g.S.Store c.args.conn.now) (state g.S.Store c.look_at.new.conn) _ (c.in_ok-no_profile.no_profile, c.in_ok-no_profile.already_held) c.in_ok-no_profile.ensures (NoMemory witness) refl)
 
 pub returns-clause-judged : goal.returns-clause-judged
 returns-clause-judged g c =

@@ -11,6 +11,7 @@ use Rattle.office_judging.proofs.Judging.{left, refused_at_once, read_fails, sec
 use Rattle.office_judging.proofs.Compared.{read_pair}
 use Rattle.office_judging.proofs.Issuing.{caller_refused, refused_early_on, refused_by_need, accepts}
 use Rattle.office_judging.proofs.issue.judge_issue.Goals as goal
+use Rattle.no_memory.specs.Witness.{witness}
 
 pub returns-in_err-decide_issue-clause-judged : goal.returns-in_err-decide_issue-clause-judged
 returns-in_err-decide_issue-clause-judged g c =
@@ -70,8 +71,8 @@ returns-in_err-clone-clause-judged g c =
     let looked = c.in_ok-looked.looked in
     let need = c.in_ok-need.need in
     let both = read_pair old mid new _ _ looked need c.in_ok-looked.ensures c.in_ok-need.ensures in
-    left _ _ _ _ (refusals.Fault NoMemory) c.from_residual-in_err-clone.ensures.1
-    (fails_after _ old new _ (looked, need) both NoMemory refl)
+    left _ _ _ _ (refusals.Fault (NoMemory witness)) c.from_residual-in_err-clone.ensures.1
+    (fails_after _ old new _ (looked, need) both (NoMemory witness) refl)
 
 pub returns-clause-judged : goal.returns-clause-judged
 returns-clause-judged g c =

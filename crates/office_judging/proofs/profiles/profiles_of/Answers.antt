@@ -6,6 +6,7 @@ use Rattle.office_store.specs.Calls.{IsRead}
 use Rattle.office_judging.proofs.Judging.{read_as, read_both, read_in_vain, second_fails}
 use Rattle.office_judging.proofs.Walking.{Walked, walk_begins, walk_goes_on, walk_ends}
 use Rattle.office_judging.proofs.profiles.profiles_of.Goals as goal
+use Rattle.no_memory.specs.Witness.{witness}
 
 pub loop-init : goal.loop-init
 loop-init g c =
@@ -70,8 +71,8 @@ returns-in_err-map_err g c =
     let so_far = c.loop.profiles.items in
     let profile = c.in_ok-profile.profile in
     let later = c.in_ok-profile.later in
-    let e : c.from_residual-in_err-map_err.result ≡ Err NoMemory = search rules in
+    let e : c.from_residual-in_err-map_err.result ≡ Err (NoMemory witness) = search rules in
     let walked = subst (λ next. IsRead old mid (Ok (so_far, next)) (Walked team)) c.in-Some.is c.loop.invariant.walked in
-    rw e (read_in_vain old new _ _ (so_far ++ profile ∷ [], later) NoMemory refl
+    rw e (read_in_vain old new _ _ (so_far ++ profile ∷ [], later) (NoMemory witness) refl
     (read_both old mid new _ _ (so_far, Some c.in-Some.first) walked (Walked team) (profile, later) (so_far ++ profile ∷ [], later)
     (walk_goes_on team so_far c.in-Some.first (profile, later)) c.in_ok-profile.ensures))

@@ -7,16 +7,17 @@ use Rattle.office_store.proofs.Calls.{fails_unread}
 use Rattle.office_judging.specs.Listed.{standing_of, IsOneOf}
 use Rattle.office_judging.proofs.Standing.{one_listed, read_weaker}
 use Rattle.office_judging.proofs.profiles.standing_in.Goals as goal
+use Rattle.no_memory.specs.Witness.{witness}
 
 pub returns-in_err-clone : goal.returns-in_err-clone
 returns-in_err-clone g c =
-    let e : c.from_residual.result ≡ Err NoMemory = search rules in
-    rw e (fails_unread (state g.S.Store c.args.conn.now) NoMemory _ c.requires refl (g.met.S.Store.settled c.args.conn.now.store))
+    let e : c.from_residual.result ≡ Err (NoMemory witness) = search rules in
+    rw e (fails_unread (state g.S.Store c.args.conn.now) (NoMemory witness) _ c.requires refl (g.met.S.Store.settled c.args.conn.now.store))
 
 pub returns-in_err-clone-2 : goal.returns-in_err-clone-2
 returns-in_err-clone-2 g c =
-    let e : c.from_residual-in_err-clone-2.result ≡ Err NoMemory = search rules in
-    rw e (fails_unread (state g.S.Store c.args.conn.now) NoMemory _ c.requires refl (g.met.S.Store.settled c.args.conn.now.store))
+    let e : c.from_residual-in_err-clone-2.result ≡ Err (NoMemory witness) = search rules in
+    rw e (fails_unread (state g.S.Store c.args.conn.now) (NoMemory witness) _ c.requires refl (g.met.S.Store.settled c.args.conn.now.store))
 
 pub returns : goal.returns
 returns g c =

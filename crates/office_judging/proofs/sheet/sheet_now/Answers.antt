@@ -5,6 +5,7 @@ use Rattle.office_judging.proofs.Judging.{read_as, read_in_vain, second_fails}
 use Rattle.office_judging.proofs.Compared.{read_pair}
 use Rattle.office_judging.proofs.Sheets.{sheet_back}
 use Rattle.office_judging.proofs.sheet.sheet_now.Goals as goal
+use Rattle.no_memory.specs.Witness.{witness}
 
 pub returns-in_err-compared : goal.returns-in_err-compared
 returns-in_err-compared g c =
@@ -20,8 +21,8 @@ returns-in_err-sheet_of g c =
     let mid = state g.S.Store c.standing.new.conn in
     let new = state g.S.Store c.compared_with.new.conn in
     let all = read_pair old mid new _ _ c.in_ok-votes.votes c.in_ok-compared.compared c.in_ok-votes.ensures.read c.in_ok-compared.ensures in
-    let e : c.from_residual-in_err-sheet_of.result ≡ Err NoMemory = search rules in
-    rw e (read_in_vain old new _ _ _ NoMemory refl all)
+    let e : c.from_residual-in_err-sheet_of.result ≡ Err (NoMemory witness) = search rules in
+    rw e (read_in_vain old new _ _ _ (NoMemory witness) refl all)
 
 pub returns : goal.returns
 returns g c =

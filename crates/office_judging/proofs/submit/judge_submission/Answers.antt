@@ -9,6 +9,7 @@ use Rattle.office_judging.specs.declared.refusal.Refusal.TheVariants as refusals
 use Rattle.office_judging.proofs.Judging.{left, read_fails, fails_after, refused_after, found_after}
 use Rattle.office_judging.proofs.Submissions.{turned_away, refused, accepts, asked_of}
 use Rattle.office_judging.proofs.submit.judge_submission.Goals as goal
+use Rattle.no_memory.specs.Witness.{witness}
 
 pub returns-in_err-text-clause-judged : goal.returns-in_err-text-clause-judged
 returns-in_err-text-clause-judged g c =
@@ -30,13 +31,13 @@ returns-in_err-decide_submit-clause-judged g c =
 
 pub returns-in_err-row-clause-judged : goal.returns-in_err-row-clause-judged
 returns-in_err-row-clause-judged g c =
-    left _ _ _ _ (refusals.Fault NoMemory) c.from_residual-in_err-row.ensures.1
-    (fails_after _ (state g.S.Store c.args.conn.now) (state g.S.Store c.last.new.conn) _ c.in_ok-last.last c.in_ok-last.ensures.read NoMemory refl)
+    left _ _ _ _ (refusals.Fault (NoMemory witness)) c.from_residual-in_err-row.ensures.1
+    (fails_after _ (state g.S.Store c.args.conn.now) (state g.S.Store c.last.new.conn) _ c.in_ok-last.last c.in_ok-last.ensures.read (NoMemory witness) refl)
 
 pub returns-in_err-addition-clause-judged : goal.returns-in_err-addition-clause-judged
 returns-in_err-addition-clause-judged g c =
-    left _ _ _ _ (refusals.Fault NoMemory) c.from_residual-in_err-addition.ensures.1
-    (fails_after _ (state g.S.Store c.args.conn.now) (state g.S.Store c.last.new.conn) _ c.in_ok-last.last c.in_ok-last.ensures.read NoMemory refl)
+    left _ _ _ _ (refusals.Fault (NoMemory witness)) c.from_residual-in_err-addition.ensures.1
+    (fails_after _ (state g.S.Store c.args.conn.now) (state g.S.Store c.last.new.conn) _ c.in_ok-last.last c.in_ok-last.ensures.read (NoMemory witness) refl)
 
 pub returns-clause-judged : goal.returns-clause-judged
 returns-clause-judged g c =

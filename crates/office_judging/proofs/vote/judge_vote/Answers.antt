@@ -11,6 +11,7 @@ use Rattle.office_judging.proofs.Judging.{left, read_fails, fails_after}
 use Rattle.office_judging.proofs.Deciding.{refuses_at_once, refuses, allows}
 use Rattle.office_judging.proofs.Votes.{voting, vote_early}
 use Rattle.office_judging.proofs.vote.judge_vote.Goals as goal
+use Rattle.no_memory.specs.Witness.{witness}
 
 pub returns-in_err-decide_vote-clause-judged : goal.returns-in_err-decide_vote-clause-judged
 returns-in_err-decide_vote-clause-judged g c =
@@ -35,8 +36,8 @@ returns-in_err-decide_vote-2-clause-judged g c =
 
 pub returns-in_err-clone-clause-judged : goal.returns-in_err-clone-clause-judged
 returns-in_err-clone-clause-judged g c =
-    left _ _ _ _ (refusals.Fault NoMemory) c.from_residual-in_err-clone.ensures.1
-    (fails_after _ (state g.S.Store c.args.conn.now) (state g.S.Store c.authored.new.conn) _ (c.in_ok-found.found, c.in_ok-found.is_author) c.in_ok-found.ensures NoMemory refl)
+    left _ _ _ _ (refusals.Fault (NoMemory witness)) c.from_residual-in_err-clone.ensures.1
+    (fails_after _ (state g.S.Store c.args.conn.now) (state g.S.Store c.authored.new.conn) _ (c.in_ok-found.found, c.in_ok-found.is_author) c.in_ok-found.ensures (NoMemory witness) refl)
 
 pub returns-clause-judged : goal.returns-clause-judged
 returns-clause-judged g c =

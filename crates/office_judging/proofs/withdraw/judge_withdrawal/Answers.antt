@@ -12,6 +12,7 @@ use Rattle.office_judging.proofs.Deciding.{refuses_at_once, refuses, allows}
 use Rattle.office_judging.proofs.LookedBack.{one_summary}
 use Rattle.office_judging.proofs.Withdrawals.{withdrawing, withdraw_early}
 use Rattle.office_judging.proofs.withdraw.judge_withdrawal.Goals as goal
+use Rattle.no_memory.specs.Witness.{witness}
 
 pub returns-in_err-decide_withdraw-clause-judged : goal.returns-in_err-decide_withdraw-clause-judged
 returns-in_err-decide_withdraw-clause-judged g c =
@@ -38,8 +39,8 @@ returns-in_err-decide_withdraw-2-clause-judged g c =
 
 pub returns-in_err-clone-clause-judged : goal.returns-in_err-clone-clause-judged
 returns-in_err-clone-clause-judged g c =
-    left _ _ _ _ (refusals.Fault NoMemory) c.from_residual-in_err-clone.ensures.1
-    (fails_after _ (state g.S.Store c.args.conn.now) (state g.S.Store c.summary_at.new.conn) _ c.in_ok-found.found c.in_ok-found.ensures.read NoMemory refl)
+    left _ _ _ _ (refusals.Fault (NoMemory witness)) c.from_residual-in_err-clone.ensures.1
+    (fails_after _ (state g.S.Store c.args.conn.now) (state g.S.Store c.summary_at.new.conn) _ c.in_ok-found.found c.in_ok-found.ensures.read (NoMemory witness) refl)
 
 pub returns-clause-judged : goal.returns-clause-judged
 returns-clause-judged g c =

@@ -46,7 +46,7 @@ pub returns-clause-release : goal.returns-clause-release
 returns-clause-release c = λ p db f lacks. never p db f lacks
   where
     never : (p : ProfileName) (db : Database) (f : Fault) → LacksPlace (deletes_hold p) db f → ⊥
-    never p db NoMemory lacks = lacks
+    never p db (NoMemory _) lacks = lacks
     never p db Disk lacks = lacks
     never p db Full lacks = lacks.1
     never p db NotAnOffice lacks = lacks

@@ -158,7 +158,7 @@ fn message_by(alloc: Global, request: &Value, route: Route) -> Result<Option<Str
 fn is_request(alloc: Global, line: &str) -> Result<bool> {
     match read_line(alloc, line.as_bytes()) {
         Ok(_) => Ok(true),
-        Err(LineFault::NoMemory) => bail!("no memory"),
+        Err(LineFault::NoMemory(_)) => bail!("no memory"),
         Err(_) => Ok(false),
     }
 }

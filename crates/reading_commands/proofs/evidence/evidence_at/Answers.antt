@@ -21,16 +21,16 @@ pub returns-clause-none : goal.returns-clause-none
 returns-clause-none g c =
     let bytes = reader_remaining (λ noted. g.F.File.Read.remaining noted.file) c.in_ok-text.text in
     let conn = c.in-Ok.conn in
-    let left = c.in-Err.field-0-1 in
+    let left = c.in-Err-evidence.field-0-1 in
     inr (inr (inr (
-      c.in-Err.why,
+      c.in-Err-evidence.why,
       record {
         bytes = bytes;
         journal = c.in_ok-text.ensures.text;
         conn = conn;
         left = left;
-        none = subst (λ p. IsNoEvidence bytes p c.args.words.now.revision c.args.words.now.line over_memory conn left c.in-Err.why)
-            c.in_ok-name.ensures.name c.in-Err.ensures.none;
+        none = subst (λ p. IsNoEvidence bytes p c.args.words.now.revision c.args.words.now.line over_memory conn left c.in-Err-evidence.why)
+            c.in_ok-name.ensures.name c.in-Err-evidence.ensures.none;
       },
       c.told_of_text.ensures,
     )))

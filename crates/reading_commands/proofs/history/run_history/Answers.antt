@@ -24,16 +24,16 @@ pub returns-clause-failed : goal.returns-clause-failed
 returns-clause-failed g c =
     let bytes = reader_remaining (λ noted. g.F.File.Read.remaining noted.file) c.in_ok-text.text in
     let conn = c.in-Ok.conn in
-    let left = c.in-Err.field-0-1 in
+    let left = c.in-Err-write_history.field-0-1 in
     inr (
-      c.in-Err.why,
+      c.in-Err-write_history.why,
       record {
         bytes = bytes;
         journal = c.in_ok-text.ensures.text;
         conn = conn;
         left = left;
-        unwritten = subst (λ (asked : Asked). IsUnwritten bytes asked (g.O.Write.contents c.args.output.now.inner) (g.O.Write.contents c.write_history.new.output.inner) over_memory conn left c.in-Err.why)
-            c.filter_of-filter.ensures c.in-Err.ensures.unwritten;
+        unwritten = subst (λ (asked : Asked). IsUnwritten bytes asked (g.O.Write.contents c.args.output.now.inner) (g.O.Write.contents c.write_history.new.output.inner) over_memory conn left c.in-Err-write_history.why)
+            c.filter_of-filter.ensures c.in-Err-write_history.ensures.unwritten;
       },
       c.told_of_text.ensures,
     )

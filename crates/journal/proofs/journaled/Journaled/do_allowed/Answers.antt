@@ -5,8 +5,8 @@ use Rattle.journal.specs.Writing.{IsAppended}
 use Rattle.journal.proofs.Carried.{done, never_both, no_body, no_line, not_appended, taken_back}
 use Rattle.journal.proofs.journaled.Journaled.do_allowed.Goals as goal
 
-pub returns-in_default-clause-handled : goal.returns-in_default-clause-handled
-returns-in_default-clause-handled g c = λ before goes permitted.
+pub returns-in-Err-clause-handled : goal.returns-in-Err-clause-handled
+returns-in-Err-clause-handled g c = λ before goes permitted.
     no_line g.O.Handler.meaning g.J.Journal.writing (with_office c.args.self.now before) goes c.args.request.now c.args.allowed.now c.args.self.now.office permitted
 
 pub returns-then-not-is_body-clause-handled : goal.returns-then-not-is_body-clause-handled
@@ -31,7 +31,7 @@ returns-clause-handled g c = λ before goes permitted.
     let appended = subst (λ last. IsAppended w c.args.self.now.journal c.write_event.new.journal (done_bodies last) body (Ok tt)) c.unsettled-last.ensures c.in_ok-write_event.ensures in
     taken_back g.O.Handler.meaning w (with_office c.args.self.now before) goes c.args.request.now c.args.allowed.now c.args.self.now.office permitted body
     (c.as_bytes-2.ensures.value ∙ c.as_str-2.ensures.value ∙ c.in-Ok.ensures.text) c.change_text.ensures.forms
-    c.write_event.new.journal appended c.carry_out.new.self c.in-Err.ensures.survives.clean c.in-Err.fault (c.in-Err.ensures.handled before c.args.request.now permitted)
+    c.write_event.new.journal appended c.carry_out.new.self c.in-Err-carry_out.ensures.survives.clean c.in-Err-carry_out.fault (c.in-Err-carry_out.ensures.handled before c.args.request.now permitted)
     c.strike_out.new.self c.strike_out.ensures
 
 pub returns-in_err-write_event-clause-handled : goal.returns-in_err-write_event-clause-handled
@@ -60,8 +60,8 @@ returns-in-Ok-carry_out-clause-written g c =
 pub carry_out-requires : goal.carry_out-requires
 carry_out-requires g c = (c.requires.0, c.args.request.now, c.requires.1)
 
-pub returns-in_default-clause-undone : goal.returns-in_default-clause-undone
-returns-in_default-clause-undone g c = inl refl
+pub returns-in-Err-clause-undone : goal.returns-in-Err-clause-undone
+returns-in-Err-clause-undone g c = inl refl
 
 pub returns-then-not-is_body-clause-undone : goal.returns-then-not-is_body-clause-undone
 returns-then-not-is_body-clause-undone g c = inl refl
