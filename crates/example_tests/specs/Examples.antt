@@ -8,10 +8,14 @@ use Rattle.sqlite.specs.Store.{Ghosts}
 use Rattle.seccomp_doc.specs.declared.action.Action.TheVariants.{Allow, Errno}
 use Rattle.seccomp_doc.specs.declared.compare.Op.TheVariants.{Equal}
 use Rattle.seccomp_doc.specs.Filter.{FilterValue}
+use Rattle.profile_text.specs.Digest.{digest_of}
+use Rattle.review_policy.specs.declared.answer.ProfileRevision.{ProfileRevision}
 use Rattle.review_policy.specs.declared.fault.Fault.{Fault}
+use Rattle.review_policy.specs.declared.revision.State.TheVariants.{Open}
 use Rattle.office_tables.specs.declared.row.UserRow.{UserRow}
 use Rattle.office_store.specs.Shown.{IsIdle}
 use Rattle.office_founding.specs.Founding.{first_user}
+use Rattle.office_policy.specs.Examples.{ann}
 use Rattle.office_policy.specs.History.{Event, History, founded, enrolled}
 use Rattle.office_policy.specs.Lawful.{IsLawfulHistory}
 use Rattle.office_policy.specs.Meaning.{Meaning, Entry, no_entry, entry_of, struck_entry_of}
@@ -40,6 +44,13 @@ enrols = enrolled root (codes "ann") (codes "blue") 2 (replicate 32 1)
 
 abbrev pub enrolment : History
 enrolment = enrols ∷ founding
+
+-- ---- what is told
+
+-- what is told of an open revision by ann with these bytes
+abbrev pub told_open : ℕ → List ℕ → ProfileRevision
+told_open number bytes =
+    record { revision = number; state = Open; digest = digest_of bytes; by = ann }
 
 -- ---- an office
 

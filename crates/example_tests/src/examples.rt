@@ -5,5 +5,6 @@ pub mod filters;
 pub mod journals;
 pub mod openings;
 pub mod replays;
+pub mod revisions;
 pub mod stores;
 pub mod verifications;
