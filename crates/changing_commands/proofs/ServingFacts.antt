@@ -35,8 +35,8 @@ module _ {N O X : Type 0} (Shows : N → Result Duration Error → Type 0) (Bind
     (contents : O → Option (List ℕ)) (m : Meaning X) (words : ServeWords) where
   module _ (x : X) (o : Counted O) (why : CommandFault) where
     -- nothing listened
-    pub unbound : IsUnbound why → IsServing Shows Binds Tells contents m words x x o o (Err why)
-    unbound is = record { exchanges = none_up_to m x x (exchanges_of words.requests) refl; told = inl (is, refl, refl) }
+    pub unbound : (network : N) → IsUnbound Binds Tells words.port network why → IsServing Shows Binds Tells contents m words x x o o (Err why)
+    unbound network is = record { exchanges = none_up_to m x x (exchanges_of words.requests) refl; told = inl ((network, is), refl, refl) }
 
     -- where it listens couldn't be said
     pub unsaid : (wrote : Counted O) (shown : ℕ) (text : List ℕ) → text ≡ listening_line shown → why ≡ fault.Write

@@ -50,9 +50,20 @@ abbrev pub IsTellingPort : {N : Type 0} → (N → TcpListener → Result Socket
 IsTellingPort Tells network listener port =
     (address : SocketAddr) × Tells network listener (Ok address) × (port ≡ socket_port address)
 
--- nothing listens
-abbrev pub IsUnbound : CommandFault → Type 0
-IsUnbound why = (why ≡ fault.Bind) ⊎ (why ≡ fault.NoMemory witness)
+-- of what is known of a network as it listens at an address, and tells where something listens
+module _ {N : Type 0} (Binds : N → SocketAddr → Result TcpListener Error → Type 0)
+    (Tells : N → TcpListener → Result SocketAddr Error → Type 0) where
+  -- a network couldn't listen at this port of loopback, or couldn't tell where something listens
+  abbrev pub CouldNotListen : (port : ℕ) (network : N) → Type 0
+  CouldNotListen port network =
+      ((address : SocketAddr) × IsLoopback (socket_ip address) × (socket_port address ≡ port)
+      × ((error : Error) × Binds network address (Err error)))
+      ⊎ ((listener : TcpListener) × ((error : Error) × Tells network listener (Err error)))
+
+  -- nothing listens, since a network couldn't, or there is no memory
+  abbrev pub IsUnbound : (port : ℕ) (network : N) → CommandFault → Type 0
+  IsUnbound port network why =
+      ((why ≡ fault.Bind) × CouldNotListen port network) ⊎ (why ≡ fault.NoMemory witness)
 
 module _ {N O X : Type 0} (Shows : N → Result Duration Error → Type 0)
     (Binds : N → SocketAddr → Result TcpListener Error → Type 0)
@@ -84,7 +95,9 @@ module _ {N O X : Type 0} (Shows : N → Result Duration Error → Type 0)
   -- written; or a line couldn't be written
   abbrev pub IsTold : Result (Unit {0}) CommandFault → Type 0
   IsTold (Ok done) = HasListened (Ok (tt {0}))
-  IsTold (Err why) = (IsUnbound why × (new ≡ old) × (wrote ≡ output))
+  IsTold (Err why) =
+      (((network : N) × IsUnbound Binds Tells words.port network why)
+      × (new ≡ old) × (wrote ≡ output))
       ⊎ ((why ≡ fault.Write)
       × (IsUnsaid ⊎ ((failed : WriteFailed) × HasListened (Err failed))))
 

@@ -50,7 +50,7 @@ fn listening_line(alloc: Global, port: u16) -> Result<String, AllocError>
 fn bind<N: Network>(network: &N, port: u16) -> Result<(TcpListener, u16), CommandFault>
     ensures at { IfOk result (λ bound. IsAt N.binds port network.now bound.0) }
     ensures told { IfOk result (λ bound. IsTellingPort N.tells network.now bound.0 bound.1) }
-    ensures fault { IfErr result IsUnbound }
+    ensures fault { IfErr result (IsUnbound N.binds N.tells port network.now) }
 {
     let listener = match network.listen(loopback(port)) {
         Ok(listener) => listener,

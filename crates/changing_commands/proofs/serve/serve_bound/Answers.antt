@@ -3,15 +3,15 @@ use Rattle.changing_commands.proofs.ServingFacts.{cut_short, listened_by, served
 use Rattle.changing_commands.proofs.serve.serve_bound.Goals as goal
 
 pub returns-in-Err : goal.returns-in-Err
-returns-in-Err g c = unbound _ _ _ g.O.Write.contents g.H.Handler.meaning _ _ _ _ (inr refl)
+returns-in-Err g c = unbound _ _ _ g.O.Write.contents g.H.Handler.meaning _ _ _ _ c.args.network.now (inr refl)
 
 pub returns-in_err-listener : goal.returns-in_err-listener
 returns-in_err-listener g c =
     let told : c.from_residual.result ≡ Err c.in_err-listener.field-0.0 = search rules in
-    rw told (unbound _ _ _ g.O.Write.contents g.H.Handler.meaning _ _ _ _ c.in_err-listener.ensures.fault)
+    rw told (unbound _ _ _ g.O.Write.contents g.H.Handler.meaning _ _ _ _ c.args.network.now c.in_err-listener.ensures.fault)
 
 pub returns-in-Err-listening_line : goal.returns-in-Err-listening_line
-returns-in-Err-listening_line g c = unbound _ _ _ g.O.Write.contents g.H.Handler.meaning _ _ _ _ (inr refl)
+returns-in-Err-listening_line g c = unbound _ _ _ g.O.Write.contents g.H.Handler.meaning _ _ _ _ c.args.network.now (inr refl)
 
 pub returns-in_err-print : goal.returns-in_err-print
 returns-in_err-print g c =
