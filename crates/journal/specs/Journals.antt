@@ -292,6 +292,12 @@ module _ {O J : Type 0} (m : Meaning O) (w : Writing J) where
     pub counts : w.faults old.journal ≤ w.faults new.journal
     pub journal : IsStruck old new ⊎ IsHalfStruck old new ⊎ IsStray r old new
 
+  -- what a request was answered that wasn't allowed again, where that is why the event of the last line
+  -- wasn't struck out
+  abbrev pub IsAnsweredAgain : Request → (old new : Journaled O J) → Option Answer → Type 0
+  IsAnsweredAgain r old new None = IsStruck old new ⊎ IsHalfStruck old new
+  IsAnsweredAgain r old new (Some told) = IsAnswered m old.office new.office r told
+
   -- a fault left no stray; or the line of this event was written, and then taken back so
   abbrev pub IsUndone : Request → (old new : Journaled O J) → Event → Type 0
   IsUndone r old new e = (new.has_stray ≡ old.has_stray)

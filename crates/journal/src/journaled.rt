@@ -54,7 +54,8 @@ impl<O: Judge, J: Journal> Journaled<O, J> {
     ghost use Rattle.std.specs.Prelude.{◌≡◌, false, IsTrue, OnErr, OnOk};
     ghost use Rattle.office_policy.specs.Handled.{IsHandled};
     ghost use Rattle.office_policy.specs.Judging.{IsPermitted, answer_in, event_for};
-    ghost use Rattle.journal.specs.Journals.{HasWritten, IsSettled, IsTakenBack, IsUndone, goes_on};
+    ghost use Rattle.journal.specs.Journals.{HasWritten, IsAnsweredAgain, IsSettled, IsTakenBack};
+    ghost use Rattle.journal.specs.Journals.{IsUndone, goes_on};
     ghost use Rattle.journal.specs.Journals.{journaled, unsettled, with_office};
 
     /// The office with the journal that says its history; and whether a line behind that of the last
@@ -132,20 +133,24 @@ impl<O: Judge, J: Journal> Journaled<O, J> {
     }
 
     // Strikes out the event of the last line, where the office stands as it did before. Else that
-    // event is a stray.
+    // event is a stray, and its request was answered so, or the strike met a fault.
     #[tactic(auto, using(crate::proofs::Texts::strike_body))]
-    fn strike_out(&mut self, alloc: Global, request: &Request)
-        ensures { IsTakenBack O.Handler.meaning J.Journal.writing request.now self.old self.new }
+    fn strike_out(&mut self, alloc: Global, request: &Request) -> Option<Answer>
+        ensures taken { IsTakenBack O.Handler.meaning J.Journal.writing request.now
+            self.old self.new }
+        ensures again { IsAnsweredAgain O.Handler.meaning J.Journal.writing request.now
+            self.old self.new result }
     {
         self.has_stray = true;
         match self.office.judge(alloc, request) {
-            Judgement::Answered(_) => {}
+            Judgement::Answered(answer) => Some(answer),
             Judgement::Allowed(_) => match self.journal.append(alloc, STRIKE.as_bytes()) {
                 Ok(()) => {
                     self.has_stray = false;
                     self.is_settled = true;
+                    None
                 }
-                Err(_) => {}
+                Err(_) => None,
             },
         }
     }
@@ -184,7 +189,7 @@ impl<O: Judge, J: Journal> Journaled<O, J> {
         match self.office.carry_out(alloc, allowed) {
             Ok(()) => Ok(()),
             Err(fault) => {
-                self.strike_out(alloc, request);
+                drop(self.strike_out(alloc, request));
                 Err(fault)
             }
         }

@@ -32,7 +32,7 @@ returns-clause-handled g c = λ before goes permitted.
     taken_back g.O.Handler.meaning w (with_office c.args.self.now before) goes c.args.request.now c.args.allowed.now c.args.self.now.office permitted body
     (c.as_bytes-2.ensures.value ∙ c.as_str-2.ensures.value ∙ c.in-Ok.ensures.text) c.change_text.ensures.forms
     c.write_event.new.journal appended c.carry_out.new.self c.in-Err-carry_out.ensures.survives.clean c.in-Err-carry_out.fault (c.in-Err-carry_out.ensures.handled before c.args.request.now permitted)
-    c.strike_out.new.self c.strike_out.ensures
+    c.strike_out.new.self c.strike_out.ensures.taken
 
 pub returns-in_err-write_event-clause-handled : goal.returns-in_err-write_event-clause-handled
 returns-in_err-write_event-clause-handled g c =
@@ -83,5 +83,5 @@ returns-clause-undone g c =
         bodies = λ clean. appended.written.1 clean ∙ ap (λ body. w.bodies old.journal ++ (done_bodies (unsettled w old) ++ body ∷ [])) said;
         unsaid = refl;
       },
-      c.strike_out.ensures,
+      c.strike_out.ensures.taken,
     )
