@@ -22,7 +22,14 @@ fn a_canonical_text_of_262144_bytes_is_printed(rt: HostRuntime) -> Result<(), Fa
 fn a_file_of_262144_bytes_is_refused_by_what_it_has(rt: HostRuntime) -> Result<(), Fail> {
     fs::write(&rt, "letters.json", "a".repeat(rt.alloc(), 262_144)?)?;
     let line = "office check letters.json";
-    assert_said(&rt, &rt, line, "", Giving::Whole, "1 office: not-json\n> ")
+    assert_said(
+        &rt,
+        &rt,
+        line,
+        "",
+        Giving::Whole,
+        "1 office: not-json line 1 column 1\n> ",
+    )
 }
 
 // Enrols ann, who shows hello, as an author of blue.

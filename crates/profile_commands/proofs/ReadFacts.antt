@@ -4,11 +4,12 @@ use Rattle.std.specs.Io.KnownBytes.{Consumes, IsAtEnd}
 use Rattle.std.proofs.lemmas.Bool.{cases_lt}
 use Rattle.profile_text.specs.declared.document.Document.{Document}
 use Rattle.profile_text.specs.declared.fault.DocFault.{DocFault}
-use Rattle.profile_text.specs.declared.fault.DocFault.TheVariants.{TooLong}
+use Rattle.profile_text.specs.declared.fault.DocFault.TheVariants.{NotJson, TooLong}
 use Rattle.profile_text.specs.declared.profile.Profile.{Profile}
 use Rattle.profile_text.specs.Reading.{Gives, reading_of, stored_reading_of, most_bytes}
 use Rattle.profile_commands.specs.declared.fault.FileFault.{FileFault}
-use Rattle.profile_commands.specs.Refusal.{IsReadAs, IsRefusalOf, RefusesAs}
+use Rattle.profile_commands.specs.declared.fault.FileFault.TheVariants as file
+use Rattle.profile_commands.specs.Refusal.{IsOfNoJson, IsReadAs, IsRefusalOf, RefusesAs}
 
 -- bytes that are too many are no document
 too_long : (bytes : List ℕ) → most_bytes < length bytes → reading_of bytes ≡ Err TooLong
@@ -50,3 +51,17 @@ pub refused_as : (old : Option (List ℕ)) (bytes : List ℕ) (fault : DocFault)
     → IfSome old (λ all. IsReadAs all (Err refusal))
 refused_as None bytes fault refusal same gives told = tt
 refused_as (Some all) bytes fault refusal same gives told = refuses_as all bytes fault refusal same gives told
+
+-- bytes that are no JSON are refused as such, with a place or without one
+no_json_as : (all bytes : List ℕ) (refusal : FileFault) → reading_of all ≡ reading_of bytes
+    → Gives {X = Profile} (Err NotJson) (reading_of bytes) → IsOfNoJson refusal → RefusesAs all refusal
+no_json_as all bytes refusal same (inl memory) is = absurd cc
+no_json_as all bytes (file.NotJson place) same (inr reads) is = same ∙ reads
+no_json_as all bytes (file.Document NotJson) same (inr reads) is = same ∙ reads
+no_json_as all bytes refusal same (inr reads) is = absurd is
+
+pub not_json_as : (old : Option (List ℕ)) (bytes : List ℕ) (refusal : FileFault)
+    → IfSome old (λ all. reading_of all ≡ reading_of bytes) → Gives {X = Profile} (Err NotJson) (reading_of bytes) → IsOfNoJson refusal
+    → IfSome old (λ all. IsReadAs all (Err refusal))
+not_json_as None bytes refusal same gives told = tt
+not_json_as (Some all) bytes refusal same gives told = no_json_as all bytes refusal same gives told

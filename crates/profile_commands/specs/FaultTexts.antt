@@ -1,5 +1,5 @@
 -- The words of why a command on documents in files gave nothing.
-use Rattle.std.specs.Prelude.{ℕ, List, [], ◌++◌, Option, None, Some, codes, slice_get}
+use Rattle.std.specs.Prelude.{ℕ, List, [], ◌++◌, Option, None, Some, codes, decimal, slice_get}
 use Rattle.cap_sets.specs.Capability.{cap_names}
 use Rattle.cap_sets.specs.declared.state.CapFault.{CapFault}
 use Rattle.cap_sets.specs.declared.state.CapFault.TheVariants.{EffectiveOutside, AmbientOutside}
@@ -34,10 +34,12 @@ unread_word unread.Failed = codes "read"
 unread_word unread.TooManyReads = codes "too-many-reads"
 unread_word (unread.NoMemory _) = codes "memory"
 
--- why a file gave nothing: of bytes that are no document the text of their fault, and the name
--- behind it
+-- why a file gave nothing: of bytes that are no JSON the place, of bytes that are no document the
+-- text of their fault, and the name behind it
 abbrev pub file_fault_text : FileFault → List ℕ
 file_fault_text (file.Unread why) = unread_word why
+file_fault_text (file.NotJson place) =
+    codes "not-json line " ++ decimal place.line ++ codes " column " ++ decimal place.column
 file_fault_text (file.Document why) = fault_text_of why ++ behind (name_told why)
 
 -- why two documents weren't compared

@@ -24,6 +24,12 @@ IsRefusalOf fault refusal =
     ((fault ≡ faults.NoMemory witness) × (refusal ≡ no_memory))
     ⊎ ((fault ≢ faults.NoMemory witness) × (refusal ≡ file.Document fault))
 
+-- bytes that are no JSON text are reported with a place where one is found
+abbrev pub IsOfNoJson : FileFault → Type 0
+IsOfNoJson (file.NotJson place) = Unit {0}
+IsOfNoJson (file.Document faults.NotJson) = Unit {0}
+IsOfNoJson _ = ⊥
+
 -- the calls of a reader and those that failed, before and after, agree with what is answered of its
 -- bytes: `Failed` just where one failed, and `TooManyReads` only where there were as many calls as
 -- are allowed
@@ -40,12 +46,15 @@ abbrev pub AgreesWithReads : {X : Type 0} → (calls calls_after faults faults_a
     → Result X FileFault → Type 0
 AgreesWithReads {X} calls calls_after faults faults_after (Err (file.Unread why)) =
     ReadsAgree {X = X} calls calls_after faults faults_after (Err why)
+AgreesWithReads calls calls_after faults faults_after (Err (file.NotJson place)) =
+    faults_after ≡ faults
 AgreesWithReads calls calls_after faults faults_after (Err (file.Document fault)) =
     faults_after ≡ faults
 AgreesWithReads calls calls_after faults faults_after (Ok x) = faults_after ≡ faults
 
 -- where a fault of the document is reported, the bytes read as that fault
 abbrev pub RefusesAs : List ℕ → FileFault → Type 0
+RefusesAs bytes (file.NotJson place) = reading_of bytes ≡ Err faults.NotJson
 RefusesAs bytes (file.Document fault) = reading_of bytes ≡ Err fault
 RefusesAs bytes (file.Unread why) = Unit {0}
 

@@ -3,6 +3,7 @@
 ghost use Rattle.std.specs.Prelude.{◌≡◌};
 ghost use Rattle.profile_commands.specs.FaultTexts.{unread_word};
 
+use crate::json_place::JsonPlace;
 use crate::name_told::name_told;
 use profile_text::DocFault;
 use std::alloc::AllocError;
@@ -17,6 +18,8 @@ pub enum FileFault {
     /// The file wasn't read: why. `NoMemory` is also answered where memory was refused later, and
     /// may stand in place of any answer.
     Unread(Unread),
+    /// The bytes of the file are no JSON text: where they stop being one.
+    NotJson(JsonPlace),
     /// The bytes of the file are no document: the first fault that they have, which is never out of
     /// memory.
     Document(DocFault),
@@ -44,6 +47,9 @@ impl fmt::Display for FileFault {
     fn fmt<W: fmt::Write>(&self, f: &mut fmt::Formatter<W>) -> fmt::Result {
         match self {
             FileFault::Unread(why) => f.write_str(unread_word(*why)),
+            FileFault::NotJson(place) => {
+                write!(f, "not-json line {} column {}", place.line, place.column)
+            }
             FileFault::Document(DocFault::Caps(fault)) => match name_told(*fault) {
                 Some(name) => write!(f, "{fault} {name}"),
                 None => write!(f, "{fault}"),

@@ -8,6 +8,7 @@ mod execution;
 mod execve;
 mod fault;
 mod file_bytes;
+mod json_place;
 mod list;
 mod name_told;
 
@@ -17,4 +18,5 @@ pub use document::read_document;
 pub use execution::{Execution, ExecutionFault, execution_of};
 pub use execve::{ExecveOutcome, execve_document};
 pub use fault::FileFault;
+pub use json_place::JsonPlace;
 pub use list::set_listed;

@@ -1,14 +1,24 @@
-use Rattle.std.proofs.lemmas.Result.{err_from_is_err_and}
-use Rattle.profile_commands.proofs.ReadFacts.{read_as, read_whole, refused_as}
+use Rattle.std.proofs.Common.{◌≡◌, Err, subst}
+use Rattle.profile_text.specs.declared.fault.DocFault.{DocFault}
+use Rattle.profile_text.specs.declared.fault.DocFault.TheVariants.{NotJson}
+use Rattle.profile_text.specs.declared.profile.Profile.{Profile}
+use Rattle.profile_text.specs.Reading.{Gives, reading_of}
+use Rattle.profile_commands.proofs.ReadFacts.{not_json_as, read_as, read_whole, refused_as}
 use Rattle.profile_commands.proofs.document.read_document.Goals as goal
+
+pub returns-in-Ok-clause-document : goal.returns-in-Ok-clause-document
+returns-in-Ok-clause-document g c =
+    let whole = read_whole _ _ _ c.in_ok-bytes.ensures.bytes c.in_ok-bytes.ensures.end in
+    read_as _ _ c.in-Ok.document whole (rw c.deref.ensures.value at c.in-Ok.ensures.reading)
+
+pub returns-in-Err-NotJson-clause-document : goal.returns-in-Err-NotJson-clause-document
+returns-in-Err-NotJson-clause-document g c =
+    let is : c.in-Err-NotJson.field-0 ≡ NotJson = cc in
+    let whole = read_whole _ _ _ c.in_ok-bytes.ensures.bytes c.in_ok-bytes.ensures.end in
+    let gives = subst (λ (f : DocFault). Gives {X = Profile} (Err f) (reading_of c.in_ok-bytes.bytes.items)) is (rw c.deref.ensures.value at c.in-Err-NotJson.ensures.reading) in
+    not_json_as _ _ _ whole gives c.no_json.ensures
 
 pub returns-clause-document : goal.returns-clause-document
 returns-clause-document g c =
     let whole = read_whole _ _ _ c.in_ok-bytes.ensures.bytes c.in_ok-bytes.ensures.end in
-    read_as _ _ c.in_ok-document.document whole (rw c.deref.ensures.value at c.in_ok-document.ensures.reading)
-
-pub returns-in_err-document-clause-document : goal.returns-in_err-document-clause-document
-returns-in_err-document-clause-document g c =
-    let refused = err_from_is_err_and c.from_residual-in_err-document.result c.from_residual-in_err-document.ensures.1 in
-    let whole = read_whole _ _ _ c.in_ok-bytes.ensures.bytes c.in_ok-bytes.ensures.end in
-    rw refused.1 (refused_as _ _ c.in_err-document.field-0.0 _ whole (rw c.deref.ensures.value at c.in_err-document.ensures.reading) refused.2)
+    refused_as _ _ c.in-Err.fault _ whole (rw c.deref.ensures.value at c.in-Err.ensures.reading) c.from.ensures
