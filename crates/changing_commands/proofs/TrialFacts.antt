@@ -3,6 +3,10 @@ use Rattle.std.proofs.Common.{◌≡◌, ◌∙◌, Result, Ok, Err, inr, refl, 
 use Rattle.std.specs.Prelude.{IfErr, IfOk, OnOk}
 use Rattle.sqlite.specs.Held.{Held}
 use Rattle.sqlite.specs.Store.{Ghosts}
+use Rattle.cap_sets.specs.Capability.{number_from}
+use Rattle.hex.proofs.OnLiterals.{hex_on_literals}
+use Rattle.review_policy.specs.Digests.{digest_from_hex}
+use Rattle.review_policy.specs.Words.{is_word}
 use Rattle.memory_database.specs.MemoryStore.{MemoryStore, over_memory}
 use Rattle.changing_commands.specs.Foundings.{Described, Gives, IsFoundedAs, IsFoundedBy}
 use Rattle.changing_commands.specs.Trials.{trial_founding, HasTried}
@@ -10,6 +14,11 @@ use Rattle.command_host.specs.declared.fault.CommandFault.{CommandFault}
 use Rattle.changing_commands.specs.declared.founding.Founding.{Founding}
 use Rattle.command_host.specs.declared.founding_fault.FoundingWordsFault.TheVariants as refusal
 use Rattle.no_memory.specs.Witness.{witness}
+
+-- the words of the trial's founding describe one
+pub trial_is_described : (founding : Founding) × (trial_founding ≡ Ok founding)
+unfolding trial_founding is_word digest_from_hex hex_on_literals number_from
+trial_is_described = (_, refl)
 
 -- what is answered is what is described
 pub gives_described : (answered described : Described) → Gives answered described → IfOk answered (λ founding. described ≡ Ok founding)

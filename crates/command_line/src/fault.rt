@@ -30,12 +30,15 @@ impl WordsFault {
     pub(crate) fn of_error(alloc: Global, error: &clap::Error) -> WordsFault
         ensures { IsTold (kind_of error.now) result }
     {
-        match (error.kind(), format!(in alloc; "{error}")) {
-            (ErrorKind::OutOfMemory, _) => WordsFault::NoMemory(NoMemory::told()),
-            (_, Err(refused)) => WordsFault::NoMemory(refused.into()),
-            (ErrorKind::DisplayHelp, Ok(text)) => WordsFault::Help(text),
-            (ErrorKind::DisplayVersion, Ok(text)) => WordsFault::Version(text),
-            (_, Ok(text)) => WordsFault::Refused(text),
+        let text = match format!(in alloc; "{error}") {
+            Ok(text) => text,
+            Err(refused) => return WordsFault::NoMemory(refused.into()),
+        };
+        match error.kind() {
+            ErrorKind::OutOfMemory => WordsFault::NoMemory(NoMemory::told()),
+            ErrorKind::DisplayHelp => WordsFault::Help(text),
+            ErrorKind::DisplayVersion => WordsFault::Version(text),
+            _ => WordsFault::Refused(text),
         }
     }
 }

@@ -58,9 +58,6 @@ module _ {X : Type 0} (m : Meaning X) where
 
   module _ (old now : X) (held : Held) (unread rest before current : Option (List ℕ)) (number : ℕ)
       (p : Progress old now held unread rest before current number) where
-    pub some_handled : HasHandled m old now
-    some_handled = record { lines = p.lines; outcomes = p.answered.outcomes; handled = p.answered.handled }
-
     pub all_answered : size held ≡ 0 → IsAtEnd rest → IfSome unread (λ input. AreAnswered m old now before current (lines_of input))
     all_answered none end = with_all unread (all_handed held unread rest p.lines p.handed none end)
       where

@@ -29,9 +29,6 @@ enrols_forms = (refl, refl, refl, lit< tt, (refl, All-replicate (λ (byte : ℕ)
 pub founds_entry : IsEntry (happened (founds 5))
 founds_entry = founding_entry (founds 5) is_founding founds_forms
 
-pub enrols_entry : IsEntry (happened enrols)
-enrols_entry = allowed_entry founding enrols enrols_allowed enrols_forms
-
 -- two lines have one text only where they are one
 pub other_texts : (a b : Line) → IsEntry a → IsEntry b → (a ≡ b → ⊥) → text_of a ≡ text_of b → ⊥
 other_texts a b is_a is_b apart same = apart (same_line a b is_a.formed is_b.formed same)

@@ -19,4 +19,4 @@ with_query target None cut h is = cc is
 with_query target (Some other) cut h is =
     let some = split_once_first 63 target (Some other) h (omega arith) in
     let same : other ≡ cut = cc is in
-    (rw (sym same) (sym some.1.0), rw (sym same, lt-ltb _ _ some.0) (ap (λ q. Some q) (sym some.1.1)))
+    (rw (sym same) (sym some.1), rw (sym same, lt-ltb _ _ some.0) (ap (λ q. Some q) (sym some.2)))

@@ -129,4 +129,4 @@ HearCounts calls calls_after most faults faults_after (Err (Unread (NoMemory _))
 abbrev pub of_line_fault : LineFault → Unheard
 of_line_fault fault.NotJson = Refused NotARequest
 of_line_fault fault.NotARequest = Refused NotARequest
-of_line_fault (fault.NoMemory refused) = Unread (NoMemory refused)
+of_line_fault (fault.NoMemory memory) = Unread (NoMemory memory)

@@ -179,17 +179,3 @@ module _ {O J : Type 0} (m : Meaning O) (w : Writing J) where
   -- an office whose journal doesn't go on is shut
   shut : (x : Journaled O J) → goes_on m w x ≡ false → IsTrue (goes_on m w x) → ⊥
   shut x ends goes = let k : goes_on m w x ≡ true = goes in let c : true ≡ false = sym k ∙ ends in absurd cc
-
-  pub refused_shut : (x : Journaled O J) (r : Request) → goes_on m w x ≡ false → IsHandled (journaled m w) x x r (Fault faults.Disk)
-  refused_shut x r ends = record {
-    survives = survives_none (journaled m w) x;
-    answer = λ h of clean. tt;
-    cause = λ h of clean stood. absurd (shut x ends stood.1);
-    closes = λ h of clean stood. absurd (shut x ends stood.1);
-    approved = λ h of clean. tt;
-    office = λ h of. of;
-    stands = λ h of clean. tt;
-    kept = λ clean. (journaled m w).keeps_itself x;
-    adds = λ h of clean. inl ((journaled m w).adds_none x);
-    crash = λ h of clean left may. inl may;
-  }

@@ -13,23 +13,6 @@ use Rattle.journal.specs.declared.seal_at.SealAt.{SealAt}
 use Rattle.journal.specs.SealsAt.{Finds, IsFound, IsSealAsked, IsSealAt, IsSeen, Sees}
 use Rattle.journal.specs.Told.{Ends, Place, start}
 
--- before the first line
-pub seen_at_start : (bytes : Option (List ℕ)) (kept : SealAt) → kept.seal ≡ no_seal → IsSeen bytes (start bytes) kept
-seen_at_start None kept none = tt
-seen_at_start (Some text) kept none = record {
-  bodies = [];
-  are = All-nil IsBody;
-  rest = text;
-  is = refl;
-  left = refl;
-  counted = refl;
-  sealed = refl;
-  at = λ few. none ∙ ap (λ (bodies : List (List ℕ)). seal_of bodies) (nothing kept.line);
-}
-  where
-    nothing : (n : ℕ) → ◌≡◌ {A = List (List ℕ)} [] (take n [])
-    nothing n = sym (take_all n [] (omega arith))
-
 -- the seal that is kept of one line more
 kept_more : (bodies : List (List ℕ)) (body : List ℕ) (old new : SealAt) (taken : ℕ) (seal : List ℕ) → taken ≡ length bodies + 1 → seal ≡ seal_of (bodies ++ body ∷ [])
     → (old.line ≤ length bodies → old.seal ≡ seal_of (take old.line bodies)) → Sees old new taken seal → new.line ≤ length (bodies ++ body ∷ [])

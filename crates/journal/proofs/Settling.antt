@@ -87,9 +87,6 @@ module _ {O J : Type 0} (m : Meaning O) (w : Writing J) (x : Journaled O J) wher
     crash = λ clean left may. inl may;
   }
 
-  pub is_shut : goes_on m w x ≡ false → IsSettled m w x x (Ok tt)
-  is_shut ends = unchanged (λ goes. absurd (let k : goes_on m w x ≡ true = goes in let c : true ≡ false = sym k ∙ ends in cc))
-
   pub none_last : None ≡ unsettled w x → IsSettled m w x x (Ok tt)
   none_last none = unchanged (λ goes. is_not_last w x none)
 

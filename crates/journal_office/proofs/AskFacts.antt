@@ -170,21 +170,6 @@ not_looked m old new w after event (Changed at) never = never
 not_looked m old new w after event Log never = never
 not_looked m old new w after event (NoMemory _) never = tt
 
--- ---- an event
-
-never_both : (b : Bool) → b ≡ true → b ≡ false → ⊥
-never_both b is_true is_false = let c : true ≡ false = sym is_true ∙ is_false in absurd cc
-
-module _ {X : Type 0} (m : Meaning X) (old new : X) (e : Event) where
-  pub shown_there : HasLooked m old new (TellsWhether e) (Ok true) → Holds m old new (λ t. Shows t e) × Stays m old new
-  shown_there look = (λ h of clean. (look.found h of clean).0 refl, λ h stands clean. look.stands h stands.is_of clean)
-
-  pub unshown_there : HasLooked m old new (TellsWhether e) (Ok false) → Holds m old new (λ t. Shows t e → ⊥) × Stays m old new
-  unshown_there look = (λ h of clean shows. never_both false ((look.found h of clean).1 shows) refl, λ h stands clean. look.stands h stands.is_of clean)
-
-pub stays_itself : {X : Type 0} (m : Meaning X) (x : X) → Stays m x x
-stays_itself m x h stands clean = stands
-
 -- ---- all writers
 
 module _ (w : TheWriters) (t : Tables) where

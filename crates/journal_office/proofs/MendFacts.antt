@@ -277,31 +277,6 @@ module _ {X D : Type 0} (m : Meaning X) (g : Ghosts D) (mark : ℕ) where
         crash = λ clean leaves left may. leaves left (read.crash left may);
       }
 
-      -- too much stands behind those that are
-      pub was_changed : found.at + longest < found.len → Mends m g mark x x before after (Err (Changed found.at))
-      was_changed more = record {
-        leaves = left_itself m x;
-        stands = λ h stands clean. tt;
-        clean = read.clean;
-        opened = tt;
-        bodies = λ clean. tt;
-        journal = λ clean h of tells is_clean. tt;
-        ends = λ clean. tt;
-        marked = λ clean. tt;
-        unsealed = λ clean same. absurd cc;
-        changed = λ clean at same.
-            let here : found.at ≡ at = cc in
-            (more_behind (g.seen before.disk) found (through clean) more, sym here ∙ length-through (g.seen before.disk) found (through clean));
-        whole = λ clean. tt;
-        no_line = λ clean same. absurd cc;
-        line = λ clean h lawful tells. (λ same. cc, λ same. cc);
-        other = λ clean h of is_clean same. absurd cc;
-        ours = λ clean h of is_clean. tt;
-        untouched = λ refusal. read.seen;
-        cause = λ h of clean. tt;
-        crash = λ clean leaves left may. leaves left (read.crash left may);
-      }
-
       -- it has fewer lines than the mark
       pub too_few : found.lines < mark → Mends m g mark x x before after (Err OtherJournal)
       too_few few = record {

@@ -59,17 +59,6 @@ none_read here after line why.NotFounded at is = absurd at
 none_read here after line (why.Unfounded fault) at is = absurd at
 none_read here after line (why.Unreplayed cause) at is = absurd at
 
-pub no_founding : (e : values.Event) → ((user team digest : List ℕ) (listed : ℕ) → e ≡ events.Founded user team digest listed → ⊥) → IsFounding (event_meant e) → ⊥
-no_founding (events.Founded user team digest listed) not_founded is = not_founded user team digest listed refl
-no_founding (events.Enrolled caller user team roles digest) not_founded is = is
-no_founding (events.Submitted caller name text) not_founded is = is
-no_founding (events.Voted caller name revision digest approves) not_founded is = is
-no_founding (events.Issued caller name revision) not_founded is = is
-no_founding (events.Withdrawn caller name revision) not_founded is = is
-no_founding (events.Adopted caller name revision) not_founded is = is
-no_founding (events.Held caller name) not_founded is = is
-no_founding (events.Released caller name) not_founded is = is
-
 module _ {X : Type 0} (m : Meaning X) (bytes : Option (List ℕ)) where
   -- what is told before it is told of the whole, and lawful
   pub left_behind : (here after : Place) (es : List (ℕ × Event)) (office left : X) (line : ℕ) (w : Why) → left ≡ office → HasReplayed bytes m here es office → IsLeft here after line w
@@ -150,20 +139,10 @@ module _ {S : Type 0} (g : Ghosts S) (bytes : Option (List ℕ)) (conn left : He
   none_behind (why.Unreplayed cause) at = at
 
 module _ {S : Type 0} (g : Ghosts S) (bytes : Option (List ℕ)) (conn : Held S) where
-  -- of a place before the first line
-  pub begun_not : (from after : Place) (refused : Refused) → from ≡ start bytes → IsNoFirst from after refused.line refused.why → IsRefused bytes g conn conn refused.line refused.why
-  begun_not from after refused at none =
-      none_first g bytes conn conn refused.line after refused.why (subst (λ (p : Place). IsNoFirst p after refused.line refused.why) at none)
-
   pub begun_unfounded : (from here : Place) (line : ℕ) (e : Event) (w : Why) (left : Held S) → from ≡ start bytes → GoesOn from here ((line, e) ∷ []) → IsNoFounding g e conn left w
       → IsRefused bytes g conn left line w
   begun_unfounded from here line e w left at told none =
       none_founded g bytes conn left line here e w (subst (λ (p : Place). GoesOn p here ((line, e) ∷ [])) at told) none
-
-  pub begun_founded : (from here : Place) (line : ℕ) (e : Event) (office : Held S) → from ≡ start bytes → GoesOn from here ((line, e) ∷ []) → IsFounding e
-      → (HasCleanDisk (state g office) → Stands (meaning_over g) (e ∷ []) office) → HasReplayed bytes (meaning_over g) here ((line, e) ∷ []) office
-  begun_founded from here line e office at told founding stands =
-      first_replayed (meaning_over g) bytes here line e office (subst (λ (p : Place). GoesOn p here ((line, e) ∷ [])) at told) founding stands
 
   -- nothing founds one
   none_held : (line : ℕ) (w : Why) → IsNoneRead (start bytes) line w → IsUnbegun bytes g conn conn line w

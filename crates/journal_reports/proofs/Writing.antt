@@ -80,18 +80,6 @@ lines_with asked es placed =
     no_more_lines asked (es ++ placed ∷ []) (last_line (es ++ placed ∷ [])) refl ∙ told_lines asked es placed
     ∙ sym (append_assoc (lines_told asked es) (struck_lines asked (last_line es) (placed.0 - 1 - last_line es)) (shown_of asked (history_told es) placed))
 
--- a founding looks nothing up
-pub founding_alone : (e : Event) (h : History) → IsFounding e → looked_up e h ≡ None
-founding_alone (founded name team digest listed) h is = refl
-founding_alone (enrolled caller name team roles digest) h is = absurd is
-founding_alone (submitted caller q text) h is = absurd is
-founding_alone (voted caller q k digest approves) h is = absurd is
-founding_alone (issued caller q k) h is = absurd is
-founding_alone (withdrawn caller q k) h is = absurd is
-founding_alone (adopted caller q k) h is = absurd is
-founding_alone (held caller q) h is = absurd is
-founding_alone (released caller q) h is = absurd is
-
 pub not_shown : (asked : Asked) (h : History) (line : ℕ) (e : Event) (text : List ℕ) → passes asked (line, e) ≡ false → text ≡ [] → text ≡ shown_of asked h (line, e)
 not_shown asked h line e text not_asked empty = empty ∙ ap (λ b. if b then line_of asked.json h line e else []) (sym not_asked)
 

@@ -36,9 +36,6 @@ both_there width at left right below first second = λ i. slice_cmp value_cmp (r
 pub left_there : (width at : ℕ) (left right : Row) → at < width → at < length left → length right ≤ at → rest_cmp width at left right ≡ Greater
 left_there width at left right below first second = λ i. slice_cmp value_cmp (rest_there width at left below first i) (rest_none width at right second i)
 
-pub right_there : (width at : ℕ) (left right : Row) → at < width → length left ≤ at → at < length right → rest_cmp width at left right ≡ Less
-right_there width at left right below first second = λ i. slice_cmp value_cmp (rest_none width at left first i) (rest_there width at right below second i)
-
 pub none_there : (width at : ℕ) (left right : Row) → length left ≤ at → length right ≤ at → rest_cmp width at left right ≡ Equal
 none_there width at left right first second = λ i. slice_cmp value_cmp (rest_none width at left first i) (rest_none width at right second i)
 

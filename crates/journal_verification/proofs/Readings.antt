@@ -109,11 +109,6 @@ module _ {S : Type 0} (g : Ghosts S) where
   pub one_more_came : (old mid new : Held S) (row : Row) (next : Option Row) → Some row ≡ next → HaveCome g old mid → GivesNext g mid new next → HaveCome g old new
   one_more_came old mid new row next is come gives = one_came old mid new row come (subst (GivesNext g mid new) (sym is) gives)
 
-  pub all_came : (old mid new : Held S) → HaveCome g old mid → GivesNext g mid new None → GivesRest g old (state g new).now
-  all_came old mid new come next = λ sql given at.
-      let it = come sql given at in
-      (it.0, next sql (given ++ it.0) it.1)
-
   pub giving_since : (old mid : Held S) → HaveCome g old mid → IsGiving g old → IsGiving g mid
   giving_since old mid come (sql, of, given, at) = let it = come sql given at in (sql, of, given ++ it.0, it.1)
 

@@ -51,22 +51,6 @@ pub ok_as : {A E : Type 0} (P Q : A → Type 0) (result : Result A E) → ((a : 
 ok_as P Q (Ok a) to was = to a was
 ok_as P Q (Err e) to was = tt
 
--- where nothing was said, a command noted nothing
-pub nothing_noted : {S D F L N E : Type 0} (k : Known S D F L N) (said_of : E → Option (List ℕ)) (errors noted : Counted E) (asked : Command) → noted ≡ errors
-    → HasNoted k said_of errors noted asked
-nothing_noted k said_of errors noted command.Trial same = same
-nothing_noted k said_of errors noted (command.Check file) same = same
-nothing_noted k said_of errors noted (command.Execve words) same = same
-nothing_noted k said_of errors noted (command.Init words) same = same
-nothing_noted k said_of errors noted (command.Desk database journal) same = same
-nothing_noted k said_of errors noted (command.Serve words) same = same
-nothing_noted k said_of errors noted (command.Migrate database without) same = same
-nothing_noted k said_of errors noted (command.Compare base new) same = same
-nothing_noted k said_of errors noted (command.Verify words) same = inl same
-nothing_noted k said_of errors noted (command.Rebuild database journal) same = same
-nothing_noted k said_of errors noted (command.History words) same = same
-nothing_noted k said_of errors noted (command.Evidence words) same = same
-
 -- where a flag is set this holds, and where it isn't nothing is asked
 pub if_set : (b : Bool) (Holds : Type 0) → b ≡ true → Holds → IfSet b Holds
 if_set true Holds is holds = holds

@@ -72,7 +72,7 @@ caused_by g old new Refuses NotAnOffice passes memory cause = absurd (passes ref
 pub caused : {S : Type 0} (g : Ghosts S) (old new : Held S) (h : History) (r : Request) (fault : TheFault) → fault ≢ NotAnOffice → (fault ≡ NoMemory witness → LacksMemory (meaning_over g) old new h r)
     → HasFailed (state g old) (state g new) fault ⊎ RefusesEvent (meaning_over g) old h (verdict h r) fault → HasCause (meaning_over g) old new h r (Fault fault)
 caused g old new h r (NoMemory _) passes memory cause = memory refl
-caused g old new h r Disk passes memory cause = caused_by g old new (RefusesEvent (meaning_over g) old h (verdict h r)) Disk passes memory cause
+caused g old new h r Disk passes memory cause = caused_by g old new (RefusesEvent (meaning_over g) old h (verdict h r)) Disk passes (λ is. absurd cc) cause
 caused g old new h r Full passes memory cause = cause
 caused g old new h r NotAnOffice passes memory cause = absurd (passes refl)
 

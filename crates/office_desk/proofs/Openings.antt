@@ -16,9 +16,6 @@ either true P when_true when_false = when_true refl
 either false P when_true when_false = when_false refl
 
 module _ {S : Type 0} (g : Ghosts S) (old new : Held S) (is : new ≡ old) where
-  pub idle_as : IsIdle (state g old) → IsIdle (state g new)
-  idle_as idle = subst (λ (x : Held S). IsIdle (state g x)) (sym is) idle
-
   pub is_as_it_was : IsAsItWas (state g old) (state g new)
   is_as_it_was = subst (λ (x : Held S). IsAsItWas (state g old) (state g x)) (sym is) (λ is_open. (refl, refl))
 

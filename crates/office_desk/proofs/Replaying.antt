@@ -66,18 +66,6 @@ use Rattle.no_memory.specs.Witness.{witness}
 
 -- ---- what an event asks
 
--- it changes something
-pub asks_change : (e : Event) (a : Ask) → IsAskOf e a → only_reads a ≡ false
-asks_change (founded n t d l) a is = absurd is
-asks_change (enrolled c n t r d) a is = ap only_reads is
-asks_change (submitted c p text) a is = ap only_reads is.2
-asks_change (voted c p n d approves) a is = ap only_reads is
-asks_change (issued c p n) a is = ap only_reads is
-asks_change (withdrawn c p n) a is = ap only_reads is
-asks_change (adopted c p n) a is = ap only_reads is
-asks_change (held c p) a is = ap only_reads is
-asks_change (released c p) a is = ap only_reads is
-
 module _ (h : History) (lawful : IsLawfulHistory h) (caller : Option UserRow) where
   -- and names a number of its form where no rule refuses it
   asks_numbered : (e : Event) (a : Ask) → IsAskOf e a → first_denial (rules_of h caller a) ≡ Ok tt → HasNumber a
@@ -242,9 +230,6 @@ other_text h (held c p) a allowed is caller other asked verdict = absurd cc
 other_text h (released c p) a allowed is caller other asked verdict = absurd cc
 
 -- ---- what that leaves
-
-err_same : (f k : Fault) → (let r : Result ⊤ Fault = Err f in r ≡ Err k) → f ≡ k
-err_same f k is = cc
 
 module _ {S : Type 0} (g : Ghosts S) (old mid : Held S) (e : Event) (a : Ask) (asks : IsAskOf e a) (name : List ℕ) (called : caller_of e ≡ Some name) where
   -- the verdict is that of the user of that name

@@ -86,6 +86,3 @@ module _ {S : Type 0} (g : Ghosts S) (listed : ℕ) (below : listed < 2 ^ 41) wh
       (goes (created_step g CREATE_VOTES.now (votes_table 0) with_revisions votes_made)
       (goes (created_step g CREATE_BASELINES.now (baselines_table 0) with_votes baselines_made)
       (goes old_office_step ends)))))
-
-  pub old_founded : (h : Held S) (db : Database) → (state g h).now.schema ≡ no_schema → RanAll g (old_founding listed) h db → IsOldOffice db (no_tables listed)
-  old_founded h db empty ran = all_led g founds_old h db (record { schema_is = empty; empty = tt }) ran

@@ -58,8 +58,9 @@ pub(crate) fn issued_now<S: Alter>(
     let (found, is_held) = look_at(conn, name)?;
     decide_fetch(&all_facts(caller, &name.team, found.is_none(), is_held))?;
     let Some(brief) = found else { unreachable!() };
+    let digest = brief.digest;
     Ok(Reply::IssuedNow {
-        digest: brief.digest,
+        digest,
         revision: brief.number,
     })
 }

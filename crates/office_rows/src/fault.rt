@@ -2,7 +2,7 @@
 
 ghost use Rattle.std.specs.Prelude.{◌≡◌, ◌∷◌, [], map, replicate, ℕ};
 ghost use Rattle.office_rows.specs.Faults.{fault_of_error};
-ghost use Rattle.review_policy.specs.declared.fault.Fault.TheVariants.{NoMemory, Disk};
+ghost use Rattle.review_policy.specs.declared.fault.Fault.TheVariants.{Disk};
 ghost use Rattle.review_policy.specs.declared.fault.Fault.TheVariants.{Full, NotAnOffice};
 ghost use Rattle.sqlite.specs.declared.error.Error.TheVariants as error;
 ghost use Rattle.sqlite.specs.declared.error.ErrorCode.TheVariants as code;
@@ -34,7 +34,7 @@ pub fn fault_of_error(error: Error) -> Fault
 
 /// Which fault each error of `sqlite` is.
 pub fn each_error_is_its_fault()
-    ensures memory { fault_of_error (error.SqliteFailure code.OutOfMemory) ≡ NoMemory witness }
+    ensures memory { fault_of_error (error.SqliteFailure code.OutOfMemory) ≡ Fault.NoMemory witness }
     ensures full { map (λ c. fault_of_error (error.SqliteFailure c))
         (code.DiskFull ∷ code.TooBig ∷ []) ≡ replicate 2 Full }
     ensures disk { map (λ c. fault_of_error (error.SqliteFailure c))

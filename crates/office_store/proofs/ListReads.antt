@@ -111,6 +111,3 @@ at_mapped f (x ∷ xs) (suc i) row below at =
 
 pub shows_at : {X : Type 0} (f : X → Row) (xs : List X) (rows : List Row) → rows ≡ map f xs → (i : ℕ) (row : Row) → i < length rows → row ≡ get_or rows i row → ShowsAt f xs i row
 shows_at f xs rows are i row below at = at_mapped f xs i row (subst (λ l. i < length l) are below) (at ∙ ap (λ l. get_or l i row) are)
-
-pub all_shown : {X : Type 0} (f : X → Row) (xs : List X) (rows : List Row) → rows ≡ map f xs → (i : ℕ) → length rows ≤ i → take i xs ≡ xs
-all_shown f xs rows are i past = take_all i xs (omega (arith, ap length are, length-map xs f))

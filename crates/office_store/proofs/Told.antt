@@ -16,13 +16,6 @@ use Rattle.office_store.specs.Calls.{IsRead}
 use Rattle.office_store.proofs.Calls.{read_told}
 use Rattle.no_memory.specs.Witness.{witness}
 
-pub read_cause : (at : ℕ) (v : Value) (e : Error) → IsReadError at v e → IsOfRow (fault_of_error e)
-read_cause at v e (inl h) = inr (ap fault_of_error h)
-read_cause at v e (inr (inl h)) = inr (ap fault_of_error h)
-read_cause at v e (inr (inr (inl h))) = inr (ap fault_of_error h)
-read_cause at v e (inr (inr (inr (inl h)))) = inr (ap fault_of_error h)
-read_cause at v e (inr (inr (inr (inr h)))) = inl (ap fault_of_error h)
-
 -- a reading that fails for no memory, or since the row is no such value's
 pub unread : {X R A : Type 0} (encode : X → R) (IsFormed : X → Type 0) (row : R) (r : Result A Fault) (f : Fault) → r ≡ Err f
     → ((x : X) → IsFormed x → row ≡ encode x → r ≢ Err NotAnOffice) → IfErr r IsOfRow → IsUnread encode IsFormed row f

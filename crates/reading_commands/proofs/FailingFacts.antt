@@ -47,14 +47,6 @@ gave_nothing Opens Gives bytes_of contents output wrote path met told file opene
 module _ {F O : Type 0} (Opens : List ℕ → Result F Error → Type 0) (Gives : F → F → Result ℕ Error → List ℕ → Type 0) (bytes_of : F → Option (List ℕ)) (contents : O → Option (List ℕ))
     (output wrote : Counted O) (why : CommandFault) where
   module _ (path : List ℕ) where
-    pub check_unopened : (why ≡ fault.Open) × ((e : Error) × Opens (file_of path) (Err e)) → wrote ≡ output → FailsToCheck Opens Gives bytes_of contents output wrote path why
-    check_unopened it same = subst (λ (w : CommandFault). FailsToCheck Opens Gives bytes_of contents output wrote path w) (sym it.0) (it.1, same)
-
-    pub check_refused : (told : FileFault) (file : F) → why ≡ fault.File told → Opens (file_of path) (Ok file)
-        → IfSome (bytes_of file) (λ bytes. IsChecked bytes (Err told)) → (told ≡ failed_read → ∥ CallFailed Gives ∥₁) → wrote ≡ output → FailsToCheck Opens Gives bytes_of contents output wrote path why
-    check_refused told file is opened refused called same =
-        subst (λ (w : CommandFault). FailsToCheck Opens Gives bytes_of contents output wrote path w) (sym is) (file, opened, refused, called, same)
-
     pub check_cut : (file : F) (text : String Global) (printed : List ℕ) → Opens (file_of path) (Ok file) → IfSome (bytes_of file) (λ bytes. IsChecked bytes (Ok text))
         → printed ≡ string_bytes text → (why ≡ fault.Write) × IsCut contents output wrote printed → FailsToCheck Opens Gives bytes_of contents output wrote path why
     check_cut file text printed opened checked is it =
@@ -62,24 +54,7 @@ module _ {F O : Type 0} (Opens : List ℕ → Result F Error → Type 0) (Gives 
         (file, text, opened, checked, subst (λ (t : List ℕ). IsCut contents output wrote t) is it.1)
 
   module _ (words : ExecveWords) where
-    pub execve_undescribed : (told : ExecutionFault) → why ≡ fault.Execution told → execution_of words ≡ Err told → wrote ≡ output
-        → FailsToExecute Opens Gives bytes_of contents output wrote words why
-    execve_undescribed told is described same =
-        subst (λ (w : CommandFault). FailsToExecute Opens Gives bytes_of contents output wrote words w) (sym is) (described, same)
-
     module _ (execution : Execution) (described : execution_of words ≡ Ok execution) where
-      pub execve_unopened : (why ≡ fault.Open) × ((e : Error) × Opens (file_of words.file.now) (Err e)) → wrote ≡ output
-          → FailsToExecute Opens Gives bytes_of contents output wrote words why
-      execve_unopened it same =
-          subst (λ (w : CommandFault). FailsToExecute Opens Gives bytes_of contents output wrote words w) (sym it.0) ((execution, described), (it.1, same))
-
-      pub execve_refused : (told : FileFault) (file : F) → why ≡ fault.File told → Opens (file_of words.file.now) (Ok file)
-          → IfSome (bytes_of file) (λ bytes. IsExecuted execution bytes (Err told)) → (told ≡ failed_read → ∥ CallFailed Gives ∥₁) → wrote ≡ output
-          → FailsToExecute Opens Gives bytes_of contents output wrote words why
-      execve_refused told file is opened refused called same =
-          subst (λ (w : CommandFault). FailsToExecute Opens Gives bytes_of contents output wrote words w) (sym is)
-          ((execution, described), (file, opened, refused, called, same))
-
       pub execve_cut : (file : F) (outcome : ExecveOutcome) (printed : List ℕ) → Opens (file_of words.file.now) (Ok file)
           → IfSome (bytes_of file) (λ bytes. IsExecuted execution bytes (Ok outcome)) → printed ≡ outcome_text outcome
           → (why ≡ fault.Write) × IsCut contents output wrote printed → FailsToExecute Opens Gives bytes_of contents output wrote words why
@@ -88,11 +63,6 @@ module _ {F O : Type 0} (Opens : List ℕ → Result F Error → Type 0) (Gives 
           (file, execution, outcome, described, opened, executed, subst (λ (t : List ℕ). IsCut contents output wrote t) is it.1)
 
   module _ (base_path new_path : List ℕ) where
-    pub uncompared : (told : ComparedFault) → why ≡ fault.Compared told → IsUncompared Opens bytes_of base_path new_path told → wrote ≡ output
-        → FailsToCompare Opens Gives bytes_of contents output wrote base_path new_path why
-    uncompared told is it same =
-        subst (λ (w : CommandFault). FailsToCompare Opens Gives bytes_of contents output wrote base_path new_path w) (sym is) (it, same)
-
     pub compare_cut : (base shown : Source F) (text : String Global) (printed : List ℕ) → IsSource (Opens (file_of base_path)) base → IsSource (Opens (file_of new_path)) shown
         → IfSome (source_bytes bytes_of base) (λ b. IfSome (source_bytes bytes_of shown) (λ s. IsCompared b s text)) → printed ≡ string_bytes text
         → (why ≡ fault.Write) × IsCut contents output wrote printed → FailsToCompare Opens Gives bytes_of contents output wrote base_path new_path why

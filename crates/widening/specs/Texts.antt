@@ -1,5 +1,5 @@
 -- Lists of texts without repeats.
-use Rattle.std.specs.Prelude.{ℕ, List, [], ◌∷◌, Bool, not, filter, fold, map, bytes_eq}
+use Rattle.std.specs.Prelude.{ℕ, List, [], ◌∷◌, Bool, ◌&&◌, not, filter, fold, map, bytes_eq}
 use Rattle.std.specs.Borrow.{Bor}
 use Rattle.std.specs.BTreeSet.{insert_key}
 use Rattle.std.specs.Cmp.Lexicographic.{slice_cmp}
@@ -19,6 +19,10 @@ each_once (text ∷ texts) = text ∷ filter (λ other. not (bytes_eq text other
 -- the texts of a list that aren't in another, each once, at its first place
 abbrev pub added_texts : List (List ℕ) → List (List ℕ) → List (List ℕ)
 added_texts base new = filter (λ text. not (lists base text)) (each_once new)
+
+-- neither a list nor the earlier texts have a text
+abbrev pub is_added : (base earlier : List (List ℕ)) → List ℕ → Bool
+is_added base earlier text = not (lists earlier text) && not (lists base text)
 
 -- the new list has a text that the baseline's hasn't
 abbrev pub adds_a_text : List (List ℕ) → List (List ℕ) → Bool

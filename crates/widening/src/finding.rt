@@ -1,12 +1,7 @@
 //! Findings.
 
-ghost use Rattle.std.specs.Prelude.{◌≡◌, ℕ, List};
-ghost use Rattle.widening.specs.declared.finding.Finding.{Finding};
-
 use profile_text::CapSet;
-use seccomp_doc::arch::ArchForm;
-use seccomp_doc::flag::FlagForm;
-use seccomp_doc::{Arch, CallName, Form, Formed, ScmpFlag};
+use seccomp_doc::{Arch, CallName, ScmpFlag};
 
 /// Something that a new profile permits, or may permit, and its baseline doesn't.
 #[derive(Debug, Drop)]
@@ -26,30 +21,4 @@ pub enum Finding {
     Call(CallName),
     /// The new filter's default is more permissive than the baseline's.
     Default,
-}
-
-// A form of texts that findings are of.
-pub(crate) trait Found: Form + Clone {
-    // The finding of a text.
-    ghost finding_of: { List ℕ → Finding };
-
-    // The finding of a text of this form.
-    fn finding_of(text: Formed<Self>) -> Finding
-        ensures { result ≡ finding_of text };
-}
-
-impl Found for ArchForm {
-    ghost finding_of = { λ text. Finding.Arch text };
-
-    fn finding_of(text: Arch) -> Finding {
-        Finding::Arch(text)
-    }
-}
-
-impl Found for FlagForm {
-    ghost finding_of = { λ text. Finding.Flag text };
-
-    fn finding_of(text: ScmpFlag) -> Finding {
-        Finding::Flag(text)
-    }
 }

@@ -15,7 +15,7 @@ use crate::caps::find_caps;
 use crate::finding::Finding;
 use crate::groups::{Groups, keeps_to};
 use crate::memo::Memo;
-use crate::text_lists::{find_added, find_architectures};
+use crate::text_lists::{find_architectures, find_flags};
 use profile_text::Profile;
 use seccomp_doc::{CallName, Entry, Filter, NameFault};
 use std::alloc::{AllocError, Global};
@@ -71,7 +71,7 @@ fn find_between(
     ensures { OnOk result (found.new.items ≡ found.old.items ++ between_filters base.now new.now) }
 {
     find_architectures(found, base.architectures(), new.architectures())?;
-    find_added(found, base.flags(), new.flags())?;
+    find_flags(found, base.flags(), new.flags())?;
     find_calls(alloc, found, base, new)?;
     find_default(found, base, new)
 }

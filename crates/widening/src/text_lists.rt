@@ -1,11 +1,12 @@
 //! Lists of texts compared: of architectures, of flags, and of names.
 
-ghost use Rattle.std.specs.Prelude.{◌≡◌, ◌&&◌, ◌∷◌, ◌++◌, [], OnOk, if◌then◌else◌, map, not};
-ghost use Rattle.widening.specs.Findings.{arch_findings, is_emptied};
-ghost use Rattle.widening.specs.Texts.{added_texts, adds_a_text, lists};
+ghost use Rattle.std.specs.Prelude.{◌≡◌, ◌∷◌, ◌++◌, [], OnOk, if◌then◌else◌, map};
+ghost use Rattle.widening.specs.Findings.{arch_findings, flag_findings, is_emptied};
+ghost use Rattle.widening.specs.Texts.{added_texts, adds_a_text, is_added, lists};
+ghost use Rattle.widening.specs.declared.finding.Finding.TheVariants as findings;
 
-use crate::finding::{Finding, Found};
-use seccomp_doc::{Arch, Form, Formed};
+use crate::finding::Finding;
+use seccomp_doc::{Arch, Form, Formed, ScmpFlag};
 use std::alloc::AllocError;
 
 // Adds each architecture that only the new filter lists.
@@ -20,39 +21,75 @@ pub(crate) fn find_architectures(
         found.push(Finding::AnyArch)?;
         return Ok(());
     }
-    find_added(found, base, new)
+    find_added_architectures(found, base, new)
 }
 
-// Adds each text that only the new list has.
-pub(crate) fn find_added<F: Found>(
+// Adds each architecture that the baseline's list hasn't.
+fn find_added_architectures(
     found: &mut Vec<Finding>,
-    base: &[Formed<F>],
-    new: &[Formed<F>],
+    base: &[Arch],
+    new: &[Arch],
 ) -> Result<(), AllocError>
     ensures { OnOk result (found.new.items
-        ≡ found.old.items ++ map F.finding_of (added_texts base.now new.now)) }
+        ≡ found.old.items ++ map findings.Arch (added_texts base.now new.now)) }
 {
     for i in 0..new.len() {
-        find_text(found, base, &new[..i], &new[i])?;
+        find_architecture(found, base, &new[..i], &new[i])?;
     }
     Ok(())
 }
 
-// Adds the text, where neither the baseline nor an earlier place lists it.
-fn find_text<F: Found>(
+// Adds the architecture, where neither the baseline nor an earlier place lists it.
+fn find_architecture(
     found: &mut Vec<Finding>,
-    base: &[Formed<F>],
-    earlier: &[Formed<F>],
-    text: &Formed<F>,
+    base: &[Arch],
+    earlier: &[Arch],
+    arch: &Arch,
 ) -> Result<(), AllocError>
     ensures { OnOk result (found.new.items ≡ found.old.items
-        ++ (if not (lists earlier.now text.now)
-        && not (lists base.now text.now) then F.finding_of text.now ∷ [] else [])) }
+        ++ (if is_added base.now earlier.now arch.now then findings.Arch arch.now ∷ [] else [])) }
 {
-    if !lists(earlier, text.as_str()) && !lists(base, text.as_str()) {
-        found.push(F::finding_of(text.clone()?))?;
+    if is_added(base, earlier, arch) {
+        found.push(Finding::Arch(arch.clone()?))?;
     }
     Ok(())
+}
+
+// Adds each flag that only the new filter has.
+pub(crate) fn find_flags(
+    found: &mut Vec<Finding>,
+    base: &[ScmpFlag],
+    new: &[ScmpFlag],
+) -> Result<(), AllocError>
+    ensures { OnOk result (found.new.items ≡ found.old.items ++ flag_findings base.now new.now) }
+{
+    for i in 0..new.len() {
+        find_flag(found, base, &new[..i], &new[i])?;
+    }
+    Ok(())
+}
+
+// Adds the flag, where neither the baseline nor an earlier place lists it.
+fn find_flag(
+    found: &mut Vec<Finding>,
+    base: &[ScmpFlag],
+    earlier: &[ScmpFlag],
+    flag: &ScmpFlag,
+) -> Result<(), AllocError>
+    ensures { OnOk result (found.new.items ≡ found.old.items
+        ++ (if is_added base.now earlier.now flag.now then findings.Flag flag.now ∷ [] else [])) }
+{
+    if is_added(base, earlier, flag) {
+        found.push(Finding::Flag(flag.clone()?))?;
+    }
+    Ok(())
+}
+
+// Whether neither the baseline nor an earlier place lists the text.
+fn is_added<F: Form>(base: &[Formed<F>], earlier: &[Formed<F>], text: &Formed<F>) -> bool
+    ensures { result ≡ is_added base.now earlier.now text.now }
+{
+    !lists(earlier, text.as_str()) && !lists(base, text.as_str())
 }
 
 // Whether only the new filter is for any architecture.

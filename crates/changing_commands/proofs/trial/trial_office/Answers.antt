@@ -3,4 +3,4 @@ use Rattle.changing_commands.proofs.TrialFacts.{founded_as}
 use Rattle.changing_commands.proofs.trial.trial_office.Goals as goal
 
 pub returns-in-Ok-found_in-clause-founded : goal.returns-in-Ok-found_in-clause-founded
-returns-in-Ok-found_in-clause-founded c = founded_as over_memory _ _ _ c.in-Ok.ensures c.in-Ok-found_in.ensures.founded
+returns-in-Ok-found_in-clause-founded c = founded_as over_memory _ _ _ c.in-Ok.ensures.founding c.in-Ok-found_in.ensures.founded

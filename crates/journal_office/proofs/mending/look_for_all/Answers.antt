@@ -35,7 +35,7 @@ returns-in_err-look_for_both-2-clause-looks g c =
     left_with (LooksFor m c.args.office.now c.look_for_both-2.new.office (λ t. ShowsWriters t (writers_meant w))) c.from_residual-in_err-look_for_both-2.result why c.from_residual-in_err-look_for_both-2.ensures.1
     (looks_wider m c.args.office.now c.look_for_both-2.new.office (Four w) (λ t. ShowsWriters t (writers_meant w)) why (λ t all. (in_order w t all).0)
     (looks_then m c.args.office.now c.look_for_both.new.office c.look_for_both-2.new.office c.in_ok-look_for_both.ensures.leaves c.in_err-look_for_both-2.ensures.leaves
-    _ _ (Err why) c.in_ok-look_for_both.ensures.looks c.in_err-look_for_both-2.ensures.looks))
+    (λ t. ShowsIf t (boxed_meant w.users) × ShowsIf t (boxed_meant w.revisions)) (λ t. ShowsIf t (boxed_meant w.votes) × ShowsIf t (boxed_meant w.baselines)) (Err why) c.in_ok-look_for_both.ensures.looks c.in_err-look_for_both-2.ensures.looks))
 
 pub returns-clause-leaves : goal.returns-clause-leaves
 returns-clause-leaves g c =
@@ -51,4 +51,4 @@ returns-clause-looks g c =
     looks_as m c.args.office.now c.look_for.new.office (Five w) (λ t. ShowsWriters t (writers_meant w)) c.look_for.result (λ t shows. are_all w t (c.is_none.ensures ∙ ap not c.if-is_none.false) shows) (in_order w)
     (looks_then m c.args.office.now c.look_for_both-2.new.office c.look_for.new.office before c.look_for.ensures.leaves (Four w) (λ t. ShowsIf t (boxed_meant w.holds)) c.look_for.result
     (looks_then m c.args.office.now c.look_for_both.new.office c.look_for_both-2.new.office c.in_ok-look_for_both.ensures.leaves c.in_ok-look_for_both-2.ensures.leaves
-    _ _ (Ok tt) c.in_ok-look_for_both.ensures.looks c.in_ok-look_for_both-2.ensures.looks) c.look_for.ensures.looks)
+    (λ t. ShowsIf t (boxed_meant w.users) × ShowsIf t (boxed_meant w.revisions)) (λ t. ShowsIf t (boxed_meant w.votes) × ShowsIf t (boxed_meant w.baselines)) (Ok tt) c.in_ok-look_for_both.ensures.looks c.in_ok-look_for_both-2.ensures.looks) c.look_for.ensures.looks)

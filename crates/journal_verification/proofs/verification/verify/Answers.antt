@@ -36,8 +36,8 @@ returns-in-Ok-Some-clause-unverified g c clean =
 pub returns-clause-unverified : goal.returns-clause-unverified
 returns-clause-unverified g c clean =
     let fresh = c.in-Ok.ensures.fresh in
-    not_rebuilt (g.R.Read.remaining c.args.journal) c.in-Ok.conn c.in-Err.field-0-1 c.in-Err.refused (record { autocommit = fresh.autocommit; unlimited = fresh.unlimited }) c.in-Ok.ensures.empty
-    c.in-Err.ensures.rebuilt c.in-Err.ensures.unlawful
+    not_rebuilt (g.R.Read.remaining c.args.journal) c.in-Ok.conn c.in-Err-rebuild.field-0-1 c.in-Err-rebuild.refused (record { autocommit = fresh.autocommit; unlimited = fresh.unlimited }) c.in-Ok.ensures.empty
+    c.in-Err-rebuild.ensures.rebuilt c.in-Err-rebuild.ensures.unlawful
 
 pub returns-in-Ok-rebuild-clause-unverified : goal.returns-in-Ok-rebuild-clause-unverified
 returns-in-Ok-rebuild-clause-unverified g c clean =

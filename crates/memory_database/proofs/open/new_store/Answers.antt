@@ -21,8 +21,9 @@ unfolding state
 unreachable-requires c =
     let none = c.in_ok-unopened.ensures.schema in
     let it = c.in_ok-unopened.unopened in
-    let left = c.in-Err.field-0-1 in
-    let never : FailsToOpen (state_of it).faults (state_of left).faults (StopsCreating left) (CanCreate it) Refused = c.in-Err.ensures.cause refl in
+    let left = c.in-Err-Refused-default.field-0-1 in
+    let refused : c.in-Err-Refused-default.field-0-0 ≡ Refused = cc in
+    let never = subst (FailsToOpen (state_of it).faults (state_of left).faults (StopsCreating left) (CanCreate it)) refused (c.in-Err-Refused-default.ensures.cause refl) in
     never (record {
       few = rw none (omega arith);
       schema = subst CanBuild (sym none) (record { distinct = refl; shaped = All-nil _; short = All-nil _ });

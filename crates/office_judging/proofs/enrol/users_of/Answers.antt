@@ -1,14 +1,15 @@
 use Rattle.std.proofs.Common.{rules, ◌≡◌, ◌∙◌, Err, refl, sym}
 use Rattle.sqlite.specs.Held.{state}
 use Rattle.review_policy.specs.declared.fault.Fault.TheVariants.{NoMemory}
+use Rattle.no_memory.specs.Witness.{witness}
 use Rattle.office_judging.proofs.Judging.{read_as, read_both, read_in_vain, second_fails}
 use Rattle.office_judging.proofs.Enrolments.{itself_found, users_found}
 use Rattle.office_judging.proofs.enrol.users_of.Goals as goal
 
 pub returns-in_err-itself : goal.returns-in_err-itself
 returns-in_err-itself g c =
-    let e : c.from_residual-in_err-itself.result ≡ Err NoMemory = search rules in
-    rw e (read_in_vain (state g.S.Store c.args.conn.now) (state g.S.Store c.user_by_name.new.conn) _ _ c.in_ok-known.known NoMemory refl c.in_ok-known.ensures.read)
+    let e : c.from_residual-in_err-itself.result ≡ Err (NoMemory witness) = search rules in
+    rw e (read_in_vain (state g.S.Store c.args.conn.now) (state g.S.Store c.user_by_name.new.conn) _ _ c.in_ok-known.known (NoMemory witness) refl c.in_ok-known.ensures.read)
 
 pub returns-then-is_some : goal.returns-then-is_some
 returns-then-is_some g c =

@@ -2,6 +2,7 @@ use Rattle.std.proofs.Common.{rules, ◌≡◌, ◌∙◌, Err, refl, sym}
 use Rattle.sqlite.specs.Held.{state}
 use Rattle.review_policy.specs.declared.denial.Need.TheVariants.{One}
 use Rattle.review_policy.specs.declared.fault.Fault.TheVariants.{NoMemory}
+use Rattle.no_memory.specs.Witness.{witness}
 use Rattle.office_judging.proofs.Unread.{found_unread}
 use Rattle.office_judging.proofs.Judging.{read_as, read_in_vain}
 use Rattle.office_judging.proofs.Issuing.{enough_decides, need_decides}
@@ -14,8 +15,8 @@ returns-then-is_enough_for_any g c =
 
 pub returns-in_err-need : goal.returns-in_err-need
 returns-in_err-need g c =
-    let e : c.from_residual-in_err-need.result ≡ Err NoMemory = search rules in
-    rw e (read_in_vain (state g.S.Store c.args.conn.now) (state g.S.Store c.compared_with.new.conn) _ _ _ NoMemory refl c.in_ok-compared.ensures)
+    let e : c.from_residual-in_err-need.result ≡ Err (NoMemory witness) = search rules in
+    rw e (read_in_vain (state g.S.Store c.args.conn.now) (state g.S.Store c.compared_with.new.conn) _ _ _ (NoMemory witness) refl c.in_ok-compared.ensures)
 
 pub returns : goal.returns
 returns g c =

@@ -2,7 +2,7 @@ use Rattle.std.proofs.Common.{inl, inr, refl}
 use Rattle.review_policy.specs.declared.fault.Fault.TheVariants.{NoMemory, Full}
 use Rattle.office_policy.specs.Verdict.{verdict}
 use Rattle.example_tests.specs.Examples.{counting, grown, maybe_grown}
-use Rattle.example_tests.proofs.Causes.{memory_there, not_in_doubt, not_written, refuses_one, refuses_other}
+use Rattle.example_tests.proofs.Causes.{memory_there, not_in_doubt, not_written, other_history, refuses_one, refuses_other}
 use Rattle.example_tests.proofs.examples.causes.examples_of_causes_of_memory.Goals as goal
 use Rattle.no_memory.specs.Witness.{witness}
 
@@ -20,7 +20,7 @@ returns-clause-in_doubt c = λ h r. memory_there (maybe_grown 3) h r not_in_doub
 
 pub returns-clause-refused_for_room : goal.returns-clause-refused_for_room
 returns-clause-refused_for_room c = λ h r lacks. elim lacks [
-  | inl none ↦ not_written none
+  | inl none ↦ other_history none.0
   | inr refuses ↦ refuses_other Full (NoMemory witness) (λ same. cc) (counting 3) h (verdict h r) refuses
 ]
 

@@ -1,4 +1,4 @@
-use Rattle.std.proofs.Common.{◌∙◌, ◌∷◌, inl, inr, sym, ap, arith}
+use Rattle.std.proofs.Common.{◌∙◌, [], ◌∷◌, inl, inr, refl, sym, ap, arith}
 use Rattle.office_policy.specs.History.{History}
 use Rattle.example_tests.specs.Examples.{enrols, founding}
 use Rattle.example_tests.proofs.Causes.{other_history}
