@@ -11,11 +11,11 @@ use Rattle.journal.specs.Forms.{HasForms}
 use Rattle.journal.specs.Journal.{IsEntry, Says}
 use Rattle.journal.specs.Lines.{Line, happened, done, text_of}
 use Rattle.journal.proofs.JournalFacts.{bodies_of_says, says_one}
-use Rattle.journal.proofs.Lengths.{allowed_entry, done_entry, founding_entry}
+use Rattle.journal.proofs.Lengths.{done_entry, founding_entry}
 use Rattle.journal.proofs.LineFacts.{same_line}
 use Rattle.example_tests.specs.Examples.{enrols, founding, founds}
 use Rattle.example_tests.specs.JournalExamples.{first_line, first_lines}
-use Rattle.example_tests.proofs.Founded.{enrols_allowed, is_founding}
+use Rattle.example_tests.proofs.Founded.{is_founding}
 
 -- ---- lines that can stand in a journal
 

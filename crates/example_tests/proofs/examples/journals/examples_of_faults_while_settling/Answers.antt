@@ -1,4 +1,4 @@
-use Rattle.std.proofs.Common.{◌≤◌, refl, arith}
+use Rattle.std.proofs.Common.{refl, arith}
 use Rattle.office_policy.specs.Handled.{HasRisen}
 use Rattle.example_tests.proofs.examples.journals.examples_of_faults_while_settling.Goals as goal
 

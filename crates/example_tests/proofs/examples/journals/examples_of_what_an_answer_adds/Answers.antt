@@ -1,6 +1,4 @@
 use Rattle.std.proofs.Common.{inl, inr, Some, None, refl, sym}
-use Rattle.review_policy.specs.declared.answer.Answer.TheVariants.{Fault}
-use Rattle.review_policy.specs.declared.fault.Fault.{Fault as TheFault}
 use Rattle.office_policy.specs.Handled.{AddsStruck}
 use Rattle.office_policy.specs.Verdict.{Verdict, accepted, denied}
 use Rattle.example_tests.specs.Examples.{counting, grown, quiet}

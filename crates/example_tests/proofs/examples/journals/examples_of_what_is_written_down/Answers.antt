@@ -1,7 +1,4 @@
-use Rattle.std.proofs.Common.{◌≡◌, ℕ, List, [], ◌∷◌, true, false, Option, Some, None, length, refl, ap, arith}
-use Rattle.journal.specs.Lines.{happened, strike, done, text_of}
-use Rattle.example_tests.specs.Examples.{enrols}
-use Rattle.example_tests.specs.JournalExamples.{one, two}
+use Rattle.std.proofs.Common.{◌≡◌, ℕ, List, true, false, Option, Some, None, length, refl, ap, arith}
 use Rattle.example_tests.proofs.examples.journals.examples_of_what_is_written_down.Goals as goal
 
 false_is_true : false ≡ true → ⊥
