@@ -52,7 +52,7 @@ not_in_doubt none = by (none.1 enrolment (inr refl))
     by (inr is) = other_history is
 
 -- it begins to write no event down
-none_begun : (h : History) (v : Verdict) (left : History) → AreBegun quiet h v left → ⊥
+pub none_begun : (h : History) (v : Verdict) (left : History) → AreBegun quiet h v left → ⊥
 none_begun h (accepted reply (Some e)) left begun = begun
 none_begun h (accepted reply None) left begun = begun
 none_begun h (denied denial told) left begun = begun

@@ -103,6 +103,10 @@ quiet = sketched (λ fault. ⊥)
 abbrev pub refusing : Fault → Meaning Sketch
 refusing one = sketched (λ fault. fault ≡ one)
 
+-- an office that a crash leaves with what was begun of an event, which is the event
+abbrev pub beginning : Meaning Sketch
+beginning = record quiet { are_begun = λ h e left. left ≡ e ∷ h }
+
 -- an office that was founded, open and after so many faults; and shut
 abbrev pub counting : ℕ → Sketch
 counting n = record { history = founding; in_doubt = founding; is_open = true; faults = n }

@@ -7,11 +7,11 @@ ghost use Rattle.review_policy.specs.declared.answer.Reply.{Reply};
 ghost use Rattle.review_policy.specs.declared.denial.Denial.{Denial};
 ghost use Rattle.review_policy.specs.declared.fault.Fault.TheVariants as faults;
 ghost use Rattle.office_policy.specs.Handled.{HasCause, HasRisen, IsUnwritten, LacksMemory};
-ghost use Rattle.office_policy.specs.Handled.{Survives};
+ghost use Rattle.office_policy.specs.Handled.{LeavesUndone, Survives};
 ghost use Rattle.office_policy.specs.History.{Event, History};
-ghost use Rattle.office_policy.specs.Verdict.{accepted, denied, verdict};
+ghost use Rattle.office_policy.specs.Verdict.{Verdict, accepted, denied, verdict};
 ghost use Rattle.example_tests.specs.Examples.{Sketch, counting, grown, maybe_grown, shut, quiet};
-ghost use Rattle.example_tests.specs.Examples.{refusing};
+ghost use Rattle.example_tests.specs.Examples.{beginning, enrols, founding, founds, refusing};
 ghost use Rattle.no_memory.specs.Witness.{witness};
 
 /// A count of faults rose by one or more, or stands at the greatest `u64`.
@@ -84,6 +84,25 @@ pub fn examples_of_what_is_unwritten()
     ensures less { IsUnwritten quiet (maybe_grown 3) (counting 3) }
     ensures written { IsUnwritten quiet (counting 3) (grown 3) → ⊥ }
     ensures in_doubt { IsUnwritten quiet (counting 3) (maybe_grown 3) → ⊥ }
+{}
+
+/// Nothing is done where the office has what it had, and a crash leaves no more than what was begun
+/// of the event that is to be written; not what was begun of another, or where none is.
+pub fn examples_of_what_is_left_undone()
+    ensures same { (h : History) (v : Verdict)
+        → LeavesUndone quiet (counting 3) (shut 4) h v }
+    ensures begun { (reply : Reply) → LeavesUndone beginning (counting 3) (maybe_grown 3) founding
+        (accepted reply (Some enrols)) }
+    ensures written { (h : History) (v : Verdict)
+        → LeavesUndone quiet (maybe_grown 3) (grown 3) h v → ⊥ }
+    ensures in_doubt { (h : History) (v : Verdict)
+        → LeavesUndone quiet (counting 3) (maybe_grown 3) h v → ⊥ }
+    ensures other_begun { (reply : Reply) → LeavesUndone beginning (counting 3) (maybe_grown 3)
+        founding (accepted reply (Some (founds 6))) → ⊥ }
+    ensures only_read { (reply : Reply) → LeavesUndone beginning (counting 3) (maybe_grown 3)
+        founding (accepted reply None) → ⊥ }
+    ensures denied { (d : Denial) (told : Option (List ℕ)) → LeavesUndone beginning (counting 3)
+        (maybe_grown 3) founding (denied d told) → ⊥ }
 {}
 
 /// No fault is forgotten, only a fault shuts an office, and none that was shut is open again.
