@@ -4,5 +4,6 @@ pub mod Lines
 pub mod Struck
 pub mod Failing
 pub mod Replays
+pub mod Taken
 pub mod Openings
 pub mod Verified

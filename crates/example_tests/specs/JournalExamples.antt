@@ -1,7 +1,7 @@
 -- Small values by which definitions of journals are tried: a journal that is its lines, the lines
 -- of a founding, and an office with a log.
 use Rattle.std.specs.Prelude.{◌≡◌, ◌-◌, ◌^◌, ℕ, min, List, [], ◌∷◌, length, Bool, true, false}
-use Rattle.std.specs.Prelude.{IsTrue}
+use Rattle.std.specs.Prelude.{IsTrue, if◌then◌else◌}
 use Rattle.std.proofs.Common.{refl}
 use Rattle.sqlite.specs.Held.{Held}
 use Rattle.sqlite.specs.Store.{Ghosts}
@@ -12,12 +12,12 @@ use Rattle.office_policy.specs.History.{History}
 use Rattle.office_policy.specs.ShowsEvent.{Shows}
 use Rattle.office_policy.specs.TablesOf.{tables_of}
 use Rattle.office_desk.specs.Meant.{meaning_over}
-use Rattle.journal.specs.Lines.{happened, done, text_of}
+use Rattle.journal.specs.Lines.{happened, strike, done, text_of}
 use Rattle.journal.specs.Writing.{Writing}
 use Rattle.journal.specs.declared.journaled.Journaled.{Journaled}
 use Rattle.journal_verification.specs.declared.verification.KeptSeal.{KeptSeal}
 use Rattle.journal_verification.specs.declared.verification.Verified.{Verified}
-use Rattle.example_tests.specs.Examples.{Sketch, counting, founds}
+use Rattle.example_tests.specs.Examples.{Sketch, counting, enrols, founds}
 
 -- ---- a journal
 
@@ -25,18 +25,29 @@ pub record Pages : Type 0 where
   pub bodies : List (List ℕ)
   pub is_open : Bool
 
--- what is meant by such a journal, no call of which fails
-abbrev pub paged : Writing Pages
-paged = record {
-  is_clean = λ j. Unit {0};
+-- what is meant by such a journal, which is clean and has met so many faults
+abbrev pub in_pages : (is_clean : Pages → Type 0) → (faults : Pages → ℕ) → Writing Pages
+in_pages is_clean faults = record {
+  is_clean = is_clean;
   bodies = λ j. j.bodies;
   is_open = λ j. j.is_open;
   lines = λ j. min (length j.bodies) (2 ^ 64 - 1);
-  faults = λ j. 0;
+  faults = faults;
   may_leave = λ j left. left ≡ sealed_text j.bodies;
   settled = λ j clean is_open left may. may;
   counted = λ j clean is_open. refl;
 }
+
+-- one no call of which fails; one that a fault has shut, where it is shut; and one that is clean only
+-- while it is open
+abbrev pub paged : Writing Pages
+paged = in_pages (λ j. Unit {0}) (λ j. 0)
+
+abbrev pub failing : Writing Pages
+failing = in_pages (λ j. Unit {0}) (λ j. if j.is_open then 0 else 1)
+
+abbrev pub spoilt : Writing Pages
+spoilt = in_pages (λ j. IsTrue j.is_open) (λ j. 0)
 
 -- an office with a journal that has these bodies
 abbrev pub with_bodies : List (List ℕ) → Journaled Sketch Pages
@@ -55,6 +66,11 @@ with_stray bodies = record (with_bodies bodies) { has_stray = true }
 abbrev pub with_unsettled : List (List ℕ) → Journaled Sketch Pages
 with_unsettled bodies = record (with_bodies bodies) { is_settled = false }
 
+-- an event couldn't be struck out of it, and it is shut
+abbrev pub with_shut : List (List ℕ) → Journaled Sketch Pages
+with_shut bodies =
+    record (with_stray bodies) { journal = record { bodies = bodies; is_open = false } }
+
 -- two bodies
 abbrev pub one : List ℕ
 one = 1 ∷ []
@@ -68,6 +84,14 @@ first_line = text_of (happened (founds 5)) ∷ []
 
 abbrev pub first_lines : List (List ℕ)
 first_lines = text_of (happened (founds 5)) ∷ text_of (done 1) ∷ []
+
+-- it with the line of an enrolment, and with the one that strikes that out
+abbrev pub second_lines : List (List ℕ)
+second_lines = text_of (happened (founds 5)) ∷ text_of (happened enrols) ∷ []
+
+abbrev pub struck_lines : List (List ℕ)
+struck_lines =
+    text_of (happened (founds 5)) ∷ text_of (happened enrols) ∷ text_of strike ∷ []
 
 -- the text of the journal of the founding
 abbrev pub first_text : List ℕ

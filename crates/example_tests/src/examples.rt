@@ -7,4 +7,5 @@ pub mod openings;
 pub mod replays;
 pub mod revisions;
 pub mod stores;
+pub mod strikes;
 pub mod verifications;
