@@ -1,6 +1,7 @@
 pub mod Causes
 pub mod Founded
 pub mod Lines
+pub mod Leavings
 pub mod Struck
 pub mod Failing
 pub mod Replays

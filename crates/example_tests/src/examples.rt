@@ -3,6 +3,7 @@
 pub mod causes;
 pub mod filters;
 pub mod journals;
+pub mod leavings;
 pub mod openings;
 pub mod replays;
 pub mod revisions;
