@@ -1,6 +1,6 @@
 //! What an office keeps of its journal, and what lines say.
 
-ghost use Rattle.std.specs.Prelude.{◌≡◌, ℕ, List, [], ◌∷◌, Option, Some, None, Err};
+ghost use Rattle.std.specs.Prelude.{◌≡◌, ℕ, List, [], ◌∷◌, Option, Some, None, Ok, Err};
 ghost use Rattle.review_policy.specs.declared.answer.Answer.TheVariants.{Done, Denied, Fault};
 ghost use Rattle.review_policy.specs.declared.answer.Reply.{Reply};
 ghost use Rattle.review_policy.specs.declared.denial.Denial.{Denial};
@@ -11,12 +11,15 @@ ghost use Rattle.office_policy.specs.Meaning.{entry_of, no_entry, struck_entry_o
 ghost use Rattle.office_policy.specs.Verdict.{Verdict, accepted};
 ghost use Rattle.journal.specs.Journal.{history_in};
 ghost use Rattle.journal.specs.Journals.{Adds, Grows, HasSettled, IsSettled, KeepsJournal};
+ghost use Rattle.journal.specs.Journals.{with_office};
 ghost use Rattle.journal.specs.declared.journaled.Journaled.{Journaled};
 ghost use Rattle.journal.specs.Lines.{happened, strike, done, text_of};
 ghost use Rattle.example_tests.specs.Examples.{Sketch, counting, enrols, enrolment, founds};
 ghost use Rattle.example_tests.specs.Examples.{founding, grown, quiet};
-ghost use Rattle.example_tests.specs.JournalExamples.{Pages, one, two, paged, with_bodies};
-ghost use Rattle.example_tests.specs.JournalExamples.{with_stray, with_unsettled};
+ghost use Rattle.example_tests.specs.JournalExamples.{Pages, failing, first_line, first_lines};
+ghost use Rattle.example_tests.specs.JournalExamples.{one, two, paged, second_lines, with_bodies};
+ghost use Rattle.example_tests.specs.JournalExamples.{with_shut, with_stray, with_unsettled};
+ghost use Rattle.no_memory.specs.Witness.{witness};
 
 /// A journal that goes on has the lines that it had, and behind them events that are struck out,
 /// each with the line before it that settles one that isn't.
@@ -105,6 +108,28 @@ pub fn examples_of_faults_while_settling()
         (with_unsettled (one ∷ [])) new (Err faults.Full) → ⊥ }
     ensures form { (old new : Journaled Sketch Pages) → IsSettled quiet paged old new
         (Err faults.NotAnOffice) → ⊥ }
+{}
+
+/// The last event is settled by the line that says that it is carried out, and by no other; or there
+/// is a fault, and the journal has what it had. The office is the one before, and a crash leaves no
+/// less of its journal.
+pub fn examples_of_last_events_that_are_settled()
+    ensures done { IsSettled quiet paged (with_unsettled first_line) (with_bodies first_lines)
+        (Ok tt) }
+    ensures no_memory { IsSettled quiet paged (with_unsettled first_line)
+        (with_unsettled first_line) (Err (faults.NoMemory witness)) }
+    ensures untried { IsSettled quiet paged (with_unsettled first_line)
+        (with_unsettled first_line) (Ok tt) → ⊥ }
+    ensures other_line { IsSettled quiet paged (with_unsettled first_line)
+        (with_bodies second_lines) (Ok tt) → ⊥ }
+    ensures other_office { IsSettled quiet paged (with_unsettled first_line)
+        (with_office (with_bodies first_lines) (counting 3)) (Ok tt) → ⊥ }
+    ensures after_a_fault { IsSettled quiet paged (with_unsettled first_line)
+        (with_bodies first_lines) (Err (faults.NoMemory witness)) → ⊥ }
+    ensures forgotten { IsSettled quiet failing (with_shut first_line) (with_bodies first_line)
+        (Ok tt) → ⊥ }
+    ensures lost { IsSettled quiet failing (with_unsettled first_line) (with_shut [])
+        (Err faults.Disk) → ⊥ }
 {}
 
 /// Lines are settled by none more, or by the one that says of the last that it is carried out.
