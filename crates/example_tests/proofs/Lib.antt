@@ -8,3 +8,4 @@ pub mod Replays
 pub mod Taken
 pub mod Openings
 pub mod Verified
+pub mod Built
