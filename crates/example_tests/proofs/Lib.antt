@@ -7,5 +7,6 @@ pub mod Failing
 pub mod Replays
 pub mod Taken
 pub mod Openings
+pub mod HandedBack
 pub mod Verified
 pub mod Built

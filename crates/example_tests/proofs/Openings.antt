@@ -57,7 +57,7 @@ module _ {D : Type 0} (g : DiskGhosts D) (log : SealedLog D g) where
   has_first_lines has = ap told has.seen ∙ told_first_lines
 
   -- nothing stands behind that line
-  has_no_more : HasBodies g log first_line → HasMore (g.seen log.disk) → ⊥
+  pub has_no_more : HasBodies g log first_line → HasMore (g.seen log.disk) → ⊥
   has_no_more has more =
       let whole : sealed_text (bodies_of g log) ≡ g.seen log.disk = ap sealed_text (has_first has) ∙ sym has.seen in
       let size = ap (λ (l : List ℕ). length l) whole in

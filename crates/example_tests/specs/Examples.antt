@@ -1,7 +1,7 @@
 -- Small values by which definitions are tried: an office that is its history, a connection, and a
 -- filter of one call.
 use Rattle.std.specs.Prelude.{◌≡◌, ◌⊎◌, ℕ, List, [], ◌∷◌, Bool, true, false, codes, replicate}
-use Rattle.std.specs.Prelude.{IsTrue}
+use Rattle.std.specs.Prelude.{IsTrue, Result, Err}
 use Rattle.std.proofs.Common.{◌∙◌, ◌++◌, ap, append_assoc, refl, sym}
 use Rattle.sqlite.specs.Held.{Held, state}
 use Rattle.sqlite.specs.Store.{Ghosts}
@@ -14,6 +14,8 @@ use Rattle.review_policy.specs.declared.fault.Fault.{Fault}
 use Rattle.review_policy.specs.declared.revision.State.TheVariants.{Open}
 use Rattle.office_tables.specs.declared.row.UserRow.{UserRow}
 use Rattle.office_store.specs.Shown.{IsIdle}
+use Rattle.office_founding.specs.declared.fault.OpeningFault.{OpeningFault}
+use Rattle.office_founding.specs.declared.fault.OpeningFault.TheVariants.{NoIndex}
 use Rattle.office_founding.specs.Founding.{first_user}
 use Rattle.office_policy.specs.Examples.{ann}
 use Rattle.office_policy.specs.History.{Event, History, founded, enrolled}
@@ -132,6 +134,10 @@ pub record IsAtRest {S : Type 0} (g : Ghosts S) (conn : Held S) : Type 0 where
   pub idle : IsIdle (state g conn)
   pub settled : (state g conn).now ≡ (state g conn).committed
   pub unmarked : (state g conn).marks ≡ []
+
+-- a connection is handed back, since it lacks an index
+abbrev pub refusal : {S : Type 0} → Held S → Result (Held S) (OpeningFault × Held S)
+refusal conn = Err (NoIndex, conn)
 
 -- a connection that is open or shut, after so many faults
 pub record IsAfter {S : Type 0} (g : Ghosts S) (conn : Held S) (is_open : Bool) (faults : ℕ)

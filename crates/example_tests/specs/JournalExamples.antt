@@ -124,6 +124,15 @@ pub record HasBodies {D : Type 0} (g : DiskGhosts D) (log : SealedLog D g)
   pub clean : IsTrue (g.is_clean log.disk)
   pub seen : g.seen log.disk ≡ sealed_text bodies
 
+-- a log whose disk isn't clean
+abbrev pub IsUnclean : {D : Type 0} (g : DiskGhosts D) → SealedLog D g → Type 0
+IsUnclean g log = IsTrue (g.is_clean log.disk) → ⊥
+
+-- a log over a disk that is clean, of which a crash may leave no byte
+pub record MayLeaveNothing {D : Type 0} (g : DiskGhosts D) (log : SealedLog D g) : Type 0 where
+  pub clean : IsTrue (g.is_clean log.disk)
+  pub nothing : g.may_leave log.disk []
+
 -- an office with this log
 abbrev pub with_log : {S D : Type 0} {g : DiskGhosts D} → Held S → SealedLog D g
     → (is_settled : Bool) → Journaled (Held S) (SealedLog D g)

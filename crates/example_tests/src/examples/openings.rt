@@ -1,15 +1,20 @@
 //! What a crash left of a journal, and an office that is opened again with it.
 
-ghost use Rattle.std.specs.Prelude.{◌≡◌, [], ◌∷◌, true, false, IsTrue};
+ghost use Rattle.std.specs.Prelude.{◌≡◌, [], ◌∷◌, ℕ, true, false, IsTrue};
 ghost use Rattle.sqlite.specs.Held.{Held};
 ghost use Rattle.sealed_log.specs.declared.log.SealedLog.{SealedLog};
 ghost use Rattle.journal.specs.Lines.{happened, strike, text_of};
 ghost use Rattle.journal.specs.declared.journaled.Journaled.{Journaled};
 ghost use Rattle.journal_office.specs.Mending.{IsMended, SaysOther};
-ghost use Rattle.journal_office.specs.Opening.{IsReopened};
-ghost use Rattle.example_tests.specs.Examples.{enrols, founds, founding};
+ghost use Rattle.journal_office.specs.Opening.{IsHandedBack, IsReopened};
+ghost use Rattle.journal_office.specs.declared.not_reopened.NotReopened.{NotReopened};
+ghost use Rattle.journal_office.specs.declared.not_reopened.NotReopened.TheVariants as whys;
+ghost use Rattle.review_policy.specs.declared.fault.Fault.TheVariants as faults;
+ghost use Rattle.example_tests.specs.Examples.{IsAfter, enrols, founds, founding};
 ghost use Rattle.example_tests.specs.JournalExamples.{first_line, first_lines, HasBodies};
-ghost use Rattle.example_tests.specs.JournalExamples.{IsCleanOffice, ShowsFounding, with_log};
+ghost use Rattle.example_tests.specs.JournalExamples.{IsCleanOffice, IsUnclean, MayLeaveNothing};
+ghost use Rattle.example_tests.specs.JournalExamples.{ShowsFounding, one, with_log};
+ghost use Rattle.no_memory.specs.Witness.{witness};
 
 use sqlite::Alter;
 use sqlite_disk::Disk;
@@ -59,4 +64,44 @@ pub fn examples_of_reopened_offices<S: Alter, D: Disk>()
     ensures stray { (old : Held S) (log : SealedLog D D.Disk)
         (x : Journaled (Held S) (SealedLog D D.Disk)) → x.has_stray ≡ true
         → IsReopened S.Store D.Disk 1 old log x → ⊥ }
+{}
+
+/// An office and a journal are handed back as they were, with why: not where a fault is forgotten,
+/// or was met by no call; not for a file that is the journal; not another's that was written to.
+pub fn examples_of_what_is_handed_back<S: Alter, D: Disk>()
+    ensures no_memory { (old : Held S) (log : SealedLog D D.Disk)
+        → IsHandedBack S.Store D.Disk 1 old log (whys.NoMemory witness) old log }
+    ensures unsealed { (old : Held S) (log : SealedLog D D.Disk) → HasBodies D.Disk log []
+        → IsHandedBack S.Store D.Disk 1 old log whys.Unsealed old log }
+    ensures mark_above { (old : Held S) (log : SealedLog D D.Disk) → HasBodies D.Disk log first_line
+        → IsHandedBack S.Store D.Disk 2 old log whys.OtherJournal old log }
+    ensures forgotten { (old office : Held S) (log after : SealedLog D D.Disk) (why : NotReopened)
+        → IsAfter S.Store old true 4 → IsAfter S.Store office true 3
+        → IsHandedBack S.Store D.Disk 1 old log why office after → ⊥ }
+    ensures clean_again { (old office : Held S) (log after : SealedLog D D.Disk) (why : NotReopened)
+        → IsUnclean D.Disk log → HasBodies D.Disk after first_line
+        → IsHandedBack S.Store D.Disk 1 old log why office after → ⊥ }
+    ensures sealed { (old office : Held S) (log after : SealedLog D D.Disk)
+        → HasBodies D.Disk log (one ∷ []) → HasBodies D.Disk after (one ∷ [])
+        → IsHandedBack S.Store D.Disk 1 old log whys.Unsealed office after → ⊥ }
+    ensures not_changed { (old office : Held S) (log after : SealedLog D D.Disk) (at : ℕ)
+        → HasBodies D.Disk log first_line → HasBodies D.Disk after first_line
+        → IsHandedBack S.Store D.Disk 1 old log (whys.Changed at) office after → ⊥ }
+    ensures no_lines { (old office : Held S) (log after : SealedLog D D.Disk)
+        → HasBodies D.Disk log [] → HasBodies D.Disk after []
+        → IsHandedBack S.Store D.Disk 1 old log whys.NotALine office after → ⊥ }
+    ensures own { (old office : Held S) (log after : SealedLog D D.Disk)
+        → IsCleanOffice S.Store founding old → IsCleanOffice S.Store founding office
+        → HasBodies D.Disk log first_line → HasBodies D.Disk after first_line
+        → IsHandedBack S.Store D.Disk 1 old log whys.OtherJournal office after → ⊥ }
+    ensures written { (old office : Held S) (log after : SealedLog D D.Disk)
+        → HasBodies D.Disk log first_line → HasBodies D.Disk after first_lines
+        → IsHandedBack S.Store D.Disk 2 old log whys.OtherJournal office after → ⊥ }
+    ensures no_cause { (old office : Held S) (log after : SealedLog D D.Disk)
+        → IsCleanOffice S.Store founding old → IsCleanOffice S.Store founding office
+        → IsAfter S.Store old true 3 → IsAfter S.Store office true 3
+        → IsHandedBack S.Store D.Disk 1 old log (whys.Office faults.Full) office after → ⊥ }
+    ensures lost { (old office : Held S) (log after : SealedLog D D.Disk) (why : NotReopened)
+        → HasBodies D.Disk log first_line → MayLeaveNothing D.Disk after
+        → IsHandedBack S.Store D.Disk 1 old log why office after → ⊥ }
 {}

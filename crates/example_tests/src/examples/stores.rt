@@ -2,6 +2,7 @@
 
 ghost use Rattle.std.specs.Prelude.{◌≡◌, ◌≤◌, true, false};
 ghost use Rattle.sqlite.specs.Held.{Held, state};
+ghost use Rattle.sqlite.specs.State.{HasCleanDisk};
 ghost use Rattle.review_policy.specs.declared.fault.Fault.{Fault};
 ghost use Rattle.review_policy.specs.declared.fault.Fault.TheVariants as faults;
 ghost use Rattle.office_tables.specs.Tables.{Tables};
@@ -19,7 +20,8 @@ ghost use Rattle.office_policy.specs.Examples.{held_when_issued, releases};
 ghost use Rattle.office_policy.specs.History.{Event, History};
 ghost use Rattle.office_policy.specs.TablesOf.{tables_of};
 ghost use Rattle.office_desk.specs.Meant.{meaning_over};
-ghost use Rattle.example_tests.specs.Examples.{IsAfter, IsAtRest, first_row};
+ghost use Rattle.office_desk.specs.Opened.{IsHandedBack};
+ghost use Rattle.example_tests.specs.Examples.{IsAfter, IsAtRest, first_row, refusal};
 ghost use Rattle.no_memory.specs.Witness.{witness};
 
 use sqlite::Alter;
@@ -59,6 +61,22 @@ pub fn examples_of_failures_to_open<S: Alter>()
         → IsFailure (state S.Store old) (state S.Store new) opening.OldSchema → ⊥ }
     ensures no_index { (old new : Held S)
         → IsFailure (state S.Store old) (state S.Store new) opening.NoIndex → ⊥ }
+{}
+
+/// A connection that is handed back without an office has what it had, unless a fault has shut it.
+pub fn examples_of_connections_that_are_handed_back<S: Alter>()
+    ensures same { (conn : Held S) → IsHandedBack S.Store conn (refusal conn) }
+    ensures shut { (conn after : Held S) → IsAfter S.Store after false 3
+        → IsHandedBack S.Store conn (refusal after) }
+    ensures changed { (conn after : Held S) → IsAtRest S.Store conn
+        → (state S.Store conn).now.schema ≡ no_schema → IsAfter S.Store after true 3
+        → HasCleanDisk (state S.Store after) → (state S.Store after).now.schema ≡ office_schema
+        → IsHandedBack S.Store conn (refusal after) → ⊥ }
+    ensures committed { (conn after : Held S) → IsAtRest S.Store conn
+        → (state S.Store conn).committed.schema ≡ no_schema → IsAfter S.Store after true 3
+        → HasCleanDisk (state S.Store after)
+        → (state S.Store after).committed.schema ≡ office_schema
+        → IsHandedBack S.Store conn (refusal after) → ⊥ }
 {}
 
 /// An office isn't founded where one is or something else is, and nothing but a fault that its
