@@ -9,4 +9,5 @@ pub mod Taken
 pub mod Openings
 pub mod HandedBack
 pub mod Verified
+pub mod Approved
 pub mod Built

@@ -17,8 +17,8 @@ use Rattle.office_store.specs.Shown.{IsIdle}
 use Rattle.office_founding.specs.declared.fault.OpeningFault.{OpeningFault}
 use Rattle.office_founding.specs.declared.fault.OpeningFault.TheVariants.{NoIndex}
 use Rattle.office_founding.specs.Founding.{first_user}
-use Rattle.office_policy.specs.Examples.{ann}
-use Rattle.office_policy.specs.History.{Event, History, founded, enrolled}
+use Rattle.office_policy.specs.Examples.{ann, one_submitted, rev, sue, text, web}
+use Rattle.office_policy.specs.History.{Event, History, founded, enrolled, voted}
 use Rattle.office_policy.specs.Lawful.{IsLawfulHistory}
 use Rattle.office_policy.specs.Meaning.{Meaning, Entry, no_entry, entry_of, struck_entry_of}
 
@@ -46,6 +46,13 @@ enrols = enrolled root (codes "ann") (codes "blue") 2 (replicate 32 1)
 
 abbrev pub enrolment : History
 enrolment = enrols ∷ founding
+
+-- rev and sue approve the text that ann handed in, by its digest
+abbrev pub approves_text : List ℕ → Event
+approves_text who = voted who web 1 (digest_of text) true
+
+abbrev pub approved : History
+approved = approves_text sue ∷ approves_text rev ∷ one_submitted
 
 -- ---- what is told
 

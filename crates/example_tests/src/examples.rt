@@ -1,5 +1,6 @@
 //! Small offices, journals, connections and filters, and what definitions say of them.
 
+pub mod approvals;
 pub mod buildings;
 pub mod causes;
 pub mod filters;
