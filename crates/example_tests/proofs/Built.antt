@@ -5,6 +5,7 @@ use Rattle.std.proofs.lemmas.List.Elements.{All-cons, All-head, All-nil, All-tai
 use Rattle.streams.specs.Lines.{NoFeed}
 use Rattle.sealed_log.specs.Sealed.{no_seal, seal_on, sealed_line, sealed_text}
 use Rattle.sealed_log.specs.Told.{told as bodies_told}
+use Rattle.sealed_log.proofs.SealFacts.{length-last_seal, length-no_seal}
 use Rattle.sealed_log.proofs.ToldFacts.{told_unended}
 use Rattle.office_policy.specs.Handled.{Stands}
 use Rattle.office_policy.specs.History.{Event, History}
@@ -20,7 +21,7 @@ use Rattle.journal.proofs.LineFacts.{same_line}
 use Rattle.journal.proofs.ToldFacts.{begins_first, goes_further, line_taken, stops_here}
 use Rattle.journal_office.specs.Rebuilding.{IsBuiltTo, ends_at, kept_at, kept_by}
 use Rattle.example_tests.specs.Examples.{Sketch, counting, enrolment, enrols, founding, founds, grown, quiet}
-use Rattle.example_tests.specs.JournalExamples.{first_line, first_text, second_lines, struck_lines}
+use Rattle.example_tests.specs.JournalExamples.{behind_first, behind_second, first_line, first_text, second_lines, struck_lines}
 use Rattle.example_tests.proofs.Founded.{enrolment_lawful, enrols_allowed, is_lawful}
 use Rattle.example_tests.proofs.Leavings.{front}
 use Rattle.example_tests.proofs.Lines.{enrols_forms, founds_entry, founds_forms, told_first}
@@ -71,20 +72,14 @@ some_byte is = let k : ◌≡◌ {A = ℕ} 1 0 = ap (λ (l : List ℕ). length l
 
 -- ---- how far they are read
 
-abbrev behind_one : List ℕ → Place
-behind_one rest = record { taken = 1; held = Some (founds 5); seal = first_seal; left = Some rest }
-
-abbrev behind_two : List ℕ → Place
-behind_two rest = record { taken = 2; held = Some enrols; seal = second_seal; left = Some rest }
-
-goes_one : (rest : List ℕ) → GoesOn (start (Some (sealed_line no_seal founding_text ++ rest))) (behind_one rest) []
+goes_one : (rest : List ℕ) → GoesOn (start (Some (sealed_line no_seal founding_text ++ rest))) (behind_first (Some rest)) []
 goes_one rest =
     line_taken 0 None (Some (founds 5)) None (Some (sealed_line no_seal founding_text ++ rest)) (Some rest) no_seal first_seal founding_text
     (record { rest = rest; is = refl; is_body = founds_entry.body; sealed = refl; left = refl }) (record { line = happened (founds 5); says = refl; formed = founds_forms; taken = refl })
 
-goes_two : (rest : List ℕ) → GoesOn (start (Some (sealed_line no_seal founding_text ++ (sealed_line first_seal enrolment_text ++ rest)))) (behind_two rest) ((1, founds 5) ∷ [])
+goes_two : (rest : List ℕ) → GoesOn (start (Some (sealed_line no_seal founding_text ++ (sealed_line first_seal enrolment_text ++ rest)))) (behind_second (Some rest)) ((1, founds 5) ∷ [])
 goes_two rest =
-    goes_further (start (Some (sealed_line no_seal founding_text ++ (sealed_line first_seal enrolment_text ++ rest)))) (behind_one (sealed_line first_seal enrolment_text ++ rest)) (behind_two rest)
+    goes_further (start (Some (sealed_line no_seal founding_text ++ (sealed_line first_seal enrolment_text ++ rest)))) (behind_first (Some (sealed_line first_seal enrolment_text ++ rest))) (behind_second (Some rest))
     ((1, founds 5) ∷ []) (goes_one (sealed_line first_seal enrolment_text ++ rest))
     (line_taken 1 (Some (founds 5)) (Some enrols) (Some (founds 5)) (Some (sealed_line first_seal enrolment_text ++ rest)) (Some rest) first_seal second_seal enrolment_text
     (record { rest = rest; is = refl; is_body = enrols_entry.body; sealed = refl; left = refl }) (record { line = happened enrols; says = refl; formed = enrols_forms; taken = refl }))
@@ -101,9 +96,9 @@ second_torn =
 
 pub built_founding : IsBuiltTo (Some (first_text ++ 0 ∷ [])) quiet (counting 3) 2 TornLine
 built_founding = record {
-  last = behind_one (0 ∷ []);
+  last = behind_first (Some (0 ∷ []));
   before = [];
-  told = subst (λ (t : List ℕ). GoesOn (start (Some t)) (behind_one (0 ∷ [])) []) (sym first_torn) (goes_one (0 ∷ []));
+  told = subst (λ (t : List ℕ). GoesOn (start (Some t)) (behind_first (Some (0 ∷ []))) []) (sym first_torn) (goes_one (0 ∷ []));
   cannot = (no_feed, some_byte);
   counted = refl;
   lawful = λ clean. is_lawful;
@@ -112,9 +107,9 @@ built_founding = record {
 
 pub built_torn : IsBuiltTo (Some (sealed_text second_lines ++ 0 ∷ [])) quiet (grown 3) 3 TornLine
 built_torn = record {
-  last = behind_two (0 ∷ []);
+  last = behind_second (Some (0 ∷ []));
   before = (1, founds 5) ∷ [];
-  told = subst (λ (t : List ℕ). GoesOn (start (Some t)) (behind_two (0 ∷ [])) ((1, founds 5) ∷ [])) (sym second_torn) (goes_two (0 ∷ []));
+  told = subst (λ (t : List ℕ). GoesOn (start (Some t)) (behind_second (Some (0 ∷ []))) ((1, founds 5) ∷ [])) (sym second_torn) (goes_two (0 ∷ []));
   cannot = (no_feed, some_byte);
   counted = refl;
   lawful = λ clean. enrolment_lawful;
@@ -123,7 +118,7 @@ built_torn = record {
 
 pub built_unread : IsBuiltTo (Some (sealed_text struck_lines)) quiet (counting 3) 3 Read
 built_unread = record {
-  last = behind_two (sealed_line second_seal (text_of strike) ++ []);
+  last = behind_second (Some (sealed_line second_seal (text_of strike) ++ []));
   before = (1, founds 5) ∷ [];
   told = goes_two (sealed_line second_seal (text_of strike) ++ []);
   cannot = tt;
@@ -189,6 +184,32 @@ tells_one (a ∷ b ∷ more) begins = let k : 1 ≡ length (a ∷ b ∷ (more ++
 first_begun : (p : Place) (es : List (ℕ × Event)) (begun : IsBegun 0 None no_seal first_text p es) → BeginsWith begun.lines one_line
 first_begun p es begun = begins_lines one_line begun.lines [] begun.rest one_entries begun.entries (All-nil (λ b. b ≢ 10)) (append-nil first_text ∙ begun.says)
 
+-- ---- what is told to a place
+
+pub told_first_place : IsBegun 0 None no_seal first_text (behind_first (Some [])) []
+told_first_place = record { lines = one_line; entries = one_entries; rest = []; says = sym (append-nil first_text); left = refl; sealed = refl; counted = refl; tells = refl }
+
+pub told_second_place : IsBegun 0 None no_seal (sealed_text second_lines) (behind_second (Some [])) ((1, founds 5) ∷ [])
+told_second_place = record { lines = two_lines; entries = two_entries; rest = []; says = sym (append-nil (sealed_text second_lines)); left = refl; sealed = refl; counted = refl; tells = refl }
+
+pub never_further : (p : Place) (es : List (ℕ × Event)) → p.taken ≡ 2 → IsBegun 0 None no_seal first_text p es → ⊥
+never_further p es two begun =
+    let begins = first_begun p es begun in
+    let few : 1 ≡ length (begun.lines ++ begins.more) = ap (λ (l : List Line). length l) begins.is in
+    let counted = begun.counted in
+    omega (arith, two, few, counted, length-append begun.lines begins.more)
+
+pub never_unsealed : (p : Place) (es : List (ℕ × Event)) → p.seal ≡ [] → IsBegun 0 None no_seal first_text p es → ⊥
+never_unsealed p es none begun =
+    let size = ap (λ (l : List ℕ). length l) (sym none ∙ begun.sealed) in
+    omega (arith, size, length-last_seal no_seal (map text_of begun.lines) length-no_seal)
+
+pub never_told_before : IsBegun 0 None no_seal first_text (behind_first (Some [])) ((1, founds 5) ∷ []) → ⊥
+never_told_before begun =
+    let few : size_of (told 0 None begun.lines) ≤ 1 = tells_one begun.lines (first_begun (behind_first (Some [])) ((1, founds 5) ∷ []) begun) in
+    let two : size_of (told 0 None begun.lines) ≡ 2 = ap size_of begun.tells in
+    omega (arith, few, two)
+
 -- ---- what isn't built
 
 pub never_told : (line : ℕ) (fault : Unreadable) → IsBuiltTo (Some first_text) quiet (grown 3) line fault → ⊥
@@ -212,6 +233,12 @@ none_torn (a ∷ []) (byte ∷ rest) begins is none some =
     let size : length first_text ≡ length (first_text ++ byte ∷ rest) = ap (λ (l : List ℕ). length l) (is ∙ ap (λ (l : Line). sealed_text (text_of l ∷ []) ++ byte ∷ rest) first) in
     omega (arith, size, length-append first_text (byte ∷ rest))
 none_torn (a ∷ b ∷ more) (byte ∷ rest) begins is none some = let k : 1 ≡ length (a ∷ b ∷ (more ++ begins.more)) = ap (λ (l : List Line). length l) begins.is in omega (arith, k)
+
+pub never_left : IsBegun 0 None no_seal first_text (behind_first (Some (0 ∷ []))) [] → ⊥
+never_left begun =
+    let rest : ◌≡◌ {A = Option (List ℕ)} (Some (0 ∷ [])) (Some begun.rest) = begun.left in
+    let same : 0 ∷ [] ≡ begun.rest = cc in
+    none_torn begun.lines begun.rest (first_begun (behind_first (Some (0 ∷ []))) [] begun) begun.says (subst NoFeed same no_feed) (subst (λ (l : List ℕ). l ≢ []) same some_byte)
 
 pub never_torn : (x : Sketch) (line : ℕ) → IsBuiltTo (Some first_text) quiet x line TornLine → ⊥
 never_torn x line is =

@@ -1,7 +1,7 @@
 -- Small values by which definitions of journals are tried: a journal that is its lines, the lines
 -- of a founding, and an office with a log.
 use Rattle.std.specs.Prelude.{◌≡◌, ◌-◌, ◌^◌, ℕ, min, List, [], ◌∷◌, length, Bool, true, false}
-use Rattle.std.specs.Prelude.{IsTrue, if◌then◌else◌}
+use Rattle.std.specs.Prelude.{IsTrue, if◌then◌else◌, Option, Some}
 use Rattle.std.proofs.Common.{refl}
 use Rattle.sqlite.specs.Held.{Held}
 use Rattle.sqlite.specs.Store.{Ghosts}
@@ -13,6 +13,7 @@ use Rattle.office_policy.specs.ShowsEvent.{Shows}
 use Rattle.office_policy.specs.TablesOf.{tables_of}
 use Rattle.office_desk.specs.Meant.{meaning_over}
 use Rattle.journal.specs.Lines.{happened, strike, done, text_of}
+use Rattle.journal.specs.Told.{Place}
 use Rattle.journal.specs.Writing.{Writing}
 use Rattle.journal.specs.declared.journaled.Journaled.{Journaled}
 use Rattle.journal_verification.specs.declared.verification.KeptSeal.{KeptSeal}
@@ -96,6 +97,15 @@ struck_lines =
 -- the text of the journal of the founding
 abbrev pub first_text : List ℕ
 first_text = sealed_text first_line
+
+-- how far these lines are read, with the bytes that are left, where they are known
+abbrev pub behind_first : Option (List ℕ) → Place
+behind_first left =
+    record { taken = 1; held = Some (founds 5); seal = seal_of first_line; left = left }
+
+abbrev pub behind_second : Option (List ℕ) → Place
+behind_second left =
+    record { taken = 2; held = Some enrols; seal = seal_of second_lines; left = left }
 
 -- what is known of an office that was verified with it: so many events and lines
 abbrev pub verified : (events lines : ℕ) → Verified

@@ -1,12 +1,30 @@
 //! How far an office is built of a journal that can't be read on.
 
-ghost use Rattle.std.specs.Prelude.{◌∷◌, ◌++◌, [], List, Some, Option, ℕ};
-ghost use Rattle.sealed_log.specs.Sealed.{sealed_text};
+ghost use Rattle.std.specs.Prelude.{◌∷◌, ◌++◌, [], List, None, Some, Option, ℕ};
+ghost use Rattle.sealed_log.specs.Sealed.{no_seal, sealed_text};
 ghost use Rattle.journal.specs.declared.events.Unreadable.{Unreadable};
 ghost use Rattle.journal.specs.declared.events.Unreadable.TheVariants as unreadable;
+ghost use Rattle.journal.specs.Told.{IsBegun};
 ghost use Rattle.journal_office.specs.Rebuilding.{IsBuiltTo};
-ghost use Rattle.example_tests.specs.Examples.{Sketch, counting, grown, quiet, shut};
-ghost use Rattle.example_tests.specs.JournalExamples.{first_text, second_lines, struck_lines};
+ghost use Rattle.example_tests.specs.Examples.{Sketch, counting, founds, grown, quiet, shut};
+ghost use Rattle.example_tests.specs.JournalExamples.{behind_first, behind_second, first_text};
+ghost use Rattle.example_tests.specs.JournalExamples.{second_lines, struck_lines};
+
+/// Up to a place lines are told: as many as are taken there, with their seal, the event that is held
+/// back, and those that stand before; and the bytes behind them are left.
+pub fn examples_of_what_is_told_to_a_place()
+    ensures held { IsBegun 0 None no_seal first_text (behind_first (Some [])) [] }
+    ensures stands { IsBegun 0 None no_seal (sealed_text second_lines) (behind_second (Some []))
+        ((1, founds 5) ∷ []) }
+    ensures held_and_stands { IsBegun 0 None no_seal first_text (behind_first (Some []))
+        ((1, founds 5) ∷ []) → ⊥ }
+    ensures more_taken { IsBegun 0 None no_seal first_text
+        (record (behind_first (Some [])) { taken = 2 }) [] → ⊥ }
+    ensures unsealed { IsBegun 0 None no_seal first_text
+        (record (behind_first (Some [])) { seal = [] }) [] → ⊥ }
+    ensures more_left { IsBegun 0 None no_seal first_text (behind_first (Some (0 ∷ []))) [] → ⊥ }
+    ensures unknown { IsBegun 0 None no_seal first_text (behind_first None) [] → ⊥ }
+{}
 
 /// Where a journal ends within a line the office has the event before that. Where the input failed
 /// it hasn't, unless that founds it: the next line may strike it out.
