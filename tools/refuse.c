@@ -1,10 +1,10 @@
-// Usage: cc -shared -fPIC -O1 -o refuse.so tools/refuse.c && LD_PRELOAD=./refuse.so REFUSED='FIRST STEP TOLD' PROGRAM
+// Usage: cc -shared -fPIC -O1 -o refuse.so tools/refuse.c && LD_PRELOAD=./refuse.so REFUSED='FIRST STEP TOLD CALLS' PROGRAM
 //
 // Has a program meet each STEPth refusal of memory from number FIRST on, in one run of it. At each such allocation the process forks: the
 // child is refused it, is granted each later one, and goes on to its end. The parent waits, writes the number and how the child ended to
-// the descriptor TOLD, and waits there for a byte, so that somebody may look at what the child left. Then it sets the files of
-// the folder back to what they were, and its place in each, and goes on as if nothing had been. A file that a child removes only gets
-// a dot before its name, so that it can be put back. tools/out-of-memory loads it.
+// the descriptor TOLD, where CALLS is 1 with the calls that led there, and waits there for a byte, so that somebody may look at what the
+// child left. Then it sets the files of the folder back to what they were, and its place in each, and goes on as if nothing had been. A
+// file that a child removes only gets a dot before its name, so that it can be put back. tools/out-of-memory loads it.
 //
 // The program is to have all its files in the folder where it runs, and one thread. It allocates by malloc and realloc alone. What the
 // loader takes before main isn't counted. The disk isn't waited for, the clock stands still, and a connection is a file: the Nth that is
@@ -14,7 +14,9 @@
 #include <errno.h>
 #include <fcntl.h>
 #include <limits.h>
+#include <link.h>
 #include <netinet/in.h>
+#include <stdint.h>
 #include <stdio.h>
 #include <stdlib.h>
 #include <string.h>
@@ -28,12 +30,12 @@ struct file { char name[NAME_MAX + 1]; ino_t inode; ssize_t size; char bytes[1 <
 
 extern void *__libc_malloc(size_t), *__libc_realloc(void *, size_t), __libc_free(void *);
 static long first, step, number;
-static int told, is_trying, is_child;
+static int told, tells_calls, is_trying, is_child;
 static struct file kept[FILES], seen;
 
 __attribute__((constructor)) static void begin(void) {
     const char *asked = getenv("REFUSED");
-    if (asked && sscanf(asked, "%ld %ld %d", &first, &step, &told) != 3) abort();
+    if (asked && sscanf(asked, "%ld %ld %d %d", &first, &step, &told, &tells_calls) != 4) abort();
 }
 
 // Ends the run where it can't go on as if nothing had been.
@@ -104,11 +106,43 @@ static void set_all_back(int files) {
     }
 }
 
+// The code of the program: where it begins in memory, and its first and last byte.
+static struct { uintptr_t base, first, last; } code;
+
+static int find_code(struct dl_phdr_info *of, size_t size, void *none) {
+    code.base = of->dlpi_addr;
+    for (int part = 0; part < of->dlpi_phnum; part++) {
+        const ElfW(Phdr) *it = &of->dlpi_phdr[part];
+        if (it->p_type != PT_LOAD || !(it->p_flags & PF_X)) continue;
+        code.first = code.base + it->p_vaddr;
+        code.last = code.first + it->p_memsz - 1;
+    }
+    return 1;
+}
+
+// Writes the calls of the stack into a text from the outermost on, as many as have room: behind which byte of the program each stands, and
+// which byte it calls. Some may have returned, and those by a pointer are left out.
+static void write_calls(char *text, size_t size) {
+    extern void *__libc_stack_end;
+    if (!code.last) dl_iterate_phdr(find_code, NULL);
+    for (const uintptr_t *word = __libc_stack_end; word > (uintptr_t *)__builtin_frame_address(0); word--) {
+        const unsigned char *behind = (const unsigned char *)*word;
+        if (*word < code.first + 5 || *word > code.last || behind[-5] != 0xe8) continue;
+        int32_t away;
+        memcpy(&away, behind - 4, sizeof away);
+        size_t written = snprintf(text, size, " %lx:%lx", *word - code.base, *word + away - code.base);
+        if (written >= size) break;
+        text += written;
+        size -= written;
+    }
+    *text = 0;
+}
+
 // Tries the refusal of this allocation. Gives whether this is the child, which is refused it.
 static int try(void) {
     off_t places[DESCRIPTORS];
     int files = keep(), status;
-    char looked_at;
+    char looked_at, calls[2048] = "";
     for (int file = 0; file < DESCRIPTORS; file++) places[file] = lseek(file, 0, SEEK_CUR);
     pid_t child = fork();
     require(child >= 0, "fork");
@@ -117,7 +151,8 @@ static int try(void) {
         return is_child = 1;
     }
     require(waitpid(child, &status, 0) == child, "wait");
-    dprintf(told, "%ld %d\n", number, status);
+    if (tells_calls) write_calls(calls, sizeof calls);
+    dprintf(told, "%ld %d%s\n", number, status, calls);
     require(read(told, &looked_at, 1) == 1, "nobody looked");
     set_all_back(files);
     for (int file = 0; file < DESCRIPTORS; file++)
