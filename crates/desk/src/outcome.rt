@@ -5,6 +5,7 @@ ghost use Rattle.streams.specs.Held.{Holds};
 ghost use Rattle.streams.specs.Lines.{first_line};
 
 use json_requests::{BadLine, LineFault, read_line};
+use json_tree::Scratch;
 use no_memory::NoMemory;
 use office_policy::Handler;
 use review_policy::{Answer, Request};
@@ -25,14 +26,19 @@ pub enum LineOutcome {
 impl LineOutcome {
     ghost use Rattle.desk.specs.Stands.{IsHandled};
 
-    /// Handles a line, given without its line feed.
-    pub fn of_line<H: Handler>(office: &mut H, alloc: Global, line: &[u8]) -> LineOutcome
+    /// Handles a line, given without its line feed. A scratch is kept from line to line.
+    pub fn of_line<H: Handler>(
+        office: &mut H,
+        alloc: Global,
+        line: &[u8],
+        scratch: &mut Scratch,
+    ) -> LineOutcome
         ensures { IsHandled H.meaning office.old office.new line.now result }
     {
         if line.len() > MAX_LINE {
             return LineOutcome::Bad(BadLine::TooLong);
         }
-        match read_line(alloc, line) {
+        match read_line(alloc, line, scratch) {
             Ok(request) => {
                 let answer = office.handle(alloc, &request);
                 LineOutcome::Answered { request, answer }
@@ -43,12 +49,17 @@ impl LineOutcome {
         }
     }
     // Handles the first line that is held.
-    pub(crate) fn of_first<H: Handler>(office: &mut H, alloc: Global, lines: &Lines) -> LineOutcome
+    pub(crate) fn of_first<H: Handler>(
+        office: &mut H,
+        alloc: Global,
+        lines: &Lines,
+        scratch: &mut Scratch,
+    ) -> LineOutcome
         ensures { (bytes : List ℕ) → Holds lines.now bytes →
             IsHandled H.meaning office.old office.new (first_line bytes) result }
     {
         match lines.line() {
-            Ok(line) => LineOutcome::of_line(office, alloc, line),
+            Ok(line) => LineOutcome::of_line(office, alloc, line, scratch),
             Err(_) => LineOutcome::Bad(BadLine::TooLong),
         }
     }

@@ -14,6 +14,7 @@ ghost use Rattle.no_memory.specs.Witness.{witness};
 use crate::fault::DeskFault;
 use crate::outcome::LineOutcome;
 use json_requests::line;
+use json_tree::Scratch;
 use office_policy::Handler;
 use review_policy::{Answer, Fault};
 use std::alloc::Global;
@@ -61,6 +62,7 @@ fn serve_first<H: Handler, W: Write>(
     office: &mut H,
     alloc: Global,
     lines: &Lines,
+    scratch: &mut Scratch,
     writer: &mut Counted<W>,
     number: u64,
 ) -> Result<(), DeskFault>
@@ -70,7 +72,7 @@ fn serve_first<H: Handler, W: Write>(
         (told outcome) number result }
     ensures faults { CountsServed writer.old.faults writer.new.faults result }
 {
-    let outcome = LineOutcome::of_first(office, alloc, lines);
+    let outcome = LineOutcome::of_first(office, alloc, lines, scratch);
     tell(alloc, &outcome, writer, number)
 }
 
@@ -121,17 +123,20 @@ pub fn desk<H: Handler, R: Read, W: Write>(
             witness: refused.into(),
         }),
     };
+    let mut scratch = Scratch::new(alloc);
     let most_calls = reader.calls() + MAX_READS;
     let mut answered = 0u64;
     loop {
         let line = answered + 1;
         match lines.find(reader, most_calls) {
             Found::Line => {
-                serve_first(office, alloc, &lines, writer, line)?;
+                serve_first(office, alloc, &lines, &mut scratch, writer, line)?;
                 answered = line;
                 lines.pass();
             }
-            Found::LastLine => return serve_first(office, alloc, &lines, writer, line),
+            Found::LastLine => {
+                return serve_first(office, alloc, &lines, &mut scratch, writer, line);
+            }
             Found::End => return Ok(()),
             Found::Failed => return Err(DeskFault::Read { line }),
             Found::TooManyReads => return Err(DeskFault::TooManyReads { line }),

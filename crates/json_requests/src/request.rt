@@ -47,13 +47,12 @@ fn request_of(alloc: Global, value: &Tree<'_>) -> Result<Request, LineFault>
 
 /// The request of a line, which is passed without its line feed. The length of the line isn't
 /// looked at: one that is longer than 300,000 bytes is answered as
-/// [`BadLine::TooLong`](crate::BadLine) before it gets here.
-pub fn read_line(alloc: Global, line: &[u8]) -> Result<Request, LineFault>
+/// [`BadLine::TooLong`](crate::BadLine) before it gets here. A scratch is kept from line to line.
+pub fn read_line(alloc: Global, line: &[u8], scratch: &mut Scratch) -> Result<Request, LineFault>
     ensures request { Reads result (request_in line.now) }
     ensures asked { length line.now ≤ 300000 → Reads result (asked line.now) }
 {
-    let mut scratch = Scratch::new(alloc);
-    match Tree::from_slice(alloc, line, &mut scratch) {
+    match Tree::from_slice(alloc, line, scratch) {
         Ok(value) => request_of(alloc, &value),
         Err(ReadFault::NotJson) => Err(LineFault::NotJson),
         Err(ReadFault::NoMemory(witness)) => Err(LineFault::NoMemory(witness)),

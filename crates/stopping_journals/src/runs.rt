@@ -3,6 +3,7 @@
 use crate::left::{AllTold, Kept, Remains};
 use journal_office::reopen;
 use json_requests::{line, read_line};
+use json_tree::Scratch;
 use office_desk::Office;
 use office_policy::Handler;
 use sealed_log::SealedLog;
@@ -135,7 +136,7 @@ fn converse(
     let mut events = 0u64;
     for request in requests {
         let reads = READING.iter().any(|kind| request.contains(*kind));
-        let request = read_line(alloc, request.as_bytes())?;
+        let request = read_line(alloc, request.as_bytes(), &mut Scratch::new(alloc))?;
         let answer = line(alloc, &office.handle(alloc, &request))?;
         if is_fault(answer.as_str()) {
             break;

@@ -3,6 +3,7 @@
 use desk_http::serve_one;
 use http_requests::OfficeRouter;
 use json_requests::{line, read_line};
+use json_tree::Scratch;
 use office_desk::Office;
 use office_policy::Handler;
 use sqlite::Alter;
@@ -15,7 +16,7 @@ fn answer_to_line<S: Alter>(
     office: &mut Office<S>,
     request: &str,
 ) -> Result<String, Fail> {
-    let request = read_line(alloc, request.as_bytes())?;
+    let request = read_line(alloc, request.as_bytes(), &mut Scratch::new(alloc))?;
     let answer = office.handle(alloc, &request);
     Ok(line(alloc, &answer)?)
 }

@@ -3,6 +3,7 @@
 use crate::office::openings::run;
 use journal::Journaled;
 use json_requests::{line, read_line};
+use json_tree::Scratch;
 use office_desk::Office;
 use office_policy::{Handler, Judge};
 use sealed_log::{Nothing, Reader, SealedLog};
@@ -63,8 +64,9 @@ fn journaled<O: Judge + Drop>(
     log.open_at(&found)?;
     let mut office = Journaled::new(office, log, true);
     let mut told = String::new(alloc);
+    let mut scratch = Scratch::new(alloc);
     for request in requests.lines() {
-        let request = read_line(alloc, request.as_bytes())?;
+        let request = read_line(alloc, request.as_bytes(), &mut scratch)?;
         told.push_str(&line(alloc, &office.handle(alloc, &request))?)?;
     }
     let (_, log) = office.into_parts();

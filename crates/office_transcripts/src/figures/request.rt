@@ -4,6 +4,7 @@ use crate::figures::figure::{Figure, STRIDE, times_of};
 use crate::figures::sample::{Profiles, Sizes, name};
 use anyhow::Result;
 use json_requests::read_line;
+use json_tree::Scratch;
 use office_desk::Office;
 use office_policy::Handler;
 use profile_text::digest;
@@ -108,7 +109,7 @@ impl About {
 // The request of a line that is filled in.
 fn request(alloc: Global, about: &About, form: &str) -> Result<Request> {
     let line = about.line(alloc, form)?;
-    Ok(read_line(alloc, line.as_bytes())?)
+    Ok(read_line(alloc, line.as_bytes(), &mut Scratch::new(alloc))?)
 }
 
 // Handles a request, and adds what it came to.

@@ -1,6 +1,7 @@
 //! Lists of requests.
 
 use json_requests::{line, read_line};
+use json_tree::Scratch;
 use office_policy::Handler;
 use review_policy::{Answer, Request};
 use std::alloc::{AllocError, Global};
@@ -11,8 +12,9 @@ use test_offices::trial::TrialOffice;
 // The requests of these lines.
 fn requests_of(alloc: Global, lines: &str) -> Result<Vec<Request>, Fail> {
     let mut requests = Vec::new(alloc);
+    let mut scratch = Scratch::new(alloc);
     for line in lines.lines() {
-        requests.push(read_line(alloc, line.as_bytes())?)?;
+        requests.push(read_line(alloc, line.as_bytes(), &mut scratch)?)?;
     }
     Ok(requests)
 }

@@ -2,6 +2,7 @@
 
 use anyhow::{Result, bail};
 use json_requests::{LineFault, read_line};
+use json_tree::Scratch;
 use serde_json::Value;
 use std::alloc::Global;
 
@@ -156,7 +157,7 @@ fn message_by(alloc: Global, request: &Value, route: Route) -> Result<Option<Str
 
 // Whether a line is a request.
 fn is_request(alloc: Global, line: &str) -> Result<bool> {
-    match read_line(alloc, line.as_bytes()) {
+    match read_line(alloc, line.as_bytes(), &mut Scratch::new(alloc)) {
         Ok(_) => Ok(true),
         Err(LineFault::NoMemory(_)) => bail!("no memory"),
         Err(_) => Ok(false),
