@@ -1,11 +1,11 @@
 -- Bytes that need no escape stand for themselves.
 use Rattle.std.proofs.Common.{◌≡◌, ℕ, zero, suc, ◌+◌, ◌-◌, ◌*◌, ◌/◌, ◌^◌, ◌<◌, ◌≤◌, Bool, true, false, not, cond, ◌||◌, ◌==◌, List, [], ◌∷◌, ◌++◌, map, take, drop, length, get_or, refl, sym, ap, ap₂, ◌∙◌, arith, append_assoc, drop-drop, get_or-drop, length-drop}
 use Rattle.std.proofs.Math.Nat.{pow-suc, mul_comm, div-one, zero-div, div-div-eq-div-mul}
-use Rattle.std.proofs.lemmas.Bool.{or_parts, not-true, eqb-false, ltb-false}
-use Rattle.std.proofs.Math.Seq.{drop-append_seam, take-append-add, take-append_seam}
-use Rattle.std.proofs.lemmas.List.{append-nil, drop_all, drop_more, drop-map, drop-take, length-take-le, take_all, take-take, take-append-le}
+use Rattle.std.proofs.lemmas.Bool.{and_parts, or_parts, not-true, eqb-false, ltb-false}
+use Rattle.std.proofs.Math.Seq.{drop-append_seam, take-append-add}
+use Rattle.std.proofs.lemmas.List.{append-nil, drop_all, drop_more, drop-map, drop-take, length-take-le, take_all, take-take}
 use Rattle.std.proofs.lemmas.Simd.{leading_from_mask_l, trailing_mask_l}
-use Rattle.std.specs.List.{prefix_len}
+use Rattle.std.specs.List.{list_all, prefix_len}
 use lib.Count.{count_trailing_zeros}
 use lib.Lanes.{mask_l}
 use Rattle.json.specs.Run.{is_plain, is_stop}
@@ -49,6 +49,13 @@ plain_more (suc n) (x ∷ xs) d is lt plain =
     let rest = plain_more n xs d (plain_count (is_plain x) _ n first.0 is) (omega (arith, lt)) plain in
     rw (first.0, ← rest) (omega arith)
 
+-- where all bytes are plain, the text stands for itself
+pub plain_whole : (text : List ℕ) → list_all is_plain text ≡ true → escape text ≡ text
+plain_whole [] all = refl
+plain_whole (x ∷ xs) all =
+    let parts = and_parts (is_plain x) (list_all is_plain xs) all in
+    ap₂ (λ a b. a ++ b) (plain_byte x parts.0) (plain_whole xs parts.1)
+
 -- and so they are up to the byte behind
 pub plain_next : (text : List ℕ) (at end d : ℕ) → at ≤ end → end - at ≡ prefix_len is_plain (take (end - at) (drop at text)) → end < length text
     → is_plain (get_or text end d) ≡ true → end + 1 - at ≡ prefix_len is_plain (take (end + 1 - at) (drop at text))
@@ -86,7 +93,7 @@ mask_rest n k at text =
     ∙ ap (λ l. mask_l (map is_stop l)) (drop-take n k (drop at text) ∙ ap (take k) (drop-drop n at text))
 
 -- Where the mask of the last block has no bit for the bytes that were appended last, they are plain.
-pub short_plain : (out text : List ℕ) (from mask : ℕ) → length text ≤ 16 → from + 16 ≡ length out + length text
+short_plain : (out text : List ℕ) (from mask : ℕ) → length text ≤ 16 → from + 16 ≡ length out + length text
     → mask ≡ mask_l (map is_stop (take 16 (drop from (out ++ text)))) → mask / 2 ^ (16 - length text) ≡ 0 → escape text ≡ text
 short_plain out text from mask short place is none =
     let n = 16 - length text in
@@ -103,6 +110,17 @@ short_plain out text from mask short place is none =
     let whole : take k text ≡ text = take_all k text (omega arith) in
     plain_first k k text (omega (arith, ap (λ l. prefix_len is_plain l) whole, all))
     ∙ ap₂ (λ a b. a ++ escape b) whole (drop_all k text (omega arith)) ∙ append-nil text
+
+-- The same of bytes among which the text was put behind others.
+pub short_placed : (out text bytes : List ℕ) (end mask : ℕ) → length text ≤ 16 → 16 ≤ end → end ≡ length out + length text → take end bytes ≡ out ++ text
+    → mask ≡ mask_l (map is_stop (take 16 (drop (end - 16) bytes))) → mask / 2 ^ (16 - length text) ≡ 0 → escape text ≡ text
+short_placed out text bytes end mask short long place put is none =
+    let from = end - 16 in
+    let whole : end ≡ from + 16 = omega (arith, long) in
+    let block : take 16 (drop from (out ++ text)) ≡ take 16 (drop from bytes) =
+    ap (λ l. take 16 (drop from l)) (sym put) ∙ ap (λ n. take 16 (drop from (take n bytes))) whole
+    ∙ ap (take 16) (drop-take from 16 bytes) ∙ take-take 16 16 (drop from bytes) (omega arith) in
+    short_plain out text from mask short (omega (arith, whole, place)) (is ∙ ap (λ l. mask_l (map is_stop l)) (sym block)) none
 
 sooner : (b : Bool) (n m l : ℕ) → 0 < cond b 1 0 + 2 * n → (0 < n → m < l) → cond (not b) (1 + m) 0 < suc l
 sooner true n m l some rest = omega arith
@@ -179,15 +197,3 @@ written_first used n k room new bytes few room_long written =
     sym (take-take (used + n) (used + k) new (omega (arith, few))) ∙ ap (take (used + n)) written
     ∙ ap (λ i. take (i + n) (front ++ take k bytes)) (sym (length-take-le used room room_long)) ∙ take-append-add front (take k bytes) n
     ∙ ap (λ l. front ++ l) (take-take n k bytes few)
-
--- Text that grew by a room, of which the first bytes are kept.
-pub room_kept : (old full new room post rest fill : List ℕ) (len used grown total : ℕ) → len ≡ length old → full ≡ take grown old ++ fill → len ≤ grown → used ≤ length room → len + used ≤ total
-    → new ≡ take (len + used) (take total ((take len full ++ (room ++ post)) ++ rest)) → new ≡ old ++ take used room
-room_kept old full new room post rest fill len used grown total long filled more few within is =
-    let whole : take grown old ≡ old = take_all grown old (omega (arith, long, more)) in
-    let before : take len full ≡ old = ap (take len) (filled ∙ ap (λ l. l ++ fill) whole) ∙ ap (λ i. take i (old ++ fill)) long ∙ take-append_seam old fill in
-    is ∙ take-take (len + used) total _ within
-    ∙ ap (λ l. take (len + used) ((l ++ (room ++ post)) ++ rest)) before
-    ∙ ap (take (len + used)) (append_assoc old (room ++ post) rest ∙ ap (λ l. old ++ l) (append_assoc room post rest))
-    ∙ ap (λ i. take (i + used) (old ++ (room ++ (post ++ rest)))) long ∙ take-append-add old (room ++ (post ++ rest)) used
-    ∙ ap (λ l. old ++ l) (take-append-le used room (post ++ rest) few)

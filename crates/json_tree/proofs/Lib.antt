@@ -1,4 +1,5 @@
 mod Escapes
+mod Growing
 mod Lanes
 pub mod Views
 mod Looking

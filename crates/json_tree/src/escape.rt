@@ -1,12 +1,16 @@
 //! What stands within the quotes of a string.
 
-ghost use Rattle.std.specs.Prelude.{ℕ, ◌≡◌, ◌+◌, ◌-◌, ◌<◌, ◌≤◌, ◌++◌, [], IfOk, OnOk, drop, if◌then◌else◌, length, map, take};
+ghost use Rattle.std.specs.Prelude.{◌≡◌, ℕ, ◌+◌, ◌-◌, ◌<◌, ◌≤◌, ◌++◌, IfOk, MatchOption, drop, length};
+ghost use Rattle.std.specs.Prelude.{map, take};
 ghost use Rattle.std.specs.Char.{digit_char};
 ghost use Rattle.std.specs.List.{prefix_len};
 ghost use Rattle.std.specs.Simd.Lanes.{mask_l};
 ghost use Rattle.json.specs.Print.{escape, escape_byte, escape_letter};
 ghost use Rattle.json.specs.Run.{is_plain, is_stop};
+ghost use Rattle.json_tree.specs.Grows.{Grows};
 
+use crate::place::place_text;
+use crate::room::make_room;
 use std::alloc::AllocError;
 use std::simd::prelude::*;
 
@@ -16,60 +20,74 @@ const BLOCK: usize = 16;
 // The room for a block's escape, and for a block that is copied behind it.
 const ROOM: usize = 7 * BLOCK;
 
-/// Appends a text as it stands within quotes.
+/// Writes a text behind another as it stands within quotes, and gives the place behind it.
 ///
 /// # Errors
 ///
-/// Memory was refused, and a part may have been appended.
-pub(crate) fn put_escaped(out: &mut Vec<u8>, text: &[u8]) -> Result<(), AllocError>
-    ensures { OnOk result (out.new.items ≡ out.old.items ++ escape text.now) }
+/// Memory was refused.
+pub(crate) fn put_escaped(bytes: &mut Vec<u8>, at: usize, text: &[u8]) -> Result<usize, AllocError>
+    requires { at ≤ length bytes.old.items }
+    ensures { IfOk result (Grows bytes.old.items at (escape text.now) bytes.new.items) }
 {
-    if put_short(out, text)? {
-        return Ok(());
-    }
-    put_blocks(out, text)
-}
-
-// Appends a text as it stands within quotes, a block at a time.
-#[inline(never)]
-fn put_blocks(out: &mut Vec<u8>, text: &[u8]) -> Result<(), AllocError>
-    ensures { OnOk result (out.new.items ≡ out.old.items ++ escape text.now) }
-{
-    let mut at = 0;
-    while text.len() - at >= 2 * BLOCK {
-        put_block(out, text, at)?;
-        at += BLOCK;
-    }
-    while at < text.len() {
-        let end = plain_end(text, at);
-        out.extend_from_slice(&text[at..end])?;
-        at = end;
-        if at < text.len() {
-            put_byte(out, text[at])?;
-            at += 1;
+    if text.len() < BLOCK && at >= BLOCK {
+        if let Some(end) = put_short(bytes, at, text)? {
+            return Ok(end);
         }
     }
-    Ok(())
+    put_blocks(bytes, at, text)
 }
 
-// Appends a text shorter than a block, if no byte of it needs an escape, and tells whether. The bytes
-// are looked at once they stand at the end of a whole block.
-#[inline(always)]
-fn put_short(out: &mut Vec<u8>, text: &[u8]) -> Result<bool, AllocError>
-    ensures { IfOk result (λ put. out.new.items
-        ≡ out.old.items ++ (if put then escape text.now else [])) }
+// The same, a block at a time.
+#[inline(never)]
+fn put_blocks(bytes: &mut Vec<u8>, start: usize, text: &[u8]) -> Result<usize, AllocError>
+    requires { start ≤ length bytes.old.items }
+    ensures { IfOk result (Grows bytes.old.items start (escape text.now) bytes.new.items) }
 {
-    let len = out.len();
-    if text.len() >= BLOCK || len < BLOCK {
-        return Ok(false);
+    let mut at = start;
+    let mut done = 0;
+    while text.len() - done >= 2 * BLOCK {
+        at = put_block(bytes, at, text, done)?;
+        done += BLOCK;
     }
-    out.extend_from_slice(text)?;
-    let found = stops(u8x16::from_slice(&out[len + text.len() - BLOCK..]));
+    while done < text.len() {
+        let stop = plain_end(text, done);
+        at = put_plain(bytes, at, &text[done..stop])?;
+        done = stop;
+        if done < text.len() {
+            at = put_byte(bytes, at, text[done])?;
+            done += 1;
+        }
+    }
+    Ok(at)
+}
+
+// Writes a text shorter than a block, if no byte of it needs an escape, and gives the place behind
+// it. The bytes are looked at where they then stand, at the end of a whole block.
+#[inline(always)]
+fn put_short(bytes: &mut Vec<u8>, at: usize, text: &[u8]) -> Result<Option<usize>, AllocError>
+    requires within { at ≤ length bytes.old.items }
+    requires short { (length text.now < 16) × (16 ≤ at) }
+    ensures put { IfOk result (λ put. MatchOption put
+        ((take at bytes.new.items ≡ take at bytes.old.items) × (at ≤ length bytes.new.items))
+        (Grows bytes.old.items at (escape text.now) bytes.new.items)) }
+{
+    make_room(bytes, at, text.len())?;
+    let end = place_text(bytes, at, text);
+    let found = stops(u8x16::from_slice(&bytes[end - BLOCK..]));
     if found >> (BLOCK - text.len()) == 0 {
-        return Ok(true);
+        return Ok(Some(end));
     }
-    out.truncate(len);
-    Ok(false)
+    Ok(None)
+}
+
+// Writes a text as it is.
+#[inline(always)]
+pub(crate) fn put_plain(bytes: &mut Vec<u8>, at: usize, text: &[u8]) -> Result<usize, AllocError>
+    requires { at ≤ length bytes.old.items }
+    ensures { IfOk result (Grows bytes.old.items at text.now bytes.new.items) }
+{
+    make_room(bytes, at, text.len())?;
+    Ok(place_text(bytes, at, text))
 }
 
 // Where the bytes from a place on that need no escape end.
@@ -109,49 +127,43 @@ fn is_plain(byte: u8) -> bool
     !(byte == b'"' || byte == b'\\' || byte < 0x20)
 }
 
-// Appends a block, given that a whole one follows it.
+// Writes the block from a place of the text on, given that a whole one follows it.
 #[inline(always)]
-fn put_block(out: &mut Vec<u8>, text: &[u8], start: usize) -> Result<(), AllocError>
-    requires { start + 32 ≤ length text.now }
-    ensures { OnOk result (out.new.items ++ escape (drop (start + 16) text.now)
-        ≡ out.old.items ++ escape (drop start text.now)) }
+fn put_block(bytes: &mut Vec<u8>, at: usize, text: &[u8], start: usize) -> Result<usize, AllocError>
+    requires within { at ≤ length bytes.old.items }
+    requires block { start + 32 ≤ length text.now }
+    ensures escaped { IfOk result (λ end. take end bytes.new.items ++ escape (drop (start + 16) text.now)
+        ≡ take at bytes.old.items ++ escape (drop start text.now)) }
+    ensures within { IfOk result (λ end. end ≤ length bytes.new.items) }
 {
+    make_room(bytes, at, ROOM)?;
     let found = stops(u8x16::from_slice(&text[start..]));
-    if found == 0 {
-        out.extend_from_slice(&text[start..start + BLOCK])?;
-        return Ok(());
-    }
-    let len = out.len();
-    out.resize(len + ROOM, 0)?;
-    let used = write_block(&mut out[len..], text, start, found);
-    out.truncate(len + used);
-    Ok(())
+    Ok(write_block(bytes, at, text, start, found))
 }
 
-// Writes a block from a place's beginning, and counts the bytes written.
+// Writes such a block into room, and gives the place behind it.
 #[inline(always)]
-fn write_block(room: &mut [u8], text: &[u8], start: usize, mut found: u64) -> usize
+fn write_block(room: &mut [u8], at: usize, text: &[u8], start: usize, mut found: u64) -> usize
     requires block { start + 32 ≤ length text.now }
     requires stops { found ≡ mask_l (map is_stop (take 16 (drop start text.now))) }
-    requires room { length room.old ≡ 112 }
+    requires room { at + 112 ≤ length room.old }
     ensures escaped { take result room.new ++ escape (drop (start + 16) text.now)
-        ≡ escape (drop start text.now) }
-    ensures len { length room.new ≡ length room.old }
-    ensures used { (result ≤ 112) × (result ≤ length room.new) }
+        ≡ take at room.old ++ escape (drop start text.now) }
+    ensures within { result ≤ length room.new }
 {
-    let end = start + BLOCK;
-    let mut at = start;
-    let mut used = 0;
+    let stop = start + BLOCK;
+    let mut from = start;
+    let mut used = at;
     while found != 0 {
         let plain = found.trailing_zeros() as usize;
-        copy_block(room, used, text, at);
+        copy_block(room, used, text, from);
         used += plain;
-        used += write_byte(room, used, text[at + plain]);
+        used += write_byte(room, used, text[from + plain]);
         found >>= plain + 1;
-        at += plain + 1;
+        from += plain + 1;
     }
-    copy_block(room, used, text, at);
-    used + (end - at)
+    copy_block(room, used, text, from);
+    used + (stop - from)
 }
 
 // Copies a block, of which the first bytes may be kept.
@@ -230,16 +242,14 @@ fn stops(block: u8x16) -> u64
         | block.simd_lt(u8x16::splat(0x20))).to_bitmask()
 }
 
-// Appends what stands for a byte.
+// Writes what stands for a byte, and gives the place behind it.
 #[inline(always)]
-fn put_byte(out: &mut Vec<u8>, byte: u8) -> Result<(), AllocError>
-    ensures { OnOk result (out.new.items ≡ out.old.items ++ escape_byte byte) }
+fn put_byte(bytes: &mut Vec<u8>, at: usize, byte: u8) -> Result<usize, AllocError>
+    requires { at ≤ length bytes.old.items }
+    ensures { IfOk result (Grows bytes.old.items at (escape_byte byte) bytes.new.items) }
 {
-    let len = out.len();
-    out.resize(len + 6, 0)?;
-    let used = write_byte(&mut out[len..], 0, byte);
-    out.truncate(len + used);
-    Ok(())
+    make_room(bytes, at, 6)?;
+    Ok(at + write_byte(bytes, at, byte))
 }
 
 // The letter of a byte's short escape, or 0.

@@ -1,13 +1,14 @@
 //! Texts that are written a token at a time.
 
-ghost use Rattle.std.specs.Prelude.{◌≡◌, ◌∷◌, [], IfOk, OnOk, decimal, string_bytes};
+ghost use Rattle.std.specs.Prelude.{◌≡◌, ◌∷◌, [], IfOk, OnOk, decimal, string_bytes, true};
 ghost use Rattle.json.specs.Print.{IsPrintable, ends, print};
 ghost use Rattle.json.specs.Reads.{token_of};
 ghost use Rattle.json.specs.Token.{begin_array, begin_object, boolean, end_array, end_object};
 ghost use Rattle.json.specs.Token.{key, number, string};
+ghost use Rattle.json_tree.specs.Plain.{are_plain, quoted_in};
 ghost use Rattle.json_tree.specs.Tokens.{Appends};
 
-use crate::token::put_token;
+use crate::token::{put_plain_token, put_token};
 use json::Token;
 use std::alloc::{AllocError, Global};
 use std::marker::Model;
@@ -16,7 +17,9 @@ use std::marker::Model;
 /// colons, and leaves the nesting to its caller. A call that fails leaves it empty.
 #[derive(Drop)]
 pub struct Writer {
-    text: Vec<u8>,
+    // The text, and room behind its end.
+    bytes: Vec<u8>,
+    end: usize,
     after_value: bool,
 }
 
@@ -40,7 +43,8 @@ impl Writer {
         ensures { result ≡ [] }
     {
         Writer {
-            text: Vec::new(alloc),
+            bytes: Vec::new(alloc),
+            end: 0,
             after_value: false,
         }
     }
@@ -53,26 +57,49 @@ impl Writer {
     pub fn with_capacity(alloc: Global, room: usize) -> Result<Writer, AllocError>
         ensures { IfOk result (λ out. out ≡ []) }
     {
-        let text = Vec::with_capacity(alloc, room)?;
+        let bytes = Vec::with_capacity(alloc, room)?;
         Ok(Writer {
-            text,
+            bytes,
+            end: 0,
             after_value: false,
         })
     }
 
     // One token more.
-    #[inline]
+    #[inline(always)]
     fn token(&mut self, token: Token<'_>) -> Result<(), AllocError>
         requires { IsPrintable (token_of token) }
         ensures { OnOk result (Appends self.old self.new (token_of token.entry ∷ [])) }
     {
-        match put_token(&mut self.text, self.after_value, token) {
-            Ok(()) => {
+        match put_token(&mut self.bytes, self.end, self.after_value, token) {
+            Ok(end) => {
+                self.end = end;
                 self.after_value = ends_value(token);
                 Ok(())
             }
             Err(error) => {
-                self.text.clear();
+                self.end = 0;
+                self.after_value = false;
+                Err(error)
+            }
+        }
+    }
+
+    // One token more, of which no byte needs an escape.
+    #[inline(always)]
+    fn plain_token(&mut self, token: Token<'_>) -> Result<(), AllocError>
+        requires printable { IsPrintable (token_of token) }
+        requires plain { are_plain (quoted_in (token_of token)) ≡ true }
+        ensures { OnOk result (Appends self.old self.new (token_of token.entry ∷ [])) }
+    {
+        match put_plain_token(&mut self.bytes, self.end, self.after_value, token) {
+            Ok(end) => {
+                self.end = end;
+                self.after_value = ends_value(token);
+                Ok(())
+            }
+            Err(error) => {
+                self.end = 0;
                 self.after_value = false;
                 Err(error)
             }
@@ -145,6 +172,32 @@ impl Writer {
         self.token(Token::String(text))
     }
 
+    /// The name of a member, of which no byte needs an escape.
+    ///
+    /// # Errors
+    ///
+    /// Memory was refused. No contract can say when.
+    #[inline(always)]
+    pub fn plain_key(&mut self, name: &str) -> Result<(), AllocError>
+        requires { are_plain name.now ≡ true }
+        ensures { OnOk result (Appends self.old self.new (key name.now ∷ [])) }
+    {
+        self.plain_token(Token::Key(name))
+    }
+
+    /// A text of which no byte needs an escape.
+    ///
+    /// # Errors
+    ///
+    /// Memory was refused. No contract can say when.
+    #[inline(always)]
+    pub fn plain_string(&mut self, text: &str) -> Result<(), AllocError>
+        requires { are_plain text.now ≡ true }
+        ensures { OnOk result (Appends self.old self.new (string text.now ∷ [])) }
+    {
+        self.plain_token(Token::String(text))
+    }
+
     /// A whole number.
     ///
     /// # Errors
@@ -173,8 +226,9 @@ impl Writer {
 pub fn written_text(out: Writer) -> String
     ensures { string_bytes result ≡ print out }
 {
-    let Writer { text, .. } = out;
-    match String::from_utf8(text) {
+    let Writer { mut bytes, end, .. } = out;
+    bytes.truncate(end);
+    match String::from_utf8(bytes) {
         Ok(text) => text,
         Err(_) => unreachable!(),
     }

@@ -13,6 +13,7 @@ pub mod FilterAgrees
 pub mod OwnParts
 pub mod LawfulRead
 pub mod WordBytes
+pub mod PlainNames
 pub mod Writing
 pub mod Printing
 pub mod Listed

@@ -22,7 +22,7 @@ pub fn write_set(out: &mut Writer, set: &str, caps: Caps) -> Result<(), AllocErr
     out.key(set)?;
     out.begin_array()?;
     for name in caps.names() {
-        out.string(name)?;
+        out.plain_string(name)?;
     }
     out.end_array()
 }
@@ -47,7 +47,7 @@ fn write_seccomp(out: &mut Writer, filter: &Option<Filter>) -> Result<(), AllocE
 {
     match filter {
         Some(filter) => {
-            out.key("seccomp")?;
+            out.plain_key("seccomp")?;
             write_filter(out, filter)
         }
         None => Ok(()),
@@ -59,7 +59,7 @@ fn write_profile(out: &mut Writer, profile: &Profile) -> Result<(), AllocError>
     ensures { OnOk result (Appends out.old out.new (tokens_of (profile_data profile.now))) }
 {
     out.begin_object()?;
-    out.key("capabilities")?;
+    out.plain_key("capabilities")?;
     write_caps(out, &profile.caps)?;
     write_seccomp(out, &profile.filter)?;
     out.end_object()

@@ -1,36 +1,43 @@
 //! The canonical text of a filter, written a token at a time.
 
-ghost use Rattle.std.specs.Prelude.{OnOk, Some, codes, map};
+ghost use Rattle.std.specs.Prelude.{◌≡◌, OnOk, Some, codes, map, true};
 ghost use Rattle.serde_json.specs.Data.{string};
 ghost use Rattle.seccomp_doc.specs.Action.{errno_of};
 ghost use Rattle.profile_text.specs.Text.{arg_data, entry_data, errno_data, filter_data, some_list};
 ghost use Rattle.profile_text.specs.Text.{texts_data, value_two_data};
+ghost use Rattle.json_tree.specs.Plain.{are_plain};
 ghost use Rattle.json_tree.specs.Tokens.{Appends, member_tokens, tokens_of};
 
 use json_tree::Writer;
 use seccomp_doc::{Action, Arch, CallName, Compare, Entry, Filter, ScmpFlag};
 use std::alloc::AllocError;
 
-// A member that is a text.
+// A member that is a text. No byte of it needs an escape, and none of the name.
+#[inline(always)]
 fn write_text(out: &mut Writer, name: &str, text: &str) -> Result<(), AllocError>
+    requires name { are_plain name.now ≡ true }
+    requires text { are_plain text.now ≡ true }
     ensures { OnOk result (Appends out.old out.new
         (member_tokens name.now (Some (string text.now)))) }
 {
-    out.key(name)?;
-    out.string(text)
+    out.plain_key(name)?;
+    out.plain_string(text)
 }
 
 // A member that is a number.
+#[inline(always)]
 fn write_number(out: &mut Writer, name: &str, number: u64) -> Result<(), AllocError>
+    requires { are_plain name.now ≡ true }
     ensures { OnOk result (Appends out.old out.new
         (member_tokens name.now (errno_data (Some number)))) }
 {
-    out.key(name)?;
+    out.plain_key(name)?;
     out.u64(number)
 }
 
 // The number of an action, where it carries one.
 fn write_errno(out: &mut Writer, name: &str, action: Action) -> Result<(), AllocError>
+    requires { are_plain name.now ≡ true }
     ensures { OnOk result (Appends out.old out.new
         (member_tokens name.now (errno_data (errno_of action)))) }
 {
@@ -60,10 +67,10 @@ fn write_architectures(out: &mut Writer, architectures: &[Arch]) -> Result<(), A
     if architectures.is_empty() {
         return Ok(());
     }
-    out.key("architectures")?;
+    out.plain_key("architectures")?;
     out.begin_array()?;
     for architecture in architectures {
-        out.string(architecture.as_str())?;
+        out.plain_string(architecture.as_str())?;
     }
     out.end_array()
 }
@@ -76,10 +83,10 @@ fn write_flags(out: &mut Writer, flags: &[ScmpFlag]) -> Result<(), AllocError>
     if flags.is_empty() {
         return Ok(());
     }
-    out.key("flags")?;
+    out.plain_key("flags")?;
     out.begin_array()?;
     for flag in flags {
-        out.string(flag.as_str())?;
+        out.plain_string(flag.as_str())?;
     }
     out.end_array()
 }
@@ -89,10 +96,10 @@ fn write_names(out: &mut Writer, names: &[CallName]) -> Result<(), AllocError>
     ensures { OnOk result (Appends out.old out.new
         (member_tokens (codes "names") (Some (texts_data names.now)))) }
 {
-    out.key("names")?;
+    out.plain_key("names")?;
     out.begin_array()?;
     for name in names {
-        out.string(name.as_str())?;
+        out.plain_string(name.as_str())?;
     }
     out.end_array()
 }
@@ -118,7 +125,7 @@ fn write_args(out: &mut Writer, args: &[Compare]) -> Result<(), AllocError>
     if args.is_empty() {
         return Ok(());
     }
-    out.key("args")?;
+    out.plain_key("args")?;
     out.begin_array()?;
     for arg in args {
         write_arg(out, arg)?;
@@ -148,7 +155,7 @@ fn write_entries(out: &mut Writer, entries: &[Entry]) -> Result<(), AllocError>
     if entries.is_empty() {
         return Ok(());
     }
-    out.key("syscalls")?;
+    out.plain_key("syscalls")?;
     out.begin_array()?;
     for entry in entries {
         write_entry(out, entry)?;

@@ -3,8 +3,8 @@ use Rattle.json_tree.proofs.Escapes.{found_within, found_rest, found_put, none_p
 use lib.Count.{count_trailing_zeros}
 use Rattle.json_tree.proofs.escape.write_block.Goals as goal
 
-pub bounds-text-at : goal.bounds-text-at
-bounds-text-at c =
+pub bounds-text-from : goal.bounds-text-from
+bounds-text-from c =
     let is = c.loop-found.invariant.0 in
     omega (arith, is, found_within _ _ _ _ is (omega (arith, c.loop-found-test.true)))
 
@@ -21,8 +21,8 @@ overflow_shr-found c =
 pub loop-found-smaller : goal.loop-found-smaller
 loop-found-smaller c =
     let within = found_within _ _ _ _ c.loop-found.invariant.0 (omega (arith, c.loop-found-test.true)) in
-    let end = c.args.start + 16 in
-    let less : end - (c.loop-found.at + (count_trailing_zeros 64 c.loop-found.found + 1)) < end - c.loop-found.at = omega (arith, within) in
+    let stop = c.args.start + 16 in
+    let less : stop - (c.loop-found.from + (count_trailing_zeros 64 c.loop-found.found + 1)) < stop - c.loop-found.from = omega (arith, within) in
     less
 
 pub loop-found-preserved : goal.loop-found-preserved
@@ -35,7 +35,7 @@ loop-found-preserved c =
       (omega (arith, within), omega (arith, is), omega (arith, is), found_rest _ _ _ _ is some),
       found_put _ _ _ _ is some _ _ _ _ (c.copy_block.ensures.copied _ few) c.write_byte-used.ensures.written ∙ inv.1,
       omega (arith, inv.2, within, c.write_byte-used.ensures.few),
-      c.write_byte-used.ensures.len ∙ c.copy_block.ensures.len ∙ inv.3,
+      omega (arith, c.write_byte-used.ensures.len, c.copy_block.ensures.len, inv.3),
     )
 
 pub returns-clause-escaped : goal.returns-clause-escaped

@@ -4,7 +4,7 @@ use Rattle.json_tree.proofs.Escapes.{Masks}
 use Rattle.json_tree.proofs.escape.write_block.Given as goal
 
 abbrev pub invariant-loop-found : goal.invariant-loop-found
-invariant-loop-found l = Masks l.text l.at l.end l.found × (take l.used l.room ++ escape (drop l.at l.text) ≡ escape (drop l.start l.text)) × (l.used + 6 * (l.end - l.at) ≤ 96) × (length l.room ≡ 112)
+invariant-loop-found l = Masks l.text l.from l.stop l.found × (take l.used l.room ++ escape (drop l.from l.text) ≡ take l.at l.fn.room ++ escape (drop l.start l.text)) × (l.used + 6 * (l.stop - l.from) ≤ l.at + 96) × (l.at + 112 ≤ length l.room)
 
 abbrev pub decreases-loop-found : goal.decreases-loop-found
-decreases-loop-found l = l.end - l.at
+decreases-loop-found l = l.stop - l.from

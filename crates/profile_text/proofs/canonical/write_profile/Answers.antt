@@ -8,5 +8,5 @@ use Rattle.profile_text.proofs.canonical.write_profile.Goals as goal
 pub returns : goal.returns
 returns c =
     rw (member_first (codes "seccomp") (seccomp_data c.args.profile.now.filter) no_members)
-    (after_last _ _ _ c.in_ok-begin_object.ensures (after_last _ _ _ c.in_ok-key.ensures (after_last _ _ _ c.in_ok-write_caps.ensures
+    (after_last _ _ _ c.in_ok-begin_object.ensures (after_last _ _ _ c.in_ok-plain_key.ensures (after_last _ _ _ c.in_ok-write_caps.ensures
     (after_last _ _ _ c.in_ok-write_seccomp.ensures c.end_object.ensures))))

@@ -24,5 +24,5 @@ returns-then-is_empty c = rw (none_tokens (codes "args") arg_data c.args.args.no
 
 pub returns : goal.returns
 returns c =
-    rw (some_tokens (codes "args") arg_data c.args.args.now (not_empty c.args.args.now c.is_empty.ensures c.if-is_empty.false)) (after_last _ _ _ c.in_ok-key.ensures (after_last _ _ _ c.in_ok-begin_array.ensures
+    rw (some_tokens (codes "args") arg_data c.args.args.now (not_empty c.args.args.now c.is_empty.ensures c.if-is_empty.false)) (after_last _ _ _ c.in_ok-plain_key.ensures (after_last _ _ _ c.in_ok-begin_array.ensures
     (after_last _ _ _ (items_written c.args.args.now c.loop-arg.arg-index c.loop-arg-test.false c.loop-arg.invariant) c.end_array.ensures)))

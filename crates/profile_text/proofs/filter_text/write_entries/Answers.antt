@@ -16,5 +16,5 @@ returns-then-is_empty c = rw (none_tokens (codes "syscalls") entry_data c.args.e
 
 pub returns : goal.returns
 returns c =
-    rw (some_tokens (codes "syscalls") entry_data c.args.entries.now (not_empty c.args.entries.now c.is_empty.ensures c.if-is_empty.false)) (after_last _ _ _ c.in_ok-key.ensures (after_last _ _ _ c.in_ok-begin_array.ensures
+    rw (some_tokens (codes "syscalls") entry_data c.args.entries.now (not_empty c.args.entries.now c.is_empty.ensures c.if-is_empty.false)) (after_last _ _ _ c.in_ok-plain_key.ensures (after_last _ _ _ c.in_ok-begin_array.ensures
     (after_last _ _ _ (items_written c.args.entries.now c.loop-entry.entry-index c.loop-entry-test.false c.loop-entry.invariant) c.end_array.ensures)))

@@ -5,6 +5,7 @@ use Rattle.seccomp_doc.specs.Action.{action_word_text, errno_of, word_of}
 use Rattle.profile_text.specs.Text.{entry_data, errno_data, member_if, some_list}
 use Rattle.json_tree.proofs.Writing.{after_last}
 use Rattle.profile_text.proofs.Writing.{member_first}
+use Rattle.profile_text.proofs.PlainNames.{action_plain}
 use Rattle.profile_text.proofs.filter_text.write_filter.Goals as goal
 
 pub returns : goal.returns
@@ -22,3 +23,6 @@ returns c =
     (after_last _ _ _ c.in_ok-begin_object.ensures (after_last _ _ _ (rw c.architectures.ensures at c.in_ok-write_architectures.ensures) (after_last _ _ _ (rw (c.word.ensures, c.default_action-default.ensures) at c.in_ok-write_text.ensures)
     (after_last _ _ _ (rw c.default_action-default.ensures at c.in_ok-write_errno.ensures) (after_last _ _ _ (rw c.flags.ensures at c.in_ok-write_flags.ensures)
     (after_last _ _ _ (rw c.entries.ensures.entries at c.in_ok-write_entries.ensures) c.end_object.ensures))))))
+
+pub write_text-requires-clause-text : goal.write_text-requires-clause-text
+write_text-requires-clause-text c = rw c.word.ensures (action_plain _)

@@ -1,11 +1,11 @@
-use Rattle.std.proofs.Common.{ap, refl}
-use Rattle.json.specs.Lex.{lex, punctuate, tokens}
+use Rattle.std.proofs.Common.{refl}
+use Rattle.json.specs.Lex.{lex, punctuate}
 use Rattle.json_tree.proofs.Writers.{no_token}
 use Rattle.json_tree.proofs.writer.Writer.with_capacity.Goals as goal
 
 pub invariant_of-result : goal.invariant_of-result
-invariant_of-result c = no_token _ c.in_ok-text.ensures.items refl
+invariant_of-result c = no_token _ refl refl
 
 pub returns : goal.returns
 unfolding lex punctuate
-returns c = ap tokens c.in_ok-text.ensures.items
+returns c = refl
