@@ -60,5 +60,5 @@ module _ (old new : State) (t : Tables) (shows : Shows old t) (idle : old.in_tra
 
   pub reads_form : (r : Result (Option Row) Fault) → FindsRow OFFICE_ROW.now [] old new r → IfOk r (IsFormRow t)
   reads_form r h =
-      let it = finds _ office_schema OFFICE_ROW.now [] form_means old new shows.office.schema shows.settled idle (IsFormRow t) form_found form_none r h in
+      let it = finds _ office_schema OFFICE_ROW.now [] form_means old new shows.office.schema (IsFormRow t) form_found form_none r h in
       it.0

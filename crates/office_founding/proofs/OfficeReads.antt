@@ -51,8 +51,8 @@ module _ (old new : State) (t : Tables) (shows : Shows old t) (idle : old.in_tra
   pub reads_listed : (r : Result (Option Row) Fault) → FindsRow LISTED.now [] old new r → IfOk r (IsRowListed t)
   reads_listed r h =
       let o = shows.office in
-      let it = finds_some office_columns shown_listed any (col 1 3 ∷ []) [] office_schema LISTED.now [] 0 (codes "listed" ∷ []) listed_means (λ k. refl) (λ k. refl) old new o.schema shows.settled idle (t.listed ∷ []) one_office r h in
-      listed_row r it.0
+      let it = finds_some office_columns shown_listed any (col 1 3 ∷ []) [] office_schema LISTED.now [] 0 (codes "listed" ∷ []) listed_means (λ k. refl) (λ k. refl) old new o.schema (t.listed ∷ []) one_office r h in
+      listed_row r it
 
 pub same_listed : (n m : ℕ) (row : Row) → row ≡ row_of_listed n → row ≡ row_of_listed m → m ≡ n
 same_listed n m row a b = let same : row_of_listed m ≡ row_of_listed n = sym b ∙ a in let k : m ≡ n = cc in k

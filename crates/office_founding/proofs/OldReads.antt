@@ -75,7 +75,7 @@ module _ (old new : State) (t : Tables) (shows : ShowsOld old t) (idle : old.in_
       has_permuted _ _ (numbered_row (old_form t.listed)) same (inl refl)
 
   pub reads_old : (r : Result (Option Row) Fault) → FindsRow OFFICE_ROW.now [] old new r → IfOk r (IsOldRow t) × (r ≢ Err NotAnOffice)
-  reads_old r h = let it = finds _ old_schema OFFICE_ROW.now [] old_means old new shows.office.schema shows.settled idle (IsOldRow t) old_found old_none r h in (it.0, it.1)
+  reads_old = finds _ old_schema OFFICE_ROW.now [] old_means old new shows.office.schema (IsOldRow t) old_found old_none
 
   pub shown_has_old_tables : has_old_tables old.now.schema ≡ true
   shown_has_old_tables = ap has_old_tables shows.office.schema ∙ old_has_tables

@@ -1,5 +1,5 @@
--- A query of all its rows: its answer, what it leaves of the connection, and why it has no answer.
-use Rattle.std.proofs.Common.{◌≡◌, ◌≢◌, ℕ, ℤ, List, [], ◌∷◌, ◌++◌, map, flat_map, Bool, true, false, cond, Option, None, Some, Ok, Equal, inl, inr, refl, sym, ap, subst, ◌∙◌}
+-- A query of all its rows, and its answer.
+use Rattle.std.proofs.Common.{◌≡◌, ◌≢◌, ℕ, ℤ, List, [], ◌∷◌, ◌++◌, map, flat_map, Bool, true, false, cond, Equal, refl, sym, ap, subst, ◌∙◌}
 use Rattle.std.specs.Prelude.{filter}
 use Rattle.std.specs.List.{list_all}
 use Rattle.std.specs.List.Sorted.{IsPermutation}
@@ -12,22 +12,15 @@ use Rattle.sqlite.specs.Term.{Term, Env, eval_all, holds}
 use Rattle.sqlite.specs.Query.{Query, Output, output, Join, IsAnswer, inner, end}
 use Rattle.sqlite.specs.Command.TheVariants.{Select}
 use Rattle.sqlite.specs.Program.{overlay}
-use Rattle.sqlite.specs.State.{State, Shown, Survives, CommitsShowing, IsUnchanged, QueriesRow}
-use Rattle.sqlite.specs.Listing.{understood}
-use Rattle.sqlite.proofs.Callers.{IsPlain, never_commits, reads_as}
-use Rattle.sqlite.proofs.StateLemmas.{survives_weaker}
+use Rattle.sqlite.specs.State.{State, Shown}
+use Rattle.sqlite.proofs.Callers.{reads_as}
 use Rattle.sqlite_value.specs.declared.keys.Key.{Key}
 use Rattle.sqlite_value.specs.declared.keys.Collation.{Collation}
 use Rattle.sqlite_value.specs.Keys.{collated_cmp}
 use Rattle.sqlite_trees.specs.Tree.{Trees}
 use Rattle.sqlite_trees.proofs.ListLemmas.{map-map, flat_map-map, filter-map, ascending-map, IsPermutation-filter, all-map, all_weaker}
 use Rattle.sqlite_rules.specs.Lists.{Has}
-use Rattle.review_policy.specs.declared.fault.Fault.{Fault}
-use Rattle.review_policy.specs.declared.fault.Fault.TheVariants.{NotAnOffice}
-use Rattle.office_rows.specs.Rows.{IsFaultOf}
-use Rattle.office_rows.specs.Faults.{FindsRow}
 use Rattle.office_rows.specs.Entries.{Keeps, row_of}
-use Rattle.office_rows.proofs.Errors.{IsKept, query_failed}
 use Rattle.office_rows.proofs.Plain.{Means}
 use Rattle.office_rows.proofs.Rowids.{has_mapped, mapped_has, has_permuted}
 use Rattle.office_rows.proofs.InOrder.{ordered_query, order_cmp, ShowsInOrder, answered_in_order}
@@ -35,32 +28,8 @@ use Rattle.office_rows.proofs.Distinct.{distinct_query, ShowsEachOnce, answered_
 
 module _ (q : Query) (schema : Schema) (sql : List ℕ) (params : Row) (names : List (List ℕ)) (means : Means schema sql (Select (record { lets = []; body = q }) names))
     (old new : State) (has : old.now.schema ≡ schema) where
-  plain_old : IsPlain (understood old.now.schema sql)
-  plain_old = rw has means.plain
-
-  pub shown_same : (rows : List Row) → Shown sql params old new rows → IsUnchanged old new
-  unfolding Shown
-  shown_same rows h =
-      let none : h.0.returning ≡ None = (subst IsPlain h.1.is plain_old).0 in
-      (rw none at h.2).3
-
   pub shown_answer : (rows : List Row) → Shown sql params old new rows → IsAnswer q (overlay old.now.trees []) params rows
   shown_answer rows h = (reads_as sql params old new schema has _ means.is means.plain means.unlisted rows h).answer Null
-
-  pub fault_kept : old.now ≡ old.committed → old.in_transaction ≡ false → (f : Fault) → IsFaultOf sql params old new f → (f ≢ NotAnOffice) × IsKept old new
-  fault_kept settled idle f h =
-      let failed = query_failed sql params old new h.error plain_old settled idle h.failed in
-      ((λ same. failed.0.0 (sym h.fault ∙ same)), failed.1)
-
-  pub found_same : old.now ≡ old.committed → old.in_transaction ≡ false → (o : Option Row) → FindsRow sql params old new (Ok o) → IsUnchanged old new
-  unfolding QueriesRow
-  found_same settled idle (Some row) (inl h) = h.1
-  found_same settled idle (Some row) (inr h) = shown_same h.0 h.1
-  found_same settled idle None (inl h) = absurd ((query_failed sql params old new _ plain_old settled idle h).0.1 refl)
-  found_same settled idle None (inr h) = shown_same [] h.1
-
-  pub none_committed : Survives old new (CommitsShowing sql params old) → Survives old new (λ _. ⊥)
-  none_committed = survives_weaker old new _ _ (λ _ db. never_commits _ _ old db plain_old)
 
 -- what the matches show, of those that pass
 pub matches_show : {Y : Type 0} (env : Y → Env) (test passes : Y → Bool) (f : Env → Output) (g : Y → Output) → ((y : Y) → test y ≡ passes y) → ((y : Y) → f (env y) ≡ g y)

@@ -1,5 +1,5 @@
 -- Why a query answers no rows: never for the form of the tables.
-use Rattle.std.proofs.Common.{inl, inr, ◌≡◌, ℕ, false, List, Option, None, IsTrue, sym, subst, ◌∙◌}
+use Rattle.std.proofs.Common.{inl, inr, ◌≡◌, ℕ, List, Option, None, subst}
 use Rattle.sqlite.specs.Order.{Row}
 use Rattle.sqlite.specs.declared.error.Error.{Error}
 use Rattle.sqlite_trees.specs.declared.error.StoreError.{StoreError}
@@ -8,14 +8,10 @@ use Rattle.sqlite.specs.Effect.{Database, RefusesQuery, RefusesToRead}
 use Rattle.sqlite_schema.specs.declared.program.Program.{Program}
 use Rattle.sqlite.specs.Command.{Command}
 use Rattle.sqlite.specs.Command.TheVariants.{Select, Rows}
-use Rattle.sqlite.specs.State.{State, FailsToQuery, IsRolledBack, store_error, IsNotRun, IsNoStatement, IsUnchanged}
+use Rattle.sqlite.specs.State.{State, FailsToQuery, store_error, IsNotRun, IsNoStatement}
 use Rattle.sqlite.specs.Listing.{understood}
 use Rattle.sqlite.proofs.Callers.{IsPlain}
 use Rattle.office_rows.specs.Faults.{IsOfMachine}
-
--- the connection shows what it showed, if no fault has shut it
-abbrev pub IsKept : State → State → Type 0
-IsKept old new = IsTrue new.is_open → (new.now ≡ old.now) × (new.committed ≡ old.committed) × (new.in_transaction ≡ old.in_transaction)
 
 pub of_store : (cause : StoreError) → IsOfMachine (store_error cause)
 of_store OutOfMemory = (λ h. cc, λ h. cc)
@@ -41,18 +37,11 @@ refused_read limit (Select q names) db params e h = refused_query limit db q par
 refused_read limit (Rows values width names) db params e h = rw h.0 (λ h. cc, λ h. cc)
 refused_read limit _ db params e h = rw h (λ h. cc, λ h. cc)
 
-pub unchanged_kept : (old new : State) → IsUnchanged old new → IsKept old new
-unchanged_kept old new same is_open = (same.0.now_is, same.0.committed_is, same.0.mode)
-
-pub undone_kept : (old new : State) → old.now ≡ old.committed → old.in_transaction ≡ false → IsRolledBack old new → IsKept old new
-undone_kept old new settled idle back is_open = ((back.undone is_open).0 ∙ sym settled, (back.undone is_open).1, back.autocommit ∙ sym idle)
-
-pub query_failed : (sql : List ℕ) (params : Row) (old new : State) (e : Error) → IsPlain (understood old.now.schema sql) → old.now ≡ old.committed → old.in_transaction ≡ false
-    → FailsToQuery sql params old new e → IsOfMachine e × IsKept old new
+pub query_failed : (sql : List ℕ) (params : Row) (old new : State) (e : Error) → IsPlain (understood old.now.schema sql) → FailsToQuery sql params old new e → IsOfMachine e
 unfolding FailsToQuery IsNotRun
-query_failed sql params old new e plain settled idle (inl (inl h)) = (no_statement old sql params e plain h.0, unchanged_kept old new h.1)
-query_failed sql params old new e plain settled idle (inl (inr h)) = (rw h.1 (of_store h.0), undone_kept old new settled idle h.3)
-query_failed sql params old new e plain settled idle (inr (c, it, h)) =
+query_failed sql params old new e plain (inl (inl h)) = no_statement old sql params e plain h.0
+query_failed sql params old new e plain (inl (inr h)) = rw h.1 (of_store h.0)
+query_failed sql params old new e plain (inr (c, it, h)) =
     let none : c.returning ≡ None = (subst IsPlain it.is plain).0 in
     let read = rw none at h in
-    (refused_read _ c.command read.0 _ e read.2, unchanged_kept old new read.3)
+    refused_read _ c.command read.0 _ e read.2

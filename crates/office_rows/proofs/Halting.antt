@@ -1,5 +1,5 @@
 -- What stops the parts of a statement of a known meaning, where it is no failure of the store.
-use Rattle.std.proofs.Common.{inl, inr, ◌⊎◌, ◌≡◌, ◌≢◌, ℕ, zero, suc, List, [], ◌∷◌, length, Bool, true, false, not, cond, Option, None, Some, Ok, Err, Result, IsTrue, refl, sym, ap, subst, ◌∙◌, append-nil, length-append, true≢false, eqb-true, arith, ltb, ltb-false}
+use Rattle.std.proofs.Common.{inl, inr, ◌⊎◌, ◌≡◌, ℕ, zero, suc, List, [], ◌∷◌, length, Bool, true, false, not, cond, Option, None, Some, Ok, Err, Result, IsTrue, refl, sym, ap, subst, ◌∙◌, append-nil, length-append, true≢false, eqb-true, arith, ltb, ltb-false}
 use Rattle.std.specs.Prelude.{MatchBool, option_map, ◌&&◌, ◌||◌, ◌==◌, is_some}
 use Rattle.std.specs.List.{AllByRecursion, list_all}
 use Rattle.std.specs.Ordering.{is_eq}
@@ -45,7 +45,7 @@ use Rattle.sqlite_trees.specs.declared.error.StoreError.TheVariants.{OutOfMemory
 use Rattle.sqlite_value.specs.Order.{value_cmp}
 use Rattle.office_rows.proofs.Plain.{Means}
 use Rattle.office_rows.proofs.Stored.{not_true}
-use Rattle.office_rows.proofs.Sure.{IsSureQuery, sure_read}
+use Rattle.office_rows.proofs.Sure.{IsSureQuery, never_both, sure_read}
 use Rattle.office_rows.proofs.Writing.{IsTableOf}
 
 -- ---- from a statement to its command
@@ -64,10 +64,6 @@ IsFit sql params (Err e) = ⊥
 -- the text is one statement with as many parameters. `refl` finds both, under `unfolding understood everything`
 pub record IsOne (schema : Schema) (sql : List ℕ) (params : Row) : Type 0 where
   pub text : IsFit sql params (understood schema sql)
-
-never_both : {P : Type 0} (b : Bool) → IsTrue b → b ≡ false → P
-never_both true is_open shut = absurd cc
-never_both false is_open shut = absurd cc
 
 module _ (schema : Schema) (sql : List ℕ) (params : Row) (command : Command) (on : on_rows command ≡ true) (silent : (is_query command || (is_pragma command || false)) ≡ false)
     (means : Means schema sql command) (one : IsOne schema sql params) (old new : State) (e : Error) (has : old.now.schema ≡ schema) (begun : IsTrue old.in_transaction) where

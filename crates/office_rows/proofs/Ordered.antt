@@ -1,5 +1,5 @@
 -- What the first row of a query that is put in an order says of the entries that a table keeps.
-use Rattle.std.proofs.Common.{inl, ◌≡◌, ◌≢◌, ℕ, ℤ, pos, List, [], ◌∷◌, map, take, Bool, true, false, Option, None, Some, Ok, Err, Result, IfOk, OnOk, IsTrue, All, refl, sym, ap, subst, ◌∙◌, arith}
+use Rattle.std.proofs.Common.{inl, ◌≡◌, ℕ, ℤ, pos, List, [], ◌∷◌, map, take, Bool, true, false, Option, None, Some, Ok, Result, IfOk, All, refl, sym, ap, subst, ◌∙◌, arith}
 use Rattle.std.specs.Prelude.{filter}
 use Rattle.std.specs.List.{list_all}
 use Rattle.std.specs.Ordering.{is_lt}
@@ -25,9 +25,7 @@ use Rattle.sqlite_trees.proofs.ListLemmas.{map-map, filter-map, IsPermutation-fi
 use Rattle.office_rows.specs.Entries.{Keeps, row_of}
 use Rattle.office_rows.proofs.Plain.{plain_query, Means}
 use Rattle.review_policy.specs.declared.fault.Fault.{Fault}
-use Rattle.review_policy.specs.declared.fault.Fault.TheVariants.{NotAnOffice}
 use Rattle.office_rows.specs.Faults.{FindsRow}
-use Rattle.office_rows.proofs.Errors.{IsKept}
 use Rattle.office_rows.proofs.Finding.{finds}
 use Rattle.office_rows.proofs.Reading.{matched}
 use Rattle.office_rows.proofs.Rowids.{has_mapped, mapped_has, has_permuted}
@@ -99,18 +97,15 @@ module _ {X : Type 0} (encode shown sorts : X → Row) (passes : X → Bool) (pr
 
     module _ (schema : Schema) (sql : List ℕ) (tree : ℕ) (names : List (List ℕ)) (means : Means schema sql (Select (record { lets = []; body = first_query project tests tree order }) names))
         (old new : State) (has : old.now.schema ≡ schema) (xs : List X) (keeps : Keeps encode (overlay old.now.trees [] tree) xs) where
-      pub first_found : (row : Row) → QueriesRow sql params old new (Ok row) → (x : X) × IsFirst xs x × (row ≡ shown x)
+      first_found : (row : Row) → QueriesRow sql params old new (Ok row) → (x : X) × IsFirst xs x × (row ≡ shown x)
       first_found row h =
           let got = (first_as sql params old new schema has _ means.is means.plain means.unlisted row h).1 in
           answered_first (overlay old.now.trees []) tree (row ∷ got.0) xs (got.1 Null) keeps
 
-      pub first_none : Shown sql params old new [] → (x : X) → Has xs x → passes x ≡ true → ⊥
+      first_none : Shown sql params old new [] → (x : X) → Has xs x → passes x ≡ true → ⊥
       first_none h = answered_first (overlay old.now.trees []) tree [] xs ((reads_as sql params old new schema has _ means.is means.plain means.unlisted [] h).answer Null) keeps
 
-    module _ (schema : Schema) (sql : List ℕ) (tree : ℕ) (names : List (List ℕ)) (means : Means schema sql (Select (record { lets = []; body = first_query project tests tree order }) names))
-        (old new : State) (has : old.now.schema ≡ schema) (settled : old.now ≡ old.committed) (idle : old.in_transaction ≡ false) where
-      pub finds_first : (xs : List X) → Keeps encode (overlay old.now.trees [] tree) xs → (r : Result (Option Row) Fault) → FindsRow sql params old new r
-          → IfOk r (IsFirstRow xs) × (r ≢ Err NotAnOffice) × IsKept old new × OnOk r (IsTrue new.is_open)
-      finds_first xs keeps =
-          finds (Select (record { lets = []; body = first_query project tests tree order }) names) schema sql params means old new has settled idle (IsFirstRow xs)
-          (first_found schema sql tree names means old new has xs keeps) (first_none schema sql tree names means old new has xs keeps)
+      pub finds_first : (r : Result (Option Row) Fault) → FindsRow sql params old new r → IfOk r (IsFirstRow xs)
+      finds_first r h =
+          let it = finds (Select (record { lets = []; body = first_query project tests tree order }) names) schema sql params means old new has (IsFirstRow xs) first_found first_none r h in
+          it.0

@@ -1,6 +1,7 @@
 -- The query of one table by tests on its columns, and what a text means under a schema.
-use Rattle.std.proofs.Common.{◌≡◌, List, [], None, false, ℕ, pos, negsuc}
+use Rattle.std.proofs.Common.{◌≡◌, List, [], Some, None, Bool, true, false, ℕ, pos, negsuc, refl}
 use Rattle.sqlite.specs.declared.types.Value.TheVariants.{Int}
+use Rattle.sqlite.specs.Ops.{is_true, from_truth}
 use Rattle.sqlite.specs.Term.{Term, lit}
 use Rattle.sqlite.specs.Query.{Query, inner, end}
 use Rattle.sqlite.specs.Schema.{Schema}
@@ -26,3 +27,8 @@ pub record Means (schema : Schema) (sql : List ℕ) (command : Command) : Type 0
   pub is : command_of (understood schema sql) ≡ command
   pub plain : IsPlain (understood schema sql)
   pub unlisted : reads_listing schema sql ≡ false
+
+-- a test passes where it is true
+pub from_test : (b : Bool) → is_true (from_truth (Some b)) ≡ b
+from_test true = refl
+from_test false = refl

@@ -11,7 +11,7 @@ use Rattle.sqlite.specs.Does.{Does, AtPlace, OnRows, Concludes}
 use Rattle.sqlite.specs.Edit.{Edit, edit_of}
 use Rattle.sqlite.specs.Effect.{IsDatabase, value_rows, edit_error}
 use Rattle.sqlite.specs.Listing.{understood}
-use Rattle.sqlite.specs.Ops.{is_true, from_truth, binary}
+use Rattle.sqlite.specs.Ops.{binary}
 use Rattle.sqlite.specs.Order.{Row}
 use Rattle.sqlite.specs.Rowids.TheVariants.{Chosen, Above, Given}
 use Rattle.sqlite.specs.Rows.{Gives, Then, Queried, Sourced, Counter, Counts, CountsIn, Edited, Deletes, Inserts, Task, Written, stamped, count_of, last_id, higher, rowids_for, sequence}
@@ -49,12 +49,8 @@ use Rattle.office_rows.specs.Entries.{row_of}
 use Rattle.office_rows.specs.Faults.{fault_of_error}
 use Rattle.office_rows.specs.Refusals.{LacksRowid}
 use Rattle.office_rows.proofs.Halting.{IsOne, IsFree, halted, never_asks, no_references, concluded, edit_halted, unique_with, refused_by}
-use Rattle.office_rows.proofs.Plain.{Means}
+use Rattle.office_rows.proofs.Plain.{Means, from_test}
 use Rattle.office_rows.proofs.Sure.{IsSureQuery}
-
-from_test : (b : Bool) → is_true (from_truth (Some b)) ≡ b
-from_test true = refl
-from_test false = refl
 
 pub differ_itself : (z : ℤ) → differ (Int z) (Int z) ≡ false
 unfolding binary
@@ -216,9 +212,6 @@ module _ (schema : Schema) (at : ℕ) (table : Table) (free : IsFree schema at t
 
       abbrev edit_with : Bool → ℤ → List Row → Edit
       edit_with counted top rows = edit_of trees table [] (cond counted (Above top) Chosen) 0 rows
-
-      abbrev PutsIn : Edit → ℤ → Option Row → Trees → Option Error → Type 0
-      PutsIn edit top counter mid stop = Then (Counts task mid counter (fold higher top edit.news)) (λ next. Gives {A = Written} (record { trees = next; rows = edit.news; last = last_id edit.news })) (Err stop)
 
       never_sources : (stop : Option Error) → Sourced None (record { schema = schema; trees = trees }) (stamped table params) (Values terms width) (Err stop) → ⊥
       never_sources None h = h

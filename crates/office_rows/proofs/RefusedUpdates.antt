@@ -28,7 +28,7 @@ use Rattle.sqlite.specs.declared.error.Error.TheVariants as error
 use Rattle.sqlite.specs.declared.error.ErrorCode.TheVariants.{TooBig}
 use Rattle.sqlite.proofs.Callers.{statement_of}
 use Rattle.sqlite_rules.specs.Calls.{ids_of}
-use Rattle.sqlite_rules.specs.Edit.{IsRefused, IsOversized, is_taken, are_fresh, put_all, taken_by, without_all, numbered, id_in}
+use Rattle.sqlite_rules.specs.Edit.{IsRefused, IsOversized, is_taken, are_fresh, put_all, taken_by, without_all, id_in}
 use Rattle.sqlite_rules.specs.Lists.{Has}
 use Rattle.sqlite_rules.specs.declared.error.Refusal.{Refusal}
 use Rattle.sqlite_rules.specs.declared.error.Refusal.TheVariants.{Violates, Mismatch, NoRowid, BadReference, TooDeep}
@@ -41,7 +41,7 @@ use Rattle.sqlite_schema.specs.declared.program.Program.{Program}
 use Rattle.sqlite_schema.specs.declared.schema.Constraint.TheVariants.{Datatype, NotNull, Check, PrimaryKey, Unique, ForeignKey}
 use Rattle.sqlite_schema.specs.declared.schema.Index.{Index}
 use Rattle.sqlite_sql.specs.Ops.{fits_i64}
-use Rattle.sqlite_trees.specs.Tree.{has_rowid, without_rowid, put_row}
+use Rattle.sqlite_trees.specs.Tree.{has_rowid, without_rowid}
 use Rattle.sqlite_trees.specs.View.{is_int}
 use Rattle.sqlite_trees.proofs.ListLemmas.{map-map, ascending-filter, ascending-map}
 use Rattle.sqlite_value.specs.Order.{value_cmp}
@@ -58,6 +58,7 @@ use Rattle.office_rows.proofs.Refused.{IsRight, Stops, edit_is_disk, referred, d
 use Rattle.office_rows.proofs.Rowids.{has_mapped, mapped_has, has_permuted, one_each, symmetric}
 use Rattle.office_rows.proofs.Stored.{not_true}
 use Rattle.office_rows.proofs.Sure.{IsSureQuery}
+use Rattle.office_rows.proofs.Writing.{given_numbers, cast_all}
 
 -- no row is left under a rowid that was taken out
 pub gone_away : (ids : List ℤ) (rows : List Row) (r : Row) (id : ℤ) → Has (without_all rows ids) r → Has ids id → has_rowid id r ≡ false
@@ -75,10 +76,6 @@ differ_by Rattle.std.specs.declared.cmp.Ordering.TheVariants.Greater h = refl
 pub differ_other : (a b : ℤ) → is_eq (value_cmp (Int a) (Int b)) ≡ false → differ (Int a) (Int b) ≡ true
 unfolding binary
 differ_other a b other = differ_by (value_cmp (Int a) (Int b)) other
-
-given_numbers : (news rows : List Row) → numbered Given rows news ≡ news
-given_numbers [] rows = refl
-given_numbers (r ∷ rs) rows = ap (λ l. r ∷ l) (given_numbers rs (put_row r rows))
 
 module _ (schema : Schema) (at : ℕ) (table : Table) (free : IsFree schema at table) (sql : List ℕ) (params : Row) (one : IsOne schema sql params) (old new : State) (e : Error) (has : old.now.schema ≡ schema)
     (sound : IsDatabase old.now) (begun : IsTrue old.in_transaction) (unlimited : old.step_limit ≡ None) (failed : ExecutesInside 0 sql params old new (Err e))
@@ -109,13 +106,6 @@ module _ (schema : Schema) (at : ℕ) (table : Table) (free : IsFree schema at t
 
     abbrev passed : List (ℤ × X)
     passed = filter (λ (k : ℤ × X). passing k.1) entries.kept
-
-    abbrev Right : Row → Type 0
-    Right row = (k : ℤ × X) × (row ≡ row_of encode k)
-
-    cast_all : (ks : List (ℤ × X)) → map (λ s. cast_row table (drop 1 s)) (map source ks) ≡ map (row_of encode) (map renewed ks)
-    cast_all [] = refl
-    cast_all (k ∷ ks) = λ i. casts k i ∷ cast_all ks i
 
     there : (k : ℤ × X) → Has entries.kept k → Has rows (row_of encode k)
     there k h = subst (λ (rs : List Row). Has rs (row_of encode k)) (sym entries.rows_are) (mapped_has (row_of encode) entries.kept k h)
@@ -246,7 +236,7 @@ module _ (schema : Schema) (at : ℕ) (table : Table) (free : IsFree schema at t
                 rw (map-map (λ (r : Row). id_in (rowid r)) source passed) at (IsPermutation-map (λ (r : Row). id_in (rowid r)) _ _ answer) in
                 let from = permuted_map source passed asked.0 answer in
                 let are : (edit_in asked.0).news ≡ map (row_of encode) (map renewed from.from) =
-                given_numbers (map (λ s. cast_row table (drop 1 s)) asked.0) (without_all rows (ids_of asked.0)) ∙ ap (map (λ s. cast_row table (drop 1 s))) from.is ∙ cast_all from.from in
+                given_numbers (map (λ s. cast_row table (drop 1 s)) asked.0) (without_all rows (ids_of asked.0)) ∙ ap (map (λ s. cast_row table (drop 1 s))) from.is ∙ cast_all table encode change casts from.from in
                 edit_stops from.from from.same (ids_of asked.0) ids stop
                 (subst (λ (ns : List Row). Edited schema (mode_of old).keys trees (record { table = table; gone = ids_of asked.0; news = ns }) (Err stop)) are edited)
             | inr gives ↦ absurd (let z = gives.2 in cc)

@@ -1,5 +1,5 @@
 -- Why a transaction fails over a connection that was shut: never for the form of the tables.
-use Rattle.std.proofs.Common.{inl, inr, ◌≡◌, ◌≢◌, ◌<◌, ℕ, List, [], ◌∷◌, length, Bool, true, false, Result, Err, IsTrue, arith}
+use Rattle.std.proofs.Common.{inl, inr, ◌≡◌, ◌≢◌, ◌<◌, ℕ, List, [], ◌∷◌, length, Bool, true, false, Result, Err, arith}
 use Rattle.std.specs.Prelude.{MatchBool}
 use Rattle.sqlite.specs.Order.{Row}
 use Rattle.sqlite.specs.Held.{Held, state}
@@ -12,10 +12,7 @@ use Rattle.review_policy.specs.declared.fault.Fault.TheVariants.{NotAnOffice}
 use Rattle.office_rows.specs.Faults.{fault_of_error}
 use Rattle.office_rows.specs.Statements.{Statement, FailedIn}
 use Rattle.office_rows.proofs.Errors.{of_store}
-
-never_both : {P : Type 0} (b : Bool) → IsTrue b → b ≡ false → P
-never_both true is_open shut = absurd cc
-never_both false is_open shut = absurd cc
+use Rattle.office_rows.proofs.Sure.{never_both}
 
 fails_of_store : (old new : State) (big : Type 0) (e : Error) → Fails old new big e → fault_of_error e ≢ NotAnOffice
 fails_of_store old new big e h = rw h.1 (of_store h.0).0

@@ -49,7 +49,7 @@ pub record IsSure (schema : Schema) (sql : List ℕ) (params : Row) : Type 0 whe
   pub text : IsUnderstood schema sql params (understood schema sql)
   pub unlisted : reads_listing schema sql ≡ false
 
-never_both : {P : Type 0} (b : Bool) → IsTrue b → b ≡ false → P
+pub never_both : {P : Type 0} (b : Bool) → IsTrue b → b ≡ false → P
 never_both true is_open shut = absurd cc
 never_both false is_open shut = absurd cc
 

@@ -66,9 +66,15 @@ pub record WritesIn (schema : Schema) (tree : ℕ) (old new : Database) : Type 0
   pub sound : IsDatabase new
   pub tables : AllByRecursion (λ t. t.tree ≢ tree → new.trees t.tree ≡ old.trees t.tree) schema.tables
 
-given_numbers : (news rows : List Row) → numbered Given rows news ≡ news
+pub given_numbers : (news rows : List Row) → numbered Given rows news ≡ news
 given_numbers [] rows = refl
 given_numbers (r ∷ rs) rows = ap (λ l. r ∷ l) (given_numbers rs (put_row r rows))
+
+-- rows that are changed as their table stores them
+pub cast_all : {X : Type 0} (table : Table) (encode : X → Row) (change : X → X) → ((k : ℤ × X) → cast_row table (row_of encode (k.0, change k.1)) ≡ row_of encode (k.0, change k.1))
+    → (ks : List (ℤ × X)) → map (λ s. cast_row table (drop 1 s)) (map (λ k. Int k.0 ∷ row_of encode (k.0, change k.1)) ks) ≡ map (row_of encode) (map (λ k. (k.0, change k.1)) ks)
+cast_all table encode change casts [] = refl
+cast_all table encode change casts (k ∷ ks) = λ i. casts k i ∷ cast_all table encode change casts ks i
 
 module _ (schema : Schema) (at : ℕ) (table : Table) (is_table : IsTableOf schema at table) (sql : List ℕ) (params : Row) (old new : State) (count : ℕ) (has : old.now.schema ≡ schema)
     (ran : Executes sql params old new (Ok count)) where
@@ -117,10 +123,6 @@ module _ (schema : Schema) (at : ℕ) (table : Table) (is_table : IsTableOf sche
     abbrev source : ℤ × X → Row
     source k = Int k.0 ∷ row_of encode (renewed k)
 
-    cast_all : (ks : List (ℤ × X)) → map (λ s. cast_row table (drop 1 s)) (map source ks) ≡ map (row_of encode) (map renewed ks)
-    cast_all [] = refl
-    cast_all (k ∷ ks) = λ i. casts k i ∷ cast_all ks i
-
     pub updated : (xs : List X) → Keeps encode (old.now.trees table.tree) xs
         → WritesIn schema table.tree old.now new.now × Keeps encode (new.now.trees table.tree) (map (changed_if passes change) xs)
     updated xs keeps =
@@ -144,7 +146,7 @@ module _ (schema : Schema) (at : ℕ) (table : Table) (is_table : IsTableOf sche
         let rest = taken_out encode passes (old.now.trees table.tree) xs (ids_of asked.0) keeps ids in
         let from = permuted_map source (filter (λ k. passes k.1) keeps.kept) asked.0 same in
         let news : edit.news ≡ map (row_of encode) (map renewed from.from) =
-        given_numbers (map (λ s. cast_row table (drop 1 s)) asked.0) left ∙ ap (map (λ s. cast_row table (drop 1 s))) from.is ∙ cast_all from.from in
+        given_numbers (map (λ s. cast_row table (drop 1 s)) asked.0) left ∙ ap (map (λ s. cast_row table (drop 1 s))) from.is ∙ cast_all table encode change casts from.from in
         let back = put_many encode (map renewed from.from) left _ rest (subst (λ ns. are_fresh left ns ≡ true) news applied.fresh) in
         let values : map (λ (k : ℤ × X). k.1) (map renewed from.from) ≡ map change (map (λ (k : ℤ × X). k.1) from.from) = map-map _ _ from.from ∙ sym (map-map _ _ from.from) in
         let passed : IsPermutation (map (λ (k : ℤ × X). k.1) from.from) (filter passes xs) =

@@ -1,9 +1,8 @@
 -- What the reads of authors find.
-use Rattle.std.proofs.Common.{◌≡◌, ◌≢◌, ℕ, ℤ, List, [], ◌∷◌, codes, map, None, Some, Ok, Err, Result, Option, IfOk, IfErr, Bool, true, false, Less, Equal, refl, sym, ap, subst, ◌∙◌}
+use Rattle.std.proofs.Common.{◌≡◌, ◌≢◌, ℕ, ℤ, List, [], ◌∷◌, codes, map, Some, Result, Option, IfOk, Bool, true, Less, Equal, refl, sym, ap, subst, ◌∙◌}
 use Rattle.std.specs.Prelude.{◌&&◌, ◌↔◌, bytes_eq, is_some, filter}
 use Rattle.std.specs.List.{list_all}
 use Rattle.std.proofs.lemmas.Slice.Eq.{bytes_eq-Decides}
-use Rattle.sqlite.specs.declared.types.Value.TheVariants.{Text}
 use Rattle.sqlite.specs.Order.{Row}
 use Rattle.sqlite.specs.Term.{Term, col, holds}
 use Rattle.sqlite.specs.Query.{inner, end}
@@ -23,34 +22,31 @@ use Rattle.review_policy.specs.declared.ask.ProfileName.{ProfileName}
 use Rattle.office_tables.specs.declared.row.RevisionRow.{RevisionRow}
 use Rattle.review_policy.specs.declared.fault.Fault.{Fault}
 use Rattle.office_tables.specs.Tables.{Tables, is_profile}
-use Rattle.office_tables.specs.Lists.{name_cmp, IsAuthor}
+use Rattle.office_tables.specs.Lists.{name_cmp, IsAuthor, AreAuthors}
 use Rattle.office_rows.specs.Entries.{row_of}
 use Rattle.office_rows.specs.Faults.{FindsRow}
-use Rattle.office_rows.specs.Rows.{IsFaultOf}
 use Rattle.office_rows.proofs.Rowids.{has_mapped, mapped_has}
 use Rattle.office_rows.proofs.Plain.{plain_query, Means}
-use Rattle.office_rows.proofs.Finding.{IsFound, finds_some}
+use Rattle.office_rows.proofs.Finding.{finds_some}
 use Rattle.office_rows.proofs.InOrder.{order_cmp, order_cmp_total, rises}
 use Rattle.office_rows.proofs.Distinct.{distinct_query, ShowsEachOnce}
 use Rattle.office_rows.proofs.Asked.{table_each_once}
 use Rattle.office_store.specs.declared.author.TheConstants.{REVISION_BY, AUTHORS_OF}
 use Rattle.office_store.specs.Schema.{office_schema}
 use Rattle.office_store.specs.Entries.{Revision, revision_row, IsRevision}
-use Rattle.office_store.specs.Lists.{name_row, AreAuthorRows}
+use Rattle.office_store.specs.Lists.{name_row, IsWord}
 use Rattle.office_store.specs.Shown.{Shows}
-use Rattle.office_store.proofs.Columns.{column_is, text_is, two_are, three_are}
-use Rattle.office_store.proofs.Kept.{still_shows}
-use Rattle.office_store.proofs.Profiles.{profile_params, at_profile, both_true, same_profile, profiles_decide}
+use Rattle.office_store.proofs.Columns.{both_true, column_is, text_is, three_are}
+use Rattle.office_store.specs.Keys.{profile_params, author_params}
+use Rattle.office_store.proofs.Profiles.{at_profile, profile_tested, same_profile, profiles_decide}
 use Rattle.office_store.proofs.RevisionReads.{stands, found_at}
-use Rattle.office_store.proofs.ListReads.{IsReadOf, list_read, first_shows, text_order, same_name, all_pairs}
+use Rattle.office_store.proofs.ListReads.{list_read, text_order, same_name, all_pairs}
+use Rattle.office_store.proofs.RowsOf.{AreRowsOf, any_among}
 
 -- ---- one revision by a name
 
 abbrev by_author : List Term
 by_author = column_is 1 0 ∷ column_is 2 1 ∷ column_is 4 2 ∷ []
-
-abbrev pub author_params : ProfileName → List ℕ → Row
-author_params p name = Text p.team ∷ Text p.profile ∷ Text name ∷ []
 
 by_means : Means office_schema REVISION_BY.now (Select (record { lets = []; body = plain_query (col 1 4 ∷ []) by_author 4 }) (codes "author" ∷ []))
 unfolding understood everything
@@ -83,9 +79,6 @@ author_of e = e.1.author
 abbrev is_of : ProfileName → Revision → Bool
 is_of p e = is_profile p e.0
 
-pub profile_tested : (p : ProfileName) (k : ℤ × Revision) → list_all (holds (profile_params p ∷ row_of revision_row k ∷ [])) at_profile ≡ is_of p k.1
-profile_tested p k = two_are _ _ _ _ (text_is k.1.0.team p.team) (text_is k.1.0.profile p.profile)
-
 module _ (old new : State) (t : Tables) (shows : Shows old t) where
   -- a revision of the profile among the entries makes its author one
   makes_author : (p : ProfileName) (e : Revision) → Has shows.office.revisions.entries e → is_profile p e.0 ≡ true → IsAuthor t p e.1.author
@@ -106,31 +99,16 @@ module _ (old new : State) (t : Tables) (shows : Shows old t) where
         sym (ap (λ (r : RevisionRow). r.author) it.is) ∙ author.author,
       )
 
-  abbrev IsRowBy : ProfileName → List ℕ → Option Row → Type 0
-  IsRowBy p name row = is_some row ≡ true ↔ IsAuthor t p name
-
-  row_by : (p : ProfileName) (name : List ℕ) (r : Result (Option Row) Fault) → IfOk r (IsFound (is_by p name) author_row shows.office.revisions.entries) → IfOk r (IsRowBy p name)
-  row_by p name (Ok (Some row)) it =
-      let both = both_true (is_profile p it.0.0) (bytes_eq name it.0.1.author) it.2 in
-      ((λ e. subst (IsAuthor t p) (sym ((bytes_eq-Decides name it.0.1.author).0 both.1)) (makes_author p it.0 it.1 both.0)), (λ author. refl))
-  row_by p name (Ok None) none = (
-    (λ e. absurd cc),
-    (λ author.
-        let it = entry_by p name author in
-        absurd (none it.0 it.1 (λ i. it.2 i && (bytes_eq-Decides name it.0.1.author).1 (sym it.3) i))),
-  )
-  row_by p name (Err f) it = it
-
-  author_list : (p : ProfileName) (rows : List Row) → ShowsEachOnce author_row author_row author_column byte_order (filter (is_of p) shows.office.revisions.entries) rows → AreAuthorRows t p rows
+  author_list : (p : ProfileName) (rows : List Row) → ShowsEachOnce author_row author_row author_column byte_order (filter (is_of p) shows.office.revisions.entries) rows → AreRowsOf name_row IsWord (AreAuthors t p) rows
   author_list p rows it =
       let cmp = order_cmp author_row author_row author_column in
       let apart = ascending_weaker (λ a b. collated_cmp byte_order (author_row a) (author_row b) ≢ Equal) (λ a b. cmp a b ≢ Equal) (λ a b other same. other same) it.from it.apart in
       let rising = rises cmp (order_cmp_total author_row author_row author_column) it.from it.sorted apart in
       let entries = shows.office.revisions.entries in
       record {
-        names = map author_of it.from;
+        values = map author_of it.from;
         rows_are = it.rows_are ∙ sym (map-map name_row author_of it.from);
-        authors = record {
+        these = record {
           rising = all_pairs (λ a b. name_cmp a b ≡ Less) (map author_of it.from)
               (ascending-map (λ a b. name_cmp a b ≡ Less) author_of it.from (ascending_weaker (λ a b. cmp a b ≡ Less) (λ a b. name_cmp a.1.author b.1.author ≡ Less) (λ a b less. sym (text_order a.1.author b.1.author) ∙ less) it.from rising));
           each = λ name there.
@@ -147,22 +125,24 @@ module _ (old new : State) (t : Tables) (shows : Shows old t) where
             (all_weaker (Has (filter (is_of p) entries)) (λ e. is_word e.1.author ≡ true) (λ e h. (all_has IsRevision entries e shows.office.revisions.formed (has_filtered (is_of p) entries e h).0).author) it.from it.each);
       }
 
-  module _ (idle : old.in_transaction ≡ false) where
-    pub reads_by : (p : ProfileName) (name : List ℕ) (r : Result (Option Row) Fault) → FindsRow REVISION_BY.now (author_params p name) old new r → IsReadOf new t (IsRowBy p name) r
-    reads_by p name r h =
-        let o = shows.office in
-        let it = finds_some revision_row author_row (is_by p name) (col 1 4 ∷ []) by_author office_schema REVISION_BY.now (author_params p name) 4 (codes "author" ∷ []) by_means (by_tested p name) (λ k. refl)
-        old new o.schema shows.settled idle o.revisions.entries o.revisions.kept r h in
-        record {
-          found = row_by p name r it.0;
-          formed = it.1;
-          shown = first_shows _ REVISION_BY.now (author_params p name) (codes "author" ∷ []) by_means old new t shows idle r h;
-          same = still_shows old new t shows it.2;
-        }
+  pub reads_by : (p : ProfileName) (name : List ℕ) (r : Result (Option Row) Fault) → FindsRow REVISION_BY.now (author_params p name) old new r → IfOk r (λ row. is_some row ≡ true ↔ IsAuthor t p name)
+  reads_by p name r h =
+      let o = shows.office in
+      let it = finds_some revision_row author_row (is_by p name) (col 1 4 ∷ []) by_author office_schema REVISION_BY.now (author_params p name) 4 (codes "author" ∷ []) by_means (by_tested p name) (λ k. refl)
+      old new o.schema o.revisions.entries o.revisions.kept r h in
+      any_among (is_by p name) o.revisions.entries author_row (λ found. found ≡ true ↔ IsAuthor t p name)
+      (λ e has passed.
+      let both = both_true (is_profile p e.0) (bytes_eq name e.1.author) passed in
+      ((λ _. subst (IsAuthor t p) (sym ((bytes_eq-Decides name e.1.author).0 both.1)) (makes_author p e has both.0)), (λ author. refl)))
+      (λ none. (
+        (λ e. absurd cc),
+        (λ author.
+            let e = entry_by p name author in
+            absurd (none e.0 e.1 (λ i. e.2 i && (bytes_eq-Decides name e.0.1.author).1 (sym e.3) i))),
+      )) r it
 
-    pub reads_authors : {X : Type 0} (items : X → List Row) (p : ProfileName) (r : Result X Fault) → IfOk r (λ x. Shown AUTHORS_OF.now (profile_params p) old new (items x))
-        → IfErr r (IsFaultOf AUTHORS_OF.now (profile_params p) old new) → IsReadOf new t (λ x. AreAuthorRows t p (items x)) r
-    reads_authors items p =
-        let o = shows.office in
-        list_read _ AUTHORS_OF.now (profile_params p) (codes "author" ∷ []) authors_mean old new t shows idle items (AreAuthorRows t p)
-        (λ rows a. author_list p rows (table_each_once revision_row author_row author_row (is_of p) (col 1 4 ∷ []) at_profile author_column (profile_params p) (profile_tested p) (λ k. refl) (λ k. refl) _ 4 rows o.revisions.entries o.revisions.kept byte_order a))
+  pub reads_authors : (p : ProfileName) (r : Result (List Row) Fault) → IfOk r (λ rows. Shown AUTHORS_OF.now (profile_params p) old new rows) → IfOk r (AreRowsOf name_row IsWord (AreAuthors t p))
+  reads_authors p =
+      let o = shows.office in
+      list_read _ AUTHORS_OF.now (profile_params p) (codes "author" ∷ []) authors_mean old new t shows (λ rows. rows) (AreRowsOf name_row IsWord (AreAuthors t p))
+      (λ rows a. author_list p rows (table_each_once revision_row author_row author_row (is_of p) (col 1 4 ∷ []) at_profile author_column (profile_params p) (profile_tested p) (λ k. refl) (λ k. refl) _ 4 rows o.revisions.entries o.revisions.kept byte_order a))

@@ -21,16 +21,13 @@ use Rattle.office_rows.specs.Told.{IsTold}
 use Rattle.office_rows.proofs.Transactions.{ran_open}
 use Rattle.office_rows.proofs.Shut.{failed_shut}
 use Rattle.office_rows.proofs.Sure.{IsSure, sure_failed, shut_failed, first_fault, rows_fault}
+pub use Rattle.office_rows.proofs.Sure.{never_both}
 use Rattle.office_store.specs.Schema.{office_schema}
 use Rattle.office_store.specs.Shown.{IsIdle, IsOffice, Shows, ShowsIfOpen, AreOffice, LeavesOnly, LeavesNoMore, MayLeave}
 use Rattle.office_store.specs.Steps.{AreSteps}
 use Rattle.office_store.specs.Calls.{Leaves, IsRead, IsWrite, Into}
 use Rattle.office_store.proofs.Committed.{trees_of, all_made, none_made, survives_same}
 use Rattle.no_memory.specs.Witness.{witness}
-
-pub never_both : {P : Type 0} (b : Bool) → IsTrue b → b ≡ false → P
-never_both true is_open shut = absurd cc
-never_both false is_open shut = absurd cc
 
 -- a connection that is open was open
 pub opened : (old new : Bool) → IsTrue new → (old ≡ false → new ≡ false) → IsTrue old
@@ -106,12 +103,11 @@ first_read sql query given params old new r Found idle mode law survives row are
 pub rows_read : {X : Type 0} (items : X → List Row) (sql : List ℕ) → IsQuery sql → (given params : Row) (old new : State) (r : Result X Fault) (Found : Tables → X → Type 0) → IsIdle old
     → (old.in_transaction ≡ false → new.in_transaction ≡ false) → Settles new → Survives old new (CommitsShowing sql given old)
     → (HasCleanDisk new → IfOk r (λ x. Shown sql given old new (items x))) → (HasCleanDisk new → IfErr r (IsFaultOf sql given old new)) → given ≡ params → IsSure office_schema sql params
-    → ((t : Tables) → Shows old t → IfOk r (λ x. Shown sql params old new (items x)) → IfErr r (IsFaultOf sql params old new) → IfOk r (Found t)) → IsRead old new r Found
+    → ((t : Tables) → Shows old t → IfOk r (λ x. Shown sql params old new (items x)) → IfOk r (Found t)) → IsRead old new r Found
 rows_read items sql query given params old new r Found idle mode law survives rows fault are sure finds =
     read_of old new r Found idle (mode idle.autocommit) (rows_asked sql query given old new items r rows fault survives) law
     (λ t shows clean. rows_fault (HasFailed old new) sql given old new (fails_of sql query given params old new idle are sure t shows) r (fault clean))
-    (λ t shows clean.
-    finds t shows (subst (λ (p : Row). IfOk r (λ x. Shown sql p old new (items x))) are (rows clean)) (subst (λ (p : Row). IfErr r (IsFaultOf sql p old new)) are (fault clean)))
+    (λ t shows clean. finds t shows (subst (λ (p : Row). IfOk r (λ x. Shown sql p old new (items x))) are (rows clean)))
 
 -- nothing is read where there is no memory
 pub fails_unread : {X : Type 0} (s : State) (f : Fault) (Found : Tables → X → Type 0) → IsIdle s → f ≡ NoMemory witness → Settles s → IsRead {A = X} s s (Err f) Found

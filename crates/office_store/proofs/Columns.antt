@@ -1,5 +1,5 @@
 -- What a test of one column says of it, and the forms of columns.
-use Rattle.std.proofs.Common.{◌≡◌, ℕ, ℤ, pos, zero, suc, ◌<◌, List, [], ◌∷◌, Bool, true, false, cond, Some, refl, sym, ap, ◌∙◌, arith}
+use Rattle.std.proofs.Common.{◌≡◌, ℕ, ℤ, pos, zero, suc, ◌<◌, List, [], ◌∷◌, Bool, true, false, cond, refl, sym, ap, ◌∙◌, arith}
 use Rattle.std.specs.Prelude.{bytes_eq, ◌&&◌, ◌||◌, ◌==◌, IsUtf8, length, nat_le}
 use Rattle.std.specs.List.{list_all}
 use Rattle.std.specs.Str.{IsAscii}
@@ -15,21 +15,18 @@ use Rattle.sqlite.specs.declared.types.Value.TheVariants.{Null, Int, Text, Blob}
 use Rattle.sqlite.specs.Cast.{cast}
 use Rattle.sqlite.specs.Kind.TheVariants.{Integer}
 use Rattle.sqlite.specs.Term.{Term, col, op2}
-use Rattle.sqlite.specs.Ops.{unary, binary, is_true, from_truth}
+use Rattle.sqlite.specs.Ops.{unary, binary, is_true}
 use Rattle.sqlite_sql.specs.declared.ops.BinaryOp.TheVariants.{Compare}
 use Rattle.sqlite_sql.specs.declared.ops.CompareOp.TheVariants.{Eq}
 use Rattle.sqlite.specs.Collation.TheVariants.{Binary}
 use Rattle.sqlite_value.specs.Order.{value_cmp}
 use Rattle.sqlite_value.proofs.OrderLemmas.{value_cmp-Int, value_cmp-Text, value_cmp-Blob}
 use Rattle.review_policy.specs.Words.{is_word, is_word_byte}
+use Rattle.office_rows.proofs.Plain.{from_test}
 
 -- a column of the table's row is a parameter
 abbrev pub column_is : ℕ → ℕ → Term
 column_is c p = op2 (Compare Eq Binary) (col 1 c) (col 0 p)
-
-from_test : (b : Bool) → is_true (from_truth (Some b)) ≡ b
-from_test true = refl
-from_test false = refl
 
 bytes_eq_sym : (a b : List ℕ) → bytes_eq a b ≡ bytes_eq b a
 bytes_eq_sym a b = both_ways _ _ (λ e. (bytes_eq-Decides b a).1 (sym ((bytes_eq-Decides a b).0 e))) (λ e. (bytes_eq-Decides a b).1 (sym ((bytes_eq-Decides b a).0 e)))
@@ -79,18 +76,18 @@ four_are a b c d x y z w e f g h = (λ i. e i && three_are b c d y z w f g h i) 
 byte_below : (b : ℕ) → is_word_byte b ≡ true → b < 128
 byte_below b e = grind (arith, nat_tests)
 
-first_both : (a b : Bool) → (a && b) ≡ true → (a ≡ true) × (b ≡ true)
-first_both true b e = (refl, e)
-first_both false b e = absurd cc
+pub both_true : (a b : Bool) → (a && b) ≡ true → (a ≡ true) × (b ≡ true)
+both_true true b e = (refl, e)
+both_true false b e = absurd cc
 
 bytes_below : (bytes : List ℕ) → list_all is_word_byte bytes ≡ true → IsAscii bytes
 bytes_below [] all i = omega arith
-bytes_below (b ∷ bytes) all zero = byte_below b (first_both (is_word_byte b) (list_all is_word_byte bytes) all).0
-bytes_below (b ∷ bytes) all (suc i) = bytes_below bytes (first_both (is_word_byte b) (list_all is_word_byte bytes) all).1 i
+bytes_below (b ∷ bytes) all zero = byte_below b (both_true (is_word_byte b) (list_all is_word_byte bytes) all).0
+bytes_below (b ∷ bytes) all (suc i) = bytes_below bytes (both_true (is_word_byte b) (list_all is_word_byte bytes) all).1 i
 
 pub word_is_utf8 : (bytes : List ℕ) → is_word bytes ≡ true → IsUtf8 bytes
 unfolding is_word
-word_is_utf8 bytes e = IsUtf8-from_ascii bytes (bytes_below bytes (first_both (nat_le 1 (length bytes) && nat_le (length bytes) 64) (list_all is_word_byte bytes) e).1)
+word_is_utf8 bytes e = IsUtf8-from_ascii bytes (bytes_below bytes (both_true (nat_le 1 (length bytes) && nat_le (length bytes) 64) (list_all is_word_byte bytes) e).1)
 
 -- ---- a column of a STRICT table keeps a value of its kind
 

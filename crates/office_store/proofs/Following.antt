@@ -6,7 +6,7 @@ use Rattle.std.specs.Ordering.{nat_cmp, ordering_then}
 use Rattle.std.proofs.lemmas.Bool.Decides.{nat_tests}
 use Rattle.review_policy.specs.Words.{is_word, is_word_byte}
 use Rattle.office_tables.specs.Lists.{name_cmp}
-use Rattle.office_store.proofs.Profiles.{both_true}
+use Rattle.office_store.proofs.Columns.{both_true}
 
 byte_above : (b : ℕ) → is_word_byte b ≡ true → 32 < b
 byte_above b e = grind (arith, nat_tests)

@@ -1,5 +1,6 @@
 pub mod Columns
 pub mod Kept
+pub mod RowsOf
 pub mod UserReads
 pub mod Committed
 pub mod Lenses

@@ -1,11 +1,9 @@
--- What a query of several rows leaves of an office, and names in the order of their bytes.
-use Rattle.std.proofs.Common.{inl, ◌≡◌, ◌≢◌, ℕ, zero, suc, ◌<◌, ◌+◌, List, [], ◌∷◌, ◌++◌, map, take, length, get_or, false, Option, Result, Ok, Err, IfOk, IfErr, Equal, refl, sym, ap, subst, ◌∙◌, arith, add-one, inr, ◌≤◌}
-use Rattle.std.specs.Prelude.{OnOk, OnErr}
+-- What a query of several rows shows of an office, and names in the order of their bytes.
+use Rattle.std.proofs.Common.{inl, ◌≡◌, ℕ, zero, suc, ◌<◌, ◌+◌, List, [], ◌∷◌, ◌++◌, map, take, length, get_or, Bool, true, false, Result, IfOk, Equal, refl, sym, ap, subst, ◌∙◌, arith, add-one, inr, true≢false}
 use Rattle.std.specs.List.{AllPairs, AllByRecursion}
+use Rattle.std.specs.List.Sorted.{IsPermutation}
 use Rattle.std.specs.Ordering.{is_eq, ordering_then}
-use Rattle.std.proofs.Math.ListN.{length-map}
-use Rattle.std.proofs.lemmas.List.{take_all}
-use Rattle.std.proofs.lemmas.Result.{IfOk-weaker, IfErr-weaker, IfErr-at_err}
+use Rattle.std.proofs.lemmas.Result.{IfOk-weaker}
 use Rattle.std.proofs.lemmas.Map.Text.{is_eq-slice_cmp}
 use Rattle.std.proofs.lemmas.Slice.Eq.{bytes_eq-Decides}
 use Rattle.sqlite.specs.declared.types.Value.TheVariants.{Text}
@@ -13,7 +11,7 @@ use Rattle.sqlite.specs.Order.{Row}
 use Rattle.sqlite.specs.Query.{Query, IsAnswer}
 use Rattle.sqlite.specs.Program.{overlay}
 use Rattle.sqlite.specs.Command.TheVariants.{Select}
-use Rattle.sqlite.specs.State.{State, IsUnchanged, Shown}
+use Rattle.sqlite.specs.State.{State, Shown}
 use Rattle.sqlite_value.specs.Order.{value_cmp}
 use Rattle.sqlite_value.proofs.OrderLemmas.{value_cmp-Text, then-Equal}
 use Rattle.sqlite_trees.specs.Tree.{IsAscending}
@@ -22,55 +20,35 @@ use Rattle.sqlite_rules.specs.Lists.{Has}
 use Rattle.office_tables.specs.Tables.{Tables}
 use Rattle.office_tables.specs.Lists.{name_cmp}
 use Rattle.review_policy.specs.declared.fault.Fault.{Fault}
-use Rattle.review_policy.specs.declared.fault.Fault.TheVariants.{NotAnOffice}
-use Rattle.office_rows.specs.Faults.{FindsRow}
-use Rattle.office_rows.specs.Rows.{IsFaultOf}
+use Rattle.office_rows.specs.Entries.{HaveOwnKeys}
 use Rattle.office_rows.proofs.Plain.{Means}
-use Rattle.office_rows.proofs.Asked.{shown_same, shown_answer, fault_kept, found_same}
+use Rattle.office_rows.proofs.Asked.{shown_answer}
+use Rattle.office_rows.proofs.InOrder.{ascending_permuted}
 use Rattle.office_store.specs.Schema.{office_schema}
-use Rattle.office_store.specs.Shown.{Shows, ShowsIfOpen}
-use Rattle.office_store.proofs.Kept.{still_shows}
+use Rattle.office_store.specs.Shown.{Shows}
 
--- a connection that a query left as it was shows what it showed
-pub shows_again : (old new : State) (t : Tables) → Shows old t → IsUnchanged old new → Shows new t
-shows_again old new t shows same = record {
-  is_open = same.0.is_open;
-  settled = same.0.now_is ∙ shows.settled ∙ sym same.0.committed_is;
-  office = rw same.0.now_is shows.office;
-}
+-- what all rows of a query show of an office
+pub list_read : (q : Query) (sql : List ℕ) (params : Row) (names : List (List ℕ)) (means : Means office_schema sql (Select (record { lets = []; body = q }) names)) (old new : State) (t : Tables) (shows : Shows old t)
+    {X : Type 0} (items : X → List Row) (R : List Row → Type 0) → ((rows : List Row) → IsAnswer q (overlay old.now.trees []) params rows → R rows)
+    → (r : Result X Fault) → IfOk r (λ x. Shown sql params old new (items x)) → IfOk r (λ x. R (items x))
+list_read q sql params names means old new t shows items R right r =
+    IfOk-weaker r (λ x. Shown sql params old new (items x)) (λ x. R (items x)) (λ x h. right (items x) (shown_answer q office_schema sql params names means old new shows.office.schema (items x) h))
 
--- a read found what it should, never faults the form of the tables, and leaves them shown
-pub record IsReadOf {X : Type 0} (new : State) (t : Tables) (R : X → Type 0) (r : Result X Fault) : Type 0 where
-  pub found : IfOk r R
-  pub formed : r ≢ Err NotAnOffice
-  pub shown : OnOk r (Shows new t)
-  pub same : ShowsIfOpen new t
+-- ---- entries with keys of their own, in any order
 
-either_way : {X : Type 0} (new : State) (t : Tables) (r : Result X Fault) → OnOk r (Shows new t) → OnErr r (ShowsIfOpen new t) → ShowsIfOpen new t
-either_way new t (Ok x) shows fault = λ is_open. shows
-either_way new t (Err f) shows fault = fault
+module _ {K X : Type 0} (is_at : K → X → Bool) where
+  abbrev pub HaveOwn : X → X → Type 0
+  HaveOwn a b = (k : K) → is_at k a ≡ true → is_at k b ≡ false
 
-module _ (q : Query) (sql : List ℕ) (params : Row) (names : List (List ℕ)) (means : Means office_schema sql (Select (record { lets = []; body = q }) names))
-    (old new : State) (t : Tables) (shows : Shows old t) where
-  module _ (idle : old.in_transaction ≡ false) where
-    -- a query of all its rows
-    pub list_read : {X : Type 0} (items : X → List Row) (R : List Row → Type 0) → ((rows : List Row) → IsAnswer q (overlay old.now.trees []) params rows → R rows)
-        → (r : Result X Fault) → IfOk r (λ x. Shown sql params old new (items x)) → IfErr r (IsFaultOf sql params old new) → IsReadOf new t (λ x. R (items x)) r
-    list_read items R right r rows fault =
-        let schema = shows.office.schema in
-        let shown = IfOk-weaker r (λ x. Shown sql params old new (items x)) (λ _. Shows new t) (λ x h. shows_again old new t shows (shown_same q office_schema sql params names means old new schema (items x) h)) rows in
-        let failed = fault_kept q office_schema sql params names means old new schema shows.settled idle in
-        record {
-          found = IfOk-weaker r (λ x. Shown sql params old new (items x)) (λ x. R (items x)) (λ x h. right (items x) (shown_answer q office_schema sql params names means old new schema (items x) h)) rows;
-          formed = λ same. (failed NotAnOffice (IfErr-at_err (IsFaultOf sql params old new) same fault)).0 refl;
-          shown = shown;
-          same = either_way new t r shown (IfErr-weaker r (IsFaultOf sql params old new) (λ _. ShowsIfOpen new t) (λ f h. still_shows old new t shows (failed f h).1) fault);
-        }
+  own_back : (a b : X) → HaveOwn a b → HaveOwn b a
+  own_back a b own k here = go (is_at k a) refl
+    where
+      go : (v : Bool) → is_at k a ≡ v → is_at k a ≡ false
+      go true e = absurd (true≢false (sym here ∙ own k e))
+      go false e = e
 
-    -- the connection shows the tables after a query of the first row
-    pub first_shows : (r : Result (Option Row) Fault) → FindsRow sql params old new r → OnOk r (Shows new t)
-    first_shows (Ok row) h = shows_again old new t shows (found_same q office_schema sql params names means old new shows.office.schema shows.settled idle row h)
-    first_shows (Err f) h = tt
+  pub own_permuted : (xs ys : List X) → IsPermutation xs ys → HaveOwnKeys is_at xs → HaveOwnKeys is_at ys
+  own_permuted = ascending_permuted HaveOwn own_back
 
 -- ---- the order of names
 

@@ -1,6 +1,6 @@
 -- What the read of a team's revisions finds.
-use Rattle.std.proofs.Common.{◌≡◌, ◌≢◌, ℕ, ℤ, pos, List, [], ◌∷◌, codes, map, Some, Result, IfOk, IfErr, Bool, true, false, Ordering, Less, Equal, Greater, refl, sym, ap, subst, ◌∙◌, arith, true≢false}
-use Rattle.std.specs.Prelude.{◌==◌, bytes_eq, filter}
+use Rattle.std.proofs.Common.{◌≡◌, ◌≢◌, ℕ, ℤ, pos, List, [], ◌∷◌, codes, map, Some, Result, IfOk, Bool, true, Ordering, Less, Equal, Greater, refl, sym, ap, subst, ◌∙◌, arith, true≢false}
+use Rattle.std.specs.Prelude.{bytes_eq, filter}
 use Rattle.std.specs.List.{list_all}
 use Rattle.std.specs.Ordering.{nat_cmp, int_cmp, ordering_then}
 use Rattle.std.proofs.lemmas.Bool.Decides.{nat_tests}
@@ -30,23 +30,23 @@ use Rattle.office_tables.specs.declared.row.RevisionRow.{RevisionRow}
 use Rattle.office_tables.specs.declared.listed.ListedRevision.{ListedRevision}
 use Rattle.review_policy.specs.declared.fault.Fault.{Fault}
 use Rattle.office_tables.specs.Tables.{Tables}
-use Rattle.office_tables.specs.Lists.{listed_cmp, profile_of, IsListed}
+use Rattle.office_tables.specs.Lists.{listed_cmp, profile_of, IsListed, AreRevisionsOf}
 use Rattle.office_rows.specs.Entries.{row_of}
-use Rattle.office_rows.specs.Rows.{IsFaultOf}
 use Rattle.office_rows.proofs.Rowids.{has_mapped, mapped_has, has_permuted}
 use Rattle.office_rows.proofs.Plain.{Means}
 use Rattle.office_rows.proofs.Stored.{own-filter}
-use Rattle.office_rows.proofs.InOrder.{ordered_query, order_cmp, order_cmp_total, rises, ascending_permuted, ShowsInOrder}
+use Rattle.office_rows.proofs.InOrder.{ordered_query, order_cmp, order_cmp_total, rises, ShowsInOrder}
 use Rattle.office_rows.proofs.Asked.{table_in_order}
 use Rattle.office_store.specs.declared.listing.TheConstants.{REVISIONS_OF}
 use Rattle.office_store.specs.Schema.{office_schema}
-use Rattle.office_store.specs.Entries.{Revision, revision_row, revision_key, IsRevision, state_number}
-use Rattle.office_store.specs.Lists.{listed_row, IsListedForm, AreListedRows}
+use Rattle.office_store.specs.Entries.{Revision, revision_row, revision_key, IsRevision}
+use Rattle.office_store.specs.Lists.{listed_row, IsListedForm}
 use Rattle.office_store.specs.Shown.{Shows}
 use Rattle.office_store.proofs.Columns.{column_is, text_is, one_is}
-use Rattle.office_store.proofs.Profiles.{revisions_decide, same_state}
+use Rattle.office_store.proofs.Profiles.{revisions_decide}
 use Rattle.office_store.proofs.RevisionReads.{is_at, stands, found_at}
-use Rattle.office_store.proofs.ListReads.{IsReadOf, list_read, same_name, all_pairs, ascending_where}
+use Rattle.office_store.proofs.ListReads.{list_read, HaveOwn, own_permuted, same_name, all_pairs, ascending_where}
+use Rattle.office_store.proofs.RowsOf.{AreRowsOf}
 
 abbrev shown_columns : List Term
 shown_columns = col 1 2 ∷ col 1 3 ∷ col 1 5 ∷ []
@@ -114,17 +114,7 @@ tied_keys team a b of_a of_b tie =
     let same = sym ((bytes_eq-Decides team a.0.team).0 of_a) ∙ (bytes_eq-Decides team b.0.team).0 of_b in
     λ i. (record { team = same i; profile = profile i }, number i)
 
-abbrev HaveOwn : Revision → Revision → Type 0
-HaveOwn a b = (k : ProfileName × ℕ) → is_at k a ≡ true → is_at k b ≡ false
-
-own_back : (a b : Revision) → HaveOwn a b → HaveOwn b a
-own_back a b own k here = go (is_at k a) refl
-  where
-    go : (v : Bool) → is_at k a ≡ v → is_at k a ≡ false
-    go true e = absurd (true≢false (sym here ∙ own k e))
-    go false e = e
-
-own_apart : (team : List ℕ) (a b : Revision) → is_of team a ≡ true → is_of team b ≡ true → HaveOwn a b → cmp a b ≢ Equal
+own_apart : (team : List ℕ) (a b : Revision) → is_of team a ≡ true → is_of team b ≡ true → HaveOwn is_at a b → cmp a b ≢ Equal
 own_apart team a b of_a of_b own tie =
     let k = revision_key a in
     true≢false (sym ((revisions_decide k (revision_key b)).1 (tied_keys team a b of_a of_b tie)) ∙ own k ((revisions_decide k k).1 refl))
@@ -152,17 +142,17 @@ module _ (old new : State) (t : Tables) (shows : Shows old t) where
         λ i. record { profile = sym profile i; number = sym number i; state = state i },
       )
 
-  listed_rows : (team : List ℕ) (rows : List Row) → ShowsInOrder key shown by_name_and_number (filter (is_of team) entries) rows → AreListedRows t team rows
+  listed_rows : (team : List ℕ) (rows : List Row) → ShowsInOrder key shown by_name_and_number (filter (is_of team) entries) rows → AreRowsOf listed_row IsListedForm (AreRevisionsOf t team) rows
   listed_rows team rows it =
       let back = IsPermutation-sym (filter (is_of team) entries) it.from it.same in
       let all_of = all_from (λ e. is_of team e ≡ true) it.from (λ e h. (has_filtered (is_of team) entries e (has_permuted it.from (filter (is_of team) entries) e back h)).1) in
-      let own = ascending_permuted HaveOwn own_back (filter (is_of team) entries) it.from it.same (own-filter is_at (is_of team) entries shows.office.revisions.own_keys) in
-      let apart = ascending_where (λ e. is_of team e ≡ true) HaveOwn (λ a b. cmp a b ≢ Equal) (own_apart team) it.from all_of own in
+      let own = own_permuted is_at (filter (is_of team) entries) it.from it.same (own-filter is_at (is_of team) entries shows.office.revisions.own_keys) in
+      let apart = ascending_where (λ e. is_of team e ≡ true) (HaveOwn is_at) (λ a b. cmp a b ≢ Equal) (own_apart team) it.from all_of own in
       let rising = rises cmp (order_cmp_total key shown by_name_and_number) it.from it.sorted apart in
       record {
-        listed = map listed_of it.from;
+        values = map listed_of it.from;
         rows_are = it.rows_are ∙ sym (map-map listed_row listed_of it.from);
-        revisions = record {
+        these = record {
           rising = all_pairs (λ a b. listed_cmp a b ≡ Less) (map listed_of it.from)
               (ascending-map (λ a b. listed_cmp a b ≡ Less) listed_of it.from (ascending_weaker (λ a b. cmp a b ≡ Less) (λ a b. listed_cmp (listed_of a) (listed_of b) ≡ Less) (λ a b less. sym (order_is a b) ∙ less) it.from rising));
           each = λ l there.
@@ -181,19 +171,8 @@ module _ (old new : State) (t : Tables) (shows : Shows old t) where
             record { profile = formed.profile.profile; number = formed.number }));
       }
 
-  pub reads_listed : (idle : old.in_transaction ≡ false) {X : Type 0} (items : X → List Row) (team : List ℕ) (r : Result X Fault) → IfOk r (λ x. Shown REVISIONS_OF.now (Text team ∷ []) old new (items x))
-      → IfErr r (IsFaultOf REVISIONS_OF.now (Text team ∷ []) old new) → IsReadOf new t (λ x. AreListedRows t team (items x)) r
-  reads_listed idle items team =
+  pub reads_listed : (team : List ℕ) (r : Result (List Row) Fault) → IfOk r (λ rows. Shown REVISIONS_OF.now (Text team ∷ []) old new rows) → IfOk r (AreRowsOf listed_row IsListedForm (AreRevisionsOf t team))
+  reads_listed team =
       let o = shows.office in
-      list_read _ REVISIONS_OF.now (Text team ∷ []) names listed_mean old new t shows idle items (AreListedRows t team)
+      list_read _ REVISIONS_OF.now (Text team ∷ []) names listed_mean old new t shows (λ rows. rows) (AreRowsOf listed_row IsListedForm (AreRevisionsOf t team))
       (λ rows a. listed_rows team rows (table_in_order revision_row key shown (is_of team) shown_columns of_team by_name_and_number (Text team ∷ []) (team_tested team) (λ k. refl) (keyed team) _ 4 rows o.revisions.entries o.revisions.kept a))
-
--- ---- one row
-
-pub same_listed : (a b : ListedRevision) → listed_row a ≡ listed_row b → a ≡ b
-same_listed a b same =
-    let profile : a.profile ≡ b.profile = cc in
-    let number : a.number ≡ b.number = cc in
-    let numbered : state_number a.state ≡ state_number b.state = cc in
-    let state : a.state ≡ b.state = same_state a.state b.state (subst (λ n. (state_number a.state == n) ≡ true) numbered (let k : (state_number a.state == state_number a.state) ≡ true = grind (arith, nat_tests) in k)) in
-    λ i. record { profile = profile i; number = number i; state = state i }

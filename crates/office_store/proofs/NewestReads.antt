@@ -1,8 +1,8 @@
 -- What the read of the newest revisions of a profile finds.
-use Rattle.std.proofs.Common.{inl, inr, ◌≡◌, ◌≢◌, ◌<◌, ℕ, zero, suc, ℤ, pos, List, [], ◌∷◌, codes, map, take, Some, Result, IfOk, IfErr, Bool, true, false, Ordering, Less, Equal, Greater, refl, sym, ap, subst, ◌∙◌, arith, true≢false}
-use Rattle.std.specs.Prelude.{◌&&◌, ◌==◌, nat_lt, filter}
+use Rattle.std.proofs.Common.{inl, inr, ◌≡◌, ◌≢◌, ◌<◌, ℕ, zero, suc, ℤ, pos, List, [], ◌∷◌, codes, map, take, Some, Result, IfOk, Bool, true, Ordering, Less, Equal, refl, sym, ap, subst, ◌∙◌, arith, true≢false}
+use Rattle.std.specs.Prelude.{◌&&◌, nat_lt, filter}
 use Rattle.std.specs.List.{list_all}
-use Rattle.std.specs.Ordering.{nat_cmp, int_cmp, ordering_then, is_lt}
+use Rattle.std.specs.Ordering.{nat_cmp, int_cmp, is_lt}
 use Rattle.std.proofs.lemmas.Bool.{lt-ltb, ltb-true}
 use Rattle.std.proofs.lemmas.Bool.Decides.{nat_tests}
 use Rattle.std.proofs.lemmas.List.{take-map}
@@ -10,7 +10,7 @@ use Rattle.std.proofs.lemmas.List.Sorted.{IsPermutation-sym}
 use Rattle.sqlite.specs.declared.types.Value.TheVariants.{Int}
 use Rattle.sqlite_sql.specs.declared.ops.BinaryOp.TheVariants.{Compare}
 use Rattle.sqlite_sql.specs.declared.ops.CompareOp.TheVariants.{Lt}
-use Rattle.sqlite.specs.Ops.{binary, is_true, from_truth}
+use Rattle.sqlite.specs.Ops.{binary, is_true}
 use Rattle.sqlite.specs.Order.{Row}
 use Rattle.sqlite.specs.Term.{Term, col, op2, holds}
 use Rattle.sqlite.specs.Query.{inner, end}
@@ -31,25 +31,25 @@ use Rattle.review_policy.specs.declared.ask.ProfileName.{ProfileName}
 use Rattle.office_tables.specs.declared.row.RevisionRow.{RevisionRow}
 use Rattle.review_policy.specs.declared.fault.Fault.{Fault}
 use Rattle.office_tables.specs.Tables.{Tables, is_profile}
-use Rattle.office_tables.specs.Lists.{told_revision}
+use Rattle.office_tables.specs.Lists.{told_revision, AreNewest}
 use Rattle.office_rows.specs.Entries.{row_of}
-use Rattle.office_rows.specs.Rows.{IsFaultOf}
 use Rattle.office_rows.proofs.Rowids.{has_mapped, mapped_has, has_permuted}
-use Rattle.office_rows.proofs.Plain.{Means}
+use Rattle.office_rows.proofs.Plain.{Means, from_test}
 use Rattle.office_rows.proofs.Stored.{own-filter}
-use Rattle.office_rows.proofs.InOrder.{order_cmp, order_cmp_total, rises, ascending_permuted, ShowsInOrder}
+use Rattle.office_rows.proofs.InOrder.{order_cmp, order_cmp_total, rises, ShowsInOrder}
 use Rattle.office_rows.proofs.Limited.{limited_query, whole, whole_answered, first_answered}
 use Rattle.office_rows.proofs.Asked.{table_in_order}
 use Rattle.office_store.specs.declared.newest.TheConstants.{NEWEST_BELOW}
 use Rattle.office_store.specs.Schema.{office_schema}
 use Rattle.office_store.specs.Entries.{Revision, revision_row, revision_key, IsRevision}
 use Rattle.office_store.specs.Keys.{revision_params}
-use Rattle.office_store.specs.Lists.{told_row, IsToldForm, AreNewestRows, most_read}
+use Rattle.office_store.specs.Lists.{told_row, IsToldForm, most_read}
 use Rattle.office_store.specs.Shown.{Shows}
-use Rattle.office_store.proofs.Columns.{column_is, text_is, three_are}
-use Rattle.office_store.proofs.Profiles.{both_true, same_profile, profiles_decide, revisions_decide}
+use Rattle.office_store.proofs.Columns.{both_true, column_is, text_is, three_are}
+use Rattle.office_store.proofs.Profiles.{same_profile, profiles_decide, revisions_decide}
 use Rattle.office_store.proofs.RevisionReads.{is_at, stands, found_at}
-use Rattle.office_store.proofs.ListReads.{IsReadOf, list_read, all_pairs, ascending_where}
+use Rattle.office_store.proofs.ListReads.{list_read, HaveOwn, own_permuted, all_pairs, ascending_where}
+use Rattle.office_store.proofs.RowsOf.{AreRowsOf}
 
 abbrev shown_columns : List Term
 shown_columns = col 1 3 ∷ col 1 5 ∷ col 1 7 ∷ col 1 4 ∷ []
@@ -85,10 +85,6 @@ passes p below e = is_profile p e.0 && nat_lt e.1.number below
 
 -- ---- the tests of the text
 
-from_test : (b : Bool) → is_true (from_truth (Some b)) ≡ b
-from_test true = refl
-from_test false = refl
-
 less_number : (a b : ℕ) → is_lt (int_cmp (pos a) (pos b)) ≡ nat_lt a b
 less_number a b = grind (arith, nat_tests)
 
@@ -122,17 +118,7 @@ tied_keys p below a b of_a of_b tie =
     let profile = sym (same_profile p a.0 (both_true (is_profile p a.0) (nat_lt a.1.number below) of_a).0) ∙ same_profile p b.0 (both_true (is_profile p b.0) (nat_lt b.1.number below) of_b).0 in
     λ i. (profile i, number i)
 
-abbrev HaveOwn : Revision → Revision → Type 0
-HaveOwn a b = (k : ProfileName × ℕ) → is_at k a ≡ true → is_at k b ≡ false
-
-own_back : (a b : Revision) → HaveOwn a b → HaveOwn b a
-own_back a b own k here = go (is_at k a) refl
-  where
-    go : (v : Bool) → is_at k a ≡ v → is_at k a ≡ false
-    go true e = absurd (true≢false (sym here ∙ own k e))
-    go false e = e
-
-own_apart : (p : ProfileName) (below : ℕ) (a b : Revision) → passes p below a ≡ true → passes p below b ≡ true → HaveOwn a b → cmp a b ≢ Equal
+own_apart : (p : ProfileName) (below : ℕ) (a b : Revision) → passes p below a ≡ true → passes p below b ≡ true → HaveOwn is_at a b → cmp a b ≢ Equal
 own_apart p below a b of_a of_b own tie =
     let k = revision_key a in
     true≢false (sym ((revisions_decide k (revision_key b)).1 (tied_keys p below a b of_a of_b tie)) ∙ own k ((revisions_decide k k).1 refl))
@@ -149,18 +135,18 @@ module _ (old new : State) (t : Tables) (shows : Shows old t) where
   abbrev entries : List Revision
   entries = shows.office.revisions.entries
 
-  newest_rows : (p : ProfileName) (below : ℕ) (all rows : List Row) → ShowsInOrder key shown falling (filter (passes p below) entries) all → rows ≡ take most_read all → AreNewestRows t p below rows
+  newest_rows : (p : ProfileName) (below : ℕ) (all rows : List Row) → ShowsInOrder key shown falling (filter (passes p below) entries) all → rows ≡ take most_read all → AreRowsOf told_row IsToldForm (AreNewest t p below most_read) rows
   newest_rows p below all rows it first =
       let back = IsPermutation-sym (filter (passes p below) entries) it.from it.same in
       let among = λ (e : Revision) (h : Has it.from e). has_filtered (passes p below) entries e (has_permuted it.from (filter (passes p below) entries) e back h) in
       let all_of = all_from (λ e. passes p below e ≡ true) it.from (λ e h. (among e h).1) in
-      let own = ascending_permuted HaveOwn own_back (filter (passes p below) entries) it.from it.same (own-filter is_at (passes p below) entries shows.office.revisions.own_keys) in
-      let apart = ascending_where (λ e. passes p below e ≡ true) HaveOwn (λ a b. cmp a b ≢ Equal) (own_apart p below) it.from all_of own in
+      let own = own_permuted is_at (filter (passes p below) entries) it.from it.same (own-filter is_at (passes p below) entries shows.office.revisions.own_keys) in
+      let apart = ascending_where (λ e. passes p below e ≡ true) (HaveOwn is_at) (λ a b. cmp a b ≢ Equal) (own_apart p below) it.from all_of own in
       let rising = rises cmp (order_cmp_total key shown falling) it.from it.sorted apart in
       record {
-        told = map told (take most_read it.from);
+        values = map told (take most_read it.from);
         rows_are = first ∙ ap (take most_read) it.rows_are ∙ take-map shown most_read it.from ∙ sym (map-map told_row told (take most_read it.from));
-        newest = record {
+        these = record {
           rows = map row_in it.from;
           below_it = record {
             falling = all_pairs (λ (a b : RevisionRow). b.number < a.number) (map row_in it.from)
@@ -188,11 +174,11 @@ module _ (old new : State) (t : Tables) (shows : Shows old t) where
             record { revision = formed.number; digest = formed.digest; by = formed.author }));
       }
 
-  pub reads_newest : (idle : old.in_transaction ≡ false) {X : Type 0} (items : X → List Row) (p : ProfileName) (below : ℕ) (r : Result X Fault) → IfOk r (λ x. Shown NEWEST_BELOW.now (revision_params p below) old new (items x))
-      → IfErr r (IsFaultOf NEWEST_BELOW.now (revision_params p below) old new) → IsReadOf new t (λ x. AreNewestRows t p below (items x)) r
-  reads_newest idle items p below =
+  pub reads_newest : (p : ProfileName) (below : ℕ) (r : Result (List Row) Fault) → IfOk r (λ rows. Shown NEWEST_BELOW.now (revision_params p below) old new rows)
+      → IfOk r (AreRowsOf told_row IsToldForm (AreNewest t p below most_read))
+  reads_newest p below =
       let o = shows.office in
-      list_read _ NEWEST_BELOW.now (revision_params p below) names newest_means old new t shows idle items (AreNewestRows t p below)
+      list_read _ NEWEST_BELOW.now (revision_params p below) names newest_means old new t shows (λ rows. rows) (AreRowsOf told_row IsToldForm (AreNewest t p below most_read))
       (λ rows a. newest_rows p below (whole shown_columns below_it (inner 4 end) falling most_read (overlay old.now.trees []) (revision_params p below) rows a) rows
       (table_in_order revision_row key shown (passes p below) shown_columns below_it falling (revision_params p below) (tested p below) (λ k. refl) (λ k. refl) _ 4 _ o.revisions.entries o.revisions.kept
       (whole_answered shown_columns below_it (inner 4 end) falling most_read (overlay old.now.trees []) (revision_params p below) rows a))

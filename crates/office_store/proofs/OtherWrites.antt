@@ -32,7 +32,8 @@ use Rattle.office_store.specs.Entries.{IsProfileName, VoteKey, VoteEntry, same_v
 use Rattle.office_store.specs.Steps.{statement, IsStep, AreSteps}
 use Rattle.office_store.proofs.Columns.{column_is, text_is, number_is, rowid_is, one_is, four_are, or_false, cast_null, cast_int}
 use Rattle.office_store.proofs.Lenses.{is_votes, is_baselines, is_holds, with_votes, with_baselines, with_holds}
-use Rattle.office_store.proofs.Profiles.{profile_params, at_profile, hold_tested, profiles_decide, votes_decide}
+use Rattle.office_store.specs.Keys.{profile_params}
+use Rattle.office_store.proofs.Profiles.{at_profile, hold_tested, profiles_decide, votes_decide}
 
 map_with : {X V : Type 0} (value : X → V) (b : Bool) (x : X) (o : Option X) → cond b (Some (value x)) (option_map value o) ≡ option_map value (cond b (Some x) o)
 map_with value true x o = refl

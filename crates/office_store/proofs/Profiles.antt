@@ -1,13 +1,12 @@
 -- Tests on the columns of profiles, revisions and votes.
-use Rattle.std.proofs.Common.{◌≡◌, ℕ, ℤ, pos, List, [], ◌∷◌, Bool, true, false, refl, sym, subst, arith}
+use Rattle.std.proofs.Common.{◌≡◌, ℕ, zero, suc, ℤ, pos, List, [], ◌∷◌, Bool, true, refl, sym, ap, ◌∙◌, subst, arith}
 use Rattle.std.specs.Prelude.{bytes_eq, ◌&&◌, ◌==◌}
 use Rattle.std.specs.Bool.{Decides}
 use Rattle.std.specs.List.{list_all}
 use Rattle.std.specs.Cmp.{both_ways}
 use Rattle.std.proofs.lemmas.Bool.Decides.{nat_tests}
 use Rattle.std.proofs.lemmas.Slice.Eq.{bytes_eq-Decides}
-use Rattle.sqlite.specs.declared.types.Value.TheVariants.{Int, Text}
-use Rattle.sqlite.specs.Order.{Row}
+use Rattle.sqlite.specs.declared.types.Value.TheVariants.{Int}
 use Rattle.sqlite.specs.Term.{Term, lit, col, op2, holds}
 use Rattle.sqlite.specs.Collation.TheVariants.{Binary}
 use Rattle.sqlite_sql.specs.declared.ops.BinaryOp.TheVariants.{Compare}
@@ -18,11 +17,8 @@ use Rattle.review_policy.specs.declared.revision.State.TheVariants.{Open, Closed
 use Rattle.office_tables.specs.Tables.{is_profile}
 use Rattle.office_rows.specs.Entries.{row_of}
 use Rattle.office_store.specs.Entries.{same_revision, same_vote, VoteKey, Revision, revision_key, revision_row, state_number, hold_row}
-use Rattle.office_store.proofs.Columns.{column_is, text_is, number_is, two_are, three_are}
-
-pub both_true : (a b : Bool) → (a && b) ≡ true → (a ≡ true) × (b ≡ true)
-both_true true b e = (refl, e)
-both_true false b e = absurd cc
+use Rattle.office_store.specs.Keys.{profile_params, revision_params}
+use Rattle.office_store.proofs.Columns.{both_true, column_is, text_is, number_is, two_are, three_are}
 
 -- a column of the table's row is a number that the text has
 abbrev pub number_in : ℕ → ℕ → Term
@@ -76,12 +72,6 @@ votes_decide a b = (
 
 -- ---- what the tests of the texts say of an entry
 
-abbrev pub profile_params : ProfileName → Row
-profile_params p = Text p.team ∷ Text p.profile ∷ []
-
-abbrev pub revision_params : ProfileName → ℕ → Row
-revision_params p n = Text p.team ∷ Text p.profile ∷ Int (pos n) ∷ []
-
 abbrev pub at_profile : List Term
 at_profile = column_is 1 0 ∷ column_is 2 1 ∷ []
 
@@ -107,32 +97,22 @@ in_state_of s = column_is 1 0 ∷ column_is 2 1 ∷ number_in 5 (state_number s)
 pub state_tested : (p : ProfileName) (s : State) (k : ℤ × Revision) → list_all (holds (profile_params p ∷ row_of revision_row k ∷ [])) (in_state_of s) ≡ is_in_state p s k.1
 state_tested p s k = three_are _ _ _ _ _ _ (text_is k.1.0.team p.team) (text_is k.1.0.profile p.profile) (number_is (state_number k.1.1.state) (state_number s))
 
+abbrev state_of : ℕ → State
+state_of zero = Open
+state_of (suc zero) = Closed
+state_of (suc (suc zero)) = Issued
+state_of (suc (suc (suc zero))) = Replaced
+state_of (suc (suc (suc (suc n)))) = Withdrawn
+
+state_back : (s : State) → state_of (state_number s) ≡ s
+state_back Open = refl
+state_back Closed = refl
+state_back Issued = refl
+state_back Replaced = refl
+state_back Withdrawn = refl
+
+pub numbered_as : (s r : State) → state_number s ≡ state_number r → s ≡ r
+numbered_as s r e = sym (state_back s) ∙ ap state_of e ∙ state_back r
+
 pub same_state : (s r : State) → (state_number s == state_number r) ≡ true → s ≡ r
 same_state s r e = numbered_as s r (same_number (state_number s) (state_number r) e)
-  where
-    numbered_as : (s r : State) → state_number s ≡ state_number r → s ≡ r
-    numbered_as Open Open e = refl
-    numbered_as Closed Closed e = refl
-    numbered_as Issued Issued e = refl
-    numbered_as Replaced Replaced e = refl
-    numbered_as Withdrawn Withdrawn e = refl
-    numbered_as Open Closed e = absurd (omega (arith, e))
-    numbered_as Open Issued e = absurd (omega (arith, e))
-    numbered_as Open Replaced e = absurd (omega (arith, e))
-    numbered_as Open Withdrawn e = absurd (omega (arith, e))
-    numbered_as Closed Open e = absurd (omega (arith, e))
-    numbered_as Closed Issued e = absurd (omega (arith, e))
-    numbered_as Closed Replaced e = absurd (omega (arith, e))
-    numbered_as Closed Withdrawn e = absurd (omega (arith, e))
-    numbered_as Issued Open e = absurd (omega (arith, e))
-    numbered_as Issued Closed e = absurd (omega (arith, e))
-    numbered_as Issued Replaced e = absurd (omega (arith, e))
-    numbered_as Issued Withdrawn e = absurd (omega (arith, e))
-    numbered_as Replaced Open e = absurd (omega (arith, e))
-    numbered_as Replaced Closed e = absurd (omega (arith, e))
-    numbered_as Replaced Issued e = absurd (omega (arith, e))
-    numbered_as Replaced Withdrawn e = absurd (omega (arith, e))
-    numbered_as Withdrawn Open e = absurd (omega (arith, e))
-    numbered_as Withdrawn Closed e = absurd (omega (arith, e))
-    numbered_as Withdrawn Issued e = absurd (omega (arith, e))
-    numbered_as Withdrawn Replaced e = absurd (omega (arith, e))

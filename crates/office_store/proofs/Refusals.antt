@@ -1,5 +1,5 @@
 -- Why SQLite refuses a statement of a write: it has no place for a row, and no key is at fault.
-use Rattle.std.proofs.Common.{inl, inr, ◌⊎◌, ◌≡◌, ◌≢◌, ℕ, ℤ, pos, List, [], ◌∷◌, map, Bool, true, false, cond, None, Some, IsTrue, refl, sym, ap, subst, ◌∙◌, true≢false, arith}
+use Rattle.std.proofs.Common.{inl, inr, ◌⊎◌, ◌≡◌, ℕ, ℤ, pos, List, [], ◌∷◌, map, Bool, true, false, cond, None, Some, IsTrue, refl, sym, ap, subst, ◌∙◌, true≢false, arith}
 use Rattle.std.specs.Prelude.{find, bytes_eq}
 use Rattle.std.specs.List.{AllByRecursion, list_all}
 use Rattle.std.proofs.lemmas.Slice.Eq.{bytes_eq-Decides}
@@ -23,7 +23,6 @@ use Rattle.sqlite_schema.specs.declared.schema.Index.{Index}
 use Rattle.sqlite_tied.specs.Compute.{everything}
 use Rattle.sqlite_trees.specs.Tree.{IsAscending}
 use Rattle.sqlite_value.specs.Keys.{first_key, plain}
-use Rattle.sqlite_value.specs.Order.{number}
 use Rattle.review_policy.specs.declared.ask.ProfileName.{ProfileName}
 use Rattle.review_policy.specs.declared.revision.State.{State}
 use Rattle.review_policy.specs.declared.revision.State.TheVariants.{Open, Closed, Issued, Replaced, Withdrawn}
@@ -59,7 +58,8 @@ use Rattle.office_store.specs.Steps.{IsStep}
 use Rattle.office_store.proofs.Columns.{column_is, text_is, blob_is, number_is, rowid_is, one_is, two_are, three_are, four_are}
 use Rattle.office_store.proofs.Lenses.{is_users, is_revisions, is_votes, is_baselines, is_holds}
 use Rattle.office_store.proofs.OtherWrites as other
-use Rattle.office_store.proofs.Profiles.{at_profile, at_revision, in_state_of, is_in_state, profile_params, profiles_decide, revision_params, revision_tested, state_tested, votes_decide}
+use Rattle.office_store.specs.Keys.{profile_params, revision_params}
+use Rattle.office_store.proofs.Profiles.{at_profile, at_revision, in_state_of, is_in_state, profiles_decide, revision_tested, state_tested, votes_decide}
 use Rattle.office_store.proofs.RevisionWrites as revisions
 use Rattle.office_store.proofs.UserWrites as users
 

@@ -32,7 +32,8 @@ use Rattle.office_store.specs.Entries.{Revision, same_revision, revision_key, re
 use Rattle.office_store.specs.Steps.{statement, IsStep, AreSteps}
 use Rattle.office_store.proofs.Columns.{cast_null, cast_int}
 use Rattle.office_store.proofs.Lenses.{is_revisions, with_revisions}
-use Rattle.office_store.proofs.Profiles.{profile_params, revision_params, at_revision, revision_tested, in_state_of, is_in_state, state_tested, revisions_decide, profile_sym}
+use Rattle.office_store.specs.Keys.{profile_params, revision_params}
+use Rattle.office_store.proofs.Profiles.{at_revision, revision_tested, in_state_of, is_in_state, state_tested, revisions_decide, profile_sym}
 
 -- ---- the texts
 

@@ -1,17 +1,15 @@
 -- What is read of all rows that a query found.
-use Rattle.std.proofs.Common.{inl, inr, ◌≡◌, ◌≢◌, ℕ, ◌<◌, ◌≤◌, ◌+◌, List, [], ◌∷◌, ◌++◌, map, take, get_or, length, Result, Ok, Err, IfOk, IfErr, Bool, true, false, Option, Some, None, arith, refl, sym, ap, ◌∙◌, subst}
+use Rattle.std.proofs.Common.{inl, inr, ◌≡◌, ◌≢◌, ℕ, ◌<◌, ◌≤◌, ◌+◌, List, [], ◌∷◌, ◌++◌, map, take, get_or, length, Result, Ok, Err, IfOk, IfErr, Bool, true, false, Option, Some, None, refl, sym, ap, ◌∙◌, subst}
 use Rattle.std.specs.List.{AllByRecursion}
 use Rattle.std.proofs.lemmas.List.{take_more, take_all, map-append}
 use Rattle.sqlite.specs.Order.{Row}
 use Rattle.sqlite.specs.State.{State, Shown}
-use Rattle.office_tables.specs.Tables.{Tables}
 use Rattle.review_policy.specs.declared.fault.Fault.{Fault}
-use Rattle.review_policy.specs.declared.fault.Fault.TheVariants.{NoMemory, NotAnOffice}
+use Rattle.review_policy.specs.declared.fault.Fault.TheVariants.{NotAnOffice}
 use Rattle.office_rows.specs.Rows.{IsFaultOf}
 use Rattle.office_rows.specs.Told.{IsOfRow, IsUnread, IsTold, TellsAll, FindsRows, map_ok}
 use Rattle.office_tables.specs.declared.listed.ListedRevision.{ListedRevision}
 use Rattle.review_policy.specs.declared.answer.ProfileRevision.{ProfileRevision}
-use Rattle.review_policy.specs.declared.revision.State.{State as State_}
 use Rattle.office_store.specs.Entries.{state_number, bit}
 use Rattle.review_policy.specs.Role.{has_role}
 use Rattle.review_policy.specs.declared.role.Role.TheVariants.{Reviewer, Security}
@@ -22,14 +20,9 @@ use Rattle.office_tables.specs.Lists.{holds_role, tally_of}
 use Rattle.office_store.specs.declared.numbers.Numbered.{Numbered}
 use Rattle.office_store.specs.Numbered.{numbered_row}
 use Rattle.office_store.specs.Lists.{number_row, name_row, listed_row, told_row, Cast, roles_of, cast_row, standing_of, IsCastForm, IsCastAs, AreCastAs, TellsVotes, TellsTally}
-use Rattle.office_store.specs.Shown.{Shows}
-use Rattle.office_store.specs.Calls.{IsRead}
-use Rattle.office_store.proofs.Calls.{read_told}
-use Rattle.office_store.proofs.Profiles.{same_state}
-use Rattle.std.specs.Prelude.{ℤ, pos, ◌==◌, ◌&&◌}
+use Rattle.office_store.proofs.Profiles.{numbered_as}
+use Rattle.std.specs.Prelude.{ℤ, pos, ◌&&◌}
 use Rattle.std.specs.Ordering.{int_eq}
-use Rattle.std.proofs.lemmas.Bool.Decides.{nat_tests}
-use Rattle.no_memory.specs.Witness.{witness}
 
 -- ---- a loop that reads each row
 
@@ -49,65 +42,29 @@ rows_found rows_of sql given params old new (Err f) shown fault are = subst (λ 
 
 -- ---- what is told of them
 
-module _ {V W X : Type 0} (rows_of : V → List Row) (items_of : W → List X) (encode : X → Row) (IsFormed : X → Type 0) where
-  pub all_failed : (found : Result V Fault) (r : Result W Fault) (f : Fault) → found ≡ Err f → r ≡ Err f → IsTold (TellsAll encode IsFormed) (map_ok found rows_of) (map_ok r items_of)
-  all_failed found r f is same =
-      subst (λ (o : Result V Fault). IsTold (TellsAll encode IsFormed) (map_ok o rows_of) (map_ok r items_of)) (sym is) (ap (λ (o : Result W Fault). map_ok o items_of) same)
+module _ {V W Y : Type 0} (Tells : List Row → Result (List Y) Fault → Type 0) (rows_of : V → List Row) (items_of : W → List Y) (found : Result V Fault) where
+  pub all_failed : (r : Result W Fault) (f : Fault) → found ≡ Err f → r ≡ Err f → IsTold Tells (map_ok found rows_of) (map_ok r items_of)
+  all_failed r f is same = subst (λ (o : Result V Fault). IsTold Tells (map_ok o rows_of) (map_ok r items_of)) (sym is) (ap (λ (o : Result W Fault). map_ok o items_of) same)
 
-  read_all : (rows : List Row) (r : Result W Fault) → IfOk r (λ w. rows ≡ map encode (items_of w)) → ((xs : List X) → rows ≡ map encode xs → AllByRecursion IsFormed xs → r ≢ Err NotAnOffice)
-      → IfErr r IsOfRow → TellsAll encode IsFormed rows (map_ok r items_of)
-  read_all rows (Ok w) read formed cause = read
-  read_all rows (Err f) read formed cause = elim cause [ inl memory ↦ inl memory | inr named ↦ inr (named, λ xs all is. formed xs is all (ap Err named)) ]
+  pub all_told : (v : V) → found ≡ Ok v → (rows : List Row) → rows ≡ rows_of v → (r : Result W Fault) → Tells rows (map_ok r items_of) → IsTold Tells (map_ok found rows_of) (map_ok r items_of)
+  all_told v is rows are r tells =
+      subst (λ (o : Result V Fault). IsTold Tells (map_ok o rows_of) (map_ok r items_of)) (sym is) (subst (λ (l : List Row). Tells l (map_ok r items_of)) are tells)
 
-  pub all_told : (found : Result V Fault) (v : V) → found ≡ Ok v → (rows : List Row) → rows ≡ rows_of v → (r : Result W Fault) → IfOk r (λ w. rows ≡ map encode (items_of w))
-      → ((xs : List X) → rows ≡ map encode xs → AllByRecursion IsFormed xs → r ≢ Err NotAnOffice) → IfErr r IsOfRow
-      → IsTold (TellsAll encode IsFormed) (map_ok found rows_of) (map_ok r items_of)
-  all_told found v is rows are r read formed cause =
-      subst (λ (o : Result V Fault). IsTold (TellsAll encode IsFormed) (map_ok o rows_of) (map_ok r items_of)) (sym is)
-      (subst (λ (l : List Row). TellsAll encode IsFormed l (map_ok r items_of)) are (read_all rows r read formed cause))
+unread_all : {X A : Type 0} (encode : X → Row) (IsFormed : X → Type 0) (rows : List Row) (f : Fault)
+    → ((xs : List X) → rows ≡ map encode xs → AllByRecursion IsFormed xs → ◌≢◌ {A = Result A Fault} (Err f) (Err NotAnOffice)) → IsOfRow f → IsUnread (map encode) (AllByRecursion IsFormed) rows f
+unread_all encode IsFormed rows f formed (inl memory) = inl memory
+unread_all encode IsFormed rows f formed (inr named) = inr (named, λ xs all is. formed xs is all (ap Err named))
 
-  -- a read of the tables, from its rows
-  pub list_read_told : (old new : State) (FoundRows : Tables → V → Type 0) (Found : Tables → W → Type 0) (found : Result V Fault) (r : Result W Fault) → IsRead old new found FoundRows
-      → IsTold (TellsAll encode IsFormed) (map_ok found rows_of) (map_ok r items_of)
-      → ((t : Tables) → Shows old t → (v : V) → FoundRows t v → (xs : List X) × AllByRecursion IsFormed xs × (rows_of v ≡ map encode xs) × ((w : W) → map encode (items_of w) ≡ map encode xs → Found t w))
-      → IsRead old new r Found
-  list_read_told old new FoundRows Found found r read told finds = read_told Tells old new FoundRows Found found r read (each found r told)
-      (λ t shows v rows w tells. let it = finds t shows v rows in it.3 w (sym tells ∙ it.2))
-      (λ t shows v rows f. let it = finds t shows v rows in never v it.0 it.1 it.2 f)
-    where
-      Tells : V → Result W Fault → Type 0
-      Tells v s = TellsAll encode IsFormed (rows_of v) (map_ok s items_of)
-
-      each : (found : Result V Fault) (r : Result W Fault) → IsTold (TellsAll encode IsFormed) (map_ok found rows_of) (map_ok r items_of) → IsTold Tells found r
-      each (Ok v) r told = told
-      each (Err e) (Ok w) told = absurd cc
-      each (Err e) (Err f) told = let same : f ≡ e = cc in ap Err same
-
-      never : (v : V) (xs : List X) → AllByRecursion IsFormed xs → rows_of v ≡ map encode xs → (f : Fault) → Tells v (Err f) → f ≡ NoMemory witness
-      never v xs all is f (inl memory) = memory
-      never v xs all is f (inr unread) = absurd (unread.1 xs all is)
-
--- rows that tell their values tell the lists apart
-pub same_list : {X : Type 0} (f : X → Row) → ((x y : X) → f x ≡ f y → x ≡ y) → (xs ys : List X) → map f xs ≡ map f ys → xs ≡ ys
-same_list f one [] [] same = λ _. []
-same_list f one [] (y ∷ ys) same = absurd cc
-same_list f one (x ∷ xs) [] same = absurd cc
-same_list f one (x ∷ xs) (y ∷ ys) same =
-    let head : f x ≡ f y = cc in
-    let tail : map f xs ≡ map f ys = cc in
-    λ i. one x y head i ∷ same_list f one xs ys tail i
+pub tells_all : {W X : Type 0} (items_of : W → List X) (encode : X → Row) (IsFormed : X → Type 0) (rows : List Row) (r : Result W Fault) → IfOk r (λ w. rows ≡ map encode (items_of w))
+    → ((xs : List X) → rows ≡ map encode xs → AllByRecursion IsFormed xs → r ≢ Err NotAnOffice) → IfErr r IsOfRow → TellsAll encode IsFormed rows (map_ok r items_of)
+tells_all items_of encode IsFormed rows (Ok w) read formed cause = read
+tells_all items_of encode IsFormed rows (Err f) read formed cause = unread_all encode IsFormed rows f formed cause
 
 pub same_name_row : (a b : List ℕ) → name_row a ≡ name_row b → a ≡ b
 same_name_row a b same = let k : a ≡ b = cc in k
 
-pub same_number_row : (a b : ℕ) (row : Row) → row ≡ number_row a → row ≡ number_row b → a ≡ b
-same_number_row a b row is other = let same : number_row a ≡ number_row b = sym is ∙ other in let k : a ≡ b = cc in k
-
-numbered_as : (s r : State_) → state_number s ≡ state_number r → s ≡ r
-numbered_as s r same = same_state s r (both same)
-  where
-    both : state_number s ≡ state_number r → (state_number s == state_number r) ≡ true
-    both e = grind (arith, nat_tests)
+pub same_number_row : (a b : ℕ) → number_row a ≡ number_row b → a ≡ b
+same_number_row a b same = let k : a ≡ b = cc in k
 
 pub same_listed_row : (a b : ListedRevision) → listed_row a ≡ listed_row b → a ≡ b
 same_listed_row a b same =
@@ -117,9 +74,8 @@ same_listed_row a b same =
     let state = numbered_as a.state b.state numbers in
     λ i. record { profile = profile i; number = number i; state = state i }
 
-pub same_numbered_row : (a b : Numbered) (row : Row) → row ≡ numbered_row a → row ≡ numbered_row b → a ≡ b
-same_numbered_row a b row is other =
-    let same : numbered_row a ≡ numbered_row b = sym is ∙ other in
+pub same_numbered_row : (a b : Numbered) → numbered_row a ≡ numbered_row b → a ≡ b
+same_numbered_row a b same =
     let number : a.number ≡ b.number = cc in
     let numbers : state_number a.state ≡ state_number b.state = cc in
     let state = numbered_as a.state b.state numbers in
@@ -187,22 +143,10 @@ same_standings (x ∷ xs) (y ∷ ys) same =
     let rest : map cast_row xs ≡ map cast_row ys = cc in
     λ i. same_standing x y first i ∷ same_standings xs ys rest i
 
-pub votes_failed : {V W : Type 0} (rows_of : V → List Row) (items_of : W → List VoteRow) (found : Result V Fault) (r : Result W Fault) (f : Fault) → found ≡ Err f → r ≡ Err f
-    → IsTold TellsVotes (map_ok found rows_of) (map_ok r items_of)
-votes_failed {V} {W} rows_of items_of found r f is same =
-    subst (λ (o : Result V Fault). IsTold TellsVotes (map_ok o rows_of) (map_ok r items_of)) (sym is) (ap (λ (o : Result W Fault). map_ok o items_of) same)
-
-pub votes_told : {V W : Type 0} (rows_of : V → List Row) (items_of : W → List VoteRow) (found : Result V Fault) (v : V) → found ≡ Ok v → (rows : List Row) → rows ≡ rows_of v → (r : Result W Fault)
-    → IfOk r (λ w. AreCastAs rows (items_of w)) → ((cast : List Cast) → rows ≡ map cast_row cast → AllByRecursion IsCastForm cast → r ≢ Err NotAnOffice) → IfErr r IsOfRow
-    → IsTold TellsVotes (map_ok found rows_of) (map_ok r items_of)
-votes_told {V} {W} rows_of items_of found v is rows are r read formed cause =
-    subst (λ (o : Result V Fault). IsTold TellsVotes (map_ok o rows_of) (map_ok r items_of)) (sym is)
-    (subst (λ (l : List Row). TellsVotes l (map_ok r items_of)) are (each r read formed cause))
-  where
-    each : (r : Result W Fault) → IfOk r (λ w. AreCastAs rows (items_of w)) → ((cast : List Cast) → rows ≡ map cast_row cast → AllByRecursion IsCastForm cast → r ≢ Err NotAnOffice) → IfErr r IsOfRow
-        → TellsVotes rows (map_ok r items_of)
-    each (Ok w) read formed cause = read
-    each (Err f) read formed cause = elim cause [ inl memory ↦ inl memory | inr named ↦ inr (named, λ xs all is. formed xs is all (ap Err named)) ]
+pub tells_votes : {W : Type 0} (items_of : W → List VoteRow) (rows : List Row) (r : Result W Fault) → IfOk r (λ w. AreCastAs rows (items_of w))
+    → ((cast : List Cast) → rows ≡ map cast_row cast → AllByRecursion IsCastForm cast → r ≢ Err NotAnOffice) → IfErr r IsOfRow → TellsVotes rows (map_ok r items_of)
+tells_votes items_of rows (Ok w) read formed cause = read
+tells_votes items_of rows (Err f) read formed cause = unread_all cast_row IsCastForm rows f formed cause
 
 abbrev pub TalliesAs : Result (List VoteRow) Fault → Result Tally Fault → Type 0
 TalliesAs (Ok votes) (Ok tally) = tally ≡ tally_of votes

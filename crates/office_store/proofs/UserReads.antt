@@ -1,6 +1,6 @@
 -- What the reads of users find.
-use Rattle.std.proofs.Common.{◌≡◌, ℕ, ℤ, List, [], ◌∷◌, codes, None, Some, Ok, Err, Result, Option, IfOk, Bool, refl, sym, subst, ◌∙◌, false}
-use Rattle.std.specs.Prelude.{bytes_eq, option_map}
+use Rattle.std.proofs.Common.{◌≡◌, ℕ, ℤ, List, [], ◌∷◌, codes, Some, Result, Option, IfOk, Bool, refl, sym, ◌∙◌}
+use Rattle.std.specs.Prelude.{bytes_eq}
 use Rattle.std.specs.List.{list_all}
 use Rattle.std.proofs.lemmas.Slice.Eq.{bytes_eq-Decides}
 use Rattle.sqlite.specs.declared.types.Value.TheVariants.{Text, Blob}
@@ -14,17 +14,19 @@ use Rattle.sqlite_rules.proofs.ListLemmas.{all_has, has_found}
 use Rattle.office_tables.specs.declared.row.UserRow.{UserRow}
 use Rattle.review_policy.specs.declared.fault.Fault.{Fault}
 use Rattle.office_tables.specs.Tables.{Tables}
+use Rattle.office_tables.specs.Reads.{IsUserShowing}
 use Rattle.office_rows.specs.Entries.{row_of}
 use Rattle.office_rows.specs.Faults.{FindsRow}
 use Rattle.office_rows.proofs.Plain.{plain_query, Means}
 use Rattle.office_rows.proofs.Stored.{find_own}
-use Rattle.office_rows.proofs.Finding.{IsFound, finds_some, found_own}
+use Rattle.office_rows.proofs.Finding.{finds_some}
 use Rattle.office_store.specs.declared.users.TheConstants.{USER_BY_NAME, USER_BY_TOKEN}
 use Rattle.office_store.specs.Schema.{office_schema}
 use Rattle.office_store.specs.Entries.{is_named, user_row, IsUser}
-use Rattle.office_store.specs.Reads.{IsRowShowing}
 use Rattle.office_store.specs.Shown.{Shows}
 use Rattle.office_store.proofs.Columns.{column_is, text_is, blob_is, one_is}
+use Rattle.office_store.proofs.Kept.{map_itself}
+use Rattle.office_store.proofs.RowsOf.{IsRowOf, row_at, row_among}
 
 abbrev all_columns : List Term
 all_columns = col 1 1 ∷ col 1 2 ∷ col 1 3 ∷ col 1 4 ∷ []
@@ -50,37 +52,29 @@ token_tested : (digest : List ℕ) (k : ℤ × UserRow) → list_all (holds ((Bl
 token_tested digest k = one_is _ _ (blob_is k.1.digest digest)
 
 module _ (old new : State) (t : Tables) (shows : Shows old t) where
-  pub user_formed : (u : UserRow) → t.users u.name ≡ Some u → IsUser u
-  user_formed u at = all_has IsUser _ u shows.office.users.formed (has_found (is_named u.name) shows.office.users.entries u (sym (shows.office.users_are u.name) ∙ at)).0
-
   pub found_formed : (name : List ℕ) (u : UserRow) → t.users name ≡ Some u → IsUser u
   found_formed name u at = all_has IsUser _ u shows.office.users.formed (has_found (is_named name) shows.office.users.entries u (sym (shows.office.users_are name) ∙ at)).0
 
-  module _ (idle : old.in_transaction ≡ false) where
-    pub reads_named : (name : List ℕ) (r : Result (Option Row) Fault) → FindsRow USER_BY_NAME.now (Text name ∷ []) old new r
-        → IfOk r (λ row. row ≡ option_map user_row (t.users name))
-    reads_named name r h =
-        let o = shows.office in
-        let it = finds_some user_row user_row (is_named name) all_columns (column_is 1 0 ∷ []) office_schema USER_BY_NAME.now (Text name ∷ []) 1 names by_name_means (named_tested name) (λ k. refl)
-        old new o.schema shows.settled idle o.users.entries o.users.kept r h in
-        let found = found_own user_row user_row is_named IsUser (old.now.trees 1) o.users name r it.0 in
-        subst (λ u. IfOk r (λ row. row ≡ option_map user_row u)) (sym (o.users_are name)) found
+  pub reads_named : (name : List ℕ) (r : Result (Option Row) Fault) → FindsRow USER_BY_NAME.now (Text name ∷ []) old new r
+      → IfOk r (IsRowOf user_row IsUser (λ u. u ≡ t.users name))
+  reads_named name r h =
+      let o = shows.office in
+      let it = finds_some user_row user_row (is_named name) all_columns (column_is 1 0 ∷ []) office_schema USER_BY_NAME.now (Text name ∷ []) 1 names by_name_means (named_tested name) (λ k. refl)
+      old new o.schema o.users.entries o.users.kept r h in
+      row_at user_row is_named IsUser (old.now.trees 1) o.users name (λ u. u) user_row IsUser (λ u. u ≡ t.users name) (λ u formed at. formed) (map_itself _ ∙ sym (o.users_are name)) r it
 
-    row_shows : (digest : List ℕ) (r : Result (Option Row) Fault) → IfOk r (IsFound (shows_digest digest) user_row shows.office.users.entries) → IfOk r (IsRowShowing t digest)
-    row_shows digest (Ok (Some row)) it =
-        let at = shows.office.users_are it.0.name ∙ find_own is_named shows.office.users.entries shows.office.users.own_keys it.0.name it.0 it.1 ((bytes_eq-Decides it.0.name it.0.name).1 refl) in
-        (it.0, (at, sym ((bytes_eq-Decides digest it.0.digest).0 it.2)), it.3)
-    row_shows digest (Ok None) none =
-        λ name u at same. none u (has_found (is_named name) shows.office.users.entries u (sym (shows.office.users_are name) ∙ at)).0 ((bytes_eq-Decides digest u.digest).1 (sym same))
-    row_shows digest (Err f) it = it
-
-    pub reads_showing : (digest : List ℕ) (r : Result (Option Row) Fault) → FindsRow USER_BY_TOKEN.now (Blob digest ∷ []) old new r
-        → IfOk r (IsRowShowing t digest)
-    reads_showing digest r h =
-        let o = shows.office in
-        let it = finds_some user_row user_row (shows_digest digest) all_columns (column_is 4 0 ∷ []) office_schema USER_BY_TOKEN.now (Blob digest ∷ []) 1 names by_token_means (token_tested digest) (λ k. refl)
-        old new o.schema shows.settled idle o.users.entries o.users.kept r h in
-        row_shows digest r it.0
+  pub reads_showing : (digest : List ℕ) (r : Result (Option Row) Fault) → FindsRow USER_BY_TOKEN.now (Blob digest ∷ []) old new r
+      → IfOk r (IsRowOf user_row IsUser (IsUserShowing t digest))
+  reads_showing digest r h =
+      let o = shows.office in
+      let it = finds_some user_row user_row (shows_digest digest) all_columns (column_is 4 0 ∷ []) office_schema USER_BY_TOKEN.now (Blob digest ∷ []) 1 names by_token_means (token_tested digest) (λ k. refl)
+      old new o.schema o.users.entries o.users.kept r h in
+      row_among (shows_digest digest) o.users.entries (λ u. u) user_row IsUser (IsUserShowing t digest)
+      (λ u has same. (
+        all_has IsUser _ u o.users.formed has,
+        (o.users_are u.name ∙ find_own is_named o.users.entries o.users.own_keys u.name u has ((bytes_eq-Decides u.name u.name).1 refl), sym ((bytes_eq-Decides digest u.digest).0 same)),
+      ))
+      (λ none name u at same. none u (has_found (is_named name) o.users.entries u (sym (o.users_are name) ∙ at)).0 ((bytes_eq-Decides digest u.digest).1 (sym same))) r it
 
 pub same_user : (u v : UserRow) → user_row u ≡ user_row v → u ≡ v
 same_user u v same =

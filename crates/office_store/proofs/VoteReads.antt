@@ -1,5 +1,5 @@
 -- What the read of the votes on a revision finds: each vote with the row of its voter.
-use Rattle.std.proofs.Common.{◌≡◌, ◌≢◌, ◌<◌, ℕ, ℤ, pos, List, [], ◌∷◌, codes, map, flat_map, None, Some, Result, Option, IfOk, IfErr, Bool, true, false, cond, Ordering, Less, Equal, refl, sym, ap, subst, ◌∙◌, arith, true≢false}
+use Rattle.std.proofs.Common.{◌≡◌, ◌≢◌, ◌<◌, ℕ, ℤ, pos, List, [], ◌∷◌, codes, map, flat_map, None, Some, Result, Option, IfOk, Bool, true, false, cond, Ordering, Less, Equal, refl, sym, ap, subst, ◌∙◌, arith, true≢false}
 use Rattle.std.specs.Prelude.{◌&&◌, ◌==◌, bytes_eq, filter, find, option_map}
 use Rattle.std.specs.List.{list_all, AllByRecursion}
 use Rattle.std.specs.List.Sorted.{IsPermutation}
@@ -31,46 +31,33 @@ use Rattle.review_policy.specs.declared.fault.Fault.{Fault}
 use Rattle.office_tables.specs.Tables.{Tables, is_profile}
 use Rattle.office_tables.specs.Lists.{name_cmp, standing_vote, IsStanding, AreStanding}
 use Rattle.office_rows.specs.Entries.{HaveOwnKeys, row_of}
-use Rattle.office_rows.specs.Rows.{IsFaultOf}
 use Rattle.office_rows.proofs.Rowids.{has_mapped, mapped_has, has_permuted}
 use Rattle.office_rows.proofs.Plain.{Means}
 use Rattle.office_rows.proofs.Stored.{find_own, find_none, none_found, own-filter}
-use Rattle.office_rows.proofs.InOrder.{ordered_query, order_cmp, order_cmp_total, rises, ascending_permuted, ShowsInOrder}
+use Rattle.office_rows.proofs.InOrder.{ordered_query, order_cmp, order_cmp_total, rises, ShowsInOrder}
 use Rattle.office_rows.proofs.Asked.{entries_in_order}
 use Rattle.office_store.specs.declared.standing_votes.TheConstants.{VOTES_ON}
 use Rattle.office_store.specs.Schema.{office_schema}
 use Rattle.office_store.specs.Entries.{is_named, user_row, IsUser, VoteKey, VoteEntry, same_vote, vote_row, IsVote, bit}
 use Rattle.office_store.specs.Lists.{Cast, roles_of, cast_row, standing_of, IsCastForm, AreVoteRows}
 use Rattle.office_store.specs.Shown.{Shows}
-use Rattle.office_store.proofs.Columns.{text_is, number_is, one_is, three_are}
+use Rattle.office_store.proofs.Columns.{both_true, text_is, number_is, one_is, three_are}
 use Rattle.office_store.proofs.Kept.{some_shown}
-use Rattle.office_store.proofs.Profiles.{revision_params, at_revision, both_true}
+use Rattle.office_store.specs.Keys.{revision_params}
+use Rattle.office_store.proofs.Profiles.{at_revision}
 use Rattle.office_store.proofs.UserReads.{found_formed}
-use Rattle.office_store.proofs.ListReads.{IsReadOf, list_read, text_order, same_name, all_pairs, ascending_where}
+use Rattle.office_store.proofs.ListReads.{list_read, HaveOwn, own_permuted, text_order, same_name, all_pairs, ascending_where}
 
 -- ---- entries with keys of their own, in any order
 
 module _ {K X : Type 0} (is_at : K → X → Bool) where
-  abbrev HaveOwn : X → X → Type 0
-  HaveOwn a b = (k : K) → is_at k a ≡ true → is_at k b ≡ false
-
-  own_back : (a b : X) → HaveOwn a b → HaveOwn b a
-  own_back a b own k here = go (is_at k a) refl
-    where
-      go : (v : Bool) → is_at k a ≡ v → is_at k a ≡ false
-      go true e = absurd (true≢false (sym here ∙ own k e))
-      go false e = e
-
-  own_permuted : (xs ys : List X) → IsPermutation xs ys → HaveOwnKeys is_at xs → HaveOwnKeys is_at ys
-  own_permuted = ascending_permuted HaveOwn own_back
-
   found_permuted : (xs ys : List X) → IsPermutation xs ys → HaveOwnKeys is_at xs → (k : K) → find (is_at k) ys ≡ find (is_at k) xs
   found_permuted xs ys same own k = go (find (is_at k) xs) refl
     where
       go : (o : Option X) → find (is_at k) xs ≡ o → find (is_at k) ys ≡ o
       go (Some x) e =
           let it = has_found (is_at k) xs x e in
-          find_own is_at ys (own_permuted xs ys same own) k x (has_permuted xs ys x same it.0) it.1
+          find_own is_at ys (own_permuted is_at xs ys same own) k x (has_permuted xs ys x same it.0) it.1
       go None e = find_none (is_at k) ys (λ x h here. true≢false (sym here ∙ none_found (is_at k) xs e x (has_permuted ys xs x (IsPermutation-sym xs ys same) h)))
 
   -- at most one is at a key
@@ -78,7 +65,7 @@ module _ {K X : Type 0} (is_at : K → X → Bool) where
   one_or_none [] own k = refl
   one_or_none (x ∷ xs) own k = go (is_at k x) refl (one_or_none xs own.1 k)
     where
-      none_later : (ys : List X) → AllByRecursion (HaveOwn x) ys → is_at k x ≡ true → filter (is_at k) ys ≡ []
+      none_later : (ys : List X) → AllByRecursion (HaveOwn is_at x) ys → is_at k x ≡ true → filter (is_at k) ys ≡ []
       none_later [] all here = refl
       none_later (y ∷ ys) all here = (λ i. cond (all.0 k here i) (y ∷ filter (is_at k) ys) (filter (is_at k) ys)) ∙ none_later ys all.1 here
 
@@ -277,12 +264,11 @@ module _ (old new : State) (t : Tables) (shows : Shows old t) where
             record { voter = formed.voter; roles = roles_formed (t.users e.0.voter) (found_formed old new t shows e.0.voter) }));
       }
 
-  pub reads_votes : (idle : old.in_transaction ≡ false) {X : Type 0} (items : X → List Row) (p : ProfileName) (n : ℕ) (r : Result X Fault) → IfOk r (λ x. Shown VOTES_ON.now (revision_params p n) old new (items x))
-      → IfErr r (IsFaultOf VOTES_ON.now (revision_params p n) old new) → IsReadOf new t (λ x. AreVoteRows t p n (items x)) r
-  reads_votes idle items p n =
+  pub reads_votes : {X : Type 0} (items : X → List Row) (p : ProfileName) (n : ℕ) (r : Result X Fault) → IfOk r (λ x. Shown VOTES_ON.now (revision_params p n) old new (items x)) → IfOk r (λ x. AreVoteRows t p n (items x))
+  reads_votes items p n =
       let o = shows.office in
       let user = λ (name : List ℕ). find (user_at name) kept_users in
-      list_read _ VOTES_ON.now (revision_params p n) names votes_mean old new t shows idle items (AreVoteRows t p n)
+      list_read _ VOTES_ON.now (revision_params p n) names votes_mean old new t shows items (AreVoteRows t p n)
       (λ rows a.
       vote_list p n rows
       (entries_in_order vote_row key (shown t.users) (is_on p n) shown_columns at_revision by_voter with_voter (revision_params p n) (vote_env (revision_params p n) user) (on_tested p n user)

@@ -1,5 +1,5 @@
 -- What the read of a profile after a name finds.
-use Rattle.std.proofs.Common.{◌≡◌, ℕ, ℤ, pos, List, [], ◌∷◌, ◌++◌, codes, map, Option, Some, None, Result, Ok, Err, IfOk, Bool, true, false, Ordering, Less, Equal, Greater, refl, sym, ap, subst, ◌∙◌, true≢false}
+use Rattle.std.proofs.Common.{◌≡◌, ℕ, ℤ, pos, List, [], ◌∷◌, ◌++◌, codes, map, Option, Some, None, Result, Ok, Err, IfOk, Bool, true, Ordering, Less, Equal, Greater, refl, sym, ap, subst, ◌∙◌, true≢false}
 use Rattle.std.specs.Prelude.{◌&&◌}
 use Rattle.std.specs.List.{list_all}
 use Rattle.std.specs.Ordering.{ordering_then, ordering_reverse, is_lt, is_gt}
@@ -8,7 +8,7 @@ use Rattle.sqlite.specs.declared.types.Value.TheVariants.{Text, Int}
 use Rattle.sqlite_sql.specs.declared.ops.BinaryOp.TheVariants.{Compare}
 use Rattle.sqlite_sql.specs.declared.ops.CompareOp.TheVariants.{Gt}
 use Rattle.sqlite_sql.specs.Query.{key_cmp}
-use Rattle.sqlite.specs.Ops.{binary, is_true, from_truth}
+use Rattle.sqlite.specs.Ops.{binary, is_true}
 use Rattle.sqlite.specs.Order.{Row}
 use Rattle.sqlite.specs.Term.{Term, col, op2, holds}
 use Rattle.sqlite.specs.Command.TheVariants.{Select}
@@ -29,15 +29,15 @@ use Rattle.office_tables.specs.Tables.{Tables}
 use Rattle.office_tables.specs.Lists.{name_cmp, IsListed}
 use Rattle.office_rows.specs.Entries.{row_of}
 use Rattle.office_rows.specs.Faults.{FindsRow}
-use Rattle.office_rows.proofs.Plain.{Means}
+use Rattle.office_rows.proofs.Plain.{Means, from_test}
 use Rattle.office_rows.proofs.Ordered.{first_query, IsFirstRow, finds_first}
 use Rattle.office_store.specs.declared.walk.TheConstants.{LISTED_ABOVE}
 use Rattle.office_store.specs.Schema.{office_schema}
 use Rattle.office_store.specs.Entries.{Revision, revision_row, IsRevision, state_number}
-use Rattle.office_store.specs.Lists.{listed_row, IsListedForm, IsFirstListed, ComesAfter, IsNextListed, IsRowAbove}
+use Rattle.office_store.specs.Lists.{listed_row, IsListedForm, IsFirstListed, ComesAfter, IsNextListed}
 use Rattle.office_store.specs.Shown.{Shows}
-use Rattle.office_store.proofs.Columns.{column_is, text_is, two_are}
-use Rattle.office_store.proofs.Profiles.{both_true}
+use Rattle.office_store.proofs.Columns.{both_true, column_is, text_is, two_are}
+use Rattle.office_store.proofs.RowsOf.{IsRowOf}
 use Rattle.office_store.proofs.ListingReads.{listed_of, is_of, makes_listed, entry_of}
 use Rattle.office_store.proofs.Following.{after_space, before_space, after_nothing}
 
@@ -75,10 +75,6 @@ abbrev above_params : List ℕ → List ℕ → Row
 above_params team text = Text team ∷ Text text ∷ []
 
 -- ---- the tests of the text
-
-from_test : (b : Bool) → is_true (from_truth (Some b)) ≡ b
-from_test true = refl
-from_test false = refl
 
 greater_turned : (o : Ordering) → is_gt o ≡ is_lt (ordering_reverse o)
 greater_turned Less = refl
@@ -141,11 +137,13 @@ module _ (old new : State) (t : Tables) (shows : Shows old t) where
   abbrev IsFirstAbove : List ℕ → List ℕ → Option Row → Type 0
   IsFirstAbove team text = IsFirstRow revision_row shown key (passes team text) shown_columns above by_name_state_and_number (above_params team text) entries
 
-  row_above : (team text : List ℕ) (r : Result (Option Row) Fault) → IfOk r (IsFirstAbove team text) → IfOk r (IsRowAbove t team text)
+  row_above : (team text : List ℕ) (r : Result (Option Row) Fault) → IfOk r (IsFirstAbove team text) → IfOk r (IsRowOf listed_row IsListedForm (IsNextListed t team (Some text)))
   row_above team text (Ok (Some row)) it =
       let e = it.0 in
       let both = both_true (is_of team e) (is_above text e) it.1.passed in (
         listed_of e,
+        formed_at e it.1.has,
+        it.2,
         (
           makes_listed old new t shows team e it.1.has both.0,
           less_is (name_cmp text e.0.profile) both.1,
@@ -154,19 +152,17 @@ module _ (old new : State) (t : Tables) (shows : Shows old t) where
               let first = earlier_first p.entry e (ap (λ (name : List ℕ). name_cmp name e.0.profile) p.profile ∙ earlier) in
               true≢false (sym first ∙ it.1.least p.entry p.has p.passed),
         ),
-        formed_at e it.1.has,
-        it.2,
       )
   row_above team text (Ok None) none = λ l listed less. let p = passing team text l listed less in none p.entry p.has p.passed
   row_above team text (Err f) it = it
 
-  pub reads_above : (idle : old.in_transaction ≡ false) (team text : List ℕ) (r : Result (Option Row) Fault) → FindsRow LISTED_ABOVE.now (above_params team text) old new r
-      → IfOk r (IsRowAbove t team text)
-  reads_above idle team text r h =
+  pub reads_above : (team text : List ℕ) (r : Result (Option Row) Fault) → FindsRow LISTED_ABOVE.now (above_params team text) old new r
+      → IfOk r (IsRowOf listed_row IsListedForm (IsNextListed t team (Some text)))
+  reads_above team text r h =
       let o = shows.office in
       let it = finds_first revision_row shown key (passes team text) shown_columns above by_name_state_and_number (above_params team text) (above_tested team text) (λ k. refl) (λ k. refl)
-      office_schema LISTED_ABOVE.now 4 names above_means old new o.schema shows.settled idle o.revisions.entries o.revisions.kept r h in
-      row_above team text r it.0
+      office_schema LISTED_ABOVE.now 4 names above_means old new o.schema o.revisions.entries o.revisions.kept r h in
+      row_above team text r it
 
   -- ---- the same of a text that says the same of each name
 

@@ -19,9 +19,3 @@ pub record IsBrief (b : Brief) : Type 0 where
 abbrev pub IsBriefOf : (Option RevisionRow → Type 0) → Option Brief → Type 0
 IsBriefOf IsIt None = IsIt None
 IsBriefOf IsIt (Some b) = (r : RevisionRow) × IsIt (Some r) × (brief_of r ≡ b)
-
--- the row of that
-abbrev pub IsRowOfBrief : (Option RevisionRow → Type 0) → Option Row → Type 0
-IsRowOfBrief IsIt None = IsIt None
-IsRowOfBrief IsIt (Some row) =
-    (r : RevisionRow) × IsIt (Some r) × IsBrief (brief_of r) × (row ≡ brief_row (brief_of r))

@@ -4,7 +4,6 @@ pub mod Keys
 pub mod Shown
 pub mod Calls
 pub mod Connections
-pub mod Reads
 pub mod Steps
 pub mod Writes
 pub mod Adopted

@@ -14,8 +14,7 @@ use Rattle.office_tables.specs.declared.row.UserRow.{UserRow}
 use Rattle.office_tables.specs.declared.row.RevisionRow.{RevisionRow}
 use Rattle.office_tables.specs.declared.listed.ListedRevision.{ListedRevision}
 use Rattle.office_tables.specs.Tables.{Tables, Vote}
-use Rattle.office_tables.specs.Lists.{AreAuthors, IsListed, AreRevisionsOf, AreStanding, name_cmp}
-use Rattle.office_tables.specs.Lists.{standing_vote, tally_of, AreNewest}
+use Rattle.office_tables.specs.Lists.{IsListed, AreStanding, name_cmp, standing_vote, tally_of}
 use Rattle.review_policy.specs.declared.fault.Fault.{Fault}
 use Rattle.office_tables.specs.declared.listed.Tally.{Tally}
 use Rattle.office_rows.specs.Told.{IsUnread}
@@ -29,13 +28,6 @@ name_row name = Text name ∷ []
 abbrev pub IsWord : List ℕ → Type 0
 IsWord name = is_word name ≡ true
 
--- the rows of the authors of a profile
-pub record AreAuthorRows (t : Tables) (p : ProfileName) (rows : List Row) : Type 0 where
-  pub names : List (List ℕ)
-  pub rows_are : rows ≡ map name_row names
-  pub authors : AreAuthors t p names
-  pub formed : AllByRecursion (λ name. is_word name ≡ true) names
-
 -- ---- the revisions of a team
 
 abbrev pub listed_row : ListedRevision → Row
@@ -44,13 +36,6 @@ listed_row l = Text l.profile ∷ Int (pos l.number) ∷ Int (pos (state_number 
 pub record IsListedForm (l : ListedRevision) : Type 0 where
   pub profile : is_word l.profile ≡ true
   pub number : l.number < 2 ^ 32
-
--- the rows of the revisions of a team
-pub record AreListedRows (t : Tables) (team : List ℕ) (rows : List Row) : Type 0 where
-  pub listed : List ListedRevision
-  pub rows_are : rows ≡ map listed_row listed
-  pub revisions : AreRevisionsOf t team listed
-  pub formed : AllByRecursion IsListedForm listed
 
 -- ---- the newest revisions of a profile
 
@@ -66,13 +51,6 @@ pub record IsToldForm (l : ProfileRevision) : Type 0 where
   pub revision : l.revision < 2 ^ 32
   pub digest : length l.digest ≡ 32
   pub by : is_word l.by ≡ true
-
--- the rows of the newest revisions of a profile below a number
-pub record AreNewestRows (t : Tables) (p : ProfileName) (below : ℕ) (rows : List Row) : Type 0 where
-  pub told : List ProfileRevision
-  pub rows_are : rows ≡ map told_row told
-  pub newest : AreNewest t p below most_read told
-  pub formed : AllByRecursion IsToldForm told
 
 -- ---- from one profile of a team to the next
 
@@ -94,13 +72,6 @@ ComesAfter (Some before) name = name_cmp before name ≡ Less
 abbrev pub IsNextListed : Tables → List ℕ → Option (List ℕ) → Option ListedRevision → Type 0
 IsNextListed t team after = IsFirstListed t team (ComesAfter after)
 
--- the row of a revision of the first profile of the team whose name is above a text
-abbrev pub IsRowAbove : Tables → List ℕ → List ℕ → Option Row → Type 0
-IsRowAbove t team text None = IsNextListed t team (Some text) None
-IsRowAbove t team text (Some row) =
-    (l : ListedRevision) × IsNextListed t team (Some text) (Some l) × IsListedForm l
-    × (row ≡ listed_row l)
-
 -- ---- the number of a revision
 
 abbrev pub number_row : ℕ → Row
@@ -113,12 +84,6 @@ IsNumber n = n < 2 ^ 32
 abbrev pub IsNumberOf : (Option RevisionRow → Type 0) → Option ℕ → Type 0
 IsNumberOf IsIt None = IsIt None
 IsNumberOf IsIt (Some n) = (r : RevisionRow) × IsIt (Some r) × (r.number ≡ n)
-
--- the row of that number
-abbrev pub IsRowOfNumber : (Option RevisionRow → Type 0) → Option Row → Type 0
-IsRowOfNumber IsIt None = IsIt None
-IsRowOfNumber IsIt (Some row) =
-    (r : RevisionRow) × IsIt (Some r) × IsNumber r.number × (row ≡ number_row r.number)
 
 -- ---- votes
 

@@ -19,10 +19,3 @@ IsNumbered n = n.number < 2 ^ 32
 abbrev pub IsNumberedOf : (Option RevisionRow → Type 0) → Option Numbered → Type 0
 IsNumberedOf IsIt None = IsIt None
 IsNumberedOf IsIt (Some n) = (r : RevisionRow) × IsIt (Some r) × (numbered_of r ≡ n)
-
--- the row of such a revision, or that there is none
-abbrev pub IsRowOfNumbered : (Option RevisionRow → Type 0) → Option Row → Type 0
-IsRowOfNumbered IsIt None = IsIt None
-IsRowOfNumbered IsIt (Some row) =
-    (r : RevisionRow) × IsIt (Some r) × IsNumbered (numbered_of r)
-    × (row ≡ numbered_row (numbered_of r))

@@ -1,22 +1,21 @@
 //! The table of baselines.
 
-ghost use Rattle.std.specs.Prelude.{◌≡◌, ◌≢◌, [], ◌∷◌, ℕ, List, Err, IfOk, IfErr, option_map};
+ghost use Rattle.std.specs.Prelude.{◌≡◌, [], ◌∷◌, option_map};
 ghost use Rattle.sqlite.specs.Held.{state};
 ghost use Rattle.sqlite.specs.declared.types.Value.TheVariants.{Text as SqlText};
-ghost use Rattle.office_rows.specs.Told.{IsOfRow, IsTold, TellsOne};
+ghost use Rattle.office_rows.specs.Told.{TellsOne};
 ghost use Rattle.office_tables.specs.Changes.{with_baseline};
-ghost use Rattle.office_store.specs.Connections.{FindsFirst, MeetsOnErr, Reads, ReadsFirst, Writes};
-ghost use Rattle.office_store.specs.declared.baselines.Adopted.{Adopted as AdoptedValue};
+ghost use Rattle.office_store.specs.Connections.{MeetsOnErr, Reads, ReadsFirst, Writes};
 ghost use Rattle.office_store.specs.Adopted.{baseline_of, row_of_adopted, IsAdopted};
 ghost use Rattle.office_store.specs.Calls.{Into};
-ghost use Rattle.office_store.specs.Entries.{adopted_row, IsBaseline};
 ghost use Rattle.office_store.specs.Shown.{IsIdle};
 ghost use Rattle.office_store.specs.Writes.{putting_baseline};
 
 use crate::bind::{of_baseline, of_word};
 use crate::column::{number_at, word_at};
+use crate::finding::find;
+use crate::from_row::FromRow;
 use crate::write::write_one;
-use office_rows::first_row;
 use review_policy::{Fault, ProfileName, Word};
 use sqlite::{Alter, Connection, Row};
 use std::alloc::Global;
@@ -34,42 +33,20 @@ pub struct Adopted {
     pub number: u32,
 }
 
-// The revision that a row names.
-fn read_adopted(alloc: Global, row: &Row) -> Result<Adopted, Fault>
-    ensures adopted { IfOk result (λ adopted. row.now ≡ row_of_adopted adopted) }
-    ensures formed { (team : List ℕ) (adopted : AdoptedValue)
-        → IsBaseline (team, baseline_of adopted) → row.now ≡ row_of_adopted adopted
-        → result ≢ Err Fault.NotAnOffice }
-    ensures cause { IfErr result IsOfRow }
-{
-    if row.column_count() != 2 {
-        return Err(Fault::NotAnOffice);
-    }
-    Ok(Adopted {
-        profile: word_at(alloc, row, 0)?,
-        number: number_at(row, 1)?,
-    })
-}
+impl FromRow<Global> for Adopted {
+    ghost encode = { row_of_adopted };
 
-// The revision of the row that a query found, if it found one.
-fn adopted_of(alloc: Global, found: Result<Option<Row>, Fault>) -> Result<Option<Adopted>, Fault>
-    ensures { IsTold (TellsOne row_of_adopted IsAdopted) found result }
-{
-    match found? {
-        Some(row) => Ok(Some(read_adopted(alloc, &row)?)),
-        None => Ok(None),
-    }
-}
+    ghost IsFormed = { IsAdopted };
 
-// The row of the baseline of a team.
-fn row_of<S: Alter>(conn: &mut Connection<S>, team: &Word) -> Result<Option<Row>, Fault>
-    requires { IsIdle (state S.Store conn.old) }
-    ensures read { Reads S.Store conn.old conn.new result
-        (λ t row. row ≡ option_map adopted_row (t.baselines team.now)) }
-    ensures row { FindsFirst S.Store conn.old conn.new
-        BASELINE_OF.now (SqlText team.now ∷ []) result }
-{
-    first_row(conn, BASELINE_OF, &of_word(team))
+    fn from_row(alloc: Global, row: &Row) -> Result<Adopted, Fault> {
+        if row.column_count() != 2 {
+            return Err(Fault::NotAnOffice);
+        }
+        Ok(Adopted {
+            profile: word_at(alloc, row, 0)?,
+            number: number_at(row, 1)?,
+        })
+    }
 }
 
 /// The revision that a team last adopted.
@@ -84,7 +61,7 @@ pub fn baseline<S: Alter>(
     ensures told { ReadsFirst S.Store conn.old conn.new
         BASELINE_OF.now (SqlText team.now ∷ []) (TellsOne row_of_adopted IsAdopted) result }
 {
-    adopted_of(alloc, row_of(conn, team))
+    find(alloc, conn, BASELINE_OF, &of_word(team))
 }
 
 /// Makes a revision the baseline of its team, in the place of any earlier one.

@@ -1,17 +1,17 @@
 //! The issued revision of a profile without its text.
 
-ghost use Rattle.std.specs.Prelude.{◌≡◌, IfOk, IfErr};
 ghost use Rattle.sqlite.specs.Held.{state};
-ghost use Rattle.office_rows.specs.Told.{IsOfRow, IsTold, TellsOne};
+ghost use Rattle.office_rows.specs.Told.{TellsOne};
 ghost use Rattle.office_tables.specs.Reads.{IsIssued};
-ghost use Rattle.office_store.specs.Briefs.{brief_row, IsBrief, IsBriefOf, IsRowOfBrief};
-ghost use Rattle.office_store.specs.Connections.{AcceptsFormed, FindsFirst, Reads, ReadsFirst};
+ghost use Rattle.office_store.specs.Briefs.{brief_row, IsBrief, IsBriefOf};
+ghost use Rattle.office_store.specs.Connections.{Reads, ReadsFirst};
 ghost use Rattle.office_store.specs.Keys.{profile_params};
 ghost use Rattle.office_store.specs.Shown.{IsIdle};
 
 use crate::bind::of_profile;
 use crate::column::{digest_at, number_at};
-use office_rows::first_row;
+use crate::finding::find;
+use crate::from_row::FromRow;
 use review_policy::{Fault, ProfileName};
 use sqlite::{Alter, Connection, Row};
 
@@ -27,43 +27,20 @@ pub struct Brief {
     pub digest: [u8; 32],
 }
 
-// The brief that a row stands for.
-fn read_brief(row: &Row) -> Result<Brief, Fault>
-    ensures brief { IfOk result (λ brief. row.now ≡ brief_row brief) }
-    ensures formed { AcceptsFormed brief_row IsBrief row.now result }
-    ensures cause { IfErr result IsOfRow }
-{
-    if row.column_count() != 2 {
-        return Err(Fault::NotAnOffice);
-    }
-    Ok(Brief {
-        number: number_at(row, 0)?,
-        digest: digest_at(row, 1)?,
-    })
-}
+impl FromRow<()> for Brief {
+    ghost encode = { brief_row };
 
-// The brief of the row that a query found, if it found one.
-fn found_brief(found: Result<Option<Row>, Fault>) -> Result<Option<Brief>, Fault>
-    ensures { IsTold (TellsOne brief_row IsBrief) found result }
-{
-    match found? {
-        Some(row) => Ok(Some(read_brief(&row)?)),
-        None => Ok(None),
-    }
-}
+    ghost IsFormed = { IsBrief };
 
-// The row of the issued revision of a profile without its text.
-fn issued_row<S: Alter>(
-    conn: &mut Connection<S>,
-    profile: &ProfileName,
-) -> Result<Option<Row>, Fault>
-    requires { IsIdle (state S.Store conn.old) }
-    ensures read { Reads S.Store conn.old conn.new result
-        (λ t row. IsRowOfBrief (IsIssued t profile.now) row) }
-    ensures row { FindsFirst S.Store conn.old conn.new
-        ISSUED_BRIEF.now (profile_params profile.now) result }
-{
-    first_row(conn, ISSUED_BRIEF, &of_profile(profile))
+    fn from_row(_: (), row: &Row) -> Result<Brief, Fault> {
+        if row.column_count() != 2 {
+            return Err(Fault::NotAnOffice);
+        }
+        Ok(Brief {
+            number: number_at(row, 0)?,
+            digest: digest_at(row, 1)?,
+        })
+    }
 }
 
 /// The number and the digest of the revision of a profile that is issued, whose text isn't read.
@@ -77,5 +54,5 @@ pub fn issued_brief<S: Alter>(
     ensures told { ReadsFirst S.Store conn.old conn.new
         ISSUED_BRIEF.now (profile_params profile.now) (TellsOne brief_row IsBrief) result }
 {
-    found_brief(issued_row(conn, profile))
+    find((), conn, ISSUED_BRIEF, &of_profile(profile))
 }

@@ -8,6 +8,8 @@ pub mod baselines;
 mod bind;
 pub mod briefs;
 mod column;
+mod finding;
+mod from_row;
 pub mod holds;
 pub mod listing;
 pub mod newest;

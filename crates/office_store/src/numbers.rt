@@ -1,19 +1,18 @@
 //! The number and the state of the last revision of a profile, and the number of the issued one.
 
-ghost use Rattle.std.specs.Prelude.{◌≡◌, ◌<◌, Err, IfOk, IfErr};
 ghost use Rattle.sqlite.specs.Held.{state};
-ghost use Rattle.office_rows.specs.Told.{IsOfRow, IsTold, TellsOne};
+ghost use Rattle.office_rows.specs.Told.{TellsOne};
 ghost use Rattle.office_tables.specs.Reads.{IsLast, IsIssued};
-ghost use Rattle.office_store.specs.Connections.{AcceptsFormed, FindsFirst, Reads, ReadsFirst};
+ghost use Rattle.office_store.specs.Connections.{Reads, ReadsFirst};
 ghost use Rattle.office_store.specs.Keys.{profile_params};
-ghost use Rattle.office_store.specs.Lists.{number_row, IsNumber, IsRowOfNumber, IsNumberOf};
-ghost use Rattle.office_store.specs.Numbered.{numbered_row, IsNumbered};
-ghost use Rattle.office_store.specs.Numbered.{IsRowOfNumbered, IsNumberedOf};
+ghost use Rattle.office_store.specs.Lists.{number_row, IsNumber, IsNumberOf};
+ghost use Rattle.office_store.specs.Numbered.{numbered_row, IsNumbered, IsNumberedOf};
 ghost use Rattle.office_store.specs.Shown.{IsIdle};
 
 use crate::bind::of_profile;
 use crate::column::{number_at, state_at};
-use office_rows::first_row;
+use crate::finding::find;
+use crate::from_row::FromRow;
 use review_policy::{Fault, ProfileName, State};
 use sqlite::{Alter, Connection, Row};
 
@@ -30,79 +29,33 @@ pub struct Numbered {
     pub state: State,
 }
 
-// The number and the state that a row has.
-fn read_numbered(row: &Row) -> Result<Numbered, Fault>
-    ensures numbered { IfOk result (λ numbered. row.now ≡ numbered_row numbered) }
-    ensures formed { AcceptsFormed numbered_row IsNumbered row.now result }
-    ensures cause { IfErr result IsOfRow }
-{
-    if row.column_count() != 2 {
-        return Err(Fault::NotAnOffice);
-    }
-    Ok(Numbered {
-        number: number_at(row, 0)?,
-        state: state_at(row, 1)?,
-    })
-}
+impl FromRow<()> for Numbered {
+    ghost encode = { numbered_row };
 
-// The number and the state of the row that a query found, if it found one.
-fn numbered_of(found: Result<Option<Row>, Fault>) -> Result<Option<Numbered>, Fault>
-    ensures { IsTold (TellsOne numbered_row IsNumbered) found result }
-{
-    match found? {
-        Some(row) => Ok(Some(read_numbered(&row)?)),
-        None => Ok(None),
+    ghost IsFormed = { IsNumbered };
+
+    fn from_row(_: (), row: &Row) -> Result<Numbered, Fault> {
+        if row.column_count() != 2 {
+            return Err(Fault::NotAnOffice);
+        }
+        Ok(Numbered {
+            number: number_at(row, 0)?,
+            state: state_at(row, 1)?,
+        })
     }
 }
 
-// The number of a row of one.
-fn read_number(row: &Row) -> Result<u32, Fault>
-    ensures number { IfOk result (λ number. row.now ≡ number_row number) }
-    ensures formed { AcceptsFormed number_row IsNumber row.now result }
-    ensures cause { IfErr result IsOfRow }
-{
-    if row.column_count() != 1 {
-        return Err(Fault::NotAnOffice);
+impl FromRow<()> for u32 {
+    ghost encode = { number_row };
+
+    ghost IsFormed = { IsNumber };
+
+    fn from_row(_: (), row: &Row) -> Result<u32, Fault> {
+        if row.column_count() != 1 {
+            return Err(Fault::NotAnOffice);
+        }
+        number_at(row, 0)
     }
-    number_at(row, 0)
-}
-
-// The number of the row that a query found, if it found one.
-fn number_of(found: Result<Option<Row>, Fault>) -> Result<Option<u32>, Fault>
-    ensures { IsTold (TellsOne number_row IsNumber) found result }
-{
-    match found? {
-        Some(row) => Ok(Some(read_number(&row)?)),
-        None => Ok(None),
-    }
-}
-
-// The row of the last revision of a profile.
-fn last_numbered_row<S: Alter>(
-    conn: &mut Connection<S>,
-    profile: &ProfileName,
-) -> Result<Option<Row>, Fault>
-    requires { IsIdle (state S.Store conn.old) }
-    ensures read { Reads S.Store conn.old conn.new result
-        (λ t row. IsRowOfNumbered (IsLast t profile.now) row) }
-    ensures row { FindsFirst S.Store conn.old conn.new
-        LAST_NUMBERED.now (profile_params profile.now) result }
-{
-    first_row(conn, LAST_NUMBERED, &of_profile(profile))
-}
-
-// The row of the number of the issued revision of a profile.
-fn issued_number_row<S: Alter>(
-    conn: &mut Connection<S>,
-    profile: &ProfileName,
-) -> Result<Option<Row>, Fault>
-    requires { IsIdle (state S.Store conn.old) }
-    ensures read { Reads S.Store conn.old conn.new result
-        (λ t row. IsRowOfNumber (IsIssued t profile.now) row) }
-    ensures row { FindsFirst S.Store conn.old conn.new
-        ISSUED_NUMBER.now (profile_params profile.now) result }
-{
-    first_row(conn, ISSUED_NUMBER, &of_profile(profile))
 }
 
 /// The revision of a profile with the greatest number.
@@ -117,7 +70,7 @@ pub fn last_numbered<S: Alter>(
         LAST_NUMBERED.now (profile_params profile.now)
         (TellsOne numbered_row IsNumbered) result }
 {
-    numbered_of(last_numbered_row(conn, profile))
+    find((), conn, LAST_NUMBERED, &of_profile(profile))
 }
 
 /// The number of the revision of a profile that is issued.
@@ -131,5 +84,5 @@ pub fn issued_number<S: Alter>(
     ensures told { ReadsFirst S.Store conn.old conn.new
         ISSUED_NUMBER.now (profile_params profile.now) (TellsOne number_row IsNumber) result }
 {
-    number_of(issued_number_row(conn, profile))
+    find((), conn, ISSUED_NUMBER, &of_profile(profile))
 }

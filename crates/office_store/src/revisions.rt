@@ -1,24 +1,22 @@
 //! The table of revisions.
 
-ghost use Rattle.std.specs.Prelude.{◌≡◌, ◌≢◌, ◌↔◌, true, is_some, Err, IfOk, IfErr, option_map};
+ghost use Rattle.std.specs.Prelude.{◌≡◌, ◌↔◌, true};
 ghost use Rattle.sqlite.specs.Held.{state};
-ghost use Rattle.review_policy.specs.declared.ask.ProfileName.{ProfileName as Name};
-ghost use Rattle.office_rows.specs.Told.{IsOfRow, IsTold, TellsOne, TellsWhether};
+ghost use Rattle.office_rows.specs.Told.{TellsOne, TellsWhether};
 ghost use Rattle.office_tables.specs.Changes.{with_issued, with_withdrawn};
 ghost use Rattle.office_tables.specs.Reads.{IsLast, IsIssued, HasRevision, Adds};
-ghost use Rattle.office_tables.specs.declared.row.RevisionRow.{RevisionRow as Revision};
 ghost use Rattle.office_store.specs.Calls.{Into};
-ghost use Rattle.office_store.specs.Connections.{FindsFirst, MeetsOnErr, Reads, ReadsFirst, Writes};
-ghost use Rattle.office_store.specs.Entries.{revision_columns, IsRevision, IsRevisionForm};
+ghost use Rattle.office_store.specs.Connections.{MeetsOnErr, Reads, ReadsFirst, Writes};
+ghost use Rattle.office_store.specs.Entries.{revision_columns, IsRevisionForm};
 ghost use Rattle.office_store.specs.Keys.{profile_params, revision_params};
-ghost use Rattle.office_store.specs.Reads.{IsIssuedRow, IsLastRow};
 ghost use Rattle.office_store.specs.Shown.{IsIdle};
 ghost use Rattle.office_store.specs.Writes.{adding_revision, issuing, withdrawing};
 
 use crate::bind::{of_number, of_profile, of_revision};
 use crate::column::{digest_at, number_at, state_at, text_at, word_at};
+use crate::finding::{find, finds_any};
+use crate::from_row::FromRow;
 use crate::write::{write_one, write_two};
-use office_rows::{first_row, is_there};
 use office_tables::RevisionRow;
 use review_policy::{Fault, ProfileName, State, Text, Word};
 use sqlite::{Alter, Connection, Row};
@@ -51,85 +49,23 @@ pub(crate) const WITHDRAW_REVISION: &str =
 pub(crate) const INSERT_REVISION: &str =
     "INSERT INTO revisions (team, profile, number, author, state, body, digest) VALUES (?1, ?2, ?3, ?4, ?5, ?6, ?7)";
 
-// The revision that a row stands for.
-fn read_revision(alloc: Global, row: &Row) -> Result<RevisionRow, Fault>
-    ensures revision { IfOk result (λ revision. row.now ≡ revision_columns revision) }
-    ensures formed { (profile : Name) (revision : Revision) → IsRevision (profile, revision)
-        → row.now ≡ revision_columns revision → result ≢ Err Fault.NotAnOffice }
-    ensures cause { IfErr result IsOfRow }
-{
-    if row.column_count() != 5 {
-        return Err(Fault::NotAnOffice);
+impl FromRow<Global> for RevisionRow {
+    ghost encode = { revision_columns };
+
+    ghost IsFormed = { IsRevisionForm };
+
+    fn from_row(alloc: Global, row: &Row) -> Result<RevisionRow, Fault> {
+        if row.column_count() != 5 {
+            return Err(Fault::NotAnOffice);
+        }
+        Ok(RevisionRow {
+            number: number_at(row, 0)?,
+            author: word_at(alloc, row, 1)?,
+            state: state_at(row, 2)?,
+            body: Text::new(text_at(row, 3)?),
+            digest: digest_at(row, 4)?,
+        })
     }
-    Ok(RevisionRow {
-        number: number_at(row, 0)?,
-        author: word_at(alloc, row, 1)?,
-        state: state_at(row, 2)?,
-        body: Text::new(text_at(row, 3)?),
-        digest: digest_at(row, 4)?,
-    })
-}
-
-// The revision of the row that a query found, if it found one.
-fn revision_of(
-    alloc: Global,
-    found: Result<Option<Row>, Fault>,
-) -> Result<Option<RevisionRow>, Fault>
-    ensures { IsTold (TellsOne revision_columns IsRevisionForm) found result }
-{
-    match found? {
-        Some(row) => Ok(Some(read_revision(alloc, &row)?)),
-        None => Ok(None),
-    }
-}
-
-// The row of a revision.
-fn row_at<S: Alter>(
-    conn: &mut Connection<S>,
-    profile: &ProfileName,
-    number: u32,
-) -> Result<Option<Row>, Fault>
-    requires { IsIdle (state S.Store conn.old) }
-    ensures read { Reads S.Store conn.old conn.new result
-        (λ t row. row ≡ option_map revision_columns (t.revisions profile.now number)) }
-    ensures row { FindsFirst S.Store conn.old conn.new
-        REVISION_AT.now (revision_params profile.now number) result }
-{
-    first_row(conn, REVISION_AT, &of_number(profile, number))
-}
-
-// The row of the issued revision of a profile.
-fn issued_row<S: Alter>(
-    conn: &mut Connection<S>,
-    profile: &ProfileName,
-) -> Result<Option<Row>, Fault>
-    requires { IsIdle (state S.Store conn.old) }
-    ensures read { Reads S.Store conn.old conn.new result (λ t row. IsIssuedRow t profile.now row) }
-    ensures row { FindsFirst S.Store conn.old conn.new
-        ISSUED_OF.now (profile_params profile.now) result }
-{
-    first_row(conn, ISSUED_OF, &of_profile(profile))
-}
-
-// The row of the last revision of a profile.
-fn last_row<S: Alter>(conn: &mut Connection<S>, profile: &ProfileName) -> Result<Option<Row>, Fault>
-    requires { IsIdle (state S.Store conn.old) }
-    ensures read { Reads S.Store conn.old conn.new result (λ t row. IsLastRow t profile.now row) }
-    ensures row { FindsFirst S.Store conn.old conn.new
-        LAST_OF.now (profile_params profile.now) result }
-{
-    first_row(conn, LAST_OF, &of_profile(profile))
-}
-
-// The row of a revision of a profile.
-fn row_of<S: Alter>(conn: &mut Connection<S>, profile: &ProfileName) -> Result<Option<Row>, Fault>
-    requires { IsIdle (state S.Store conn.old) }
-    ensures read { Reads S.Store conn.old conn.new result
-        (λ t row. is_some row ≡ true ↔ HasRevision t profile.now) }
-    ensures row { FindsFirst S.Store conn.old conn.new
-        REVISION_OF.now (profile_params profile.now) result }
-{
-    first_row(conn, REVISION_OF, &of_profile(profile))
 }
 
 /// Whether a profile has a revision.
@@ -143,7 +79,7 @@ pub fn has_revision<S: Alter>(
     ensures told { ReadsFirst S.Store conn.old conn.new
         REVISION_OF.now (profile_params profile.now) TellsWhether result }
 {
-    is_there(row_of(conn, profile))
+    finds_any(conn, REVISION_OF, &of_profile(profile))
 }
 
 /// A revision of a profile by its number.
@@ -160,7 +96,7 @@ pub fn revision<S: Alter>(
         REVISION_AT.now (revision_params profile.now number)
         (TellsOne revision_columns IsRevisionForm) result }
 {
-    revision_of(alloc, row_at(conn, profile, number))
+    find(alloc, conn, REVISION_AT, &of_number(profile, number))
 }
 
 /// The revision of a profile that is issued.
@@ -176,7 +112,7 @@ pub fn issued<S: Alter>(
         ISSUED_OF.now (profile_params profile.now)
         (TellsOne revision_columns IsRevisionForm) result }
 {
-    revision_of(alloc, issued_row(conn, profile))
+    find(alloc, conn, ISSUED_OF, &of_profile(profile))
 }
 
 /// The revision of a profile with the greatest number.
@@ -191,7 +127,7 @@ pub fn last<S: Alter>(
     ensures told { ReadsFirst S.Store conn.old conn.new
         LAST_OF.now (profile_params profile.now) (TellsOne revision_columns IsRevisionForm) result }
 {
-    revision_of(alloc, last_row(conn, profile))
+    find(alloc, conn, LAST_OF, &of_profile(profile))
 }
 
 /// Adds a revision under its number, which no other of its profile has, and closes the open one of

@@ -1,23 +1,22 @@
 //! The table of users.
 
-ghost use Rattle.std.specs.Prelude.{◌≡◌, [], ◌∷◌, Err, IfOk, IfErr, option_map};
+ghost use Rattle.std.specs.Prelude.{◌≡◌, [], ◌∷◌};
 ghost use Rattle.sqlite.specs.Held.{state};
 ghost use Rattle.sqlite.specs.declared.types.Value.TheVariants.{Text as SqlText, Blob};
-ghost use Rattle.office_rows.specs.Told.{IsOfRow, IsTold, TellsOne};
+ghost use Rattle.office_rows.specs.Told.{TellsOne};
 ghost use Rattle.office_tables.specs.Changes.{with_user};
 ghost use Rattle.office_tables.specs.Reads.{IsUserShowing};
 ghost use Rattle.office_store.specs.Calls.{Into};
-ghost use Rattle.office_store.specs.Connections.{AcceptsFormed, FindsFirst, MeetsOnErr, Reads};
-ghost use Rattle.office_store.specs.Connections.{ReadsFirst, Writes};
+ghost use Rattle.office_store.specs.Connections.{MeetsOnErr, Reads, ReadsFirst, Writes};
 ghost use Rattle.office_store.specs.Entries.{user_row, IsUser};
-ghost use Rattle.office_store.specs.Reads.{IsRowShowing};
 ghost use Rattle.office_store.specs.Shown.{IsIdle};
 ghost use Rattle.office_store.specs.Writes.{putting_user};
 
 use crate::bind::{of_digest, of_user, of_word};
 use crate::column::{digest_at, roles_at, word_at};
+use crate::finding::find;
+use crate::from_row::FromRow;
 use crate::write::write_one;
-use office_rows::first_row;
 use office_tables::UserRow;
 use review_policy::{Fault, Word};
 use sqlite::{Alter, Connection, Row};
@@ -31,52 +30,22 @@ pub(crate) const USER_BY_TOKEN: &str =
 pub(crate) const PUT_USER: &str =
     "INSERT INTO users (name, team, roles, token) VALUES (?1, ?2, ?3, ?4) ON CONFLICT (name) DO UPDATE SET team = ?2, roles = ?3, token = ?4";
 
-// The user that a row stands for.
-fn read_user(alloc: Global, row: &Row) -> Result<UserRow, Fault>
-    ensures user { IfOk result (λ user. row.now ≡ user_row user) }
-    ensures formed { AcceptsFormed user_row IsUser row.now result }
-    ensures cause { IfErr result IsOfRow }
-{
-    if row.column_count() != 4 {
-        return Err(Fault::NotAnOffice);
+impl FromRow<Global> for UserRow {
+    ghost encode = { user_row };
+
+    ghost IsFormed = { IsUser };
+
+    fn from_row(alloc: Global, row: &Row) -> Result<UserRow, Fault> {
+        if row.column_count() != 4 {
+            return Err(Fault::NotAnOffice);
+        }
+        Ok(UserRow {
+            name: word_at(alloc, row, 0)?,
+            team: word_at(alloc, row, 1)?,
+            roles: roles_at(row, 2)?,
+            digest: digest_at(row, 3)?,
+        })
     }
-    Ok(UserRow {
-        name: word_at(alloc, row, 0)?,
-        team: word_at(alloc, row, 1)?,
-        roles: roles_at(row, 2)?,
-        digest: digest_at(row, 3)?,
-    })
-}
-
-// The user of the row that a query found, if it found one.
-fn user_of(alloc: Global, found: Result<Option<Row>, Fault>) -> Result<Option<UserRow>, Fault>
-    ensures { IsTold (TellsOne user_row IsUser) found result }
-{
-    match found? {
-        Some(row) => Ok(Some(read_user(alloc, &row)?)),
-        None => Ok(None),
-    }
-}
-
-// The row of the user of that name.
-fn row_named<S: Alter>(conn: &mut Connection<S>, name: &Word) -> Result<Option<Row>, Fault>
-    requires { IsIdle (state S.Store conn.old) }
-    ensures read { Reads S.Store conn.old conn.new result
-        (λ t row. row ≡ option_map user_row (t.users name.now)) }
-    ensures row { FindsFirst S.Store conn.old conn.new
-        USER_BY_NAME.now (SqlText name.now ∷ []) result }
-{
-    first_row(conn, USER_BY_NAME, &of_word(name))
-}
-
-// The row of the user whose token has that digest.
-fn row_showing<S: Alter>(conn: &mut Connection<S>, digest: &[u8; 32]) -> Result<Option<Row>, Fault>
-    requires { IsIdle (state S.Store conn.old) }
-    ensures read { Reads S.Store conn.old conn.new result (λ t row. IsRowShowing t digest.now row) }
-    ensures row { FindsFirst S.Store conn.old conn.new
-        USER_BY_TOKEN.now (Blob digest.now ∷ []) result }
-{
-    first_row(conn, USER_BY_TOKEN, &of_digest(digest))
 }
 
 /// The user of that name.
@@ -90,7 +59,7 @@ pub fn user_by_name<S: Alter>(
     ensures told { ReadsFirst S.Store conn.old conn.new
         USER_BY_NAME.now (SqlText name.now ∷ []) (TellsOne user_row IsUser) result }
 {
-    user_of(alloc, row_named(conn, name))
+    find(alloc, conn, USER_BY_NAME, &of_word(name))
 }
 
 /// A user whose token has that SHA-256.
@@ -105,7 +74,7 @@ pub fn user_by_token<S: Alter>(
     ensures told { ReadsFirst S.Store conn.old conn.new
         USER_BY_TOKEN.now (Blob digest.now ∷ []) (TellsOne user_row IsUser) result }
 {
-    user_of(alloc, row_showing(conn, digest))
+    find(alloc, conn, USER_BY_TOKEN, &of_digest(digest))
 }
 
 /// Puts a user in the place of any of that name. Where another user shows the same token the store

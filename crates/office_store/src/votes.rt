@@ -1,22 +1,22 @@
 //! The table of votes.
 
-ghost use Rattle.std.specs.Prelude.{◌≡◌, IfOk, IfErr, option_map};
+ghost use Rattle.std.specs.Prelude.{◌≡◌, option_map};
 ghost use Rattle.sqlite.specs.Held.{state};
-ghost use Rattle.office_rows.specs.Told.{IsOfRow, IsTold, TellsOne};
+ghost use Rattle.office_rows.specs.Told.{TellsOne};
 ghost use Rattle.office_tables.specs.Changes.{with_vote};
 ghost use Rattle.office_store.specs.Ballots.{vote_of, row_of_ballot, IsBallot};
 ghost use Rattle.office_store.specs.Calls.{Into};
-ghost use Rattle.office_store.specs.Connections.{AcceptsFormed, FindsFirst, MeetsOnErr, Reads};
-ghost use Rattle.office_store.specs.Connections.{ReadsFirst, Writes};
-ghost use Rattle.office_store.specs.Entries.{vote_entry, voted_row};
+ghost use Rattle.office_store.specs.Connections.{MeetsOnErr, Reads, ReadsFirst, Writes};
+ghost use Rattle.office_store.specs.Entries.{vote_entry};
 ghost use Rattle.office_store.specs.Keys.{vote_params};
 ghost use Rattle.office_store.specs.Shown.{IsIdle};
 ghost use Rattle.office_store.specs.Writes.{putting_vote};
 
 use crate::bind::{of_vote, of_voter};
 use crate::column::flag_at;
+use crate::finding::find;
+use crate::from_row::FromRow;
 use crate::write::write_one;
-use office_rows::first_row;
 use review_policy::{Fault, ProfileName, Word};
 use sqlite::{Alter, Connection, Row};
 
@@ -33,45 +33,20 @@ pub struct Ballot {
     pub security: bool,
 }
 
-// The vote that a row stands for.
-fn read_ballot(row: &Row) -> Result<Ballot, Fault>
-    ensures ballot { IfOk result (λ ballot. row.now ≡ row_of_ballot ballot) }
-    ensures formed { AcceptsFormed row_of_ballot IsBallot row.now result }
-    ensures cause { IfErr result IsOfRow }
-{
-    if row.column_count() != 2 {
-        return Err(Fault::NotAnOffice);
-    }
-    Ok(Ballot {
-        approves: flag_at(row, 0)?,
-        security: flag_at(row, 1)?,
-    })
-}
+impl FromRow<()> for Ballot {
+    ghost encode = { row_of_ballot };
 
-// The vote of the row that a query found, if it found one.
-fn found_ballot(found: Result<Option<Row>, Fault>) -> Result<Option<Ballot>, Fault>
-    ensures { IsTold (TellsOne row_of_ballot IsBallot) found result }
-{
-    match found? {
-        Some(row) => Ok(Some(read_ballot(&row)?)),
-        None => Ok(None),
-    }
-}
+    ghost IsFormed = { IsBallot };
 
-// The row of the vote of a user on a revision.
-fn row_by<S: Alter>(
-    conn: &mut Connection<S>,
-    profile: &ProfileName,
-    number: u32,
-    voter: &Word,
-) -> Result<Option<Row>, Fault>
-    requires { IsIdle (state S.Store conn.old) }
-    ensures read { Reads S.Store conn.old conn.new result
-        (λ t row. row ≡ option_map voted_row (t.votes profile.now number voter.now)) }
-    ensures row { FindsFirst S.Store conn.old conn.new
-        VOTE_AT.now (vote_params profile.now number voter.now) result }
-{
-    first_row(conn, VOTE_AT, &of_voter(profile, number, voter))
+    fn from_row(_: (), row: &Row) -> Result<Ballot, Fault> {
+        if row.column_count() != 2 {
+            return Err(Fault::NotAnOffice);
+        }
+        Ok(Ballot {
+            approves: flag_at(row, 0)?,
+            security: flag_at(row, 1)?,
+        })
+    }
 }
 
 /// The last vote of a user on a revision.
@@ -88,7 +63,7 @@ pub fn ballot_of<S: Alter>(
         VOTE_AT.now (vote_params profile.now number voter.now)
         (TellsOne row_of_ballot IsBallot) result }
 {
-    found_ballot(row_by(conn, profile, number, voter))
+    find((), conn, VOTE_AT, &of_voter(profile, number, voter))
 }
 
 /// Puts a user's vote on a revision in the place of any earlier one of that user there.

@@ -2,52 +2,21 @@
 
 ghost use Rattle.std.specs.Prelude.{◌≡◌, [], ◌∷◌, ◌++◌, string_bytes, None, Some, IfOk, IfErr};
 ghost use Rattle.sqlite.specs.Held.{state};
-ghost use Rattle.sqlite.specs.declared.types.Value.TheVariants.{Text as SqlText};
-ghost use Rattle.office_rows.specs.Told.{IsTold, TellsOne};
-ghost use Rattle.office_store.specs.Connections.{FindsFirst, Reads};
-ghost use Rattle.office_store.specs.Lists.{listed_row, IsListedForm, IsRowAbove, IsNextListed};
+ghost use Rattle.office_store.specs.Connections.{Reads};
+ghost use Rattle.office_store.specs.Lists.{IsNextListed};
 ghost use Rattle.office_store.specs.Shown.{IsIdle};
 ghost use Rattle.no_memory.specs.Witness.{witness};
 
 use crate::bind::of_bound;
-use crate::listing::read_listed;
-use office_rows::first_row;
+use crate::finding::find;
 use office_tables::ListedRevision;
 use review_policy::{Fault, Word};
-use sqlite::{Alter, Connection, Row};
+use sqlite::{Alter, Connection};
 use std::alloc::Global;
 
 // The index by state has this order and all three columns, so that one entry of it is read.
 pub(crate) const LISTED_ABOVE: &str =
     "SELECT profile, number, state FROM revisions WHERE team = ?1 AND profile > ?2 ORDER BY profile, state, number LIMIT 1";
-
-// The row of a revision of the first profile of a team whose name is above a text.
-fn row_above<S: Alter>(
-    conn: &mut Connection<S>,
-    team: &Word,
-    bound: &str,
-) -> Result<Option<Row>, Fault>
-    requires { IsIdle (state S.Store conn.old) }
-    ensures read { Reads S.Store conn.old conn.new result
-        (λ t row. IsRowAbove t team.now bound.now row) }
-    ensures row { FindsFirst S.Store conn.old conn.new
-        LISTED_ABOVE.now (SqlText team.now ∷ SqlText bound.now ∷ []) result }
-{
-    first_row(conn, LISTED_ABOVE, &of_bound(team, bound))
-}
-
-// The revision of the row that a query found, if it found one.
-fn found_listed(
-    alloc: Global,
-    found: Result<Option<Row>, Fault>,
-) -> Result<Option<ListedRevision>, Fault>
-    ensures { IsTold (TellsOne listed_row IsListedForm) found result }
-{
-    match found? {
-        Some(row) => Ok(Some(read_listed(alloc, &row)?)),
-        None => Ok(None),
-    }
-}
 
 // A text above a name and below each other word that is above that one, since no word has a byte as
 // low as a space. A scan from the name itself would read all its revisions.
@@ -69,7 +38,7 @@ pub fn first_listed<S: Alter>(
     ensures { Reads S.Store conn.old conn.new result
         (λ t listed. IsNextListed t team.now None listed) }
 {
-    found_listed(alloc, row_above(conn, team, ""))
+    find(alloc, conn, LISTED_ABOVE, &of_bound(team, ""))
 }
 
 /// The same of the first profile after that of a name.
@@ -84,5 +53,5 @@ pub fn next_listed<S: Alter>(
         (λ t listed. IsNextListed t team.now (Some name.now) listed) }
 {
     let bound = bound_after(alloc, name)?;
-    found_listed(alloc, row_above(conn, team, bound.as_str()))
+    find(alloc, conn, LISTED_ABOVE, &of_bound(team, bound.as_str()))
 }

@@ -1,6 +1,6 @@
 -- Lists that have each member once.
 use Rattle.std.proofs.Common.{◌⊎◌, inl, inr, ◌≡◌, ◌<◌, ℕ, zero, suc, List, [], ◌∷◌, ◌++◌, length, get_or, refl, sym, ap, subst, arith}
-use Rattle.std.specs.List.{Contains, AllPairs}
+use Rattle.std.specs.List.{Contains}
 use Rattle.std.specs.List.Sorted.{IsPermutation}
 use Rattle.std.proofs.lemmas.List.Sorted.{IsPermutation-refl, IsPermutation-cons, IsPermutation-sym, IsPermutation-trans, IsPermutation-middle}
 
@@ -37,13 +37,6 @@ module _ {X : Type 0} where
   contains_had xs x h = let it = place_of xs x h in (it.0, it.1, it.2 x)
 
   -- a list of which no earlier one is a later one has each once
-  pub once_from : (xs : List X) → AllPairs (λ a b. a ≡ b → ⊥) xs → AreOnce xs
-  once_from [] apart = tt
-  once_from (x ∷ xs) apart = (
-    (λ h. let it = place_of xs x h in apart 0 (suc it.0) x (omega arith) (omega arith) (sym (it.2 x))),
-    once_from xs (λ i j d before below. apart (suc i) (suc j) d (omega arith) (omega arith)),
-  )
-
   record IsSplit (x : X) (ys : List X) : Type 0 where
     before : List X
     after : List X

@@ -1,16 +1,20 @@
-use Rattle.std.proofs.Common.{sym, subst}
-use Rattle.office_rows.specs.Told.{map_ok}
 use Rattle.sqlite.specs.Held.{state}
+use Rattle.office_store.specs.declared.author.TheConstants.{AUTHORS_OF}
+use Rattle.office_store.proofs.Queries.{authors_of}
+use Rattle.office_store.proofs.Sure as sure
 use Rattle.office_tables.specs.Lists.{AreAuthors}
 use Rattle.office_store.specs.Lists.{name_row, IsWord}
-use Rattle.office_store.proofs.ToldLists.{list_read_told, same_list}
+use Rattle.office_store.proofs.AuthorReads.{reads_authors}
 use Rattle.office_store.proofs.ToldLists.{same_name_row}
+use Rattle.office_store.proofs.Told.{values_read}
 use Rattle.office_store.proofs.author.authors.Goals as goal
 
 pub returns-clause-read : goal.returns-clause-read
 returns-clause-read g c =
-    list_read_told (λ rows. rows.items) (λ read. read.items) name_row IsWord (state g.S.Store c.args.conn.now) (state g.S.Store c.author_rows.new.conn) _ _ c.author_rows.result c.names_of.result c.author_rows.ensures.read c.names_of.ensures
-    (λ t shows rows it. (it.names, it.formed, it.rows_are, λ read are. subst (AreAuthors t c.args.profile.now) (sym (same_list name_row same_name_row read.items it.names are)) it.authors))
+    let old = state g.S.Store c.args.conn.now in
+    let new = state g.S.Store c.find_all.new.conn in
+    values_read AUTHORS_OF.now authors_of _ _ old new c.requires c.find_all.ensures.mode (g.met.S.Store.settled c.find_all.new.conn.store) c.find_all.ensures.survives c.of_profile.ensures.row (sure.authors_of c.args.profile.now)
+    name_row IsWord same_name_row (λ values. values.items) (λ t names. AreAuthors t c.args.profile.now names) _ c.find_all.ensures.told (λ t shows. reads_authors old new t shows c.args.profile.now)
 
 pub returns-clause-told : goal.returns-clause-told
-returns-clause-told g c clean = record { rows = map_ok c.author_rows.result (λ rows. rows.items); found = c.author_rows.ensures.rows clean; told = c.names_of.ensures }
+returns-clause-told g c clean = rw c.of_profile.ensures.row at (c.find_all.ensures.told clean)

@@ -1,15 +1,18 @@
-use Rattle.std.proofs.Common.{◌∙◌, sym}
 use Rattle.sqlite.specs.Held.{state}
-use Rattle.office_store.specs.Briefs.{brief_of, brief_row, IsBrief}
-use Rattle.office_store.proofs.Told.{one_read}
-use Rattle.office_store.proofs.RevisionReads.{same_brief}
+use Rattle.office_store.specs.declared.briefs.TheConstants.{ISSUED_BRIEF}
+use Rattle.office_store.proofs.Queries.{issued_brief}
+use Rattle.office_store.proofs.Sure as sure
+use Rattle.office_store.specs.Briefs.{brief_row, IsBrief}
+use Rattle.office_store.proofs.RevisionReads.{reads_issued_brief, same_brief}
+use Rattle.office_store.proofs.Told.{value_read}
 use Rattle.office_store.proofs.briefs.issued_brief.Goals as goal
 
 pub returns-clause-read : goal.returns-clause-read
 returns-clause-read g c =
-    one_read brief_row IsBrief (state g.S.Store c.args.conn.now) (state g.S.Store c.issued_row.new.conn) _ _ c.issued_row.result c.found_brief.result c.issued_row.ensures.read c.found_brief.ensures
-    (λ t shows none. none)
-    (λ t shows w it. (brief_of it.0, it.2, it.3, λ y is. (it.0, it.1, same_brief (brief_of it.0) y (sym it.3 ∙ is))))
+    let old = state g.S.Store c.args.conn.now in
+    let new = state g.S.Store c.find.new.conn in
+    value_read ISSUED_BRIEF.now issued_brief _ _ old new c.requires c.find.ensures.mode (g.met.S.Store.settled c.find.new.conn.store) c.find.ensures.survives c.of_profile.ensures.row (sure.issued_brief c.args.profile.now)
+    brief_row IsBrief same_brief _ _ c.find.ensures.told (λ t shows. reads_issued_brief old new t shows c.args.profile.now)
 
 pub returns-clause-told : goal.returns-clause-told
-returns-clause-told g c clean = record { row = c.issued_row.result; found = c.issued_row.ensures.row clean; told = c.found_brief.ensures }
+returns-clause-told g c clean = rw c.of_profile.ensures.row at (c.find.ensures.told clean)

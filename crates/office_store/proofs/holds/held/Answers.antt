@@ -1,11 +1,17 @@
 use Rattle.sqlite.specs.Held.{state}
-use Rattle.office_store.proofs.Told.{whether_read}
+use Rattle.office_store.specs.declared.holds.TheConstants.{HOLD_OF}
+use Rattle.office_store.proofs.Queries.{hold_of}
+use Rattle.office_store.proofs.Sure as sure
+use Rattle.office_store.proofs.OtherReads.{reads_hold}
+use Rattle.office_store.proofs.Told.{any_read}
 use Rattle.office_store.proofs.holds.held.Goals as goal
 
 pub returns-clause-read : goal.returns-clause-read
 returns-clause-read g c =
-    whether_read (state g.S.Store c.args.conn.now) (state g.S.Store c.hold_of.new.conn) _ _ c.hold_of.result c.is_there.result c.hold_of.ensures.read c.is_there.ensures
-    (λ t o found. found)
+    let old = state g.S.Store c.args.conn.now in
+    let new = state g.S.Store c.finds_any.new.conn in
+    any_read HOLD_OF.now hold_of _ _ old new c.requires c.finds_any.ensures.mode (g.met.S.Store.settled c.finds_any.new.conn.store) c.finds_any.ensures.survives c.of_profile.ensures.row (sure.hold_of c.args.profile.now)
+    _ _ c.finds_any.ensures.told (λ t shows. reads_hold old new t shows c.args.profile.now)
 
 pub returns-clause-told : goal.returns-clause-told
-returns-clause-told g c clean = record { row = c.hold_of.result; found = c.hold_of.ensures.row clean; told = c.is_there.ensures }
+returns-clause-told g c clean = rw c.of_profile.ensures.row at (c.finds_any.ensures.told clean)

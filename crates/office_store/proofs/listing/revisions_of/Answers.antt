@@ -1,16 +1,20 @@
-use Rattle.std.proofs.Common.{sym, subst}
-use Rattle.office_rows.specs.Told.{map_ok}
 use Rattle.sqlite.specs.Held.{state}
+use Rattle.office_store.specs.declared.listing.TheConstants.{REVISIONS_OF}
+use Rattle.office_store.proofs.Queries.{revisions_of}
+use Rattle.office_store.proofs.Sure as sure
 use Rattle.office_tables.specs.Lists.{AreRevisionsOf}
 use Rattle.office_store.specs.Lists.{listed_row, IsListedForm}
-use Rattle.office_store.proofs.ToldLists.{list_read_told, same_list}
+use Rattle.office_store.proofs.ListingReads.{reads_listed}
 use Rattle.office_store.proofs.ToldLists.{same_listed_row}
+use Rattle.office_store.proofs.Told.{values_read}
 use Rattle.office_store.proofs.listing.revisions_of.Goals as goal
 
 pub returns-clause-read : goal.returns-clause-read
 returns-clause-read g c =
-    list_read_told (λ rows. rows.items) (λ read. read.items) listed_row IsListedForm (state g.S.Store c.args.conn.now) (state g.S.Store c.listed_rows.new.conn) _ _ c.listed_rows.result c.listed_of.result c.listed_rows.ensures.read c.listed_of.ensures
-    (λ t shows rows it. (it.listed, it.formed, it.rows_are, λ read are. subst (AreRevisionsOf t c.args.team.now) (sym (same_list listed_row same_listed_row read.items it.listed are)) it.revisions))
+    let old = state g.S.Store c.args.conn.now in
+    let new = state g.S.Store c.find_all.new.conn in
+    values_read REVISIONS_OF.now revisions_of _ _ old new c.requires c.find_all.ensures.mode (g.met.S.Store.settled c.find_all.new.conn.store) c.find_all.ensures.survives c.of_word.ensures.row (sure.revisions_of c.args.team.now)
+    listed_row IsListedForm same_listed_row (λ values. values.items) (λ t listed. AreRevisionsOf t c.args.team.now listed) _ c.find_all.ensures.told (λ t shows. reads_listed old new t shows c.args.team.now)
 
 pub returns-clause-told : goal.returns-clause-told
-returns-clause-told g c clean = record { rows = map_ok c.listed_rows.result (λ rows. rows.items); found = c.listed_rows.ensures.rows clean; told = c.listed_of.ensures }
+returns-clause-told g c clean = rw c.of_word.ensures.row at (c.find_all.ensures.told clean)

@@ -1,14 +1,19 @@
 use Rattle.sqlite.specs.Held.{state}
+use Rattle.office_store.specs.declared.numbers.TheConstants.{ISSUED_NUMBER}
+use Rattle.office_store.proofs.Queries.{issued_number}
+use Rattle.office_store.proofs.Sure as sure
 use Rattle.office_store.specs.Lists.{number_row, IsNumber}
-use Rattle.office_store.proofs.Told.{one_read}
+use Rattle.office_store.proofs.RevisionReads.{reads_issued_number}
 use Rattle.office_store.proofs.ToldLists.{same_number_row}
+use Rattle.office_store.proofs.Told.{value_read}
 use Rattle.office_store.proofs.numbers.issued_number.Goals as goal
 
 pub returns-clause-read : goal.returns-clause-read
 returns-clause-read g c =
-    one_read number_row IsNumber (state g.S.Store c.args.conn.now) (state g.S.Store c.issued_number_row.new.conn) _ _ c.issued_number_row.result c.number_of.result c.issued_number_row.ensures.read c.number_of.ensures
-    (λ t shows none. none)
-    (λ t shows w it. (it.0.number, it.2, it.3, λ y is. (it.0, it.1, same_number_row it.0.number y w it.3 is)))
+    let old = state g.S.Store c.args.conn.now in
+    let new = state g.S.Store c.find.new.conn in
+    value_read ISSUED_NUMBER.now issued_number _ _ old new c.requires c.find.ensures.mode (g.met.S.Store.settled c.find.new.conn.store) c.find.ensures.survives c.of_profile.ensures.row (sure.issued_number c.args.profile.now)
+    number_row IsNumber same_number_row _ _ c.find.ensures.told (λ t shows. reads_issued_number old new t shows c.args.profile.now)
 
 pub returns-clause-told : goal.returns-clause-told
-returns-clause-told g c clean = record { row = c.issued_number_row.result; found = c.issued_number_row.ensures.row clean; told = c.number_of.ensures }
+returns-clause-told g c clean = rw c.of_profile.ensures.row at (c.find.ensures.told clean)

@@ -1,14 +1,19 @@
 use Rattle.sqlite.specs.Held.{state}
-use Rattle.office_store.specs.Numbered.{numbered_of, numbered_row, IsNumbered}
-use Rattle.office_store.proofs.Told.{one_read}
+use Rattle.office_store.specs.declared.numbers.TheConstants.{LAST_NUMBERED}
+use Rattle.office_store.proofs.Queries.{last_numbered}
+use Rattle.office_store.proofs.Sure as sure
+use Rattle.office_store.specs.Numbered.{numbered_row, IsNumbered}
+use Rattle.office_store.proofs.RevisionReads.{reads_last_numbered}
 use Rattle.office_store.proofs.ToldLists.{same_numbered_row}
+use Rattle.office_store.proofs.Told.{value_read}
 use Rattle.office_store.proofs.numbers.last_numbered.Goals as goal
 
 pub returns-clause-read : goal.returns-clause-read
 returns-clause-read g c =
-    one_read numbered_row IsNumbered (state g.S.Store c.args.conn.now) (state g.S.Store c.last_numbered_row.new.conn) _ _ c.last_numbered_row.result c.numbered_of.result c.last_numbered_row.ensures.read c.numbered_of.ensures
-    (λ t shows none. none)
-    (λ t shows w it. (numbered_of it.0, it.2, it.3, λ y is. (it.0, it.1, same_numbered_row (numbered_of it.0) y w it.3 is)))
+    let old = state g.S.Store c.args.conn.now in
+    let new = state g.S.Store c.find.new.conn in
+    value_read LAST_NUMBERED.now last_numbered _ _ old new c.requires c.find.ensures.mode (g.met.S.Store.settled c.find.new.conn.store) c.find.ensures.survives c.of_profile.ensures.row (sure.last_numbered c.args.profile.now)
+    numbered_row IsNumbered same_numbered_row _ _ c.find.ensures.told (λ t shows. reads_last_numbered old new t shows c.args.profile.now)
 
 pub returns-clause-told : goal.returns-clause-told
-returns-clause-told g c clean = record { row = c.last_numbered_row.result; found = c.last_numbered_row.ensures.row clean; told = c.numbered_of.ensures }
+returns-clause-told g c clean = rw c.of_profile.ensures.row at (c.find.ensures.told clean)

@@ -1,4 +1,4 @@
-use Rattle.std.proofs.Common.{◌≡◌, ◌∙◌, Bool, inl, inr, pos, refl, false, true≢false, sym, ap, arith}
+use Rattle.std.proofs.Common.{◌∙◌, Bool, inl, inr, pos, refl, false, true≢false, sym, ap, arith}
 use Rattle.std.specs.Prelude.{◌||◌}
 use Rattle.std.specs.Ordering.{is_eq}
 use Rattle.sqlite.specs.declared.types.Value.TheVariants.{Int}

@@ -1,11 +1,17 @@
 use Rattle.sqlite.specs.Held.{state}
-use Rattle.office_store.proofs.Told.{whether_read}
+use Rattle.office_store.specs.declared.revisions.TheConstants.{REVISION_OF}
+use Rattle.office_store.proofs.Queries.{revision_of}
+use Rattle.office_store.proofs.Sure as sure
+use Rattle.office_store.proofs.RevisionReads.{reads_any}
+use Rattle.office_store.proofs.Told.{any_read}
 use Rattle.office_store.proofs.revisions.has_revision.Goals as goal
 
 pub returns-clause-read : goal.returns-clause-read
 returns-clause-read g c =
-    whether_read (state g.S.Store c.args.conn.now) (state g.S.Store c.row_of.new.conn) _ _ c.row_of.result c.is_there.result c.row_of.ensures.read c.is_there.ensures
-    (λ t o found. found)
+    let old = state g.S.Store c.args.conn.now in
+    let new = state g.S.Store c.finds_any.new.conn in
+    any_read REVISION_OF.now revision_of _ _ old new c.requires c.finds_any.ensures.mode (g.met.S.Store.settled c.finds_any.new.conn.store) c.finds_any.ensures.survives c.of_profile.ensures.row (sure.revision_of c.args.profile.now)
+    _ _ c.finds_any.ensures.told (λ t shows. reads_any old new t shows c.args.profile.now)
 
 pub returns-clause-told : goal.returns-clause-told
-returns-clause-told g c clean = record { row = c.row_of.result; found = c.row_of.ensures.row clean; told = c.is_there.ensures }
+returns-clause-told g c clean = rw c.of_profile.ensures.row at (c.finds_any.ensures.told clean)

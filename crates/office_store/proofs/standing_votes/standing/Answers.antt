@@ -2,11 +2,11 @@ use Rattle.std.proofs.Common.{rules, refl, sym, subst, ◌∙◌}
 use Rattle.std.proofs.lemmas.Result.{IfOk-weaker}
 use Rattle.sqlite.specs.Held.{state}
 use Rattle.office_rows.specs.Told.{map_ok}
-use Rattle.office_store.proofs.ToldLists.{same_standings, votes_failed, votes_told}
+use Rattle.office_store.proofs.ToldLists.{same_standings, all_failed, all_told, tells_votes}
 use Rattle.office_store.proofs.Told.{only_memory}
 use Rattle.office_store.proofs.Calls.{read_failed, read_made}
 use Rattle.office_tables.specs.Lists.{AreStanding}
-use Rattle.office_store.specs.Lists.{AreCastAs}
+use Rattle.office_store.specs.Lists.{AreCastAs, TellsVotes}
 use Rattle.office_store.proofs.standing_votes.standing.Goals as goal
 
 pub returns-in_err-rows-clause-read : goal.returns-in_err-rows-clause-read
@@ -27,12 +27,13 @@ pub returns-in_err-rows-clause-told : goal.returns-in_err-rows-clause-told
 returns-in_err-rows-clause-told g c clean = record {
   rows = map_ok c.vote_rows.result (λ rows. rows.items);
   found = c.vote_rows.ensures.rows clean;
-  told = votes_failed (λ rows. rows.items) (λ votes. votes.items) c.vote_rows.result _ _ c.in_err-rows.was (search rules);
+  told = all_failed TellsVotes (λ rows. rows.items) (λ votes. votes.items) c.vote_rows.result _ _ c.in_err-rows.was (search rules);
 }
 
 pub returns-clause-told : goal.returns-clause-told
 returns-clause-told g c clean = record {
   rows = map_ok c.vote_rows.result (λ rows. rows.items);
   found = c.vote_rows.ensures.rows clean;
-  told = votes_told (λ rows. rows.items) (λ votes. votes.items) c.vote_rows.result _ c.in_ok-rows.was _ c.as_slice.ensures.value c.read_votes.result c.read_votes.ensures.read c.read_votes.ensures.formed c.read_votes.ensures.cause;
+  told = all_told TellsVotes (λ rows. rows.items) (λ votes. votes.items) c.vote_rows.result _ c.in_ok-rows.was _ c.as_slice.ensures.value c.read_votes.result
+      (tells_votes (λ votes. votes.items) _ c.read_votes.result c.read_votes.ensures.read c.read_votes.ensures.formed c.read_votes.ensures.cause);
 }

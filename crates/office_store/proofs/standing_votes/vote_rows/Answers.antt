@@ -11,7 +11,7 @@ pub returns-clause-read : goal.returns-clause-read
 returns-clause-read g c =
     rows_read (λ rows. rows.items) VOTES_ON.now votes_on _ _ (state g.S.Store c.args.conn.now) (state g.S.Store c.all_rows.new.conn) c.all_rows.result _ c.requires c.all_rows.ensures.mode
     (g.met.S.Store.settled c.all_rows.new.conn.store) c.all_rows.ensures.survives c.all_rows.ensures.rows c.all_rows.ensures.fault c.of_number.ensures.row (sure.votes_on c.args.profile.now c.args.number)
-    (λ t shows rows fault. let it = reads_votes (state g.S.Store c.args.conn.now) (state g.S.Store c.all_rows.new.conn) t shows c.requires.autocommit (λ rows. rows.items) c.args.profile.now c.args.number c.all_rows.result rows fault in it.found)
+    (λ t shows. reads_votes (state g.S.Store c.args.conn.now) (state g.S.Store c.all_rows.new.conn) t shows (λ rows. rows.items) c.args.profile.now c.args.number c.all_rows.result)
 
 pub returns-clause-rows : goal.returns-clause-rows
 returns-clause-rows g c clean = rows_found (λ rows. rows.items) VOTES_ON.now _ _ (state g.S.Store c.args.conn.now) (state g.S.Store c.all_rows.new.conn) c.all_rows.result (c.all_rows.ensures.rows clean) (c.all_rows.ensures.fault clean) c.of_number.ensures.row

@@ -1,18 +1,18 @@
-use Rattle.std.proofs.Common.{Some, sym, ◌∙◌, ap}
 use Rattle.sqlite.specs.Held.{state}
+use Rattle.office_store.specs.declared.users.TheConstants.{USER_BY_NAME}
+use Rattle.office_store.proofs.Queries.{user_by_name}
+use Rattle.office_store.proofs.Sure as sure
 use Rattle.office_store.specs.Entries.{user_row, IsUser}
-use Rattle.office_store.proofs.Kept.{some_shown, none_shown}
-use Rattle.office_store.proofs.UserReads.{found_formed, same_user}
-use Rattle.office_store.proofs.Told.{one_read}
+use Rattle.office_store.proofs.UserReads.{reads_named, same_user}
+use Rattle.office_store.proofs.Told.{value_read}
 use Rattle.office_store.proofs.users.user_by_name.Goals as goal
 
 pub returns-clause-read : goal.returns-clause-read
 returns-clause-read g c =
-    one_read user_row IsUser (state g.S.Store c.args.conn.now) (state g.S.Store c.row_named.new.conn) _ _ c.row_named.result c.user_of.result c.row_named.ensures.read c.user_of.ensures
-    (λ t shows none. sym (none_shown user_row _ none))
-    (λ t shows w found.
-    let u = some_shown user_row _ w found in
-    (u.0, found_formed (state g.S.Store c.args.conn.now) (state g.S.Store c.row_named.new.conn) t shows c.args.name.now u.0 u.1, u.2, λ y is. ap Some (sym (same_user u.0 y (sym u.2 ∙ is))) ∙ sym u.1))
+    let old = state g.S.Store c.args.conn.now in
+    let new = state g.S.Store c.find.new.conn in
+    value_read USER_BY_NAME.now user_by_name _ _ old new c.requires c.find.ensures.mode (g.met.S.Store.settled c.find.new.conn.store) c.find.ensures.survives c.of_word.ensures.row (sure.user_by_name c.args.name.now)
+    user_row IsUser same_user _ _ c.find.ensures.told (λ t shows. reads_named old new t shows c.args.name.now)
 
 pub returns-clause-told : goal.returns-clause-told
-returns-clause-told g c clean = record { row = c.row_named.result; found = c.row_named.ensures.row clean; told = c.user_of.ensures }
+returns-clause-told g c clean = rw c.of_word.ensures.row at (c.find.ensures.told clean)

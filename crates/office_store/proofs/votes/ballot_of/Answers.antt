@@ -1,19 +1,18 @@
-use Rattle.std.proofs.Common.{Some, sym, ◌∙◌, ap}
 use Rattle.sqlite.specs.Held.{state}
-use Rattle.office_store.specs.Ballots.{vote_of, row_of_ballot, IsBallot}
-use Rattle.office_store.specs.Entries.{voted_row}
-use Rattle.office_store.proofs.BallotReads.{same_voted}
-use Rattle.office_store.proofs.Kept.{some_shown, none_shown}
-use Rattle.office_store.proofs.Told.{one_read}
+use Rattle.office_store.specs.declared.votes.TheConstants.{VOTE_AT}
+use Rattle.office_store.proofs.Queries.{vote_at}
+use Rattle.office_store.proofs.Sure as sure
+use Rattle.office_store.specs.Ballots.{row_of_ballot, IsBallot}
+use Rattle.office_store.proofs.BallotReads.{reads_vote, same_ballot}
+use Rattle.office_store.proofs.Told.{value_read}
 use Rattle.office_store.proofs.votes.ballot_of.Goals as goal
 
 pub returns-clause-read : goal.returns-clause-read
 returns-clause-read g c =
-    one_read row_of_ballot IsBallot (state g.S.Store c.args.conn.now) (state g.S.Store c.row_by.new.conn) _ _ c.row_by.result c.found_ballot.result c.row_by.ensures.read c.found_ballot.ensures
-    (λ t shows none. sym (none_shown voted_row _ none))
-    (λ t shows w found.
-    let v = some_shown voted_row _ w found in
-    (record { approves = v.0.approves; security = v.0.security }, tt, v.2, λ y is. ap Some (sym (same_voted v.0 (vote_of y) (sym v.2 ∙ is))) ∙ sym v.1))
+    let old = state g.S.Store c.args.conn.now in
+    let new = state g.S.Store c.find.new.conn in
+    value_read VOTE_AT.now vote_at _ _ old new c.requires c.find.ensures.mode (g.met.S.Store.settled c.find.new.conn.store) c.find.ensures.survives c.of_voter.ensures.row (sure.vote_at c.args.profile.now c.args.number c.args.voter.now)
+    row_of_ballot IsBallot same_ballot _ _ c.find.ensures.told (λ t shows. reads_vote old new t shows c.args.profile.now c.args.number c.args.voter.now)
 
 pub returns-clause-told : goal.returns-clause-told
-returns-clause-told g c clean = record { row = c.row_by.result; found = c.row_by.ensures.row clean; told = c.found_ballot.ensures }
+returns-clause-told g c clean = rw c.of_voter.ensures.row at (c.find.ensures.told clean)

@@ -1,11 +1,14 @@
-use Rattle.std.proofs.Common.{rules, ◌≡◌, Some, None, Err, sym, ◌∙◌, ◌++◌, [], ◌∷◌, subst}
+use Rattle.std.proofs.Common.{◌≡◌, Some, Err, ◌++◌, ◌∷◌, [], rules, subst}
 use Rattle.sqlite.specs.Held.{state}
-use Rattle.office_tables.specs.declared.listed.ListedRevision.{ListedRevision}
+use Rattle.office_store.specs.declared.walk.TheConstants.{LISTED_ABOVE}
 use Rattle.office_store.specs.Lists.{listed_row, IsListedForm, IsNextListed}
 use Rattle.office_store.proofs.Calls.{fails_unread}
-use Rattle.office_store.proofs.Told.{one_read}
+use Rattle.office_store.proofs.Queries.{listed_above}
+use Rattle.office_store.proofs.RowsOf.{row_as}
+use Rattle.office_store.proofs.Sure as sure
+use Rattle.office_store.proofs.Told.{value_read}
 use Rattle.office_store.proofs.ToldLists.{same_listed_row}
-use Rattle.office_store.proofs.WalkReads.{next_above}
+use Rattle.office_store.proofs.WalkReads.{reads_above, next_above}
 use Rattle.office_store.proofs.walk.next_listed.Goals as goal
 
 pub returns-in_err-bound : goal.returns-in_err-bound
@@ -16,17 +19,11 @@ returns-in_err-bound g c =
 pub returns : goal.returns
 returns g c =
     let old = state g.S.Store c.args.conn.now in
-    let new = state g.S.Store c.row_above.new.conn in
+    let new = state g.S.Store c.find.new.conn in
     let team = c.args.team.now in
     let name = c.args.name.now in
+    let text = c.as_str.result.now in
     let is : c.as_str.result.now ≡ name ++ 32 ∷ [] = search rules in
-    one_read listed_row IsListedForm old new _ _ c.row_above.result c.found_listed.result c.row_above.ensures.read c.found_listed.ensures
-    (λ t shows none. next_above old new t shows team name None (subst (λ text. IsNextListed t team (Some text) None) is none))
-    (λ t shows w it. (
-      it.0,
-      it.2,
-      it.3,
-      λ y is_row.
-          subst (λ (l : ListedRevision). IsNextListed t team (Some name) (Some l)) (same_listed_row it.0 y (sym it.3 ∙ is_row))
-          (next_above old new t shows team name (Some it.0) (subst (λ text. IsNextListed t team (Some text) (Some it.0)) is it.1)),
-    ))
+    value_read LISTED_ABOVE.now listed_above _ _ old new c.requires c.find.ensures.mode (g.met.S.Store.settled c.find.new.conn.store) c.find.ensures.survives c.of_bound.ensures (sure.listed_above team text)
+    listed_row IsListedForm same_listed_row _ _ c.find.ensures.told
+    (λ t shows row h. row_as listed_row IsListedForm _ _ (λ l it. next_above old new t shows team name l (subst (λ text. IsNextListed t team (Some text) l) is it)) row (reads_above old new t shows team text row h))

@@ -1,6 +1,0 @@
-use Rattle.std.proofs.Common.{rules}
-use Rattle.office_store.proofs.Rows.{two_columns}
-use Rattle.office_store.proofs.briefs.read_brief.Goals as goal
-
-pub returns-clause-brief : goal.returns-clause-brief
-returns-clause-brief c = two_columns c.args.row.now _ _ (search rules) c.in_ok-number_at.ensures.number.1 c.in_ok-digest_at.ensures.digest.1

@@ -1,6 +1,0 @@
-use Rattle.std.proofs.Common.{rules}
-use Rattle.office_store.proofs.Rows.{three_columns}
-use Rattle.office_store.proofs.listing.read_listed.Goals as goal
-
-pub returns-clause-listed : goal.returns-clause-listed
-returns-clause-listed c = three_columns c.args.row.now _ _ _ (search rules) c.in_ok-word_at.ensures.word.1 c.in_ok-number_at.ensures.number.1 c.in_ok-state_at.ensures.state.1

@@ -1,7 +1,0 @@
-use Rattle.std.proofs.Common.{rules}
-use Rattle.office_store.proofs.Rows.{five_columns}
-use Rattle.office_store.proofs.revisions.read_revision.Goals as goal
-
-pub returns-clause-revision : goal.returns-clause-revision
-returns-clause-revision c =
-    five_columns c.args.row.now _ _ _ _ _ (search rules) c.in_ok-number_at.ensures.number.1 c.in_ok-word_at.ensures.word.1 c.in_ok-state_at.ensures.state.1 (search rules) c.in_ok-digest_at.ensures.digest.1

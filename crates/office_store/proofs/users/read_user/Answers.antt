@@ -1,7 +1,0 @@
-use Rattle.std.proofs.Common.{rules}
-use Rattle.office_store.proofs.Rows.{four_columns}
-use Rattle.office_store.proofs.users.read_user.Goals as goal
-
-pub returns-clause-user : goal.returns-clause-user
-returns-clause-user c =
-    four_columns c.args.row.now _ _ _ _ (search rules) c.in_ok-word_at.ensures.word.1 c.in_ok-word_at-2.ensures.word.1 c.in_ok-roles_at.ensures.roles.1 c.in_ok-digest_at.ensures.digest.1
