@@ -1,5 +1,5 @@
 -- A query of all its rows, and its answer.
-use Rattle.std.proofs.Common.{◌≡◌, ◌≢◌, ℕ, ℤ, List, [], ◌∷◌, ◌++◌, map, flat_map, Bool, true, false, cond, Equal, refl, sym, ap, subst, ◌∙◌}
+use Rattle.std.proofs.Common.{◌≡◌, ◌≢◌, ℕ, ℤ, List, [], ◌∷◌, map, flat_map, Bool, false, cond, Equal, sym, ap, subst, ◌∙◌}
 use Rattle.std.specs.Prelude.{filter}
 use Rattle.std.specs.List.{list_all}
 use Rattle.std.specs.List.Sorted.{IsPermutation}
@@ -22,6 +22,7 @@ use Rattle.sqlite_trees.proofs.ListLemmas.{map-map, flat_map-map, filter-map, as
 use Rattle.sqlite_rules.specs.Lists.{Has}
 use Rattle.office_rows.specs.Entries.{Keeps, row_of}
 use Rattle.office_rows.proofs.Plain.{Means}
+use Rattle.office_rows.proofs.Reading.{matches_show}
 use Rattle.office_rows.proofs.Rowids.{has_mapped, mapped_has, has_permuted}
 use Rattle.office_rows.proofs.InOrder.{ordered_query, order_cmp, ShowsInOrder, answered_in_order}
 use Rattle.office_rows.proofs.Distinct.{distinct_query, ShowsEachOnce, answered_each_once}
@@ -30,21 +31,6 @@ module _ (q : Query) (schema : Schema) (sql : List ℕ) (params : Row) (names : 
     (old new : State) (has : old.now.schema ≡ schema) where
   pub shown_answer : (rows : List Row) → Shown sql params old new rows → IsAnswer q (overlay old.now.trees []) params rows
   shown_answer rows h = (reads_as sql params old new schema has _ means.is means.plain means.unlisted rows h).answer Null
-
--- what the matches show, of those that pass
-pub matches_show : {Y : Type 0} (env : Y → Env) (test passes : Y → Bool) (f : Env → Output) (g : Y → Output) → ((y : Y) → test y ≡ passes y) → ((y : Y) → f (env y) ≡ g y)
-    → (ys : List Y) → map f (flat_map (λ y. cond (test y) (env y ∷ []) []) ys) ≡ map g (filter passes ys)
-matches_show env test passes f g tested gives [] = refl
-matches_show env test passes f g tested gives (y ∷ ys) = go (test y) (passes y) (tested y) (matches_show env test passes f g tested gives ys)
-  where
-    rest : List Env
-    rest = flat_map (λ y. cond (test y) (env y ∷ []) []) ys
-
-    go : (a b : Bool) → a ≡ b → map f rest ≡ map g (filter passes ys) → map f (cond a (env y ∷ []) [] ++ rest) ≡ map g (cond b (y ∷ filter passes ys) (filter passes ys))
-    go true true e more = λ i. gives y i ∷ more i
-    go false false e more = more
-    go true false e more = absurd cc
-    go false true e more = absurd cc
 
 -- ---- the entries of a table, each with what the query finds beside it
 

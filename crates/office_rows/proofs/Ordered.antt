@@ -85,7 +85,7 @@ module _ {X : Type 0} (encode shown sorts : X → Row) (passes : X → Bool) (pr
     answered_first db tree rows xs a keeps =
         let all : map (output (query tree)) a.staged ≡ map (λ k. out k.1) (filter (λ k. passes k.1) keeps.kept) =
         ap (map (output (query tree))) (a.grouped ∙ rw keeps.rows_are)
-        ∙ matched encode (output (query tree)) (λ k. out k.1) passes tests params tested (λ k i. (sorted k i, showed k i)) keeps.kept in
+        ∙ matched encode (output (query tree)) (λ k. out k.1) (λ k. passes k.1) tests params tested (λ k i. (sorted k i, showed k i)) keeps.kept in
         let kept : a.kept ≡ map (output (query tree)) a.staged = a.distinct in
         let as_pairs : map out (filter passes (map (λ (k : ℤ × X). k.1) keeps.kept)) ≡ map (λ k. out k.1) (filter (λ k. passes k.1) keeps.kept) =
         ap (map out) (filter-map passes (λ (k : ℤ × X). k.1) keeps.kept) ∙ map-map _ _ _ in

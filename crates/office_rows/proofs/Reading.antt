@@ -17,37 +17,33 @@ use Rattle.sqlite_rules.specs.Lists.{Has}
 use Rattle.sqlite_rules.proofs.ListLemmas.{has_filtered, has_kept}
 use Rattle.sqlite.specs.Query.{IsAnswer, Output, output}
 use Rattle.sqlite_trees.specs.Tree.{Trees}
-use Rattle.sqlite_trees.proofs.ListLemmas.{map-map, filter-map, IsPermutation-filter}
+use Rattle.sqlite_trees.proofs.ListLemmas.{map-map, flat_map-map, filter-map, IsPermutation-filter}
 use Rattle.office_rows.specs.Entries.{Keeps, row_of}
 use Rattle.office_rows.proofs.Plain.{plain_query, Means}
 use Rattle.office_rows.proofs.Rowids.{has_mapped, mapped_has, has_permuted}
 
+-- what a function makes of what stands for those that pass
+pub matches_show : {Y E Z : Type 0} (env : Y → E) (test passes : Y → Bool) (f : E → Z) (g : Y → Z) → ((y : Y) → test y ≡ passes y) → ((y : Y) → f (env y) ≡ g y)
+    → (ys : List Y) → map f (flat_map (λ y. cond (test y) (env y ∷ []) []) ys) ≡ map g (filter passes ys)
+matches_show env test passes f g tested gives [] = refl
+matches_show {E = E} env test passes f g tested gives (y ∷ ys) = go (test y) (passes y) (tested y) (matches_show env test passes f g tested gives ys)
+  where
+    rest : List E
+    rest = flat_map (λ y. cond (test y) (env y ∷ []) []) ys
+
+    go : (a b : Bool) → a ≡ b → map f rest ≡ map g (filter passes ys) → map f (cond a (env y ∷ []) [] ++ rest) ≡ map g (cond b (y ∷ filter passes ys) (filter passes ys))
+    go true true e more = λ i. gives y i ∷ more i
+    go false false e more = more
+    go true false e more = absurd cc
+    go false true e more = absurd cc
+
 -- what a function makes of each way to fill the slot of a table is what it makes of the entries that pass
-module _ {X Y : Type 0} (encode : X → Row) (make : Env → Y) (made : ℤ × X → Y) (passes : ℤ × X → Bool) (tests : List Term) (params : Row)
-    (tested : (k : ℤ × X) → list_all (holds (params ∷ row_of encode k ∷ [])) tests ≡ passes k)
-    (makes : (k : ℤ × X) → make (params ∷ row_of encode k ∷ []) ≡ made k) where
-  matched_pairs : (kept : List (ℤ × X))
-      → map make (flat_map (λ r. cond (list_all (holds (params ∷ r ∷ [])) tests) ((params ∷ r ∷ []) ∷ []) []) (map (row_of encode) kept)) ≡ map made (filter passes kept)
-  matched_pairs [] = refl
-  matched_pairs (k ∷ kept) = go (list_all (holds (params ∷ row_of encode k ∷ [])) tests) (passes k) (tested k) (matched_pairs kept)
-    where
-      rest : List Env
-      rest = flat_map (λ r. cond (list_all (holds (params ∷ r ∷ [])) tests) ((params ∷ r ∷ []) ∷ []) []) (map (row_of encode) kept)
-
-      go : (a b : Bool) → a ≡ b → map make rest ≡ map made (filter passes kept)
-          → map make (cond a ((params ∷ row_of encode k ∷ []) ∷ []) [] ++ rest) ≡ map made (cond b (k ∷ filter passes kept) (filter passes kept))
-      go true true e more = rw (makes k, more)
-      go false false e more = more
-      go true false e more = absurd cc
-      go false true e more = absurd cc
-
-module _ {X Y : Type 0} (encode : X → Row) (make : Env → Y) (made : ℤ × X → Y) (passes : X → Bool) (tests : List Term) (params : Row)
-    (tested : (k : ℤ × X) → list_all (holds (params ∷ row_of encode k ∷ [])) tests ≡ passes k.1)
-    (makes : (k : ℤ × X) → make (params ∷ row_of encode k ∷ []) ≡ made k) where
-  pub matched : (kept : List (ℤ × X))
-      → map make (flat_map (λ r. cond (list_all (holds (params ∷ r ∷ [])) tests) ((params ∷ r ∷ []) ∷ []) []) (map (row_of encode) kept))
-      ≡ map made (filter (λ k. passes k.1) kept)
-  matched = matched_pairs encode make made (λ k. passes k.1) tests params tested makes
+pub matched : {X Y : Type 0} (encode : X → Row) (make : Env → Y) (made : ℤ × X → Y) (passes : ℤ × X → Bool) (tests : List Term) (params : Row)
+    → ((k : ℤ × X) → list_all (holds (params ∷ row_of encode k ∷ [])) tests ≡ passes k) → ((k : ℤ × X) → make (params ∷ row_of encode k ∷ []) ≡ made k)
+    → (kept : List (ℤ × X)) → map make (flat_map (λ r. cond (list_all (holds (params ∷ r ∷ [])) tests) ((params ∷ r ∷ []) ∷ []) []) (map (row_of encode) kept)) ≡ map made (filter passes kept)
+matched encode make made passes tests params tested makes kept =
+    ap (map make) (flat_map-map (λ r. cond (list_all (holds (params ∷ r ∷ [])) tests) ((params ∷ r ∷ []) ∷ []) []) (row_of encode) kept)
+    ∙ matches_show (λ k. params ∷ row_of encode k ∷ []) (λ k. list_all (holds (params ∷ row_of encode k ∷ [])) tests) passes make made tested makes kept
 
 module _ {X : Type 0} (encode : X → Row) (shown : ℤ × X → Row) (passes : ℤ × X → Bool) (project tests : List Term) (params : Row)
     (tested : (k : ℤ × X) → list_all (holds (params ∷ row_of encode k ∷ [])) tests ≡ passes k)
@@ -59,7 +55,7 @@ module _ {X : Type 0} (encode : X → Row) (shown : ℤ × X → Row) (passes : 
       let staged : a.staged ≡ flat_map (λ r. cond (list_all (holds (params ∷ r ∷ [])) tests) ((params ∷ r ∷ []) ∷ []) []) (map (row_of encode) keeps.kept) = a.grouped ∙ rw keeps.rows_are in
       let kept : a.kept ≡ map (output (plain_query project tests tree)) a.staged = a.distinct in
       let outputs : map (λ (o : Output). o.1) a.kept ≡ map shown (filter passes keeps.kept) =
-      ap (map (λ (o : Output). o.1)) kept ∙ map-map _ _ a.staged ∙ ap (map (eval_all project)) staged ∙ matched_pairs encode (eval_all project) shown passes tests params tested showed keeps.kept in
+      ap (map (λ (o : Output). o.1)) kept ∙ map-map _ _ a.staged ∙ ap (map (eval_all project)) staged ∙ matched encode (eval_all project) shown passes tests params tested showed keeps.kept in
       rw (outputs, ← a.shown) at (IsPermutation-map (λ (o : Output). o.1) a.kept a.ordered a.same)
 
 module _ {X : Type 0} (encode : X → Row) (shown : ℤ × X → Row) (passes : X → Bool) (project tests : List Term) (params : Row)

@@ -99,14 +99,19 @@ first_read sql query given params old new r Found idle mode law survives row are
     (λ t shows clean. first_fault (HasFailed old new) sql given old new (fails_of sql query given params old new idle are sure t shows) r (row clean))
     (λ t shows clean. finds t shows (subst (λ (p : Row). FindsRow sql p old new r) are (row clean)))
 
+-- the text is a query, whatever the schema, and the schema of an office takes it with these parameters
+pub record Asks (sql : List ℕ) (params : Row) : Type 0 where
+  pub query : IsQuery sql
+  pub sure : IsSure office_schema sql params
+
 -- a query of all its rows
-pub rows_read : {X : Type 0} (items : X → List Row) (sql : List ℕ) → IsQuery sql → (given params : Row) (old new : State) (r : Result X Fault) (Found : Tables → X → Type 0) → IsIdle old
+pub rows_read : {X : Type 0} (items : X → List Row) (sql : List ℕ) (given params : Row) → Asks sql params → (old new : State) (r : Result X Fault) (Found : Tables → X → Type 0) → IsIdle old
     → (old.in_transaction ≡ false → new.in_transaction ≡ false) → Settles new → Survives old new (CommitsShowing sql given old)
-    → (HasCleanDisk new → IfOk r (λ x. Shown sql given old new (items x))) → (HasCleanDisk new → IfErr r (IsFaultOf sql given old new)) → given ≡ params → IsSure office_schema sql params
+    → (HasCleanDisk new → IfOk r (λ x. Shown sql given old new (items x))) → (HasCleanDisk new → IfErr r (IsFaultOf sql given old new)) → given ≡ params
     → ((t : Tables) → Shows old t → IfOk r (λ x. Shown sql params old new (items x)) → IfOk r (Found t)) → IsRead old new r Found
-rows_read items sql query given params old new r Found idle mode law survives rows fault are sure finds =
-    read_of old new r Found idle (mode idle.autocommit) (rows_asked sql query given old new items r rows fault survives) law
-    (λ t shows clean. rows_fault (HasFailed old new) sql given old new (fails_of sql query given params old new idle are sure t shows) r (fault clean))
+rows_read items sql given params asks old new r Found idle mode law survives rows fault are finds =
+    read_of old new r Found idle (mode idle.autocommit) (rows_asked sql asks.query given old new items r rows fault survives) law
+    (λ t shows clean. rows_fault (HasFailed old new) sql given old new (fails_of sql asks.query given params old new idle are asks.sure t shows) r (fault clean))
     (λ t shows clean. finds t shows (subst (λ (p : Row). IfOk r (λ x. Shown sql p old new (items x))) are (rows clean)))
 
 -- nothing is read where there is no memory

@@ -20,8 +20,7 @@ pub mod NewestReads
 pub mod VoteReads
 pub mod BallotReads
 pub mod Calls
-pub mod Queries
-pub mod Sure
+pub mod Texts
 pub mod Told
 pub mod ToldLists
 pub mod Refusals

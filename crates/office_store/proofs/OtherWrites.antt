@@ -1,9 +1,8 @@
 -- What the writes of votes, baselines and holds make of the tables.
-use Rattle.std.proofs.Common.{◌≡◌, ℕ, ℤ, pos, List, [], ◌∷◌, Bool, true, false, cond, Option, None, Some, refl, sym, ap, subst, ◌∙◌}
+use Rattle.std.proofs.Common.{◌≡◌, ℕ, ℤ, pos, List, [], ◌∷◌, Bool, true, false, cond, Option, None, Some, refl, sym, ap, ◌∙◌}
 use Rattle.std.specs.Prelude.{bytes_eq, option_map, is_some}
 use Rattle.std.proofs.lemmas.Slice.Eq.{bytes_eq-Decides}
 use Rattle.sqlite.specs.declared.types.Value.TheVariants.{Null}
-use Rattle.sqlite.specs.Order.{Row}
 use Rattle.sqlite.specs.Term.{Term, lit, col}
 use Rattle.sqlite.specs.Cast.{cast_row}
 use Rattle.sqlite.specs.Store.{Ghosts}
@@ -29,7 +28,7 @@ use Rattle.office_store.specs.declared.baselines.TheConstants.{PUT_BASELINE}
 use Rattle.office_store.specs.declared.holds.TheConstants.{DELETE_HOLD, INSERT_HOLD}
 use Rattle.office_store.specs.Schema.{office_schema, votes_table, baselines_table, holds_table}
 use Rattle.office_store.specs.Entries.{IsProfileName, VoteKey, VoteEntry, same_vote, vote_row, IsVote, BaselineEntry, baseline_entry, baseline_row, IsBaseline, hold_row, bit}
-use Rattle.office_store.specs.Steps.{statement, IsStep, AreSteps}
+use Rattle.office_store.specs.Steps.{IsStep, AreSteps}
 use Rattle.office_store.proofs.Columns.{column_is, text_is, number_is, rowid_is, one_is, four_are, or_false, cast_null, cast_int}
 use Rattle.office_store.proofs.Lenses.{is_votes, is_baselines, is_holds, with_votes, with_baselines, with_holds}
 use Rattle.office_store.specs.Keys.{profile_params}
@@ -222,18 +221,3 @@ module _ {S : Type 0} (g : Ghosts S) where
           λ i. record t { holds = λ q. held_twice (is_profile q p) false (t.holds q) i },
         ),
       )
-
-  -- ---- the same, of parameters that are these
-
-  pub vote_given : (e : VoteEntry) (t : Tables) → IsVote e → (a : Row) → a ≡ vote_row e → AreSteps g (statement PUT_VOTE.now a ∷ []) t (with_vote e.0.profile e.0.number e.0.voter e.1 t)
-  vote_given e t formed a is = subst (λ (x : Row). AreSteps g (statement PUT_VOTE.now x ∷ []) t (with_vote e.0.profile e.0.number e.0.voter e.1 t)) (sym is) (vote_steps e t formed)
-
-  pub baseline_given : (p : ProfileName) (n : ℕ) (t : Tables) → IsBaseline (baseline_entry p n) → (a : Row) → a ≡ baseline_row (baseline_entry p n) → AreSteps g (statement PUT_BASELINE.now a ∷ []) t (with_baseline p n t)
-  baseline_given p n t formed a is = subst (λ (x : Row). AreSteps g (statement PUT_BASELINE.now x ∷ []) t (with_baseline p n t)) (sym is) (baseline_steps p n t formed)
-
-  pub hold_given : (p : ProfileName) (t : Tables) → IsProfileName p → (a b : Row) → a ≡ profile_params p → b ≡ profile_params p → AreSteps g (statement DELETE_HOLD.now a ∷ statement INSERT_HOLD.now b ∷ []) t (with_hold p t)
-  hold_given p t formed a b e f =
-      subst (λ (x : Row × Row). AreSteps g (statement DELETE_HOLD.now x.0 ∷ statement INSERT_HOLD.now x.1 ∷ []) t (with_hold p t)) (λ i. (sym e i, sym f i)) (hold_steps p t formed)
-
-  pub release_given : (p : ProfileName) (t : Tables) (a : Row) → a ≡ profile_params p → AreSteps g (statement DELETE_HOLD.now a ∷ []) t (without_hold p t)
-  release_given p t a e = subst (λ (x : Row). AreSteps g (statement DELETE_HOLD.now x ∷ []) t (without_hold p t)) (sym e) (release_steps p t)

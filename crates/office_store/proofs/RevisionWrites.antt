@@ -1,5 +1,5 @@
 -- What the writes of revisions make of the tables.
-use Rattle.std.proofs.Common.{◌≡◌, ℕ, ℤ, pos, List, [], ◌∷◌, Bool, true, false, cond, Option, None, Some, refl, sym, ap, subst, ◌∙◌}
+use Rattle.std.proofs.Common.{◌≡◌, ℕ, ℤ, pos, List, [], ◌∷◌, Bool, true, false, cond, Option, None, Some, refl, sym, ap, ◌∙◌}
 use Rattle.std.specs.Prelude.{◌&&◌, ◌==◌, find, option_map}
 use Rattle.std.specs.List.{list_all}
 use Rattle.std.specs.Cmp.{both_ways}
@@ -29,7 +29,7 @@ use Rattle.office_rows.proofs.Steps.{changes, puts}
 use Rattle.office_store.specs.declared.revisions.TheConstants.{CLOSE_OPEN, REPLACE_ISSUED, ISSUE_REVISION, WITHDRAW_REVISION, INSERT_REVISION}
 use Rattle.office_store.specs.Schema.{office_schema, revisions_table}
 use Rattle.office_store.specs.Entries.{Revision, same_revision, revision_key, revision_row, IsRevision, state_number}
-use Rattle.office_store.specs.Steps.{statement, IsStep, AreSteps}
+use Rattle.office_store.specs.Steps.{IsStep, AreSteps}
 use Rattle.office_store.proofs.Columns.{cast_null, cast_int}
 use Rattle.office_store.proofs.Lenses.{is_revisions, with_revisions}
 use Rattle.office_store.specs.Keys.{profile_params, revision_params}
@@ -267,18 +267,3 @@ module _ {S : Type 0} (g : Ghosts S) where
     state_step WITHDRAW_REVISION.now (revision_params p m) (at_key p m) Withdrawn at_revision withdraw_means (revision_tested p m) (put_at p m Withdrawn) (does_put p m Withdrawn) t,
     λ i. record t { revisions = λ q n. withdrawn (is_profile q p && (n == m)) (t.revisions q n) i },
   )
-
-  -- ---- the same, of parameters that are these
-
-  pub add_given : (p : ProfileName) (r : RevisionRow) (t : Tables) → IsRevision (p, r) → t.revisions p r.number ≡ None → (a b : Row) → a ≡ profile_params p → b ≡ revision_row (p, r)
-      → AreSteps g (statement CLOSE_OPEN.now a ∷ statement INSERT_REVISION.now b ∷ []) t (with_revision p r t)
-  add_given p r t formed none a b e f =
-      subst (λ (x : Row × Row). AreSteps g (statement CLOSE_OPEN.now x.0 ∷ statement INSERT_REVISION.now x.1 ∷ []) t (with_revision p r t)) (λ i. (sym e i, sym f i)) (add_steps p r t formed none)
-
-  pub issue_given : (p : ProfileName) (m : ℕ) (t : Tables) (a b : Row) → a ≡ profile_params p → b ≡ revision_params p m
-      → AreSteps g (statement REPLACE_ISSUED.now a ∷ statement ISSUE_REVISION.now b ∷ []) t (with_issued p m t)
-  issue_given p m t a b e f =
-      subst (λ (x : Row × Row). AreSteps g (statement REPLACE_ISSUED.now x.0 ∷ statement ISSUE_REVISION.now x.1 ∷ []) t (with_issued p m t)) (λ i. (sym e i, sym f i)) (issue_steps p m t)
-
-  pub withdraw_given : (p : ProfileName) (m : ℕ) (t : Tables) (a : Row) → a ≡ revision_params p m → AreSteps g (statement WITHDRAW_REVISION.now a ∷ []) t (with_withdrawn p m t)
-  withdraw_given p m t a e = subst (λ (x : Row). AreSteps g (statement WITHDRAW_REVISION.now x ∷ []) t (with_withdrawn p m t)) (sym e) (withdraw_steps p m t)

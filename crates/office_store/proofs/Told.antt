@@ -8,15 +8,12 @@ use Rattle.review_policy.specs.declared.fault.Fault.{Fault}
 use Rattle.review_policy.specs.declared.fault.Fault.TheVariants.{NoMemory, NotAnOffice}
 use Rattle.office_tables.specs.Tables.{Tables}
 use Rattle.office_rows.specs.Faults.{FindsRow}
-use Rattle.office_rows.specs.Queries.{IsQuery}
 use Rattle.office_rows.specs.Rows.{IsFaultOf}
 use Rattle.office_rows.specs.Told.{IsOfRow, IsTold, TellsOne, TellsOnly, TellsWhether, TellsAll, TellsRow, TellsRows, FindsRows, map_ok}
-use Rattle.office_rows.proofs.Sure.{IsSure}
-use Rattle.office_store.specs.Schema.{office_schema}
 use Rattle.office_store.specs.Shown.{IsIdle, Shows}
 use Rattle.office_store.specs.Calls.{IsRead}
 use Rattle.office_store.proofs.RowsOf.{IsRowOf, AreRowsOf}
-use Rattle.office_store.proofs.Calls.{Settles, leaves_only, read_told, first_read, rows_read}
+use Rattle.office_store.proofs.Calls.{Settles, Asks, leaves_only, read_told, first_read, rows_read}
 use Rattle.no_memory.specs.Witness.{witness}
 
 -- a reading of a row of the form fails only for no memory
@@ -125,13 +122,13 @@ rows_failed : (sql : List ℕ) (params : Row) (old new : State) (rows : Result (
 rows_failed sql params old new (Ok rows) shown = tt
 rows_failed sql params old new (Err f) fault = fault
 
-module _ (sql : List ℕ) (query : IsQuery sql) (given params : Row) (old new : State) (idle : IsIdle old) (mode : old.in_transaction ≡ false → new.in_transaction ≡ false) (law : Settles new)
-    (survives : Survives old new (CommitsShowing sql given old)) (are : given ≡ params) (sure : IsSure office_schema sql params) where
+module _ (sql : List ℕ) (given params : Row) (asks : Asks sql params) (old new : State) (idle : IsIdle old) (mode : old.in_transaction ≡ false → new.in_transaction ≡ false) (law : Settles new)
+    (survives : Survives old new (CommitsShowing sql given old)) (are : given ≡ params) where
   pub any_read : (Found : Tables → Bool → Type 0) (r : Result Bool Fault) → (HasCleanDisk new → TellsRow sql given old new TellsWhether r)
       → ((t : Tables) → Shows old t → (row : Result (Option Row) Fault) → FindsRow sql params old new row → IfOk row (λ o. Found t (is_some o))) → IsRead old new r Found
   any_read Found r told finds = clean_read old new r Found idle (mode idle.autocommit) law sql given survives (λ clean.
       let it = told clean in
-      whether_told old new Found it.row r (first_read sql query given params old new it.row (λ t o. Found t (is_some o)) idle mode law survives (λ _. it.found) are sure (λ t shows. finds t shows it.row)) it.told)
+      whether_told old new Found it.row r (first_read sql asks.query given params old new it.row (λ t o. Found t (is_some o)) idle mode law survives (λ _. it.found) are asks.sure (λ t shows. finds t shows it.row)) it.told)
 
   module _ {X : Type 0} (encode : X → Row) (IsFormed : X → Type 0) (one : (x y : X) → encode x ≡ encode y → x ≡ y) where
     pub value_read : (Found : Tables → Option X → Type 0) (r : Result (Option X) Fault) → (HasCleanDisk new → TellsRow sql given old new (TellsOne encode IsFormed) r)
@@ -139,12 +136,12 @@ module _ (sql : List ℕ) (query : IsQuery sql) (given params : Row) (old new : 
     value_read Found r told finds = clean_read old new r Found idle (mode idle.autocommit) law sql given survives (λ clean.
         let it = told clean in
         value_told encode IsFormed one old new Found it.row r
-        (first_read sql query given params old new it.row (λ t. IsRowOf encode IsFormed (Found t)) idle mode law survives (λ _. it.found) are sure (λ t shows. finds t shows it.row)) it.told)
+        (first_read sql asks.query given params old new it.row (λ t. IsRowOf encode IsFormed (Found t)) idle mode law survives (λ _. it.found) are asks.sure (λ t shows. finds t shows it.row)) it.told)
 
     pub values_read : {W : Type 0} (items_of : W → List X) (Found : Tables → List X → Type 0) (r : Result W Fault) → (HasCleanDisk new → TellsRows sql given old new (TellsAll encode IsFormed) (map_ok r items_of))
         → ((t : Tables) → Shows old t → (rows : Result (List Row) Fault) → IfOk rows (λ x. Shown sql params old new x) → IfOk rows (AreRowsOf encode IsFormed (Found t))) → IsRead old new r (λ t w. Found t (items_of w))
     values_read items_of Found r told finds = clean_read old new r (λ t w. Found t (items_of w)) idle (mode idle.autocommit) law sql given survives (λ clean.
         let it = told clean in
         values_told encode IsFormed items_of one old new Found it.rows r
-        (rows_read (λ x. x) sql query given params old new it.rows (λ t. AreRowsOf encode IsFormed (Found t)) idle mode law survives (λ _. rows_shown sql given old new it.rows it.found)
-        (λ _. rows_failed sql given old new it.rows it.found) are sure (λ t shows. finds t shows it.rows)) it.told)
+        (rows_read (λ x. x) sql given params asks old new it.rows (λ t. AreRowsOf encode IsFormed (Found t)) idle mode law survives (λ _. rows_shown sql given old new it.rows it.found)
+        (λ _. rows_failed sql given old new it.rows it.found) are (λ t shows. finds t shows it.rows)) it.told)

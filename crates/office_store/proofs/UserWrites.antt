@@ -1,9 +1,8 @@
 -- What the write of a user makes of the tables.
-use Rattle.std.proofs.Common.{◌≡◌, ℤ, pos, List, [], ◌∷◌, cond, Some, ℕ, refl, sym, ap, subst, ◌∙◌}
+use Rattle.std.proofs.Common.{◌≡◌, ℤ, pos, List, [], ◌∷◌, cond, Some, ℕ, refl, sym, ap, ◌∙◌}
 use Rattle.std.specs.Prelude.{bytes_eq}
 use Rattle.std.proofs.lemmas.Slice.Eq.{bytes_eq-Decides}
 use Rattle.sqlite.specs.declared.types.Value.TheVariants.{Null}
-use Rattle.sqlite.specs.Order.{Row}
 use Rattle.sqlite.specs.Term.{Term, lit, col}
 use Rattle.sqlite.specs.Cast.{cast_row}
 use Rattle.sqlite.specs.Store.{Ghosts}
@@ -26,7 +25,7 @@ use Rattle.office_rows.proofs.Upserting.{upserted}
 use Rattle.office_store.specs.declared.users.TheConstants.{PUT_USER}
 use Rattle.office_store.specs.Schema.{office_schema, users_table}
 use Rattle.office_store.specs.Entries.{user_row, IsUser}
-use Rattle.office_store.specs.Steps.{statement, IsStep, AreSteps}
+use Rattle.office_store.specs.Steps.{IsStep, AreSteps}
 use Rattle.office_store.proofs.Columns.{column_is, text_is, rowid_is, one_is, or_false, cast_null, cast_int}
 use Rattle.office_store.proofs.Lenses.{is_users, with_users}
 
@@ -71,7 +70,3 @@ module _ {S : Type 0} (g : Ghosts S) where
 
   pub put_steps : (u : UserRow) (t : Tables) → IsUser u → AreSteps g (put_user u ∷ []) t (with_user u t)
   put_steps u t formed = (with_user u t, put_step u t formed, refl)
-
-  -- the same, of parameters that are these
-  pub put_given : (u : UserRow) (t : Tables) → IsUser u → (p : Row) → p ≡ user_row u → AreSteps g (statement PUT_USER.now p ∷ []) t (with_user u t)
-  put_given u t formed p is = subst (λ (r : Row). AreSteps g (statement PUT_USER.now r ∷ []) t (with_user u t)) (sym is) (put_steps u t formed)

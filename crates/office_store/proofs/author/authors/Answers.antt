@@ -1,7 +1,6 @@
 use Rattle.sqlite.specs.Held.{state}
 use Rattle.office_store.specs.declared.author.TheConstants.{AUTHORS_OF}
-use Rattle.office_store.proofs.Queries.{authors_of}
-use Rattle.office_store.proofs.Sure as sure
+use Rattle.office_store.proofs.Texts as texts
 use Rattle.office_tables.specs.Lists.{AreAuthors}
 use Rattle.office_store.specs.Lists.{name_row, IsWord}
 use Rattle.office_store.proofs.AuthorReads.{reads_authors}
@@ -13,7 +12,7 @@ pub returns-clause-read : goal.returns-clause-read
 returns-clause-read g c =
     let old = state g.S.Store c.args.conn.now in
     let new = state g.S.Store c.find_all.new.conn in
-    values_read AUTHORS_OF.now authors_of _ _ old new c.requires c.find_all.ensures.mode (g.met.S.Store.settled c.find_all.new.conn.store) c.find_all.ensures.survives c.of_profile.ensures.row (sure.authors_of c.args.profile.now)
+    values_read AUTHORS_OF.now _ _ (texts.authors_of c.args.profile.now) old new c.requires c.find_all.ensures.mode (g.met.S.Store.settled c.find_all.new.conn.store) c.find_all.ensures.survives c.of_profile.ensures.row
     name_row IsWord same_name_row (λ values. values.items) (λ t names. AreAuthors t c.args.profile.now names) _ c.find_all.ensures.told (λ t shows. reads_authors old new t shows c.args.profile.now)
 
 pub returns-clause-told : goal.returns-clause-told

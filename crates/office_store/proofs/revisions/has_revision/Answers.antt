@@ -1,7 +1,6 @@
 use Rattle.sqlite.specs.Held.{state}
 use Rattle.office_store.specs.declared.revisions.TheConstants.{REVISION_OF}
-use Rattle.office_store.proofs.Queries.{revision_of}
-use Rattle.office_store.proofs.Sure as sure
+use Rattle.office_store.proofs.Texts as texts
 use Rattle.office_store.proofs.RevisionReads.{reads_any}
 use Rattle.office_store.proofs.Told.{any_read}
 use Rattle.office_store.proofs.revisions.has_revision.Goals as goal
@@ -10,7 +9,7 @@ pub returns-clause-read : goal.returns-clause-read
 returns-clause-read g c =
     let old = state g.S.Store c.args.conn.now in
     let new = state g.S.Store c.finds_any.new.conn in
-    any_read REVISION_OF.now revision_of _ _ old new c.requires c.finds_any.ensures.mode (g.met.S.Store.settled c.finds_any.new.conn.store) c.finds_any.ensures.survives c.of_profile.ensures.row (sure.revision_of c.args.profile.now)
+    any_read REVISION_OF.now _ _ (texts.revision_of c.args.profile.now) old new c.requires c.finds_any.ensures.mode (g.met.S.Store.settled c.finds_any.new.conn.store) c.finds_any.ensures.survives c.of_profile.ensures.row
     _ _ c.finds_any.ensures.told (λ t shows. reads_any old new t shows c.args.profile.now)
 
 pub returns-clause-told : goal.returns-clause-told

@@ -1,7 +1,6 @@
 use Rattle.sqlite.specs.Held.{state}
 use Rattle.office_store.specs.declared.revisions.TheConstants.{LAST_OF}
-use Rattle.office_store.proofs.Queries.{last_of}
-use Rattle.office_store.proofs.Sure as sure
+use Rattle.office_store.proofs.Texts as texts
 use Rattle.office_store.specs.Entries.{revision_columns, IsRevisionForm}
 use Rattle.office_store.proofs.RevisionReads.{reads_last, same_columns}
 use Rattle.office_store.proofs.Told.{value_read}
@@ -11,7 +10,7 @@ pub returns-clause-read : goal.returns-clause-read
 returns-clause-read g c =
     let old = state g.S.Store c.args.conn.now in
     let new = state g.S.Store c.find.new.conn in
-    value_read LAST_OF.now last_of _ _ old new c.requires c.find.ensures.mode (g.met.S.Store.settled c.find.new.conn.store) c.find.ensures.survives c.of_profile.ensures.row (sure.last_of c.args.profile.now)
+    value_read LAST_OF.now _ _ (texts.last_of c.args.profile.now) old new c.requires c.find.ensures.mode (g.met.S.Store.settled c.find.new.conn.store) c.find.ensures.survives c.of_profile.ensures.row
     revision_columns IsRevisionForm same_columns _ _ c.find.ensures.told (λ t shows. reads_last old new t shows c.args.profile.now)
 
 pub returns-clause-told : goal.returns-clause-told
