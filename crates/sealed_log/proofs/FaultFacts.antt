@@ -1,16 +1,20 @@
 -- Faults of a log, and the calls of its disk that failed.
-use Rattle.std.proofs.Common.{◌≡◌, ◌⊎◌, inl, inr, ◌≤◌, Bool, true, false, MatchBool, Result, Ok, Err, IfErr, refl, sym, ap, subst, arith}
+use Rattle.std.proofs.Common.{◌≡◌, ◌∙◌, inl, inr, ◌≤◌, Bool, true, false, if◌then◌else◌, Result, Ok, Err, IfErr, refl, sym, ap, subst, arith}
 use Rattle.std.specs.Prelude.{IsErrAnd, ⊤}
 use Rattle.std.specs.IoError.{error_kind}
 use Rattle.std.specs.declared.io.Error.{Error}
+use Rattle.std.specs.declared.io.ErrorKind.{ErrorKind}
 use Rattle.sqlite_disk.specs.Disk.{CountsFault, MoreFaults}
-use Rattle.sqlite_disk.specs.Refusal.{is_no_room}
+use Rattle.sqlite_disk.specs.Refusal.{is_full_kind, is_no_room}
 use Rattle.sqlite_disk.specs.Tally.{CountsRefusal}
 use Rattle.sqlite_disk.specs.declared.Disk.{Ghosts}
 use Rattle.sqlite_disk.specs.declared.tally.Tally.{Tally}
-use Rattle.sealed_log.specs.Faults.{HasFailed, IsMetBetween, IsOfCall, fault_of_kind}
+use Rattle.sealed_log.specs.Disks.{NamesCall}
+use Rattle.sealed_log.specs.Faults.{HasFailed, IsMetBetween, IsOfCall, fault_of_read, fault_of_write, is_full, is_memory_kind}
 use Rattle.sealed_log.specs.declared.fault.LogFault.{LogFault}
-use Rattle.sealed_log.specs.declared.fault.LogFault.TheVariants.{NoMemory}
+use Rattle.sealed_log.specs.declared.fault.LogFault.TheVariants.{NoMemory, Disk, Full}
+use Rattle.sealed_log.specs.declared.written.Written.{Written}
+use Rattle.sealed_log.specs.declared.written.Written.TheVariants.{Whole, Undone, Lost}
 use Rattle.no_memory.specs.Witness.{witness}
 
 -- a `?` that leaves with this error
@@ -22,36 +26,46 @@ pub if_err : {T E : Type 0} (result : Result T E) (P Q : E → Type 0) → ((e :
 if_err (Ok done) P Q follows holds = tt
 if_err (Err e) P Q follows holds = follows e holds
 
-room_of : (b : Bool) (P Q : Type 0) → MatchBool b P Q → Q ⊎ (b ≡ true)
-room_of true P Q counts = inr refl
-room_of false P Q counts = inl counts
+-- ---- which faults say that there is no room
+
+full_by : (room memory : Bool) → is_full (if room then Full else if memory then NoMemory witness else Disk) ≡ room
+full_by true memory = refl
+full_by false true = refl
+full_by false false = refl
+
+-- no call that reads has one
+full_read : (kind : ErrorKind) → is_full (fault_of_read kind) ≡ false
+full_read kind = full_by false (is_memory_kind kind)
+
+full_write : (kind : ErrorKind) → is_full (fault_of_write kind) ≡ is_full_kind kind
+full_write kind = full_by (is_full_kind kind) (is_memory_kind kind)
 
 module _ {D : Type 0} (g : Ghosts D) where
   -- a call that reads, and one that writes
-  pub read_failed : (old new : D) (error : Error) → MoreFaults (g.faults old) (g.faults new) → g.tally_of new ≡ g.tally_of old → HasFailed g old new error
-  read_failed old new error more same = record {
+  read_failed : (old new : D) → MoreFaults (g.faults old) (g.faults new) → g.tally_of new ≡ g.tally_of old → HasFailed g old new false
+  read_failed old new more same = record {
     before = old;
     after = new;
     begun = omega arith;
     failed = more;
     ended = omega arith;
-    room = inl (ap (λ (t : Tally). t.refused) same);
+    room = ap (λ (t : Tally). t.refused) same;
   }
 
   pub write_failed : (old new : D) (error : Error) → MoreFaults (g.faults old) (g.faults new)
-      → CountsRefusal {T = ⊤} (Err error) (g.tally_of old) (g.tally_of new) → HasFailed g old new error
+      → CountsRefusal {T = ⊤} (Err error) (g.tally_of old) (g.tally_of new) → HasFailed g old new (is_no_room error)
   write_failed old new error more counts = record {
     before = old;
     after = new;
     begun = omega arith;
     failed = more;
     ended = omega arith;
-    room = room_of (is_no_room error) _ _ counts.refused;
+    room = counts.refused;
   }
 
   -- with other calls before or behind it
-  pub failed_later : (old mid new : D) (error : Error) → g.faults old ≤ g.faults mid → HasFailed g mid new error → HasFailed g old new error
-  failed_later old mid new error counts call = record {
+  pub failed_later : (old mid new : D) (for_room : Bool) → g.faults old ≤ g.faults mid → HasFailed g mid new for_room → HasFailed g old new for_room
+  failed_later old mid new for_room counts call = record {
     before = call.before;
     after = call.after;
     begun = let begun = call.begun in omega (arith, counts, begun);
@@ -60,8 +74,8 @@ module _ {D : Type 0} (g : Ghosts D) where
     room = call.room;
   }
 
-  pub failed_sooner : (old mid new : D) (error : Error) → HasFailed g old mid error → g.faults mid ≤ g.faults new → HasFailed g old new error
-  failed_sooner old mid new error call counts = record {
+  pub failed_sooner : (old mid new : D) (for_room : Bool) → HasFailed g old mid for_room → g.faults mid ≤ g.faults new → HasFailed g old new for_room
+  failed_sooner old mid new for_room call counts = record {
     before = call.before;
     after = call.after;
     begun = call.begun;
@@ -72,40 +86,37 @@ module _ {D : Type 0} (g : Ghosts D) where
 
   -- a call that writes is the last one
   pub write_fails : (old mid new : D) (result : Result ⊤ Error) → g.faults old ≤ g.faults mid → CountsFault result (g.faults mid) (g.faults new)
-      → CountsRefusal result (g.tally_of mid) (g.tally_of new) → IfErr result (HasFailed g old new)
+      → CountsRefusal result (g.tally_of mid) (g.tally_of new) → IfErr result (λ error. HasFailed g old new (is_no_room error))
   write_fails old mid new (Ok done) counts faults tally = tt
-  write_fails old mid new (Err error) counts faults tally = failed_later old mid new error counts (write_failed mid new error faults.0 tally)
+  write_fails old mid new (Err error) counts faults tally = failed_later old mid new (is_no_room error) counts (write_failed mid new error faults.0 tally)
 
   -- the fault that tells of it
-  pub of_call : (old new : D) (error : Error) (fault : LogFault) → HasFailed g old new error → fault ≡ fault_of_kind (error_kind error) → IsOfCall g old new fault
-  of_call old new error fault call is = record { error = error; call = call; is = is }
+  pub of_read : (old new : D) (error : Error) (fault : LogFault) → MoreFaults (g.faults old) (g.faults new) → g.tally_of new ≡ g.tally_of old → fault ≡ fault_of_read (error_kind error)
+      → IsOfCall g old new fault
+  of_read old new error fault more same is = subst (HasFailed g old new) (sym (ap is_full is ∙ full_read (error_kind error))) (read_failed old new more same)
 
-  pub of_call_later : (old mid new : D) (fault : LogFault) → g.faults old ≤ g.faults mid → IsOfCall g mid new fault → IsOfCall g old new fault
-  of_call_later old mid new fault counts of = record {
-    error = of.error;
-    call = failed_later old mid new of.error counts of.call;
-    is = of.is;
-  }
+  pub of_write : (old new : D) (error : Error) (fault : LogFault) → HasFailed g old new (is_no_room error) → fault ≡ fault_of_write (error_kind error) → IsOfCall g old new fault
+  of_write old new error fault call is = subst (HasFailed g old new) (sym (ap is_full is ∙ full_write (error_kind error))) call
 
   met_later : (old mid new : D) (fault : LogFault) → g.faults old ≤ g.faults mid → IsMetBetween g mid new fault → IsMetBetween g old new fault
   met_later old mid new fault counts (inl memory) = inl memory
-  met_later old mid new fault counts (inr of) = inr (of_call_later old mid new fault counts of)
+  met_later old mid new fault counts (inr of) = inr (failed_later old mid new (is_full fault) counts of)
+
+  pub named_later : (old mid new : D) (written : Written) → g.faults old ≤ g.faults mid → NamesCall g mid new written → NamesCall g old new written
+  named_later old mid new Whole counts names = tt
+  named_later old mid new (Undone fault) counts names = failed_later old mid new (is_full fault) counts names
+  named_later old mid new (Lost fault) counts names = failed_later old mid new (is_full fault) counts names
 
   -- ---- a `?` that leaves with it
 
-  pub left_by_call : {T : Type 0} (old new : D) (result : Result T LogFault) (error : Error) → IsErrAnd result (λ e. e ≡ fault_of_kind (error_kind error))
-      → HasFailed g old new error → IfErr result (IsOfCall g old new)
-  left_by_call old new result error is call =
-      left_with (IsOfCall g old new) result (fault_of_kind (error_kind error)) is (of_call old new error _ call refl)
+  pub left_by_write : {T : Type 0} (old new : D) (result : Result T LogFault) (error : Error) → IsErrAnd result (λ e. e ≡ fault_of_write (error_kind error))
+      → HasFailed g old new (is_no_room error) → IfErr result (IsOfCall g old new)
+  left_by_write old new result error is call =
+      left_with (IsOfCall g old new) result (fault_of_write (error_kind error)) is (of_write old new error _ call refl)
 
   pub left_met : {T : Type 0} (old mid new : D) (result : Result T LogFault) (fault : LogFault) → IsErrAnd result (λ e. e ≡ fault)
       → g.faults old ≤ g.faults mid → IsMetBetween g mid new fault → IfErr result (IsMetBetween g old new)
   left_met old mid new result fault is counts met = left_with (IsMetBetween g old new) result fault is (met_later old mid new fault counts met)
-
-  pub left_by_read : {T : Type 0} (old new : D) (result : Result T LogFault) (error : Error) → IsErrAnd result (λ e. e ≡ fault_of_kind (error_kind error))
-      → MoreFaults (g.faults old) (g.faults new) → g.tally_of new ≡ g.tally_of old → IfErr result (IsMetBetween g old new)
-  left_by_read old new result error is more same =
-      left_with (IsMetBetween g old new) result (fault_of_kind (error_kind error)) is (inr (of_call old new error _ (read_failed old new error more same) refl))
 
   pub without_memory : {T : Type 0} (old new : D) (result : Result T LogFault) → IsErrAnd result (λ e. e ≡ NoMemory witness) → IfErr result (IsMetBetween g old new)
   without_memory old new result is = left_with (IsMetBetween g old new) result (NoMemory witness) is (inl refl)

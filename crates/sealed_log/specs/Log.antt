@@ -2,11 +2,9 @@
 use Rattle.std.specs.Prelude.{◌≡◌, ◌+◌, List, ℕ, [], ◌∷◌, ◌++◌, All, length, Result, Ok, Err, ⊤}
 use Rattle.std.specs.Prelude.{true, IsTrue}
 use Rattle.sqlite_disk.specs.declared.Disk.{Ghosts}
-use Rattle.sqlite_disk.specs.Disk.{MoreFaults}
 use Rattle.sealed_log.specs.Sealed.{IsBody, last_seal, seal_on, sealed_with}
 use Rattle.sealed_log.specs.Told.{told}
 use Rattle.sealed_log.specs.declared.fault.LogFault.{LogFault}
-use Rattle.sealed_log.specs.declared.fault.LogFault.TheVariants.{NoMemory, Disk, Full}
 use Rattle.sealed_log.specs.declared.log.SealedLog.{SealedLog}
 
 -- the text has the lines of a body and of such that go before it, behind what has the seal `prior`;
@@ -34,12 +32,3 @@ module _ {D : Type 0} (g : Ghosts D) where
       → bodies_of new ≡ bodies_of old ++ (settling ++ body ∷ []))
   IsAppended old new settling body (Err fault) =
       new.is_open ≡ true → IsTrue (g.is_clean new.disk) → g.seen new.disk ≡ g.seen old.disk
-
-  -- memory ran out; or a call of the file failed; or the log was shut
-  abbrev pub IsMet : (old new : SealedLog D g) → LogFault → Type 0
-  IsMet old new (NoMemory _) = Unit {0}
-  IsMet old new Disk =
-      IsTrue (g.is_clean new.disk) → old.is_open ≡ true
-      → MoreFaults (g.faults old.disk) (g.faults new.disk)
-  IsMet old new Full =
-      IsTrue (g.is_clean new.disk) → MoreFaults (g.faults old.disk) (g.faults new.disk)

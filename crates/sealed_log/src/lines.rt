@@ -66,7 +66,10 @@ fn read_piece<D: Disk>(
         → IsPart (D.seen disk.old) at line.old.items
         → IsMore (D.seen disk.old) at line.new.items whole) }
 {
-    disk.read_at(at + line.len(), piece)?;
+    match disk.read_at(at + line.len(), piece) {
+        Ok(()) => {}
+        Err(error) => return Err(LogFault::of_read(&error)),
+    }
     match find_feed(piece) {
         Some(n) => {
             line.extend_from_slice(&piece[..n])?;

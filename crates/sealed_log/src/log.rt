@@ -38,7 +38,7 @@ impl<D: Disk> SealedLog<D> {
     ghost use Rattle.sealed_log.specs.Sealed.{sealed_with, seal_of};
     ghost use Rattle.sealed_log.specs.Disks.{HasFailedTwice, LeavesTail};
     ghost use Rattle.sealed_log.specs.Faults.{IsMetBetween, IsOfCall};
-    ghost use Rattle.sealed_log.specs.Log.{AreLines, IsAppended, IsMet, bodies_of};
+    ghost use Rattle.sealed_log.specs.Log.{AreLines, IsAppended, bodies_of};
     ghost use Rattle.sealed_log.specs.Reading.{IsThrough};
     ghost use Rattle.sealed_log.specs.Told.{told};
 
@@ -159,7 +159,6 @@ impl<D: Disk> SealedLog<D> {
             ⊎ MoreFaults (D.faults self.old.disk) (D.faults self.new.disk) }
         ensures lost { IsTrue (D.is_clean self.new.disk)
             → (self.new.is_open ≡ true) ⊎ HasFailedTwice D.Disk self.old.disk self.new.disk }
-        ensures met { IfErr result (IsMet D.Disk self.old self.new) }
         ensures word { IsTrue (D.is_clean self.new.disk)
             → IfErr result (IsOfCall D.Disk self.old.disk self.new.disk) }
         ensures appended { (settling : List (List ℕ)) (body : List ℕ)
@@ -203,7 +202,6 @@ impl<D: Disk> SealedLog<D> {
             ⊎ MoreFaults (D.faults self.old.disk) (D.faults self.new.disk) }
         ensures lost { IsTrue (D.is_clean self.new.disk) → self.old.is_open ≡ true
             → (self.new.is_open ≡ true) ⊎ HasFailedTwice D.Disk self.old.disk self.new.disk }
-        ensures met { IfErr result (IsMet D.Disk self.old self.new) }
         ensures refused { self.old.is_open ≡ false → IsErrOf result LogFault.Disk }
         ensures word { IsTrue (D.is_clean self.new.disk) → self.old.is_open ≡ true
             → IfErr result (IsMetBetween D.Disk self.old.disk self.new.disk) }
@@ -238,7 +236,6 @@ impl<D: Disk> SealedLog<D> {
             ⊎ MoreFaults (D.faults self.old.disk) (D.faults self.new.disk) }
         ensures lost { IsTrue (D.is_clean self.new.disk) → self.old.is_open ≡ true
             → (self.new.is_open ≡ true) ⊎ HasFailedTwice D.Disk self.old.disk self.new.disk }
-        ensures met { IfErr result (IsMet D.Disk self.old self.new) }
         ensures refused { self.old.is_open ≡ false → IsErrOf result LogFault.Disk }
         ensures word { IsTrue (D.is_clean self.new.disk) → self.old.is_open ≡ true
             → IfErr result (IsMetBetween D.Disk self.old.disk self.new.disk) }

@@ -34,7 +34,10 @@ pub fn read_through<K: Keeps, D: Disk>(
     ensures keeps { IfOk result (λ _. IsTrue (D.is_clean disk.new)
         → K.is_of (told (D.seen disk.old)) keeper.new) }
 {
-    let len = disk.len()?;
+    let len = match disk.len() {
+        Ok(len) => len,
+        Err(error) => return Err(LogFault::of_read(&error)),
+    };
     let mut reader = Reader::new(len);
     let mut lines = 0;
     'lines: while let Some(body) = reader.next(alloc, disk)? {

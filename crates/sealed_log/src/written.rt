@@ -3,6 +3,7 @@
 ghost use Rattle.std.specs.Prelude.{◌≡◌, ◌⊎◌, ◌≤◌, ◌<◌, ℕ, List, length, true, false, IsTrue};
 ghost use Rattle.std.specs.Prelude.{IfErr, OnErr, OnOk};
 ghost use Rattle.sqlite_disk.specs.Disk.{MoreFaults, Only};
+ghost use Rattle.sqlite_disk.specs.Refusal.{is_no_room};
 ghost use Rattle.sealed_log.specs.Told.{HasTail};
 ghost use Rattle.sealed_log.specs.Disks.{HasJust, IsCaused, IsLostBy, IsTried, LeavesTail};
 ghost use Rattle.sealed_log.specs.Disks.{NamesCall, StaysKept};
@@ -37,7 +38,7 @@ pub(crate) fn cut<D: Disk>(disk: &mut D, end: usize) -> io::Result<()>
     ensures failed { OnErr result ((D.is_usable disk.new ≡ false)
         ⊎ MoreFaults (D.faults disk.old) (D.faults disk.new)) }
     ensures counts { D.faults disk.old ≤ D.faults disk.new }
-    ensures call { IfErr result (HasFailed D.Disk disk.old disk.new) }
+    ensures call { IfErr result (λ error. HasFailed D.Disk disk.old disk.new (is_no_room error)) }
 {
     disk.set_len(end)?;
     disk.sync()
@@ -101,6 +102,6 @@ pub(crate) fn add_line<D: Disk>(disk: &mut D, end: usize, line: &[u8]) -> Writte
                 Written::Lost(LogFault::Disk)
             }
         }
-        Err(error) => Written::Undone(error.into()),
+        Err(error) => Written::Undone(LogFault::of_read(&error)),
     }
 }

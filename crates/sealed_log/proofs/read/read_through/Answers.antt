@@ -1,7 +1,7 @@
-use Rattle.std.proofs.Common.{◌≡◌, ◌∙◌, ◌<◌, ℕ, List, [], ◌∷◌, ◌++◌, IfSome, IsTrue, ap, sym, subst, length, arith}
+use Rattle.std.proofs.Common.{inr, ◌≡◌, ◌∙◌, ◌<◌, ℕ, List, [], ◌∷◌, ◌++◌, IfSome, IsTrue, ap, sym, subst, length, arith}
 use Rattle.sealed_log.specs.Reading.{IsNext, IsStep, told_at}
 use Rattle.sealed_log.specs.Sealed.{IsBody}
-use Rattle.sealed_log.proofs.FaultFacts.{left_by_read, left_met}
+use Rattle.sealed_log.proofs.FaultFacts.{left_met, of_read}
 use Rattle.sealed_log.proofs.LineFacts.{IsRead-trans}
 use Rattle.sealed_log.proofs.ReaderFacts.{gone_on, kept_on, kept_through, through}
 use Rattle.sealed_log.proofs.read.read_through.Goals as goal
@@ -60,14 +60,13 @@ returns-clause-keeps g c = λ clean.
     let none = subst (λ f. told_at c.lines.reader f ≡ []) before.read.seen stops.1 in
     kept_through g.K.Keeps.is_of seen c.lines.lines c.lines.reader c.lines.keeper (before.keeps was) none
 
-pub returns-in_err-len-clause-word : goal.returns-in_err-len-clause-word
-returns-in_err-len-clause-word g c = λ clean.
-    left_by_read g.D.Disk c.args.disk.now c.len.new.self c.from_residual.result c.in_err-len.field-0.0 c.from_residual.ensures.1
-    c.in_err-len.ensures.faults.0 c.len.ensures.tally
+pub returns-in-Err-clause-word : goal.returns-in-Err-clause-word
+returns-in-Err-clause-word g c = λ clean.
+    inr (of_read g.D.Disk c.args.disk.now c.len.new.self c.in-Err.error _ c.in-Err.ensures.faults.0 c.len.ensures.tally c.of_read.ensures)
 
 pub returns-in_err-body-clause-word : goal.returns-in_err-body-clause-word
 returns-in_err-body-clause-word g c = λ clean.
     let before = c.lines.invariant in
     let was = c.next.ensures.read.clean clean in
-    left_met g.D.Disk c.args.disk.now c.lines.disk c.next.new.disk c.from_residual-in_err-body.result c.in_err-body.field-0.0
-    c.from_residual-in_err-body.ensures.1 before.counts (c.in_err-body.ensures.word clean (before.len was ∙ ap length (sym before.read.seen)))
+    left_met g.D.Disk c.args.disk.now c.lines.disk c.next.new.disk c.from_residual.result c.in_err-body.field-0.0
+    c.from_residual.ensures.1 before.counts (c.in_err-body.ensures.word clean (before.len was ∙ ap length (sym before.read.seen)))

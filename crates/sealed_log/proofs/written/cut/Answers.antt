@@ -3,6 +3,7 @@ use Rattle.sealed_log.proofs.DiskFacts.{crash_in_cut, err_usable, ok_usable, on_
 use Rattle.sealed_log.proofs.FaultFacts.{left_with, write_failed, write_fails}
 use Rattle.sealed_log.specs.Faults.{HasFailed}
 use Rattle.sqlite_disk.specs.Disk.{Only}
+use Rattle.sqlite_disk.specs.Refusal.{is_no_room}
 use Rattle.sealed_log.proofs.written.cut.Goals as goal
 
 pub returns-in_err-set_len-clause-crash : goal.returns-in_err-set_len-clause-crash
@@ -36,7 +37,7 @@ returns-clause-failed g c = err_usable c.sync.result _ _ c.sync.ensures.usable
 
 pub returns-in_err-set_len-clause-call : goal.returns-in_err-set_len-clause-call
 returns-in_err-set_len-clause-call g c =
-    left_with (HasFailed g.D.Disk c.args.disk.now c.set_len.new.self) c.from_residual.result c.in_err-set_len.field-0.0 c.from_residual.ensures.1
+    left_with (λ error. HasFailed g.D.Disk c.args.disk.now c.set_len.new.self (is_no_room error)) c.from_residual.result c.in_err-set_len.field-0.0 c.from_residual.ensures.1
     (write_failed g.D.Disk c.args.disk.now c.set_len.new.self c.in_err-set_len.field-0.0 c.in_err-set_len.ensures.faults.0 c.in_err-set_len.ensures.tally)
 
 pub returns-clause-call : goal.returns-clause-call

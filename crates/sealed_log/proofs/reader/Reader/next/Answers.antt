@@ -1,4 +1,4 @@
-use Rattle.std.proofs.Common.{◌≡◌, ◌≤◌, ◌+◌, refl, ap, subst, ◌∙◌, arith, length, false, MatchOption}
+use Rattle.std.proofs.Common.{◌≡◌, ◌+◌, refl, ap, subst, ◌∙◌, arith, length, false, MatchOption}
 use Rattle.sealed_log.specs.Told.{IsSeal, body_in, is_sealed}
 use Rattle.sealed_log.specs.Lines.{IsFound}
 use Rattle.sealed_log.proofs.FaultFacts.{left_met, without_memory}
