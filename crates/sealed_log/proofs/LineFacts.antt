@@ -13,12 +13,14 @@ use Rattle.sealed_log.specs.Lines.{IsPart, IsLine}
 use Rattle.sealed_log.proofs.ToldFacts.{IsBody-body_in, told_line, whole_line}
 
 pub IsRead-refl : {D : Type 0} (g : Ghosts D) (d : D) → IsTrue (g.is_usable d) → IsRead g d d
-IsRead-refl g d usable = record { seen = refl; usable = usable; clean = λ is. is; crash = λ left may. may }
+IsRead-refl g d usable = record { seen = refl; usable = usable; counts = omega arith; tally = refl; clean = λ is. is; crash = λ left may. may }
 
 pub IsRead-trans : {D : Type 0} (g : Ghosts D) (a b c : D) → IsRead g a b → IsRead g b c → IsRead g a c
 IsRead-trans g a b c first then_ = record {
   seen = then_.seen ∙ first.seen;
   usable = then_.usable;
+  counts = let was = first.counts in let more = then_.counts in omega (arith, was, more);
+  tally = then_.tally ∙ first.tally;
   clean = λ is. first.clean (then_.clean is);
   crash = λ left may. first.crash left (then_.crash left may);
 }

@@ -8,10 +8,12 @@ use Rattle.sealed_log.specs.declared.written.Written.{Written}
 use Rattle.sealed_log.specs.declared.written.Written.TheVariants.{Whole, Undone, Lost}
 
 module _ {D : Type 0} (g : Ghosts D) where
-  -- the disk was read, and nothing else was done
+  -- the disk was read, and nothing else was done; so no call of it was refused for want of room
   pub record IsRead (old new : D) : Type 0 where
     pub seen : g.seen new ≡ g.seen old
     pub usable : IsTrue (g.is_usable new)
+    pub counts : g.faults old ≤ g.faults new
+    pub tally : g.tally_of new ≡ g.tally_of old
     pub clean : IsTrue (g.is_clean new) → IsTrue (g.is_clean old)
     pub crash : (left : List ℕ) → g.may_leave new left → g.may_leave old left
 

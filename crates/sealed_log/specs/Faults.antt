@@ -1,5 +1,5 @@
 -- The faults of a log, and the calls of its disk that failed.
-use Rattle.std.specs.Prelude.{◌≡◌, ◌⊎◌, ◌≤◌, Bool, true, false, if◌then◌else◌, MatchBool}
+use Rattle.std.specs.Prelude.{◌≡◌, ◌⊎◌, ◌≤◌, ◌-◌, ◌^◌, min, Bool, true, false, if◌then◌else◌, MatchBool}
 use Rattle.std.specs.declared.io.ErrorKind.{ErrorKind}
 use Rattle.std.specs.declared.io.ErrorKind.TheVariants.{OutOfMemory}
 use Rattle.sqlite_disk.specs.declared.Disk.{Ghosts}
@@ -28,16 +28,21 @@ is_full Disk = false
 is_full (NoMemory _) = false
 
 module _ {D : Type 0} (g : Ghosts D) where
+  -- no call that failed is forgotten, nor one that was refused for want of room
+  pub record IsLater (old new : D) : Type 0 where
+    pub faults : g.faults old ≤ g.faults new
+    pub refused : min (g.tally_of old).refused (2 ^ 64 - 1) ≤ (g.tally_of new).refused
+
   -- a call between the two failed, and was refused for want of room just where so
   pub record HasFailed (old new : D) (for_room : Bool) : Type 0 where
     pub before : D
     pub after : D
-    pub begun : g.faults old ≤ g.faults before
+    pub begun : IsLater old before
     pub failed : MoreFaults (g.faults before) (g.faults after)
-    pub ended : g.faults after ≤ g.faults new
     pub room : MatchBool for_room
         (MoreFaults (g.tally_of before).refused (g.tally_of after).refused)
         ((g.tally_of after).refused ≡ (g.tally_of before).refused)
+    pub ended : IsLater after new
 
   -- a call between the two failed, and this is its fault: `full` just where there was no room
   abbrev pub IsOfCall : (old new : D) → LogFault → Type 0

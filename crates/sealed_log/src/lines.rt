@@ -56,7 +56,6 @@ fn read_piece<D: Disk>(
     requires some { 0 < length piece.old }
     requires fits { at + length line.old.items + length piece.old < 2 ^ 64 }
     ensures read { IsRead D.Disk disk.old disk.new }
-    ensures counts { D.faults disk.old ≤ D.faults disk.new }
     ensures word { IsTrue (D.is_clean disk.new)
         → at + length line.old.items + length piece.old ≤ length (D.seen disk.old)
         → IfErr result (IsMetBetween D.Disk disk.old disk.new) }
@@ -93,7 +92,6 @@ pub(crate) fn read_line<D: Disk>(
     requires usable { IsTrue (D.is_usable disk.old) }
     requires within { at ≤ len }
     ensures read { IsRead D.Disk disk.old disk.new }
-    ensures counts { D.faults disk.old ≤ D.faults disk.new }
     ensures word { IsTrue (D.is_clean disk.new) → len ≡ length (D.seen disk.old)
         → IfErr result (IsMetBetween D.Disk disk.old disk.new) }
     ensures short { IfOk result (λ found. IfSome found (λ line. at + length line.items < len)) }

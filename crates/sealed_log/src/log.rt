@@ -31,13 +31,13 @@ pub struct SealedLog<D: Disk> {
 }
 
 impl<D: Disk> SealedLog<D> {
-    ghost use Rattle.std.specs.Prelude.{◌≡◌, ◌⊎◌, ◌≤◌, ℕ, List, [], ◌∷◌, length, true, false};
+    ghost use Rattle.std.specs.Prelude.{◌≡◌, ◌⊎◌, ℕ, List, [], ◌∷◌, length, true, false};
     ghost use Rattle.std.specs.Prelude.{IsTrue, IfErr, IfOk, IsErrOf, OnErr, OnOk};
     ghost use Rattle.sqlite_disk.specs.Disk.{Only, MoreFaults};
     ghost use Rattle.sealed_log.specs.Sealed.{IsBody, sealed_text, sealed_line};
     ghost use Rattle.sealed_log.specs.Sealed.{sealed_with, seal_of};
     ghost use Rattle.sealed_log.specs.Disks.{HasFailedTwice, LeavesTail};
-    ghost use Rattle.sealed_log.specs.Faults.{IsMetBetween, IsOfCall};
+    ghost use Rattle.sealed_log.specs.Faults.{IsLater, IsMetBetween, IsOfCall};
     ghost use Rattle.sealed_log.specs.Log.{AreLines, IsAppended, bodies_of};
     ghost use Rattle.sealed_log.specs.Reading.{IsThrough};
     ghost use Rattle.sealed_log.specs.Told.{told};
@@ -99,7 +99,7 @@ impl<D: Disk> SealedLog<D> {
         ensures refused { D.is_usable self.old.disk ≡ false → IsErrOf result LogFault.Disk }
         ensures word { IsTrue (D.is_usable self.old.disk) → IsTrue (D.is_clean self.new.disk)
             → IfErr result (IsMetBetween D.Disk self.old.disk self.new.disk) }
-        ensures counts { D.faults self.old.disk ≤ D.faults self.new.disk }
+        ensures counts { IsLater D.Disk self.old.disk self.new.disk }
         ensures usable { D.is_usable self.new.disk ≡ D.is_usable self.old.disk }
         ensures seen { D.seen self.new.disk ≡ D.seen self.old.disk }
         ensures clean { IsTrue (D.is_clean self.new.disk) → IsTrue (D.is_clean self.old.disk) }
@@ -130,7 +130,7 @@ impl<D: Disk> SealedLog<D> {
         ensures crash { IsTrue (D.is_clean self.new.disk) → (most : ℕ)
             → LeavesTail D.Disk self.old.disk (sealed_text (bodies_of D.Disk self.old)) most
             → LeavesTail D.Disk self.new.disk (sealed_text (bodies_of D.Disk self.old)) most }
-        ensures counts { D.faults self.old.disk ≤ D.faults self.new.disk }
+        ensures counts { IsLater D.Disk self.old.disk self.new.disk }
         ensures refused { D.is_usable self.old.disk ≡ false → IsErrOf result LogFault.Disk }
         ensures word { IsTrue (D.is_usable self.old.disk)
             → IfErr result (IsOfCall D.Disk self.old.disk self.new.disk) }
@@ -154,7 +154,7 @@ impl<D: Disk> SealedLog<D> {
         requires lines { (settling : List (List ℕ)) × (body : List ℕ)
             × AreLines self.old.seal settling body text.now seal lines }
         ensures clean { IsTrue (D.is_clean self.new.disk) → IsTrue (D.is_clean self.old.disk) }
-        ensures counts { D.faults self.old.disk ≤ D.faults self.new.disk }
+        ensures counts { IsLater D.Disk self.old.disk self.new.disk }
         ensures closes { IsTrue (D.is_clean self.new.disk) → (self.new.is_open ≡ true)
             ⊎ MoreFaults (D.faults self.old.disk) (D.faults self.new.disk) }
         ensures lost { IsTrue (D.is_clean self.new.disk)
@@ -195,7 +195,7 @@ impl<D: Disk> SealedLog<D> {
     pub fn put(&mut self, alloc: Global, body: &[u8]) -> Result<(), LogFault>
         requires { IsBody body.now }
         ensures clean { IsTrue (D.is_clean self.new.disk) → IsTrue (D.is_clean self.old.disk) }
-        ensures counts { D.faults self.old.disk ≤ D.faults self.new.disk }
+        ensures counts { IsLater D.Disk self.old.disk self.new.disk }
         ensures shut { self.old.is_open ≡ false → self.new ≡ self.old }
         ensures closes { IsTrue (D.is_clean self.new.disk) → self.old.is_open ≡ true
             → (self.new.is_open ≡ true)
@@ -229,7 +229,7 @@ impl<D: Disk> SealedLog<D> {
         requires first { IsBody first.now }
         requires body { IsBody body.now }
         ensures clean { IsTrue (D.is_clean self.new.disk) → IsTrue (D.is_clean self.old.disk) }
-        ensures counts { D.faults self.old.disk ≤ D.faults self.new.disk }
+        ensures counts { IsLater D.Disk self.old.disk self.new.disk }
         ensures shut { self.old.is_open ≡ false → self.new ≡ self.old }
         ensures closes { IsTrue (D.is_clean self.new.disk) → self.old.is_open ≡ true
             → (self.new.is_open ≡ true)

@@ -1,6 +1,6 @@
 //! Reading a log to its end.
 
-ghost use Rattle.std.specs.Prelude.{◌≤◌, IsTrue, IfErr, IfOk, []};
+ghost use Rattle.std.specs.Prelude.{IsTrue, IfErr, IfOk, []};
 ghost use Rattle.sealed_log.specs.Disks.{IsRead};
 ghost use Rattle.sealed_log.specs.Faults.{IsMetBetween};
 ghost use Rattle.sealed_log.specs.Reading.{IsThrough};
@@ -26,7 +26,6 @@ pub fn read_through<K: Keeps, D: Disk>(
     requires usable { IsTrue (D.is_usable disk.old) }
     requires begun { K.is_of [] keeper.old }
     ensures read { IsRead D.Disk disk.old disk.new }
-    ensures counts { D.faults disk.old ≤ D.faults disk.new }
     ensures word { IsTrue (D.is_clean disk.new)
         → IfErr result (IsMetBetween D.Disk disk.old disk.new) }
     ensures through { IfOk result (λ through. IsTrue (D.is_clean disk.new)

@@ -22,7 +22,7 @@ pub struct Reader {
 }
 
 impl Reader {
-    ghost use Rattle.std.specs.Prelude.{◌≡◌, ◌<◌, ◌≤◌, length, IsTrue, IfErr, IfOk, IfSome, OnErr};
+    ghost use Rattle.std.specs.Prelude.{◌≡◌, ◌<◌, length, IsTrue, IfErr, IfOk, IfSome, OnErr};
     ghost use Rattle.sealed_log.specs.Disks.{IsRead};
     ghost use Rattle.sealed_log.specs.Faults.{IsMetBetween};
     ghost use Rattle.sealed_log.specs.Sealed.{no_seal};
@@ -80,7 +80,6 @@ impl Reader {
         ensures len { self.new.len ≡ self.old.len }
         ensures further { IfOk result (λ found. IfSome found (λ _. self.old.at < self.new.at)) }
         ensures kept { OnErr result (self.new ≡ self.old) }
-        ensures counts { D.faults disk.old ≤ D.faults disk.new }
         ensures word { IsTrue (D.is_clean disk.new) → self.old.len ≡ length (D.seen disk.old)
             → IfErr result (IsMetBetween D.Disk disk.old disk.new) }
         ensures next { IfOk result (λ found. IsTrue (D.is_clean disk.new)

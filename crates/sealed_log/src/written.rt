@@ -7,7 +7,7 @@ ghost use Rattle.sqlite_disk.specs.Refusal.{is_no_room};
 ghost use Rattle.sealed_log.specs.Told.{HasTail};
 ghost use Rattle.sealed_log.specs.Disks.{HasJust, IsCaused, IsLostBy, IsTried, LeavesTail};
 ghost use Rattle.sealed_log.specs.Disks.{NamesCall, StaysKept};
-ghost use Rattle.sealed_log.specs.Faults.{HasFailed};
+ghost use Rattle.sealed_log.specs.Faults.{HasFailed, IsLater};
 ghost use Rattle.sealed_log.specs.Whole.{IsEnd};
 
 use crate::fault::LogFault;
@@ -37,7 +37,7 @@ pub(crate) fn cut<D: Disk>(disk: &mut D, end: usize) -> io::Result<()>
     ensures usable { OnOk result (IsTrue (D.is_usable disk.new)) }
     ensures failed { OnErr result ((D.is_usable disk.new ≡ false)
         ⊎ MoreFaults (D.faults disk.old) (D.faults disk.new)) }
-    ensures counts { D.faults disk.old ≤ D.faults disk.new }
+    ensures counts { IsLater D.Disk disk.old disk.new }
     ensures call { IfErr result (λ error. HasFailed D.Disk disk.old disk.new (is_no_room error)) }
 {
     disk.set_len(end)?;
@@ -51,7 +51,7 @@ fn write_line<D: Disk>(disk: &mut D, end: usize, line: &[u8]) -> Written
     ensures added { (bytes : List ℕ) → end ≡ length bytes → HasJust D.Disk disk.old bytes
         → IsTried D.Disk disk.old disk.new bytes line.now result }
     ensures clean { IsTrue (D.is_clean disk.new) → IsTrue (D.is_clean disk.old) }
-    ensures counts { D.faults disk.old ≤ D.faults disk.new }
+    ensures counts { IsLater D.Disk disk.old disk.new }
     ensures caused { IsCaused D.Disk disk.old disk.new result }
     ensures word { NamesCall D.Disk disk.old disk.new result }
     ensures lost { IsLostBy D.Disk disk.old disk.new result }
@@ -84,7 +84,7 @@ pub(crate) fn add_line<D: Disk>(disk: &mut D, end: usize, line: &[u8]) -> Writte
         → HasJust D.Disk disk.old bytes
         → IsTried D.Disk disk.old disk.new bytes line.now result }
     ensures clean { IsTrue (D.is_clean disk.new) → IsTrue (D.is_clean disk.old) }
-    ensures counts { D.faults disk.old ≤ D.faults disk.new }
+    ensures counts { IsLater D.Disk disk.old disk.new }
     ensures caused { IsTrue (D.is_clean disk.new) → IsEnd (D.seen disk.old) end
         → IsCaused D.Disk disk.old disk.new result }
     ensures word { IsTrue (D.is_clean disk.new) → IsEnd (D.seen disk.old) end

@@ -6,7 +6,6 @@ use Rattle.sealed_log.proofs.lines.read_line.Given as goal
 abbrev pub invariant-pieces : goal.invariant-pieces
 invariant-pieces g l = record {
   read : IsRead g.D.Disk l.fn.disk l.disk;
-  counts : g.D.Disk.faults l.fn.disk ≤ g.D.Disk.faults l.disk;
   within : length l.line.items ≤ l.most;
   part : IsTrue (g.D.Disk.is_clean l.disk) → IsPart (g.D.Disk.seen l.fn.disk) l.at l.line.items;
 }

@@ -1,7 +1,7 @@
 use Rattle.std.proofs.Common.{inr, ◌≡◌, ◌∙◌, ◌<◌, ℕ, List, [], ◌∷◌, ◌++◌, IfSome, IsTrue, ap, sym, subst, length, arith}
 use Rattle.sealed_log.specs.Reading.{IsNext, IsStep, told_at}
 use Rattle.sealed_log.specs.Sealed.{IsBody}
-use Rattle.sealed_log.proofs.FaultFacts.{left_met, of_read}
+use Rattle.sealed_log.proofs.FaultFacts.{later_by_read, left_met, of_read}
 use Rattle.sealed_log.proofs.LineFacts.{IsRead-trans}
 use Rattle.sealed_log.proofs.ReaderFacts.{gone_on, kept_on, kept_through, through}
 use Rattle.sealed_log.proofs.read.read_through.Goals as goal
@@ -28,7 +28,6 @@ lines-preserved g c =
     subst (λ f. IsStep f c.lines.reader c.next.new.self body) before.read.seen step in
     record {
       read = IsRead-trans g.D.Disk c.args.disk.now c.lines.disk c.next.new.disk before.read c.next.ensures.read;
-      counts = let was = before.counts in let more = c.next.ensures.counts in omega (arith, was, more);
       len = λ clean. c.next.ensures.len ∙ before.len (c.next.ensures.read.clean clean);
       counted = let low = before.counted in omega (arith, low, further);
       so_far = λ clean. gone_on seen body c.lines.lines c.lines.reader c.next.new.self (before.so_far (c.next.ensures.read.clean clean)) (stepped clean);
@@ -69,4 +68,4 @@ returns-in_err-body-clause-word g c = λ clean.
     let before = c.lines.invariant in
     let was = c.next.ensures.read.clean clean in
     left_met g.D.Disk c.args.disk.now c.lines.disk c.next.new.disk c.from_residual.result c.in_err-body.field-0.0
-    c.from_residual.ensures.1 before.counts (c.in_err-body.ensures.word clean (before.len was ∙ ap length (sym before.read.seen)))
+    c.from_residual.ensures.1 (later_by_read g.D.Disk c.args.disk.now c.lines.disk before.read.counts before.read.tally) (c.in_err-body.ensures.word clean (before.len was ∙ ap length (sym before.read.seen)))

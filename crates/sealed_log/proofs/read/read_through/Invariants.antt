@@ -7,7 +7,6 @@ use Rattle.sealed_log.proofs.read.read_through.Given as goal
 abbrev pub invariant-lines : goal.invariant-lines
 invariant-lines g l = record {
   read : IsRead g.D.Disk l.fn.disk l.disk;
-  counts : g.D.Disk.faults l.fn.disk ≤ g.D.Disk.faults l.disk;
   len : IsTrue (g.D.Disk.is_clean l.disk) → l.reader.len ≡ length (g.D.Disk.seen l.fn.disk);
   counted : l.lines ≤ l.reader.at;
   so_far : IsTrue (g.D.Disk.is_clean l.disk) → IsSoFar (g.D.Disk.seen l.fn.disk) l.reader l.lines;

@@ -1,6 +1,6 @@
-use Rattle.std.proofs.Common.{inr, List, ℕ, sym, subst, arith}
+use Rattle.std.proofs.Common.{inr, List, ℕ, sym, subst}
 use Rattle.sealed_log.proofs.DiskFacts.{crash_in_cut, err_usable, ok_usable, on_err, on_ok, settle_cut}
-use Rattle.sealed_log.proofs.FaultFacts.{left_with, write_failed, write_fails}
+use Rattle.sealed_log.proofs.FaultFacts.{later_by_write, left_with, write_failed, write_fails}
 use Rattle.sealed_log.specs.Faults.{HasFailed}
 use Rattle.sqlite_disk.specs.Disk.{Only}
 use Rattle.sqlite_disk.specs.Refusal.{is_no_room}
@@ -42,5 +42,5 @@ returns-in_err-set_len-clause-call g c =
 
 pub returns-clause-call : goal.returns-clause-call
 returns-clause-call g c =
-    write_fails g.D.Disk c.args.disk.now c.set_len.new.self c.sync.new.self c.sync.result (omega (arith, c.in_ok-set_len.ensures.faults))
+    write_fails g.D.Disk c.args.disk.now c.set_len.new.self c.sync.new.self c.sync.result (later_by_write g.D.Disk c.args.disk.now c.set_len.new.self c.set_len.result c.set_len.ensures.faults c.set_len.ensures.tally)
     c.sync.ensures.faults c.sync.ensures.tally

@@ -1,6 +1,6 @@
-use Rattle.std.proofs.Common.{inl, arith}
+use Rattle.std.proofs.Common.{inl}
 use Rattle.sealed_log.proofs.DiskFacts.{crash_in_write, failed_on, seen_in_write, settle_line}
-use Rattle.sealed_log.proofs.FaultFacts.{failed_later, failed_sooner, of_write, write_failed}
+use Rattle.sealed_log.proofs.FaultFacts.{failed_later, failed_sooner, later_by_write, of_write, write_failed}
 use Rattle.sealed_log.proofs.written.write_line.Goals as goal
 
 pub returns-in-Ok-sync-clause-added : goal.returns-in-Ok-sync-clause-added
@@ -43,7 +43,7 @@ pub returns-in-Err-sync-clause-word : goal.returns-in-Err-sync-clause-word
 returns-in-Err-sync-clause-word g c =
     let call = write_failed g.D.Disk c.write_at.new.self c.sync.new.self c.in-Err-sync.error c.in-Err-sync.ensures.faults.0 c.in-Err-sync.ensures.tally in
     of_write g.D.Disk c.args.disk.now c.sync.new.self c.in-Err-sync.error _
-    (failed_later g.D.Disk c.args.disk.now c.write_at.new.self c.sync.new.self _ (omega (arith, c.in-Ok.ensures.faults)) call) c.into.ensures
+    (failed_later g.D.Disk c.args.disk.now c.write_at.new.self c.sync.new.self _ (later_by_write g.D.Disk c.args.disk.now c.write_at.new.self c.write_at.result c.write_at.ensures.faults c.write_at.ensures.tally) call) c.into.ensures
 
 pub returns-in-Ok-cut-clause-word : goal.returns-in-Ok-cut-clause-word
 returns-in-Ok-cut-clause-word g c =

@@ -1,7 +1,7 @@
 use Rattle.std.proofs.Common.{◌≡◌, ◌+◌, refl, ap, subst, ◌∙◌, arith, length, false, MatchOption}
 use Rattle.sealed_log.specs.Told.{IsSeal, body_in, is_sealed}
 use Rattle.sealed_log.specs.Lines.{IsFound}
-use Rattle.sealed_log.proofs.FaultFacts.{left_met, without_memory}
+use Rattle.sealed_log.proofs.FaultFacts.{later_itself, left_met, without_memory}
 use Rattle.sealed_log.proofs.ReaderFacts.{stepped, stopped, ended}
 use Rattle.sealed_log.proofs.reader.Reader.next.Goals as goal
 
@@ -35,7 +35,7 @@ returns-in-Some-2-clause-next g c = λ clean long.
 pub returns-in_err-line-clause-word : goal.returns-in_err-line-clause-word
 returns-in_err-line-clause-word g c = λ clean long.
     left_met g.D.Disk c.args.disk.now c.args.disk.now c.read_line.new.disk c.from_residual.result c.in_err-line.field-0.0 c.from_residual.ensures.1
-    (omega arith) (c.in_err-line.ensures.word clean long)
+    (later_itself g.D.Disk c.args.disk.now) (c.in_err-line.ensures.word clean long)
 
 pub returns-in_err-seal-in-Some-clause-word : goal.returns-in_err-seal-in-Some-clause-word
 returns-in_err-seal-in-Some-clause-word g c = λ clean long.
