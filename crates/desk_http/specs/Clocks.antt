@@ -3,7 +3,7 @@ use Rattle.std.specs.Prelude.{◌≡◌, ◌⊎◌, ◌+◌, ◌<◌, ◌≤◌,
 use Rattle.std.specs.Duration.{as_nanos}
 use Rattle.std.specs.IoError.{error_kind}
 use Rattle.std.specs.declared.io.Error.{Error}
-use Rattle.std.specs.declared.io.ErrorKind.TheVariants.{TimedOut}
+use Rattle.std.specs.declared.io.ErrorKind.TheVariants.{InvalidInput, TimedOut}
 use Rattle.std.specs.declared.time.Duration.{Duration}
 
 module _ (Shows : Result Duration Error → Type 0) where
@@ -11,6 +11,11 @@ module _ (Shows : Result Duration Error → Type 0) where
   abbrev pub EndsAfter : (length end : Duration) → Type 0
   EndsAfter length end =
       (now : Duration) × Shows (Ok now) × (as_nanos end ≡ as_nanos now + as_nanos length)
+
+  -- there is no such moment: the clock failed, or can't count so far
+  abbrev pub HasNoEnd : Error → Type 0
+  HasNoEnd e = Shows (Err e)
+      ⊎ ((now : Duration) × Shows (Ok now) × (error_kind e ≡ InvalidInput))
 
   -- how long it is from what the clock shows until then, which is never nothing; or the clock
   -- failed, or shows that moment or a later one
@@ -21,11 +26,12 @@ module _ (Shows : Result Duration Error → Type 0) where
   IsLeft end (Err e) = Shows (Err e) ⊎ ((now : Duration) × Shows (Ok now)
       × (as_nanos end ≤ as_nanos now) × (error_kind e ≡ TimedOut))
 
--- a call may wait just as long as is left; or none is made, for none is left or that can't be set
+-- a call may wait just as long as is left; or none is made, for none is left or that can't be set, and
+-- all is the same
 abbrev pub IsTimed : {A : Type 0} → (Left : Result Duration Error → Type 0)
     → (Waits : Duration → Result (Unit {0}) Error → Type 0) → (Gives : Result A Error → Type 0)
-    → Result A Error → Type 0
-IsTimed Left Waits Gives result =
+    → (Same : Type 0) → Result A Error → Type 0
+IsTimed Left Waits Gives Same result =
     ((left : Duration) × Left (Ok left) × Waits left (Ok tt) × Gives result)
-    ⊎ ((e : Error) × (result ≡ Err e)
+    ⊎ ((e : Error) × (result ≡ Err e) × Same
     × (Left (Err e) ⊎ ((left : Duration) × Left (Ok left) × Waits left (Err e))))

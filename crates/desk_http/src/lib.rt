@@ -4,7 +4,7 @@
 
 pub mod clock;
 pub mod deadline;
-mod ending;
+pub mod ending;
 pub mod fault;
 pub mod listener;
 pub mod outcome;
@@ -18,6 +18,7 @@ pub mod timed_listener;
 
 pub use clock::PassClock;
 pub use deadline::Deadline;
+pub use ending::EndWriting;
 pub use fault::HttpFault;
 pub use listener::{Listener, Stream};
 pub use outcome::ExchangeOutcome;

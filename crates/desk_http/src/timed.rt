@@ -86,7 +86,9 @@ impl<C: PassClock, T: PassRead + Timeouts> Read for Timed<'_, C, T> {
             (T.remaining self.old.stream) (T.remaining self.new.stream) result buf.new }
         ensures timed { IsTimed (IsLeft (C.shows self.old.deadline.clock.now) self.old.deadline.end)
             (T.read_waits self.old.stream)
-            (λ read. T.gives self.old.stream self.new.stream read buf.new) result }
+            (λ read. T.gives self.old.stream self.new.stream read buf.new)
+            (self.new.stream ≡ self.old.stream) result }
+        ensures deadline { self.new.deadline ≡ self.old.deadline }
     {
         let left = self.deadline.left()?;
         self.stream.set_read_timeout(left)?;
@@ -103,7 +105,8 @@ impl<C: PassClock, T: PassWrite + Timeouts> Write for Timed<'_, C, T> {
             (T.contents self.old.stream) (T.contents self.new.stream) result buf.now }
         ensures timed { IsTimed (IsLeft (C.shows self.old.deadline.clock.now) self.old.deadline.end)
             (T.write_waits self.old.stream)
-            (λ wrote. T.takes self.old.stream self.new.stream wrote buf.now) result }
+            (λ wrote. T.takes self.old.stream self.new.stream wrote buf.now)
+            (self.new.stream ≡ self.old.stream) result }
     {
         let left = self.deadline.left()?;
         self.stream.set_write_timeout(left)?;

@@ -64,7 +64,7 @@ impl<'c, C: PassClock> Listener for TimedListener<'c, C> {
     )
         ensures { self.new ≡ self.old }
     {
-        end_exchange(self.clock, reader.into_inner().into_inner(), served);
+        drop(end_exchange(self.clock, reader.into_inner().into_inner(), served));
         drop(writer);
     }
 }
