@@ -28,13 +28,13 @@ module _ (Same : Type 0) (Handled : Request → Answer → Type 0) (unread rest 
   untold fault.Ended has = (None, has.2, tt)
   untold fault.Read has = (None, has.1, tt)
   untold fault.TooManyReads has = (None, has.1, tt)
-  untold (fault.Write status) has = absurd has
+  untold (fault.Write status want) has = absurd has
   untold (fault.NoMemory status _) has = absurd has
 
   told_so : (before after : Option (List ℕ)) (outcome : ExchangeOutcome) (result : Result Served HttpFault) → HasOutcome Same Handled unread rest (Ok outcome)
       → IsTold before after outcome result → IsExchanged Same Handled result
   told_so before after outcome (Ok status) has told = (Some outcome, leaves_come outcome has, told.0)
-  told_so before after outcome (Err (fault.Write status)) has told = (Some outcome, leaves_come outcome has, told.0)
+  told_so before after outcome (Err (fault.Write status want)) has told = (Some outcome, leaves_come outcome has, (told.0, told.1))
   told_so before after outcome (Err (fault.NoMemory status _)) has told = (Some outcome, leaves_come outcome has, told.0)
   told_so before after outcome (Err fault.Ended) has told = absurd told
   told_so before after outcome (Err fault.Read) has told = absurd told

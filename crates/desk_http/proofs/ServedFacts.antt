@@ -40,7 +40,7 @@ module _ (Same : Type 0) (Handled : Request → Answer → Type 0) where
   outcome_whole input (Some left) (Err fault.Ended) has = (ends_whole input left has.0 has.1, has.2)
   outcome_whole input (Some left) (Err fault.Read) has = has.1
   outcome_whole input (Some left) (Err fault.TooManyReads) has = has.1
-  outcome_whole input (Some left) (Err (fault.Write status)) has = has
+  outcome_whole input (Some left) (Err (fault.Write status want)) has = has
   outcome_whole input (Some left) (Err (fault.NoMemory status _)) has = has
   outcome_whole input (Some left) (Ok (NoMemory _)) has = has
   outcome_whole input None (Ok (Refused why)) has = absurd has.0.1
@@ -49,7 +49,7 @@ module _ (Same : Type 0) (Handled : Request → Answer → Type 0) where
   outcome_whole input None (Err fault.Ended) has = absurd has.0.1
   outcome_whole input None (Err fault.Read) has = has.1
   outcome_whole input None (Err fault.TooManyReads) has = has.1
-  outcome_whole input None (Err (fault.Write status)) has = has
+  outcome_whole input None (Err (fault.Write status want)) has = has
   outcome_whole input None (Err (fault.NoMemory status _)) has = has
 
   pub served_whole : (unread rest before after : Option (List ℕ)) (result : Result Served HttpFault) → IsServed Same Handled unread rest before after result
@@ -84,7 +84,7 @@ module _ {X : Type 0} (m : Meaning X) (old new : X) (h : History) (office : m.is
     outcome_left (Err fault.Ended) has = (has.0, has.1, stays_whole has.2)
     outcome_left (Err fault.Read) has = (has.0, stays_whole has.1)
     outcome_left (Err fault.TooManyReads) has = (has.0, stays_whole has.1)
-    outcome_left (Err (fault.Write status)) has = has
+    outcome_left (Err (fault.Write status want)) has = has
     outcome_left (Err (fault.NoMemory status _)) has = has
 
     pub served_left : (before after : Option (List ℕ)) (result : Result Served HttpFault) → IsServed (new ≡ old) (IsHandled m old new) unread rest before after result

@@ -4,7 +4,7 @@ use Rattle.office_policy.specs.Meaning.{Meaning}
 use Rattle.review_policy.specs.declared.ask.Request.{Request}
 use Rattle.review_policy.specs.declared.answer.Answer.{Answer}
 use Rattle.office_policy.specs.Ran.{HaveRun}
-use Rattle.desk_http.specs.Outcomes.{told_as, told_code}
+use Rattle.desk_http.specs.Outcomes.{told_as, told_code, want_of}
 use Rattle.desk_http.specs.declared.fault.HttpFault.{HttpFault}
 use Rattle.desk_http.specs.declared.fault.HttpFault.TheVariants as fault
 use Rattle.desk_http.specs.declared.outcome.ExchangeOutcome.{ExchangeOutcome}
@@ -16,7 +16,8 @@ use Rattle.desk_http.specs.declared.served.Served.{Served}
 -- what came of it, if anything, is told so
 abbrev pub Tells : Option ExchangeOutcome → Result Served HttpFault → Type 0
 Tells (Some outcome) (Ok served) = served ≡ told_as outcome
-Tells (Some outcome) (Err (fault.Write status)) = status ≡ told_code outcome
+Tells (Some outcome) (Err (fault.Write status want)) =
+    (status ≡ told_code outcome) × (want ≡ want_of outcome)
 Tells (Some outcome) (Err (fault.NoMemory status _)) = status ≡ told_code outcome
 Tells None (Err fault.Read) = Unit {0}
 Tells None (Err fault.Ended) = Unit {0}

@@ -8,5 +8,5 @@ abbrev pub fault_word : HttpFault → List ℕ
 fault_word Read = codes "read"
 fault_word Ended = codes "ended"
 fault_word TooManyReads = codes "too-many-reads"
-fault_word (Write status) = codes "write"
+fault_word (Write status want) = codes "write"
 fault_word (NoMemory status _) = codes "memory"

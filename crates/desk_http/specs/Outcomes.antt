@@ -1,5 +1,5 @@
 -- The responses by what came of exchanges.
-use Rattle.std.specs.Prelude.{ℕ, List, Bool, true, false}
+use Rattle.std.specs.Prelude.{ℕ, List, Bool, true, false, Option, Some, None}
 use Rattle.review_policy.specs.declared.answer.Answer.TheVariants.{Fault}
 use Rattle.review_policy.specs.declared.fault.Fault.TheVariants as faults
 use Rattle.http_requests.specs.Message.{code_of}
@@ -11,6 +11,7 @@ use Rattle.desk_http.specs.declared.outcome.ExchangeOutcome.{ExchangeOutcome}
 use Rattle.desk_http.specs.declared.outcome.ExchangeOutcome.TheVariants.{Refused, NoMemory, Answered}
 use Rattle.desk_http.specs.declared.served.Served.{Served}
 use Rattle.no_memory.specs.Witness.{witness}
+use Rattle.no_memory.specs.declared.witness.NoMemory.{«NoMemory» as Want}
 
 -- the response to it
 abbrev pub told : ExchangeOutcome → List ℕ
@@ -36,6 +37,16 @@ is_unread (Refused why) = true
 is_unread (NoMemory _) = true
 is_unread (Answered request answer) = false
 
+-- the want of memory that the response tells, where it tells one
+abbrev pub want_of : ExchangeOutcome → Option Want
+want_of (NoMemory memory) = Some memory
+want_of (Answered request (Fault (faults.NoMemory memory))) = Some memory
+want_of _ = None
+
 -- what an exchange comes to whose response is written whole
 abbrev pub told_as : ExchangeOutcome → Served
-told_as outcome = record { status = told_code outcome; is_unread = is_unread outcome }
+told_as outcome = record {
+  status = told_code outcome;
+  is_unread = is_unread outcome;
+  witness = want_of outcome;
+}

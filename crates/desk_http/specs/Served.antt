@@ -25,8 +25,8 @@ use Rattle.desk_http.specs.declared.served.Served.{Served}
 abbrev pub IsWritten : Option (List ℕ) → Option (List ℕ) → List ℕ → Served → Result Served HttpFault
     → Type 0
 IsWritten before after response meant (Ok served) = (served ≡ meant) × Appends before after response
-IsWritten before after response meant (Err (fault.Write status)) =
-    (status ≡ meant.status) × AppendsPart before after response
+IsWritten before after response meant (Err (fault.Write status want)) =
+    (status ≡ meant.status) × (want ≡ meant.witness) × AppendsPart before after response
 IsWritten before after response meant (Err (fault.NoMemory status _)) =
     (status ≡ meant.status) × (after ≡ before)
 IsWritten before after response meant (Err _) = ⊥
@@ -102,7 +102,7 @@ module _ {X : Type 0} (m : Meaning X) (h : History) (old new : X) where
 
 -- only where the writer failed is there one fault more
 abbrev pub TellCounts : ℕ → ℕ → Result Served HttpFault → Type 0
-TellCounts old new (Err (fault.Write status)) = new ≡ one_more old
+TellCounts old new (Err (fault.Write status want)) = new ≡ one_more old
 TellCounts old new _ = new ≡ old
 
 -- one call of the reader failed just where that is reported, and there were as many as are allowed

@@ -17,11 +17,18 @@ pub enum HttpFault {
     /// As often as is allowed the reader was called. Nothing was handled or written.
     TooManyReads,
     /// The writer failed in the response with this status. What that reports was done, and only a
-    /// front part of it was written.
-    Write { status: u16 },
+    /// front part of it was written. It has a witness where the response says that there was no
+    /// memory.
+    Write {
+        status: u16,
+        witness: Option<NoMemory>,
+    },
     /// There was no memory for the response with this status, of which nothing was written. What it
     /// reports was done.
-    NoMemory { status: u16, witness: NoMemory },
+    NoMemory {
+        status: u16,
+        witness: NoMemory,
+    },
 }
 
 impl HttpFault {
@@ -33,7 +40,10 @@ impl HttpFault {
             HttpFault::Read => "read",
             HttpFault::Ended => "ended",
             HttpFault::TooManyReads => "too-many-reads",
-            HttpFault::Write { status: _ } => "write",
+            HttpFault::Write {
+                status: _,
+                witness: _,
+            } => "write",
             HttpFault::NoMemory {
                 status: _,
                 witness: _,

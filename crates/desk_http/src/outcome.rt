@@ -8,7 +8,7 @@ use crate::served::Served;
 use http_requests::{OfficeRouter, Refusal, Status, Unheard, answer_status, hear};
 use no_memory::NoMemory;
 use office_policy::Handler;
-use review_policy::{Answer, Request};
+use review_policy::{Answer, Fault, Request};
 use std::alloc::Global;
 use std::io::Read;
 use streams::{Counted, Unread};
@@ -25,7 +25,7 @@ pub enum ExchangeOutcome {
 }
 
 impl ExchangeOutcome {
-    ghost use Rattle.desk_http.specs.Outcomes.{is_unread, told_as, told_status};
+    ghost use Rattle.desk_http.specs.Outcomes.{is_unread, told_as, told_status, want_of};
     ghost use Rattle.desk_http.specs.Served.{HasOutcome, ReadCounts};
 
     // Hears the request that a stream begins with, and handles it.
@@ -82,6 +82,20 @@ impl ExchangeOutcome {
         }
     }
 
+    // The witness, where the response that reports it says that there was no memory.
+    fn witness(&self) -> Option<NoMemory>
+        ensures { result ≡ want_of self.now }
+    {
+        match self {
+            ExchangeOutcome::NoMemory(witness) => Some(*witness),
+            ExchangeOutcome::Answered {
+                request: _,
+                answer: Answer::Fault(Fault::NoMemory(witness)),
+            } => Some(*witness),
+            _ => None,
+        }
+    }
+
     // What an exchange comes to in which it is reported.
     pub(crate) fn served(&self) -> Served
         ensures { result ≡ told_as self.now }
@@ -89,6 +103,7 @@ impl ExchangeOutcome {
         Served {
             status: self.status().code(),
             is_unread: self.is_unread(),
+            witness: self.witness(),
         }
     }
 }

@@ -30,10 +30,14 @@ fn write_response<W: Write>(
         text.now served result }
     ensures faults { TellCounts writer.old.faults writer.new.faults result }
 {
-    let status = served.status;
+    let Served {
+        status,
+        witness,
+        ..
+    } = served;
     match write_whole(writer, text.as_bytes()) {
         Ok(()) => Ok(served),
-        Err(_) => Err(HttpFault::Write { status }),
+        Err(_) => Err(HttpFault::Write { status, witness }),
     }
 }
 
@@ -99,7 +103,7 @@ fn exchange<H: Handler, R: Read, W: Write>(
 /// afterwards.
 ///
 /// A head that is refused, is so whatever follows it. Out of memory before the request is handled
-/// is answered by that fault and changes nothing.
+/// is answered by that fault and changes nothing, and the witness is handed on.
 ///
 /// Where before the call a crash left just the office of a history, afterwards it leaves just the
 /// office of the history after the request, or where that was answered by a fault, the same with

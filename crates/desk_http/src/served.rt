@@ -1,5 +1,7 @@
 //! What an exchange comes to.
 
+use no_memory::NoMemory;
+
 /// An exchange whose response was written whole.
 #[derive(Clone, Copy, Debug, PartialEq, Eq)]
 pub struct Served {
@@ -8,4 +10,6 @@ pub struct Served {
     /// Whether bytes of the request may still come: it was refused before its body was read, or there
     /// was no memory to read it.
     pub is_unread: bool,
+    /// The witness, where the response says that there was no memory.
+    pub witness: Option<NoMemory>,
 }

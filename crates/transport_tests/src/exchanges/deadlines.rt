@@ -1,6 +1,6 @@
 //! Exchanges until a deadline, by a clock that counts a second more at each look.
 
-use crate::exchanges::trial::{Exchange, Trial};
+use crate::exchanges::trial::{Exchange, Trial, cut_at};
 use desk_http::{Deadline, HttpFault, Timed, Timeouts};
 use std::cell::Cell;
 use std::io;
@@ -104,7 +104,7 @@ fn wait(trial: &mut Trial, message: &[u8], seconds: u64, are_taken: bool) -> Res
 fn served_in(calls: usize, reads: usize, writes: usize) -> (Result<u16, HttpFault>, usize) {
     match calls.checked_sub(reads) {
         None => (Err(HttpFault::Read), 0),
-        Some(count) if count < writes => (Err(HttpFault::Write { status: 200 }), count),
+        Some(count) if count < writes => (Err(cut_at(200)), count),
         Some(_) => (Ok(200), writes),
     }
 }

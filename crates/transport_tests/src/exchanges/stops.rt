@@ -1,6 +1,6 @@
 //! What stands where a reader or a writer fails, and what is answered where they give and take in pieces.
 
-use crate::exchanges::trial::Trial;
+use crate::exchanges::trial::{Trial, cut_at};
 use desk_http::{HttpFault, MAX_READS};
 use no_memory::NoMemory;
 use std::alloc::{AllocError, Global};
@@ -47,7 +47,7 @@ fn assert_handled(
         "POST /p/blue/web-{number} HTTP/1.1\r\nHost: office\r\nAuthorization: Bearer t-ann\r\n\
          Content-Length: 19\r\n\r\n{{\"capabilities\":{{}}}}"
     )?;
-    let cut = Err(HttpFault::Write { status: 200 });
+    let cut = Err(cut_at(200));
     trial.assert_served(rt, message.as_bytes(), taking, cut, front);
     trial.assert_served(
         rt,
@@ -85,7 +85,7 @@ fn a_failing_write_leaves_a_front_part_and_what_was_handled(rt: HostRuntime) -> 
 
 // That a message is refused with this status where 12 bytes of the response can be written, and which these are.
 fn assert_refused(rt: &impl Abort, trial: &mut Trial, message: &str, status: u16, written: &str) {
-    let cut = Err(HttpFault::Write { status });
+    let cut = Err(cut_at(status));
     trial.assert_served(
         rt,
         message.as_bytes(),
@@ -214,7 +214,7 @@ fn a_reader_is_not_called_without_end(rt: HostRuntime) -> Result<(), Fail> {
 #[test]
 fn each_fault_of_an_exchange_has_its_word(rt: HostRuntime) -> Result<(), Fail> {
     let (cut, lost) = (
-        HttpFault::Write { status: 200 },
+        cut_at(200),
         HttpFault::NoMemory {
             status: 403,
             witness: NoMemory::told(),

@@ -24,6 +24,14 @@ pub struct Exchange {
     pub faults: (u64, u64),
 }
 
+// A response with this status was cut, which doesn't say that there was no memory.
+pub(crate) fn cut_at(status: u16) -> HttpFault {
+    HttpFault::Write {
+        status,
+        witness: None,
+    }
+}
+
 #[derive(Drop)]
 pub struct Trial {
     pub alloc: Global,
@@ -68,7 +76,9 @@ impl Trial {
             &mut writer,
         );
         let (served, is_unread) = match served {
-            Ok(Served { status, is_unread }) => (Ok(status), is_unread),
+            Ok(Served {
+                status, is_unread, ..
+            }) => (Ok(status), is_unread),
             Err(fault) => (Err(fault), false),
         };
         Exchange {
@@ -93,7 +103,7 @@ impl Trial {
         let exchange = self.serve(input, &mut output);
         let faults = match served {
             Err(HttpFault::Read) => (1, 0),
-            Err(HttpFault::Write { status: _ }) => (0, 1),
+            Err(HttpFault::Write { .. }) => (0, 1),
             _ => (0, 0),
         };
         assert_eq!(rt; exchange.served, served);
