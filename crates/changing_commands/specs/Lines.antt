@@ -5,6 +5,7 @@ use Rattle.desk.specs.declared.fault.DeskFault.{DeskFault}
 use Rattle.office_policy.specs.Meaning.{Meaning}
 use Rattle.streams.specs.Lines.{lines_of}
 use Rattle.streams.specs.declared.counted.Counted.{Counted}
+use Rattle.no_memory.specs.declared.witness.NoMemory.{«NoMemory» as Want}
 use Rattle.command_host.specs.declared.fault.CommandFault.{CommandFault}
 use Rattle.command_host.specs.declared.fault.CommandFault.TheVariants as fault
 
@@ -19,8 +20,9 @@ abbrev pub HasAnswered : {O X : Type 0} → (O → Option (List ℕ)) → Meanin
     → (came : Option (List ℕ)) (output wrote : Counted O) (old new : X) → Type 0
 HasAnswered contents m came output wrote old new =
     HasHandled m old new
+    × ((want : Option Want)
     × IfSome came (λ bytes. AreAnswered m old new (contents output.inner) (contents wrote.inner)
-    (lines_of bytes))
+    (lines_of bytes) want))
 
 -- lines were handled, and the desk stopped for this, after which stands what it says, with these
 -- bytes left of those that were to come
@@ -29,4 +31,6 @@ abbrev pub HasStopped : {O X : Type 0} → (O → Option (List ℕ)) → Meaning
     → Type 0
 HasStopped contents m came left output wrote why old new =
     HasHandled m old new
-    × IsOfDesk (StandsAfter m old new came left (contents output.inner) (contents wrote.inner)) why
+    × ((want : Option Want)
+    × IsOfDesk (StandsAfter m old new came left (contents output.inner) (contents wrote.inner) want)
+    why)

@@ -28,7 +28,7 @@ pub(crate) fn answer_lines<H: Handler, R: Read, W: Write>(
         (R.remaining input.old.inner) (R.remaining input.new.inner) output.old output.new why
         office.old office.new) }
 {
-    match desk(office, alloc, input, output) {
+    match desk(office, alloc, input, output).answered {
         Ok(()) => Ok(()),
         Err(fault) => Err(CommandFault::Desk(fault)),
     }

@@ -1,7 +1,8 @@
 -- One more line is handled, and its answer is written, or cut short.
-use Rattle.std.proofs.Common.{◌≡◌, ◌∙◌, ℕ, ◌<◌, List, [], ◌∷◌, ◌++◌, Option, inl, length, take, refl, sym, ap, subst, arith, append-nil, append_assoc, length-append}
+use Rattle.std.proofs.Common.{◌≡◌, ◌∙◌, ℕ, ◌<◌, List, [], ◌∷◌, ◌++◌, Option, Some, None, inl, length, take, refl, sym, ap, subst, arith, append-nil, append_assoc, length-append}
 use Rattle.std.proofs.KnownBytes.{Appends-nil, Appends-trans}
 use Rattle.std.specs.Io.KnownBytes.{Appends}
+use Rattle.std.specs.Option.{option_or}
 use Rattle.streams.specs.Steps.{AppendsPart}
 use Rattle.office_policy.specs.History.{History}
 use Rattle.office_policy.specs.Runs.{history_after}
@@ -17,11 +18,12 @@ use Rattle.json_requests.specs.Answers.{line_of}
 use Rattle.json_requests.specs.Bad.{bad_line}
 use Rattle.desk.specs.declared.outcome.LineOutcome.{LineOutcome}
 use Rattle.desk.specs.declared.outcome.LineOutcome.TheVariants.{Bad, NoMemory, Answered}
-use Rattle.desk.specs.Outcomes.{IsOutcome, history_after_line, told, AreOutcomes, history_after_lines, requests_of, answers_of, transcript}
+use Rattle.desk.specs.Outcomes.{IsOutcome, history_after_line, told, AreOutcomes, history_after_lines, requests_of, answers_of, transcript, want_of, want_in}
 use Rattle.desk.specs.Left.{LeavesWithin, LeftAfterLines}
 use Rattle.desk.specs.Stands.{StandsAfterLine, HandlesLine, IsHandled, AreHandled, AreAnswered, AreCutShort}
 use Rattle.desk.proofs.LeftFacts.{left_more_lines, left_by_more, left_within}
 use Rattle.no_memory.specs.Witness.{witness}
+use Rattle.no_memory.specs.declared.witness.NoMemory.{«NoMemory» as Want}
 
 outcomes_more : (h : History) (lines : List (List ℕ)) (os : List LineOutcome) (line : List ℕ) (o : LineOutcome) → AreOutcomes h lines os
     → IsOutcome (history_after_lines h os) line o → AreOutcomes h (lines ++ line ∷ []) (os ++ o ∷ [])
@@ -37,6 +39,19 @@ after_more h (x ∷ os) o = after_more (history_after_line h x) os o
 transcript_more : (os : List LineOutcome) (o : LineOutcome) → transcript (os ++ o ∷ []) ≡ transcript os ++ told o
 transcript_more [] o = append-nil (told o)
 transcript_more (x ∷ os) o = ap (λ t. told x ++ t) (transcript_more os o) ∙ sym (append_assoc (told x) (transcript os) (told o))
+
+-- the want of memory that they tell
+or_none : (a : Option Want) → option_or a None ≡ a
+or_none None = refl
+or_none (Some w) = refl
+
+or_on : (a b c : Option Want) → option_or (option_or a b) c ≡ option_or a (option_or b c)
+or_on None b c = refl
+or_on (Some w) b c = refl
+
+want_more : (os : List LineOutcome) (o : LineOutcome) → want_in (os ++ o ∷ []) ≡ option_or (want_in os) (want_of o)
+want_more [] o = or_none (want_of o)
+want_more (x ∷ os) o = ap (λ w. option_or (want_of x) w) (want_more os o) ∙ sym (or_on (want_of x) (want_in os) (want_of o))
 
 -- every answer has its line feed
 told_some : (o : LineOutcome) → 0 < length (told o)
@@ -137,19 +152,23 @@ module _ {X : Type 0} (m : Meaning X) where
     left = λ h office only clean left may. inl (only left may);
   }
 
-  pub answered_none : (s : X) (w : Option (List ℕ)) → AreAnswered m s s w w []
-  answered_none s w = record { outcomes = []; handled = none_handled s; written = Appends-nil w }
+  pub answered_none : (s : X) (w : Option (List ℕ)) → AreAnswered m s s w w [] None
+  answered_none s w = record { outcomes = []; handled = none_handled s; written = Appends-nil w; want_is = refl }
 
   module _ (old mid new : X) (before between after : Option (List ℕ)) (lines : List (List ℕ)) (line : List ℕ) (o : LineOutcome)
-      (so_far : AreAnswered m old mid before between lines) (more : IsHandled m mid new line o) where
-    pub answered_more : Appends between after (told o) → AreAnswered m old new before after (lines ++ line ∷ [])
+      (want now : Option Want) (so_far : AreAnswered m old mid before between lines want) (more : IsHandled m mid new line o) (tells : now ≡ option_or want (want_of o)) where
+    now_in : now ≡ want_in (so_far.outcomes ++ o ∷ [])
+    now_in = tells ∙ ap (λ w. option_or w (want_of o)) so_far.want_is ∙ sym (want_more so_far.outcomes o)
+
+    pub answered_more : Appends between after (told o) → AreAnswered m old new before after (lines ++ line ∷ []) now
     answered_more writes = record {
       outcomes = so_far.outcomes ++ o ∷ [];
       handled = handled_more old mid new lines so_far.outcomes line o so_far.handled more;
       written = rw transcript_more (Appends-trans before between after (transcript so_far.outcomes) (told o) so_far.written writes);
+      want_is = now_in;
     }
 
-    pub cut_short : AppendsPart between after (told o) → (count : ℕ) × AreCutShort m old new before after (lines ++ line ∷ []) count
+    pub cut_short : AppendsPart between after (told o) → (count : ℕ) × AreCutShort m old new before after (lines ++ line ∷ []) now count
     cut_short part = (
       part.0,
       record {
@@ -158,14 +177,16 @@ module _ {X : Type 0} (m : Meaning X) where
         handled = handled_more old mid new lines so_far.outcomes line o so_far.handled more;
         count_below = part.1;
         written = Appends-trans before between after (transcript so_far.outcomes) (take part.0 (told o)) so_far.written part.2;
+        want_is = now_in;
       },
     )
 
-    pub cut_before : AreCutShort m old new before between (lines ++ line ∷ []) 0
+    pub cut_before : AreCutShort m old new before between (lines ++ line ∷ []) now 0
     cut_before = record {
       outcomes = so_far.outcomes;
       last = o;
       handled = handled_more old mid new lines so_far.outcomes line o so_far.handled more;
       count_below = told_some o;
       written = rw append-nil so_far.written;
+      want_is = now_in;
     }

@@ -1,7 +1,8 @@
 -- How far the answering of a stream has come, and what stands where it stops.
 use Rattle.std.proofs.Common.{◌≡◌, ◌∙◌, ℕ, zero, suc, ◌+◌, ◌<◌, ◌≤◌, List, [], ◌∷◌, ◌++◌, Option, Some, None, IfSome, Result, Ok, Err, length, take, refl, sym, ap, subst, arith, length-append, append_assoc, add-one}
-use Rattle.std.specs.Prelude.{⊤, OnOk, IfErr, IsErrAnd}
+use Rattle.std.specs.Prelude.{⊤, OnOk, IfErr}
 use Rattle.std.specs.Io.KnownBytes.{IsAtEnd}
+use Rattle.std.specs.Option.{option_or}
 use Rattle.office_policy.specs.Meaning.{Meaning}
 use Rattle.streams.specs.Handed.{Handed, KeepsHanded, HandsOut}
 use Rattle.streams.specs.Held.{Held, Holds, HasLine, size}
@@ -11,34 +12,41 @@ use Rattle.streams.proofs.HeldFacts.{holds_no_feed}
 use Rattle.desk.specs.declared.fault.DeskFault.{DeskFault}
 use Rattle.desk.specs.declared.fault.DeskFault.TheVariants.{Read, Write, TooManyReads, NoMemory}
 use Rattle.desk.specs.declared.outcome.LineOutcome.{LineOutcome}
-use Rattle.desk.specs.Outcomes.{told}
+use Rattle.desk.specs.Outcomes.{told, want_of}
+use Rattle.desk.specs.declared.ended.Ended.{Ended}
 use Rattle.desk.specs.Stands.{IsHandled, HasHandled, AreAnswered, AreCutShort, StopsWriting, StandsAfter, IsUnfinished}
 use Rattle.desk.specs.Written.{IsServed}
 use Rattle.desk.proofs.OutcomeFacts.{answered_none, answered_more, cut_short, cut_before, none_handled, handled_more}
 use Rattle.no_memory.specs.Witness.{witness}
+use Rattle.no_memory.specs.declared.witness.NoMemory.{«NoMemory» as Want}
 
--- what an exit of `?` passes on
-pub passed_on : (r : Result ⊤ DeskFault) (e : DeskFault) → IsErrAnd r (λ x. x ≡ e) → r ≡ Err e
-passed_on (Ok x) e is = absurd is
-passed_on (Err x) e is = ap Err is
+-- ---- how it ended
+
+pub well_so : (ended : Ended) (want : Option Want) (Holds : Option Want → Type 0) → ended ≡ record { answered = Ok (tt {0}); witness = want } → Holds want
+    → OnOk ended.answered (Holds ended.witness)
+well_so ended want Holds is holds = subst (λ (e : Ended). OnOk e.answered (Holds e.witness)) (sym is) holds
+
+pub stopped_so : (ended : Ended) (fault : DeskFault) (want : Option Want) (Holds : Option Want → DeskFault → Type 0) → ended ≡ record { answered = Err fault; witness = want }
+    → Holds want fault → IfErr ended.answered (Holds ended.witness)
+stopped_so ended fault want Holds is holds = subst (λ (e : Ended). IfErr e.answered (Holds e.witness)) (sym is) holds
 
 module _ {X : Type 0} (m : Meaning X) where
   -- the lines that were handed out are answered
-  pub record Progress (old now : X) (held : Held) (unread rest before current : Option (List ℕ)) (number : ℕ) : Type 0 where
+  pub record Progress (old now : X) (held : Held) (unread rest before current : Option (List ℕ)) (want : Option Want) (number : ℕ) : Type 0 where
     pub lines : List (List ℕ)
     pub handed : Handed held unread rest lines
     pub count : number ≡ length lines
-    pub answered : AreAnswered m old now before current lines
+    pub answered : AreAnswered m old now before current lines want
 
   pub progress_none : (s : X) (held : Held) (stream w : Option (List ℕ)) → ((any : Option (List ℕ)) → Handed held any any [])
-      → Progress s s held stream stream w w 0
+      → Progress s s held stream stream w w None 0
   progress_none s held stream w none = record { lines = []; handed = none stream; count = refl; answered = answered_none m s w }
 
   -- more is read, and nothing else happens
-  pub progress_read : (old now : X) (held next : Held) (unread was rest before current : Option (List ℕ)) (number : ℕ)
-      → Progress old now held unread was before current number
-      → KeepsHanded held next was rest → Progress old now next unread rest before current number
-  progress_read old now held next unread was rest before current number p keeps =
+  pub progress_read : (old now : X) (held next : Held) (unread was rest before current : Option (List ℕ)) (want : Option Want) (number : ℕ)
+      → Progress old now held unread was before current want number
+      → KeepsHanded held next was rest → Progress old now next unread rest before current want number
+  progress_read old now held next unread was rest before current want number p keeps =
       record { lines = p.lines; handed = keeps unread p.lines p.handed; count = p.count; answered = p.answered }
 
   -- the front of a list up to and with one more item
@@ -49,24 +57,25 @@ module _ {X : Type 0} (m : Meaning X) where
   pub none_has : (s : X) → HasHandled m s s
   none_has s = record { lines = []; outcomes = []; handled = none_handled m s }
 
-  -- the first line that is held is handled, and this is written for it
-  abbrev pub ServesFirst : (mid new : X) → Held → (between after : Option (List ℕ)) → ℕ → Result ⊤ DeskFault → Type 0
-  ServesFirst mid new held between after number result =
-      (bytes : List ℕ) → Holds held bytes → (o : LineOutcome) × IsHandled m mid new (first_line bytes) o × IsServed between after (told o) number result
+  -- the first line that is held is handled, and this is written for it, behind lines that tell this want of memory
+  abbrev pub ServesFirst : (mid new : X) → Held → (between after : Option (List ℕ)) → Option Want → ℕ → Ended → Type 0
+  ServesFirst mid new held between after want number ended =
+      (bytes : List ℕ) → Holds held bytes → (o : LineOutcome) × IsHandled m mid new (first_line bytes) o × IsServed between after (told o) number ended.answered
+      × (ended.witness ≡ option_or want (want_of o))
 
   -- ---- where the reading stops
 
-  module _ (old now : X) (held : Held) (unread rest before current : Option (List ℕ)) (number : ℕ)
-      (p : Progress old now held unread rest before current number) where
-    pub all_answered : size held ≡ 0 → IsAtEnd rest → IfSome unread (λ input. AreAnswered m old now before current (lines_of input))
+  module _ (old now : X) (held : Held) (unread rest before current : Option (List ℕ)) (want : Option Want) (number : ℕ)
+      (p : Progress old now held unread rest before current want number) where
+    pub all_answered : size held ≡ 0 → IsAtEnd rest → IfSome unread (λ input. AreAnswered m old now before current (lines_of input) want)
     all_answered none end = with_all unread (all_handed held unread rest p.lines p.handed none end)
       where
-        with_all : (u : Option (List ℕ)) → IfSome u (λ input. lines_of input ≡ p.lines) → IfSome u (λ input. AreAnswered m old now before current (lines_of input))
+        with_all : (u : Option (List ℕ)) → IfSome u (λ input. lines_of input ≡ p.lines) → IfSome u (λ input. AreAnswered m old now before current (lines_of input) want)
         with_all None all = tt
-        with_all (Some input) all = subst (λ (ls : List (List ℕ)). AreAnswered m old now before current ls) (sym all) p.answered
+        with_all (Some input) all = subst (λ (ls : List (List ℕ)). AreAnswered m old now before current ls want) (sym all) p.answered
 
     -- what is held is a part of a line, of which nothing is handled
-    pub unfinished : NoFeed held.bytes → IsUnfinished m old now unread rest before current (number + 1)
+    pub unfinished : NoFeed held.bytes → IsUnfinished m old now unread rest before current want (number + 1)
     unfinished none = record {
       bytes = p.handed.whole ++ p.handed.rest;
       whole = p.handed.whole;
@@ -74,7 +83,7 @@ module _ {X : Type 0} (m : Meaning X) where
       read = p.handed.read;
       cut = record { parts = refl; ended = p.handed.ended; no_feed = holds_no_feed held p.handed.rest p.handed.holds none };
       number = add-one number ∙ ap suc (p.count ∙ ap length p.handed.lines_are);
-      answered = subst (λ (ls : List (List ℕ)). AreAnswered m old now before current ls) p.handed.lines_are p.answered;
+      answered = subst (λ (ls : List (List ℕ)). AreAnswered m old now before current ls want) p.handed.lines_are p.answered;
     }
 
     -- what is held is the next line of the stream
@@ -94,13 +103,16 @@ module _ {X : Type 0} (m : Meaning X) where
 
   -- ---- the line that is held
 
-  module _ (old mid new : X) (held : Held) (unread rest before between after : Option (List ℕ)) (number : ℕ)
-      (p : Progress old mid held unread rest before between number) where
+  module _ (old mid new : X) (held : Held) (unread rest before between after : Option (List ℕ)) (want : Option Want) (number : ℕ)
+      (p : Progress old mid held unread rest before between want number) (ended : Ended) where
+    abbrev pub Serves : Type 0
+    Serves = ServesFirst mid new held between after want (number + 1) ended
+
     abbrev line : List ℕ
     line = first_line p.handed.rest
 
-    pub served_handled : (result : Result ⊤ DeskFault) → ServesFirst mid new held between after (number + 1) result → HasHandled m old new
-    served_handled result serves =
+    pub served_handled : Serves → HasHandled m old new
+    served_handled serves =
         let so = serves p.handed.rest p.handed.holds in
         record {
           lines = p.lines ++ line ∷ [];
@@ -109,36 +121,39 @@ module _ {X : Type 0} (m : Meaning X) where
         }
 
     -- its number is not 0
-    pub served_later : (result : Result ⊤ DeskFault) → ServesFirst mid new held between after (number + 1) result → result ≡ Err (NoMemory 0 witness) → ⊥
-    served_later result serves is =
-        let none : ServesFirst mid new held between after (number + 1) (Err (NoMemory 0 witness)) =
-        subst (λ (r : Result ⊤ DeskFault). ServesFirst mid new held between after (number + 1) r) is serves in
-        omega (arith, (none p.handed.rest p.handed.holds).2.0)
-
-    served_whole : ServesFirst mid new held between after (number + 1) (Ok tt) → AreAnswered m old new before after (p.lines ++ line ∷ [])
-    served_whole serves =
+    pub served_later : Serves → ended.answered ≡ Err (NoMemory 0 witness) → ⊥
+    served_later serves is =
         let so = serves p.handed.rest p.handed.holds in
-        answered_more m old mid new before between after p.lines line so.0 p.answered so.1 so.2
+        let none : IsServed between after (told so.0) (number + 1) (Err (NoMemory 0 witness)) = subst (λ (r : Result ⊤ DeskFault). IsServed between after (told so.0) (number + 1) r) is so.2 in
+        omega (arith, none.0)
 
-    pub progress_more : (next : Held) → HandsOut held next → ServesFirst mid new held between after (number + 1) (Ok tt)
-        → Progress old new next unread rest before after (number + 1)
-    progress_more next hands serves = record {
+    served_whole : Serves → ended.answered ≡ Ok tt → AreAnswered m old new before after (p.lines ++ line ∷ []) ended.witness
+    served_whole serves is =
+        let so = serves p.handed.rest p.handed.holds in
+        answered_more m old mid new before between after p.lines line so.0 want ended.witness p.answered so.1 so.3
+        (subst (λ (r : Result ⊤ DeskFault). IsServed between after (told so.0) (number + 1) r) is so.2)
+
+    pub progress_more : (next : Held) → HandsOut held next → Serves → ended.answered ≡ Ok tt
+        → Progress old new next unread rest before after ended.witness (number + 1)
+    progress_more next hands serves is = record {
       lines = p.lines ++ line ∷ [];
       handed = hands unread rest p.lines p.handed;
       count = ap (λ n. n + 1) p.count ∙ sym (length-append p.lines (line ∷ []));
-      answered = served_whole serves;
+      answered = served_whole serves is;
     }
 
-    pub last_answered : (result : Result ⊤ DeskFault) → NoFeed held.bytes → 0 < size held → IsAtEnd rest
-        → ServesFirst mid new held between after (number + 1) result
-        → OnOk result (IfSome unread (λ input. AreAnswered m old new before after (lines_of input)))
-    last_answered (Err e) none some end serves = tt
-    last_answered (Ok u) none some end serves = with_last unread (last_held held unread rest p.lines p.handed none some end)
+    pub last_answered : NoFeed held.bytes → 0 < size held → IsAtEnd rest → Serves
+        → OnOk ended.answered (IfSome unread (λ input. AreAnswered m old new before after (lines_of input) ended.witness))
+    last_answered none some end serves =
+        elim ended.answered as (λ r. ended.answered ≡ r → OnOk r (IfSome unread (λ input. AreAnswered m old new before after (lines_of input) ended.witness))) [
+          | Ok u ↦ λ is. with_last is unread (last_held held unread rest p.lines p.handed none some end)
+          | Err e ↦ λ is. tt
+        ] refl
       where
-        with_last : (u : Option (List ℕ)) → IfSome u (λ input. lines_of input ≡ p.lines ++ first_line p.handed.rest ∷ [])
-            → IfSome u (λ input. AreAnswered m old new before after (lines_of input))
-        with_last None all = tt
-        with_last (Some input) all = subst (λ (ls : List (List ℕ)). AreAnswered m old new before after ls) (sym all) (served_whole serves)
+        with_last : ended.answered ≡ Ok tt → (u : Option (List ℕ)) → IfSome u (λ input. lines_of input ≡ p.lines ++ first_line p.handed.rest ∷ [])
+            → IfSome u (λ input. AreAnswered m old new before after (lines_of input) ended.witness)
+        with_last is None all = tt
+        with_last is (Some input) all = subst (λ (ls : List (List ℕ)). AreAnswered m old new before after ls ended.witness) (sym all) (served_whole serves is)
 
     module _ (input : List ℕ) (more : List (List ℕ)) (all : lines_of input ≡ p.lines ++ first_line p.handed.rest ∷ more) where
       within : number + 1 ≤ length (lines_of input)
@@ -149,43 +164,36 @@ module _ {X : Type 0} (m : Meaning X) where
           ap (λ n. take n (lines_of input)) (add-one number ∙ ap suc p.count) ∙ ap (λ ls. take (suc (length p.lines)) ls) all
           ∙ front p.lines more (first_line p.handed.rest)
 
-      stops : (e : DeskFault) (o : LineOutcome) → IsHandled m mid new line o → IsServed between after (told o) (number + 1) (Err e)
-          → StopsWriting m old new before after (lines_of input) e
-      stops (Write n) o handled served =
-          let cut : (count : ℕ) × AreCutShort m old new before after (p.lines ++ line ∷ []) count =
-          cut_short m old mid new before between after p.lines line o p.answered handled served.1 in
+      stops : (e : DeskFault) (o : LineOutcome) → IsHandled m mid new line o → IsServed between after (told o) (number + 1) (Err e) → ended.witness ≡ option_or want (want_of o)
+          → StopsWriting m old new before after (lines_of input) ended.witness e
+      stops (Write n) o handled served tells =
+          let cut : (count : ℕ) × AreCutShort m old new before after (p.lines ++ line ∷ []) ended.witness count =
+          cut_short m old mid new before between after p.lines line o want ended.witness p.answered handled tells served.1 in
           rw (served.0) (omega arith, within, cut.0, rw up_to cut.1)
-      stops (NoMemory n _) o handled served =
-          rw (served.0) (omega arith, within, rw (up_to, served.1) (cut_before m old mid new before between after p.lines line o p.answered handled))
-      stops (Read n) o handled served = absurd served
-      stops (TooManyReads n) o handled served = absurd served
+      stops (NoMemory n _) o handled served tells =
+          rw (served.0) (omega arith, within, rw (up_to, served.1) (cut_before m old mid new before between after p.lines line o want ended.witness p.answered handled tells))
+      stops (Read n) o handled served tells = absurd served
+      stops (TooManyReads n) o handled served tells = absurd served
 
     stops_in : (u : Option (List ℕ)) → IfSome u (λ input. (more : List (List ℕ)) × (lines_of input ≡ p.lines ++ first_line p.handed.rest ∷ more))
-        → (e : DeskFault) (o : LineOutcome) → IsHandled m mid new line o → IsServed between after (told o) (number + 1) (Err e)
-        → IfSome u (λ input. StopsWriting m old new before after (lines_of input) e)
-    stops_in None next e o handled served = tt
-    stops_in (Some input) next e o handled served = stops input next.0 next.1 e o handled served
+        → (e : DeskFault) (o : LineOutcome) → IsHandled m mid new line o → IsServed between after (told o) (number + 1) (Err e) → ended.witness ≡ option_or want (want_of o)
+        → IfSome u (λ input. StopsWriting m old new before after (lines_of input) ended.witness e)
+    stops_in None next e o handled served tells = tt
+    stops_in (Some input) next e o handled served tells = stops input next.0 next.1 e o handled served tells
 
     -- its answer was not written whole
-    pub stands_served : IsNext old mid held unread rest before between number p → (e : DeskFault)
-        → ServesFirst mid new held between after (number + 1) (Err e) → StandsAfter m old new unread rest before after e
-    stands_served next e serves = let so = serves p.handed.rest p.handed.holds in stands e so.0 so.1 so.2
+    pub stands_last : IsNext old mid held unread rest before between want number p → Serves → IfErr ended.answered (StandsAfter m old new unread rest before after ended.witness)
+    stands_last next serves =
+        let so = serves p.handed.rest p.handed.holds in
+        elim ended.answered as (λ r. IsServed between after (told so.0) (number + 1) r → IfErr r (StandsAfter m old new unread rest before after ended.witness)) [
+          | Ok u ↦ λ served. tt
+          | Err e ↦ λ served. stands e so.0 so.1 served so.3
+        ] so.2
       where
-        stands : (e : DeskFault) (o : LineOutcome) → IsHandled m mid new line o → IsServed between after (told o) (number + 1) (Err e)
-            → StandsAfter m old new unread rest before after e
-        stands (Write n) o handled served = stops_in unread next (Write n) o handled served
-        stands (NoMemory zero _) o handled served = absurd (omega (arith, served.0))
-        stands (NoMemory (suc k) _) o handled served = stops_in unread next (NoMemory (suc k) witness) o handled served
-        stands (Read n) o handled served = absurd served
-        stands (TooManyReads n) o handled served = absurd served
-
-    pub stands_passed : IsNext old mid held unread rest before between number p → (result : Result ⊤ DeskFault) (e : DeskFault) → result ≡ Err e
-        → ServesFirst mid new held between after (number + 1) (Err e)
-        → IfErr result (StandsAfter m old new unread rest before after)
-    stands_passed next result e is serves =
-        subst (λ (r : Result ⊤ DeskFault). IfErr r (StandsAfter m old new unread rest before after)) (sym is) (stands_served next e serves)
-
-    pub stands_last : IsNext old mid held unread rest before between number p → (result : Result ⊤ DeskFault)
-        → ServesFirst mid new held between after (number + 1) result → IfErr result (StandsAfter m old new unread rest before after)
-    stands_last next (Ok u) serves = tt
-    stands_last next (Err e) serves = stands_served next e serves
+        stands : (e : DeskFault) (o : LineOutcome) → IsHandled m mid new line o → IsServed between after (told o) (number + 1) (Err e) → ended.witness ≡ option_or want (want_of o)
+            → StandsAfter m old new unread rest before after ended.witness e
+        stands (Write n) o handled served tells = stops_in unread next (Write n) o handled served tells
+        stands (NoMemory zero _) o handled served tells = absurd (omega (arith, served.0))
+        stands (NoMemory (suc k) _) o handled served tells = stops_in unread next (NoMemory (suc k) witness) o handled served tells
+        stands (Read n) o handled served tells = absurd served
+        stands (TooManyReads n) o handled served tells = absurd served

@@ -1,5 +1,6 @@
 -- What comes of lines, each handled on what the ones before it left, and what is written for them.
-use Rattle.std.specs.Prelude.{◌≡◌, ℕ, List, [], ◌∷◌, ◌++◌, Err}
+use Rattle.std.specs.Prelude.{◌≡◌, ℕ, List, [], ◌∷◌, ◌++◌, Option, Some, None, Err}
+use Rattle.std.specs.Option.{option_or}
 use Rattle.review_policy.specs.declared.ask.Request.{Request}
 use Rattle.review_policy.specs.declared.answer.Answer.{Answer}
 use Rattle.review_policy.specs.declared.answer.Answer.TheVariants.{Fault}
@@ -12,6 +13,7 @@ use Rattle.json_requests.specs.Requests.{asked, Asks}
 use Rattle.desk.specs.declared.outcome.LineOutcome.{LineOutcome}
 use Rattle.desk.specs.declared.outcome.LineOutcome.TheVariants.{Bad, NoMemory, Answered}
 use Rattle.no_memory.specs.Witness.{witness}
+use Rattle.no_memory.specs.declared.witness.NoMemory.{«NoMemory» as Want}
 
 -- what may come of a line: it is no request, there was no memory to read it, or its request
 -- has this answer
@@ -31,6 +33,17 @@ abbrev pub told : LineOutcome → List ℕ
 told (Bad fault) = bad_line fault
 told (NoMemory _) = line_of (Fault (faults.NoMemory witness))
 told (Answered request answer) = line_of answer
+
+-- the want of memory that this line tells, where it tells one
+abbrev pub want_of : LineOutcome → Option Want
+want_of (NoMemory memory) = Some memory
+want_of (Answered request (Fault (faults.NoMemory memory))) = Some memory
+want_of _ = None
+
+-- the first that one of the lines of some tells
+abbrev pub want_in : List LineOutcome → Option Want
+want_in [] = None
+want_in (outcome ∷ outcomes) = option_or (want_of outcome) (want_in outcomes)
 
 -- the requests that were asked, in their order
 abbrev pub requests_of : List LineOutcome → List Request

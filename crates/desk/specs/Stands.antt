@@ -14,11 +14,12 @@ use Rattle.desk.specs.declared.outcome.LineOutcome.{LineOutcome}
 use Rattle.desk.specs.declared.outcome.LineOutcome.TheVariants as came
 use Rattle.desk.specs.Left.{LeavesWithin, LeftAfterLine, LeftAfterLines}
 use Rattle.desk.specs.Outcomes.{IsOutcome, history_after_line, AreOutcomes, history_after_lines}
-use Rattle.desk.specs.Outcomes.{requests_of, answers_of, told, transcript}
+use Rattle.desk.specs.Outcomes.{requests_of, answers_of, told, transcript, want_in}
 use Rattle.desk.specs.Parts.{IsCut}
 use Rattle.desk.specs.declared.fault.DeskFault.{DeskFault}
 use Rattle.desk.specs.declared.fault.DeskFault.TheVariants.{Read, Write, TooManyReads, NoMemory}
 use Rattle.no_memory.specs.Witness.{witness}
+use Rattle.no_memory.specs.declared.witness.NoMemory.{«NoMemory» as Want}
 
 -- bytes, and bytes that may be known
 abbrev Bytes : Type 0
@@ -78,33 +79,38 @@ module _ {X : Type 0} (m : Meaning X) where
     pub outcomes : List LineOutcome
     pub handled : AreHandled old new lines outcomes
 
-  -- the lines were handled, and just their transcript was written
-  pub record AreAnswered (old new : X) (before after : Known) (lines : List Bytes) : Type 0 where
+  -- the lines were handled, and just their transcript was written, which tells this want of memory
+  pub record AreAnswered (old new : X) (before after : Known) (lines : List Bytes)
+      (want : Option Want) : Type 0 where
     pub outcomes : List LineOutcome
     pub handled : AreHandled old new lines outcomes
     pub written : Appends before after (transcript outcomes)
+    pub want_is : want ≡ want_in outcomes
 
   -- the lines were handled, and just the transcript of all but the last was written, with the first
-  -- `count` bytes of the line that answers the last, and not all of them
-  pub record AreCutShort (old new : X) (before after : Known) (lines : List Bytes) (count : ℕ)
-      : Type 0 where
+  -- `count` bytes of the line that answers the last, and not all of them; and with that it tells this
+  -- want of memory
+  pub record AreCutShort (old new : X) (before after : Known) (lines : List Bytes)
+      (want : Option Want) (count : ℕ) : Type 0 where
     pub outcomes : List LineOutcome
     pub last : LineOutcome
     pub handled : AreHandled old new lines (outcomes ++ last ∷ [])
     pub count_below : count < length (told last)
     pub written : Appends before after (transcript outcomes ++ take count (told last))
+    pub want_is : want ≡ want_in (outcomes ++ last ∷ [])
 
   -- of these lines those up to a number were handled, and of the answer to the last of them only a
   -- part was written
-  abbrev pub StopsWriting : X → X → Known → Known → List Bytes → DeskFault → Type 0
-  StopsWriting old new before after lines (Write line) = (0 < line) × (line ≤ length lines)
-      × (count : ℕ) × AreCutShort old new before after (take line lines) count
-  StopsWriting old new before after lines (NoMemory line _) = (0 < line) × (line ≤ length lines)
-      × AreCutShort old new before after (take line lines) 0
-  StopsWriting old new before after lines (Read line) = ⊥
-  StopsWriting old new before after lines (TooManyReads line) = ⊥
+  abbrev pub StopsWriting : X → X → Known → Known → List Bytes → Option Want → DeskFault → Type 0
+  StopsWriting old new before after lines want (Write line) = (0 < line) × (line ≤ length lines)
+      × (count : ℕ) × AreCutShort old new before after (take line lines) want count
+  StopsWriting old new before after lines want (NoMemory line _) =
+      (0 < line) × (line ≤ length lines)
+      × AreCutShort old new before after (take line lines) want 0
+  StopsWriting old new before after lines want (Read line) = ⊥
+  StopsWriting old new before after lines want (TooManyReads line) = ⊥
 
-  module _ (old new : X) (unread rest before after : Known) where
+  module _ (old new : X) (unread rest before after : Known) (want : Option Want) where
     -- the lines that were read whole are answered, and nothing of the unfinished one, which has this
     -- number, is handled
     pub record IsUnfinished (line : ℕ) : Type 0 where
@@ -114,15 +120,16 @@ module _ {X : Type 0} (m : Meaning X) where
       pub read : Consumes unread rest bytes
       pub cut : IsCut bytes whole unfinished
       pub number : line ≡ suc (length (lines_of whole))
-      pub answered : AreAnswered old new before after (lines_of whole)
+      pub answered : AreAnswered old new before after (lines_of whole) want
 
     -- what stands after a fault; out of memory before the first line was read, nothing is written
     abbrev pub StandsAfter : DeskFault → Type 0
     StandsAfter (Read line) = IsUnfinished line
     StandsAfter (TooManyReads line) = IsUnfinished line
     StandsAfter (Write line) =
-        IfSome unread (λ input. StopsWriting old new before after (lines_of input) (Write line))
+        IfSome unread
+        (λ input. StopsWriting old new before after (lines_of input) want (Write line))
     StandsAfter (NoMemory zero _) = Keeps before after
     StandsAfter (NoMemory (suc k) _) =
-        IfSome unread
-        (λ input. StopsWriting old new before after (lines_of input) (NoMemory (suc k) witness))
+        IfSome unread (λ input.
+        StopsWriting old new before after (lines_of input) want (NoMemory (suc k) witness))

@@ -1,6 +1,6 @@
 //! What comes of a line.
 
-ghost use Rattle.std.specs.Prelude.{List, ℕ};
+ghost use Rattle.std.specs.Prelude.{◌≡◌, List, ℕ};
 ghost use Rattle.streams.specs.Held.{Holds};
 ghost use Rattle.streams.specs.Lines.{first_line};
 
@@ -8,7 +8,7 @@ use json_requests::{BadLine, LineFault, read_line};
 use json_tree::Scratch;
 use no_memory::NoMemory;
 use office_policy::Handler;
-use review_policy::{Answer, Request};
+use review_policy::{Answer, Fault, Request};
 use std::alloc::Global;
 use streams::{Lines, MAX_LINE};
 
@@ -24,6 +24,7 @@ pub enum LineOutcome {
 }
 
 impl LineOutcome {
+    ghost use Rattle.desk.specs.Outcomes.{want_of};
     ghost use Rattle.desk.specs.Stands.{IsHandled};
 
     /// Handles a line, given without its line feed. A scratch is kept from line to line.
@@ -61,6 +62,20 @@ impl LineOutcome {
         match lines.line() {
             Ok(line) => LineOutcome::of_line(office, alloc, line, scratch),
             Err(_) => LineOutcome::Bad(BadLine::TooLong),
+        }
+    }
+
+    // The witness, where the line that reports it says that there was no memory.
+    pub(crate) fn witness(&self) -> Option<NoMemory>
+        ensures { result ≡ want_of self.now }
+    {
+        match self {
+            LineOutcome::NoMemory(witness) => Some(*witness),
+            LineOutcome::Answered {
+                request: _,
+                answer: Answer::Fault(Fault::NoMemory(witness)),
+            } => Some(*witness),
+            _ => None,
         }
     }
 }

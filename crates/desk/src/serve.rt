@@ -1,20 +1,23 @@
 //! Lines in, answers out.
 
 ghost use Rattle.std.specs.Prelude.{◌≡◌, ◌+◌, ◌≤◌, ◌<◌, ℕ, List, IfErr, OnOk, IfSome};
+ghost use Rattle.std.specs.Option.{option_or};
 ghost use Rattle.streams.specs.Held.{Holds};
 ghost use Rattle.streams.specs.Lines.{first_line, lines_of};
 ghost use Rattle.json_requests.specs.Answers.{line_of};
-ghost use Rattle.desk.specs.Outcomes.{told};
+ghost use Rattle.desk.specs.Outcomes.{told, want_of};
 ghost use Rattle.desk.specs.declared.outcome.LineOutcome.{LineOutcome};
 ghost use Rattle.desk.specs.Stands.{IsHandled, HasHandled, AreAnswered, StandsAfter};
 ghost use Rattle.desk.specs.Written.{IsServed, CountsServed};
 ghost use Rattle.streams.specs.CallsLeft.{HasCallsLeft, HasFaultsLeft};
 ghost use Rattle.no_memory.specs.Witness.{witness};
 
+use crate::ended::Ended;
 use crate::fault::DeskFault;
 use crate::outcome::LineOutcome;
 use json_requests::line;
 use json_tree::Scratch;
+use no_memory::NoMemory;
 use office_policy::Handler;
 use review_policy::{Answer, Fault};
 use std::alloc::Global;
@@ -57,7 +60,8 @@ fn tell<W: Write>(
     written.map_err(|_| DeskFault::Write { line: number })
 }
 
-// Handles the first line that is held, and writes the line that reports what came of it.
+// Handles the first line that is held, and writes the line that reports what came of it. Lines before it
+// told this want of memory.
 fn serve_first<H: Handler, W: Write>(
     office: &mut H,
     alloc: Global,
@@ -65,15 +69,20 @@ fn serve_first<H: Handler, W: Write>(
     scratch: &mut Scratch,
     writer: &mut Counted<W>,
     number: u64,
-) -> Result<(), DeskFault>
+    want: Option<NoMemory>,
+) -> Ended
     ensures told { (bytes : List ℕ) → Holds lines.now bytes → (outcome : LineOutcome)
         × IsHandled H.meaning office.old office.new (first_line bytes) outcome
         × IsServed (W.contents writer.old.inner) (W.contents writer.new.inner)
-        (told outcome) number result }
-    ensures faults { CountsServed writer.old.faults writer.new.faults result }
+        (told outcome) number result.answered
+        × (result.witness ≡ option_or want (want_of outcome)) }
+    ensures faults { CountsServed writer.old.faults writer.new.faults result.answered }
 {
     let outcome = LineOutcome::of_first(office, alloc, lines, scratch);
-    tell(alloc, &outcome, writer, number)
+    Ended {
+        answered: tell(alloc, &outcome, writer, number),
+        witness: want.or(outcome.witness()),
+    }
 }
 
 /// Handles the lines of a stream one after the other, and writes the answer to each.
@@ -81,7 +90,8 @@ fn serve_first<H: Handler, W: Write>(
 /// A line is what stands between line feeds; a last one without a line feed is a line where it
 /// isn't empty and the stream ends. How the reader cuts the stream doesn't matter. Each line is
 /// answered before the reader is called again. A line that is out of memory to be read is answered
-/// by that fault, and so is a request that runs out of it; both change nothing.
+/// by that fault, and so is a request that runs out of it; both change nothing, and the witness is
+/// handed on.
 ///
 /// After a crash what is left is the office of the last history, or that office with one event
 /// more, or with what was begun of one: that of a request among the lines of this call that was
@@ -95,51 +105,56 @@ pub fn desk<H: Handler, R: Read, W: Write>(
     alloc: Global,
     reader: &mut Counted<R>,
     writer: &mut Counted<W>,
-) -> Result<(), DeskFault>
+) -> Ended
     requires reads { HasCallsLeft reader.old }
     requires writes { HasFaultsLeft writer.old }
-    ensures answered { OnOk result (IfSome (R.remaining reader.old.inner) (λ input.
+    ensures answered { OnOk result.answered (IfSome (R.remaining reader.old.inner) (λ input.
         AreAnswered H.meaning office.old office.new
-        (W.contents writer.old.inner) (W.contents writer.new.inner) (lines_of input))) }
-    ensures stopped { IfErr result (StandsAfter H.meaning office.old office.new
+        (W.contents writer.old.inner) (W.contents writer.new.inner) (lines_of input)
+        result.witness)) }
+    ensures stopped { IfErr result.answered (StandsAfter H.meaning office.old office.new
         (R.remaining reader.old.inner) (R.remaining reader.new.inner)
-        (W.contents writer.old.inner) (W.contents writer.new.inner)) }
+        (W.contents writer.old.inner) (W.contents writer.new.inner) result.witness) }
     ensures handled { HasHandled H.meaning office.old office.new }
-    ensures nothing { result ≡ Err (DeskFault.NoMemory 0 witness) → office.new ≡ office.old }
-    ensures read { IfErr result (λ e. (line : ℕ) → e ≡ DeskFault.Read line →
+    ensures nothing { result.answered ≡ Err (DeskFault.NoMemory 0 witness)
+        → office.new ≡ office.old }
+    ensures read { IfErr result.answered (λ e. (line : ℕ) → e ≡ DeskFault.Read line →
         reader.old.faults < reader.new.faults) }
-    ensures write { IfErr result (λ e. (line : ℕ) → e ≡ DeskFault.Write line →
+    ensures write { IfErr result.answered (λ e. (line : ℕ) → e ≡ DeskFault.Write line →
         writer.old.faults < writer.new.faults) }
-    ensures too_many { IfErr result (λ e. (line : ℕ) → e ≡ DeskFault.TooManyReads line →
+    ensures too_many { IfErr result.answered (λ e. (line : ℕ) → e ≡ DeskFault.TooManyReads line →
         (reader.new.calls ≡ reader.old.calls + 4194304) × (reader.new.faults ≡ reader.old.faults)) }
-    ensures no_fault { OnOk result
+    ensures no_fault { OnOk result.answered
         ((reader.new.faults ≡ reader.old.faults) × (writer.new.faults ≡ writer.old.faults)) }
     ensures calls { reader.new.calls ≤ reader.old.calls + 4194304 }
 {
     let mut lines = match Lines::new(alloc) {
         Ok(lines) => lines,
-        Err(refused) => return Err(DeskFault::NoMemory {
-            line: 0,
-            witness: refused.into(),
-        }),
+        Err(refused) => return Ended::unbegun(refused),
     };
     let mut scratch = Scratch::new(alloc);
     let most_calls = reader.calls() + MAX_READS;
     let mut answered = 0u64;
+    let mut want = None;
     loop {
         let line = answered + 1;
         match lines.find(reader, most_calls) {
             Found::Line => {
-                serve_first(office, alloc, &lines, &mut scratch, writer, line)?;
+                let ended = serve_first(office, alloc, &lines, &mut scratch, writer, line, want);
+                match ended.answered {
+                    Ok(()) => {}
+                    Err(_) => return ended,
+                }
+                want = ended.witness;
                 answered = line;
                 lines.pass();
             }
             Found::LastLine => {
-                return serve_first(office, alloc, &lines, &mut scratch, writer, line);
+                return serve_first(office, alloc, &lines, &mut scratch, writer, line, want);
             }
-            Found::End => return Ok(()),
-            Found::Failed => return Err(DeskFault::Read { line }),
-            Found::TooManyReads => return Err(DeskFault::TooManyReads { line }),
+            Found::End => return Ended::well(want),
+            Found::Failed => return Ended::stopped(DeskFault::Read { line }, want),
+            Found::TooManyReads => return Ended::stopped(DeskFault::TooManyReads { line }, want),
         }
     }
 }

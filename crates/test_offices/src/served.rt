@@ -28,9 +28,9 @@ pub fn serve<H: Handler, R: Read + Drop, W: Write + Drop>(
 ) -> (End, W) {
     let mut reader = Counted::new(reader);
     let mut writer = Counted::new(writer);
-    let result = desk(office, alloc, &mut reader, &mut writer);
+    let ended = desk(office, alloc, &mut reader, &mut writer);
     let end = End {
-        result,
+        result: ended.answered,
         reads: reader.calls(),
         failed_reads: reader.faults(),
         failed_writes: writer.faults(),

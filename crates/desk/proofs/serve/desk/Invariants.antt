@@ -8,7 +8,7 @@ invariant-loop-office g l =
     record {
       progress : Progress g.H.Handler.meaning l.fn.office l.office l.lines
           (g.R.Read.remaining l.fn.reader.inner) (g.R.Read.remaining l.reader.inner)
-          (g.W.Write.contents l.fn.writer.inner) (g.W.Write.contents l.writer.inner) l.answered;
+          (g.W.Write.contents l.fn.writer.inner) (g.W.Write.contents l.writer.inner) l.want l.answered;
       calls : l.reader.calls ≤ l.most_calls;
       read_faults : l.reader.faults ≡ l.fn.reader.faults;
       write_faults : l.writer.faults ≡ l.fn.writer.faults;

@@ -1,0 +1,53 @@
+//! How a desk ended.
+
+ghost use Rattle.std.specs.Prelude.{◌≡◌, Err, None, Ok};
+ghost use Rattle.no_memory.specs.Witness.{witness};
+
+use crate::fault::DeskFault;
+use no_memory::NoMemory;
+use std::alloc::AllocError;
+
+/// How a desk ended.
+#[derive(Clone, Copy, Debug, PartialEq, Eq)]
+pub struct Ended {
+    /// Each line was answered, or why not.
+    pub answered: Result<(), DeskFault>,
+    /// The witness, where the answer to a line says that there was no memory.
+    pub witness: Option<NoMemory>,
+}
+
+impl Ended {
+    // Each line was answered.
+    pub(crate) fn well(want: Option<NoMemory>) -> Ended
+        ensures { result ≡ record { answered = Ok tt; witness = want } }
+    {
+        Ended {
+            answered: Ok(()),
+            witness: want,
+        }
+    }
+
+    // Not each line was.
+    pub(crate) fn stopped(fault: DeskFault, want: Option<NoMemory>) -> Ended
+        ensures { result ≡ record { answered = Err fault; witness = want } }
+    {
+        Ended {
+            answered: Err(fault),
+            witness: want,
+        }
+    }
+
+    // There was no memory to begin.
+    pub(crate) fn unbegun(refused: AllocError) -> Ended
+        ensures { result
+            ≡ record { answered = Err (DeskFault.NoMemory 0 witness); witness = None } }
+    {
+        Ended {
+            answered: Err(DeskFault::NoMemory {
+                line: 0,
+                witness: refused.into(),
+            }),
+            witness: None,
+        }
+    }
+}
