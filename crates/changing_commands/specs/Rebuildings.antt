@@ -16,7 +16,7 @@ use Rattle.command_host.specs.declared.fault.CommandFault.{CommandFault}
 use Rattle.command_host.specs.declared.fault.CommandFault.TheVariants as fault
 use Rattle.changing_commands.specs.Journals.{mark_of_lines}
 use Rattle.changing_commands.specs.declared.rebuild.Built.{Built}
-use Rattle.command_host.specs.FailedCalls.{IsToldOf}
+use Rattle.command_host.specs.ReadFaults.{IsToldOf}
 use Rattle.command_host.specs.JournalTexts.{IsNoText, IsTextAt}
 use Rattle.command_host.specs.Openings.{IsEnded, IsUnlimited, IsUnopened}
 use Rattle.command_host.specs.Said.{seal_line}

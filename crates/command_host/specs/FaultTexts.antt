@@ -56,6 +56,7 @@ command_fault_text fault.SameFile = codes "same-file"
 command_fault_text (fault.Unverified why) = unverified_text why
 command_fault_text (fault.Unbuilt refused) = refused_text refused
 command_fault_text fault.TooLarge = codes "too-large"
+command_fault_text (fault.Endless none) = codes "too-many-reads"
 command_fault_text (fault.Unwritten why) = unwritten_text why
 command_fault_text (fault.NoEvidence why) = no_evidence_text why
 command_fault_text fault.NotAWord = codes "bad-word"

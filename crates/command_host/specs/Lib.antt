@@ -9,5 +9,6 @@ pub mod Networks
 pub mod HostFiles
 pub mod JournalTexts
 pub mod FailedCalls
+pub mod ReadFaults
 pub mod Known
 pub mod Outside

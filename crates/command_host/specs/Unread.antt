@@ -4,7 +4,7 @@ use Rattle.profile_commands.specs.declared.compare.ComparedFault.TheVariants as 
 use Rattle.profile_commands.specs.declared.fault.FileFault.{FileFault}
 use Rattle.profile_commands.specs.declared.fault.FileFault.TheVariants as file
 use Rattle.streams.specs.declared.up_to.Unread.TheVariants as unread
-use Rattle.command_host.specs.FailedCalls.{tells_of_read}
+use Rattle.command_host.specs.ReadFaults.{tells_of_read}
 use Rattle.command_host.specs.declared.fault.CommandFault.{CommandFault}
 use Rattle.command_host.specs.declared.fault.CommandFault.TheVariants as fault
 
@@ -17,6 +17,7 @@ unread_file path _ = None
 -- the one file that a command reads, at a path: a document or a journal
 abbrev pub unread_at : (path : List ℕ) → CommandFault → Option (List ℕ)
 unread_at path fault.Open = Some path
+unread_at path (fault.Endless none) = Some path
 unread_at path (fault.File why) = unread_file path why
 unread_at path why = if tells_of_read why then Some path else None
 

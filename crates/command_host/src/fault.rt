@@ -4,6 +4,7 @@ ghost use Rattle.std.specs.Prelude.{◌≡◌};
 ghost use Rattle.command_host.specs.FaultTexts.{execution_fault_word};
 
 use crate::founding_fault::FoundingWordsFault;
+use crate::noted::NoneFailed;
 use desk::DeskFault;
 use journal_office::{NotReopened, Refused};
 use journal_reports::{NoEvidence, Unwritten};
@@ -55,6 +56,8 @@ pub enum CommandFault {
     Unbuilt(Refused),
     /// A file is longer than what is read of one.
     TooLarge,
+    /// A journal wants more lines or calls of read than can be counted, none of which failed.
+    Endless(NoneFailed),
     /// The history of a journal wasn't written to its end.
     Unwritten(Unwritten),
     /// A journal has no evidence of the issue of a revision.
@@ -114,6 +117,7 @@ impl fmt::Display for CommandFault {
             CommandFault::JournalBusy => f.write_str("busy"),
             CommandFault::SameFile => f.write_str("same-file"),
             CommandFault::TooLarge => f.write_str("too-large"),
+            CommandFault::Endless(_) => f.write_str("too-many-reads"),
             CommandFault::Bind => f.write_str("bind"),
             CommandFault::Write => f.write_str("write"),
             CommandFault::NoMemory(_) => f.write_str("memory"),

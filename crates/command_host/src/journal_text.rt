@@ -2,7 +2,7 @@
 
 ghost use Rattle.std.specs.Prelude.{◌≡◌, IfErr, IfOk};
 ghost use Rattle.std.specs.Io.Buffered.{reader_remaining};
-ghost use Rattle.command_host.specs.FailedCalls.{IsToldOf, is_of_read, tells_of_read};
+ghost use Rattle.command_host.specs.ReadFaults.{IsToldOf, is_of_read, tells_of_read};
 ghost use Rattle.command_host.specs.JournalTexts.{IsNoText, IsTextAt};
 
 use crate::fault::CommandFault;
@@ -13,10 +13,8 @@ use journal_office::{Refused, Why};
 use journal_reports::{NoEvidence, Unwritten};
 use journal_verification::Unverified;
 use no_memory::NoMemory;
-use profile_commands::FileFault;
 use std::alloc::Global;
 use std::io::{BufReader, ErrorKind};
-use streams::Unread;
 
 /// The text of a journal in a file, which notes whether a call of read failed.
 pub type JournalText<'f, F> = BufReader<Noted<'f, F>>;
@@ -69,13 +67,15 @@ pub(crate) fn tells_of_read(fault: &CommandFault) -> bool
 }
 
 /// What is told where a text was read and this fault was met: the fault. But where it tells that the
-/// journal couldn't be read, and no call of read failed, more lines or calls were wanted than can be
-/// counted, which is told so.
+/// journal couldn't be read, and it wasn't noted that a call of read failed, it is told as endless.
 pub fn told_of_text<F: PassFiles>(text: &JournalText<'_, F>, met: CommandFault) -> CommandFault
     ensures { IsToldOf F.gives met result }
 {
-    if tells_of_read(&met) && !text.get_ref().has_failed() {
-        return CommandFault::File(FileFault::Unread(Unread::TooManyReads));
+    if !tells_of_read(&met) {
+        return met;
     }
-    met
+    match text.get_ref().none_failed() {
+        Some(none) => CommandFault::Endless(none),
+        None => met,
+    }
 }

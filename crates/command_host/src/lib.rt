@@ -32,7 +32,7 @@ pub use journal_text::{JournalText, text_at, told_of_text};
 pub use journals::Journals;
 pub use network::{Network, PassNet};
 pub use no_file::{NoFile, fault_of};
-pub use noted::Noted;
+pub use noted::{NoneFailed, Noted};
 pub use opening::{
     close, database_at, fault_of_opening, first_fault, look_for_mark, mark_at, office_at, open,
 };

@@ -26,6 +26,7 @@ pub fn unread_at<'p>(path: &'p str, fault: &CommandFault) -> Option<&'p str>
 {
     match fault {
         CommandFault::Open => Some(path),
+        CommandFault::Endless(_) => Some(path),
         CommandFault::File(why) => unread_file(path, why),
         why => { if tells_of_read(why) { Some(path) } else { None } }
     }

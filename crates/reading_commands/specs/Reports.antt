@@ -14,7 +14,7 @@ use Rattle.journal_reports.specs.declared.fault.NoEvidence.{NoEvidence}
 use Rattle.journal_reports.specs.declared.fault.Unwritten.{Unwritten}
 use Rattle.command_host.specs.declared.fault.CommandFault.{CommandFault}
 use Rattle.command_host.specs.declared.fault.CommandFault.TheVariants as fault
-use Rattle.command_host.specs.FailedCalls.{IsToldOf}
+use Rattle.command_host.specs.ReadFaults.{IsToldOf}
 use Rattle.command_host.specs.JournalTexts.{IsNoText, IsTextAt}
 use Rattle.reading_commands.specs.declared.history.Names.{Names}
 use Rattle.office_desk.specs.Meant.{meaning_over}

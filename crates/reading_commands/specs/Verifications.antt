@@ -14,7 +14,7 @@ use Rattle.journal_verification.specs.declared.verification.Unverified.{Unverifi
 use Rattle.journal_verification.specs.declared.verification.Verified.{Verified}
 use Rattle.command_host.specs.declared.fault.CommandFault.{CommandFault}
 use Rattle.command_host.specs.declared.fault.CommandFault.TheVariants as fault
-use Rattle.command_host.specs.FailedCalls.{IsToldOf}
+use Rattle.command_host.specs.ReadFaults.{IsToldOf}
 use Rattle.command_host.specs.JournalTexts.{IsNoText, IsTextAt}
 use Rattle.command_host.specs.Said.{seal_line}
 use Rattle.memory_database.specs.Copies.{CopyStore, over_copy}

@@ -1,5 +1,5 @@
 use Rattle.std.proofs.Common.{rules, ◌≡◌, ℕ, Err, Some, inl, inr, refl, subst}
-use Rattle.command_host.specs.FailedCalls.{IsToldOf}
+use Rattle.command_host.specs.ReadFaults.{IsToldOf}
 use Rattle.command_host.specs.Openings.{IsEnded}
 use Rattle.command_host.specs.declared.fault.CommandFault.{CommandFault}
 use Rattle.changing_commands.proofs.rebuild.rebuild_at.Goals as goal
