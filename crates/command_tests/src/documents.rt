@@ -1,15 +1,15 @@
 //! Files of documents that end at their limit, fail or never end.
 
-ghost use Rattle.std.specs.Prelude.{◌≡◌};
-
 use crate::said::assert_said;
-use profile_commands::{Execution, check_document, execve_document};
+use command_line::ExecveWords;
+use reading_commands::{run_check, run_compare, run_execve};
 use std::alloc::{AllocError, Global};
 use std::fs;
 use std::process::Abort;
 use std::test::Fail;
 use streams::Counted;
-use test_doubles::fake_streams::{Giving, Source};
+use test_doubles::fake_streams::Giving;
+use test_doubles::given_files::GivenFiles;
 
 const CLOSED: &str =
     "0 > {\"capabilities\":{\"ambient\":[],\"bounding\":[],\"effective\":[],\"inheritable\":[],\"permitted\":[]}}\n";
@@ -45,37 +45,48 @@ fn a_file_of_262145_bytes_is_too_long(rt: HostRuntime) -> Result<(), Fail> {
     assert_long(&rt, &rt, 2, "1 office: too-long\n> ")
 }
 
-// A file of a document, which is given so.
-fn given(giving: Giving) -> Counted<Source<'static>>
-    ensures calls { result.calls ≡ 0 }
-    ensures faults { result.faults ≡ 0 }
-{
-    Counted::new(Source::new(br#"{"capabilities":{}}"#, giving))
-}
-
-// `check` and `execve` of such a file are refused by this fault.
+// `check` and `execve` of a file that gives a document so are refused by this fault, and so is `compare`.
 fn assert_refused(
     rt: &impl Abort,
     alloc: Global,
     giving: Giving,
     wanted: &str,
 ) -> Result<(), Fail> {
-    let mut fault = String::new(alloc);
-    let mut read_once = given(giving);
-    if let Err(checked) = check_document(alloc, &mut read_once) {
-        write!(fault, "{checked} ")?;
+    let files = GivenFiles {
+        bytes: br#"{"capabilities":{}}"#,
+        giving,
+    };
+    let mut output = Counted::new(Vec::new(alloc));
+    let mut faults = String::new(alloc);
+    if let Err(checked) = run_check(&files, alloc, "p.json", &mut output) {
+        write!(faults, "{checked}")?;
     }
-    let mut read_again = given(giving);
-    if let Err(executed) = execve_document(alloc, &Execution::ByRoot, &mut read_again) {
-        write!(fault, "{executed}")?;
+    let words = ExecveWords {
+        file: "p.json",
+        root: true,
+        file_permitted: None,
+        file_inheritable: None,
+        file_effective: false,
+    };
+    if let Err(executed) = run_execve(&files, alloc, &words, &mut output) {
+        write!(faults, ", {executed}")?;
     }
-    assert_eq!(rt; fault.as_str(), wanted);
+    if let Err(compared) = run_compare(&files, alloc, "p.json", "q.json", &mut output) {
+        write!(faults, ", {compared}")?;
+    }
+    assert_eq!(rt; faults.as_str(), wanted);
+    assert_eq!(rt; output.into_inner().as_slice(), b"");
     Ok(())
 }
 
 #[test]
 fn a_file_that_fails_or_never_ends_is_refused(rt: HostRuntime) -> Result<(), Fail> {
-    assert_refused(&rt, rt.alloc(), Giving::FailsAtEnd, "read read")?;
-    let never_ends = "too-many-reads too-many-reads";
+    assert_refused(
+        &rt,
+        rt.alloc(),
+        Giving::FailsAtEnd,
+        "read, read, base: read",
+    )?;
+    let never_ends = "too-many-reads, too-many-reads, base: too-many-reads";
     assert_refused(&rt, rt.alloc(), Giving::Never, never_ends)
 }

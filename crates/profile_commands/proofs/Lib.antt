@@ -1,4 +1,3 @@
 pub mod ReadFacts
 pub mod ListFacts
 pub mod OutcomeFacts
-pub mod CompareFacts

@@ -2,14 +2,22 @@
 use Rattle.std.proofs.Common.{◌≡◌, ◌∙◌, ℕ, ◌<◌, List, [], ◌++◌, Option, None, Some, IfSome, Ok, Err, length, length-append, append-nil, refl, sym, ap, arith, inl, inr, lt-ltb}
 use Rattle.std.specs.Io.KnownBytes.{Consumes, IsAtEnd}
 use Rattle.std.proofs.lemmas.Bool.{cases_lt}
-use Rattle.profile_text.specs.declared.document.Document.{Document}
+use Rattle.std.specs.Prelude.{String, string_bytes}
+use Rattle.std.specs.declared.alloc.Global.{Global}
 use Rattle.profile_text.specs.declared.fault.DocFault.{DocFault}
 use Rattle.profile_text.specs.declared.fault.DocFault.TheVariants.{NotJson, TooLong}
 use Rattle.profile_text.specs.declared.profile.Profile.{Profile}
 use Rattle.profile_text.specs.Reading.{Gives, reading_of, stored_reading_of, most_bytes}
 use Rattle.profile_commands.specs.declared.fault.FileFault.{FileFault}
 use Rattle.profile_commands.specs.declared.fault.FileFault.TheVariants as file
-use Rattle.profile_commands.specs.Refusal.{IsOfNoJson, IsReadAs, IsRefusalOf, RefusesAs}
+use Rattle.profile_commands.specs.declared.execution.Execution.{Execution}
+use Rattle.profile_commands.specs.declared.execve.ExecveOutcome.{ExecveOutcome}
+use Rattle.profile_commands.specs.Comparing.{IsCompared}
+use Rattle.profile_commands.specs.Executions.{IsExecuted}
+use Rattle.profile_commands.specs.Refusal.{IsChecked, IsOfNoJson, IsRefusalOf, RefusesAs}
+use Rattle.review_sheet.specs.Review.{findings_text}
+use Rattle.widening.specs.Findings.{findings_of}
+use Rattle.streams.specs.declared.up_to.Unread.TheVariants.{Failed, TooManyReads, NoMemory}
 
 -- bytes that are too many are no document
 too_long : (bytes : List ℕ) → most_bytes < length bytes → reading_of bytes ≡ Err TooLong
@@ -33,35 +41,51 @@ read_whole None new bytes consumed end = tt
 read_whole (Some all) None bytes consumed end = absurd consumed
 read_whole (Some all) (Some rest) bytes consumed end = same_reading all bytes rest consumed end
 
--- the document that was read of the bytes is that of the file
-pub read_as : (old : Option (List ℕ)) (bytes : List ℕ) (document : Document) → IfSome old (λ all. reading_of all ≡ reading_of bytes)
-    → reading_of bytes ≡ Ok document.profile → IfSome old (λ all. IsReadAs all (Ok document))
-read_as None bytes document same reads = tt
-read_as (Some all) bytes document same reads = same ∙ reads
+-- ---- faults of bytes
 
--- the fault of the bytes is reported as it must be, and is that of the file
-refuses_as : (all bytes : List ℕ) (fault : DocFault) (refusal : FileFault) → reading_of all ≡ reading_of bytes
-    → Gives {X = Profile} (Err fault) (reading_of bytes) → IsRefusalOf fault refusal → RefusesAs all refusal
-refuses_as all bytes fault refusal same gives (inl (memory, told)) = rw told tt
-refuses_as all bytes fault refusal same (inl memory) (inr (other, told)) = absurd (other memory)
-refuses_as all bytes fault refusal same (inr reads) (inr (other, told)) = rw told (same ∙ reads)
-
-pub refused_as : (old : Option (List ℕ)) (bytes : List ℕ) (fault : DocFault) (refusal : FileFault)
-    → IfSome old (λ all. reading_of all ≡ reading_of bytes) → Gives {X = Profile} (Err fault) (reading_of bytes) → IsRefusalOf fault refusal
-    → IfSome old (λ all. IsReadAs all (Err refusal))
-refused_as None bytes fault refusal same gives told = tt
-refused_as (Some all) bytes fault refusal same gives told = refuses_as all bytes fault refusal same gives told
+-- a fault of bytes is reported as it must be
+pub refuses_as : (bytes : List ℕ) (fault : DocFault) (refusal : FileFault) → Gives {X = Profile} (Err fault) (reading_of bytes) → IsRefusalOf fault refusal
+    → RefusesAs bytes refusal
+refuses_as bytes fault refusal gives (inl (memory, told)) = rw told tt
+refuses_as bytes fault refusal (inl memory) (inr (other, told)) = absurd (other memory)
+refuses_as bytes fault refusal (inr reads) (inr (other, told)) = rw told reads
 
 -- bytes that are no JSON are refused as such, with a place or without one
-no_json_as : (all bytes : List ℕ) (refusal : FileFault) → reading_of all ≡ reading_of bytes
-    → Gives {X = Profile} (Err NotJson) (reading_of bytes) → IsOfNoJson refusal → RefusesAs all refusal
-no_json_as all bytes refusal same (inl memory) is = absurd cc
-no_json_as all bytes (file.NotJson place) same (inr reads) is = same ∙ reads
-no_json_as all bytes (file.Document NotJson) same (inr reads) is = same ∙ reads
-no_json_as all bytes refusal same (inr reads) is = absurd is
+pub no_json_as : (bytes : List ℕ) (refusal : FileFault) → Gives {X = Profile} (Err NotJson) (reading_of bytes) → IsOfNoJson refusal → RefusesAs bytes refusal
+no_json_as bytes refusal (inl memory) is = absurd cc
+no_json_as bytes (file.NotJson place) (inr reads) is = reads
+no_json_as bytes (file.Document NotJson) (inr reads) is = reads
+no_json_as bytes refusal (inr reads) is = absurd is
 
-pub not_json_as : (old : Option (List ℕ)) (bytes : List ℕ) (refusal : FileFault)
-    → IfSome old (λ all. reading_of all ≡ reading_of bytes) → Gives {X = Profile} (Err NotJson) (reading_of bytes) → IsOfNoJson refusal
-    → IfSome old (λ all. IsReadAs all (Err refusal))
-not_json_as None bytes refusal same gives told = tt
-not_json_as (Some all) bytes refusal same gives told = no_json_as all bytes refusal same gives told
+-- ---- a file that was read so far
+
+-- a fault of what was read of a file is one of all its bytes
+refused_whole : (all bytes : List ℕ) (refusal : FileFault) → reading_of all ≡ reading_of bytes → RefusesAs bytes refusal → RefusesAs all refusal
+refused_whole all bytes (file.NotJson place) same refused = same ∙ refused
+refused_whole all bytes (file.Document fault) same refused = same ∙ refused
+refused_whole all bytes (file.Unread (NoMemory _)) same refused = tt
+refused_whole all bytes (file.Unread Failed) same refused = absurd refused
+refused_whole all bytes (file.Unread TooManyReads) same refused = absurd refused
+
+-- what is read as they do stands for all the bytes of a file, where they are known
+pub refused_of : (known : Option (List ℕ)) (bytes : List ℕ) (refusal : FileFault) → IfSome known (λ all. reading_of all ≡ reading_of bytes) → RefusesAs bytes refusal
+    → IfSome known (λ all. RefusesAs all refusal)
+refused_of None bytes refusal same refused = tt
+refused_of (Some all) bytes refusal same refused = refused_whole all bytes refusal same refused
+
+pub checked_of : (known : Option (List ℕ)) (bytes : List ℕ) (text : String Global) → IfSome known (λ all. reading_of all ≡ reading_of bytes) → IsChecked bytes (Ok text)
+    → IfSome known (λ all. IsChecked all (Ok text))
+checked_of None bytes text same checked = tt
+checked_of (Some all) bytes text same checked = (checked.0, same ∙ checked.1, checked.2)
+
+pub executed_of : (known : Option (List ℕ)) (bytes : List ℕ) (execution : Execution) (outcome : ExecveOutcome) → IfSome known (λ all. reading_of all ≡ reading_of bytes)
+    → IsExecuted execution bytes (Ok outcome) → IfSome known (λ all. IsExecuted execution all (Ok outcome))
+executed_of None bytes execution outcome same executed = tt
+executed_of (Some all) bytes execution outcome same executed = (executed.0, same ∙ executed.1, executed.2)
+
+pub compared_of : (base_known new_known : Option (List ℕ)) (old shown : Profile) (text : String Global) → IfSome base_known (λ all. reading_of all ≡ Ok old)
+    → IfSome new_known (λ all. reading_of all ≡ Ok shown) → string_bytes text ≡ findings_text (findings_of old shown)
+    → IfSome base_known (λ b. IfSome new_known (λ s. IsCompared b s text))
+compared_of None new_known old shown text reads_base reads_new is = tt
+compared_of (Some b) None old shown text reads_base reads_new is = tt
+compared_of (Some b) (Some s) old shown text reads_base reads_new is = (old, shown, reads_base, reads_new, is)

@@ -1,9 +1,8 @@
 -- What a command says of the bytes of a file, and why it says nothing of them.
-use Rattle.std.specs.Prelude.{◌≡◌, ◌≢◌, ◌⊎◌, ◌+◌, ◌<◌, ℕ, List, [], ◌∷◌, ◌++◌, Result, Ok, Err}
+use Rattle.std.specs.Prelude.{◌≡◌, ◌≢◌, ◌⊎◌, ℕ, List, [], ◌∷◌, ◌++◌, Result, Ok, Err}
 use Rattle.std.specs.Prelude.{String, string_bytes}
 use Rattle.std.specs.declared.alloc.Global.{Global}
-use Rattle.streams.specs.declared.up_to.Unread.{Unread}
-use Rattle.streams.specs.declared.up_to.Unread.TheVariants.{Failed, TooManyReads, NoMemory}
+use Rattle.streams.specs.declared.up_to.Unread.TheVariants.{NoMemory}
 use Rattle.profile_text.specs.declared.document.Document.{Document as ReadDocument}
 use Rattle.profile_text.specs.declared.fault.DocFault.{DocFault}
 use Rattle.profile_text.specs.declared.fault.DocFault.TheVariants as faults
@@ -30,36 +29,14 @@ IsOfNoJson (file.NotJson place) = Unit {0}
 IsOfNoJson (file.Document faults.NotJson) = Unit {0}
 IsOfNoJson _ = ⊥
 
--- the calls of a reader and those that failed, before and after, agree with what is answered of its
--- bytes: `Failed` just where one failed, and `TooManyReads` only where there were as many calls as
--- are allowed
-abbrev pub ReadsAgree : {X : Type 0} → (calls calls_after faults faults_after : ℕ)
-    → Result X Unread → Type 0
-ReadsAgree calls calls_after faults faults_after (Err Failed) = faults < faults_after
-ReadsAgree calls calls_after faults faults_after (Err TooManyReads) =
-    (calls_after ≡ calls + 600000) × (faults_after ≡ faults)
-ReadsAgree calls calls_after faults faults_after (Err (NoMemory _)) = faults_after ≡ faults
-ReadsAgree calls calls_after faults faults_after (Ok x) = faults_after ≡ faults
-
--- the calls of a reader and those that failed agree with what is answered of a file
-abbrev pub AgreesWithReads : {X : Type 0} → (calls calls_after faults faults_after : ℕ)
-    → Result X FileFault → Type 0
-AgreesWithReads {X} calls calls_after faults faults_after (Err (file.Unread why)) =
-    ReadsAgree {X = X} calls calls_after faults faults_after (Err why)
-AgreesWithReads calls calls_after faults faults_after (Err (file.NotJson place)) =
-    faults_after ≡ faults
-AgreesWithReads calls calls_after faults faults_after (Err (file.Document fault)) =
-    faults_after ≡ faults
-AgreesWithReads calls calls_after faults faults_after (Ok x) = faults_after ≡ faults
-
--- where a fault of the document is reported, the bytes read as that fault
+-- a fault of bytes is that which they read as; or there was no memory to read them
 abbrev pub RefusesAs : List ℕ → FileFault → Type 0
 RefusesAs bytes (file.NotJson place) = reading_of bytes ≡ Err faults.NotJson
 RefusesAs bytes (file.Document fault) = reading_of bytes ≡ Err fault
-RefusesAs bytes (file.Unread why) = Unit {0}
+RefusesAs bytes (file.Unread (NoMemory _)) = Unit {0}
+RefusesAs bytes (file.Unread _) = ⊥
 
--- the profile is what the bytes read as, or the fault is theirs; the reader or memory may have
--- failed in place of both
+-- the profile is what the bytes read as, or the fault is theirs
 abbrev pub IsReadAs : List ℕ → Result ReadDocument FileFault → Type 0
 IsReadAs bytes (Ok document) = reading_of bytes ≡ Ok document.profile
 IsReadAs bytes (Err fault) = RefusesAs bytes fault

@@ -1,17 +1,17 @@
-//! The document in a file.
+//! The document that bytes are.
 
-ghost use Rattle.std.specs.Prelude.{IfOk, IfSome};
+ghost use Rattle.std.specs.Prelude.{IfOk};
 ghost use Rattle.profile_text.specs.Reading.{HasItsText};
-ghost use Rattle.profile_commands.specs.Refusal.{AgreesWithReads, IsOfNoJson, IsReadAs};
-ghost use Rattle.streams.specs.CallsLeft.{HasCallsLeft};
+ghost use Rattle.profile_commands.specs.Refusal.{IsOfNoJson, IsReadAs};
 
 use crate::fault::FileFault;
-use crate::file_bytes::file_bytes;
 use crate::json_place::json_place;
 use profile_text::{DocFault, Document, read_with_text};
 use std::alloc::Global;
-use std::io::Read;
-use streams::Counted;
+
+/// How many bytes of a file are read at most: one more than a document may have. Of a longer file
+/// these say what all of it would.
+pub const MOST_BYTES: usize = 262_145;
 
 // Why bytes that are no JSON text are no document, with the place where it is found.
 fn no_json(alloc: Global, bytes: &[u8]) -> FileFault
@@ -23,23 +23,18 @@ fn no_json(alloc: Global, bytes: &[u8]) -> FileFault
     }
 }
 
-/// Reads the document in a file: its profile, and its canonical text.
+/// The document that the bytes of a file are: its profile, and its canonical text.
 ///
 /// # Errors
 ///
-/// `Unread` with `Failed`, with `TooManyReads` after 600,000 calls of read, or with `NoMemory`;
-/// `NotJson` or `Document` with the first fault of what is no document.
-pub fn read_document<R: Read>(alloc: Global, reader: &mut Counted<R>) -> Result<Document, FileFault>
-    requires { HasCallsLeft reader.old }
-    ensures document { IfSome (R.remaining reader.old.inner) (λ bytes. IsReadAs bytes result) }
+/// `NotJson` or `Document` with the first fault of what is no document; `Unread` with `NoMemory`.
+pub fn read_document(alloc: Global, bytes: &[u8]) -> Result<Document, FileFault>
+    ensures document { IsReadAs bytes.now result }
     ensures text { IfOk result HasItsText }
-    ensures reads { AgreesWithReads reader.old.calls reader.new.calls
-        reader.old.faults reader.new.faults result }
 {
-    let bytes = file_bytes(alloc, reader)?;
-    match read_with_text(alloc, &bytes) {
+    match read_with_text(alloc, bytes) {
         Ok(document) => Ok(document),
-        Err(DocFault::NotJson) => Err(no_json(alloc, &bytes)),
+        Err(DocFault::NotJson) => Err(no_json(alloc, bytes)),
         Err(fault) => Err(FileFault::from(fault)),
     }
 }

@@ -1,9 +1,7 @@
 //! The command `execve`.
 
-ghost use Rattle.std.specs.Prelude.{IfOk, IfSome};
+ghost use Rattle.std.specs.Prelude.{IfOk};
 ghost use Rattle.profile_commands.specs.Executions.{IsDone, IsExecuted, IsOutcome};
-ghost use Rattle.profile_commands.specs.Refusal.{AgreesWithReads};
-ghost use Rattle.streams.specs.CallsLeft.{HasCallsLeft};
 
 use crate::document::read_document;
 use crate::execution::Execution;
@@ -11,8 +9,6 @@ use crate::fault::FileFault;
 use cap_sets::{CapState, execve, execve_root};
 use review_sheet::state_text;
 use std::alloc::{AllocError, Global};
-use std::io::Read;
-use streams::Counted;
 
 /// What comes of execve.
 #[derive(Debug, Drop)]
@@ -48,23 +44,19 @@ fn outcome_of(
     }
 }
 
-/// What comes of execve in a process that has the sets of the document in a file.
+/// What comes of execve in a process that has the sets of the document that the bytes of a file are.
 ///
 /// # Errors
 ///
 /// Those of `read_document`.
-pub fn execve_document<R: Read>(
+pub fn execve_document(
     alloc: Global,
     execution: &Execution,
-    reader: &mut Counted<R>,
+    bytes: &[u8],
 ) -> Result<ExecveOutcome, FileFault>
-    requires { HasCallsLeft reader.old }
-    ensures executed { IfSome (R.remaining reader.old.inner)
-        (λ bytes. IsExecuted execution.now bytes result) }
-    ensures reads { AgreesWithReads reader.old.calls reader.new.calls
-        reader.old.faults reader.new.faults result }
+    ensures { IsExecuted execution.now bytes.now result }
 {
-    let document = read_document(alloc, reader)?;
+    let document = read_document(alloc, bytes)?;
     let outcome = outcome_of(alloc, execution, &document.profile.caps)?;
     Ok(outcome)
 }

@@ -15,8 +15,7 @@ use streams::Unread;
 /// standard error.
 #[derive(Debug, Drop)]
 pub enum FileFault {
-    /// The file wasn't read: why. `NoMemory` is also answered where memory was refused later, and
-    /// may stand in place of any answer.
+    /// The file wasn't read: why. `NoMemory` is also answered where memory was refused later.
     Unread(Unread),
     /// The bytes of the file are no JSON text: where they stop being one.
     NotJson(JsonPlace),

@@ -7,14 +7,13 @@ mod document;
 mod execution;
 mod execve;
 mod fault;
-mod file_bytes;
 mod json_place;
 mod list;
 mod name_told;
 
 pub use check::check_document;
-pub use compare::{ComparedFault, compare_documents};
-pub use document::read_document;
+pub use compare::{ComparedFault, compare_profiles};
+pub use document::{MOST_BYTES, read_document};
 pub use execution::{Execution, ExecutionFault, execution_of};
 pub use execve::{ExecveOutcome, execve_document};
 pub use fault::FileFault;

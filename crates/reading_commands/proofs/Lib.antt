@@ -1,3 +1,4 @@
 pub mod FailingFacts
 mod FrontFacts
+mod ReadingFacts
 mod ResultFacts

@@ -16,8 +16,10 @@ use Rattle.command_host.specs.Openings.{fault_of_opening, IsNoOffice, IsOpenedOf
 use Rattle.command_host.specs.declared.fault.CommandFault.{CommandFault}
 use Rattle.command_host.specs.declared.fault.CommandFault.TheVariants as fault
 use Rattle.profile_commands.specs.declared.fault.FileFault.TheVariants as file
+use Rattle.streams.specs.declared.up_to.Unread.{Unread}
 use Rattle.streams.specs.declared.up_to.Unread.TheVariants as unread
 use Rattle.reading_commands.specs.Places.{IsMissing}
+use Rattle.reading_commands.specs.Reading.{HaveCalled}
 use Rattle.reading_commands.specs.declared.place.Place.{Place}
 
 -- how far a file is read whose first bytes these are: a log, or a database beside one
@@ -29,12 +31,18 @@ extent_of (Some log) head = database_extent log head
 abbrev pub front_of : (log : Option (List ℕ)) (all : List ℕ) → List ℕ
 front_of log all = take (extent_of log (take head_bytes all)) all
 
+-- the fault of a file that wasn't read
+abbrev pub fault_of_read : Unread → CommandFault
+fault_of_read unread.Failed = fault.Store Disk
+fault_of_read unread.TooManyReads = fault.File (file.Unread unread.TooManyReads)
+fault_of_read (unread.NoMemory memory) = fault.Store (NoMemory memory)
+
 -- why a file that was opened gives no bytes
 abbrev pub IsOfReading : {F : Type 0} (Gives : F → F → Result ℕ Error → List ℕ → Type 0)
     → CommandFault → Type 0
-IsOfReading Gives (fault.Store Disk) = ∥ CallFailed Gives ∥₁
+IsOfReading Gives (fault.Store Disk) = CallFailed Gives
 IsOfReading Gives (fault.Store (NoMemory _)) = Unit {0}
-IsOfReading Gives (fault.File (file.Unread unread.TooManyReads)) = Unit {0}
+IsOfReading Gives (fault.File (file.Unread unread.TooManyReads)) = HaveCalled Gives
 IsOfReading Gives _ = ⊥
 
 -- of a file of which this is known as it is opened, and whose bytes are these: a log, or a database
@@ -46,17 +54,18 @@ module _ {F : Type 0} (Opened : Result F Error → Type 0) where
       × IfSome (bytes_of file) (λ all. bytes ≡ front_of log all)
 
   -- The file gave none, for this. Nothing is there; or what is there can't be opened, or a call of
-  -- read on it failed. Or memory was lacking, or more calls or bytes were wanted than are read.
+  -- read on it failed. Or memory was lacking, as many calls were made as are allowed, or more bytes
+  -- were wanted than are read.
   abbrev pub GaveNone : (Gives : F → F → Result ℕ Error → List ℕ → Type 0)
       → (F → Option (List ℕ)) → Option (List ℕ) → CommandFault → Type 0
   GaveNone Gives bytes_of log (fault.Store NotAnOffice) =
       (e : Error) × Opened (Err e) × IsMissing e
   GaveNone Gives bytes_of log (fault.Store Disk) =
       ((e : Error) × Opened (Err e) × (error_kind e ≢ kind.NotFound))
-      ⊎ ((file : F) × Opened (Ok file) × ∥ CallFailed Gives ∥₁)
+      ⊎ ((file : F) × Opened (Ok file) × CallFailed Gives)
   GaveNone Gives bytes_of log (fault.Store (NoMemory _)) = (file : F) × Opened (Ok file)
   GaveNone Gives bytes_of log (fault.File (file.Unread unread.TooManyReads)) =
-      (file : F) × Opened (Ok file)
+      (file : F) × Opened (Ok file) × HaveCalled Gives
   GaveNone Gives bytes_of log fault.TooLarge = (file : F) × Opened (Ok file)
       × IfSome (bytes_of file) (λ all. most_bytes < length (front_of log all))
   GaveNone Gives bytes_of log _ = ⊥

@@ -1,52 +1,74 @@
 -- Why `check`, `execve` and `compare` fail, and what they then have done.
-use Rattle.std.specs.Prelude.{◌≡◌, ◌⊎◌, ℕ, List, Option, Result, Ok, Err, IfSome, String}
+use Rattle.std.specs.Prelude.{◌≡◌, ◌≢◌, ◌⊎◌, ℕ, List, Option, Result, Ok, Err, IfSome, String}
 use Rattle.std.specs.Prelude.{string_bytes}
 use Rattle.std.specs.declared.alloc.Global.{Global}
 use Rattle.std.specs.declared.io.Error.{Error}
 use Rattle.command_line.specs.declared.command.ExecveWords.{ExecveWords}
 use Rattle.desk_http.specs.Lines.{IsCut}
-use Rattle.profile_commands.specs.Comparing.{IsBase, IsCompared, IsNew}
+use Rattle.profile_text.specs.declared.profile.Profile.{Profile}
 use Rattle.profile_commands.specs.Executions.{execution_of, IsExecuted}
-use Rattle.profile_commands.specs.Refusal.{IsChecked, RefusesAs}
+use Rattle.profile_commands.specs.Refusal.{no_memory, IsChecked, RefusesAs}
 use Rattle.profile_commands.specs.declared.compare.ComparedFault.{ComparedFault}
+use Rattle.profile_commands.specs.declared.compare.ComparedFault.TheVariants as compared
 use Rattle.profile_commands.specs.declared.execution.Execution.{Execution}
 use Rattle.profile_commands.specs.declared.execve.ExecveOutcome.{ExecveOutcome}
 use Rattle.profile_commands.specs.declared.fault.FileFault.{FileFault}
 use Rattle.profile_commands.specs.declared.fault.FileFault.TheVariants as file
 use Rattle.streams.specs.declared.counted.Counted.{Counted}
 use Rattle.streams.specs.declared.up_to.Unread.TheVariants as unread
-use Rattle.reading_commands.specs.declared.compare.Source.{Source}
-use Rattle.command_host.specs.FailedCalls.{CallFailed}
 use Rattle.command_host.specs.declared.fault.CommandFault.{CommandFault}
 use Rattle.command_host.specs.declared.fault.CommandFault.TheVariants as fault
-use Rattle.reading_commands.specs.Documents.{file_of, outcome_text, source_bytes, IsSource}
+use Rattle.reading_commands.specs.Documents.{file_of, outcome_text, IsDocumentIn, WereCompared}
+use Rattle.reading_commands.specs.Reading.{FailsToRead}
+use Rattle.reading_commands.specs.declared.document_bytes.NoBytes.{NoBytes}
+use Rattle.reading_commands.specs.declared.document_bytes.NoBytes.TheVariants.{Unopened, Unread}
 
--- a file couldn't be read
-abbrev pub failed_read : FileFault
-failed_read = file.Unread unread.Failed
+-- the fault of a file that gave no bytes: of one that can't be opened, that it couldn't be read
+abbrev pub file_fault_of : NoBytes → FileFault
+file_fault_of Unopened = file.Unread unread.Failed
+file_fault_of (Unread why) = file.Unread why
 
--- Where a file gave nothing by this fault, that is told: the same, and a call of read failed where it
--- is that the file couldn't be read; or, where it is that, too many calls.
-abbrev pub IsToldOfFile : {F : Type 0} (Gives : F → F → Result ℕ Error → List ℕ → Type 0)
-    → (met told : FileFault) → Type 0
-IsToldOfFile Gives met told =
-    ((told ≡ met) × (met ≡ failed_read → ∥ CallFailed Gives ∥₁))
-    ⊎ ((told ≡ file.Unread unread.TooManyReads) × (met ≡ failed_read))
+-- the same of a command that reads one file
+abbrev pub fault_of : NoBytes → CommandFault
+fault_of Unopened = fault.Open
+fault_of (Unread why) = fault.File (file.Unread why)
 
--- Files of which this is known as they are opened at a path, and whose bytes are these.
+-- of a file of which this is known as it is opened and read
+module _ {F : Type 0} (Opened : Result F Error → Type 0)
+    (Gives : F → F → Result ℕ Error → List ℕ → Type 0) where
+  -- it can't be opened; or it was, and wasn't read
+  abbrev pub AreNoBytes : NoBytes → Type 0
+  AreNoBytes Unopened = (e : Error) × Opened (Err e)
+  AreNoBytes (Unread why) = (file : F) × Opened (Ok file) × FailsToRead Gives why
+
+  -- and of its bytes
+  module _ (bytes_of : F → Option (List ℕ)) where
+    -- it was opened and has no document, for this: it wasn't read, or its bytes have this fault
+    abbrev pub IsRefusedIn : F → FileFault → Type 0
+    IsRefusedIn it (file.Unread why) = FailsToRead Gives why
+    IsRefusedIn it why = IfSome (bytes_of it) (λ bytes. RefusesAs bytes why)
+
+    abbrev pub IsRefused : FileFault → Type 0
+    IsRefused why = (it : F) × Opened (Ok it) × IsRefusedIn it why
+
+    -- it can't be opened, or has no document
+    abbrev pub HasNoDocument : FileFault → Type 0
+    HasNoDocument why =
+        ((why ≡ file.Unread unread.Failed) × ((e : Error) × Opened (Err e))) ⊎ IsRefused why
+
+-- Files of which this is known as they are opened at a path and read, and whose bytes are these.
 module _ {F : Type 0} (Opens : List ℕ → Result F Error → Type 0)
-    (bytes_of : F → Option (List ℕ)) where
-  -- two documents weren't compared, by a fault that is of the bytes of the one or the other where
-  -- it is of a document
-  pub record IsUncompared (base_word new_word : List ℕ) (why : ComparedFault) : Type 0 where
-    pub base : Source F
-    pub base_opened : IsSource (Opens (file_of base_word)) base
-    pub shown : Source F
-    pub shown_opened : IsSource (Opens (file_of new_word)) shown
-    pub of_base : IfSome (source_bytes bytes_of base)
-        (λ bytes. IsBase {X = String Global} bytes (Err why))
-    pub of_new : IfSome (source_bytes bytes_of shown)
-        (λ bytes. IsNew {X = String Global} bytes (Err why))
+    (Gives : F → F → Result ℕ Error → List ℕ → Type 0) (bytes_of : F → Option (List ℕ)) where
+  -- Two documents weren't compared: BASE is none, or it is one and NEW is none, for this, which isn't
+  -- want of memory. Or there was no memory.
+  abbrev pub IsUncompared : (base_word new_word : List ℕ) → ComparedFault → Type 0
+  IsUncompared base_word new_word (compared.Base why) =
+      (why ≢ no_memory) × HasNoDocument (Opens (file_of base_word)) Gives bytes_of why
+  IsUncompared base_word new_word (compared.New why) =
+      (why ≢ no_memory)
+      × ((base : Profile) × IsDocumentIn (Opens (file_of base_word)) bytes_of base)
+      × HasNoDocument (Opens (file_of new_word)) Gives bytes_of why
+  IsUncompared base_word new_word (compared.NoMemory _) = Unit {0}
 
 -- What an output has after what it had, of files of which this is known as they are opened at a
 -- path and read, and whose bytes are these.
@@ -57,15 +79,12 @@ module _ {F O : Type 0} (Opens : List ℕ → Result F Error → Type 0)
   abbrev pub IsUnopened : (word : List ℕ) → Type 0
   IsUnopened word = ((e : Error) × Opens (file_of word) (Err e)) × (wrote ≡ output)
 
-  -- the file that a word names gave nothing, and nothing was printed. A fault of a document is of the
-  -- file's bytes, and a failed read is told only where a call of read failed
+  -- the file that a word names has no document, for this, and nothing was printed
   abbrev pub GaveNothing : (word : List ℕ) → FileFault → Type 0
   GaveNothing word why =
-      (file : F) × Opens (file_of word) (Ok file)
-      × IfSome (bytes_of file) (λ bytes. RefusesAs bytes why)
-      × (why ≡ failed_read → ∥ CallFailed Gives ∥₁) × (wrote ≡ output)
+      IsRefused (Opens (file_of word)) Gives bytes_of why × (wrote ≡ output)
 
-  -- `check` fails: no file can be opened, it gives nothing, or its text was cut
+  -- `check` fails: no file can be opened, it has no document, or its text was cut
   abbrev pub FailsToCheck : (word : List ℕ) → CommandFault → Type 0
   FailsToCheck word fault.Open = IsUnopened word
   FailsToCheck word (fault.File why) = GaveNothing word why
@@ -94,11 +113,8 @@ module _ {F O : Type 0} (Opens : List ℕ → Result F Error → Type 0)
   -- `compare` fails: the documents weren't compared, or the text of the findings was cut
   abbrev pub FailsToCompare : (base_word new_word : List ℕ) → CommandFault → Type 0
   FailsToCompare base_word new_word (fault.Compared why) =
-      IsUncompared Opens bytes_of base_word new_word why × (wrote ≡ output)
+      IsUncompared Opens Gives bytes_of base_word new_word why × (wrote ≡ output)
   FailsToCompare base_word new_word fault.Write =
-      (base shown : Source F) × (text : String Global)
-      × IsSource (Opens (file_of base_word)) base × IsSource (Opens (file_of new_word)) shown
-      × IfSome (source_bytes bytes_of base)
-      (λ b. IfSome (source_bytes bytes_of shown) (λ s. IsCompared b s text))
+      (text : String Global) × WereCompared Opens bytes_of base_word new_word text
       × IsCut contents output wrote (string_bytes text)
   FailsToCompare base_word new_word _ = ⊥

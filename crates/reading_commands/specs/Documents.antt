@@ -1,5 +1,5 @@
 -- What `check`, `execve` and `compare` print of which bytes, and their status.
-use Rattle.std.specs.Prelude.{◌≡◌, ℕ, List, [], ◌∷◌, Option, None, Result, Ok, Err, IfSome}
+use Rattle.std.specs.Prelude.{◌≡◌, ℕ, List, [], ◌∷◌, Option, Result, Ok, IfSome}
 use Rattle.std.specs.Prelude.{String, bytes_eq, codes, if◌then◌else◌, string_bytes}
 use Rattle.std.specs.declared.alloc.Global.{Global}
 use Rattle.std.specs.declared.io.Error.{Error}
@@ -12,8 +12,8 @@ use Rattle.profile_commands.specs.Refusal.{IsChecked}
 use Rattle.profile_commands.specs.declared.execution.Execution.{Execution}
 use Rattle.profile_commands.specs.declared.execve.ExecveOutcome.{ExecveOutcome}
 use Rattle.profile_commands.specs.declared.execve.ExecveOutcome.TheVariants.{Done, Denied}
-use Rattle.reading_commands.specs.declared.compare.Source.{Source}
-use Rattle.reading_commands.specs.declared.compare.Source.TheVariants.{Opened, Unopened}
+use Rattle.profile_text.specs.Reading.{reading_of}
+use Rattle.profile_text.specs.declared.profile.Profile.{Profile}
 
 -- the path of the file that a word names for a document: `-` is standard input
 unfoldable pub file_of : List ℕ → List ℕ
@@ -34,25 +34,25 @@ abbrev pub findings_status : List ℕ → ℕ
 findings_status [] = 0
 findings_status (byte ∷ text) = 1
 
--- a file that was opened so, or that couldn't be
-abbrev pub IsSource : {F : Type 0} → (Result F Error → Type 0) → Source F → Type 0
-IsSource Opens (Opened file) = Opens (Ok file)
-IsSource Opens Unopened = (e : Error) × Opens (Err e)
+-- of a file of which this is known as it is opened, and whose bytes are these
+module _ {F : Type 0} (Opened : Result F Error → Type 0) (bytes_of : F → Option (List ℕ)) where
+  -- it was opened, and gave bytes that read as its own, where those are known
+  abbrev pub AreBytesOf : List ℕ → Type 0
+  AreBytesOf bytes = (file : F) × Opened (Ok file)
+      × IfSome (bytes_of file) (λ all. reading_of all ≡ reading_of bytes)
 
--- the bytes of a file, where it was opened
-abbrev pub source_bytes : {F : Type 0} → (F → Option (List ℕ)) → Source F → Option (List ℕ)
-source_bytes bytes_of (Opened file) = bytes_of file
-source_bytes bytes_of Unopened = None
+  -- it was opened, and this document is in it, where its bytes are known
+  abbrev pub IsDocumentIn : Profile → Type 0
+  IsDocumentIn profile = (file : F) × Opened (Ok file)
+      × IfSome (bytes_of file) (λ all. reading_of all ≡ Ok profile)
 
 -- of the files that two words name, BASE and NEW, of which this is known as they are opened, and whose
 -- bytes are these, the text says what NEW permits more
 abbrev pub WereCompared : {F : Type 0} → (Opens : List ℕ → Result F Error → Type 0)
     → (bytes_of : F → Option (List ℕ)) → (base_word new_word : List ℕ) → String Global → Type 0
 WereCompared {F} Opens bytes_of base_word new_word text =
-    (base shown : Source F)
-    × IsSource (Opens (file_of base_word)) base × IsSource (Opens (file_of new_word)) shown
-    × IfSome (source_bytes bytes_of base)
-    (λ b. IfSome (source_bytes bytes_of shown) (λ s. IsCompared b s text))
+    (base shown : F) × Opens (file_of base_word) (Ok base) × Opens (file_of new_word) (Ok shown)
+    × IfSome (bytes_of base) (λ b. IfSome (bytes_of shown) (λ s. IsCompared b s text))
 
 -- What an output has after what it had, of files of which this is known as they are opened at a
 -- path, and whose bytes are these.
@@ -81,12 +81,12 @@ module _ {F O : Type 0} (Opens : List ℕ → Result F Error → Type 0)
 
   -- `compare`: the findings between the documents in the files that two words name, BASE and NEW
   pub record HasCompared (base_word new_word : List ℕ) (status : ℕ) : Type 0 where
-    pub base : Source F
-    pub base_opened : IsSource (Opens (file_of base_word)) base
-    pub shown : Source F
-    pub shown_opened : IsSource (Opens (file_of new_word)) shown
+    pub base : F
+    pub base_opened : Opens (file_of base_word) (Ok base)
+    pub shown : F
+    pub shown_opened : Opens (file_of new_word) (Ok shown)
     pub text : String Global
-    pub compared : IfSome (source_bytes bytes_of base)
-        (λ b. IfSome (source_bytes bytes_of shown) (λ s. IsCompared b s text))
+    pub compared : IfSome (bytes_of base)
+        (λ b. IfSome (bytes_of shown) (λ s. IsCompared b s text))
     pub printed : IsWhole contents output wrote (string_bytes text)
     pub ended : status ≡ findings_status (string_bytes text)

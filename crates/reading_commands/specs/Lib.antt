@@ -1,4 +1,5 @@
 pub mod Places
+pub mod Reading
 pub mod Copied
 pub mod Moments
 pub mod Documents

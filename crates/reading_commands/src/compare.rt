@@ -1,49 +1,28 @@
 //! `compare`: what one document permits more than another.
 
 ghost use Rattle.std.specs.Prelude.{IfErr, IfOk};
-ghost use Rattle.reading_commands.specs.Documents.{file_of, IsSource, WereCompared};
-ghost use Rattle.reading_commands.specs.DocumentFailures.{IsUncompared};
+ghost use Rattle.reading_commands.specs.Documents.{file_of, IsDocumentIn, WereCompared};
+ghost use Rattle.reading_commands.specs.DocumentFailures.{HasNoDocument, IsUncompared};
 
-use crate::named::file_of;
+use crate::document_bytes::document_bytes;
 use command_host::PassFiles;
-use profile_commands::{ComparedFault, compare_documents};
+use profile_commands::{ComparedFault, FileFault, compare_profiles, read_document};
+use profile_text::Document;
 use std::alloc::Global;
-use std::io;
-use std::io::{ErrorKind, Read};
-use streams::Counted;
 
-// A file, or what stands for one that can't be opened: a reader that fails.
-#[derive(Drop)]
-enum Source<T: Drop> {
-    Opened(T),
-    Unopened,
-}
-
-impl<T: Read + Drop> Read for Source<T> {
-    ghost use Rattle.reading_commands.specs.Documents.{source_bytes};
-
-    ghost remaining = { source_bytes T.remaining };
-
-    fn read(&mut self, buf: &mut [u8]) -> io::Result<usize> {
-        match self {
-            Source::Opened(file) => file.read(buf),
-            Source::Unopened => Err(io::Error::from(ErrorKind::NotFound)),
-        }
-    }
-}
-
-// The file that this word names, for reading.
-fn reader_at<F: PassFiles>(files: &F, word: &str) -> Source<F::File>
-    ensures { IsSource (F.opens files.now (file_of word.now)) result }
+// The document in the file that a word names.
+fn document_at<F: PassFiles>(files: &F, alloc: Global, word: &str) -> Result<Document, FileFault>
+    ensures document { IfOk result (λ document.
+        IsDocumentIn (F.opens files.now (file_of word.now)) F.File.remaining document.profile) }
+    ensures none { IfErr result (HasNoDocument (F.opens files.now (file_of word.now)) F.gives
+        F.File.remaining) }
 {
-    match files.open_at(file_of(word)) {
-        Ok(file) => Source::Opened(file),
-        Err(_) => Source::Unopened,
-    }
+    let bytes = document_bytes(files, alloc, word)?;
+    read_document(alloc, &bytes)
 }
 
 /// What the document in the file that `new` names permits more than that in the file that `base` names,
-/// a line for each finding.
+/// a line for each finding. BASE is read first, and NEW isn't where BASE is refused.
 pub(crate) fn compare_files<F: PassFiles>(
     files: &F,
     alloc: Global,
@@ -52,10 +31,17 @@ pub(crate) fn compare_files<F: PassFiles>(
 ) -> Result<String, ComparedFault>
     ensures compared { IfOk result (WereCompared (F.opens files.now) F.File.remaining
         base.now new.now) }
-    ensures failed { IfErr result (λ why. IsUncompared (F.opens files.now) F.File.remaining
-        base.now new.now why) }
+    ensures failed { IfErr result (IsUncompared (F.opens files.now) F.gives F.File.remaining
+        base.now new.now) }
 {
-    let mut base = Counted::new(reader_at(files, base));
-    let mut new = Counted::new(reader_at(files, new));
-    compare_documents(alloc, &mut base, &mut new)
+    let base = match document_at(files, alloc, base) {
+        Ok(document) => document,
+        Err(fault) => return Err(ComparedFault::of_base(fault)),
+    };
+    let new = match document_at(files, alloc, new) {
+        Ok(document) => document,
+        Err(fault) => return Err(ComparedFault::of_new(fault)),
+    };
+    let text = compare_profiles(alloc, &base.profile, &new.profile)?;
+    Ok(text)
 }

@@ -1,31 +1,30 @@
 //! The bytes of the two files of a database, and the office in a copy of them in memory.
 
-ghost use Rattle.std.specs.Prelude.{◌↔◌, ◌≡◌, ◌≢◌, ◌+◌, ◌≤◌, None, IfErr, IfOk, IfSome, IsTrue};
-ghost use Rattle.std.specs.Prelude.{option_copied};
+ghost use Rattle.std.specs.Prelude.{◌↔◌, ◌≡◌, ◌≢◌, ◌+◌, ◌≤◌, length, None, IfErr, IfOk, IfSome};
+ghost use Rattle.std.specs.Prelude.{IsTrue, OnOk, option_copied};
 ghost use Rattle.std.specs.Path.{path_buf_bytes};
 ghost use Rattle.sqlite.specs.Held.{state};
 ghost use Rattle.memory_database.specs.Copies.{over_copy, IsCopyOf};
 ghost use Rattle.office_store.specs.Shown.{IsIdle};
 ghost use Rattle.database_head.specs.Extents.{head_bytes, most_bytes};
-ghost use Rattle.reading_commands.specs.Copied.{extent_of, front_of, Gave, GaveLog, GaveNone};
+ghost use Rattle.reading_commands.specs.Copied.{extent_of, fault_of_read, front_of, Gave};
+ghost use Rattle.reading_commands.specs.Copied.{GaveLog, GaveNone};
 ghost use Rattle.reading_commands.specs.Copied.{HaveGiven, HaveGivenNone, IsCopiedOffice};
 ghost use Rattle.reading_commands.specs.Copied.{IsNoCopiedOffice, IsOfReading, IsUncopied};
+ghost use Rattle.reading_commands.specs.Reading.{HasReadOn};
 
 use crate::place::Place;
-use command_host::{CommandFault, Noted, PassFiles, fault_of_opening};
+use crate::reading::read_on;
+use command_host::{CommandFault, PassFiles, fault_of_opening};
 use database_head::{HEAD, MOST, database_extent, log_extent};
 use memory_database::{CopyStore, open_copy};
-use no_memory::NoMemory;
 use office_desk::Office;
 use profile_commands::FileFault;
 use review_policy::Fault;
 use sqlite::Connection;
 use std::alloc::Global;
-use std::io::{self, ErrorKind, Read};
-use streams::{Counted, Unread, read_up_to};
-
-// The most calls of read for the head of a file.
-const MOST_READS: u64 = 1 << 62;
+use std::io::ErrorKind;
+use streams::Unread;
 
 /// The bytes that the two files of a database gave.
 #[derive(Drop)]
@@ -46,51 +45,51 @@ fn extent_of(log: Option<&[u8]>, head: &[u8]) -> u64
     }
 }
 
-// Why a file gave no bytes, where reading it ended so.
-fn unread<F: PassFiles>(file: &Noted<'_, F>, met: Unread) -> CommandFault
-    ensures { IsOfReading F.gives result }
+// What is told of a file that wasn't read.
+fn fault_of_read(why: Unread) -> CommandFault
+    ensures { result ≡ fault_of_read why }
 {
-    match met {
+    match why {
+        Unread::Failed => CommandFault::Store(Fault::Disk),
+        Unread::TooManyReads => CommandFault::File(FileFault::Unread(Unread::TooManyReads)),
         Unread::NoMemory(witness) => CommandFault::Store(Fault::NoMemory(witness)),
-        Unread::Failed | Unread::TooManyReads => {
-            if file.has_failed() {
-                CommandFault::Store(Fault::Disk)
-            } else {
-                CommandFault::File(FileFault::Unread(Unread::TooManyReads))
-            }
-        }
     }
 }
 
-// How reading the rest of a file ended.
-fn unread_rest(error: &io::Error) -> Unread {
-    match error.kind() {
-        ErrorKind::OutOfMemory => Unread::NoMemory(NoMemory::told()),
-        _ => Unread::Failed,
+// Reads on in a file.
+fn read_part<F: PassFiles>(
+    files: &F,
+    file: &mut F::File,
+    bytes: &mut Vec<u8>,
+    most: usize,
+) -> Result<(), CommandFault>
+    requires { length bytes.old.items ≤ most }
+    ensures read { OnOk result (HasReadOn (F.File.remaining file.old) (F.File.remaining file.new)
+        bytes.old.items bytes.new.items most) }
+    ensures fault { IfErr result (IsOfReading F.gives) }
+{
+    match read_on(files, file, bytes, most) {
+        Ok(()) => Ok(()),
+        Err(why) => Err(fault_of_read(why)),
     }
 }
 
 // The front of a file that was opened, as far as it says itself: a log, or a database beside one.
 fn front_in<F: PassFiles>(
+    files: &F,
     alloc: Global,
-    file: Noted<'_, F>,
+    file: &mut F::File,
     log: Option<&[u8]>,
 ) -> Result<Vec<u8>, CommandFault>
-    ensures bytes { IfOk result (λ bytes. IfSome (F.File.remaining file.entry.file)
+    ensures bytes { IfOk result (λ bytes. IfSome (F.File.remaining file.old)
         (λ all. bytes.items ≡ front_of (option_copied log.entry) all)) }
     ensures fault { IfErr result (IsOfReading F.gives) }
 {
-    let mut counted = Counted::new(file);
-    let mut bytes = match read_up_to(alloc, &mut counted, HEAD, MOST_READS) {
-        Ok(bytes) => bytes,
-        Err(met) => return Err(unread(&counted.into_inner(), met)),
-    };
-    let rest = extent_of(log, &bytes) - HEAD as u64;
-    let mut file = counted.into_inner().take(rest);
-    match file.read_to_end(&mut bytes) {
-        Ok(_) => Ok(bytes),
-        Err(error) => Err(unread(&file.into_inner(), unread_rest(&error))),
-    }
+    let mut bytes = Vec::new(alloc);
+    read_part(files, file, &mut bytes, HEAD)?;
+    let most = extent_of(log, &bytes) as usize;
+    read_part(files, file, &mut bytes, most)?;
+    Ok(bytes)
 }
 
 // The same of the file at a path, where it isn't longer than what is read of one.
@@ -105,14 +104,14 @@ fn front_at<F: PassFiles>(
     ensures none { IfErr result (GaveNone (F.opens files.now path.now) F.gives F.File.remaining
         (option_copied log.entry)) }
 {
-    let file = match files.open_at(path) {
+    let mut file = match files.open_at(path) {
         Ok(file) => file,
         Err(error) if error.kind() == ErrorKind::NotFound => {
             return Err(CommandFault::Store(Fault::NotAnOffice));
         }
         Err(_) => return Err(CommandFault::Store(Fault::Disk)),
     };
-    let bytes = front_in(alloc, Noted::new(files, file), log)?;
+    let bytes = front_in(files, alloc, &mut file, log)?;
     if bytes.len() > MOST {
         return Err(CommandFault::TooLarge);
     }

@@ -4,6 +4,7 @@
 
 mod compare;
 mod copied;
+mod document_bytes;
 mod documents;
 mod evidence;
 mod history;
@@ -11,6 +12,7 @@ mod moment;
 mod name;
 mod named;
 mod place;
+mod reading;
 mod verify;
 
 pub use documents::{run_check, run_compare, run_execve};

@@ -18,8 +18,6 @@ returns-clause-done g c =
 
 pub returns-in_err-print-clause-failed : goal.returns-in_err-print-clause-failed
 returns-in_err-print-clause-failed g c =
-    let read = c.in_ok-text.ensures.compared in
     failed_by _ _ c.in_err-print.field-0.0 c.from_residual-in_err-print.ensures.1
     (compare_cut (g.F.PassFiles.opens c.args.files.now) g.F.PassFiles.gives g.F.File.Read.remaining g.O.Write.contents c.args.output.now c.print.new.output
-    c.in_err-print.field-0.0 c.args.base.now c.args.new.now read.0 read.1 c.in_ok-text.text _
-    read.2 read.3 read.4 c.as_str.ensures.value c.in_err-print.ensures.fault)
+    c.args.base.now c.args.new.now c.in_err-print.field-0.0 c.in_ok-text.text _ c.in_ok-text.ensures.compared c.as_str.ensures.value c.in_err-print.ensures.fault)
