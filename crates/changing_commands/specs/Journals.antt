@@ -56,10 +56,13 @@ is_marked mark = not (mark == 0)
 abbrev pub IsRemoved : (Result ⊤ Error → Type 0) → Type 0
 IsRemoved Removed = (told : Result ⊤ Error) × Removed told
 
--- a log has just the line of a founding
+-- the line of a founding
+abbrev pub line_of : Founding → List ℕ
+line_of founding = text_of (happened (founding_event founding))
+
+-- a log has just that
 abbrev pub HasLine : {L : Type 0} (f : DiskGhosts L) → Founding → SealedLog L f → Type 0
-HasLine f founding log = IsTrue (f.is_clean log.disk)
-    → bodies_of f log ≡ text_of (happened (founding_event founding)) ∷ []
+HasLine f founding log = IsTrue (f.is_clean log.disk) → bodies_of f log ≡ line_of founding ∷ []
 
 -- A file was made, of which this is known, and then has just the line of a founding, which a crash
 -- leaves, since the log is open. It is the journal of the history that is just this founding.
@@ -72,14 +75,12 @@ pub record IsBegunBy {L : Type 0} (f : DiskGhosts L) (Created : Result L NoFile 
   pub line : HasLine f founding log
   pub says : IsTrue (f.is_clean log.disk) → Says (bodies_of f log) (history_of founding)
 
--- no file was made; or one was, and was removed since the line couldn't be written; or there was no
--- memory for the line
+-- no file was made; or one was, and was removed since the line couldn't be written
 abbrev pub IsUnbegun : {L : Type 0} (Created : Result L NoFile → Type 0)
     (Removed : Result ⊤ Error → Type 0) → CommandFault → Type 0
 IsUnbegun {L} Created Removed why =
     ((e : NoFile) × Created (Err e) × (why ≡ file_fault e))
     ⊎ ((why ≡ fault.Journal) × ((made : L) × Created (Ok made)) × IsRemoved Removed)
-    ⊎ (why ≡ fault.NoMemory witness)
 
 -- an office with the journal that was begun for it
 abbrev pub begun_with : {S L : Type 0} {f : DiskGhosts L} → Held S → SealedLog L f
@@ -131,12 +132,13 @@ module _ {S L : Type 0} (g : Ghosts S) (f : DiskGhosts L) (Created : Result L No
     abbrev pub IsUnfoundedBehind : Founding → CommandFault → Type 0
     IsUnfoundedBehind founding why = IsUnbegun Created Removed why ⊎ IsUnfoundedThen founding why
 
-    -- words describe no founding; or they describe one, by which no office was founded and closed with
-    -- a journal
+    -- words describe no founding; or they describe one, and there was no memory for its line, or no
+    -- office was founded by it and closed with a journal
     abbrev pub IsUnfoundedWith : Described → CommandFault → Type 0
     IsUnfoundedWith described why =
         IsUndescribed described why
-        ⊎ ((founding : Founding) × (described ≡ Ok founding) × IsUnfoundedBehind founding why)
+        ⊎ ((founding : Founding) × (described ≡ Ok founding)
+        × ((why ≡ fault.NoMemory witness) ⊎ IsUnfoundedBehind founding why))
 
 module _ {S L : Type 0} (g : Ghosts S) (f : DiskGhosts L)
     (Found : Result L NoFile → Type 0) where

@@ -5,10 +5,10 @@ ghost use Rattle.std.specs.Prelude.{string_bytes};
 ghost use Rattle.sealed_log.specs.Log.{bodies_of};
 ghost use Rattle.sealed_log.specs.Sealed.{IsBody};
 ghost use Rattle.journal.specs.Forms.{HasForms};
-ghost use Rattle.journal.specs.Lines.{happened, text_of};
 ghost use Rattle.office_policy.specs.Formed.{IsDigest, IsWord};
 ghost use Rattle.changing_commands.specs.Foundings.{founding_event};
-ghost use Rattle.changing_commands.specs.Journals.{IsBegunBy, IsUnbegun};
+ghost use Rattle.changing_commands.specs.Journals.{line_of, IsBegunBy, IsUnbegun};
+ghost use Rattle.no_memory.specs.Witness.{witness};
 
 use crate::founding::Founding;
 use cap_sets::Caps;
@@ -53,8 +53,7 @@ fn read_forms(founding: &Founding)
 
 // The text of a founding.
 fn founding_text(alloc: Global, founding: &Founding) -> Result<String, AllocError>
-    ensures { IfOk result (λ text. string_bytes text
-        ≡ text_of (happened (founding_event founding.now))) }
+    ensures { IfOk result (λ text. string_bytes text ≡ line_of founding.now) }
 {
     let event = Event::Founded {
         user: founding.name.clone()?,
@@ -63,6 +62,21 @@ fn founding_text(alloc: Global, founding: &Founding) -> Result<String, AllocErro
         listed: founding.listed,
     };
     text(alloc, &Line::Event(event))
+}
+
+/// The line of a founding in a journal, which is made before any file is.
+///
+/// # Errors
+///
+/// `NoMemory`.
+pub(crate) fn founding_line(alloc: Global, founding: &Founding) -> Result<String, CommandFault>
+    ensures line { IfOk result (λ line. string_bytes line ≡ line_of founding.now) }
+    ensures memory { IfErr result (λ why. why ≡ CommandFault.NoMemory witness) }
+{
+    match founding_text(alloc, founding) {
+        Ok(line) => Ok(line),
+        Err(refused) => Err(CommandFault::NoMemory(refused.into())),
+    }
 }
 
 // Puts a body into a file in which nothing is sealed.
@@ -87,28 +101,27 @@ fn put_first<D: Disk + Drop>(alloc: Global, file: D, body: &[u8]) -> Result<Seal
 /// # Errors
 ///
 /// `JournalThere` where something is at the path, and that is left as it is; `Journal` where no
-/// file can be made or written, and `NoMemory`. A file that was made is then removed.
+/// file can be made, `NoMemory` where there was none for that, and `Journal` where it can't be
+/// written: it is removed then.
 pub(crate) fn begin_journal<J: Journals>(
     journals: &J,
     alloc: Global,
     path: &str,
     founding: &Founding,
+    line: &str,
 ) -> Result<SealedLog<J::File>, CommandFault>
+    requires { line.now ≡ line_of founding.now }
     ensures begun { IfOk result (IsBegunBy J.File.Disk (J.creates journals.now path.now)
         founding.now) }
     ensures unbegun { IfErr result (IsUnbegun (J.creates journals.now path.now)
         (J.removes journals.now path.now)) }
 {
     read_forms(founding);
-    let text = match founding_text(alloc, founding) {
-        Ok(text) => text,
-        Err(refused) => return Err(CommandFault::NoMemory(refused.into())),
-    };
     let file = match journals.create(path) {
         Ok(file) => file,
         Err(why) => return Err(fault_of(why)),
     };
-    match put_first(alloc, file, text.as_str().as_bytes()) {
+    match put_first(alloc, file, line.as_bytes()) {
         Ok(log) => Ok(log),
         Err(_) => {
             // That it wasn't written is reported, and not whether it was removed.

@@ -10,9 +10,9 @@ ghost use Rattle.changing_commands.specs.Foundings.{founding_of_words, IsFounded
 ghost use Rattle.changing_commands.specs.Foundings.{IsNotFounded, IsUndescribed, IsUnfounded};
 ghost use Rattle.changing_commands.specs.Foundings.{IsUnfoundedAs, WasFounded};
 ghost use Rattle.changing_commands.specs.Journals.{HasLine, IsUnfoundedBehind, WasFoundedBehind};
-ghost use Rattle.changing_commands.specs.Journals.{begun_with};
+ghost use Rattle.changing_commands.specs.Journals.{begun_with, line_of};
 
-use crate::begun::begin_journal;
+use crate::begun::{begin_journal, founding_line};
 use crate::founding::{Founding, founding_of};
 use crate::kept::{Kept, close_kept};
 use command_host::{CommandFault, Databases, Host, Journals, Outside, close, open};
@@ -129,14 +129,16 @@ fn found_behind<S: Alter + Drop, D: Databases<Database = Connection<S>>, J: Jour
     path: &str,
     journal: &str,
     founding: &Founding,
+    line: &str,
 ) -> Result<(), CommandFault>
+    requires { line.now ≡ line_of founding.now }
     ensures founded { OnOk result (WasFoundedBehind S.Store J.File.Disk
         (J.creates journals.now journal.now) (D.opened path.now) D.closed founding.now) }
     ensures failed { IfErr result (IsUnfoundedBehind S.Store J.File.Disk
         (J.creates journals.now journal.now) (J.removes journals.now journal.now)
         D.Databases path.now founding.now) }
 {
-    let log = begin_journal(journals, alloc, journal, founding)?;
+    let log = begin_journal(journals, alloc, journal, founding, line)?;
     match founded_behind(databases, path, founding, log) {
         Ok(kept) => close_kept(databases, alloc, kept, true),
         Err(fault) => {
@@ -162,7 +164,19 @@ pub fn found_at<H: Host>(
     let founding = founding_in(alloc, words)?;
     let path = words.database;
     match words.journal {
-        Some(file) => found_behind(host.databases, host.journals, alloc, path, file, &founding),
+        Some(file) => {
+            let line = founding_line(alloc, &founding)?;
+            let (databases, journals) = (host.databases, host.journals);
+            found_behind(
+                databases,
+                journals,
+                alloc,
+                path,
+                file,
+                &founding,
+                line.as_str(),
+            )
+        }
         None => found_and_close(host.databases, path, &founding),
     }
 }
