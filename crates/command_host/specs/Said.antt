@@ -5,6 +5,7 @@ use Rattle.desk_http.specs.Lines.{IsCut, IsWhole}
 use Rattle.command_host.specs.FaultTexts.{command_fault_text}
 use Rattle.command_host.specs.Plain.{plain, plain_lines}
 use Rattle.command_host.specs.declared.fault.CommandFault.{CommandFault}
+use Rattle.no_memory.specs.declared.witness.NoMemory.{«NoMemory» as Want}
 
 -- why a command was refused or failed, and behind that the path of a file that couldn't be read
 abbrev pub refusal_text : CommandFault → (unread : Option (List ℕ)) → List ℕ
@@ -29,12 +30,15 @@ module _ {E : Type 0} (contents : E → Option (List ℕ)) (old new : Counted E)
   abbrev pub IsSaid : List ℕ → Type 0
   IsSaid text = IsWhole contents old new text ⊎ IsCut contents old new text
 
-  -- what was said is lines, of which no character but their ends controls a terminal; or in place of that, that
-  -- there is no memory
-  abbrev pub AreSaid : List ℕ → Type 0
-  AreSaid lines = IsSaid (plain_lines lines) ⊎ IsSaid memory_line
+  -- a text was said; or in place of it, by a want of memory, that there is none
+  abbrev pub IsSaidOr : List ℕ → Option Want → Type 0
+  IsSaidOr text None = IsSaid text
+  IsSaidOr text (Some want) = IsSaid memory_line
 
-  -- what was said is why a command was refused or failed, and at which path a file couldn't be read; or
-  -- in place of that, that there is no memory
-  abbrev pub IsRefusal : CommandFault → (unread : Option (List ℕ)) → Type 0
-  IsRefusal why unread = IsSaid (refusal_line why unread) ⊎ IsSaid memory_line
+  -- what was said is lines, of which no character but their ends controls a terminal
+  abbrev pub AreSaid : List ℕ → Option Want → Type 0
+  AreSaid lines want = IsSaidOr (plain_lines lines) want
+
+  -- what was said is why a command was refused or failed, and at which path a file couldn't be read
+  abbrev pub IsRefusal : CommandFault → (unread : Option (List ℕ)) → Option Want → Type 0
+  IsRefusal why unread want = IsSaidOr (refusal_line why unread) want

@@ -1,12 +1,14 @@
 //! What is printed on standard output, and said on standard error.
 
-ghost use Rattle.std.specs.Prelude.{◌≡◌, IfErr, IfOk, OnOk, option_copied, string_bytes};
+ghost use Rattle.std.specs.Prelude.{◌≡◌, IfErr, IfOk, None, OnOk, Some, option_copied, string_bytes};
 ghost use Rattle.desk_http.specs.Lines.{IsCut, IsWhole};
-ghost use Rattle.command_host.specs.Said.{refusal_line, refusal_text, seal_line, AreSaid};
-ghost use Rattle.command_host.specs.Said.{IsRefusal, IsSaid};
+ghost use Rattle.command_host.specs.Said.{memory_line, refusal_line, refusal_text, seal_line};
+ghost use Rattle.command_host.specs.Said.{AreSaid, IsRefusal, IsSaid};
+ghost use Rattle.no_memory.specs.Witness.{witness};
 
 use crate::fault::CommandFault;
 use crate::plain::{plain_lines, plain_text};
+use no_memory::NoMemory;
 use std::alloc::{AllocError, Global};
 use std::io::Write;
 use streams::{Counted, write_whole};
@@ -51,15 +53,32 @@ pub fn say<E: Write>(errors: &mut Counted<E>, text: &str)
     let _ = write_whole(errors, text.as_bytes());
 }
 
-/// Says a text of lines, of which no character but their ends controls a terminal; or in its place that
-/// there is no memory.
-pub fn say_lines<E: Write>(alloc: Global, errors: &mut Counted<E>, text: &str)
-    ensures { AreSaid E.contents errors.old errors.new text.now }
+// Says a text; or in its place that there is no memory, where none was left to make it. Then that is
+// handed on.
+fn say_or<E: Write>(errors: &mut Counted<E>, text: Result<String, AllocError>) -> Option<NoMemory>
+    ensures said { IfOk text (λ text. (result ≡ None)
+        × IsSaid E.contents errors.old errors.new (string_bytes text)) }
+    ensures unsaid { IfErr text (λ _. (result ≡ Some witness)
+        × IsSaid E.contents errors.old errors.new memory_line) }
 {
-    match plain_lines(alloc, text) {
-        Ok(lines) => say(errors, lines.as_str()),
-        Err(_) => say(errors, "office: memory\n"),
+    match text {
+        Ok(text) => {
+            say(errors, text.as_str());
+            None
+        }
+        Err(refused) => {
+            say(errors, "office: memory\n");
+            Some(refused.into())
+        }
     }
+}
+
+/// Says a text of lines, of which no character but their ends controls a terminal; or in its place that
+/// there is no memory, with the witness.
+pub fn say_lines<E: Write>(alloc: Global, errors: &mut Counted<E>, text: &str) -> Option<NoMemory>
+    ensures { AreSaid E.contents errors.old errors.new text.now result }
+{
+    say_or(errors, plain_lines(alloc, text))
 }
 
 // Why a command was refused or failed, and behind that the path of a file that couldn't be read.
@@ -93,17 +112,16 @@ fn refusal_line(
 }
 
 /// Says why a command was refused or failed; and at which path a file couldn't be read, where it is
-/// that. No character but the line feed at the end controls a terminal.
+/// that. No character but the line feed at the end controls a terminal. Or it says in place of that
+/// that there is no memory, with the witness.
 pub fn refuse<E: Write>(
     alloc: Global,
     errors: &mut Counted<E>,
     fault: &CommandFault,
     unread: Option<&str>,
-)
-    ensures { IsRefusal E.contents errors.old errors.new fault.now (option_copied unread.entry) }
+) -> Option<NoMemory>
+    ensures { IsRefusal E.contents errors.old errors.new fault.now (option_copied unread.entry)
+        result }
 {
-    match refusal_line(alloc, fault, unread) {
-        Ok(line) => say(errors, line.as_str()),
-        Err(_) => say(errors, "office: memory\n"),
-    }
+    say_or(errors, refusal_line(alloc, fault, unread))
 }

@@ -1,5 +1,5 @@
 -- What was done by a command, by the words that it was.
-use Rattle.std.proofs.Common.{◌≡◌, ℕ, List, Bool, true, false, Option, Result, Ok, Err, inl, inr, subst, sym}
+use Rattle.std.proofs.Common.{◌≡◌, ℕ, List, Bool, true, false, Option, Some, Result, Ok, Err, ◌∙◌, ap, inl, inr, subst, sym}
 use Rattle.std.specs.Prelude.{IfErr, IfOk, MatchResult}
 use Rattle.command_line.specs.declared.command.Command.{Command}
 use Rattle.command_line.specs.declared.command.Command.TheVariants as command
@@ -7,7 +7,9 @@ use Rattle.streams.specs.declared.counted.Counted.{Counted}
 use Rattle.command_host.specs.Known.{Known}
 use Rattle.command_host.specs.Said.{IsRefusal}
 use Rattle.command_host.specs.declared.fault.CommandFault.{CommandFault}
-use Rattle.office_commands.specs.Commands.{failed_status, HasEnded, HasRun, IfSet}
+use Rattle.office_commands.specs.Commands.{ended_well, failed_status, HasEnded, HasRun, IfSet}
+use Rattle.office_commands.specs.declared.ended.Ended.{Ended}
+use Rattle.no_memory.specs.declared.witness.NoMemory.{«NoMemory» as Want}
 use Rattle.office_commands.specs.Failing.{HasFailed}
 use Rattle.office_commands.specs.Notes.{HasNoted}
 use Rattle.office_commands.specs.Unread.{unread_by}
@@ -33,18 +35,22 @@ module _ {S D F L N O : Type 0} (k : Known S D F L N) (contents : O → Option (
 
 module _ {E : Type 0} (said_of : E → Option (List ℕ)) (errors said : Counted E) where
   -- what was said of a fault was said of whatever is the same fault
-  pub refusal_as : (why other : CommandFault) (unread : Option (List ℕ)) → why ≡ other → IsRefusal said_of errors said why unread → IsRefusal said_of errors said other unread
-  refusal_as why other unread same refusal = subst (λ (w : CommandFault). IsRefusal said_of errors said w unread) same refusal
+  pub refusal_as : (why other : CommandFault) (unread : Option (List ℕ)) (want : Option Want) → why ≡ other → IsRefusal said_of errors said why unread want
+      → IsRefusal said_of errors said other unread want
+  refusal_as why other unread want same refusal = subst (λ (w : CommandFault). IsRefusal said_of errors said w unread want) same refusal
 
 -- of what was noted before a command ended
 module _ {E : Type 0} (said_of : E → Option (List ℕ)) (noted said : Counted E) where
   -- how it ended is how the program does
-  pub has_ended : (asked : Command) (NotesWell Notes : Counted E → Type 0) (Run : ℕ → Type 0) (Fails : CommandFault → Type 0) (ended : Result ℕ CommandFault) (status : ℕ)
-      → IfOk ended (λ it. NotesWell noted) → Notes noted → IfOk ended Run → IfErr ended Fails
-      → MatchResult ended (λ s. (status ≡ s) × (said ≡ noted)) (λ why. (status ≡ failed_status asked) × IsRefusal said_of noted said why (unread_by asked why))
-      → HasEnded said_of said asked NotesWell Notes Run Fails status
-  has_ended asked NotesWell Notes Run Fails (Ok s) status well notes run fails how = inl (subst Run (sym how.0) run, subst NotesWell (sym how.1) well)
-  has_ended asked NotesWell Notes Run Fails (Err why) status well notes run fails how = inr (why, fails, how.0, (noted, notes, how.1))
+  pub has_ended : (asked : Command) (NotesWell Notes : Counted E → Type 0) (Run : ℕ → Type 0) (Fails : CommandFault → Type 0) (came : Result ℕ CommandFault) (ended : Ended)
+      → IfOk came (λ it. NotesWell noted) → Notes noted → IfOk came Run → IfErr came Fails
+      → MatchResult came (λ s. (ended ≡ ended_well s) × (said ≡ noted))
+      (λ why. (ended.status ≡ failed_status asked) × (ended.why ≡ Some why) × IsRefusal said_of noted said why (unread_by asked why) ended.witness)
+      → HasEnded said_of said asked NotesWell Notes Run Fails ended
+  has_ended asked NotesWell Notes Run Fails (Ok s) ended well notes run fails how =
+      let status : ended.status ≡ s = ap (λ e. e.status) how.0 in
+      inl (subst Run (sym status) run, subst NotesWell (sym how.1) well, how.0 ∙ ap ended_well (sym status))
+  has_ended asked NotesWell Notes Run Fails (Err why) ended well notes run fails how = inr (why, how.1, fails, how.0, (noted, notes, how.2))
 
 -- what is known of a result, by what is known of it otherwise
 pub ok_as : {A E : Type 0} (P Q : A → Type 0) (result : Result A E) → ((a : A) → P a → Q a) → IfOk result P → IfOk result Q

@@ -8,6 +8,7 @@ use Rattle.command_host.specs.declared.fault.CommandFault.{CommandFault}
 use Rattle.office_commands.specs.Commands.{HasRun, HasRunWords}
 use Rattle.office_commands.specs.Failing.{HasFailed}
 use Rattle.office_commands.specs.Notes.{HasNotedAll, HasNotedAllWell}
+use Rattle.office_commands.specs.declared.ended.Ended.{Ended}
 use Rattle.office_commands.specs.SameFiles.{FailsApart, WasApart}
 
 -- over input that was to come and what of it is left, an output, and of what this is known that the
@@ -26,9 +27,9 @@ module _ {S D F L N O : Type 0} (k : Known S D F L N) (contents : O → Option (
 
   -- words were carried out, with what was said on standard error
   abbrev pub HasCarriedOut : {E : Type 0} (said_of : E → Option (List ℕ)) (errors said : Counted E)
-      → List (String Global) → ℕ → Type 0
-  HasCarriedOut said_of errors said words status =
+      → List (String Global) → Ended → Type 0
+  HasCarriedOut said_of errors said words ended =
       HasRunWords said_of errors said contents output wrote
       (λ asked noted. HasNotedAllWell k said_of errors noted asked)
       (λ asked noted. HasNotedAll k said_of errors noted asked)
-      HasRunApart HasFailedApart words status
+      HasRunApart HasFailedApart words ended

@@ -1,6 +1,6 @@
 -- What each command has done, by the outcome: what it printed of which bytes, what it said on
 -- standard error, and the status that it ended with.
-use Rattle.std.specs.Prelude.{◌≡◌, ◌⊎◌, ℕ, List, Option, None, Ok}
+use Rattle.std.specs.Prelude.{◌≡◌, ◌⊎◌, ℕ, List, Option, Some, None, Ok}
 use Rattle.std.specs.Prelude.{String, Bool, true, false, codes, string_bytes}
 use Rattle.std.specs.declared.alloc.Global.{Global}
 use Rattle.command_line.specs.Words.{AskFor, AskForNone}
@@ -25,12 +25,17 @@ use Rattle.reading_commands.specs.Documents.{HasChecked, HasCompared, HasExecute
 use Rattle.reading_commands.specs.Reports.{HasProved, WasToldAt}
 use Rattle.reading_commands.specs.Verifications.{HasVerified}
 use Rattle.office_commands.specs.Unread.{unread_by}
+use Rattle.office_commands.specs.declared.ended.Ended.{Ended}
 use Rattle.no_memory.specs.Witness.{witness}
 
 -- a fact holds where a flag is set
 abbrev pub IfSet : Bool → Type 0 → Type 0
 IfSet true Holds = Holds
 IfSet false Holds = Unit {0}
+
+-- it ended with this status, and nothing was to be said
+abbrev pub ended_well : ℕ → Ended
+ended_well status = record { status = status; why = None; witness = None }
 
 -- the status of a command that was refused or failed
 abbrev pub failed_status : Command → ℕ
@@ -79,41 +84,46 @@ module _ {S D F L N O : Type 0} (k : Known S D F L N) (contents : O → Option (
 
 -- what was said on standard error at the end
 module _ {E : Type 0} (said_of : E → Option (List ℕ)) (said : Counted E) where
-  -- A command ended with this status: well, as this says, with nothing said but what it noted; or it
-  -- was refused or failed, as that says, and then why was said, and which file couldn't be read.
+  -- A command ended so: well, as this says, with nothing said but what it noted; or it was refused or
+  -- failed, as that says, and then why was said, and which file couldn't be read.
   abbrev pub HasEnded : Command → (NotesWell Notes : Counted E → Type 0) → (Run : ℕ → Type 0)
-      → (Fails : CommandFault → Type 0) → ℕ → Type 0
-  HasEnded asked NotesWell Notes Run Fails status =
-      (Run status × NotesWell said)
-      ⊎ ((why : CommandFault) × Fails why × (status ≡ failed_status asked)
-      × ((noted : Counted E) × Notes noted × IsRefusal said_of noted said why (unread_by asked why)))
+      → (Fails : CommandFault → Type 0) → Ended → Type 0
+  HasEnded asked NotesWell Notes Run Fails ended =
+      (Run ended.status × NotesWell said × (ended ≡ ended_well ended.status))
+      ⊎ ((why : CommandFault) × (ended.why ≡ Some why) × Fails why
+      × (ended.status ≡ failed_status asked)
+      × ((noted : Counted E) × Notes noted
+      × IsRefusal said_of noted said why (unread_by asked why) ended.witness))
 
 -- what was said there
 module _ {E : Type 0} (said_of : E → Option (List ℕ)) (errors said : Counted E) where
   module _ {O : Type 0} (contents : O → Option (List ℕ)) (output wrote : Counted O) where
     -- a text was printed, with nothing said; or it couldn't be printed whole, which was said
-    abbrev pub IsPrinted : List ℕ → ℕ → Type 0
-    IsPrinted text status =
-        (IsWhole contents output wrote text × (said ≡ errors) × (status ≡ 0))
-        ⊎ (IsCut contents output wrote text × IsRefusal said_of errors said fault.Write None
-        × (status ≡ 1))
+    abbrev pub IsPrinted : List ℕ → Ended → Type 0
+    IsPrinted text ended =
+        (IsWhole contents output wrote text × (said ≡ errors) × (ended ≡ ended_well 0))
+        ⊎ (IsCut contents output wrote text × (ended.why ≡ Some fault.Write)
+        × IsRefusal said_of errors said fault.Write None ended.witness × (ended.status ≡ 1))
 
     -- Why words ask for no command was told: help and the version are printed, and a refusal is
     -- said.
-    abbrev pub HasTold : WordsFault → ℕ → Type 0
-    HasTold (Help text) status = IsPrinted (string_bytes text) status
-    HasTold (Version text) status = IsPrinted (string_bytes text) status
-    HasTold (Refused text) status =
-        (wrote ≡ output) × AreSaid said_of errors said (string_bytes text) × (status ≡ 2)
-    HasTold (NoMemory _) status =
-        (wrote ≡ output) × IsRefusal said_of errors said (fault.NoMemory witness) None × (status ≡ 1)
+    abbrev pub HasTold : WordsFault → Ended → Type 0
+    HasTold (Help text) ended = IsPrinted (string_bytes text) ended
+    HasTold (Version text) ended = IsPrinted (string_bytes text) ended
+    HasTold (Refused text) ended =
+        (wrote ≡ output) × AreSaid said_of errors said (string_bytes text) ended.witness
+        × (ended.status ≡ 2) × (ended.why ≡ None)
+    HasTold (NoMemory _) ended =
+        (wrote ≡ output) × (ended.why ≡ Some (fault.NoMemory witness))
+        × IsRefusal said_of errors said (fault.NoMemory witness) None ended.witness
+        × (ended.status ≡ 1)
 
     -- Words were carried out: the command that they ask for, with the first noted and this done where it
     -- ended well, and the second noted and that done where it failed, or why they ask for none was told.
     abbrev pub HasRunWords : (NotesWell Notes : Command → Counted E → Type 0)
         → (Run : Command → ℕ → Type 0) → (Fails : Command → CommandFault → Type 0)
-        → List (String Global) → ℕ → Type 0
-    HasRunWords NotesWell Notes Run Fails words status =
+        → List (String Global) → Ended → Type 0
+    HasRunWords NotesWell Notes Run Fails words ended =
         ((asked : Command) × AskFor words asked
-        × HasEnded said_of said asked (NotesWell asked) (Notes asked) (Run asked) (Fails asked) status)
-        ⊎ ((why : WordsFault) × AskForNone words why × HasTold why status)
+        × HasEnded said_of said asked (NotesWell asked) (Notes asked) (Run asked) (Fails asked) ended)
+        ⊎ ((why : WordsFault) × AskForNone words why × HasTold why ended)

@@ -4,6 +4,7 @@ ghost use Rattle.office_commands.specs.Apart.{HasCarriedOut};
 ghost use Rattle.office_commands.specs.Hosts.{known_here, known_of, unknown};
 ghost use Rattle.streams.specs.CallsLeft.{HasCallsLeft, HasFaultsLeft};
 
+use crate::ended::Ended;
 use crate::run::run_words;
 use command_host::{
     Databases, HostFiles, HostJournals, HostName, Journals, Network, PassFiles, UnknownFiles,
@@ -38,7 +39,7 @@ pub fn run_over<
     input: &mut Counted<I>,
     output: &mut Counted<O>,
     errors: &mut Counted<E>,
-) -> u8
+) -> Ended
     requires reads { HasCallsLeft input.old }
     requires writes { HasFaultsLeft output.old }
     ensures { HasCarriedOut
@@ -62,7 +63,7 @@ fn run_with<F: PassFiles, T: Start + Copy, U: Start + Copy, I: Read, O: Write, E
     input: &mut Counted<I>,
     output: &mut Counted<O>,
     errors: &mut Counted<E>,
-) -> u8
+) -> Ended
     requires reads { HasCallsLeft input.old }
     requires writes { HasFaultsLeft output.old }
     ensures { HasCarriedOut
@@ -96,7 +97,7 @@ pub fn run_here<F: PassFiles, I: Read, O: Write, E: Write>(
     input: &mut Counted<I>,
     output: &mut Counted<O>,
     errors: &mut Counted<E>,
-) -> u8
+) -> Ended
     requires reads { HasCallsLeft input.old }
     requires writes { HasFaultsLeft output.old }
     ensures { HasCarriedOut

@@ -2,10 +2,12 @@
 //! ends with.
 #![tactic(auto)]
 
+mod ended;
 mod host;
 mod run;
 mod same_file;
 mod unread;
 
+pub use ended::Ended;
 pub use host::{run_here, run_over};
 pub use run::run_words;

@@ -1,11 +1,11 @@
 //! The commands of the program.
 
-ghost use Rattle.std.specs.Prelude.{◌≡◌, IfErr, IfOk, MatchResult};
+ghost use Rattle.std.specs.Prelude.{◌≡◌, IfErr, IfOk, MatchResult, Some, option_copied};
 ghost use Rattle.command_host.specs.Outside.{known};
 ghost use Rattle.command_host.specs.Said.{IsRefusal};
 ghost use Rattle.office_commands.specs.Apart.{HasCarriedOut, HasFailedApart, HasRunApart};
-ghost use Rattle.office_commands.specs.Commands.{failed_status, HasRun, HasTold, HasVerifiedAll};
-ghost use Rattle.office_commands.specs.Commands.{IsPrinted};
+ghost use Rattle.office_commands.specs.Commands.{ended_well, failed_status, HasRun, HasTold};
+ghost use Rattle.office_commands.specs.Commands.{HasVerifiedAll, IsPrinted};
 ghost use Rattle.office_commands.specs.Failing.{FailsToVerifyAll, HasFailed};
 ghost use Rattle.office_commands.specs.Notes.{goes_without, is_without, HasNoted, HasNotedAll};
 ghost use Rattle.office_commands.specs.Notes.{HasNotedAllWell, HasNotedWell, WarnsIf};
@@ -13,6 +13,7 @@ ghost use Rattle.office_commands.specs.Unread.{unread_by};
 ghost use Rattle.reading_commands.specs.Moments.{HasCompared, MayHaveNoted};
 ghost use Rattle.streams.specs.CallsLeft.{HasCallsLeft, HasFaultsLeft};
 
+use crate::ended::Ended;
 use crate::same_file::see_apart;
 use crate::unread::unread_by;
 use changing_commands::{
@@ -184,22 +185,41 @@ fn run_apart<H: Host, I: Read, O: Write, E: Write>(
     run(host, alloc, command, input, output, errors)
 }
 
+// Says why a command was refused or failed, or a text wasn't printed; and at which path a file couldn't
+// be read, where it is that. The program ends with this status then.
+fn ended_by<E: Write>(
+    alloc: Global,
+    errors: &mut Counted<E>,
+    status: u8,
+    why: CommandFault,
+    unread: Option<&str>,
+) -> Ended
+    ensures status { result.status ≡ status }
+    ensures why { result.why ≡ Some why }
+    ensures said { IsRefusal E.contents errors.old errors.new why (option_copied unread.entry)
+        result.witness }
+{
+    let witness = refuse(alloc, errors, &why, unread);
+    Ended {
+        status,
+        why: Some(why),
+        witness,
+    }
+}
+
 // Prints a text, or says that it couldn't be printed.
 fn print_or_refuse<O: Write, E: Write>(
     alloc: Global,
     text: &str,
     output: &mut Counted<O>,
     errors: &mut Counted<E>,
-) -> u8
+) -> Ended
     ensures { IsPrinted E.contents errors.old errors.new O.contents output.old output.new
         text.now result }
 {
     match print(output, text) {
-        Ok(()) => 0,
-        Err(fault) => {
-            refuse(alloc, errors, &fault, None);
-            1
-        }
+        Ok(()) => Ended::well(0),
+        Err(fault) => ended_by(alloc, errors, 1, fault, None),
     }
 }
 
@@ -210,42 +230,43 @@ fn tell<O: Write, E: Write>(
     fault: &WordsFault,
     output: &mut Counted<O>,
     errors: &mut Counted<E>,
-) -> u8
+) -> Ended
     ensures { HasTold E.contents errors.old errors.new O.contents output.old output.new
         fault.now result }
 {
     match fault {
         WordsFault::Help(text) => print_or_refuse(alloc, text.as_str(), output, errors),
         WordsFault::Version(text) => print_or_refuse(alloc, text.as_str(), output, errors),
-        WordsFault::Refused(text) => {
-            say_lines(alloc, errors, text.as_str());
-            2
-        }
+        WordsFault::Refused(text) => Ended {
+            status: 2,
+            why: None,
+            witness: say_lines(alloc, errors, text.as_str()),
+        },
         WordsFault::NoMemory(witness) => {
-            refuse(alloc, errors, &CommandFault::NoMemory(*witness), None);
-            1
+            ended_by(alloc, errors, 1, CommandFault::NoMemory(*witness), None)
         }
     }
 }
 
-// The status that the program ends with. Where a command was refused or failed, that is said, with the
-// word for a file that couldn't be read.
-fn status_of<E: Write>(
+// How the program ends. Where a command was refused or failed, that is said, with the word for a file
+// that couldn't be read.
+fn ended_of<E: Write>(
     alloc: Global,
     errors: &mut Counted<E>,
     command: &Command<'_>,
-    ended: Result<u8, CommandFault>,
-) -> u8
-    ensures { MatchResult ended
-        (λ status. (result ≡ status) × (errors.new ≡ errors.old))
-        (λ why. (result ≡ failed_status command.now)
-        × IsRefusal E.contents errors.old errors.new why (unread_by command.now why)) }
+    came: Result<u8, CommandFault>,
+) -> Ended
+    ensures { MatchResult came
+        (λ status. (result ≡ ended_well status) × (errors.new ≡ errors.old))
+        (λ why. (result.status ≡ failed_status command.now) × (result.why ≡ Some why)
+        × IsRefusal E.contents errors.old errors.new why (unread_by command.now why)
+        result.witness) }
 {
-    match ended {
-        Ok(status) => status,
+    match came {
+        Ok(status) => Ended::well(status),
         Err(fault) => {
-            refuse(alloc, errors, &fault, unread_by(command, &fault));
-            failed_status(command)
+            let unread = unread_by(command, &fault);
+            ended_by(alloc, errors, failed_status(command), fault, unread)
         }
     }
 }
@@ -253,7 +274,7 @@ fn status_of<E: Write>(
 /// Carries out what the words of a command line ask for, the first of them being the program's
 /// name. Gives the status that the program ends with: 0, or 1 where the command was refused or
 /// failed, or 2 where the words were refused. That of `compare` is 1 where it printed findings, and
-/// 2 where it was refused or failed.
+/// 2 where it was refused or failed. It gives too why that was so.
 pub fn run_words<H: Host, I: Read, O: Write, E: Write>(
     host: &Outside<'_, H>,
     alloc: Global,
@@ -261,7 +282,7 @@ pub fn run_words<H: Host, I: Read, O: Write, E: Write>(
     input: &mut Counted<I>,
     output: &mut Counted<O>,
     errors: &mut Counted<E>,
-) -> u8
+) -> Ended
     requires reads { HasCallsLeft input.old }
     requires writes { HasFaultsLeft output.old }
     ensures { HasCarriedOut (known host.now) O.contents
@@ -270,8 +291,8 @@ pub fn run_words<H: Host, I: Read, O: Write, E: Write>(
 {
     match read_words(alloc, words) {
         Ok(command) => {
-            let ended = run_apart(host, alloc, &command, input, output, errors);
-            status_of(alloc, errors, &command, ended)
+            let came = run_apart(host, alloc, &command, input, output, errors);
+            ended_of(alloc, errors, &command, came)
         }
         Err(fault) => tell(alloc, &fault, output, errors),
     }

@@ -68,14 +68,15 @@ fn run_with<'r>(
     let apart = KeptApart::new(io::writer(rt), meter, rt.stdout().is_terminal());
     let output = Noting::new(apart, gone);
     let errors = Quiet::new(rt.stderr(), gone, asks_for_text(words));
-    run_here(
+    let ended = run_here(
         rt,
         &files,
         words,
         &mut Counted::new(rt.reader()),
         &mut Counted::new(output),
         &mut Counted::new(errors),
-    )
+    );
+    ended.status
 }
 
 // Carries the words out, and notes meanwhile how far reading is and whether the reader of what is printed has gone.

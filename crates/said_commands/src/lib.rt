@@ -39,7 +39,7 @@ fn run_line<S: Alter + Drop, D: Databases<Database = Connection<S>>, N: Network,
     }
     let mut errors = Counted::new(Vec::new(alloc));
     let journals = HostJournals::new(rt, UnknownFiles);
-    let status = run_over(
+    let ended = run_over(
         databases,
         rt,
         &journals,
@@ -50,7 +50,7 @@ fn run_line<S: Alter + Drop, D: Databases<Database = Connection<S>>, N: Network,
         &mut Counted::new(output),
         &mut errors,
     );
-    Ok((status, errors.into_inner()))
+    Ok((ended.status, errors.into_inner()))
 }
 
 /// Carries a command line out, whose words spaces part, over real files, databases and sockets. Gives the status that it ends with, and its

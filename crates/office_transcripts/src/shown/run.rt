@@ -19,7 +19,7 @@ fn words_of(alloc: Global, line: &str) -> Result<Vec<String>, AllocError> {
 pub fn say_line(rt: &HostRuntime, line: &str, input: &[u8], said: &mut Vec<u8>) -> Result<u8> {
     let words = words_of(rt.alloc(), line)?;
     let mut errors = Counted::new(Vec::new(rt.alloc()));
-    let status = run_here(
+    let ended = run_here(
         rt,
         rt,
         &words,
@@ -28,5 +28,5 @@ pub fn say_line(rt: &HostRuntime, line: &str, input: &[u8], said: &mut Vec<u8>) 
         &mut errors,
     );
     said.extend_from_slice(&errors.into_inner())?;
-    Ok(status)
+    Ok(ended.status)
 }

@@ -11,8 +11,8 @@ returns-in-Ok g c =
       c.in-Ok.ensures.command,
       has_ended g.E.Write.contents _ _ c.in-Ok.command
           (λ noted. HasNotedAllWell (known c.args.host.now) g.E.Write.contents c.args.errors.now noted c.in-Ok.command)
-          _ _ _ c.run_apart-ended.result _
-          c.run_apart-ended.ensures.noted_well c.run_apart-ended.ensures.noted c.run_apart-ended.ensures.done c.run_apart-ended.ensures.failed c.status_of.ensures,
+          _ _ _ c.run_apart-came.result _
+          c.run_apart-came.ensures.noted_well c.run_apart-came.ensures.noted c.run_apart-came.ensures.done c.run_apart-came.ensures.failed c.ended_of.ensures,
     )
 
 pub returns-in-Err : goal.returns-in-Err
