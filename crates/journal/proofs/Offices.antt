@@ -1,5 +1,5 @@
 -- An office with a journal, where the office alone was asked.
-use Rattle.std.proofs.Common.{inl, inr, ◌≡◌, ◌∙◌, ◌≤◌, ◌+◌, ◌∷◌, [], ℕ, List, true, false, Some, None, IsTrue, refl, sym, ap, subst, arith, length, append-nil}
+use Rattle.std.proofs.Common.{inl, inr, ◌≡◌, ◌∙◌, ◌≤◌, ◌+◌, ◌∷◌, [], ℕ, true, false, Some, None, IsTrue, refl, sym, ap, subst, arith, length, append-nil}
 use Rattle.std.proofs.lemmas.Bool.{and_parts}
 use Rattle.review_policy.specs.declared.ask.Ask.{Ask}
 use Rattle.review_policy.specs.declared.ask.Request.{Request}
@@ -13,7 +13,7 @@ use Rattle.office_policy.specs.Runs.{event_of, history_after, with_event}
 use Rattle.office_policy.specs.Meaning.{Meaning, no_entry}
 use Rattle.office_policy.specs.Handled.{HasCause, HasRisen, HasStrayOf, IsFault, IsHandled, AddsBy, IsMet, LeavesUndone, RefusesEvent, Stands, Survives, UnlessChanged, UnlessFaulty}
 use Rattle.office_policy.specs.Judging.{IsAnswered, LeavesAll}
-use Rattle.office_policy.proofs.SurvivalFacts.{closes_all, survives_none}
+use Rattle.office_policy.proofs.SurvivalFacts.{closes_all}
 use Rattle.journal.specs.Journal.{Says}
 use Rattle.journal.specs.declared.journaled.Journaled.{Journaled}
 use Rattle.journal.specs.Journals.{Adds, Grows, HasAsStray, IsOf, goes_on, is_clean, journaled, struck_none, with_office}

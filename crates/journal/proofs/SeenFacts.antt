@@ -1,8 +1,8 @@
 -- The seal of the first so many lines, as they are taken.
-use Rattle.std.proofs.Common.{inl, inr, ◌≡◌, ◌∙◌, ◌≤◌, ◌<◌, ◌+◌, ℕ, List, [], ◌∷◌, ◌++◌, Bool, true, false, Option, Some, None, IfSome, Ok, length, take, refl, sym, ap, subst, arith, append_assoc, append-nil, length-append}
+use Rattle.std.proofs.Common.{inl, inr, ◌≡◌, ◌∙◌, ◌≤◌, ◌<◌, ◌+◌, ℕ, List, [], ◌∷◌, ◌++◌, Bool, true, false, Option, Some, None, IfSome, Ok, length, take, sym, ap, subst, arith, append_assoc, append-nil, length-append}
 use Rattle.std.proofs.lemmas.Bool.{cases_eq}
 use Rattle.std.proofs.lemmas.List.{take-append-le, take_all}
-use Rattle.std.proofs.lemmas.List.Elements.{All-nil, All-push}
+use Rattle.std.proofs.lemmas.List.Elements.{All-push}
 use Rattle.sealed_log.specs.Input.{IsBodyOf, ReadsBody}
 use Rattle.sealed_log.specs.Sealed.{IsBody, no_seal, seal_of, seal_on, sealed_line, sealed_text}
 use Rattle.sealed_log.specs.Told.{told}
@@ -11,7 +11,7 @@ use Rattle.sealed_log.proofs.ToldFacts.{told_text}
 use Rattle.office_policy.specs.History.{Event}
 use Rattle.journal.specs.declared.seal_at.SealAt.{SealAt}
 use Rattle.journal.specs.SealsAt.{Finds, IsFound, IsSealAsked, IsSealAt, IsSeen, Sees}
-use Rattle.journal.specs.Told.{Ends, Place, start}
+use Rattle.journal.specs.Told.{Ends, Place}
 
 -- the seal that is kept of one line more
 kept_more : (bodies : List (List ℕ)) (body : List ℕ) (old new : SealAt) (taken : ℕ) (seal : List ℕ) → taken ≡ length bodies + 1 → seal ≡ seal_of (bodies ++ body ∷ [])
