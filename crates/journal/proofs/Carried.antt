@@ -260,8 +260,8 @@ module _ {O J : Type 0} (m : Meaning O) (w : Writing J) (x : Journaled O J) (goe
 
       cause : is_clean m w unwritten → (h : History) → IsOf m w h x → (f : TheFault) → IsMet w x.journal j f → HasCause (journaled m w) x unwritten h r (Fault f)
       cause clean h of (faults.NoMemory _) met = inl (kept_still clean, left_unwritten clean h of)
-      cause clean h of faults.Disk met = λ stood. inl (risen (met is_open))
-      cause clean h of faults.Full met = inl (risen met)
+      cause clean h of faults.Disk met = λ stood. inl (risen (w.risen x.journal j faults.Disk (met is_open)))
+      cause clean h of faults.Full met = inl (risen (w.risen x.journal j faults.Full met))
       cause clean h of faults.NotAnOffice met = met
 
       pub not_appended : IsHandled (journaled m w) x unwritten r (Fault fault)

@@ -81,6 +81,7 @@ module _ {O J : Type 0} (m : Meaning O) (w : Writing J) (x : Journaled O J) wher
     survives = survives_none (journaled m w) x;
     of = λ h of. of;
     settled = λ goes. (goes, settled goes);
+    asked = tt;
     bodies = λ clean goes. inl refl;
     failed = tt;
     cause = tt;
@@ -90,12 +91,13 @@ module _ {O J : Type 0} (m : Meaning O) (w : Writing J) (x : Journaled O J) wher
   pub none_last : None ≡ unsettled w x → IsSettled m w x x (Ok tt)
   none_last none = unchanged (λ goes. is_not_last w x none)
 
-  pub no_text : IsSettled m w x x (Err (faults.NoMemory witness))
-  no_text = record {
+  pub no_text : IsTrue (goes_on m w x) → x.is_settled ≡ false → IsSettled m w x x (Err (faults.NoMemory witness))
+  no_text goes unsaid = record {
     office = refl;
     survives = survives_none (journaled m w) x;
     of = λ h of. of;
     settled = tt;
+    asked = (goes, unsaid);
     bodies = λ clean goes. inl refl;
     failed = λ clean goes. refl;
     cause = λ clean. tt;
@@ -188,6 +190,7 @@ module _ {O J : Type 0} (m : Meaning O) (w : Writing J) (x : Journaled O J) wher
           survives = survives j x.is_settled (Err fault) appended (λ clean on. record { more = []; is = same clean on ∙ sym (append-nil (w.bodies x.journal)) });
           of = still;
           settled = tt;
+          asked = (goes, last.unsaid);
           bodies = λ clean on. inl (same clean on);
           failed = same;
           cause = λ clean. appended.written.1 clean;
@@ -208,6 +211,7 @@ module _ {O J : Type 0} (m : Meaning O) (w : Writing J) (x : Journaled O J) wher
           survives = survives j true (Ok tt) appended (λ clean on. record { more = body ∷ []; is = appended.written.1 clean });
           of = still;
           settled = λ on. (and_from (w.is_open j) _ appended.written.0 has_room, inl refl);
+          asked = tt;
           bodies = λ clean on. inr (with_body (appended.clean clean) (w.bodies j) (appended.written.1 clean));
           failed = tt;
           cause = tt;

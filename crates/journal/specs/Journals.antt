@@ -3,7 +3,7 @@ use Rattle.std.proofs.Common.{◌≡◌, ◌⊎◌, inl, inr, ◌∙◌, ◌+◌
 use Rattle.std.proofs.Common.{Bool, true, false, not, length, flat_map, if◌then◌else◌, IsTrue, ap}
 use Rattle.std.proofs.lemmas.Bool.{and_parts, false≢true}
 use Rattle.std.proofs.Common.{refl, sym, subst, append-nil, append_assoc, ◌==◌, Option, Some, None}
-use Rattle.std.specs.Prelude.{Result, Err, ⊤, IfErr, OnOk}
+use Rattle.std.specs.Prelude.{Result, Err, ⊤, IfErr, OnErr, OnOk}
 use Rattle.std.proofs.lemmas.Grind.{flat_map-append}
 use Rattle.review_policy.specs.declared.ask.Request.{Request}
 use Rattle.review_policy.specs.declared.answer.Answer.{Answer}
@@ -314,12 +314,14 @@ module _ {O J : Type 0} (m : Meaning O) (w : Writing J) where
     -- can be counted
     pub settled : OnOk result (IsTrue (goes_on old) → IsTrue (goes_on new)
         × ((new.is_settled ≡ true) ⊎ (2 ^ 64 - 1 ≤ w.lines old.journal)))
+    -- a fault is told only where the journal goes on and no line says what became of its last event
+    pub asked : OnErr result (IsTrue (goes_on old) × (old.is_settled ≡ false))
     -- the journal has what it had, or one line more; after a fault one that goes on has what it had
     pub bodies : w.is_clean new.journal → IsTrue (goes_on new)
         → HasSettled (w.bodies old.journal) (w.bodies new.journal)
     pub failed : IfErr result (λ fault. w.is_clean new.journal → IsTrue (goes_on new)
         → w.bodies new.journal ≡ w.bodies old.journal)
-    -- a fault has a cause
+    -- it is that of the call that failed, or `memory`
     pub cause : IfErr result (λ fault. w.is_clean new.journal
         → IsMet w old.journal new.journal fault)
     -- a crash leaves what it could leave before, or the journal with that line or a part of it

@@ -19,6 +19,8 @@ pub record Writing (X : Type 0) : Type 1 where
   pub lines : X → ℕ
   -- how many calls failed, up to the greatest u64
   pub faults : X → ℕ
+  -- a call between the two failed, and this is its fault
+  pub fails : X → X → Fault → Type 0
   -- what a crash may leave of its file
   pub may_leave : X → List ℕ → Type 0
   -- of an open one those are just its bodies, sealed
@@ -27,6 +29,9 @@ pub record Writing (X : Type 0) : Type 1 where
   -- the lines of an open one are as many as its bodies, up to the greatest u64
   pub counted : (x : X) → is_clean x → IsTrue (is_open x)
       → lines x ≡ min (length (bodies x)) (2 ^ 64 - 1)
+  -- each call that failed is one of so many
+  pub risen : (old new : X) (fault : Fault) → fails old new fault
+      → HasRisen (faults old) (faults new)
 
 -- the bodies, sealed, and behind them what may be left of the line of one more and of those that go
 -- before it, whatever that is
@@ -35,11 +40,12 @@ IsLeftIn bodies settling body left =
     HasTail (sealed_text bodies) (length (sealed_with (seal_of bodies) settling body)) left
 
 module _ {X : Type 0} (w : Writing X) where
-  -- a fault other than `memory` was met, or it is `disk` and the value was shut before
+  -- a fault other than `memory` is that of a call between the two which failed, or it is `disk` and the
+  -- value was shut before
   abbrev pub IsMet : (old new : X) → Fault → Type 0
   IsMet old new (faults.NoMemory _) = Unit {0}
-  IsMet old new faults.Disk = IsTrue (w.is_open old) → HasRisen (w.faults old) (w.faults new)
-  IsMet old new faults.Full = HasRisen (w.faults old) (w.faults new)
+  IsMet old new faults.Disk = IsTrue (w.is_open old) → w.fails old new faults.Disk
+  IsMet old new faults.Full = w.fails old new faults.Full
   IsMet old new faults.NotAnOffice = ⊥
 
   -- the body is there, behind those that go before it; or there was a fault, and what is still open

@@ -1,6 +1,6 @@
 use Rattle.std.proofs.Common.{rules, ◌≡◌, ◌∙◌, Err, sym, subst}
 use Rattle.sealed_log.specs.Sealed.{IsBody}
-use Rattle.journal.proofs.Settling.{is_last, none_last, not_written, written}
+use Rattle.journal.proofs.Settling.{is_last, no_text, none_last, not_written, written}
 use Rattle.journal.proofs.journaled.Journaled.settle.Goals as goal
 
 pub append-requires : goal.append-requires
@@ -9,6 +9,11 @@ append-requires g c =
 
 pub returns-in_default : goal.returns-in_default
 returns-in_default g c = none_last g.O.Handler.meaning g.J.Journal.writing c.args.self.now (sym c.in_default.is ∙ c.unsettled.ensures)
+
+pub returns-in-Err : goal.returns-in-Err
+returns-in-Err g c =
+    let last = is_last g.J.Journal.writing c.args.self.now c.in-Some.of (sym c.in-Some.is ∙ c.unsettled.ensures) in
+    no_text g.O.Handler.meaning g.J.Journal.writing c.args.self.now (sym c.goes_on.ensures ∙ c.if-not-goes_on.false) last.unsaid
 
 pub returns-in_err-append : goal.returns-in_err-append
 returns-in_err-append g c =
