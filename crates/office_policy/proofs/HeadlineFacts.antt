@@ -4,6 +4,7 @@ use Rattle.std.specs.Prelude.{filter, option_map}
 use Rattle.std.specs.List.{list_any}
 use Rattle.profile_text.specs.Digest.{digest_of}
 use Rattle.review_policy.specs.declared.ask.ProfileName.{ProfileName}
+use Rattle.review_policy.specs.declared.ask.Ask.TheVariants as ask
 use Rattle.review_policy.specs.declared.ask.Request.{Request}
 use Rattle.review_policy.specs.declared.answer.Answer.{Answer}
 use Rattle.review_policy.specs.declared.answer.Answer.TheVariants.{Done}
@@ -16,15 +17,16 @@ use Rattle.office_policy.specs.History.{Event, issued, History}
 use Rattle.office_policy.specs.Users.{user_of}
 use Rattle.office_policy.specs.Revisions.{Submission, issues, submission_of}
 use Rattle.office_policy.specs.Votes.{CastVote, vote_of, kept_vote, standing_at, voters_of, passes, approvals, secure_approvals}
-use Rattle.office_policy.specs.Verdict.{accepted, verdict}
+use Rattle.office_policy.specs.Verdict.{Verdict, accepted, verdict}
 use Rattle.office_policy.specs.Runs.{IsAnswer}
 use Rattle.office_policy.specs.Lawful.{IsLawfulHistory}
-use Rattle.office_policy.specs.Headline.{HasSecurity, IsApproved, IsOfApproved, WasApproved, GivesOutApproved}
+use Rattle.office_policy.specs.Headline.{HasSecurity, IsApproved, IsOfApproved, WasApproved, NamesApproved, GivesOutApproved}
+use Rattle.office_policy.specs.Duty.{without_text}
 use Rattle.office_policy.proofs.StateFacts.{both, same_profile}
 use Rattle.office_policy.proofs.Histories.{submissions_kept}
-use Rattle.office_policy.proofs.GivenOut.{fetched_text, issued_digest}
+use Rattle.office_policy.proofs.GivenOut.{fetched_text, issued_digest, told_as_fetched}
 use Rattle.office_policy.proofs.AnswerFacts.{accepted_is}
-use Rattle.office_policy.proofs.ReplyFacts.{caller_in, replied_to}
+use Rattle.office_policy.proofs.ReplyFacts.{IsAskingIssued, caller_in, replied_to}
 use Rattle.office_policy.proofs.LawFacts.{event_follows}
 use Rattle.office_policy.proofs.DutyFacts.{in_filter, IsIssue, issue_of, others_at, texts_at, enough_at}
 
@@ -199,6 +201,29 @@ issued_approved h r digest e lawful is =
       approved = approved h caller p n given.submission (record { lawful = lawful; allowed = follows }) given.submitted;
     }
 
+pub named_approved : (h : History) (r : Request) (digest : List ℕ) (n : ℕ) (e : Option Event)
+    → IsLawfulHistory h → verdict h r ≡ accepted (reply.IssuedNow digest n) e → NamesApproved h r.ask digest n
+named_approved h r digest n e lawful is =
+    by_fetch (verdict h fetch) refl (sym (told_as_fetched h r.token p) ∙ sym (ap (λ a. verdict h (record { token = r.token; ask = a })) asked.asked) ∙ is)
+  where
+    asked : IsAskingIssued r.ask
+    asked = replied_to h r (reply.IssuedNow digest n) e is
+
+    p : ProfileName
+    p = asked.profile
+
+    fetch : Request
+    fetch = record { token = r.token; ask = ask.Fetch p }
+
+    by_fetch : (v : Verdict) → verdict h fetch ≡ v → without_text v ≡ accepted (reply.IssuedNow digest n) e → NamesApproved h r.ask digest n
+    by_fetch (accepted (reply.Fetched d text m) f) found told =
+        let same : accepted (reply.Fetched d text m) f ≡ accepted (reply.Fetched digest text n) f = cc in
+        record { profile = p; asked = asked.asked; text = text; was_approved = fetched_approved h fetch digest text n f lawful (found ∙ same) }
+    by_fetch v found told =
+        let it = replied_to h fetch (reply.IssuedNow digest n) e (found ∙ told) in
+        let never : ask.Fetch p ≡ ask.Issued it.profile = it.asked in
+        absurd cc
+
 -- what an answer of the verdict gives out was approved
 pub given_out_approved : (h : History) (r : Request) (told : Answer) → IsLawfulHistory h → IsAnswer h r told → GivesOutApproved h r told
 given_out_approved h r (Done (reply.Issued digest)) lawful is =
@@ -207,4 +232,7 @@ given_out_approved h r (Done (reply.Issued digest)) lawful is =
 given_out_approved h r (Done (reply.Fetched digest text n)) lawful is =
     let it = accepted_is h r (reply.Fetched digest text n) is in
     fetched_approved h r digest text n it.0 lawful it.1
+given_out_approved h r (Done (reply.IssuedNow digest n)) lawful is =
+    let it = accepted_is h r (reply.IssuedNow digest n) is in
+    named_approved h r digest n it.0 lawful it.1
 given_out_approved h r told lawful is = tt

@@ -34,11 +34,17 @@ pub record IsFetching (a : Ask) : Type 0 where
   pub profile : ProfileName
   pub asked : a ≡ ask.Fetch profile
 
+-- which revision is issued is asked for
+pub record IsAskingIssued (a : Ask) : Type 0 where
+  pub profile : ProfileName
+  pub asked : a ≡ ask.Issued profile
+
 -- a reply that speaks of a text is to the request that asks for it
 abbrev pub IsReplyTo : History → (caller : List ℕ) → Ask → Reply → Option Event → Type 0
 IsReplyTo h caller a (reply.Submitted digest n) e = IsSubmission h caller a digest n e
 IsReplyTo h caller a (reply.Issued digest) e = IsIssuing caller a e
 IsReplyTo h caller a (reply.Fetched digest text n) e = IsFetching a
+IsReplyTo h caller a (reply.IssuedNow digest n) e = IsAskingIssued a
 IsReplyTo h caller a reply e = Unit {0}
 
 abbrev Fits : History → List ℕ → Ask → Verdict → Type 0
@@ -69,7 +75,7 @@ done_fits h caller (ask.Release p) = tt
 done_fits h caller ask.Me = of_user_by (Fits h (name_of caller) ask.Me) caller (λ u. accepted (reply.Me u.name u.team u.roles) None) tt (λ u. tt)
 done_fits h caller (ask.Revisions p before) = tt
 done_fits h caller (ask.Issued p) =
-    of_revision_by (Fits h (name_of caller) (ask.Issued p)) (issued_revision h p) (λ r. accepted (reply.IssuedNow r.digest r.number) None) tt (λ r. tt)
+    of_revision_by (Fits h (name_of caller) (ask.Issued p)) (issued_revision h p) (λ r. accepted (reply.IssuedNow r.digest r.number) None) tt (λ r. record { profile = p; asked = refl })
 
 -- who shows the token of a request
 abbrev pub caller_in : History → Request → List ℕ

@@ -73,8 +73,17 @@ pub record WasApproved (h : History) (a : Ask) (digest text : List ℕ) (n : ℕ
   pub issue : h ≡ since ++ issued issuer profile n ∷ before
   pub approved : IsApproved before issuer profile n text
 
+-- what was asked for is which revision is issued, and its digest is that of a text that was
+-- approved, on the events before an earlier issue of the revision
+pub record NamesApproved (h : History) (a : Ask) (digest : List ℕ) (n : ℕ) : Type 0 where
+  pub profile : ProfileName
+  pub asked : a ≡ ask.Issued profile
+  pub text : List ℕ
+  pub was_approved : WasApproved h (ask.Fetch profile) digest text n
+
 -- what an answer gives out was approved
 abbrev pub GivesOutApproved : History → Request → Answer → Type 0
 GivesOutApproved h r (Done (reply.Issued digest)) = IsOfApproved h r digest
 GivesOutApproved h r (Done (reply.Fetched digest text n)) = WasApproved h r.ask digest text n
+GivesOutApproved h r (Done (reply.IssuedNow digest n)) = NamesApproved h r.ask digest n
 GivesOutApproved h r answer = Unit {0}

@@ -8,12 +8,11 @@ ghost use Rattle.review_policy.specs.declared.answer.Answer.TheVariants.{Done};
 ghost use Rattle.review_policy.specs.declared.answer.Reply.TheVariants as reply;
 ghost use Rattle.office_policy.specs.Examples.{ann, iss, issues, submits, text, web};
 ghost use Rattle.office_policy.specs.Headline.{GivesOutApproved};
-ghost use Rattle.office_policy.specs.History.{History};
 ghost use Rattle.office_policy.specs.Users.{name_of, user_showing};
 ghost use Rattle.example_tests.specs.Examples.{approved, founding};
 
-/// The text that is fetched, and that of which the digest is issued, was approved, by its digest
-/// and enough; which revision is issued now tells no text.
+/// The text that is fetched, and that of which the digest is issued or told, was approved, by its
+/// digest and enough.
 pub fn examples_of_what_is_given_out()
     ensures fetched { (token : List ℕ)
         → GivesOutApproved (issues 1 ∷ approved) (record { token = token; ask = ask.Fetch web })
@@ -21,8 +20,14 @@ pub fn examples_of_what_is_given_out()
     ensures issued { (token : List ℕ) → name_of (user_showing approved (digest_of token)) ≡ iss
         → GivesOutApproved approved (record { token = token; ask = ask.Issue web 1 })
         (Done (reply.Issued (digest_of text))) }
-    ensures issued_now { (h : History) (r : Request) (digest : List ℕ) (n : ℕ)
-        → GivesOutApproved h r (Done (reply.IssuedNow digest n)) }
+    ensures issued_now { (token : List ℕ)
+        → GivesOutApproved (issues 1 ∷ approved) (record { token = token; ask = ask.Issued web })
+        (Done (reply.IssuedNow (digest_of text) 1)) }
+    ensures issued_now_of_nothing { (r : Request) (digest : List ℕ) (n : ℕ)
+        → GivesOutApproved founding r (Done (reply.IssuedNow digest n)) → ⊥ }
+    ensures issued_now_unasked { (token digest : List ℕ) (n : ℕ) → GivesOutApproved
+        (issues 1 ∷ approved) (record { token = token; ask = ask.Fetch web })
+        (Done (reply.IssuedNow digest n)) → ⊥ }
     ensures issued_by_its_author { (token : List ℕ)
         → name_of (user_showing approved (digest_of token)) ≡ ann
         → GivesOutApproved approved (record { token = token; ask = ask.Issue web 1 })

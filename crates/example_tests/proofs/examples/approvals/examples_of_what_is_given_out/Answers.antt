@@ -12,7 +12,15 @@ pub returns-clause-issued : goal.returns-clause-issued
 returns-clause-issued c = λ token is. record { profile = web; number = 1; asked = refl; text = text; of_its_text = refl; approved = is_approved _ is }
 
 pub returns-clause-issued_now : goal.returns-clause-issued_now
-returns-clause-issued_now c = λ h r digest n. tt
+returns-clause-issued_now c = λ token. record { profile = web; asked = refl; text = text; was_approved = was_approved }
+
+pub returns-clause-issued_now_of_nothing : goal.returns-clause-issued_now_of_nothing
+returns-clause-issued_now_of_nothing c = λ r digest n told.
+    let fetch = told.was_approved in
+    never_issued fetch.since fetch.before fetch.issuer fetch.profile n fetch.issue
+
+pub returns-clause-issued_now_unasked : goal.returns-clause-issued_now_unasked
+returns-clause-issued_now_unasked c = λ token digest n told. let k : ask.Fetch web ≡ ask.Issued told.profile = told.asked in cc
 
 pub returns-clause-issued_by_its_author : goal.returns-clause-issued_by_its_author
 returns-clause-issued_by_its_author c = λ token is issue. by_no_author _ issue.profile issue.number is issue.asked issue.approved.issuer_no_author
