@@ -1,5 +1,5 @@
 -- Looking whether tables show the newest events of a journal.
-use Rattle.std.proofs.Common.{inl, inr, ◌≡◌, ◌≤◌, ◌⊎◌, Bool, true, false, Option, Some, None, Result, Ok, Err, refl, sym, subst, arith, ◌∙◌}
+use Rattle.std.proofs.Common.{inl, inr, ◌≡◌, ◌≤◌, ◌⊎◌, true, false, Option, Some, None, Result, Ok, Err, sym, subst, arith}
 use Rattle.std.specs.Prelude.{⊤, Box, is_some}
 use Rattle.std.specs.declared.alloc.Global.{Global}
 use Rattle.review_policy.specs.declared.fault.Fault.{Fault}
@@ -13,7 +13,7 @@ use Rattle.office_policy.specs.ShowsEvent.{Shows}
 use Rattle.office_policy.specs.TablesOf.{tables_of}
 use Rattle.office_policy.specs.declared.event.Event as values
 use Rattle.office_policy.proofs.SurvivalFacts.{closes_by_fault, survives_on}
-use Rattle.office_desk.specs.Looking.{HasLooked, IsMetBetween, TellsWhether}
+use Rattle.office_desk.specs.Looking.{IsMetBetween}
 use Rattle.journal.specs.Kept.{with_stood}
 use Rattle.journal.specs.declared.writers.Writers.{Writers as TheWriters}
 use Rattle.journal.specs.Writers.{ShowsIf, ShowsOne, ShowsWriters, Writers, boxed_meant, with_writer, writers_meant}

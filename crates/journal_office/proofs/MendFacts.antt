@@ -1,16 +1,19 @@
 -- What becomes of a journal that a crash left, by what the tables show of it.
-use Rattle.std.proofs.Common.{◌≡◌, ◌≢◌, ◌∙◌, ◌⊎◌, ℕ, ◌+◌, ◌≤◌, ◌<◌, List, [], ◌∷◌, ◌++◌, Bool, true, false, Option, Some, None, Result, Ok, Err, IfErr, IsTrue, length, refl, sym, ap, subst, arith, inl, inr, length-append}
+use Rattle.std.proofs.Common.{◌≡◌, ◌≢◌, ◌∙◌, ◌⊎◌, ℕ, ◌≤◌, ◌<◌, List, [], ◌∷◌, ◌++◌, Bool, true, false, Option, Some, None, Result, Ok, Err, IfErr, IsTrue, length, refl, sym, ap, subst, arith, inl, inr, length-append}
 use Rattle.std.specs.Prelude.{OnOk, IsErrAnd}
+use Rattle.std.proofs.lemmas.Bool.{cases_Bool, false≢true}
 use Rattle.std.proofs.lemmas.List.{length-map}
 use Rattle.sqlite_disk.specs.declared.Disk.{Ghosts}
 use Rattle.sealed_log.specs.Disks.{LeavesTail}
+use Rattle.sealed_log.specs.Faults.{IsLater, IsMetBetween, IsOfCall, is_full}
 use Rattle.sealed_log.specs.Log.{bodies_of}
 use Rattle.sealed_log.specs.Reading.{IsThrough}
 use Rattle.sealed_log.specs.Sealed.{longest, sealed_text}
 use Rattle.sealed_log.specs.Told.{HasMore, HasTail, told}
 use Rattle.sealed_log.specs.declared.log.SealedLog.{SealedLog}
 use Rattle.sealed_log.specs.declared.through.Through.{Through}
-use Rattle.sealed_log.proofs.LogFacts.{all_told, length-through, more_behind}
+use Rattle.sealed_log.proofs.FaultFacts.{failed_later}
+use Rattle.sealed_log.proofs.LogFacts.{all_told}
 use Rattle.sealed_log.proofs.ToldFacts.{told_text}
 use Rattle.sealed_log.specs.declared.fault.LogFault.{LogFault}
 use Rattle.sealed_log.specs.declared.fault.LogFault.TheVariants as logs
@@ -38,7 +41,7 @@ use Rattle.journal_office.specs.declared.mending.Last.{Last}
 use Rattle.journal_office.specs.declared.mending.Last.TheVariants as last
 use Rattle.journal_office.specs.declared.not_reopened.NotReopened.{NotReopened}
 use Rattle.journal_office.specs.declared.not_reopened.NotReopened.TheVariants.{Unsealed, NotALine, Changed, OtherJournal, Office, Log, NoMemory}
-use Rattle.journal_office.specs.Faults.{IsOutside, IsRefusal, line_fault, log_fault}
+use Rattle.journal_office.specs.Faults.{HasFileCause, IsOutside, IsRefusal, line_fault, log_fault}
 use Rattle.journal_office.specs.Mending.{Asks, HasOfficeCause, HasTablesOf, IsAnswer, IsLastOf, IsMended, IsOneMore, IsStruckOut, Mends, SaysNow, SaysOther, TellsOf}
 use Rattle.no_memory.specs.Witness.{witness}
 
@@ -160,6 +163,53 @@ outside_cause m old new (Office fault) outside = absurd outside
 outside_cause m old new Log outside = tt
 outside_cause m old new (NoMemory _) outside = tt
 
+module _ {D : Type 0} (g : Ghosts D) where
+  called : (old new : D) (met : LogFault) (why : NotReopened) → log_fault met ≡ why → IsOfCall g old new met → HasFileCause g old new why
+  called old new met Unsealed is call = tt
+  called old new met NotALine is call = tt
+  called old new met (Changed at) is call = tt
+  called old new met OtherJournal is call = tt
+  called old new met (Office fault) is call = tt
+  called old new met Log is call = inr (record { met = met; call = call; is = is })
+  called old new met (NoMemory _) is call = tt
+
+  pub by_met : (old new : D) (met : LogFault) → IsMetBetween g old new met → HasFileCause g old new (log_fault met)
+  by_met old new met (inl memory) = subst (λ fault. HasFileCause g old new (log_fault fault)) (sym memory) tt
+  by_met old new met (inr call) = called old new met (log_fault met) refl call
+
+  by_shut : (old new : D) (why : NotReopened) → g.is_usable old ≡ false → HasFileCause g old new why
+  by_shut old new Unsealed shut = tt
+  by_shut old new NotALine shut = tt
+  by_shut old new (Changed at) shut = tt
+  by_shut old new OtherJournal shut = tt
+  by_shut old new (Office fault) shut = tt
+  by_shut old new Log shut = inl shut
+  by_shut old new (NoMemory _) shut = tt
+
+  -- a call of the file failed, or there was no memory, or a sync had failed
+  pub by_file : (old new : D) (met : LogFault) → (IsTrue (g.is_usable old) → IsMetBetween g old new met) → HasFileCause g old new (log_fault met)
+  by_file old new met word = elim (cases_Bool (g.is_usable old)) [
+    | inl usable ↦ by_met old new met (word usable)
+    | inr shut ↦ by_shut old new (log_fault met) shut
+  ]
+
+  cause_later : (old mid new : D) (why : NotReopened) → IsLater g old mid → (g.is_usable mid ≡ false → g.is_usable old ≡ false) → HasFileCause g mid new why → HasFileCause g old new why
+  cause_later old mid new Unsealed counts shut cause = tt
+  cause_later old mid new NotALine counts shut cause = tt
+  cause_later old mid new (Changed at) counts shut cause = tt
+  cause_later old mid new OtherJournal counts shut cause = tt
+  cause_later old mid new (Office fault) counts shut cause = tt
+  cause_later old mid new Log counts shut (inl unusable) = inl (shut unusable)
+  cause_later old mid new Log counts shut (inr fails) =
+      inr (record { met = fails.met; call = failed_later g old mid new (is_full fails.met) counts fails.call; is = fails.is })
+  cause_later old mid new (NoMemory _) counts shut cause = tt
+
+  -- behind other calls
+  pub file_cause_later : {A : Type 0} (old mid new : D) (result : Result A NotReopened) → IsLater g old mid → (g.is_usable mid ≡ false → g.is_usable old ≡ false)
+      → IfErr result (HasFileCause g mid new) → IfErr result (HasFileCause g old new)
+  file_cause_later old mid new (Ok done) counts shut cause = tt
+  file_cause_later old mid new (Err why) counts shut cause = cause_later old mid new why counts shut cause
+
 -- a `?` that leaves with this fault
 pub left_with : {A : Type 0} (P : Result A NotReopened → Type 0) (r : Result A NotReopened) (why : NotReopened) → IsErrAnd r (λ e. e ≡ why) → P (Err why) → P r
 left_with P (Ok a) why is p = absurd is
@@ -195,13 +245,15 @@ module _ {X D : Type 0} (m : Meaning X) (g : Ghosts D) (mark : ℕ) where
   -- the file was read, and no more done
   pub record IsSeen (before after : SealedLog D g) : Type 0 where
     pub seen : g.seen after.disk ≡ g.seen before.disk
+    pub usable : g.is_usable after.disk ≡ g.is_usable before.disk
+    pub counts : IsLater g before.disk after.disk
     pub clean : IsTrue (g.is_clean after.disk) → IsTrue (g.is_clean before.disk)
     pub crash : (left : List ℕ) → g.may_leave after.disk left → g.may_leave before.disk left
 
   module _ (x : X) (before after : SealedLog D g) (read : IsSeen before after) where
     -- it can't be read
-    pub not_read : (why : NotReopened) → IsOutside why → Mends m g mark x x before after (Err why)
-    not_read why outside = record {
+    pub not_read : (why : NotReopened) → IsOutside why → (IsTrue (g.is_clean after.disk) → HasFileCause g before.disk after.disk why) → Mends m g mark x x before after (Err why)
+    not_read why outside word = record {
       leaves = left_itself m x;
       stands = λ h stands clean. tt;
       clean = read.clean;
@@ -219,6 +271,7 @@ module _ {X D : Type 0} (m : Meaning X) (g : Ghosts D) (mark : ℕ) where
       ours = λ clean h of is_clean. tt;
       untouched = λ refusal. read.seen;
       cause = λ h of clean. outside_cause m x x why outside;
+      word = word;
       crash = λ clean leaves left may. leaves left (read.crash left may);
     }
 
@@ -241,6 +294,7 @@ module _ {X D : Type 0} (m : Meaning X) (g : Ghosts D) (mark : ℕ) where
       ours = λ clean h of is_clean. tt;
       untouched = λ refusal. read.seen;
       cause = λ h of clean. tt;
+      word = λ clean. tt;
       crash = λ clean leaves left may. leaves left (read.crash left may);
     }
 
@@ -248,7 +302,7 @@ module _ {X D : Type 0} (m : Meaning X) (g : Ghosts D) (mark : ℕ) where
     pub no_journal : (fault : Faulty) → (IsTrue (g.is_clean after.disk) → IsFaulty (bodies_of g before) fault) → Mends m g mark x x before after (Err (line_fault fault))
     no_journal faulty.NotALine none = no_history none
     no_journal faulty.NoEventBefore none = no_history none
-    no_journal (faulty.NoMemory _) none = not_read (NoMemory witness) tt
+    no_journal (faulty.NoMemory _) none = not_read (NoMemory witness) tt (λ clean. tt)
 
     module _ (found : Through) (through : IsTrue (g.is_clean after.disk) → IsThrough (g.seen before.disk) found) where
       none_told : found.lines ≡ 0 → IsTrue (g.is_clean after.disk) → bodies_of g before ≡ []
@@ -274,6 +328,7 @@ module _ {X D : Type 0} (m : Meaning X) (g : Ghosts D) (mark : ℕ) where
         ours = λ clean h of is_clean. tt;
         untouched = λ refusal. read.seen;
         cause = λ h of clean. tt;
+        word = λ clean. tt;
         crash = λ clean leaves left may. leaves left (read.crash left may);
       }
 
@@ -297,6 +352,7 @@ module _ {X D : Type 0} (m : Meaning X) (g : Ghosts D) (mark : ℕ) where
         ours = λ clean h of is_clean. tt;
         untouched = λ refusal. read.seen;
         cause = λ h of clean. tt;
+        word = λ clean. tt;
         crash = λ clean leaves left may. leaves left (read.crash left may);
       }
 
@@ -324,6 +380,7 @@ module _ {X D : Type 0} (m : Meaning X) (g : Ghosts D) (mark : ℕ) where
         ours = λ clean h of is_clean. subst (λ (b : List (List ℕ)). OnOk result (SaysOther mark h b → ⊥)) same (mends.ours clean h of is_clean);
         untouched = subst (λ (f : List ℕ). IfErr result (λ why. IsRefusal why → g.seen after.disk ≡ f)) read.seen mends.untouched;
         cause = mends.cause;
+        word = λ clean. file_cause_later g before.disk mid.disk after.disk result read.counts (λ shut. sym read.usable ∙ shut) (mends.word clean);
         crash = λ clean leaves.
             subst (λ (b : List (List ℕ)). LeavesTail g after.disk (sealed_text b) longest) same
             (mends.crash clean λ left may. subst (λ (b : List (List ℕ)). HasTail (sealed_text b) longest left) (sym same) (leaves left (read.crash left may)));
@@ -380,6 +437,15 @@ module _ {X D : Type 0} (m : Meaning X) (g : Ghosts D) (mark : ℕ) where
     never_changed Log at asks same = asks
     never_changed (NoMemory _) at asks same = cc
 
+    asked_word : (why : NotReopened) → Asks m old new w event (Err why) → HasFileCause g before.disk before.disk why
+    asked_word Unsealed asks = tt
+    asked_word NotALine asks = tt
+    asked_word (Changed at) asks = tt
+    asked_word OtherJournal asks = tt
+    asked_word (Office fault) asks = tt
+    asked_word Log asks = absurd asks
+    asked_word (NoMemory _) asks = tt
+
     pub not_asked : (why : NotReopened) → Asks m old new w event (Err why) → Mends m g mark old new before before (Err why)
     not_asked why asks = record {
       leaves = leaves;
@@ -399,17 +465,18 @@ module _ {X D : Type 0} (m : Meaning X) (g : Ghosts D) (mark : ℕ) where
       ours = λ clean h of is_clean. tt;
       untouched = λ refusal. refl;
       cause = λ h of clean. asked_cause why asks h of clean;
+      word = λ clean. asked_word why asks;
       crash = λ clean leaves. leaves;
     }
 
     -- ---- what stands behind is cut off
 
     -- what opening the log did to it
-    module _ (mid : SealedLog D g) (cut_clean : IsTrue (g.is_clean mid.disk) → IsTrue (g.is_clean before.disk))
+    module _ (mid : SealedLog D g) (cut_counts : IsLater g before.disk mid.disk) (cut_clean : IsTrue (g.is_clean mid.disk) → IsTrue (g.is_clean before.disk))
         (cut_crash : IsTrue (g.is_clean mid.disk) → LeavesTail g before.disk (sealed_text (bodies_of g before)) longest
         → LeavesTail g mid.disk (sealed_text (bodies_of g before)) longest) where
-      pub not_cut : (why : NotReopened) → IsOutside why → Mends m g mark old new before mid (Err why)
-      not_cut why outside = record {
+      pub not_cut : (why : NotReopened) → IsOutside why → HasFileCause g before.disk mid.disk why → Mends m g mark old new before mid (Err why)
+      not_cut why outside word = record {
         leaves = leaves;
         stands = λ h stands clean. tt;
         clean = cut_clean;
@@ -427,6 +494,7 @@ module _ {X D : Type 0} (m : Meaning X) (g : Ghosts D) (mark : ℕ) where
         ours = λ clean h of is_clean. tt;
         untouched = λ refusal. outside_no_refusal why outside refusal;
         cause = λ h of clean. outside_cause m old new why outside;
+        word = λ clean. word;
         crash = cut_crash;
       }
 
@@ -473,6 +541,7 @@ module _ {X D : Type 0} (m : Meaning X) (g : Ghosts D) (mark : ℕ) where
           ours = never_other;
           untouched = tt;
           cause = λ h of clean. tt;
+          word = λ clean. tt;
           crash = cut_crash;
         }
 
@@ -517,6 +586,7 @@ module _ {X D : Type 0} (m : Meaning X) (g : Ghosts D) (mark : ℕ) where
               ours = λ clean h of is_clean. never_other (struck.clean clean) h of is_clean;
               untouched = tt;
               cause = λ h of clean. tt;
+              word = λ clean. tt;
               crash = λ clean leaves.
                   subst (λ (b : List (List ℕ)). LeavesTail g after.disk (sealed_text b) longest) (same (struck.clean clean)) (struck.crash is_open clean);
             }
@@ -541,6 +611,9 @@ module _ {X D : Type 0} (m : Meaning X) (g : Ghosts D) (mark : ℕ) where
           ours = λ clean h of is_clean. tt;
           untouched = λ refusal. outside_no_refusal why struck.why refusal;
           cause = λ h of clean. outside_cause m old new why struck.why;
+          word = λ clean.
+              cause_later g before.disk mid.disk after.disk why cut_counts
+              (λ unusable. absurd (let usable = mid.usable is_open in false≢true (sym unusable ∙ usable))) (struck.word is_open clean);
           crash = λ clean leaves.
               subst (λ (b : List (List ℕ)). LeavesTail g after.disk (sealed_text b) longest) (same (struck.clean clean)) (struck.crash is_open clean);
         }

@@ -95,5 +95,6 @@ module _ {S D : Type 0} (s : Ghosts S) (g : DiskGhosts D) where
         left_ours mark h (bodies_of g before) ((meaning_over s).lawful h old of) tells enough (mends.other clean h of is_clean same);
     untouched = mends.untouched;
     cause = mends.cause;
+    word = mends.word;
     crash = mends.crash;
   }

@@ -1,12 +1,8 @@
 -- Where and why no office is built anew.
 use Rattle.std.proofs.Common.{◌≡◌, ◌∙◌, ℕ, List, [], ◌∷◌, Option, Some, None, Result, Ok, Err, inl, inr, sym, refl, ap, ap₂, subst, append-nil}
 use Rattle.std.specs.Prelude.{IsErrAnd, ⊤, option_map}
-use Rattle.sqlite.specs.Held.{Held, state}
-use Rattle.sqlite.specs.State.{HasCleanDisk}
+use Rattle.sqlite.specs.Held.{Held}
 use Rattle.sqlite.specs.Store.{Ghosts}
-use Rattle.office_policy.specs.declared.event.Event as values
-use Rattle.office_policy.specs.declared.event.Event.TheVariants as events
-use Rattle.office_policy.specs.Happened.{event_meant}
 use Rattle.office_policy.specs.Handled.{Stands}
 use Rattle.office_policy.specs.History.{Event}
 use Rattle.office_policy.specs.Lawful.{IsFounding}

@@ -29,7 +29,7 @@ use Rattle.journal_office.specs.declared.not_reopened.NotReopened.{NotReopened}
 use Rattle.journal_office.specs.declared.not_reopened.NotReopened.TheVariants.{Unsealed, NotALine}
 use Rattle.journal_office.specs.declared.not_reopened.NotReopened.TheVariants.{Changed, OtherJournal}
 use Rattle.journal_office.specs.declared.not_reopened.NotReopened.TheVariants.{Office, Log, NoMemory}
-use Rattle.journal_office.specs.Faults.{IsOutside, IsRefusal}
+use Rattle.journal_office.specs.Faults.{HasFileCause, IsOutside, IsRefusal}
 
 -- the history, or it with an event that the policy allows then; its tables are the same
 pub record HasTablesOf (h now : History) : Type 0 where
@@ -158,6 +158,8 @@ pub record IsStruckOut {D : Type 0} (g : Ghosts D) (old new : SealedLog D g)
   pub bodies : IsTrue (g.is_clean new.disk)
       → OnOk result (bodies_of g new ≡ bodies_of g old ++ text_of strike ∷ [])
   pub why : IfErr result IsOutside
+  pub word : old.is_open ≡ true → IsTrue (g.is_clean new.disk)
+      → IfErr result (HasFileCause g old.disk new.disk)
   pub crash : old.is_open ≡ true → IsTrue (g.is_clean new.disk)
       → LeavesTail g new.disk (sealed_text (bodies_of g old)) longest
 
@@ -206,9 +208,11 @@ pub record Mends {X D : Type 0} (m : Meaning X) (g : Ghosts D) (mark : ℕ) (old
       → OnOk result (SaysOther mark h (bodies_of g before) → ⊥)
   -- a file that is no journal, another's, or was changed, is left as it is
   pub untouched : IfErr result (λ why. IsRefusal why → g.seen after.disk ≡ g.seen before.disk)
-  -- a fault of the office has a cause
+  -- a fault of the office has a cause, and so has one of the file
   pub cause : (h : History) → m.is_of h old → m.is_clean new
       → IfErr result (HasOfficeCause m old new)
+  pub word : IsTrue (g.is_clean after.disk)
+      → IfErr result (HasFileCause g before.disk after.disk)
   -- a crash on the way leaves what was told, and no more behind it than the longest line, where one
   -- did before
   pub crash : IsTrue (g.is_clean after.disk)

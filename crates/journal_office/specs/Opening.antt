@@ -20,7 +20,7 @@ use Rattle.journal.specs.Logs.{in_log}
 use Rattle.journal_office.specs.declared.not_reopened.NotReopened.{NotReopened}
 use Rattle.journal_office.specs.declared.not_reopened.NotReopened.TheVariants.{Unsealed, NotALine}
 use Rattle.journal_office.specs.declared.not_reopened.NotReopened.TheVariants.{Changed, OtherJournal}
-use Rattle.journal_office.specs.Faults.{IsRefusal}
+use Rattle.journal_office.specs.Faults.{HasFileCause, IsRefusal}
 use Rattle.journal_office.specs.Mending.{HasOfficeCause, HasTablesOf, IsMended}
 use Rattle.journal_office.specs.Mending.{SaysOther, TellsOf}
 
@@ -81,4 +81,5 @@ module _ {S D : Type 0} (s : Ghosts S) (g : DiskGhosts D) where
     pub untouched : IsRefusal why → g.seen log.disk ≡ g.seen before.disk
     pub cause : (h : History) → (meaning_over s).is_of h old → (meaning_over s).is_clean office
         → HasOfficeCause (meaning_over s) old office why
+    pub word : IsTrue (g.is_clean log.disk) → HasFileCause g before.disk log.disk why
     pub crash : IsTrue (g.is_clean log.disk) → LeavesTold before log

@@ -6,7 +6,7 @@ use Rattle.sealed_log.proofs.SealFacts.{length-sealed_line}
 use Rattle.journal.proofs.Lengths.{strike_entry}
 use Rattle.journal_office.specs.Faults.{log_fault}
 use Rattle.journal_office.specs.Mending.{IsStruckOut}
-use Rattle.journal_office.proofs.MendFacts.{left_with, log_outside}
+use Rattle.journal_office.proofs.MendFacts.{by_met, left_with, log_outside}
 use Rattle.journal_office.proofs.mending.strike_out.Goals as goal
 
 -- a line that strikes out is no longer than the longest
@@ -26,6 +26,7 @@ returns-in_err-put g c =
       opened = tt;
       bodies = λ clean. tt;
       why = log_outside c.in_err-put.field-0.0;
+      word = λ is_open clean. by_met g.D.Disk c.args.log.now.disk c.put.new.self.disk c.in_err-put.field-0.0 (c.in_err-put.ensures.word clean is_open);
       crash = λ is_open clean left may.
           wider _ _ longest (no_longer (seal_of (bodies_of g.D.Disk c.args.log.now)) c.as_bytes.result.now (subst IsBody (sym (c.as_bytes.ensures.value ∙ c.in_ok-text.ensures)) strike_entry.body))
           left (c.in_err-put.ensures.crash is_open clean left may);
@@ -37,6 +38,7 @@ returns g c = record {
   opened = c.in_ok-put.ensures.appended.0;
   bodies = λ clean. c.in_ok-put.ensures.appended.1 clean ∙ ap (λ b. bodies_of g.D.Disk c.args.log.now ++ b ∷ []) (c.as_bytes.ensures.value ∙ c.in_ok-text.ensures);
   why = tt;
+  word = λ is_open clean. tt;
   crash = λ is_open clean left may.
       wider _ _ longest (no_longer (seal_of (bodies_of g.D.Disk c.args.log.now)) c.as_bytes.result.now (subst IsBody (sym (c.as_bytes.ensures.value ∙ c.in_ok-text.ensures)) strike_entry.body))
       left (c.in_ok-put.ensures.crash is_open clean left may);
