@@ -1,5 +1,7 @@
 //! Files that give the same bytes at each path, in pieces, with failures, or none.
 
+ghost use Rattle.std.specs.Prelude.{IsErr};
+
 use crate::fake_streams::{Giving, Source};
 use std::alloc::Allocator;
 use std::fs::{Files, Metadata, OpenFile, OpenOptions};
@@ -7,7 +9,9 @@ use std::io;
 use std::io::{ErrorKind, Read, Seek, SeekFrom, Write};
 
 // What none of these files does.
-fn unsupported<T>() -> io::Result<T> {
+fn unsupported<T>() -> io::Result<T>
+    ensures { IsErr result }
+{
     Err(io::Error::from(ErrorKind::Unsupported))
 }
 
