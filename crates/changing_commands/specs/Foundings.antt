@@ -84,6 +84,8 @@ pub record IsFoundedIn {S : Type 0} (g : Ghosts S) (Opened : Held S → Type 0)
   pub was : Held S
   pub opened : Opened was
   pub empty : (state g was).now.schema ≡ no_schema
+  -- a disk that is clean was clean before
+  pub clean : HasCleanDisk (state g office) → HasCleanDisk (state g was)
   pub founded : IsFoundedAs g described office
 
 -- an office was founded as words describe, and closed without a mark, of which this is known

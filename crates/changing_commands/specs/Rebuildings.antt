@@ -3,6 +3,7 @@ use Rattle.std.specs.Prelude.{◌≡◌, ◌⊎◌, ℕ, List, codes, Option, So
 use Rattle.std.specs.declared.io.Error.{Error as IoError}
 use Rattle.sqlite.specs.Held.{Held, state}
 use Rattle.sqlite.specs.Store.{Ghosts}
+use Rattle.sqlite.specs.State.{HasCleanDisk}
 use Rattle.desk_http.specs.Lines.{IsCut, IsWhole}
 use Rattle.journal_office.specs.Rebuilding.{IsBuilt, IsUnbuilt}
 use Rattle.journal_office.specs.declared.refused.Refused.{Refused}
@@ -45,6 +46,8 @@ module _ {S F : Type 0} (g : Ghosts S) (Opens : Result F IoError → Type 0)
     pub opened : IsUnlimited Opened was
     pub empty : (state g was).now.schema ≡ no_schema
     pub office : Held S
+    -- a disk that is clean was clean before
+    pub clean : HasCleanDisk (state g office) → HasCleanDisk (state g was)
     pub lines : ℕ
     pub rebuilt : IsBuilt text (meaning_over g) office built.events built.seal lines
     pub closed : Closed office (Some (mark_of_lines lines))

@@ -2,6 +2,7 @@
 
 ghost use Rattle.std.specs.Prelude.{◌≡◌, IfErr, IfOk, Ok, OnOk};
 ghost use Rattle.sqlite.specs.Held.{state};
+ghost use Rattle.sqlite.specs.State.{HasCleanDisk};
 ghost use Rattle.office_store.specs.Schema.{no_schema};
 ghost use Rattle.office_store.specs.Shown.{IsIdle};
 ghost use Rattle.command_host.specs.Outside.{known};
@@ -33,6 +34,8 @@ pub(crate) fn found_in<S: Alter>(
     requires { IsIdle (state S.Store conn) }
     ensures founded { IfOk result (IsFoundedBy S.Store founding.now) }
     ensures empty { OnOk result ((state S.Store conn).now.schema ≡ no_schema) }
+    ensures clean { IfOk result (λ office. HasCleanDisk (state S.Store office)
+        → HasCleanDisk (state S.Store conn)) }
     ensures refused { IfErr result (λ refusal.
         IsNotFounded S.Store founding.now conn refusal.1 refusal.0) }
 {

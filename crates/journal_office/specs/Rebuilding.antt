@@ -3,6 +3,7 @@ use Rattle.std.specs.Prelude.{◌≡◌, ◌⊎◌, ◌+◌, ◌-◌, ◌^◌, �
 use Rattle.std.specs.Prelude.{List, Option, Result, Ok, Err, ⊤}
 use Rattle.sqlite.specs.Held.{Held, state}
 use Rattle.sqlite.specs.Store.{Ghosts}
+use Rattle.sqlite.specs.State.{HasCleanDisk}
 use Rattle.office_store.specs.Schema.{no_schema}
 use Rattle.office_policy.specs.Handled.{Stands}
 use Rattle.office_policy.specs.History.{Event}
@@ -94,10 +95,12 @@ module _ (bytes : Option (List ℕ)) {X : Type 0} (m : Meaning X) (left : X) whe
   BuildsOn before after seal lines (Err refused) = IsHalted refused.line refused.why
 
 -- why the office isn't of all that the journal tells: none is founded over the connection; or one is
--- over an empty store, and no more happens again in it
+-- over an empty store, whose disk was clean where that of the office is, and no more happens again in
+-- it
 abbrev pub IsUnbuilt : {S : Type 0} → (bytes : Option (List ℕ)) → Ghosts S → (conn left : Held S)
     → Refused → Type 0
 IsUnbuilt bytes g conn left refused =
     IsUnbegun bytes g conn left refused.line refused.why
     ⊎ (((state g conn).now.schema ≡ no_schema)
+    × (HasCleanDisk (state g left) → HasCleanDisk (state g conn))
     × IsHalted bytes (meaning_over g) left refused.line refused.why)

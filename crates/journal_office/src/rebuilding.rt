@@ -43,10 +43,12 @@ fn rebuild_last<S: Alter, R: BufRead>(
     replay: &mut Replay<S, R>,
     refused: Refused,
 ) -> Refused
-    ensures { (bytes : Option (List ℕ)) (here : Place) (es : List (ℕ × TheEvent))
+    ensures halted { (bytes : Option (List ℕ)) (here : Place) (es : List (ℕ × TheEvent))
         → HasReplayed bytes (meaning_over S.Store) here es replay.old.office → 0 < length es
         → IsLeft here (place R.remaining replay.old.events) refused.line refused.why
         → IsHalted bytes (meaning_over S.Store) replay.new.office result.line result.why }
+    ensures clean { HasCleanDisk (state S.Store replay.new.office)
+        → HasCleanDisk (state S.Store replay.old.office) }
 {
     if !ends_there(&refused.why) {
         return refused;
@@ -76,6 +78,8 @@ fn next_event<S: Alter, R: BufRead>(
         → HasReplayed bytes (meaning_over S.Store)
         (place R.remaining replay.old.events) es replay.old.office → 0 < length es
         → IsHalted bytes (meaning_over S.Store) replay.new.office refused.line refused.why) }
+    ensures clean { HasCleanDisk (state S.Store replay.new.office)
+        → HasCleanDisk (state S.Store replay.old.office) }
 {
     match replay.next(alloc) {
         Ok(found) => Ok(found),
@@ -89,13 +93,15 @@ fn rebuild_rest<S: Alter, R: BufRead>(
     replay: &mut Replay<S, R>,
 ) -> Result<(), Refused>
     requires { replay.old.events.fault ≡ None }
-    ensures { (bytes : Option (List ℕ)) (es : List (ℕ × TheEvent))
+    ensures built { (bytes : Option (List ℕ)) (es : List (ℕ × TheEvent))
         → HasReplayed bytes (meaning_over S.Store)
         (place R.remaining replay.old.events) es replay.old.office
         → length es ≡ 1
         → BuildsOn bytes (meaning_over S.Store) replay.new.office replay.old.count replay.new.count
         (place R.remaining replay.new.events).seal
         (place R.remaining replay.new.events).taken result }
+    ensures clean { HasCleanDisk (state S.Store replay.new.office)
+        → HasCleanDisk (state S.Store replay.old.office) }
 {
     'events: while let Some(placed) = next_event(alloc, replay)? {
         replay.happen(alloc, placed)?;
@@ -110,7 +116,7 @@ fn rebuild_behind<S: Alter, R: BufRead>(
     halt: Option<Refused>,
 ) -> Result<(), Refused>
     requires { halt ≡ None → replay.old.events.fault ≡ None }
-    ensures { (bytes : Option (List ℕ)) (first : ℕ × TheEvent)
+    ensures built { (bytes : Option (List ℕ)) (first : ℕ × TheEvent)
         → IsFirstRead (start bytes) (place R.remaining replay.old.events) first halt
         → IsFounding first.1
         → (HasCleanDisk (state S.Store replay.old.office)
@@ -118,6 +124,8 @@ fn rebuild_behind<S: Alter, R: BufRead>(
         → BuildsOn bytes (meaning_over S.Store) replay.new.office replay.old.count replay.new.count
         (place R.remaining replay.new.events).seal
         (place R.remaining replay.new.events).taken result }
+    ensures clean { HasCleanDisk (state S.Store replay.new.office)
+        → HasCleanDisk (state S.Store replay.old.office) }
 {
     match halt {
         None => rebuild_rest(alloc, replay),
@@ -147,6 +155,8 @@ pub fn rebuild_as_read<S: Alter, R: BufRead + Drop>(
     ensures unbuilt { IfErr result (λ refusal. IsUnbuilt (R.remaining journal)
         S.Store conn refusal.1 refusal.0) }
     ensures empty { OnOk result ((state S.Store conn).now.schema ≡ no_schema) }
+    ensures clean { IfOk result (λ built. HasCleanDisk (state S.Store built.office)
+        → HasCleanDisk (state S.Store conn)) }
     ensures idle { IfErr result (λ refusal. IsIdle (state S.Store refusal.1)) }
 {
     let (mut replay, first, halt) = Replay::begin_as_read(alloc, conn, journal)?;

@@ -114,6 +114,8 @@ fn found<S: Alter>(conn: Connection<S>, event: &Event) -> Result<Office<S>, (Why
     ensures stands { IfOk result (λ office. HasCleanDisk (state S.Store office)
         → Stands (meaning_over S.Store) (event_meant event.now ∷ []) office) }
     ensures empty { OnOk result ((state S.Store conn).now.schema ≡ no_schema) }
+    ensures clean { IfOk result (λ office. HasCleanDisk (state S.Store office)
+        → HasCleanDisk (state S.Store conn)) }
     ensures refused { IfErr result (λ refusal.
         IsNoFounding S.Store (event_meant event.now) conn refusal.1 refusal.0) }
     ensures idle { IfErr result (λ refusal. IsIdle (state S.Store refusal.1)) }
@@ -206,6 +208,8 @@ impl<S: Alter, R: BufRead + Drop> Replay<S, R> {
         ensures unbegun { IfErr result (λ refusal. IsUnbegun (R.remaining journal)
             S.Store conn refusal.1 refusal.0.line refusal.0.why) }
         ensures empty { OnOk result ((state S.Store conn).now.schema ≡ no_schema) }
+        ensures clean { IfOk result (λ begun. HasCleanDisk (state S.Store begun.0.office)
+            → HasCleanDisk (state S.Store conn)) }
         ensures idle { IfErr result (λ refusal. IsIdle (state S.Store refusal.1)) }
     {
         let mut events = Events::new(alloc, journal, 0);

@@ -92,6 +92,8 @@ impl<S: Alter> Office<S> {
             → Stands (meaning_over S.Store)
             (founded name.now team.now digest.now listed ∷ []) office) }
         ensures empty { OnOk result ((state S.Store conn).now.schema ≡ no_schema) }
+        ensures clean { IfOk result (λ office. HasCleanDisk (state S.Store office)
+            → HasCleanDisk (state S.Store conn)) }
         ensures cause { IfErr result (λ refusal. HasCleanDisk (state S.Store refusal.1)
             → FailsToFound S.Store (first_user name.now team.now digest.now) listed
             conn refusal.1 refusal.0) }

@@ -8,4 +8,4 @@ pub returns-in-Err-clause-halted : goal.returns-in-Err-clause-halted
 returns-in-Err-clause-halted g c = λ bytes es before some.
     let m = meaning_over g.S.Store in
     let here = place g.R.Read.remaining c.args.replay.now.events in
-    c.rebuild_last.ensures bytes here es (subst (λ office. HasReplayed bytes m here es office) (sym c.in-Err.ensures.office) before) some (c.in-Err.ensures.next c.requires)
+    c.rebuild_last.ensures.halted bytes here es (subst (λ office. HasReplayed bytes m here es office) (sym c.in-Err.ensures.office) before) some (c.in-Err.ensures.next c.requires)

@@ -1,4 +1,6 @@
 use Rattle.std.proofs.Common.{rules, ◌≡◌, Err, ◌∙◌, ◌+◌, ◌-◌, ◌^◌, ℕ, List, min, ap, ap₂, inl, inr, subst, sym}
+use Rattle.sqlite.specs.Held.{state}
+use Rattle.sqlite.specs.State.{HasCleanDisk}
 use Rattle.office_desk.specs.Meant.{meaning_over}
 use Rattle.journal.specs.Told.{place, placed_meant}
 use Rattle.journal_office.specs.Rebuilt.{IsRebuilt}
@@ -16,7 +18,7 @@ returns-in-Ok-clause-built g c =
     let m = meaning_over g.S.Store in
     let count = (c.rebuild_behind-rebuilt.new.replay.count - c.in_ok-replay.replay.count) + 1 in
     let end = place g.R.Read.remaining c.rebuild_behind-rebuilt.new.replay.events in
-    let built = c.in-Ok.ensures bytes (placed_meant c.in_ok-replay.first) c.in_ok-replay.ensures.told c.in_ok-replay.ensures.founding c.in_ok-replay.ensures.stands in
+    let built = c.in-Ok.ensures.built bytes (placed_meant c.in_ok-replay.first) c.in_ok-replay.ensures.told c.in_ok-replay.ensures.founding c.in_ok-replay.ensures.stands in
     record {
       count = count;
       rebuilt = subst (λ (s : List ℕ). IsRebuilt bytes m count s c.taken-lines.result c.into_office-office.result) (sym c.seal-seal.ensures)
@@ -33,6 +35,8 @@ returns-in-Err-clause-unbuilt g c =
     let refused = c.in-Err.refused in
     inr (
       c.in_ok-replay.ensures.empty,
+      subst (λ left. HasCleanDisk (state g.S.Store left) → HasCleanDisk (state g.S.Store c.args.conn)) (sym (c.into_connection.ensures.connection ∙ c.into_office-office.ensures))
+          (λ clean. c.in_ok-replay.ensures.clean (c.rebuild_behind-rebuilt.ensures.clean clean)),
       subst (λ left. IsHalted bytes m left refused.line refused.why) (sym (c.into_connection.ensures.connection ∙ c.into_office-office.ensures))
-          (c.in-Err.ensures bytes (placed_meant c.in_ok-replay.first) c.in_ok-replay.ensures.told c.in_ok-replay.ensures.founding c.in_ok-replay.ensures.stands),
+          (c.in-Err.ensures.built bytes (placed_meant c.in_ok-replay.first) c.in_ok-replay.ensures.told c.in_ok-replay.ensures.founding c.in_ok-replay.ensures.stands),
     )

@@ -6,14 +6,14 @@ use Rattle.journal_office.proofs.Refusals.{first_replayed}
 use Rattle.journal_office.proofs.Building.{founded_only}
 use Rattle.journal_office.proofs.rebuilding.rebuild_behind.Goals as goal
 
-pub returns-in-None : goal.returns-in-None
-returns-in-None g c = λ bytes first read founding stands.
+pub returns-in-None-clause-built : goal.returns-in-None-clause-built
+returns-in-None-clause-built g c = λ bytes first read founding stands.
     let here = place g.R.Read.remaining c.args.replay.now.events in
-    c.rebuild_rest.ensures bytes (first ∷ [])
+    c.rebuild_rest.ensures.built bytes (first ∷ [])
     (first_replayed (meaning_over g.S.Store) bytes here first.0 first.1 c.args.replay.now.office (subst (λ halt. IsFirstRead (start bytes) here first halt) c.in-None.is read) founding stands) refl
 
-pub returns-in-Some : goal.returns-in-Some
-returns-in-Some g c = λ bytes first read founding stands.
+pub returns-in-Some-clause-built : goal.returns-in-Some-clause-built
+returns-in-Some-clause-built g c = λ bytes first read founding stands.
     let here = place g.R.Read.remaining c.args.replay.now.events in
     founded_only (meaning_over g.S.Store) bytes here first c.args.replay.now.office c.in-Some.refused.line c.in-Some.refused.why
     (subst (λ halt. IsFirstRead (start bytes) here first halt) c.in-Some.is read) founding stands

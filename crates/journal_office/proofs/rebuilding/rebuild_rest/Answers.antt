@@ -8,16 +8,16 @@ use Rattle.journal_office.proofs.Building.{kept_out, left_by}
 use Rattle.journal_office.proofs.rebuilding.rebuild_rest.Goals as goal
 
 pub events-init : goal.events-init
-events-init g c = record { fault = c.requires; grows = omega arith; replayed = λ bytes es all one. (es, all, omega (arith, one)) }
+events-init g c = record { fault = c.requires; grows = omega arith; replayed = λ bytes es all one. (es, all, omega (arith, one)); clean = λ clean. clean }
 
-pub returns-in_err-placed : goal.returns-in_err-placed
-returns-in_err-placed g c = λ bytes es all one.
+pub returns-in_err-placed-clause-built : goal.returns-in_err-placed-clause-built
+returns-in_err-placed-clause-built g c = λ bytes es all one.
     let before = c.events.invariant.replayed bytes es all one in
     left_by (meaning_over g.S.Store) bytes _ _ _ _ _ c.from_residual.result c.in_err-placed.field-0.0 c.from_residual.ensures.1
     (c.in_err-placed.ensures.halted bytes before.0 before.1 (omega (arith, before.2)))
 
-pub returns-in_err-happen : goal.returns-in_err-happen
-returns-in_err-happen g c = λ bytes es all one.
+pub returns-in_err-happen-clause-built : goal.returns-in_err-happen-clause-built
+returns-in_err-happen-clause-built g c = λ bytes es all one.
     let m = meaning_over g.S.Store in
     let here = place g.R.Read.remaining c.events.replay.events in
     let before = c.events.invariant.replayed bytes es all one in
@@ -33,6 +33,7 @@ events-preserved g c =
     record {
       fault = ap (λ e. e.fault) c.in_ok-happen.ensures.events ∙ c.in_ok-placed.ensures.fault;
       grows = omega (arith, c.events.invariant.grows, counted.0, c.in_ok-happen.ensures.count);
+      clean = λ clean. c.events.invariant.clean (c.in_ok-placed.ensures.clean (c.in_ok-happen.ensures.survives.clean clean));
       replayed = λ bytes es all one.
           let m = meaning_over g.S.Store in
           let here = place g.R.Read.remaining c.events.replay.events in
@@ -53,8 +54,8 @@ events-smaller g c =
     let counted : CountsNext c.events.replay.count c.next_event.new.replay.count (Some c.in-Some.placed) = rw c.in-Some.is at c.in_ok-placed.ensures.count in
     omega (arith, counted.0, counted.1, c.in_ok-happen.ensures.count)
 
-pub returns : goal.returns
-returns g c = λ bytes es all one.
+pub returns-clause-built : goal.returns-clause-built
+returns-clause-built g c = λ bytes es all one.
     let m = meaning_over g.S.Store in
     let here = place g.R.Read.remaining c.events.replay.events in
     let before = c.events.invariant.replayed bytes es all one in
