@@ -75,7 +75,7 @@ fn assert_refused(
         write!(faults, ", {compared}")?;
     }
     assert_eq!(rt; faults.as_str(), wanted);
-    assert_eq!(rt; output.into_inner().as_slice(), b"");
+    assert_eq!(rt; output.into_inner().as_slice(), b"".as_slice());
     Ok(())
 }
 

@@ -16,6 +16,7 @@ fn unsupported<T>() -> io::Result<T>
 }
 
 /// A file at each path, whose bytes are given so.
+#[derive(Drop)]
 pub struct GivenFiles {
     /// Its bytes.
     pub bytes: &'static [u8],
