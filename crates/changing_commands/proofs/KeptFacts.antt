@@ -6,6 +6,7 @@ use Rattle.std.specs.declared.io.Error.{Error}
 use Rattle.sqlite.specs.Held.{Held}
 use Rattle.sqlite.specs.Store.{Ghosts}
 use Rattle.sqlite_disk.specs.declared.Disk.{Ghosts as DiskGhosts}
+use Rattle.sealed_log.specs.Faults.{IsLater}
 use Rattle.sealed_log.specs.Log.{bodies_of}
 use Rattle.sealed_log.specs.Reading.{IsThrough}
 use Rattle.sealed_log.specs.Sealed.{no_seal, seal_on, sealed_line, sealed_lines, sealed_text}
@@ -71,10 +72,12 @@ founding_is founding forms = founding_entry (founding_event founding) forms form
 -- a file that was made has just the line of a founding
 pub begun_by : {L : Type 0} (f : DiskGhosts L) (Created : Result L NoFile → Type 0) (founding : Founding) (made : L) (log : SealedLog L f) (text : List ℕ) → Created (Ok made)
     → HasForms (founding_event founding) → text ≡ text_of (happened (founding_event founding)) → log.is_open ≡ true
-    → (IsTrue (f.is_clean log.disk) → bodies_of f log ≡ text ∷ []) → IsBegunBy f Created founding log
-begun_by f Created founding made log text created forms is is_open has = record {
+    → (IsTrue (f.is_clean log.disk) → IsTrue (f.is_clean made)) → IsLater f made log.disk → (IsTrue (f.is_clean log.disk) → bodies_of f log ≡ text ∷ []) → IsBegunBy f Created founding log
+begun_by f Created founding made log text created forms is is_open clean counts has = record {
   made = made;
   created = created;
+  clean = clean;
+  counts = counts;
   is_open = is_open;
   forms = forms;
   line = λ clean. has clean ∙ ap (λ (t : List ℕ). t ∷ []) is;

@@ -5,6 +5,7 @@ use Rattle.std.specs.declared.io.Error.{Error}
 use Rattle.sqlite.specs.Held.{Held}
 use Rattle.sqlite.specs.Store.{Ghosts}
 use Rattle.sqlite_disk.specs.declared.Disk.{Ghosts as DiskGhosts}
+use Rattle.sealed_log.specs.Faults.{IsLater}
 use Rattle.sealed_log.specs.Log.{bodies_of}
 use Rattle.sealed_log.specs.declared.log.SealedLog.{SealedLog}
 use Rattle.journal.specs.Journal.{Says}
@@ -70,6 +71,9 @@ pub record IsBegunBy {L : Type 0} (f : DiskGhosts L) (Created : Result L NoFile 
     (founding : Founding) (log : SealedLog L f) : Type 0 where
   pub made : L
   pub created : Created (Ok made)
+  -- the log is in that file: it is clean only where that was, and no fault is forgotten
+  pub clean : IsTrue (f.is_clean log.disk) → IsTrue (f.is_clean made)
+  pub counts : IsLater f made log.disk
   pub is_open : log.is_open ≡ true
   pub forms : HasForms (founding_event founding)
   pub line : HasLine f founding log

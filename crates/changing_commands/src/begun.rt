@@ -2,6 +2,7 @@
 
 ghost use Rattle.std.specs.Prelude.{◌≡◌, ◌<◌, ◌^◌, [], ◌∷◌, true, IfErr, IfOk, IsTrue};
 ghost use Rattle.std.specs.Prelude.{string_bytes};
+ghost use Rattle.sealed_log.specs.Faults.{IsLater};
 ghost use Rattle.sealed_log.specs.Log.{bodies_of};
 ghost use Rattle.sealed_log.specs.Sealed.{IsBody};
 ghost use Rattle.journal.specs.Forms.{HasForms};
@@ -83,6 +84,8 @@ pub(crate) fn founding_line(alloc: Global, founding: &Founding) -> Result<String
 fn put_first<D: Disk + Drop>(alloc: Global, file: D, body: &[u8]) -> Result<SealedLog<D>, LogFault>
     requires { IsBody body.now }
     ensures opened { IfOk result (λ log. log.is_open ≡ true) }
+    ensures clean { IfOk result (λ log. IsTrue (D.is_clean log.disk) → IsTrue (D.is_clean file)) }
+    ensures counts { IfOk result (λ log. IsLater D.Disk file log.disk) }
     ensures has { IfOk result (λ log. IsTrue (D.is_clean log.disk)
         → bodies_of D.Disk log ≡ body.now ∷ []) }
 {

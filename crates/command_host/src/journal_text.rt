@@ -1,7 +1,7 @@
 //! The text of a journal at a path.
 
-ghost use Rattle.std.specs.Prelude.{◌≡◌, IfErr, IfOk};
-ghost use Rattle.std.specs.Io.Buffered.{reader_remaining};
+ghost use Rattle.std.specs.Prelude.{◌≡◌, true, IfErr, IfOk};
+ghost use Rattle.std.specs.Io.Buffered.{reader_inner, reader_remaining};
 ghost use Rattle.command_host.specs.ReadFaults.{IsToldOf, is_of_read, tells_of_read};
 ghost use Rattle.command_host.specs.JournalTexts.{IsNoText, IsTextAt};
 
@@ -69,7 +69,8 @@ pub(crate) fn tells_of_read(fault: &CommandFault) -> bool
 /// What is told where a text was read and this fault was met: the fault. But where it tells that the
 /// journal couldn't be read, and it wasn't noted that a call of read failed, it is told as endless.
 pub fn told_of_text<F: PassFiles>(text: &JournalText<'_, F>, met: CommandFault) -> CommandFault
-    ensures { IsToldOf F.gives met result }
+    ensures noted { (reader_inner text.now).failed ≡ true → result ≡ met }
+    ensures cause { IsToldOf F.gives met result }
 {
     if !tells_of_read(&met) {
         return met;

@@ -32,6 +32,7 @@ impl<'f, F: PassFiles> Noted<'f, F> {
     /// The file, of which no call has failed.
     pub fn new(files: &'f F, file: F::File) -> Noted<'f, F>
         ensures file { result.file ≡ file }
+        ensures none { result.failed ≡ false }
     {
         Noted {
             files,
@@ -42,7 +43,8 @@ impl<'f, F: PassFiles> Noted<'f, F> {
 
     /// That it wasn't noted that a call of read failed; none where one did.
     pub fn none_failed(&self) -> Option<NoneFailed>
-        ensures { result ≡ None → ∥ CallFailed F.gives ∥₁ }
+        ensures noted { self.now.failed ≡ true → result ≡ None }
+        ensures call { result ≡ None → ∥ CallFailed F.gives ∥₁ }
     {
         if self.failed {
             None

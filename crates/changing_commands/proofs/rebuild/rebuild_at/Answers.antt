@@ -63,5 +63,5 @@ returns-clause-failed g c =
         unbuilt = refused.ensures.unbuilt;
         closed = (c.close-in-Err-rebuild_as_read.result, c.close-in-Err-rebuild_as_read.ensures.ended);
       },
-      subst (λ (met : CommandFault). IsToldOf g.F.PassFiles.gives met c.told_of_text.result) c.fault_of.ensures c.told_of_text.ensures,
+      subst (λ (met : CommandFault). IsToldOf g.F.PassFiles.gives met c.told_of_text.result) c.fault_of.ensures c.told_of_text.ensures.cause,
     )))

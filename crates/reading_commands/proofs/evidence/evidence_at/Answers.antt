@@ -32,5 +32,5 @@ returns-clause-none g c =
         none = subst (λ p. IsNoEvidence bytes p c.args.words.now.revision c.args.words.now.line over_memory conn left c.in-Err-evidence.why)
             c.in_ok-name.ensures.name c.in-Err-evidence.ensures.none;
       },
-      c.told_of_text.ensures,
+      c.told_of_text.ensures.cause,
     )))

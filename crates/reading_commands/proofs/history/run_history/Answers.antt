@@ -35,5 +35,5 @@ returns-clause-failed g c =
         unwritten = subst (λ (asked : Asked). IsUnwritten bytes asked (g.O.Write.contents c.args.output.now.inner) (g.O.Write.contents c.write_history.new.output.inner) over_memory conn left c.in-Err-write_history.why)
             c.filter_of-filter.ensures c.in-Err-write_history.ensures.unwritten;
       },
-      c.told_of_text.ensures,
+      c.told_of_text.ensures.cause,
     )

@@ -39,5 +39,5 @@ returns-clause-failed g c =
         unverified = subst (λ kept. IsUnverified text over_copy kept (user_version c.in_ok-given.given.database.items) c.in_ok-conn.conn new c.in-Err.why) c.kept_of.ensures
             (subst (λ mark. IsUnverified text over_copy c.kept_of.result mark c.in_ok-conn.conn new c.in-Err.why) (c.user_version-mark.ensures ∙ ap user_version c.deref.ensures.value) (c.in-Err.ensures.unverified (copy_is_clean new)));
       },
-      c.told_of_text.ensures,
+      c.told_of_text.ensures.cause,
     ))
