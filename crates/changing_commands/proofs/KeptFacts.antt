@@ -78,9 +78,8 @@ begun_by f Created founding made log text created forms is is_open clean counts 
   created = created;
   clean = clean;
   counts = counts;
-  is_open = is_open;
   forms = forms;
-  line = λ clean. has clean ∙ ap (λ (t : List ℕ). t ∷ []) is;
+  line = (is_open, λ clean. has clean ∙ ap (λ (t : List ℕ). t ∷ []) is);
   says = λ clean. says_one (founding_event founding) (bodies_of f log) (founding_is founding forms) (has clean ∙ ap (λ (t : List ℕ). t ∷ []) is);
 }
 

@@ -48,7 +48,7 @@ module _ {D L : Type 0} (g : disk.Ghosts D) (f : disk.Ghosts L) where
       (λ clean_disk clean_file. record {
         office = it.founded.founded.0;
         says = λ clean goes. it.journal.says clean.1;
-        ends = λ clean goes unsettled. record { before = []; event = founding_event founding; forms = it.journal.forms; is = it.journal.line clean.1 };
+        ends = λ clean goes unsettled. record { before = []; event = founding_event founding; forms = it.journal.forms; is = it.journal.line.1 clean.1 };
       })
       clean_log clean
 

@@ -61,12 +61,14 @@ IsRemoved Removed = (told : Result ⊤ Error) × Removed told
 abbrev pub line_of : Founding → List ℕ
 line_of founding = text_of (happened (founding_event founding))
 
--- a log has just that
+-- a log is open, so that a crash leaves its lines, and has just that
 abbrev pub HasLine : {L : Type 0} (f : DiskGhosts L) → Founding → SealedLog L f → Type 0
-HasLine f founding log = IsTrue (f.is_clean log.disk) → bodies_of f log ≡ line_of founding ∷ []
+HasLine f founding log =
+    (log.is_open ≡ true)
+    × (IsTrue (f.is_clean log.disk) → bodies_of f log ≡ line_of founding ∷ [])
 
 -- A file was made, of which this is known, and then has just the line of a founding, which a crash
--- leaves, since the log is open. It is the journal of the history that is just this founding.
+-- leaves. It is the journal of the history that is just this founding.
 pub record IsBegunBy {L : Type 0} (f : DiskGhosts L) (Created : Result L NoFile → Type 0)
     (founding : Founding) (log : SealedLog L f) : Type 0 where
   pub made : L
@@ -74,7 +76,6 @@ pub record IsBegunBy {L : Type 0} (f : DiskGhosts L) (Created : Result L NoFile 
   -- the log is in that file: it is clean only where that was, and no fault is forgotten
   pub clean : IsTrue (f.is_clean log.disk) → IsTrue (f.is_clean made)
   pub counts : IsLater f made log.disk
-  pub is_open : log.is_open ≡ true
   pub forms : HasForms (founding_event founding)
   pub line : HasLine f founding log
   pub says : IsTrue (f.is_clean log.disk) → Says (bodies_of f log) (history_of founding)

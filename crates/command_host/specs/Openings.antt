@@ -44,11 +44,12 @@ module _ {S D : Type 0} (d : databases.Ghosts D (Held S)) where
 
   module _ (path : List ℕ) where
     -- No database was opened at a path, for this: that failed so, or it has a transaction open as it
-    -- is opened.
+    -- is opened, and was closed.
     abbrev pub IsUnopened : Fault → Type 0
     IsUnopened why =
         ((error : Error) × d.refused path error × (why ≡ fault_of_opening error))
-        ⊎ ((why ≡ Disk) × ((conn : Held S) × d.opened path conn × (conn.in_transaction ≡ true)))
+        ⊎ ((why ≡ Disk) × ((conn : Held S) × d.opened path conn × (conn.in_transaction ≡ true)
+        × IsEnded conn None))
 
     -- no database is at a path, for this: it couldn't be seen whether something is there, nothing
     -- is, or what is there wasn't opened

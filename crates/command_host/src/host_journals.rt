@@ -151,7 +151,7 @@ impl<T: Start + Copy> Journals for HostJournals<'_, T> {
             Err(why) => why,
         };
         // Why there is no journal is reported, and not whether the file was removed.
-        let _ = fs::remove_file(self.rt, path);
+        let _ = self.remove(path);
         Err(why)
     }
 

@@ -41,6 +41,8 @@ pub fn open<S: Alter + Drop, D: Databases<Database = Connection<S>>>(
     match databases.open(path) {
         Ok(mut conn) => {
             if !conn.is_autocommit() {
+                // That it is refused is reported, and not whether this closed.
+                let _ = databases.close(conn, None);
                 return Err(Fault::Disk);
             }
             conn.set_step_limit(None);
