@@ -1,5 +1,5 @@
 -- What was allowed, carried out in an office with a journal.
-use Rattle.std.proofs.Common.{◌⊎◌, inl, inr, ◌≡◌, ◌∙◌, ◌≤◌, ◌+◌, [], ◌∷◌, ◌++◌, ℕ, List, Bool, true, false, not, Ok, Err, IsTrue, Some, None, ◌-◌, ◌^◌, ◌==◌, if◌then◌else◌, length, min, refl, sym, ap, subst, arith, le_trans, append-nil, append_assoc}
+use Rattle.std.proofs.Common.{◌⊎◌, inl, inr, ◌≡◌, ◌∙◌, ◌≤◌, ◌+◌, [], ◌∷◌, ◌++◌, ℕ, List, Bool, true, false, not, Ok, Err, IsTrue, Option, Some, None, ◌-◌, ◌^◌, ◌==◌, if◌then◌else◌, length, min, refl, sym, ap, subst, arith, le_trans, append-nil, append_assoc}
 use Rattle.std.proofs.lemmas.Bool.{and_parts, and_from}
 use Rattle.review_policy.specs.declared.ask.Request.{Request}
 use Rattle.review_policy.specs.declared.fault.Fault.{Fault as TheFault}
@@ -24,7 +24,7 @@ use Rattle.journal.specs.Lines.{happened, strike, text_of}
 use Rattle.journal.proofs.Lengths.{allowed_entry}
 use Rattle.journal.specs.declared.journaled.Journaled.{Journaled}
 use Rattle.journal.specs.Begun.{IsBegun, done_bodies}
-use Rattle.journal.specs.Journals.{Adds, BeginsWith, Grows, HasAsStray, HasStruck, HasUnstruck, IsHalfStruck, IsOf, IsStray, IsStruck, IsTakenBack, IsUnstruck, KeepsJournal, begins_on, goes_on, is_clean, journaled, stops, struck_body, struck_none, text_begins, unsettled, with_office}
+use Rattle.journal.specs.Journals.{Adds, BeginsWith, Grows, HasAsStray, HasStruck, HasUnstruck, IsHalfStruck, IsOf, IsStray, IsStruck, IsStruckOr, IsTakenBack, IsUnstruck, KeepsJournal, begins_on, goes_on, is_clean, journaled, stops, struck_body, struck_none, text_begins, unsettled, with_office}
 use Rattle.journal.specs.Writing.{IsAppended, IsLeftIn, IsMet, Writing}
 use Rattle.journal.proofs.Offices.{all_left, caused, open_of, risen_first, risen_second, stands_with}
 use Rattle.journal.proofs.Settling.{settled_says}
@@ -367,7 +367,22 @@ module _ {O J : Type 0} (m : Meaning O) (w : Writing J) (x : Journaled O J) (goe
 
       -- ---- and there was a fault
 
-      module _ (fault : TheFault) (handled : IsHandled m x.office o r (Fault fault)) (z : Journaled O J) (back : IsTakenBack m w r written z) where
+      module _ (fault : TheFault) (handled : IsHandled m x.office o r (Fault fault)) (z : Journaled O J) (told : Option Answer) (back : IsTakenBack m w r written z told) where
+        -- the strike met a fault, or was not due
+        abbrev Half : Type 0
+        Half = (met : TheFault) × IsHalfStruck m w written z met
+
+        abbrev Stray : Type 0
+        Stray = (again : Answer) × IsStray m w r written z again
+
+        became : (told : Option Answer) → IsStruckOr m w r written z told → IsStruck m w written z ⊎ (Half ⊎ Stray)
+        became None struck = inl struck
+        became (Some again) (inl stray) = inr (inr (again, stray))
+        became (Some again) (inr half) = inr (inl (half.0, half.2))
+
+        ended : IsStruck m w written z ⊎ (Half ⊎ Stray)
+        ended = became told back.journal
+
         clean_before : m.is_clean z.office → m.is_clean o
         clean_before = back.leaves.survives.clean
 
@@ -410,26 +425,26 @@ module _ {O J : Type 0} (m : Meaning O) (w : Writing J) (x : Journaled O J) (goe
             let whole : IsLeftIn (w.bodies j) [] (text_of strike) file = record { tail = []; short = none_below _; is = is ∙ sym (append-nil (sealed_text (w.bodies j))) } in
             record { before = base; left = subst (λ b. IsLeftIn b [] (text_of strike) file) (event_there clean) whole }
 
-        ends_file : IsHalfStruck m w written z ⊎ IsStray m w r written z → w.is_clean z.journal → (file : List ℕ) → w.may_leave z.journal file → HasUnstruck event file
-        ends_file (inl half) clean file may = elim (half.append.crash clean file may) [
+        ends_file : Half ⊎ Stray → w.is_clean z.journal → (file : List ℕ) → w.may_leave z.journal file → HasUnstruck event file
+        ends_file (inl half) clean file may = elim (half.1.append.crash clean file may) [
           | inl before ↦ sealed_there clean file (w.settled j (back.clean clean) appended.written.0 file before)
           | inr part ↦ record { before = base; left = subst (λ b. IsLeftIn b [] (text_of strike) file) (event_there clean) part.left }
         ]
-        ends_file (inr stray) clean file may = sealed_there clean file (w.settled j (back.clean clean) appended.written.0 file (subst (λ k. w.may_leave k file) stray.journal may))
+        ends_file (inr stray) clean file may = sealed_there clean file (w.settled j (back.clean clean) appended.written.0 file (subst (λ k. w.may_leave k file) stray.1.journal may))
 
-        unstruck_by : IsHalfStruck m w written z ⊎ IsStray m w r written z → IsUnstruck m w event z
-        unstruck_by (inl half) = record { stray = half.stray; line = ends_file (inl half) }
-        unstruck_by (inr stray) = record { stray = stray.stray; line = ends_file (inr stray) }
+        unstruck_by : Half ⊎ Stray → IsUnstruck m w event z
+        unstruck_by (inl half) = record { stray = half.1.stray; line = ends_file (inl half) }
+        unstruck_by (inr stray) = record { stray = stray.1.stray; line = ends_file (inr stray) }
 
         -- the journal goes on, or has that event
-        goes_by : (Else : Type 0) → (HasAsStray m w event z → Else) → IsStruck m w written z ⊎ (IsHalfStruck m w written z ⊎ IsStray m w r written z) → m.is_open z.office
+        goes_by : (Else : Type 0) → (HasAsStray m w event z → Else) → IsStruck m w written z ⊎ (Half ⊎ Stray) → m.is_open z.office
             → (m.is_open z.office × IsTrue (goes_on m w z)) ⊎ (HasMoreFaults ⊎ Else)
         goes_by Else told (inl struck) stays = inl (stays, and_from (w.is_open z.journal) _ struck.is_open (subst (λ b. IsTrue (not b)) (sym struck.no_stray) refl))
         goes_by Else told (inr rest) stays = inr (inr (told (inr (unstruck_by rest))))
 
         closes_back : m.is_clean z.office → m.is_open x.office → (m.is_open z.office × IsTrue (goes_on m w z)) ⊎ (HasMoreFaults ⊎ HasStray (journaled m w) z)
         closes_back clean stood = elim (survives_both.closes clean stood) [
-          | inl stays ↦ goes_by (HasStray (journaled m w) z) (λ is. (event, is)) back.journal stays
+          | inl stays ↦ goes_by (HasStray (journaled m w) z) (λ is. (event, is)) ended stays
           | inr (inl more) ↦ inr (inl (more_of more))
           | inr (inr stray) ↦ inr (inr (stray.0, inl stray.1))
         ]
@@ -447,34 +462,34 @@ module _ {O J : Type 0} (m : Meaning O) (w : Writing J) (x : Journaled O J) (goe
         closes_of h of clean stood =
             elim (handled.closes h of.office (clean_before clean.0) stood) [
               | inl still ↦ elim (closes_by_fault m o z.office back.leaves.survives back.leaves.strays clean.0 still) [
-                | inl stays ↦ goes_by (LeavesStray h (Fault fault) z) (λ is. (tt, stray_last h (permitted.allowed h of.office (clean_z clean.0)) is)) back.journal stays
+                | inl stays ↦ goes_by (LeavesStray h (Fault fault) z) (λ is. (tt, stray_last h (permitted.allowed h of.office (clean_z clean.0)) is)) ended stays
                 | inr more ↦ inr (inl (more_of (risen_before (m.faults x.office) (m.faults o) (m.faults z.office) handled.survives.counts more)))
               ]
               | inr (inl more) ↦ inr (inl (more_of (risen_after (m.faults x.office) (m.faults o) (m.faults z.office) more back.leaves.survives.counts)))
               | inr (inr stray) ↦ inr (inr (tt, stray_within (verdict h r) stray.1))
             ]
 
-        says_by : IsStruck m w written z ⊎ (IsHalfStruck m w written z ⊎ IsStray m w r written z) → (h : History) → IsOf m w h x → is_clean m w z
+        says_by : IsStruck m w written z ⊎ (Half ⊎ Stray) → (h : History) → IsOf m w h x → is_clean m w z
             → IsTrue (goes_on m w z) → Says (w.bodies z.journal) h
         says_by (inl struck) h of clean on = with_strike h of (clean_z clean.0) (clean_x clean.1) (w.bodies z.journal) (both_there struck clean.1)
-        says_by (inr (inl half)) h of clean on = absurd (never_both z.has_stray half.stray (on_without on))
-        says_by (inr (inr stray)) h of clean on = absurd (never_both z.has_stray stray.stray (on_without on))
+        says_by (inr (inl half)) h of clean on = absurd (never_both z.has_stray half.1.stray (on_without on))
+        says_by (inr (inr stray)) h of clean on = absurd (never_both z.has_stray stray.1.stray (on_without on))
 
         -- the event of the last line is struck out
-        ends_by : IsStruck m w written z ⊎ (IsHalfStruck m w written z ⊎ IsStray m w r written z) → IsTrue (goes_on m w z) → z.is_settled ≡ false → EndsWithEvent (w.bodies z.journal)
+        ends_by : IsStruck m w written z ⊎ (Half ⊎ Stray) → IsTrue (goes_on m w z) → z.is_settled ≡ false → EndsWithEvent (w.bodies z.journal)
         ends_by (inl struck) on unsettled = absurd (never_both z.is_settled struck.settled unsettled)
-        ends_by (inr (inl half)) on unsettled = absurd (never_both z.has_stray half.stray (on_without on))
-        ends_by (inr (inr stray)) on unsettled = absurd (never_both z.has_stray stray.stray (on_without on))
+        ends_by (inr (inl half)) on unsettled = absurd (never_both z.has_stray half.1.stray (on_without on))
+        ends_by (inr (inr stray)) on unsettled = absurd (never_both z.has_stray stray.1.stray (on_without on))
 
         back_of : (h : History) → IsOf m w h x → IsOf m w h z
         back_of h of = record {
           office = back.leaves.office h (handled.office h of.office);
-          says = says_by back.journal h of;
-          ends = λ clean on unsettled. ends_by back.journal on unsettled;
+          says = says_by ended h of;
+          ends = λ clean on unsettled. ends_by ended on unsettled;
         }
 
         -- an event that is struck out is all that the journal has more
-        keeps_by : IsStruck m w written z ⊎ (IsHalfStruck m w written z ⊎ IsStray m w r written z) → w.is_clean z.journal → KeepsJournal m w x z
+        keeps_by : IsStruck m w written z ⊎ (Half ⊎ Stray) → w.is_clean z.journal → KeepsJournal m w x z
         keeps_by (inl struck) clean on = (
           goes,
           record {
@@ -485,19 +500,19 @@ module _ {O J : Type 0} (m : Meaning O) (w : Writing J) (x : Journaled O J) (goe
                 ∙ ap (λ l. w.bodies x.journal ++ l) (sym (append-nil (struck_body (unsettled w x, event))));
           },
         )
-        keeps_by (inr (inl half)) clean on = absurd (never_both z.has_stray half.stray (on_without on))
-        keeps_by (inr (inr stray)) clean on = absurd (never_both z.has_stray stray.stray (on_without on))
+        keeps_by (inr (inl half)) clean on = absurd (never_both z.has_stray half.1.stray (on_without on))
+        keeps_by (inr (inr stray)) clean on = absurd (never_both z.has_stray stray.1.stray (on_without on))
 
         -- and all that it had is there still
         all_there : w.is_clean z.journal → Grows m w x z
-        all_there clean = record { bodies = bodies_by back.journal; files = files_by back.journal }
+        all_there clean = record { bodies = bodies_by ended; files = files_by ended }
           where
-            bodies_by : IsStruck m w written z ⊎ (IsHalfStruck m w written z ⊎ IsStray m w r written z) → IsTrue (goes_on m w z) → IsTrue (goes_on m w x) × BeginsWith (w.bodies x.journal) (w.bodies z.journal)
+            bodies_by : IsStruck m w written z ⊎ (Half ⊎ Stray) → IsTrue (goes_on m w z) → IsTrue (goes_on m w x) × BeginsWith (w.bodies x.journal) (w.bodies z.journal)
             bodies_by (inl struck) on = (goes, begins_on (w.bodies x.journal) (w.bodies j) (w.bodies z.journal) (line_begins (back.clean clean)) (record { more = text_of strike ∷ []; is = struck.bodies clean }))
-            bodies_by (inr (inl half)) on = absurd (never_both z.has_stray half.stray (on_without on))
-            bodies_by (inr (inr stray)) on = absurd (never_both z.has_stray stray.stray (on_without on))
+            bodies_by (inr (inl half)) on = absurd (never_both z.has_stray half.1.stray (on_without on))
+            bodies_by (inr (inr stray)) on = absurd (never_both z.has_stray stray.1.stray (on_without on))
 
-            files_by : IsStruck m w written z ⊎ (IsHalfStruck m w written z ⊎ IsStray m w r written z) → (file : List ℕ) → w.may_leave z.journal file
+            files_by : IsStruck m w written z ⊎ (Half ⊎ Stray) → (file : List ℕ) → w.may_leave z.journal file
                 → w.may_leave x.journal file ⊎ (IsTrue (goes_on m w x) × BeginsWith (sealed_text (w.bodies x.journal)) file)
             files_by (inl struck) file may =
                 inr (
@@ -505,14 +520,14 @@ module _ {O J : Type 0} (m : Meaning O) (w : Writing J) (x : Journaled O J) (goe
                   file_begins (back.clean clean) file (subst (BeginsWith (sealed_text (w.bodies j))) (sym (w.settled z.journal clean struck.is_open file may))
                       (text_begins (w.bodies j) (w.bodies z.journal) (record { more = text_of strike ∷ []; is = struck.bodies clean }))),
                 )
-            files_by (inr (inl half)) file may = elim (half.append.crash clean file may) [
+            files_by (inr (inl half)) file may = elim (half.1.append.crash clean file may) [
               | inl before ↦ inr (goes, whole_begins (back.clean clean) file before)
               | inr part ↦ inr (goes, file_begins (back.clean clean) file (record { more = part.left.tail; is = part.left.is }))
             ]
-            files_by (inr (inr stray)) file may = inr (goes, whole_begins (back.clean clean) file (subst (λ k. w.may_leave k file) stray.journal may))
+            files_by (inr (inr stray)) file may = inr (goes, whole_begins (back.clean clean) file (subst (λ k. w.may_leave k file) stray.1.journal may))
 
         -- its event is struck out, or the journal doesn't go on
-        added : IsStruck m w written z ⊎ (IsHalfStruck m w written z ⊎ IsStray m w r written z) → (h : History) → IsOf m w h x → is_clean m w z → AddsBy (journaled m w) (verdict h r) (Fault fault) x z
+        added : IsStruck m w written z ⊎ (Half ⊎ Stray) → (h : History) → IsOf m w h x → is_clean m w z → AddsBy (journaled m w) (verdict h r) (Fault fault) x z
         added (inl struck) h of clean =
             let one : Adds m w (struck_entry_of event) x z = λ on. (
               goes,
@@ -520,8 +535,8 @@ module _ {O J : Type 0} (m : Meaning O) (w : Writing J) (x : Journaled O J) (goe
                   ∙ ap (λ b. w.bodies x.journal ++ (settling ++ b ∷ text_of strike ∷ [])) said,
             ) in
             inr (subst (λ v. AddsStruck (journaled m w) v x z) (sym (permitted.allowed h of.office (clean_z clean.0)).verdict) one)
-        added (inr (inl half)) h of clean = inl (λ on. absurd (never_both z.has_stray half.stray (on_without on)))
-        added (inr (inr stray)) h of clean = inl (λ on. absurd (never_both z.has_stray stray.stray (on_without on)))
+        added (inr (inl half)) h of clean = inl (λ on. absurd (never_both z.has_stray half.1.stray (on_without on)))
+        added (inr (inr stray)) h of clean = inl (λ on. absurd (never_both z.has_stray stray.1.stray (on_without on)))
 
         module _ (h : History) (of : IsOf m w h x) (clean : m.is_clean z.office) (clean_j : w.is_clean z.journal) where
           -- the event was begun behind the journal of the history
@@ -538,23 +553,23 @@ module _ {O J : Type 0} (m : Meaning O) (w : Writing J) (x : Journaled O J) (goe
             is = w.settled z.journal clean_j struck.is_open file may ∙ ap sealed_text (struck.bodies clean_j) ∙ sealed_lines-push no_seal (w.bodies j) (text_of strike);
           }
 
-          file_begun : IsStruck m w written z ⊎ (IsHalfStruck m w written z ⊎ IsStray m w r written z) → (file : List ℕ) → w.may_leave z.journal file → IsBegun h event file
+          file_begun : IsStruck m w written z ⊎ (Half ⊎ Stray) → (file : List ℕ) → w.may_leave z.journal file → IsBegun h event file
           file_begun (inl struck) file may = part_file file (struck_part struck file may)
-          file_begun (inr (inl half)) file may = elim (half.append.crash clean_j file may) [
+          file_begun (inr (inl half)) file may = elim (half.1.append.crash clean_j file may) [
             | inl before ↦ whole_file file before
             | inr part ↦ part_file file part.left
           ]
-          file_begun (inr (inr stray)) file may = whole_file file (subst (λ k. w.may_leave k file) stray.journal may)
+          file_begun (inr (inr stray)) file may = whole_file file (subst (λ k. w.may_leave k file) stray.1.journal may)
 
           begun_by : (left : m.Left × List ℕ) → m.are_of h left.0 ⊎ m.are_begun h event left.0 → w.may_leave z.journal left.1 → AreBegun (journaled m w) h (verdict h r) left
-          begun_by left office may = begun_left h of (clean_z clean) (clean_x clean_j) left office (file_begun back.journal left.1 may)
+          begun_by left office may = begun_left h of (clean_z clean) (clean_x clean_j) left office (file_begun ended left.1 may)
 
           -- the office stood before the line was written
           stood : (left : m.Left) → m.may_leave x.office left → m.are_of h left
           stood left may = (permitted.stood h of.office (clean_z clean)).leaves left may
 
           -- where the event wasn't struck out it may have happened
-          by_office : IsStray m w r written z → (left : m.Left × List ℕ) → w.may_leave z.journal left.1 → m.may_leave x.office left.0 ⊎ AreInPart m h (verdict h r) left.0
+          by_office : Stray → (left : m.Left × List ℕ) → w.may_leave z.journal left.1 → m.may_leave x.office left.0 ⊎ AreInPart m h (verdict h r) left.0
               → AreInPart (journaled m w) h (verdict h r) left
           by_office stray left may (inl before) = inr (begun_by left (inl (stood left.0 before)) may)
           by_office stray left may (inr (inl with_one)) =
@@ -562,24 +577,24 @@ module _ {O J : Type 0} (m : Meaning O) (w : Writing J) (x : Journaled O J) (goe
               let are : m.are_of (event ∷ h) left.0 = subst (λ v. AreWithEvent m h v left.0) allowed.verdict with_one in
               let says : IsJournalOf left.1 (event ∷ h) = record {
                 bodies = w.bodies j;
-                is = w.settled j (back.clean clean_j) appended.written.0 left.1 (subst (λ k. w.may_leave k left.1) stray.journal may);
+                is = w.settled j (back.clean clean_j) appended.written.0 left.1 (subst (λ k. w.may_leave k left.1) stray.1.journal may);
                 says = with_line h of (clean_z clean) (clean_x clean_j) (w.bodies j) (one_there clean_j);
               } in
               inl (subst (λ v. AreWithEvent (journaled m w) h v left) (sym allowed.verdict) (are, says))
           by_office stray left may (inr (inr begun)) =
               inr (begun_by left (inr (subst (λ v. AreBegun m h v left.0) (permitted.allowed h of.office (clean_z clean)).verdict begun)) may)
 
-          crash_by : IsStruck m w written z ⊎ (IsHalfStruck m w written z ⊎ IsStray m w r written z) → (left : m.Left × List ℕ) → (journaled m w).may_leave z left
+          crash_by : IsStruck m w written z ⊎ (Half ⊎ Stray) → (left : m.Left × List ℕ) → (journaled m w).may_leave z left
               → AreInPart (journaled m w) h (verdict h r) left
           crash_by (inl struck) left may = inr (begun_by left (inl ((struck.stands h (handled.office h of.office) clean).leaves left.0 may.0)) may.1)
-          crash_by (inr (inl half)) left may = inr (begun_by left (inl ((half.stands h (handled.office h of.office) clean).leaves left.0 may.0)) may.1)
+          crash_by (inr (inl half)) left may = inr (begun_by left (inl ((half.1.stands h (handled.office h of.office) clean).leaves left.0 may.0)) may.1)
           crash_by (inr (inr stray)) left may =
               by_office stray left may.1 (handled.crash h of.office (clean_before clean) left.0 (back.leaves.crash clean left.0 may.0))
 
           -- where nothing happened in the office, nothing did
           nothing_more : LeavesUndone m x.office z.office h (verdict h r) → LeavesUndone (journaled m w) x z h (verdict h r)
           nothing_more none = (
-            (none.0, keeps_by back.journal clean_j),
+            (none.0, keeps_by ended clean_j),
             λ left may. elim (none.1 left.0 may.0) [
               | inl before ↦ inr (begun_by left (inl (stood left.0 before)) may.1)
               | inr begun ↦ inr (begun_by left (inr (subst (λ v. AreBegun m h v left.0) (permitted.allowed h of.office (clean_z clean)).verdict begun)) may.1)
@@ -604,7 +619,7 @@ module _ {O J : Type 0} (m : Meaning O) (w : Writing J) (x : Journaled O J) (goe
           approved = λ h of clean. tt;
           office = back_of;
           stands = λ h of clean. tt;
-          kept = λ clean. (m.keeps_on x.office o z.office (handled.kept (clean_before clean.0)) (back.leaves.kept clean.0), keeps_by back.journal clean.1);
-          adds = λ h of clean. added back.journal h of clean;
-          crash = λ h of clean left may. inr (crash_by h of clean.0 clean.1 back.journal left may);
+          kept = λ clean. (m.keeps_on x.office o z.office (handled.kept (clean_before clean.0)) (back.leaves.kept clean.0), keeps_by ended clean.1);
+          adds = λ h of clean. added ended h of clean;
+          crash = λ h of clean left may. inr (crash_by h of clean.0 clean.1 ended left may);
         }

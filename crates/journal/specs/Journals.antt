@@ -3,16 +3,17 @@ use Rattle.std.proofs.Common.{◌≡◌, ◌⊎◌, inl, inr, ◌∙◌, ◌+◌
 use Rattle.std.proofs.Common.{Bool, true, false, not, length, flat_map, if◌then◌else◌, IsTrue, ap}
 use Rattle.std.proofs.lemmas.Bool.{and_parts, false≢true}
 use Rattle.std.proofs.Common.{refl, sym, subst, append-nil, append_assoc, ◌==◌, Option, Some, None}
-use Rattle.std.specs.Prelude.{Result, Err, ⊤, IfErr, OnErr, OnOk}
+use Rattle.std.specs.Prelude.{Result, Ok, Err, ⊤, IfErr, OnErr, OnOk}
 use Rattle.std.proofs.lemmas.Grind.{flat_map-append}
 use Rattle.review_policy.specs.declared.ask.Request.{Request}
 use Rattle.review_policy.specs.declared.answer.Answer.{Answer}
+use Rattle.review_policy.specs.declared.answer.Answer.TheVariants as answers
 use Rattle.review_policy.specs.declared.fault.Fault.{Fault}
 use Rattle.office_policy.specs.History.{Event, History}
 use Rattle.office_policy.specs.Meaning.{Meaning, Entry, no_entry, entry_of, struck_entry_of}
 use Rattle.office_policy.specs.Handled.{Stands, Survives}
 use Rattle.office_policy.specs.Judging.{IsAnswered, LeavesAll}
-use Rattle.sealed_log.specs.Sealed.{no_seal, seal_of, sealed_lines, sealed_text}
+use Rattle.sealed_log.specs.Sealed.{IsBody, no_seal, seal_of, sealed_lines, sealed_text}
 use Rattle.sealed_log.proofs.SealFacts.{sealed_lines-append}
 use Rattle.journal.specs.Journal.{EndsWithEvent, IsJournalOf, Says}
 use Rattle.journal.specs.Lines.{done, happened, strike, text_of}
@@ -94,6 +95,11 @@ text_begins a b begins = record {
   more = sealed_lines (seal_of a) begins.more;
   is = ap sealed_text begins.is ∙ sealed_lines-append no_seal a begins.more;
 }
+
+-- what came of a change, without what was told when its event was taken back
+abbrev pub fault_in : Result ⊤ (Fault × Option Answer) → Result ⊤ Fault
+fault_in (Ok unit) = Ok unit
+fault_in (Err met) = Err met.0
 
 module _ {O J : Type 0} (m : Meaning O) (w : Writing J) where
   -- the journal is open, and has no event that didn't happen
@@ -270,38 +276,46 @@ module _ {O J : Type 0} (m : Meaning O) (w : Writing J) where
     pub bodies : w.is_clean new.journal
         → w.bodies new.journal ≡ w.bodies old.journal ++ text_of strike ∷ []
 
-  -- the event of the last line couldn't be struck out: the line of its strike met a fault
-  pub record IsHalfStruck (old new : Journaled O J) : Type 0 where
+  -- the event of the last line couldn't be struck out: the line of its strike met this fault
+  pub record IsHalfStruck (old new : Journaled O J) (fault : Fault) : Type 0 where
     pub stands : StandsStill old new
     pub stray : new.has_stray ≡ true
-    pub fault : Fault
     pub append : IsAppended w old.journal new.journal [] (text_of strike) (Err fault)
 
-  -- the event of the last line wasn't struck out: its request wasn't allowed again, and the office may not
-  -- stand as it did
-  pub record IsStray (r : Request) (old new : Journaled O J) : Type 0 where
+  -- the event of the last line wasn't struck out: its request wasn't allowed again, but answered so, and
+  -- the office may not stand as it did
+  pub record IsStray (r : Request) (old new : Journaled O J) (told : Answer) : Type 0 where
     pub stray : new.has_stray ≡ true
     pub journal : new.journal ≡ old.journal
-    pub told : Answer
     pub again : IsAnswered m old.office new.office r told
 
-  -- the event of the last line, which this request asked for, was taken back as far as that could be
-  pub record IsTakenBack (r : Request) (old new : Journaled O J) : Type 0 where
+  -- where nothing is told, the event of the last line was struck out; else it wasn't, since its request
+  -- was answered so, or its strike met this fault
+  abbrev pub IsStruckOr : Request → (old new : Journaled O J) → Option Answer → Type 0
+  IsStruckOr r old new None = IsStruck old new
+  IsStruckOr r old new (Some told) = IsStray r old new told
+      ⊎ ((fault : Fault) × (told ≡ answers.Fault fault) × IsHalfStruck old new fault)
+
+  -- the event of the last line, which this request asked for, was taken back as far as that could be, and
+  -- this is told where it still stands
+  pub record IsTakenBack (r : Request) (old new : Journaled O J) (told : Option Answer)
+      : Type 0 where
     pub leaves : LeavesAll m old.office new.office
     pub clean : w.is_clean new.journal → w.is_clean old.journal
     pub counts : w.faults old.journal ≤ w.faults new.journal
-    pub journal : IsStruck old new ⊎ IsHalfStruck old new ⊎ IsStray r old new
+    pub journal : IsStruckOr r old new told
 
-  -- what a request was answered that wasn't allowed again, where that is why the event of the last line
-  -- wasn't struck out
-  abbrev pub IsAnsweredAgain : Request → (old new : Journaled O J) → Option Answer → Type 0
-  IsAnsweredAgain r old new None = IsStruck old new ⊎ IsHalfStruck old new
-  IsAnsweredAgain r old new (Some told) = IsAnswered m old.office new.office r told
+  -- the line of this event was not written: the journal met this fault, or the event is too long for it
+  pub record IsUnwritten (old new : Journaled O J) (e : Event) (fault : Fault) : Type 0 where
+    pub stray : new.has_stray ≡ old.has_stray
+    pub office : new.office ≡ old.office
+    pub append : IsBody (text_of (happened e)) → IsAppended w old.journal new.journal
+        (done_bodies (unsettled w old)) (text_of (happened e)) (Err fault)
 
-  -- a fault left no stray; or the line of this event was written, and then taken back so
-  abbrev pub IsUndone : Request → (old new : Journaled O J) → Event → Type 0
-  IsUndone r old new e = (new.has_stray ≡ old.has_stray)
-      ⊎ ((mid : Journaled O J) × HasWritten old mid e × IsTakenBack r mid new)
+  -- after this fault the line of this event wasn't written; or it was, and then taken back so
+  abbrev pub IsUndone : Request → (old new : Journaled O J) → Event → Fault → Option Answer → Type 0
+  IsUndone r old new e fault told = (IsUnwritten old new e fault × (told ≡ None))
+      ⊎ ((mid : Journaled O J) × HasWritten old mid e × IsTakenBack r mid new told)
 
   -- the last event is settled, where it wasn't and the journal goes on
   pub record IsSettled (old new : Journaled O J) (result : Result ⊤ Fault) : Type 0 where

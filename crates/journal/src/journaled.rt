@@ -51,11 +51,11 @@ fn write_event<J: Journal>(
 }
 
 impl<O: Judge, J: Journal> Journaled<O, J> {
-    ghost use Rattle.std.specs.Prelude.{◌≡◌, false, IsTrue, OnErr, OnOk};
+    ghost use Rattle.std.specs.Prelude.{◌≡◌, false, IfErr, IsTrue, OnOk};
     ghost use Rattle.office_policy.specs.Handled.{IsHandled};
     ghost use Rattle.office_policy.specs.Judging.{IsPermitted, answer_in, event_for};
-    ghost use Rattle.journal.specs.Journals.{HasWritten, IsAnsweredAgain, IsSettled, IsTakenBack};
-    ghost use Rattle.journal.specs.Journals.{IsUndone, goes_on};
+    ghost use Rattle.journal.specs.Journals.{HasWritten, IsSettled, IsTakenBack};
+    ghost use Rattle.journal.specs.Journals.{IsUndone, fault_in, goes_on};
     ghost use Rattle.journal.specs.Journals.{journaled, unsettled, with_office};
 
     /// The office with the journal that says its history; and whether a line behind that of the last
@@ -133,12 +133,10 @@ impl<O: Judge, J: Journal> Journaled<O, J> {
     }
 
     // Strikes out the event of the last line, where the office stands as it did before. Else that
-    // event is a stray, and its request was answered so, or the strike met a fault.
+    // event is a stray, and its request was answered so, or the strike met this fault.
     #[tactic(auto, using(crate::proofs::Texts::strike_body))]
     fn strike_out(&mut self, alloc: Global, request: &Request) -> Option<Answer>
-        ensures taken { IsTakenBack O.Handler.meaning J.Journal.writing request.now
-            self.old self.new }
-        ensures again { IsAnsweredAgain O.Handler.meaning J.Journal.writing request.now
+        ensures { IsTakenBack O.Handler.meaning J.Journal.writing request.now
             self.old self.new result }
     {
         self.has_stray = true;
@@ -150,47 +148,52 @@ impl<O: Judge, J: Journal> Journaled<O, J> {
                     self.is_settled = true;
                     None
                 }
-                Err(_) => None,
+                Err(fault) => Some(Answer::Fault(fault)),
             },
         }
     }
 
     // Writes down what was allowed, and before it that what was allowed last was carried out, and
-    // carries it out.
+    // carries it out. A fault comes with what kept the line from being struck out, where that was
+    // written and still stands.
     fn do_allowed(
         &mut self,
         alloc: Global,
         request: &Request,
         allowed: &Allowed,
-    ) -> Result<(), Fault>
+    ) -> Result<(), (Fault, Option<Answer>)>
         requires { (before : O)
             × IsPermitted O.Handler.meaning before self.old.office request.now allowed.now }
         ensures handled { (before : O)
             → IsTrue (goes_on O.Handler.meaning J.Journal.writing self.old)
             → IsPermitted O.Handler.meaning before self.old.office request.now allowed.now
             → IsHandled (journaled O.Handler.meaning J.Journal.writing)
-            (with_office self.old before) self.new request.now (answer_in allowed.now result) }
+            (with_office self.old before) self.new request.now
+            (answer_in allowed.now (fault_in result)) }
         ensures written { OnOk result (HasWritten O.Handler.meaning J.Journal.writing
             self.old self.new (event_for allowed.now)) }
-        ensures undone { OnErr result (IsUndone O.Handler.meaning J.Journal.writing request.now
-            self.old self.new (event_for allowed.now)) }
+        ensures undone { IfErr result (λ met. IsUndone O.Handler.meaning J.Journal.writing
+            request.now self.old self.new (event_for allowed.now) met.0 met.1) }
     {
         let text = match change_text(alloc, &allowed.caller.name, &allowed.change) {
             Ok(text) => text,
-            Err(refused) => return Err(Fault::NoMemory(refused.into())),
+            Err(refused) => return Err((Fault::NoMemory(refused.into()), None)),
         };
         if !is_body(text.as_str().as_bytes()) {
             // No event that the policy allows is too long for a line.
-            return Err(Fault::Disk);
+            return Err((Fault::Disk, None));
         }
         let last = self.unsettled();
-        write_event(alloc, &mut self.journal, last, text.as_str().as_bytes())?;
+        match write_event(alloc, &mut self.journal, last, text.as_str().as_bytes()) {
+            Ok(()) => {}
+            Err(fault) => return Err((fault, None)),
+        }
         self.is_settled = false;
         match self.office.carry_out(alloc, allowed) {
             Ok(()) => Ok(()),
             Err(fault) => {
-                drop(self.strike_out(alloc, request));
-                Err(fault)
+                let told = self.strike_out(alloc, request);
+                Err((fault, told))
             }
         }
     }
@@ -209,7 +212,7 @@ impl<O: Judge, J: Journal> Handler for Journaled<O, J> {
             Judgement::Answered(answer) => answer,
             Judgement::Allowed(allowed) => match self.do_allowed(alloc, request, &allowed) {
                 Ok(()) => Answer::Done(allowed.reply),
-                Err(fault) => Answer::Fault(fault),
+                Err((fault, _)) => Answer::Fault(fault),
             },
         }
     }
