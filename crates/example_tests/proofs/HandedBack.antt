@@ -1,5 +1,6 @@
 -- An office and a journal that are handed back.
 use Rattle.std.proofs.Common.{◌≡◌, ◌≢◌, ◌∙◌, ◌≤◌, inl, inr, ℕ, List, [], ◌∷◌, true, length, refl, sym, ap, subst, arith, append-nil, length-append}
+use Rattle.std.proofs.lemmas.Bool.{false≢true}
 use Rattle.std.proofs.lemmas.List.Elements.{All-cons, All-nil}
 use Rattle.sqlite.specs.Held.{Held, state}
 use Rattle.sqlite.specs.Store.{Ghosts}
@@ -19,12 +20,12 @@ use Rattle.journal.specs.Journal.{Says}
 use Rattle.journal.specs.Lines.{happened, text_of}
 use Rattle.journal.proofs.JournalFacts.{says_one}
 use Rattle.journal_office.specs.declared.not_reopened.NotReopened.{NotReopened}
-use Rattle.journal_office.specs.declared.not_reopened.NotReopened.TheVariants.{Changed, NoMemory, NotALine, Office, OtherJournal, Unsealed}
+use Rattle.journal_office.specs.declared.not_reopened.NotReopened.TheVariants.{Changed, Log, NoMemory, NotALine, Office, OtherJournal, Unsealed}
 use Rattle.journal_office.specs.Mending.{SaysOther, TellsOf}
 use Rattle.journal_office.specs.Opening.{IsHandedBack}
 use Rattle.journal_office.proofs.MendFacts.{left_ours}
 use Rattle.example_tests.specs.Examples.{IsAfter, founding}
-use Rattle.example_tests.specs.JournalExamples.{first_line, first_lines, HasBodies, IsCleanOffice, IsUnclean, MayLeaveNothing, one}
+use Rattle.example_tests.specs.JournalExamples.{first_line, first_lines, HasBodies, HasMet, IsCleanOffice, IsUnclean, MayLeaveNothing, one}
 use Rattle.example_tests.proofs.Founded.{is_lawful}
 use Rattle.example_tests.proofs.Leavings.{none_in_front}
 use Rattle.example_tests.proofs.Lines.{first_says, nothing_said, told_first, told_first_lines}
@@ -69,6 +70,7 @@ module _ {S D : Type 0} (s : Ghosts S) (g : DiskGhosts D) (old : Held S) (log : 
     own = λ clean h of is_clean tells marked is. cc;
     untouched = λ refusal. refl;
     cause = λ h of is_clean. tt;
+    word = λ clean. tt;
     crash = λ clean leaves. leaves;
   }
 
@@ -84,6 +86,7 @@ module _ {S D : Type 0} (s : Ghosts S) (g : DiskGhosts D) (old : Held S) (log : 
     own = λ clean h of is_clean tells marked is. cc;
     untouched = λ refusal. refl;
     cause = λ h of is_clean. tt;
+    word = λ clean. tt;
     crash = λ clean leaves. leaves;
   }
 
@@ -101,6 +104,7 @@ module _ {S D : Type 0} (s : Ghosts S) (g : DiskGhosts D) (old : Held S) (log : 
         own = λ clean h of is_clean tells marked is. omega (arith, size, marked);
         untouched = λ refusal. refl;
         cause = λ h of is_clean. tt;
+        word = λ clean. tt;
         crash = λ clean leaves. leaves;
       }
 
@@ -145,6 +149,16 @@ module _ {S D : Type 0} (s : Ghosts S) (g : DiskGhosts D) (old : Held S) (log : 
     never_uncaused of is was now back =
         let risen = back.cause founding of.of is.clean in
         omega (arith, was.count, now.count, risen)
+
+    pub never_uncalled : HasBodies g log first_line → HasBodies g after first_line → HasMet g log 3 → HasMet g after 3 → IsHandedBack s g 1 old log Log office after → ⊥
+    never_uncalled was has met now back = elim (back.word has.clean) [
+      | inl shut ↦ false≢true (sym shut ∙ log.usable was.is_open)
+      | inr fails ↦
+          let begun = fails.call.begun.faults in
+          let failed = fails.call.failed in
+          let ended = fails.call.ended.faults in
+          omega (arith, begun, failed, ended, met, now)
+    ]
 
     pub never_lost : (why : NotReopened) → HasBodies g log first_line → MayLeaveNothing g after → IsHandedBack s g 1 old log why office after → ⊥
     never_lost why was leaves back =

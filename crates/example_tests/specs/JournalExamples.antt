@@ -8,6 +8,8 @@ use Rattle.sqlite.specs.Store.{Ghosts}
 use Rattle.sqlite_disk.specs.declared.Disk.{Ghosts as DiskGhosts}
 use Rattle.sealed_log.specs.Sealed.{seal_of, sealed_text}
 use Rattle.sealed_log.specs.declared.log.SealedLog.{SealedLog}
+use Rattle.review_policy.specs.declared.fault.Fault.TheVariants.{Disk}
+use Rattle.office_policy.specs.Handled.{HasRisen}
 use Rattle.office_policy.specs.History.{History}
 use Rattle.office_policy.specs.ShowsEvent.{Shows}
 use Rattle.office_policy.specs.TablesOf.{tables_of}
@@ -26,7 +28,7 @@ pub record Pages : Type 0 where
   pub bodies : List (List ℕ)
   pub is_open : Bool
 
--- what is meant by such a journal, which is clean and has met so many faults
+-- what is meant by such a journal, which is clean and has met so many faults, each of the disk
 abbrev pub in_pages : (is_clean : Pages → Type 0) → (faults : Pages → ℕ) → Writing Pages
 in_pages is_clean faults = record {
   is_clean = is_clean;
@@ -34,9 +36,11 @@ in_pages is_clean faults = record {
   is_open = λ j. j.is_open;
   lines = λ j. min (length j.bodies) (2 ^ 64 - 1);
   faults = faults;
+  fails = λ old new fault. (fault ≡ Disk) × HasRisen (faults old) (faults new);
   may_leave = λ j left. left ≡ sealed_text j.bodies;
   settled = λ j clean is_open left may. may;
   counted = λ j clean is_open. refl;
+  risen = λ old new fault fails. fails.1;
 }
 
 -- one no call of which fails; one that a fault has shut, where it is shut; and one that is clean only
@@ -133,6 +137,10 @@ pub record HasBodies {D : Type 0} (g : DiskGhosts D) (log : SealedLog D g)
   pub is_open : log.is_open ≡ true
   pub clean : IsTrue (g.is_clean log.disk)
   pub seen : g.seen log.disk ≡ sealed_text bodies
+
+-- so many calls of the disk of a log have failed
+abbrev pub HasMet : {D : Type 0} (g : DiskGhosts D) → SealedLog D g → ℕ → Type 0
+HasMet g log faults = g.faults log.disk ≡ faults
 
 -- a log whose disk isn't clean
 abbrev pub IsUnclean : {D : Type 0} (g : DiskGhosts D) → SealedLog D g → Type 0

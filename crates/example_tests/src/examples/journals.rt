@@ -100,7 +100,7 @@ pub fn examples_of_what_an_answer_adds()
         (grown 3) → ⊥ }
 {}
 
-/// The last event isn't settled for a fault that no call met.
+/// No fault is told that no call met, that of another call, or one where no line is due.
 pub fn examples_of_faults_while_settling()
     ensures disk { (new : Journaled Sketch Pages) → IsSettled quiet paged
         (with_unsettled (one ∷ [])) new (Err faults.Disk) → ⊥ }
@@ -108,6 +108,12 @@ pub fn examples_of_faults_while_settling()
         (with_unsettled (one ∷ [])) new (Err faults.Full) → ⊥ }
     ensures form { (old new : Journaled Sketch Pages) → IsSettled quiet paged old new
         (Err faults.NotAnOffice) → ⊥ }
+    ensures other_call { (new : Journaled Sketch Pages) → IsSettled quiet failing
+        (with_unsettled (one ∷ [])) new (Err faults.Full) → ⊥ }
+    ensures not_due { (new : Journaled Sketch Pages) (fault : TheFault) → IsSettled quiet failing
+        (with_bodies (one ∷ [])) new (Err fault) → ⊥ }
+    ensures ended { (new : Journaled Sketch Pages) (fault : TheFault) → IsSettled quiet failing
+        (with_stray (one ∷ [])) new (Err fault) → ⊥ }
 {}
 
 /// The last event is settled by the line that says that it is carried out, and by no other; or there

@@ -11,7 +11,7 @@ ghost use Rattle.journal_office.specs.declared.not_reopened.NotReopened.{NotReop
 ghost use Rattle.journal_office.specs.declared.not_reopened.NotReopened.TheVariants as whys;
 ghost use Rattle.review_policy.specs.declared.fault.Fault.TheVariants as faults;
 ghost use Rattle.example_tests.specs.Examples.{IsAfter, enrols, founds, founding};
-ghost use Rattle.example_tests.specs.JournalExamples.{first_line, first_lines, HasBodies};
+ghost use Rattle.example_tests.specs.JournalExamples.{first_line, first_lines, HasBodies, HasMet};
 ghost use Rattle.example_tests.specs.JournalExamples.{IsCleanOffice, IsUnclean, MayLeaveNothing};
 ghost use Rattle.example_tests.specs.JournalExamples.{ShowsFounding, one, with_log};
 ghost use Rattle.no_memory.specs.Witness.{witness};
@@ -101,6 +101,10 @@ pub fn examples_of_what_is_handed_back<S: Alter, D: Disk>()
         → IsCleanOffice S.Store founding old → IsCleanOffice S.Store founding office
         → IsAfter S.Store old true 3 → IsAfter S.Store office true 3
         → IsHandedBack S.Store D.Disk 1 old log (whys.Office faults.Full) office after → ⊥ }
+    ensures no_call { (old office : Held S) (log after : SealedLog D D.Disk)
+        → HasBodies D.Disk log first_line → HasBodies D.Disk after first_line
+        → HasMet D.Disk log 3 → HasMet D.Disk after 3
+        → IsHandedBack S.Store D.Disk 1 old log whys.Log office after → ⊥ }
     ensures lost { (old office : Held S) (log after : SealedLog D D.Disk) (why : NotReopened)
         → HasBodies D.Disk log first_line → MayLeaveNothing D.Disk after
         → IsHandedBack S.Store D.Disk 1 old log why office after → ⊥ }

@@ -20,7 +20,7 @@ returns-clause-done c =
     (record { clean = λ clean. clean; counts = omega arith; closes = λ clean is_open. inl is_open; written = (refl, λ clean. refl); crash = λ clean left may. inr (record { is_open = refl; left = subst (IsLeftIn first_line [] (text_of (done 1))) (sym may) (whole_left first_line (text_of (done 1))) }) })
 
 pub returns-clause-no_memory : goal.returns-clause-no_memory
-returns-clause-no_memory c = no_text quiet paged (with_unsettled first_line)
+returns-clause-no_memory c = no_text quiet paged (with_unsettled first_line) refl refl
 
 pub returns-clause-untried : goal.returns-clause-untried
 returns-clause-untried c = λ is. elim (is.settled refl).1 [

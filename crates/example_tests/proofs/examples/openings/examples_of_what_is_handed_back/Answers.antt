@@ -1,4 +1,4 @@
-use Rattle.example_tests.proofs.HandedBack.{mark_above, never_clean, never_changed, never_forgotten, never_lost, never_no_line, never_others, never_uncaused, never_unsealed, never_written, no_memory, unsealed}
+use Rattle.example_tests.proofs.HandedBack.{mark_above, never_clean, never_changed, never_forgotten, never_lost, never_no_line, never_others, never_uncalled, never_uncaused, never_unsealed, never_written, no_memory, unsealed}
 use Rattle.example_tests.proofs.examples.openings.examples_of_what_is_handed_back.Goals as goal
 
 pub returns-clause-no_memory : goal.returns-clause-no_memory
@@ -33,6 +33,9 @@ returns-clause-written g c = λ old office log after. never_written g.S.Store g.
 
 pub returns-clause-no_cause : goal.returns-clause-no_cause
 returns-clause-no_cause g c = λ old office log after. never_uncaused g.S.Store g.D.Disk old log office after
+
+pub returns-clause-no_call : goal.returns-clause-no_call
+returns-clause-no_call g c = λ old office log after. never_uncalled g.S.Store g.D.Disk old log office after
 
 pub returns-clause-lost : goal.returns-clause-lost
 returns-clause-lost g c = λ old office log after why. never_lost g.S.Store g.D.Disk old log office after why

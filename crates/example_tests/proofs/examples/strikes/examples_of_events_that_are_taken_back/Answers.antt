@@ -27,7 +27,7 @@ returns-clause-half_struck c = λ r. record {
       clean = λ clean. clean;
       counts = omega arith;
       closes = λ clean is_open. inr (omega arith);
-      written = (λ clean is_open. refl, λ clean is_open. omega arith);
+      written = (λ clean is_open. refl, λ clean is_open. (refl, omega arith));
       crash = λ clean left may. inl may;
     };
   }));
