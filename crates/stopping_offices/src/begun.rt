@@ -39,9 +39,7 @@ pub fn at_rest<S: Alter + Drop>(conn: Connection<S>) -> Result<Connection<S>, Fa
 pub fn before<S: Alter + Drop>(
     conn: Connection<S>,
     beginning: Beginning,
-) -> Result<Connection<S>, Fail>
-    ensures { IfOk result (λ conn. IsIdle (state S.Store conn)) }
-{
+) -> Result<Connection<S>, Fail> {
     let mut conn = conn;
     if let Beginning::Migration = beginning {
         conn.execute_batch(OLD_OFFICE)?;
@@ -49,14 +47,18 @@ pub fn before<S: Alter + Drop>(
     at_rest(conn)
 }
 
-/// The office that a database has.
-pub fn reopened<S: Alter + Drop>(conn: Connection<S>) -> Begun<S>
+fn over<S: Alter + Drop>(conn: Connection<S>) -> Begun<S>
     requires { IsIdle (state S.Store conn) }
 {
     match Office::over(conn) {
         Ok(office) => Ok(office),
         Err((_, conn)) => Err(conn),
     }
+}
+
+/// The office that a database has.
+pub fn reopened<S: Alter + Drop>(conn: Connection<S>) -> Result<Begun<S>, Fail> {
+    Ok(over(at_rest(conn)?))
 }
 
 fn founded<S: Alter + Drop>(alloc: Global, conn: Connection<S>) -> Result<Begun<S>, Fail>
@@ -68,13 +70,21 @@ fn founded<S: Alter + Drop>(alloc: Global, conn: Connection<S>) -> Result<Begun<
     }
 }
 
+fn is_migrated<S: Alter>(conn: &mut Connection<S>) -> bool
+    requires { IsIdle (state S.Store conn.old) }
+    ensures { IsIdle (state S.Store conn.new) }
+{
+    migrate(conn).is_ok()
+}
+
 fn migrated<S: Alter + Drop>(conn: Connection<S>) -> Begun<S>
     requires { IsIdle (state S.Store conn) }
 {
     let mut conn = conn;
-    match migrate(&mut conn) {
-        Ok(()) => reopened(conn),
-        Err(_) => Err(conn),
+    if is_migrated(&mut conn) {
+        over(conn)
+    } else {
+        Err(conn)
     }
 }
 
@@ -82,9 +92,8 @@ pub fn begin<S: Alter + Drop>(
     alloc: Global,
     conn: Connection<S>,
     beginning: Beginning,
-) -> Result<Begun<S>, Fail>
-    requires { IsIdle (state S.Store conn) }
-{
+) -> Result<Begun<S>, Fail> {
+    let conn = at_rest(conn)?;
     match beginning {
         Beginning::Founding => founded(alloc, conn),
         Beginning::Migration => Ok(migrated(conn)),

@@ -3,7 +3,8 @@
 use crate::asked::answer_to;
 use crate::begun::{Beginning, before, begin};
 use office_desk::Office;
-use sqlite::{Connection, MemStore};
+use office_policy::Handler;
+use sqlite::{Alter, Connection};
 use std::alloc::{AllocError, Global};
 use std::test::Fail;
 use test_offices::tables::tables_of;
@@ -63,26 +64,68 @@ pub struct Course {
     pub again: Vec<String>,
 }
 
-// What is there before the office begins.
-fn beginning(alloc: Global, script: Script) -> Result<Connection<MemStore>, Fail> {
-    before(Connection::open_in_memory(alloc)?, script.beginning)
-}
-
-// The office after so many requests of a script.
-fn office_after(alloc: Global, script: Script, count: usize) -> Result<Office<MemStore>, Fail> {
-    let conn = before(Connection::open_in_memory(alloc)?, script.beginning)?;
+// The office in this database after so many requests of a script.
+fn office_in<S: Alter + Drop>(
+    alloc: Global,
+    conn: Connection<S>,
+    script: Script,
+    count: usize,
+) -> Result<Office<S>, Fail> {
+    let conn = before(conn, script.beginning)?;
     let Ok(mut office) = begin(alloc, conn, script.beginning)? else {
         return Err(Fail::from("an office"));
     };
-    for request in script.requests.iter().take(count) {
-        answer_to(alloc, &mut office, request)?;
-    }
+    ask_all(alloc, &mut office, script, count)?;
     Ok(office)
 }
 
+fn ask_all<H: Handler>(
+    alloc: Global,
+    office: &mut H,
+    script: Script,
+    count: usize,
+) -> Result<(), Fail> {
+    for request in script.requests.iter().take(count) {
+        answer_to(alloc, office, request)?;
+    }
+    Ok(())
+}
+
+fn tables_in<S: Alter + Drop>(
+    alloc: Global,
+    conn: Connection<S>,
+    script: Script,
+    count: usize,
+) -> Result<String, Fail> {
+    let office = office_in(alloc, conn, script, count)?;
+    tables_of(alloc, &mut office.into_connection())
+}
+
+fn answer_in<S: Alter + Drop>(
+    alloc: Global,
+    conn: Connection<S>,
+    script: Script,
+    count: usize,
+    request: &str,
+) -> Result<String, Fail> {
+    let mut office = office_in(alloc, conn, script, count)?;
+    answer_to(alloc, &mut office, request)
+}
+
+fn tables_before_in<S: Alter + Drop>(
+    alloc: Global,
+    conn: Connection<S>,
+    script: Script,
+) -> Result<String, Fail> {
+    tables_of(alloc, &mut before(conn, script.beginning)?)
+}
+
+fn tables_before(alloc: Global, script: Script) -> Result<String, Fail> {
+    tables_before_in(alloc, Connection::open_in_memory(alloc)?, script)
+}
+
 fn tables_after(alloc: Global, script: Script, count: usize) -> Result<String, Fail> {
-    let mut conn = office_after(alloc, script, count)?.into_connection();
-    tables_of(alloc, &mut conn)
+    tables_in(alloc, Connection::open_in_memory(alloc)?, script, count)
 }
 
 // What a request is answered after so many of a script.
@@ -92,8 +135,13 @@ fn answer_after(
     count: usize,
     request: &str,
 ) -> Result<String, Fail> {
-    let mut office = office_after(alloc, script, count)?;
-    answer_to(alloc, &mut office, request)
+    answer_in(
+        alloc,
+        Connection::open_in_memory(alloc)?,
+        script,
+        count,
+        request,
+    )
 }
 
 impl Course {
@@ -108,9 +156,8 @@ impl Course {
             answers.push(answer_after(alloc, script, at, request)?)?;
             again.push(answer_after(alloc, script, next, request)?)?;
         }
-        let mut conn = beginning(alloc, script)?;
         Ok(Course {
-            before: tables_of(alloc, &mut conn)?,
+            before: tables_before(alloc, script)?,
             tables,
             answers,
             again,
