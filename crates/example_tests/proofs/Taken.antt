@@ -29,5 +29,5 @@ no_memory x r = record {
 answered : (x : Sketch) (r : Request) → IsAnswered quiet x x r (Fault (NoMemory witness))
 answered x r = record { leaves = left_itself quiet x; handled = no_memory x r; same = λ h of clean. refl }
 
-pub is_stray : (r : Request) → IsStray quiet paged r (with_unsettled second_lines) (with_stray second_lines)
-is_stray r = record { stray = refl; journal = refl; told = Fault (NoMemory witness); again = answered (counting 0) r }
+pub is_stray : (r : Request) → IsStray quiet paged r (with_unsettled second_lines) (with_stray second_lines) (Fault (NoMemory witness))
+is_stray r = record { stray = refl; journal = refl; again = answered (counting 0) r }

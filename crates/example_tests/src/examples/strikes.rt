@@ -1,40 +1,69 @@
 //! What becomes of the line of an event that didn't happen.
 
-ghost use Rattle.std.specs.Prelude.{◌≡◌};
+ghost use Rattle.std.specs.Prelude.{◌≡◌, ◌∷◌, [], Option, Some, None};
+ghost use Rattle.no_memory.specs.Witness.{witness};
+ghost use Rattle.review_policy.specs.declared.answer.Answer.{Answer};
+ghost use Rattle.review_policy.specs.declared.answer.Answer.TheVariants as answers;
 ghost use Rattle.review_policy.specs.declared.ask.Request.{Request};
-ghost use Rattle.journal.specs.Journals.{IsStray, IsTakenBack, with_office};
-ghost use Rattle.example_tests.specs.Examples.{counting, grown, quiet};
-ghost use Rattle.example_tests.specs.JournalExamples.{failing, paged, second_lines, spoilt};
-ghost use Rattle.example_tests.specs.JournalExamples.{struck_lines, with_bodies, with_shut};
+ghost use Rattle.review_policy.specs.declared.fault.Fault.TheVariants as faults;
+ghost use Rattle.sealed_log.specs.Sealed.{IsBody};
+ghost use Rattle.journal.specs.Journals.{IsStray, IsTakenBack, IsUndone, with_office};
+ghost use Rattle.journal.specs.Lines.{happened, text_of};
+ghost use Rattle.example_tests.specs.Examples.{counting, enrols, grown, quiet};
+ghost use Rattle.example_tests.specs.JournalExamples.{failing, first_lines, paged, second_lines};
+ghost use Rattle.example_tests.specs.JournalExamples.{spoilt, struck_lines, with_bodies, with_shut};
 ghost use Rattle.example_tests.specs.JournalExamples.{with_stray, with_unsettled};
 
 /// An event is a stray where its line stays the last one, and the office is what it was.
 pub fn examples_of_strays()
     ensures left { (r : Request) → IsStray quiet paged r (with_unsettled second_lines)
-        (with_stray second_lines) }
-    ensures no_stray { (r : Request) → IsStray quiet paged r (with_unsettled second_lines)
-        (with_unsettled second_lines) → ⊥ }
-    ensures struck { (r : Request) → IsStray quiet paged r (with_unsettled second_lines)
-        (with_stray struck_lines) → ⊥ }
-    ensures happened { (r : Request) → IsStray quiet paged r (with_unsettled second_lines)
-        (with_office (with_stray second_lines) (grown 0)) → ⊥ }
+        (with_stray second_lines) (answers.Fault (faults.NoMemory witness)) }
+    ensures no_stray { (r : Request) (told : Answer) → IsStray quiet paged r
+        (with_unsettled second_lines) (with_unsettled second_lines) told → ⊥ }
+    ensures struck { (r : Request) (told : Answer) → IsStray quiet paged r
+        (with_unsettled second_lines) (with_stray struck_lines) told → ⊥ }
+    ensures happened { (r : Request) (told : Answer) → IsStray quiet paged r
+        (with_unsettled second_lines) (with_office (with_stray second_lines) (grown 0)) told → ⊥ }
 {}
 
-/// An event is taken back where its line is struck out, or where a fault or its request keeps the
-/// journal from that; not where nothing was tried, or a fault is forgotten.
+/// An event is taken back where its line is struck out, or where what is told keeps the journal from
+/// that; not where nothing was tried, or a fault is forgotten.
 pub fn examples_of_events_that_are_taken_back()
     ensures struck { (r : Request) → IsTakenBack quiet paged r (with_unsettled second_lines)
-        (with_bodies struck_lines) }
+        (with_bodies struck_lines) None }
     ensures half_struck { (r : Request) → IsTakenBack quiet failing r
-        (with_unsettled second_lines) (with_shut second_lines) }
+        (with_unsettled second_lines) (with_shut second_lines)
+        (Some (answers.Fault faults.Disk)) }
     ensures stray { (r : Request) → IsTakenBack quiet paged r (with_unsettled second_lines)
-        (with_stray second_lines) }
-    ensures untried { (r : Request) → IsTakenBack quiet paged r (with_unsettled second_lines)
-        (with_unsettled second_lines) → ⊥ }
-    ensures fault_of_the_office { (r : Request) → IsTakenBack quiet paged r
-        (with_office (with_unsettled second_lines) (counting 1)) (with_bodies struck_lines) → ⊥ }
-    ensures fault_of_the_journal { (r : Request) → IsTakenBack quiet failing r
-        (with_shut second_lines) (with_bodies struck_lines) → ⊥ }
-    ensures unclean { (r : Request) → IsTakenBack quiet spoilt r (with_shut second_lines)
-        (with_bodies struck_lines) → ⊥ }
+        (with_stray second_lines) (Some (answers.Fault (faults.NoMemory witness))) }
+    ensures untried { (r : Request) (told : Option Answer) → IsTakenBack quiet paged r
+        (with_unsettled second_lines) (with_unsettled second_lines) told → ⊥ }
+    ensures unstruck { (r : Request) → IsTakenBack quiet paged r (with_unsettled second_lines)
+        (with_stray second_lines) None → ⊥ }
+    ensures uncalled { (r : Request) → IsTakenBack quiet paged r (with_unsettled second_lines)
+        (with_stray second_lines) (Some (answers.Fault faults.Disk)) → ⊥ }
+    ensures untold { (r : Request) → IsTakenBack quiet failing r (with_unsettled second_lines)
+        (with_shut second_lines) None → ⊥ }
+    ensures other_call { (r : Request) → IsTakenBack quiet failing r
+        (with_unsettled second_lines) (with_shut second_lines)
+        (Some (answers.Fault faults.Full)) → ⊥ }
+    ensures fault_of_the_office { (r : Request) (told : Option Answer) → IsTakenBack quiet paged r
+        (with_office (with_unsettled second_lines) (counting 1)) (with_bodies struck_lines) told
+        → ⊥ }
+    ensures fault_of_the_journal { (r : Request) (told : Option Answer) → IsTakenBack quiet failing
+        r (with_shut second_lines) (with_bodies struck_lines) told → ⊥ }
+    ensures unclean { (r : Request) (told : Option Answer) → IsTakenBack quiet spoilt r
+        (with_shut second_lines) (with_bodies struck_lines) told → ⊥ }
+{}
+
+/// A fault that kept an event from being written down is that of the journal's call.
+pub fn examples_of_events_that_are_not_written()
+    ensures disk { (r : Request) → IsUndone quiet failing r (with_stray first_lines)
+        (with_shut first_lines) enrols faults.Disk None }
+    ensures other_call { (r : Request) → IsBody (text_of (happened enrols))
+        → IsUndone quiet failing r (with_stray first_lines) (with_shut first_lines) enrols
+        faults.Full None → ⊥ }
+    ensures no_call { (r : Request) → IsBody (text_of (happened enrols))
+        → IsUndone quiet paged r (with_stray first_lines) (with_stray first_lines) enrols
+        faults.Disk None → ⊥ }
 {}

@@ -10,10 +10,10 @@ pub returns-clause-left : goal.returns-clause-left
 returns-clause-left c = is_stray
 
 pub returns-clause-no_stray : goal.returns-clause-no_stray
-returns-clause-no_stray c = λ r is. let k : false ≡ true = is.stray in cc
+returns-clause-no_stray c = λ r told is. let k : false ≡ true = is.stray in cc
 
 pub returns-clause-struck : goal.returns-clause-struck
-returns-clause-struck c = λ r is. let k : ◌≡◌ {A = ℕ} 3 2 = ap (λ (j : Pages). length j.bodies) is.journal in omega (arith, k)
+returns-clause-struck c = λ r told is. let k : ◌≡◌ {A = ℕ} 3 2 = ap (λ (j : Pages). length j.bodies) is.journal in omega (arith, k)
 
 pub returns-clause-happened : goal.returns-clause-happened
-returns-clause-happened c = λ r is. other_history (sym (is.again.leaves.office founding (founded_of 0)).1)
+returns-clause-happened c = λ r told is. other_history (sym (is.again.leaves.office founding (founded_of 0)).1)
