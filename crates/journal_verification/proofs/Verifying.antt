@@ -4,8 +4,6 @@ use Rattle.sqlite.specs.Held.{Held, state}
 use Rattle.sqlite.specs.State.{HasCleanDisk}
 use Rattle.sqlite.specs.Steps.{IsEmpty}
 use Rattle.sqlite.specs.Store.{Ghosts}
-use Rattle.memory_database.specs.MemoryStore.{MemoryStore, over_memory}
-use Rattle.memory_database.proofs.MemoryFacts.{memory_is_clean}
 use Rattle.office_store.specs.Shown.{IsIdle, Shows}
 use Rattle.office_store.proofs.Calls.{Settles, leaves_only}
 use Rattle.office_policy.specs.Callers.{caller_of}
@@ -43,7 +41,8 @@ pub same_seal : (bytes : Option (List ℕ)) (kept : Option KeptSeal) (at : Optio
 same_seal None kept at is there tells same = tt
 same_seal (Some text) kept at is there tells same = (tells (told text) there).0 same
 
-module _ (bytes : Option (List ℕ)) where
+-- over a store that returns what was written to it
+module _ (bytes : Option (List ℕ)) {S : Type 0} (s : Ghosts S) (law : (x : Held S) → HasCleanDisk (state s x)) where
   refuted : (Clean : Type 0) → Clean → (w : Why) → Refutes bytes Clean w → Refutes bytes (Unit {0}) w
   refuted Clean clean (why.Unread unreadable.NotALine) h = h
   refuted Clean clean (why.Unread unreadable.NoEventBefore) h = h
@@ -58,11 +57,11 @@ module _ (bytes : Option (List ℕ)) where
   refuted Clean clean (why.Unreplayed causes.OtherText) h = λ _. h clean
   refuted Clean clean (why.Unreplayed (causes.Fault fault)) h = h
 
-  -- an event that is refused in memory is the first one that isn't allowed
-  first_unlawful : (left : Held MemoryStore) (line : ℕ) (cause : Unreplayed) (Because : Event → History → Type 0) (is : IsUnreplayed bytes (meaning_over over_memory) left line cause)
-      → IsDenied (meaning_over over_memory) is.old left is.event (Because is.event) → IsFirstUnlawful bytes line Because
+  -- an event that is refused is the first one that isn't allowed
+  first_unlawful : (left : Held S) (line : ℕ) (cause : Unreplayed) (Because : Event → History → Type 0) (is : IsUnreplayed bytes (meaning_over s) left line cause)
+      → IsDenied (meaning_over s) is.old left is.event (Because is.event) → IsFirstUnlawful bytes line Because
   first_unlawful left line cause Because is denied =
-      let clean = memory_is_clean is.old in
+      let clean = law is.old in
       let here = (is.replayed.stands clean).is_of in
       record {
         before = is.before;
@@ -70,18 +69,18 @@ module _ (bytes : Option (List ℕ)) where
         after = is.after;
         told = goes_then (start bytes) is.here is.after is.before ((line, is.event) ∷ []) is.replayed.told is.told;
         lawful = is.replayed.lawful clean;
-        never = denied.never (history_told is.before) here (memory_is_clean left);
-        because = denied.why (history_told is.before) here (memory_is_clean left);
+        never = denied.never (history_told is.before) here (law left);
+        because = denied.why (history_told is.before) here (law left);
       }
 
-  wrong_at : (conn left : Held MemoryStore) (line : ℕ) (w : Why) → IsRefused bytes over_memory conn left line w → IsWrongAt bytes line w
+  wrong_at : (conn left : Held S) (line : ℕ) (w : Why) → IsRefused bytes s conn left line w → IsWrongAt bytes line w
   wrong_at conn left line (why.Unread fault) is = record {
     last = is.last;
     before = is.before;
     told = is.told;
     cannot = is.cannot;
     counted = is.counted;
-    lawful = λ _. is.lawful (memory_is_clean left);
+    lawful = λ _. is.lawful (law left);
   }
   wrong_at conn left line why.NotFounded is = is
   wrong_at conn left line (why.Unfounded fault) is = tt
@@ -90,8 +89,8 @@ module _ (bytes : Option (List ℕ)) where
   wrong_at conn left line (why.Unreplayed causes.OtherText) is = first_unlawful left line causes.OtherText HasOtherText is is.refused
   wrong_at conn left line (why.Unreplayed (causes.Fault fault)) is = tt
 
-  pub not_rebuilt : (conn left : Held MemoryStore) (refused : Refused) → IsIdle (state over_memory conn) → IsEmpty (state over_memory conn)
-      → IsRefused bytes over_memory conn left refused.line refused.why → Refutes bytes (HasCleanDisk (state over_memory left)) refused.why → IsNotRebuilt bytes refused
+  pub not_rebuilt : (conn left : Held S) (refused : Refused) → IsIdle (state s conn) → IsEmpty (state s conn)
+      → IsRefused bytes s conn left refused.line refused.why → Refutes bytes (HasCleanDisk (state s left)) refused.why → IsNotRebuilt bytes s refused
   not_rebuilt conn left refused idle empty is unlawful = record {
     conn = conn;
     idle = idle;
@@ -99,19 +98,19 @@ module _ (bytes : Option (List ℕ)) where
     left = left;
     refused = is;
     wrong = wrong_at conn left refused.line refused.why is;
-    unlawful = refuted (HasCleanDisk (state over_memory left)) (memory_is_clean left) refused.why unlawful;
+    unlawful = refuted (HasCleanDisk (state s left)) (law left) refused.why unlawful;
   }
 
-  module _ (built : Held MemoryStore) (count : ℕ) (seal : List ℕ) (lines : ℕ) (rebuilt : IsRebuilt bytes (meaning_over over_memory) count seal lines built) where
-    built_shows : Shows (state over_memory built) (tables_of rebuilt.history)
+  module _ (built : Held S) (count : ℕ) (seal : List ℕ) (lines : ℕ) (rebuilt : IsRebuilt bytes (meaning_over s) count seal lines built) where
+    built_shows : Shows (state s built) (tables_of rebuilt.history)
     built_shows =
-        let clean = memory_is_clean built in
+        let clean = law built in
         let stands = rebuilt.stands clean in
         stands.is_of.tables clean stands.is_open
 
     -- so does the connection that was made of it
-    pub still_shows : (conn : Held MemoryStore) → conn ≡ built → Shows (state over_memory conn) (tables_of rebuilt.history)
-    still_shows conn is = subst (λ (b : Held MemoryStore). Shows (state over_memory b) (tables_of rebuilt.history)) (sym is) built_shows
+    pub still_shows : (conn : Held S) → conn ≡ built → Shows (state s conn) (tables_of rebuilt.history)
+    still_shows conn is = subst (λ (b : Held S). Shows (state s b) (tables_of rebuilt.history)) (sym is) built_shows
 
     -- its lines haven't the seal that was kept
     pub other_seal : (kept : Option KeptSeal) (at : Option (List ℕ)) (is : Bool) → IfSome bytes (λ text. IsSealAsked (line_of kept) (told text) at)
@@ -119,7 +118,7 @@ module _ (bytes : Option (List ℕ)) where
     other_seal kept at is there tells none = record {
       history = rebuilt.history;
       journal = unsealed bytes rebuilt.history seal rebuilt.journal;
-      lawful = rebuilt.lawful (memory_is_clean built);
+      lawful = rebuilt.lawful (law built);
       other = none_of bytes there;
     }
       where
@@ -130,8 +129,8 @@ module _ (bytes : Option (List ℕ)) where
     module _ {T : Type 0} (f : Ghosts T) where
       pub verified : (office : Held T) → IsIdle (state f office) → Settles (state f office) → Shows (state f office) (tables_of rebuilt.history) → (kept : Option KeptSeal) → IfSome bytes (λ text. HaveSeal kept (told text)) → (mark : ℕ) → mark ≤ lines
           → IsVerified bytes f kept mark office (record { events = count; seal = seal; lines = lines })
-      verified office idle law shows kept same mark enough =
-          let lawful = rebuilt.lawful (memory_is_clean built) in
+      verified office idle settles shows kept same mark enough =
+          let lawful = rebuilt.lawful (law built) in
           record {
             history = rebuilt.history;
             journal = rebuilt.journal;
@@ -144,7 +143,7 @@ module _ (bytes : Option (List ℕ)) where
             stands = record {
               is_of = record { idle = idle; lawful = lawful; tables = λ clean is_open. shows };
               is_open = shows.is_open;
-              leaves = leaves_only (state f office) law (tables_of rebuilt.history) shows;
+              leaves = leaves_only (state f office) settles (tables_of rebuilt.history) shows;
             };
           }
 
@@ -153,7 +152,7 @@ module _ (bytes : Option (List ℕ)) where
       ahead office shows mark few = record {
         history = rebuilt.history;
         journal = unsealed bytes rebuilt.history seal rebuilt.journal;
-        lawful = rebuilt.lawful (memory_is_clean built);
+        lawful = rebuilt.lawful (law built);
         shows = shows;
         ahead = above bytes rebuilt.lined;
       }
@@ -162,13 +161,13 @@ module _ (bytes : Option (List ℕ)) where
           above None lined = tt
           above (Some text) lined = omega (arith, lined, few)
 
-      pub other : (office : Held T) (d : Difference) → Differs over_memory f built office d → IsOther bytes f office d
+      pub other : (office : Held T) (d : Difference) → Differs s f built office d → IsOther bytes f s office d
       other office d differs = record {
         history = rebuilt.history;
         journal = unsealed bytes rebuilt.history seal rebuilt.journal;
-        lawful = rebuilt.lawful (memory_is_clean built);
+        lawful = rebuilt.lawful (law built);
         built = built;
         shows = built_shows;
         differs = differs;
-        differ = λ u shows. differ over_memory f built office (tables_of rebuilt.history) u d built_shows shows differs;
+        differ = λ u shows. differ s f built office (tables_of rebuilt.history) u d built_shows shows differs;
       }

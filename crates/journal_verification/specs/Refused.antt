@@ -2,7 +2,7 @@
 use Rattle.std.specs.Prelude.{◌≡◌, ℕ, List, [], ◌∷◌, ◌++◌, Option, None}
 use Rattle.sqlite.specs.Held.{Held, state}
 use Rattle.sqlite.specs.Steps.{IsEmpty}
-use Rattle.memory_database.specs.MemoryStore.{MemoryStore, over_memory}
+use Rattle.sqlite.specs.Store.{Ghosts}
 use Rattle.office_store.specs.Shown.{IsIdle}
 use Rattle.office_policy.specs.Callers.{caller_of}
 use Rattle.office_policy.specs.History.{Event, History}
@@ -42,13 +42,13 @@ module _ (bytes : Option (List ℕ)) where
   IsWrongAt line (why.Unreplayed causes.OtherText) = IsFirstUnlawful line HasOtherText
   IsWrongAt line (why.Unreplayed (causes.Fault fault)) = Unit {0}
 
-  -- over a connection in memory that has nothing yet no office is built anew of it, from this line
-  -- on and for this reason; and no lawful history has it, unless there is a fault
-  pub record IsNotRebuilt (refusal : Refused) : Type 0 where
-    pub conn : Held MemoryStore
-    pub idle : IsIdle (state over_memory conn)
-    pub empty : IsEmpty (state over_memory conn)
-    pub left : Held MemoryStore
-    pub refused : IsRefused bytes over_memory conn left refusal.line refusal.why
+  -- over a connection that has nothing yet no office is built anew of it, from this line on and for
+  -- this reason; and no lawful history has it, unless there is a fault
+  pub record IsNotRebuilt {S : Type 0} (g : Ghosts S) (refusal : Refused) : Type 0 where
+    pub conn : Held S
+    pub idle : IsIdle (state g conn)
+    pub empty : IsEmpty (state g conn)
+    pub left : Held S
+    pub refused : IsRefused bytes g conn left refusal.line refusal.why
     pub wrong : IsWrongAt refusal.line refusal.why
     pub unlawful : Refutes bytes (Unit {0}) refusal.why

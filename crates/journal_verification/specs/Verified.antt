@@ -2,7 +2,7 @@
 use Rattle.std.specs.Prelude.{◌≡◌, ◌⊎◌, ◌≤◌, ◌<◌, ℕ, List, length, Option, IfSome}
 use Rattle.sqlite.specs.Held.{Held, state}
 use Rattle.sqlite.specs.Store.{Ghosts}
-use Rattle.memory_database.specs.MemoryStore.{MemoryStore, over_memory}
+use Rattle.memory_database.specs.MemoryStore.{over_memory}
 use Rattle.office_tables.specs.Tables.{Tables}
 use Rattle.office_rows.specs.Causes.{HasFailed}
 use Rattle.office_store.specs.Shown.{Shows}
@@ -52,13 +52,14 @@ module _ (bytes : Option (List ℕ)) {T : Type 0} (f : Ghosts T) where
 
   -- The journal is of a lawful history, and from what shows its tables the office differs: where it
   -- shows tables, they differ from those of the history at the key that is named.
-  pub record IsOther (office : Held T) (d : Difference) : Type 0 where
+  pub record IsOther {S : Type 0} (g : Ghosts S) (office : Held T) (d : Difference)
+      : Type 0 where
     pub history : History
     pub journal : IfSome bytes (λ text. IsJournalOf text history)
     pub lawful : IsLawfulHistory history
-    pub built : Held MemoryStore
-    pub shows : Shows (state over_memory built) (tables_of history)
-    pub differs : Differs over_memory f built office d
+    pub built : Held S
+    pub shows : Shows (state g built) (tables_of history)
+    pub differs : Differs g f built office d
     pub differ : (u : Tables) → Shows (state f office) u → DifferAt (tables_of history) u d
 
   -- The office is that of the journal, but for the mark, which is above the number of its lines.
@@ -70,10 +71,17 @@ module _ (bytes : Option (List ℕ)) {T : Type 0} (f : Ghosts T) where
     pub ahead : IfSome bytes (λ text. length (told text) < mark)
 
   -- no lawful history has the journal, by this line; or the seal is another; or the office or its mark
-  -- is. Else the office can't be read, or memory is lacking
+  -- is, as one that is built anew over such a store tells. Else the office can't be read, or memory is
+  -- lacking
+  abbrev pub IsUnverifiedOver : {S : Type 0} → Ghosts S → Option KeptSeal → (mark : ℕ)
+      → (old new : Held T) → Unverified → Type 0
+  IsUnverifiedOver g kept mark old new (unverified.Refused refused) = IsNotRebuilt bytes g refused
+  IsUnverifiedOver g kept mark old new unverified.OtherSeal = HasOtherSeal bytes kept
+  IsUnverifiedOver g kept mark old new (unverified.Differs d) =
+      IsOther g old d ⊎ ((d ≡ difference.Line) × IsAhead mark new)
+  IsUnverifiedOver g kept mark old new (unverified.Fault fault) =
+      HasFailed (state f old) (state f new) fault
+
+  -- over memory
   abbrev pub IsUnverified : Option KeptSeal → (mark : ℕ) → (old new : Held T) → Unverified → Type 0
-  IsUnverified kept mark old new (unverified.Refused refused) = IsNotRebuilt bytes refused
-  IsUnverified kept mark old new unverified.OtherSeal = HasOtherSeal bytes kept
-  IsUnverified kept mark old new (unverified.Differs d) =
-      IsOther old d ⊎ ((d ≡ difference.Line) × IsAhead mark new)
-  IsUnverified kept mark old new (unverified.Fault fault) = HasFailed (state f old) (state f new) fault
+  IsUnverified kept mark old new why = IsUnverifiedOver over_memory kept mark old new why

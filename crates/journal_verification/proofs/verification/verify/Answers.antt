@@ -1,72 +1,10 @@
-use Rattle.std.proofs.Common.{inl, inr, refl, subst, arith, ℕ, IfSome, Option}
-use Rattle.sqlite.specs.Held.{Held, state}
-use Rattle.memory_database.specs.MemoryStore.{MemoryStore, over_memory}
+use Rattle.sqlite.specs.Held.{state}
 use Rattle.memory_database.proofs.MemoryFacts.{memory_is_clean}
-use Rattle.office_policy.specs.TablesOf.{tables_of}
-use Rattle.sealed_log.specs.Told.{told}
-use Rattle.journal.specs.SealsAt.{IsSealAsked}
-use Rattle.journal_verification.specs.Compared.{Differs}
 use Rattle.journal_verification.proofs.Looks.{looked_itself}
-use Rattle.journal_verification.proofs.Verifying.{ahead, not_rebuilt, other, other_seal, same_seal, still_shows, verified}
 use Rattle.journal_verification.proofs.verification.verify.Goals as goal
 
-pub returns-in-Ok-None-clause-verified : goal.returns-in-Ok-None-clause-verified
-returns-in-Ok-None-clause-verified g c clean =
-    let bytes = g.R.Read.remaining c.args.journal in
-    let anew = c.in-Ok-rebuild.rebuilt in
-    let rebuilt = c.in-Ok-rebuild.ensures.rebuilt in
-    let t = tables_of rebuilt.history in
-    let shows = still_shows bytes anew.office anew.events anew.seal anew.lines rebuilt c.into_connection-built.result c.into_connection-built.ensures.connection in
-    verified bytes anew.office anew.events anew.seal anew.lines rebuilt g.T.Store c.compare.new.office c.compare.ensures.office.idle (g.met.T.Store.settled c.compare.new.office.store)
-    (rw c.in-Ok-None.field-0-is at (c.in-Ok-None.ensures.told t shows (memory_is_clean c.compare.new.built) clean)) c.args.kept
-    (same_seal bytes c.args.kept anew.at c.is_kept.result (subst (λ (n : Option ℕ). IfSome bytes (λ text. IsSealAsked n (told text) anew.at)) c.line_of.ensures c.in-Ok-rebuild.ensures.at) c.is_kept.ensures c.if-not-is_kept.false)
-    c.args.mark (let few = c.if-lines-mark.false in omega (arith, few))
+pub verify_over-requires-clause-clean : goal.verify_over-requires-clause-clean
+verify_over-requires-clause-clean g c = memory_is_clean
 
-pub returns-in-Ok-Some-clause-unverified : goal.returns-in-Ok-Some-clause-unverified
-returns-in-Ok-Some-clause-unverified g c clean =
-    let bytes = g.R.Read.remaining c.args.journal in
-    let anew = c.in-Ok-rebuild.rebuilt in
-    let rebuilt = c.in-Ok-rebuild.ensures.rebuilt in
-    let t = tables_of rebuilt.history in
-    let shows = still_shows bytes anew.office anew.events anew.seal anew.lines rebuilt c.into_connection-built.result c.into_connection-built.ensures.connection in
-    inl (other bytes anew.office anew.events anew.seal anew.lines rebuilt g.T.Store c.args.office.now c.in-Ok-Some.difference
-    (subst (λ (b : Held MemoryStore). Differs over_memory g.T.Store b c.args.office.now c.in-Ok-Some.difference) c.into_connection-built.ensures.connection
-    (rw c.in-Ok-Some.field-0-is at (c.in-Ok-Some.ensures.told t shows (memory_is_clean c.compare.new.built) clean))))
-
-pub returns-clause-unverified : goal.returns-clause-unverified
-returns-clause-unverified g c clean =
-    let fresh = c.in-Ok.ensures.fresh in
-    not_rebuilt (g.R.Read.remaining c.args.journal) c.in-Ok.conn c.in-Err-rebuild.field-0-1 c.in-Err-rebuild.refused (record { autocommit = fresh.autocommit; unlimited = fresh.unlimited }) c.in-Ok.ensures.empty
-    c.in-Err-rebuild.ensures.rebuilt c.in-Err-rebuild.ensures.unlawful
-
-pub returns-in-Ok-rebuild-clause-unverified : goal.returns-in-Ok-rebuild-clause-unverified
-returns-in-Ok-rebuild-clause-unverified g c clean =
-    let anew = c.in-Ok-rebuild.rebuilt in
-    let rebuilt = c.in-Ok-rebuild.ensures.rebuilt in
-    let conn = c.into_connection-built.result in
-    let shows = still_shows (g.R.Read.remaining c.args.journal) anew.office anew.events anew.seal anew.lines rebuilt conn c.into_connection-built.ensures.connection in
-    let t = tables_of rebuilt.history in
-    c.in-Err-compare.ensures.cause t shows clean
-
-pub returns-clause-looked : goal.returns-clause-looked
-returns-clause-looked g c = looked_itself (state g.T.Store c.args.office.now) c.requires
-
-pub returns-then-lines-mark-clause-unverified : goal.returns-then-lines-mark-clause-unverified
-returns-then-lines-mark-clause-unverified g c clean =
-    let bytes = g.R.Read.remaining c.args.journal in
-    let anew = c.in-Ok-rebuild.rebuilt in
-    let rebuilt = c.in-Ok-rebuild.ensures.rebuilt in
-    let t = tables_of rebuilt.history in
-    let shows = still_shows bytes anew.office anew.events anew.seal anew.lines rebuilt c.into_connection-built.result c.into_connection-built.ensures.connection in
-    inr (
-      refl,
-      ahead bytes anew.office anew.events anew.seal anew.lines rebuilt g.T.Store c.compare.new.office
-          (rw c.in-Ok-None.field-0-is at (c.in-Ok-None.ensures.told t shows (memory_is_clean c.compare.new.built) clean)) c.args.mark c.if-lines-mark.true,
-    )
-
-pub returns-then-not-is_kept-clause-unverified : goal.returns-then-not-is_kept-clause-unverified
-returns-then-not-is_kept-clause-unverified g c clean =
-    let bytes = g.R.Read.remaining c.args.journal in
-    let anew = c.in-Ok-rebuild.rebuilt in
-    other_seal bytes anew.office anew.events anew.seal anew.lines c.in-Ok-rebuild.ensures.rebuilt c.args.kept anew.at c.is_kept.result
-    (subst (λ (n : Option ℕ). IfSome bytes (λ text. IsSealAsked n (told text) anew.at)) c.line_of.ensures c.in-Ok-rebuild.ensures.at) c.is_kept.ensures c.if-not-is_kept.true
+pub returns-in-Err-clause-looked : goal.returns-in-Err-clause-looked
+returns-in-Err-clause-looked g c = looked_itself (state g.T.Store c.args.office.now) c.requires
