@@ -1,6 +1,6 @@
 -- Where and why no office is built anew.
 use Rattle.std.proofs.Common.{◌≡◌, ◌∙◌, ℕ, List, [], ◌∷◌, Option, Some, None, Result, Ok, Err, inl, inr, sym, refl, ap, ap₂, subst, append-nil}
-use Rattle.std.specs.Prelude.{IsErrAnd, ⊤, option_map}
+use Rattle.std.specs.Prelude.{IsErrAnd, ⊤, option_map, unwrap_or}
 use Rattle.sqlite.specs.Held.{Held}
 use Rattle.sqlite.specs.Store.{Ghosts}
 use Rattle.office_policy.specs.Handled.{Stands}
@@ -158,12 +158,6 @@ module _ {S : Type 0} (g : Ghosts S) (bytes : Option (List ℕ)) (conn : Held S)
   held_unfounded line (why.Unfounded fault) cause placed left at none = absurd at
   held_unfounded line (why.Unreplayed cause2) cause placed left at none = absurd at
 
-  pub unbegun_held : (from here : Place) (refused : Refused) (cause : Why) (placed : ℕ × Event) (halt : Option Refused) (left : Held S) → from ≡ start bytes → IsFirstRead from here placed halt
-      → halt ≡ Some refused → IsNoFounding g placed.1 conn left cause → IsUnbegun bytes g conn left refused.line refused.why
-  unbegun_held from here refused cause placed halt left at first is none =
-      held_unfounded refused.line refused.why cause placed left
-      (subst (λ (p : Place). IsLeftHeld p (Some placed) refused.line refused.why) at (subst (λ (h : Option Refused). IsFirstRead from here placed h) is first)) none
-
   -- nor the first that stands
   first_unfounded : (after : Place) (line : ℕ) (e : Event) (w : Why) (left : Held S) → GoesOn (start bytes) after ((line, e) ∷ []) → IsNoFounding g e conn left w → IsUnbegun bytes g conn left line w
   first_unfounded after line e (why.Unread fault) left told is = absurd is
@@ -171,11 +165,15 @@ module _ {S : Type 0} (g : Ghosts S) (bytes : Option (List ℕ)) (conn : Held S)
   first_unfounded after line e (why.Unfounded fault) left told is = none_founded g bytes conn left line after e (why.Unfounded fault) told is
   first_unfounded after line e (why.Unreplayed cause) left told is = absurd is
 
-  pub unbegun_first : (from here : Place) (cause : Why) (placed : ℕ × Event) (halt : Option Refused) (left : Held S) → from ≡ start bytes → IsFirstRead from here placed halt
-      → halt ≡ None → IsNoFounding g placed.1 conn left cause → IsUnbegun bytes g conn left placed.0 cause
-  unbegun_first from here cause placed halt left at first is none =
-      first_unfounded here placed.0 placed.1 cause left
-      (subst (λ (p : Place). GoesOn p here (placed ∷ [])) at (subst (λ (h : Option Refused). IsFirstRead from here placed h) is first)) none
+  -- whether the journal can be read on or not
+  pub unbegun : (from here : Place) (placed : ℕ × Event) (halt : Option Refused) (left : Held S) (refused : Refused) → from ≡ start bytes → IsFirstRead from here placed halt → refused.line ≡ placed.0
+      → IsNoFounding g placed.1 conn left refused.why → IsUnbegun bytes g conn left (unwrap_or halt refused).line (unwrap_or halt refused).why
+  unbegun from here placed None left refused at first line none =
+      first_unfounded here refused.line placed.1 refused.why left
+      (subst (λ (n : ℕ). GoesOn (start bytes) here ((n, placed.1) ∷ [])) (sym line) (subst (λ (p : Place). GoesOn p here (placed ∷ [])) at first)) none
+  unbegun from here placed (Some behind) left refused at first line none =
+      held_unfounded behind.line behind.why refused.why placed left
+      (subst (λ (p : Place). IsLeftHeld p (Some placed) behind.line behind.why) at first) none
 
   pub begun_read : (from here : Place) (placed : ℕ × Event) (halt : Option Refused) → from ≡ start bytes → IsFirstRead from here placed halt → IsFirstRead (start bytes) here placed halt
   begun_read from here placed halt at first = subst (λ (p : Place). IsFirstRead p here placed halt) at first

@@ -135,6 +135,41 @@ fn found<S: Alter>(conn: Connection<S>, event: &Event) -> Result<Office<S>, (Why
     }
 }
 
+// Has the event happen that was taken last, where it is a founding.
+fn found_by<S: Alter, R: BufRead + Drop>(
+    conn: Connection<S>,
+    events: Events<R>,
+    placed: Placed,
+) -> Result<(Replay<S, R>, Placed), (Refused, Connection<S>)>
+    requires { IsIdle (state S.Store conn) }
+    ensures kept { IfOk result (λ begun. (begun.0.events ≡ events) × (begun.1 ≡ placed)) }
+    ensures count { IfOk result (λ begun. begun.0.count ≡ 1) }
+    ensures founding { IfOk result (λ begun. IsFounding (event_meant begun.1.event)) }
+    ensures stands { IfOk result (λ begun. HasCleanDisk (state S.Store begun.0.office)
+        → Stands (meaning_over S.Store) (event_meant begun.1.event ∷ []) begun.0.office) }
+    ensures empty { OnOk result ((state S.Store conn).now.schema ≡ no_schema) }
+    ensures clean { IfOk result (λ begun. HasCleanDisk (state S.Store begun.0.office)
+        → HasCleanDisk (state S.Store conn)) }
+    ensures refused { IfErr result (λ refusal. (refusal.0.line ≡ placed.line)
+        × IsNoFounding S.Store (event_meant placed.event) conn refusal.1 refusal.0.why) }
+    ensures idle { IfErr result (λ refusal. IsIdle (state S.Store refusal.1)) }
+{
+    match found(conn, &placed.event) {
+        Ok(office) => {
+            let replay = Replay {
+                office,
+                events,
+                count: 1,
+            };
+            Ok((replay, placed))
+        }
+        Err((why, conn)) => {
+            let line = placed.line;
+            Err((Refused { line, why }, conn))
+        }
+    }
+}
+
 impl<S: Alter, R: BufRead + Drop> Replay<S, R> {
     /// Founds an office over a connection to an empty store, by the first event of a journal; with
     /// that event. Of the journal the seal of the first so many lines is kept.
@@ -169,21 +204,9 @@ impl<S: Alter, R: BufRead + Drop> Replay<S, R> {
             Ok(placed) => placed,
             Err(refused) => return Err((refused, conn)),
         };
-        let founded = found(conn, &placed.event);
-        let line = placed.line;
-        match founded {
-            Ok(office) => {
-                let replay = Replay {
-                    office,
-                    events,
-                    count: 1,
-                };
-                Ok((replay, placed))
-            }
-            Err((why, conn)) => {
-                drop(placed);
-                Err((Refused { line, why }, conn))
-            }
+        match found_by(conn, events, placed) {
+            Ok(begun) => Ok(begun),
+            Err((refused, conn)) => Err((refused, conn)),
         }
     }
 
@@ -217,25 +240,9 @@ impl<S: Alter, R: BufRead + Drop> Replay<S, R> {
             Ok(found) => found,
             Err(refused) => return Err((refused, conn)),
         };
-        let founded = found(conn, &placed.event);
-        let line = placed.line;
-        match founded {
-            Ok(office) => {
-                let count = 1;
-                let replay = Replay {
-                    office,
-                    events,
-                    count,
-                };
-                Ok((replay, placed, halt))
-            }
-            Err((why, conn)) => {
-                drop(placed);
-                match halt {
-                    Some(refused) => Err((refused, conn)),
-                    None => Err((Refused { line, why }, conn)),
-                }
-            }
+        match found_by(conn, events, placed) {
+            Ok((replay, placed)) => Ok((replay, placed, halt)),
+            Err((refused, conn)) => Err((halt.unwrap_or(refused), conn)),
         }
     }
 
