@@ -151,151 +151,175 @@ fn revision_text(
     }
 }
 
-// Each group of calls has a function of its own: one over all would be proved for minutes.
-
-// What a call about the office itself answers; none to another call.
+// What a call about the office itself answers.
 fn office_answer<S: Alter>(
     alloc: Global,
     conn: &mut Connection<S>,
     call: &str,
-    subject: &Subject,
-) -> Result<Option<String>, AllocError>
+) -> Result<String, AllocError>
     requires { IsIdle (state S.Store conn.old) }
     ensures { IsIdle (state S.Store conn.new) }
 {
-    let answer = match call {
-        "found" => text(alloc, found_office(alloc, conn))?,
-        "check_office" => text(alloc, bits(check_office(conn)))?,
-        "migrate" => text(alloc, migrate(conn))?,
-        "listed" => text(alloc, bits(listed(conn)))?,
-        _ => return Ok(None),
-    };
-    Ok(Some(answer))
+    match call {
+        "found" => text(alloc, found_office(alloc, conn)),
+        "check_office" => text(alloc, bits(check_office(conn))),
+        "migrate" => text(alloc, migrate(conn)),
+        "listed" => text(alloc, bits(listed(conn))),
+        _ => text(alloc, "no call"),
+    }
 }
 
-// What a call about a user answers; none to another call.
+// What a call about a user answers.
 fn user_answer<S: Alter>(
     alloc: Global,
     conn: &mut Connection<S>,
     call: &str,
     subject: &Subject,
-) -> Result<Option<String>, AllocError>
+) -> Result<String, AllocError>
     requires { IsIdle (state S.Store conn.old) }
     ensures { IsIdle (state S.Store conn.new) }
 {
-    let answer = match call {
-        "put_user" => text(alloc, put(conn, subject))?,
-        "user_by_name" => user_text(alloc, user_by_name(alloc, conn, &subject.name))?,
-        "user_by_token" => user_text(alloc, user_by_token(alloc, conn, &[subject.byte; 32]))?,
-        _ => return Ok(None),
-    };
-    Ok(Some(answer))
+    match call {
+        "put_user" => text(alloc, put(conn, subject)),
+        "user_by_name" => user_text(alloc, user_by_name(alloc, conn, &subject.name)),
+        "user_by_token" => user_text(alloc, user_by_token(alloc, conn, &[subject.byte; 32])),
+        _ => text(alloc, "no call"),
+    }
 }
 
-// What a call that reads a revision answers; none to another call.
+// What a call that reads a revision answers.
 fn revision_answer<S: Alter>(
     alloc: Global,
     conn: &mut Connection<S>,
     call: &str,
     subject: &Subject,
-) -> Result<Option<String>, AllocError>
+) -> Result<String, AllocError>
     requires { IsIdle (state S.Store conn.old) }
     ensures { IsIdle (state S.Store conn.new) }
 {
     let profile = &subject.profile;
-    let answer = match call {
-        "has_revision" => text(alloc, has_revision(conn, profile))?,
-        "revision" => revision_text(alloc, revision(alloc, conn, profile, subject.number))?,
-        "last" => revision_text(alloc, last(alloc, conn, profile))?,
-        "issued" => revision_text(alloc, issued(alloc, conn, profile))?,
-        _ => return Ok(None),
-    };
-    Ok(Some(answer))
+    match call {
+        "has_revision" => text(alloc, has_revision(conn, profile)),
+        "revision" => revision_text(alloc, revision(alloc, conn, profile, subject.number)),
+        "last" => revision_text(alloc, last(alloc, conn, profile)),
+        "issued" => revision_text(alloc, issued(alloc, conn, profile)),
+        _ => text(alloc, "no call"),
+    }
 }
 
-// What a call that lists, or looks for an author answers; none to another call.
+// What a call that lists, or looks for an author answers.
 fn list_answer<S: Alter>(
     alloc: Global,
     conn: &mut Connection<S>,
     call: &str,
     subject: &Subject,
-) -> Result<Option<String>, AllocError>
+) -> Result<String, AllocError>
     requires { IsIdle (state S.Store conn.old) }
     ensures { IsIdle (state S.Store conn.new) }
 {
     let profile = &subject.profile;
-    let answer = match call {
-        "is_author" => text(alloc, is_author(conn, profile, &subject.name))?,
-        "authors" => text(alloc, authors(alloc, conn, profile))?,
-        "revisions_of" => text(alloc, revisions_of(alloc, conn, &profile.team))?,
-        _ => return Ok(None),
-    };
-    Ok(Some(answer))
+    match call {
+        "is_author" => text(alloc, is_author(conn, profile, &subject.name)),
+        "authors" => text(alloc, authors(alloc, conn, profile)),
+        "revisions_of" => text(alloc, revisions_of(alloc, conn, &profile.team)),
+        _ => text(alloc, "no call"),
+    }
 }
 
-// What a call that writes a revision or its state answers; none to another call.
+// What a call that writes a revision or its state answers.
 fn state_answer<S: Alter>(
     alloc: Global,
     conn: &mut Connection<S>,
     call: &str,
     subject: &Subject,
-) -> Result<Option<String>, AllocError>
+) -> Result<String, AllocError>
     requires { IsIdle (state S.Store conn.old) }
     ensures { IsIdle (state S.Store conn.new) }
 {
     let profile = &subject.profile;
-    let answer = match call {
-        "add_revision" => text(alloc, add(alloc, conn, subject))?,
-        "set_issued" => text(alloc, set_issued(conn, profile, subject.number))?,
-        "set_withdrawn" => text(alloc, set_withdrawn(conn, profile, subject.number))?,
-        _ => return Ok(None),
-    };
-    Ok(Some(answer))
+    match call {
+        "add_revision" => text(alloc, add(alloc, conn, subject)),
+        "set_issued" => text(alloc, set_issued(conn, profile, subject.number)),
+        "set_withdrawn" => text(alloc, set_withdrawn(conn, profile, subject.number)),
+        _ => text(alloc, "no call"),
+    }
 }
 
-// What a call about votes answers; none to another call.
+fn vote<S: Alter>(conn: &mut Connection<S>, subject: &Subject) -> Result<(), Fault>
+    requires { IsIdle (state S.Store conn.old) }
+    ensures { IsIdle (state S.Store conn.new) }
+{
+    put_vote(
+        conn,
+        &subject.profile,
+        subject.number,
+        &subject.name,
+        subject.ballot,
+    )
+}
+
+// What a call about votes answers.
 fn vote_answer<S: Alter>(
     alloc: Global,
     conn: &mut Connection<S>,
     call: &str,
     subject: &Subject,
-) -> Result<Option<String>, AllocError>
+) -> Result<String, AllocError>
     requires { IsIdle (state S.Store conn.old) }
     ensures { IsIdle (state S.Store conn.new) }
 {
-    let profile = &subject.profile;
-    let answer = match call {
-        "put_vote" => text(
-            alloc,
-            put_vote(conn, profile, subject.number, &subject.name, subject.ballot),
-        )?,
-        "standing" => text(alloc, standing(alloc, conn, profile, subject.number))?,
-        "tally" => text(alloc, tally(alloc, conn, profile, subject.number))?,
-        _ => return Ok(None),
-    };
-    Ok(Some(answer))
+    let (profile, number) = (&subject.profile, subject.number);
+    match call {
+        "put_vote" => text(alloc, vote(conn, subject)),
+        "standing" => text(alloc, standing(alloc, conn, profile, number)),
+        "tally" => text(alloc, tally(alloc, conn, profile, number)),
+        _ => text(alloc, "no call"),
+    }
 }
 
-// What a call about a baseline or a hold answers; none to another call.
+// What a call about a baseline or a hold answers.
 fn profile_answer<S: Alter>(
     alloc: Global,
     conn: &mut Connection<S>,
     call: &str,
     subject: &Subject,
-) -> Result<Option<String>, AllocError>
+) -> Result<String, AllocError>
     requires { IsIdle (state S.Store conn.old) }
     ensures { IsIdle (state S.Store conn.new) }
 {
     let profile = &subject.profile;
-    let answer = match call {
-        "baseline" => text(alloc, baseline(alloc, conn, &profile.team))?,
-        "put_baseline" => text(alloc, put_baseline(conn, profile, subject.number))?,
-        "held" => text(alloc, held(conn, profile))?,
-        "put_hold" => text(alloc, put_hold(conn, profile))?,
-        "delete_hold" => text(alloc, delete_hold(conn, profile))?,
-        _ => return Ok(None),
-    };
-    Ok(Some(answer))
+    match call {
+        "baseline" => text(alloc, baseline(alloc, conn, &profile.team)),
+        "put_baseline" => text(alloc, put_baseline(conn, profile, subject.number)),
+        "held" => text(alloc, held(conn, profile)),
+        "put_hold" => text(alloc, put_hold(conn, profile)),
+        "delete_hold" => text(alloc, delete_hold(conn, profile)),
+        _ => text(alloc, "no call"),
+    }
+}
+
+// What a call is about.
+#[derive(Clone, Copy)]
+enum Topic {
+    Office,
+    User,
+    Revision,
+    List,
+    State,
+    Vote,
+    Profile,
+}
+
+fn topic_of(call: &str) -> Topic {
+    match call {
+        "put_user" | "user_by_name" | "user_by_token" => Topic::User,
+        "has_revision" | "revision" | "last" | "issued" => Topic::Revision,
+        "is_author" | "authors" | "revisions_of" => Topic::List,
+        "add_revision" | "set_issued" | "set_withdrawn" => Topic::State,
+        "put_vote" | "standing" | "tally" => Topic::Vote,
+        "baseline" | "put_baseline" | "held" | "put_hold" | "delete_hold" => Topic::Profile,
+        _ => Topic::Office,
+    }
 }
 
 // What a call answers.
@@ -308,28 +332,15 @@ fn answer<S: Alter>(
     requires { IsIdle (state S.Store conn.old) }
     ensures { IsIdle (state S.Store conn.new) }
 {
-    if let Some(answer) = office_answer(alloc, conn, call, subject)? {
-        return Ok(answer);
+    match topic_of(call) {
+        Topic::Office => office_answer(alloc, conn, call),
+        Topic::User => user_answer(alloc, conn, call, subject),
+        Topic::Revision => revision_answer(alloc, conn, call, subject),
+        Topic::List => list_answer(alloc, conn, call, subject),
+        Topic::State => state_answer(alloc, conn, call, subject),
+        Topic::Vote => vote_answer(alloc, conn, call, subject),
+        Topic::Profile => profile_answer(alloc, conn, call, subject),
     }
-    if let Some(answer) = user_answer(alloc, conn, call, subject)? {
-        return Ok(answer);
-    }
-    if let Some(answer) = revision_answer(alloc, conn, call, subject)? {
-        return Ok(answer);
-    }
-    if let Some(answer) = list_answer(alloc, conn, call, subject)? {
-        return Ok(answer);
-    }
-    if let Some(answer) = state_answer(alloc, conn, call, subject)? {
-        return Ok(answer);
-    }
-    if let Some(answer) = vote_answer(alloc, conn, call, subject)? {
-        return Ok(answer);
-    }
-    if let Some(answer) = profile_answer(alloc, conn, call, subject)? {
-        return Ok(answer);
-    }
-    text(alloc, "no call")
 }
 
 /// Makes the call of a line, and gives what it answers as text.

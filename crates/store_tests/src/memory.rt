@@ -1,7 +1,7 @@
 //! Writes that are refused memory, as `rt try --test --fail-alloc N` refuses the Nth allocation of each test. Without a refusal
 //! each runs.
 
-use crate::transcript::said;
+use crate::transcript::said_over;
 use review_policy::WordFault;
 use sqlite::Connection;
 use std::alloc::Global;
@@ -10,8 +10,7 @@ use std::process::Abort;
 // The transcript of these calls in memory.
 fn said_in_memory(alloc: Global, before: &str, calls: &str) -> Result<String, WordFault> {
     let calls = format!(in alloc; "{before}{calls}")?;
-    let mut conn = Connection::open_in_memory(alloc)?;
-    said(alloc, &mut conn, calls.as_str())
+    said_over(alloc, Connection::open_in_memory(alloc)?, calls.as_str())
 }
 
 // Whether a transcript goes on as a write that runs or as one that is refused, unless memory is refused to a call

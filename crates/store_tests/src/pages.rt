@@ -1,8 +1,9 @@
 //! A database in memory, in pages.
 
-use memory_database::{MemoryStore, VolatileFile, open_in_memory};
-use sqlite::{Connection, Error, Row, params};
+use memory_database::{VolatileFile, open_in_memory};
+use sqlite::{Alter, Connection, Error, Row, params};
 use sqlite_disk::Disk;
+use std::process::Abort;
 use std::test::Fail;
 
 const COUNT: u32 = 20_000;
@@ -16,34 +17,40 @@ fn key_of(n: u32) -> u32 {
     n.wrapping_mul(2_654_435_761)
 }
 
-fn put(conn: &mut Connection<MemoryStore>, n: u32) -> Result<usize, Error> {
+fn put<S: Alter>(conn: &mut Connection<S>, n: u32) -> Result<usize, Error> {
     conn.execute(
         "INSERT INTO notes (id, title, text) VALUES (?1, ?2, ?3)",
         params![key_of(n), n, "what is written of it"],
     )
 }
 
-fn title_of(conn: &mut Connection<MemoryStore>, n: u32) -> Result<u32, Error> {
+fn title_of<S: Alter>(conn: &mut Connection<S>, n: u32) -> Result<u32, Error> {
     let row: Row = conn.query_row("SELECT title FROM notes WHERE id = ?1", params![key_of(n)])?;
     row.get(0)
 }
 
-fn key_at(conn: &mut Connection<MemoryStore>, n: u32) -> Result<u32, Error> {
+fn key_at<S: Alter>(conn: &mut Connection<S>, n: u32) -> Result<u32, Error> {
     let row: Row = conn.query_row("SELECT id FROM notes WHERE title = ?1", params![n])?;
     row.get(0)
+}
+
+// Writes all rows, and reads each back by both of its keys.
+fn assert_read_back<S: Alter>(rt: &impl Abort, conn: &mut Connection<S>) -> Result<(), Error> {
+    conn.execute_batch(NOTES)?;
+    for n in 0..COUNT {
+        assert_eq!(rt; put(conn, n)?, 1);
+    }
+    for n in 0..COUNT {
+        assert_eq!(rt; title_of(conn, n)?, n);
+        assert_eq!(rt; key_at(conn, n)?, key_of(n));
+    }
+    Ok(())
 }
 
 #[test]
 fn twenty_thousand_rows_are_read_back(rt: HostRuntime) -> Result<(), Fail> {
     let mut conn = open_in_memory(rt.alloc())?;
-    conn.execute_batch(NOTES)?;
-    for n in 0..COUNT {
-        assert_eq!(rt; put(&mut conn, n)?, 1);
-    }
-    for n in 0..COUNT {
-        assert_eq!(rt; title_of(&mut conn, n)?, n);
-        assert_eq!(rt; key_at(&mut conn, n)?, key_of(n));
-    }
+    assert_read_back(&rt, &mut conn)?;
     Ok(())
 }
 
