@@ -1,19 +1,34 @@
 //! What is left of an office and its journal, and what that has to be.
 
+ghost use Rattle.sqlite.specs.Held.{state};
+ghost use Rattle.office_store.specs.Shown.{IsIdle};
+
 use journal::Journaled;
-use journal_office::{Rebuilt, rebuild, reopen};
+use journal_office::{NotReopened, Rebuilt, rebuild, reopen};
 use office_desk::Office;
 use sealed_log::{Seal, SealedLog};
-use sqlite::{Connection, FileStore, Files};
+use sqlite::{Alter, Connection, Files};
 use sqlite_disk::{Disk, Memory};
 use std::alloc::Global;
 use std::test::Fail;
-use stopping_offices::begun::at_rest;
+use stopping_offices::begun::{at_rest, reopened};
 use stopping_offices::files::{files_of, opened, synced};
 use test_offices::tables::tables_of;
 
-/// An office over files, with its journal.
-pub(crate) type Kept<D, J> = Journaled<Office<FileStore<D>>, SealedLog<J>>;
+/// An office with its journal.
+pub(crate) type Kept<S, D> = Journaled<Office<S>, SealedLog<D>>;
+
+/// An office with the journal on a disk; or why it isn't opened with that, and both.
+pub(crate) fn with_journal<S: Alter + Drop, D: Disk + Drop>(
+    alloc: Global,
+    office: Office<S>,
+    disk: D,
+) -> Result<Kept<S, D>, (NotReopened, Office<S>, D)> {
+    match reopen(alloc, office, SealedLog::new(disk), 0) {
+        Ok(office) => Ok(office),
+        Err((why, office, log)) => Err((why, office, log.into_disk())),
+    }
+}
 
 /// What is left of an office and its journal: the two files of the office, and the bytes of its
 /// journal.
@@ -34,28 +49,46 @@ struct Told {
     seal: Seal,
 }
 
+// The office that a journal tells, in this database.
+fn rebuild_in<S: Alter + Drop>(
+    alloc: Global,
+    conn: Connection<S>,
+    text: &[u8],
+) -> Result<Rebuilt<S>, Fail>
+    requires { IsIdle (state S.Store conn) }
+{
+    match rebuild(alloc, conn, text, None) {
+        Ok(rebuilt) => Ok(rebuilt),
+        Err((refused, _)) => Err(Fail::from(refused)),
+    }
+}
+
+// What a journal tells, by the office that was rebuilt of it.
+fn told_by<S: Alter + Drop>(alloc: Global, text: &[u8], rebuilt: Rebuilt<S>) -> Result<Told, Fail> {
+    let Rebuilt {
+        office,
+        events,
+        seal,
+        lines: _,
+        at: _,
+    } = rebuilt;
+    Ok(Told {
+        text: Vec::from_slice(alloc, text)?,
+        tables: tables_of(alloc, &mut office.into_connection())?,
+        count: events,
+        seal,
+    })
+}
+
+// What a journal tells, rebuilt in this database.
+fn told_in<S: Alter + Drop>(alloc: Global, conn: Connection<S>, text: &[u8]) -> Result<Told, Fail> {
+    let rebuilt = rebuild_in(alloc, at_rest(conn)?, text)?;
+    told_by(alloc, text, rebuilt)
+}
+
 impl Told {
     fn of(alloc: Global, text: &[u8]) -> Result<Told, Fail> {
-        let conn = at_rest(Connection::open_in_memory(alloc)?)?;
-        match rebuild(alloc, conn, text, None) {
-            Ok(rebuilt) => {
-                let seal = rebuilt.seal;
-                let Rebuilt {
-                    office,
-                    events,
-                    seal: _,
-                    lines: _,
-                    at: _,
-                } = rebuilt;
-                Ok(Told {
-                    text: Vec::from_slice(alloc, text)?,
-                    tables: tables_of(alloc, &mut office.into_connection())?,
-                    count: events,
-                    seal,
-                })
-            }
-            Err((refused, _)) => Err(Fail::from(refused)),
-        }
+        told_in(alloc, Connection::open_in_memory(alloc)?, text)
     }
 }
 
@@ -87,21 +120,52 @@ impl AllTold {
     }
 }
 
-// The office over what was left, opened with what was left of its journal.
-fn reopened<D: Disk + Drop>(
+// What an office and its journal have once they were opened.
+#[derive(Drop)]
+struct FoundAgain {
+    tables: String,
+    seal: Seal,
+    journal: Memory,
+}
+
+fn again_by<S: Alter + Drop>(alloc: Global, office: Kept<S, Memory>) -> Result<FoundAgain, Fail> {
+    let (office, log) = office.into_parts();
+    let seal = log.seal();
+    Ok(FoundAgain {
+        tables: tables_of(alloc, &mut office.into_connection())?,
+        seal,
+        journal: log.into_disk(),
+    })
+}
+
+// Opens an office with its journal.
+fn again_of<S: Alter + Drop>(
     alloc: Global,
-    files: Files<D>,
-    journal: &[u8],
-) -> Result<Kept<D, Memory>, Fail> {
-    let Ok(conn) = opened(alloc, files) else {
-        return Err(Fail::from("files that open again"));
-    };
-    let Ok(office) = Office::over(at_rest(conn)?) else {
-        return Err(Fail::from("an office again"));
-    };
-    match reopen(alloc, office, SealedLog::new(synced(alloc, journal)?), 0) {
-        Ok(office) => Ok(office),
+    office: Office<S>,
+    journal: Memory,
+) -> Result<FoundAgain, Fail> {
+    match with_journal(alloc, office, journal) {
+        Ok(office) => again_by(alloc, office),
         Err((why, _, _)) => Err(Fail::from(why)),
+    }
+}
+
+fn again_in<S: Alter + Drop>(
+    alloc: Global,
+    conn: Connection<S>,
+    journal: Memory,
+) -> Result<FoundAgain, Fail> {
+    match reopened(conn)? {
+        Ok(office) => again_of(alloc, office, journal),
+        Err(_) => Err(Fail::from("an office again")),
+    }
+}
+
+// Opens the office over what was left with what was left of its journal.
+fn open_again(alloc: Global, files: Files<Memory>, journal: Memory) -> Result<FoundAgain, Fail> {
+    match opened(alloc, files) {
+        Ok(conn) => again_in(alloc, conn, journal),
+        Err(_) => Err(Fail::from("files that open again")),
     }
 }
 
@@ -118,18 +182,16 @@ impl Remains {
         let files = files_of(alloc, self.files.log.bytes(), self.files.db.bytes())?;
         let mut journal = Vec::from_slice(alloc, &self.journal)?;
         journal.extend_from_slice(behind)?;
-        let (office, log) = reopened(alloc, files, &journal)?.into_parts();
-        let tables = tables_of(alloc, &mut office.into_connection())?;
-        let seal = log.seal();
-        let at = told.place_of(alloc, log.into_disk().bytes())?;
+        let again = open_again(alloc, files, synced(alloc, &journal)?)?;
+        let at = told.place_of(alloc, again.journal.bytes())?;
         let Some(told) = told.all.get(at) else {
             return Err(Fail::from("what a journal tells"));
         };
         // the founding is an event too
         let further = told.count.saturating_sub(1).saturating_sub(self.events);
-        let is_told = tables.as_str() == told.tables.as_str() && seal == told.seal;
+        let is_told = again.tables.as_str() == told.tables.as_str() && again.seal == told.seal;
         if !is_told || told.count <= self.events || further > 1 {
-            return Err(Fail::from((told.count, self.events, tables)));
+            return Err(Fail::from((told.count, self.events, again.tables)));
         }
         Ok(at)
     }

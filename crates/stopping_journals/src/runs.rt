@@ -1,18 +1,14 @@
 //! An office over two files with its journal in a third: each of the three stops in turn.
 
-use crate::left::{AllTold, Kept, Remains};
-use journal_office::reopen;
-use json_requests::{line, read_line};
-use json_tree::Scratch;
+use crate::left::{AllTold, Kept, Remains, with_journal};
 use office_desk::Office;
 use office_policy::Handler;
-use sealed_log::SealedLog;
-use sqlite::Files;
-use sqlite_disk::{Crash, Fuse, Memory};
+use sqlite::{Alter, Connection, FileStore, Files};
+use sqlite_disk::{Crash, Disk, Fuse, Memory};
 use std::alloc::Global;
 use std::test::Fail;
-use stopping_offices::asked::is_fault;
-use stopping_offices::begun::{Beginning, at_rest, begin};
+use stopping_offices::asked::{answer_to, is_fault};
+use stopping_offices::begun::{Beginning, begin, reopened};
 use stopping_offices::course::requests_of;
 use stopping_offices::files::{
     ENDLESS, File, Stop, crashed, empty_files, files_of, has_stopped, kept, opened, synced,
@@ -96,16 +92,25 @@ impl Stopping {
     }
 }
 
+// The database of an office that is founded in it.
+fn founded_in<S: Alter + Drop>(alloc: Global, conn: Connection<S>) -> Result<Connection<S>, Fail> {
+    match begin(alloc, conn, Beginning::Founding)? {
+        Ok(office) => Ok(office.into_connection()),
+        Err(conn) => Ok(conn),
+    }
+}
+
+// The files of an office that was founded.
+fn founded_files(alloc: Global) -> Result<Files<Memory>, Fail> {
+    match opened(alloc, empty_files(alloc)) {
+        Ok(conn) => Ok(closed(founded_in(alloc, conn)?)),
+        Err(_) => Err(Fail::from("files that open")),
+    }
+}
+
 /// The files of an office that was founded, and its journal, with this text behind that.
 pub(crate) fn founded(alloc: Global, behind: &str) -> Result<Remains, Fail> {
-    let Ok(conn) = opened(alloc, empty_files(alloc)) else {
-        return Err(Fail::from("files that open"));
-    };
-    let conn = match begin(alloc, at_rest(conn)?, Beginning::Founding)? {
-        Ok(office) => office.into_connection(),
-        Err(conn) => conn,
-    };
-    let files = closed(conn);
+    let files = founded_files(alloc)?;
     let mut journal = Vec::from_slice(alloc, FOUNDING.as_bytes())?;
     journal.extend_from_slice(behind.as_bytes())?;
     Ok(Remains {
@@ -126,39 +131,103 @@ const READING: [&str; 4] = [
     r#""ask":"fetch""#,
 ];
 
-// Asks an office the requests up to the first that is answered by a fault, where the process dies.
-fn converse(
-    alloc: Global,
-    office: Kept<Fuse<Memory>, Fuse<Memory>>,
-    requests: &[&str],
-) -> Result<Left, Fail> {
-    let mut office = office;
+// Asks an office the requests up to the first that is answered by a fault, where the process dies. Gives how many changed something.
+fn ask_all<H: Handler>(alloc: Global, office: &mut H, requests: &[&str]) -> Result<u64, Fail> {
     let mut events = 0u64;
     for request in requests {
-        let reads = READING.iter().any(|kind| request.contains(*kind));
-        let request = read_line(alloc, request.as_bytes(), &mut Scratch::new(alloc))?;
-        let answer = line(alloc, &office.handle(alloc, &request))?;
+        let answer = answer_to(alloc, office, request)?;
         if is_fault(answer.as_str()) {
             break;
         }
+        let reads = READING.iter().any(|kind| request.contains(*kind));
         if !reads && answer.as_str().contains(DONE) {
             events = events.saturating_add(1);
         }
     }
+    Ok(events)
+}
+
+// What is under an office and its journal, and how many requests changed something.
+#[derive(Drop)]
+struct Under<S: Alter + Drop, D: Disk + Drop> {
+    conn: Connection<S>,
+    log: D,
+    events: u64,
+}
+
+fn converse<S: Alter + Drop, D: Disk + Drop>(
+    alloc: Global,
+    office: Kept<S, D>,
+    requests: &[&str],
+) -> Result<Under<S, D>, Fail> {
+    let mut office = office;
+    let events = ask_all(alloc, &mut office, requests)?;
     let (office, journal) = office.into_parts();
-    Ok(Left {
-        files: office.into_connection().into_store().close(),
+    Ok(Under {
+        conn: office.into_connection(),
         log: journal.into_disk(),
         events,
     })
 }
 
-// What is left where no office was opened with its journal.
-fn unopened(files: Files<Fuse<Memory>>, log: Fuse<Memory>) -> Left {
-    Left {
-        files,
-        log,
-        events: 0,
+// Opens an office with its journal, and asks it the requests.
+fn run_office<S: Alter + Drop, D: Disk + Drop>(
+    alloc: Global,
+    office: Office<S>,
+    log: D,
+    requests: &[&str],
+) -> Result<Under<S, D>, Fail> {
+    match with_journal(alloc, office, log) {
+        Ok(office) => converse(alloc, office, requests),
+        Err((_, office, log)) => Ok(Under {
+            conn: office.into_connection(),
+            log,
+            events: 0,
+        }),
+    }
+}
+
+// The same of the office in a database.
+fn run_over<S: Alter + Drop, D: Disk + Drop>(
+    alloc: Global,
+    conn: Connection<S>,
+    log: D,
+    requests: &[&str],
+) -> Result<Under<S, D>, Fail> {
+    match reopened(conn)? {
+        Ok(office) => run_office(alloc, office, log, requests),
+        Err(conn) => Ok(Under {
+            conn,
+            log,
+            events: 0,
+        }),
+    }
+}
+
+fn files_under<D: Disk + Drop>(conn: Connection<FileStore<D>>) -> Files<D> {
+    conn.into_store().close()
+}
+
+fn run_in(
+    alloc: Global,
+    files: Files<Fuse<Memory>>,
+    log: Fuse<Memory>,
+    requests: &[&str],
+) -> Result<Left, Fail> {
+    match opened(alloc, files) {
+        Ok(conn) => {
+            let Under { conn, log, events } = run_over(alloc, conn, log, requests)?;
+            Ok(Left {
+                files: files_under(conn),
+                log,
+                events,
+            })
+        }
+        Err(files) => Ok(Left {
+            files,
+            log,
+            events: 0,
+        }),
     }
 }
 
@@ -172,21 +241,7 @@ fn run(
     let files = files_of(alloc, founded.files.log.bytes(), founded.files.db.bytes())?;
     let files = stopping.of_office().of(files);
     let log = Fuse::new(synced(alloc, &founded.journal)?, stopping.journal_calls());
-    let conn = match opened(alloc, files) {
-        Ok(conn) => at_rest(conn)?,
-        Err(files) => return Ok(unopened(files, log)),
-    };
-    let office = match Office::over(conn) {
-        Ok(office) => office,
-        Err((_, conn)) => return Ok(unopened(conn.into_store().close(), log)),
-    };
-    match reopen(alloc, office, SealedLog::new(log), 0) {
-        Ok(office) => converse(alloc, office, requests),
-        Err((_, office, log)) => Ok(unopened(
-            office.into_connection().into_store().close(),
-            log.into_disk(),
-        )),
-    }
+    run_in(alloc, files, log, requests)
 }
 
 /// The journal of an office that was founded and asked these requests, where nothing stops.
