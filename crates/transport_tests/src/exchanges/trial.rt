@@ -76,9 +76,13 @@ impl Trial {
             &mut writer,
         );
         let (served, is_unread) = match served {
-            Ok(Served {
-                status, is_unread, ..
-            }) => (Ok(status), is_unread),
+            Ok(
+                Served {
+                    status,
+                    is_unread,
+                    ..
+                },
+            ) => (Ok(status), is_unread),
             Err(fault) => (Err(fault), false),
         };
         Exchange {

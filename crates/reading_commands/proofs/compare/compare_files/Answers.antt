@@ -10,8 +10,7 @@ returns-in-Err-document_at-clause-failed g c =
 pub returns-clause-compared : goal.returns-clause-compared
 returns-clause-compared g c =
     let base = c.in-Ok.ensures.document in
-    let shown = c.in-Ok-document_at.ensures.document in
-    (
+    let shown = c.in-Ok-document_at.ensures.document in (
       base.0,
       shown.0,
       base.1,

@@ -5,8 +5,7 @@ use Rattle.reading_commands.proofs.documents.run_check.Goals as goal
 
 pub returns-clause-done : goal.returns-clause-done
 returns-clause-done g c =
-    let read = c.in_ok-bytes.ensures.bytes in
-    (
+    let read = c.in_ok-bytes.ensures.bytes in (
       record {
         file = read.0;
         opened = read.1;
