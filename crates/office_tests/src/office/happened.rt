@@ -5,6 +5,7 @@ use office_policy::Event;
 use review_policy::{Role, Roles, Word};
 use sqlite::Alter;
 use std::alloc::Global;
+use std::process::Abort;
 use std::test::Fail;
 use test_offices::offices::{Founding, trial_founding, trial_office};
 
@@ -57,10 +58,12 @@ fn replayed<S: Alter + Drop>(
     (office, result)
 }
 
-#[test]
-fn an_enrolment_happens_and_is_shown(rt: HostRuntime) -> Result<(), Fail> {
-    let alloc = rt.alloc();
-    let (office, was_shown) = shown(alloc, trial_office(alloc)?, enrolment(alloc, "root")?)?;
+fn assert_enrolment_happens<S: Alter + Drop>(
+    rt: &impl Abort,
+    alloc: Global,
+    office: Office<S>,
+) -> Result<(), Fail> {
+    let (office, was_shown) = shown(alloc, office, enrolment(alloc, "root")?)?;
     let (office, done) = replayed(alloc, office, enrolment(alloc, "root")?);
     let (_, is_shown) = shown(alloc, office, enrolment(alloc, "root")?)?;
     assert_eq!(rt; (was_shown, done, is_shown), (false, Ok(()), true));
@@ -68,9 +71,16 @@ fn an_enrolment_happens_and_is_shown(rt: HostRuntime) -> Result<(), Fail> {
 }
 
 #[test]
-fn a_founding_is_shown_and_does_not_happen_again(rt: HostRuntime) -> Result<(), Fail> {
-    let alloc = rt.alloc();
-    let (office, by_root) = shown(alloc, trial_office(alloc)?, founded_by(alloc, "root")?)?;
+fn an_enrolment_happens_and_is_shown(rt: HostRuntime) -> Result<(), Fail> {
+    assert_enrolment_happens(&rt, rt.alloc(), trial_office(rt.alloc())?)
+}
+
+fn assert_founded_once<S: Alter + Drop>(
+    rt: &impl Abort,
+    alloc: Global,
+    office: Office<S>,
+) -> Result<(), Fail> {
+    let (office, by_root) = shown(alloc, office, founded_by(alloc, "root")?)?;
     let (office, by_ann) = shown(alloc, office, founded_by(alloc, "ann")?)?;
     let (_, again) = replayed(alloc, office, founded_by(alloc, "root")?);
     assert_eq!(rt;
@@ -78,4 +88,9 @@ fn a_founding_is_shown_and_does_not_happen_again(rt: HostRuntime) -> Result<(), 
         (true, false, Err(Unreplayed::Founding))
     );
     Ok(())
+}
+
+#[test]
+fn a_founding_is_shown_and_does_not_happen_again(rt: HostRuntime) -> Result<(), Fail> {
+    assert_founded_once(&rt, rt.alloc(), trial_office(rt.alloc())?)
 }

@@ -1,17 +1,17 @@
 //! An office in memory with a journal in memory.
 
+use crate::office::founded::{at_rest, opened};
 use crate::office::openings::run;
 use journal::Journaled;
-use json_requests::{line, read_line};
-use json_tree::Scratch;
 use office_desk::Office;
 use office_policy::{Handler, Judge};
 use sealed_log::{Nothing, Reader, SealedLog};
-use sqlite::{Connection, MemStore};
+use sqlite::{Alter, Connection};
 use sqlite_disk::{Disk, Memory};
 use std::alloc::Global;
 use std::test::Fail;
 use test_offices::offices::{found_office, trial_office};
+use test_offices::served::serve;
 
 // A reader of a disk.
 fn reader_of<D: Disk>(disk: &mut D) -> Result<Reader, Fail> {
@@ -52,6 +52,20 @@ fn told_by<D: Disk + Drop>(alloc: Global, log: SealedLog<D>) -> Result<String, F
     Err(Fail::from("a log of less than 99 lines"))
 }
 
+// An empty journal in memory, opened.
+fn empty_log(alloc: Global) -> Result<SealedLog<Memory>, Fail> {
+    let mut log = SealedLog::new(Memory::new(alloc));
+    let found = log.read(alloc, &mut Nothing)?;
+    log.open_at(&found)?;
+    Ok(log)
+}
+
+// What an office answers to the requests of these lines.
+fn answers_of<H: Handler>(alloc: Global, office: &mut H, requests: &str) -> Result<String, Fail> {
+    let (_, answers) = serve(alloc, office, requests.as_bytes(), Vec::new(alloc));
+    Ok(String::from_utf8(answers)?)
+}
+
 // What the requests of these lines are answered by an office with an empty journal in memory, and
 // what its journal tells then.
 fn journaled<O: Judge + Drop>(
@@ -59,16 +73,8 @@ fn journaled<O: Judge + Drop>(
     office: O,
     requests: &str,
 ) -> Result<(String, String), Fail> {
-    let mut log = SealedLog::new(Memory::new(alloc));
-    let found = log.read(alloc, &mut Nothing)?;
-    log.open_at(&found)?;
-    let mut office = Journaled::new(office, log, true);
-    let mut told = String::new(alloc);
-    let mut scratch = Scratch::new(alloc);
-    for request in requests.lines() {
-        let request = read_line(alloc, request.as_bytes(), &mut scratch)?;
-        told.push_str(&line(alloc, &office.handle(alloc, &request))?)?;
-    }
+    let mut office = Journaled::new(office, empty_log(alloc)?, true);
+    let told = answers_of(alloc, &mut office, requests)?;
     let (_, log) = office.into_parts();
     Ok((told, told_by(alloc, log)?))
 }
@@ -144,16 +150,16 @@ fn each_event_of_an_office_has_its_line(rt: HostRuntime) -> Result<(), Fail> {
     Ok(())
 }
 
-// An office that can enrol nobody more: the greatest rowid of its users is taken.
-fn full_office(alloc: Global) -> Result<Office<MemStore>, Fail> {
-    let Ok(office) = found_office(alloc, Connection::open_in_memory(alloc)?)? else {
+// An office in this store that can enrol nobody more: the greatest rowid of its users is taken.
+fn full_office<S: Alter + Drop>(alloc: Global, conn: Connection<S>) -> Result<Office<S>, Fail> {
+    let Ok(office) = found_office(alloc, at_rest(conn)?)? else {
         return Err(Fail::from("an office"));
     };
     let conn = run(
         office.into_connection(),
         "UPDATE users SET rowid = 9223372036854775807",
     )?;
-    match Office::over(conn) {
+    match opened(conn) {
         Ok(office) => Ok(office),
         Err((fault, _)) => Err(Fail::from(fault)),
     }
@@ -174,7 +180,8 @@ f61d9ee63f1c593ff7d2e0761ca1925345f68ab9ff6c6c1e39b977919b20601f"#;
 #[test]
 fn an_event_that_a_fault_keeps_from_happening_is_struck_out(rt: HostRuntime) -> Result<(), Fail> {
     let alloc = rt.alloc();
-    let (told, text) = journaled(alloc, full_office(alloc)?, ENROLMENT)?;
+    let office = full_office(alloc, Connection::open_in_memory(alloc)?)?;
+    let (told, text) = journaled(alloc, office, ENROLMENT)?;
     assert_eq!(rt; told.as_str(), REFUSED);
     assert_eq!(rt; text.as_str(), STRUCK);
     Ok(())

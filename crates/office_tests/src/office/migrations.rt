@@ -3,7 +3,7 @@
 ghost use Rattle.sqlite.specs.Held.{state};
 ghost use Rattle.office_store.specs.Shown.{IsIdle};
 
-use crate::office::founded::{founded, reopened};
+use crate::office::founded::{at_rest, founded, founded_in, reopened};
 use crate::office::openings::{not_opened, run};
 use crate::office::votes::web;
 use office_founding::{MigrationFault, OpeningFault, migrate};
@@ -11,6 +11,7 @@ use office_store::held;
 use review_policy::Fault;
 use sqlite::{Alter, Connection};
 use std::alloc::Global;
+use std::process::Abort;
 use std::test::Fail;
 use test_doubles::conversations::{
     LEFT_BEHIND, SHOW, SHOWN, SUBMISSION, SUBMITTED, VOTE_LEFT_BEHIND,
@@ -44,16 +45,53 @@ fn is_held<S: Alter>(alloc: Global, conn: &mut Connection<S>) -> Result<bool, Fa
     Ok(held(conn, &name)?)
 }
 
+// Migrates an office, of which nothing more is said.
+fn migrated<S: Alter>(conn: &mut Connection<S>) -> Result<(), MigrationFault>
+    requires { IsIdle (state S.Store conn.old) }
+    ensures { IsIdle (state S.Store conn.new) }
+{
+    migrate(conn)
+}
+
+fn assert_migrated_once<S: Alter + Drop>(
+    rt: &impl Abort,
+    alloc: Global,
+    conn: Connection<S>,
+) -> Result<(), Fail> {
+    let conn = run(at_rest(conn)?, OLD_OFFICE)?;
+    let mut conn = not_opened(rt, conn, OpeningFault::OldSchema)?;
+    assert_eq!(rt; migrated(&mut conn), Ok(()));
+    assert_eq!(rt; migrated(&mut conn), Err(MigrationFault::AlreadyMigrated));
+    assert!(rt; !is_held(alloc, &mut conn)?);
+    reopened(rt, alloc, conn, ASKED, TOLD)?;
+    Ok(())
+}
+
 #[test]
 fn an_office_of_schema_1_is_migrated_with_its_votes(rt: HostRuntime) -> Result<(), Fail> {
     let alloc = rt.alloc();
-    let conn = run(Connection::open_in_memory(alloc)?, OLD_OFFICE)?;
-    let mut conn = not_opened(&rt, conn, OpeningFault::OldSchema)?;
-    assert_eq!(rt; migrate(&mut conn), Ok(()));
-    assert_eq!(rt; migrate(&mut conn), Err(MigrationFault::AlreadyMigrated));
-    assert!(rt; !is_held(alloc, &mut conn)?);
-    reopened(&rt, alloc, conn, ASKED, TOLD)?;
-    Ok(())
+    assert_migrated_once(&rt, alloc, Connection::open_in_memory(alloc)?)
+}
+
+// The tables of an office of schema 1 that was migrated.
+fn migrated_tables<S: Alter + Drop>(
+    rt: &impl Abort,
+    alloc: Global,
+    conn: Connection<S>,
+) -> Result<String, Fail> {
+    let mut conn = run(at_rest(conn)?, OLD_OFFICE)?;
+    assert_eq!(rt; migrated(&mut conn), Ok(()));
+    tables_of(alloc, &mut conn)
+}
+
+// Those of a new one.
+fn new_tables<S: Alter + Drop>(
+    rt: &impl Abort,
+    alloc: Global,
+    conn: Connection<S>,
+) -> Result<String, Fail> {
+    let mut conn = founded_in(rt, alloc, conn, VOTE_LEFT_BEHIND, LEFT_BEHIND)?;
+    tables_of(alloc, &mut conn)
 }
 
 #[test]
@@ -61,33 +99,42 @@ fn a_migrated_office_has_the_tables_of_a_new_one_that_was_asked_the_same(
     rt: HostRuntime,
 ) -> Result<(), Fail> {
     let alloc = rt.alloc();
-    let mut old = run(Connection::open_in_memory(alloc)?, OLD_OFFICE)?;
-    assert_eq!(rt; migrate(&mut old), Ok(()));
-    let conn = Connection::open_in_memory(alloc)?;
-    let mut new = founded(&rt, alloc, conn, VOTE_LEFT_BEHIND, LEFT_BEHIND)?;
-    assert_eq!(rt; tables_of(alloc, &mut old)?, tables_of(alloc, &mut new)?);
+    let old = migrated_tables(&rt, alloc, Connection::open_in_memory(alloc)?)?;
+    let new = new_tables(&rt, alloc, Connection::open_in_memory(alloc)?)?;
+    assert_eq!(rt; old, new);
+    Ok(())
+}
+
+fn assert_not_migrated<S: Alter + Drop>(rt: &impl Abort, conn: Connection<S>) -> Result<(), Fail> {
+    let mut conn = at_rest(conn)?;
+    let foreign = MigrationFault::Store(Fault::NotAnOffice);
+    assert_eq!(rt; migrated(&mut conn), Err(foreign));
     Ok(())
 }
 
 #[test]
 fn an_empty_store_is_not_migrated(rt: HostRuntime) -> Result<(), Fail> {
-    let mut conn = Connection::open_in_memory(rt.alloc())?;
-    let foreign = MigrationFault::Store(Fault::NotAnOffice);
-    assert_eq!(rt; migrate(&mut conn), Err(foreign));
+    assert_not_migrated(&rt, Connection::open_in_memory(rt.alloc())?)
+}
+
+fn assert_opened_with_its_index<S: Alter + Drop>(
+    rt: &impl Abort,
+    alloc: Global,
+    conn: Connection<S>,
+) -> Result<(), Fail> {
+    let conn = founded(rt, alloc, at_rest(conn)?, SUBMISSION, SUBMITTED)?;
+    let conn = run(conn, "DROP INDEX revisions_by_author")?;
+    let conn = not_opened(rt, conn, OpeningFault::NoIndex)?;
+    let conn = run(
+        conn,
+        "create index revisions_by_author on revisions(team, profile, author)",
+    )?;
+    reopened(rt, alloc, conn, SHOW, SHOWN)?;
     Ok(())
 }
 
 #[test]
 fn an_office_is_opened_once_its_index_is_made(rt: HostRuntime) -> Result<(), Fail> {
     let alloc = rt.alloc();
-    let conn = Connection::open_in_memory(alloc)?;
-    let conn = founded(&rt, alloc, conn, SUBMISSION, SUBMITTED)?;
-    let conn = run(conn, "DROP INDEX revisions_by_author")?;
-    let conn = not_opened(&rt, conn, OpeningFault::NoIndex)?;
-    let conn = run(
-        conn,
-        "create index revisions_by_author on revisions(team, profile, author)",
-    )?;
-    reopened(&rt, alloc, conn, SHOW, SHOWN)?;
-    Ok(())
+    assert_opened_with_its_index(&rt, alloc, Connection::open_in_memory(alloc)?)
 }
