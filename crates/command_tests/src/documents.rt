@@ -45,7 +45,50 @@ fn a_file_of_262145_bytes_is_too_long(rt: HostRuntime) -> Result<(), Fail> {
     assert_long(&rt, &rt, 2, "1 office: too-long\n> ")
 }
 
-// `check` and `execve` of a file that gives a document so are refused by this fault, and so is `compare`.
+// What `check` of a file is refused by.
+fn checked(
+    files: &GivenFiles,
+    alloc: Global,
+    output: &mut Counted<Vec<u8>>,
+) -> Result<String, AllocError> {
+    match run_check(files, alloc, "p.json", output) {
+        Ok(_) => Ok(String::new(alloc)),
+        Err(fault) => format!(in alloc; "{fault}"),
+    }
+}
+
+// What `execve` of it is refused by.
+fn executed(
+    files: &GivenFiles,
+    alloc: Global,
+    output: &mut Counted<Vec<u8>>,
+) -> Result<String, AllocError> {
+    let words = ExecveWords {
+        file: "p.json",
+        root: true,
+        file_permitted: None,
+        file_inheritable: None,
+        file_effective: false,
+    };
+    match run_execve(files, alloc, &words, output) {
+        Ok(_) => Ok(String::new(alloc)),
+        Err(fault) => format!(in alloc; "{fault}"),
+    }
+}
+
+// What `compare` of it with another is refused by.
+fn compared(
+    files: &GivenFiles,
+    alloc: Global,
+    output: &mut Counted<Vec<u8>>,
+) -> Result<String, AllocError> {
+    match run_compare(files, alloc, "p.json", "q.json", output) {
+        Ok(_) => Ok(String::new(alloc)),
+        Err(fault) => format!(in alloc; "{fault}"),
+    }
+}
+
+// Each of them is refused by this fault, of a file that gives a document so, and nothing is written.
 fn assert_refused(
     rt: &impl Abort,
     alloc: Global,
@@ -57,23 +100,15 @@ fn assert_refused(
         giving,
     };
     let mut output = Counted::new(Vec::new(alloc));
-    let mut faults = String::new(alloc);
-    if let Err(checked) = run_check(&files, alloc, "p.json", &mut output) {
-        write!(faults, "{checked}")?;
-    }
-    let words = ExecveWords {
-        file: "p.json",
-        root: true,
-        file_permitted: None,
-        file_inheritable: None,
-        file_effective: false,
-    };
-    if let Err(executed) = run_execve(&files, alloc, &words, &mut output) {
-        write!(faults, ", {executed}")?;
-    }
-    if let Err(compared) = run_compare(&files, alloc, "p.json", "q.json", &mut output) {
-        write!(faults, ", {compared}")?;
-    }
+    let checked = checked(&files, alloc, &mut output)?;
+    let executed = executed(&files, alloc, &mut output)?;
+    let compared = compared(&files, alloc, &mut output)?;
+    let faults = format!(in alloc;
+        "{}, {}, {}",
+        checked.as_str(),
+        executed.as_str(),
+        compared.as_str()
+    )?;
     assert_eq!(rt; faults.as_str(), wanted);
     assert_eq!(rt; output.into_inner().as_slice(), b"".as_slice());
     Ok(())
