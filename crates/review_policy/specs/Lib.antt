@@ -1,4 +1,5 @@
 pub mod Words
+pub mod Acts
 pub mod Digests
 pub mod Role
 pub mod Rules

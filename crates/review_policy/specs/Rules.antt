@@ -2,6 +2,8 @@
 use Rattle.std.specs.Prelude.{ℕ, suc, List, [], ◌∷◌, Bool, true, false, not, ◌||◌, ◌&&◌, nat_lt}
 use Rattle.std.specs.Prelude.{nat_le, ◌==◌, if◌then◌else◌, Option, Some, is_none, Result, Ok, Err}
 use Rattle.std.specs.Prelude.{⊤}
+use Rattle.review_policy.specs.declared.act.ProfileAct.{ProfileAct}
+use Rattle.review_policy.specs.declared.act.ProfileAct.TheVariants.{Hold, Release}
 use Rattle.review_policy.specs.declared.denial.Denial.{Denial}
 use Rattle.review_policy.specs.declared.denial.Need.{Need}
 use Rattle.review_policy.specs.declared.denial.Need.TheVariants.{One, TwoWithSecurity}
@@ -28,7 +30,6 @@ use Rattle.review_policy.specs.declared.facts.AdoptFacts.{AdoptFacts}
 use Rattle.review_policy.specs.declared.facts.ReadFacts.{ReadFacts}
 use Rattle.review_policy.specs.declared.facts.FetchFacts.{FetchFacts}
 use Rattle.review_policy.specs.declared.facts.HoldFacts.{HoldFacts}
-use Rattle.review_policy.specs.declared.facts.ReleaseFacts.{ReleaseFacts}
 use Rattle.review_policy.specs.declared.facts.RevisionsFacts.{RevisionsFacts}
 
 -- the greatest number of revisions of a profile
@@ -154,22 +155,18 @@ fetch_rules f =
     ∷ (Held, f.held)
     ∷ []
 
--- security holds a profile that isn't held
-abbrev pub hold_rules : HoldFacts → List (Rule × Bool)
-hold_rules f =
-    (CallerUnknown, f.caller_unknown)
-    ∷ (RoleMissing, f.role_missing)
-    ∷ (NoProfile, f.no_profile)
-    ∷ (AlreadyHeld, f.already_held)
-    ∷ []
+-- a profile is held that isn't held, and one is released that is
+abbrev pub hold_rule : ProfileAct → (held : Bool) → Rule × Bool
+hold_rule Hold held = (AlreadyHeld, held)
+hold_rule Release held = (NotHeld, not held)
 
--- security releases a held profile
-abbrev pub release_rules : ReleaseFacts → List (Rule × Bool)
-release_rules f =
+-- security holds a profile, or releases it
+abbrev pub hold_rules : ProfileAct → HoldFacts → List (Rule × Bool)
+hold_rules act f =
     (CallerUnknown, f.caller_unknown)
     ∷ (RoleMissing, f.role_missing)
     ∷ (NoProfile, f.no_profile)
-    ∷ (NotHeld, f.not_held)
+    ∷ hold_rule act f.held
     ∷ []
 
 -- every user sees who that is

@@ -100,23 +100,17 @@ impl RevisionList {
 /// What a request that was done is answered. Digests are of SHA-256; revisions are numbered from 1.
 #[derive(Debug, Drop)]
 pub enum Reply {
-    /// The user is enrolled.
-    Enrolled,
+    /// There is nothing to tell but that it was done.
+    Nothing,
     /// The document is there as this revision; the digest is of its canonical text.
     Submitted {
         digest: [u8; 32],
         revision: u32,
     },
-    /// The vote stands.
-    Voted,
     /// The revision is what hosts fetch; the digest is of its text.
     Issued {
         digest: [u8; 32],
     },
-    /// The revision is taken back.
-    Withdrawn,
-    /// The revision is the baseline of its team.
-    Adopted,
     /// A revision: its canonical text, the digest of that, and where it stands.
     Shown {
         digest: [u8; 32],
@@ -138,10 +132,6 @@ pub enum Reply {
         document: Text,
         revision: u32,
     },
-    /// The profile is held.
-    Held,
-    /// The profile is no longer held.
-    Released,
     /// Who the caller is.
     Me {
         user: Word,

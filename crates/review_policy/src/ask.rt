@@ -1,5 +1,6 @@
 //! What is asked of the office.
 
+use crate::act::{ProfileAct, ProfileView, RevisionAct, RevisionView};
 use crate::role::Roles;
 use crate::token::Token;
 use crate::word::Word;
@@ -36,28 +37,15 @@ pub enum Ask {
         digest: [u8; 32],
         approve: bool,
     },
-    /// To issue a revision to hosts.
-    Issue {
+    /// To have this done to a revision.
+    ActOnRevision {
+        act: RevisionAct,
         name: ProfileName,
         revision: u32,
     },
-    /// To take a revision back.
-    Withdraw {
-        name: ProfileName,
-        revision: u32,
-    },
-    /// To make a revision the baseline of its team.
-    Adopt {
-        name: ProfileName,
-        revision: u32,
-    },
-    /// To see a revision's text.
-    Show {
-        name: ProfileName,
-        revision: u32,
-    },
-    /// To see the review sheet of a revision.
-    Sheet {
+    /// To see this of a revision.
+    SeeRevision {
+        view: RevisionView,
         name: ProfileName,
         revision: u32,
     },
@@ -65,16 +53,14 @@ pub enum Ask {
     List {
         team: Word,
     },
-    /// To fetch what was issued of a profile.
-    Fetch {
+    /// To have this done to a profile.
+    ActOnProfile {
+        act: ProfileAct,
         name: ProfileName,
     },
-    /// To hold a profile back from being issued and fetched.
-    Hold {
-        name: ProfileName,
-    },
-    /// To release a held profile.
-    Release {
+    /// To see this of a profile.
+    SeeProfile {
+        view: ProfileView,
         name: ProfileName,
     },
     /// To see who the caller is.
@@ -83,10 +69,6 @@ pub enum Ask {
     Revisions {
         name: ProfileName,
         before: Option<u32>,
-    },
-    /// To see which revision a fetch of the profile would give, without its text.
-    Issued {
-        name: ProfileName,
     },
 }
 

@@ -1,10 +1,10 @@
 //! The decisions: the first rule that refuses a request, by its facts.
 
-ghost use Rattle.std.specs.Prelude.{◌≡◌, ◌≤◌, List, Bool, false, length};
+ghost use Rattle.std.specs.Prelude.{◌≡◌, ◌≤◌, List, Bool, false, length, not};
 ghost use Rattle.review_policy.specs.FirstRefusal.{IsDecision, any_refuses};
 ghost use Rattle.review_policy.specs.Rules.{first_denial, need_of, is_open, is_issued, enrol_rules};
 ghost use Rattle.review_policy.specs.Rules.{submit_rules, vote_rules, issue_rules, withdraw_rules};
-ghost use Rattle.review_policy.specs.Rules.{adopt_rules, fetch_rules, hold_rules, release_rules};
+ghost use Rattle.review_policy.specs.Rules.{adopt_rules, fetch_rules, hold_rules};
 ghost use Rattle.review_policy.specs.declared.facts.TheConstants.EnrolFacts as enrol_facts;
 ghost use Rattle.review_policy.specs.declared.facts.TheConstants.SubmitFacts as submit_facts;
 ghost use Rattle.review_policy.specs.declared.facts.TheConstants.VoteFacts as vote_facts;
@@ -13,7 +13,8 @@ ghost use Rattle.review_policy.specs.declared.facts.TheConstants.WithdrawFacts a
 ghost use Rattle.review_policy.specs.declared.facts.TheConstants.AdoptFacts as adopt_facts;
 ghost use Rattle.review_policy.specs.declared.facts.TheConstants.FetchFacts as fetch_facts;
 ghost use Rattle.review_policy.specs.declared.facts.TheConstants.HoldFacts as hold_facts;
-ghost use Rattle.review_policy.specs.declared.facts.TheConstants.ReleaseFacts as release_facts;
+ghost use Rattle.review_policy.specs.declared.act.ProfileAct.{ProfileAct};
+ghost use Rattle.review_policy.specs.Acts.{holds};
 ghost use Rattle.review_policy.specs.declared.denial.Rule.{Rule};
 
 mod adopt;
@@ -22,7 +23,6 @@ mod fetch;
 mod hold;
 mod issue;
 mod read;
-mod release;
 mod revisions;
 mod submit;
 mod vote;
@@ -36,7 +36,6 @@ pub use fetch::decide_fetch;
 pub use hold::decide_hold;
 pub use issue::decide_issue;
 pub use read::decide_read;
-pub use release::decide_release;
 pub use revisions::decide_revisions;
 pub use submit::decide_submit;
 pub use vote::decide_vote;
@@ -61,7 +60,8 @@ pub fn the_first_refusing_rule_is_named()
     ensures { (rules : List (Rule × Bool)) → IsDecision 1 rules (first_denial rules) }
 {}
 
-/// The law of the facts that pass: no rule of their kind refuses `PASSING`.
+/// The law of the facts that pass: no rule of their kind refuses `PASSING`. Of a hold and of its end
+/// the profile is held where it isn't to be.
 pub fn no_rule_refuses_passing_facts()
     ensures of_enrol { any_refuses (enrol_rules enrol_facts.PASSING) ≡ false }
     ensures of_submit { any_refuses (submit_rules submit_facts.PASSING) ≡ false }
@@ -70,8 +70,9 @@ pub fn no_rule_refuses_passing_facts()
     ensures of_withdraw { any_refuses (withdraw_rules withdraw_facts.PASSING) ≡ false }
     ensures of_adopt { any_refuses (adopt_rules adopt_facts.PASSING) ≡ false }
     ensures of_fetch { any_refuses (fetch_rules fetch_facts.PASSING) ≡ false }
-    ensures of_hold { any_refuses (hold_rules hold_facts.PASSING) ≡ false }
-    ensures of_release { any_refuses (release_rules release_facts.PASSING) ≡ false }
+    ensures of_hold { (act : ProfileAct)
+        → any_refuses (hold_rules act (record hold_facts.PASSING { held = not (holds act) }))
+        ≡ false }
 {}
 
 // The first rule that refuses, numbered by its place. Each rule stands with whether it refuses.

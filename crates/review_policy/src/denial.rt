@@ -89,7 +89,7 @@ pub enum Rule {
     NoProfile,
     /// The profile to be held is held.
     AlreadyHeld,
-    /// The profile to be released isn't held.
+    /// The profile isn't held.
     NotHeld,
     /// The profile is held.
     Held,

@@ -209,7 +209,7 @@ impl FetchFacts {
     };
 }
 
-/// What the rules of hold ask.
+/// What the rules of holds ask, and of their ends.
 #[derive(Clone, Copy)]
 pub struct HoldFacts {
     /// No user's present token is the one that is shown.
@@ -219,39 +219,17 @@ pub struct HoldFacts {
     /// The profile has no revision.
     pub no_profile: bool,
     /// The profile is held.
-    pub already_held: bool,
+    pub held: bool,
 }
 
 impl HoldFacts {
-    /// Facts that every rule of hold lets pass, to stand for those that aren't looked up yet.
+    /// Facts that every rule of a hold lets pass, to stand for those that aren't looked up yet. Of
+    /// the end of a hold the profile has to be held too.
     pub const PASSING: HoldFacts = HoldFacts {
         caller_unknown: false,
         role_missing: false,
         no_profile: false,
-        already_held: false,
-    };
-}
-
-/// What the rules of release ask.
-#[derive(Clone, Copy)]
-pub struct ReleaseFacts {
-    /// No user's present token is the one that is shown.
-    pub caller_unknown: bool,
-    /// The caller isn't security.
-    pub role_missing: bool,
-    /// The profile has no revision.
-    pub no_profile: bool,
-    /// The profile isn't held.
-    pub not_held: bool,
-}
-
-impl ReleaseFacts {
-    /// Facts that every rule of release lets pass, to stand for those that aren't looked up yet.
-    pub const PASSING: ReleaseFacts = ReleaseFacts {
-        caller_unknown: false,
-        role_missing: false,
-        no_profile: false,
-        not_held: false,
+        held: false,
     };
 }
 

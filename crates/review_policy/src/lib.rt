@@ -2,6 +2,7 @@
 //! them.
 #![tactic(auto)]
 
+pub mod act;
 pub mod answer;
 pub mod ask;
 pub mod decide;
@@ -15,18 +16,19 @@ pub mod text;
 pub mod token;
 pub mod word;
 
+pub use act::{ProfileAct, ProfileView, RevisionAct, RevisionView};
 pub use answer::{Answer, ListedProfile, Listing, ProfileRevision, Reply, RevisionList};
 pub use ask::{Ask, ProfileName, Request};
 pub use decide::{
     decide_adopt, decide_enrol, decide_fetch, decide_hold, decide_issue, decide_read,
-    decide_release, decide_revisions, decide_submit, decide_vote, decide_withdraw, need,
+    decide_revisions, decide_submit, decide_vote, decide_withdraw, need,
     no_rule_refuses_passing_facts, the_first_refusing_rule_is_named,
 };
 pub use denial::{Denial, Need, Rule};
 pub use digest::digest_from_hex;
 pub use facts::{
-    AdoptFacts, EnrolFacts, FetchFacts, HoldFacts, IssueFacts, ReadFacts, ReleaseFacts,
-    RevisionsFacts, SubmitFacts, VoteFacts, WithdrawFacts,
+    AdoptFacts, EnrolFacts, FetchFacts, HoldFacts, IssueFacts, ReadFacts, RevisionsFacts,
+    SubmitFacts, VoteFacts, WithdrawFacts,
 };
 pub use fault::Fault;
 pub use revision::{MAX_LISTED, MAX_REVISIONS, State, VoteRow};

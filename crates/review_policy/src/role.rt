@@ -18,8 +18,8 @@ pub enum Role {
     Author,
     /// Votes on revisions.
     Reviewer,
-    /// Adopts baselines, holds and releases profiles, withdraws revisions. A reviewer who is also
-    /// this gives the approval with security that a wider profile needs.
+    /// Adopts baselines, holds profiles, withdraws revisions. A reviewer who is also this gives the
+    /// approval with security that a wider profile needs.
     Security,
     /// Issues approved revisions.
     Issuer,

@@ -1,20 +1,31 @@
-//! When a profile may be held.
+//! When a profile may be held or released.
 
 ghost use Rattle.std.specs.Prelude.{◌≡◌};
-ghost use Rattle.review_policy.specs.Rules.{first_denial, hold_rules};
+ghost use Rattle.review_policy.specs.Rules.{first_denial, hold_rule, hold_rules};
 
 use super::first_denial;
+use crate::act::ProfileAct;
 use crate::denial::{Denial, Rule};
 use crate::facts::HoldFacts;
 
-/// Whether a profile may be held, or the first rule that refuses it.
-pub fn decide_hold(facts: &HoldFacts) -> Result<(), Denial>
-    ensures { result ≡ first_denial (hold_rules facts.now) }
+// The rule that asks for the hold, with whether it refuses.
+fn rule_of(act: ProfileAct, held: bool) -> (Rule, bool)
+    ensures { result ≡ hold_rule act held }
+{
+    match act {
+        ProfileAct::Hold => (Rule::AlreadyHeld, held),
+        ProfileAct::Release => (Rule::NotHeld, !held),
+    }
+}
+
+/// Whether this may be done to a profile, or the first rule that refuses it.
+pub fn decide_hold(act: ProfileAct, facts: &HoldFacts) -> Result<(), Denial>
+    ensures { result ≡ first_denial (hold_rules act facts.now) }
 {
     first_denial(&[
         (Rule::CallerUnknown, facts.caller_unknown),
         (Rule::RoleMissing, facts.role_missing),
         (Rule::NoProfile, facts.no_profile),
-        (Rule::AlreadyHeld, facts.already_held),
+        rule_of(act, facts.held),
     ])
 }
