@@ -5,25 +5,23 @@ use Rattle.profile_text.specs.Digest.{digest_of}
 use Rattle.profile_text.specs.Reading.{reading_of}
 use Rattle.profile_text.specs.declared.profile.Profile.{Profile}
 use Rattle.profile_text.specs.declared.fault.DocFault.{DocFault}
+use Rattle.review_policy.specs.declared.act.RevisionView.TheVariants.{Show, Sheet}
 use Rattle.review_policy.specs.declared.ask.ProfileName.{ProfileName}
 use Rattle.review_policy.specs.declared.ask.Ask.{Ask}
 use Rattle.review_policy.specs.declared.ask.Ask.TheVariants as ask
 use Rattle.review_policy.specs.declared.ask.Request.{Request}
 use Rattle.review_policy.specs.declared.answer.Reply.{Reply}
 use Rattle.review_policy.specs.declared.answer.Reply.TheVariants as reply
-use Rattle.review_sheet.specs.Sheet.{sheet_text}
 use Rattle.office_tables.specs.declared.row.RevisionRow.{RevisionRow}
 use Rattle.office_tables.specs.declared.row.UserRow.{UserRow}
-use Rattle.office_policy.specs.History.{Event, issued, History}
+use Rattle.office_policy.specs.History.{Event, on_revision, History}
 use Rattle.office_policy.specs.Users.{user_showing, name_of}
-use Rattle.office_policy.specs.Newest.{revisions_before, newest_told}
 use Rattle.office_policy.specs.Revisions.{revision_of, issued_revision}
-use Rattle.office_policy.specs.Sheets.{sheet_of}
-use Rattle.office_policy.specs.Verdict.{Verdict, accepted, denied, new_revision, of_revision, of_user, done_of, verdict}
+use Rattle.office_policy.specs.Verdict.{Verdict, accepted, denied, new_revision, of_revision, of_user, done_of, given_of, seen_of, verdict}
 use Rattle.office_policy.specs.Asked.{IsAsked, IsSeen, OfRevision, TellsCaller}
 use Rattle.office_policy.specs.Handled.{only_reads}
 use Rattle.office_policy.proofs.UserFacts.{showing_is}
-use Rattle.office_policy.proofs.LawFacts.{of_revision_by, of_user_by}
+use Rattle.office_policy.proofs.LawFacts.{done_to_by, of_revision_by, of_user_by}
 use Rattle.office_policy.proofs.GivenOut.{carried_out}
 use Rattle.office_policy.proofs.ReplyFacts.{caller_in}
 
@@ -41,23 +39,16 @@ done_asked : (h : History) (caller : Option UserRow) (a : Ask) → DoesAsked (na
 done_asked h caller (ask.Enrol user team roles digest) = refl
 done_asked h caller (ask.Submit p document) = new_asked h caller p document (reading_of document.items) refl
 done_asked h caller (ask.Vote p n digest approve) = refl
-done_asked h caller (ask.Issue p n) =
-    of_revision_by (DoesAsked (name_of caller) (ask.Issue p n)) (revision_of h p n) (λ r. accepted (reply.Issued r.digest) (Some (issued (name_of caller) p n))) tt (λ r. refl)
-done_asked h caller (ask.Withdraw p n) = refl
-done_asked h caller (ask.Adopt p n) = refl
-done_asked h caller (ask.Show p n) =
-    of_revision_by (DoesAsked (name_of caller) (ask.Show p n)) (revision_of h p n) (λ r. accepted (reply.Shown r.digest r.body r.state) None) tt (λ r. refl)
-done_asked h caller (ask.Sheet p n) =
-    of_revision_by (DoesAsked (name_of caller) (ask.Sheet p n)) (revision_of h p n) (λ r. accepted (reply.Sheet (sheet_text (sheet_of h p r))) None) tt (λ r. refl)
+done_asked h caller (ask.ActOnRevision act p n) =
+    done_to_by (DoesAsked (name_of caller) (ask.ActOnRevision act p n)) (revision_of h p n) act (on_revision (name_of caller) act p n) tt (λ told. refl)
+done_asked h caller (ask.SeeRevision view p n) =
+    of_revision_by (DoesAsked (name_of caller) (ask.SeeRevision view p n)) (revision_of h p n) (λ r. accepted (seen_of h p view r) None) tt (λ r. refl)
 done_asked h caller (ask.List team) = refl
-done_asked h caller (ask.Fetch p) =
-    of_revision_by (DoesAsked (name_of caller) (ask.Fetch p)) (issued_revision h p) (λ r. accepted (reply.Fetched r.digest r.body r.number) None) tt (λ r. refl)
-done_asked h caller (ask.Hold p) = refl
-done_asked h caller (ask.Release p) = refl
+done_asked h caller (ask.ActOnProfile act p) = refl
+done_asked h caller (ask.SeeProfile view p) =
+    of_revision_by (DoesAsked (name_of caller) (ask.SeeProfile view p)) (issued_revision h p) (λ r. accepted (given_of view r) None) tt (λ r. refl)
 done_asked h caller ask.Me = of_user_by (DoesAsked (name_of caller) ask.Me) caller (λ u. accepted (reply.Me u.name u.team u.roles) None) tt (λ u. refl)
 done_asked h caller (ask.Revisions p before) = refl
-done_asked h caller (ask.Issued p) =
-    of_revision_by (DoesAsked (name_of caller) (ask.Issued p)) (issued_revision h p) (λ r. accepted (reply.IssuedNow r.digest r.number) None) tt (λ r. refl)
 
 pub asked_by : (h : History) (r : Request) (reply : Reply) (e : Option Event) → verdict h r ≡ accepted reply e → IsAsked (caller_in h r) r.ask e
 asked_by h r reply e is =
@@ -68,18 +59,13 @@ pub changing : (caller : List ℕ) (a : Ask) (e : Event) → IsAsked caller a (S
 changing caller (ask.Enrol user team roles digest) e is = refl
 changing caller (ask.Submit p document) e is = refl
 changing caller (ask.Vote p n digest approve) e is = refl
-changing caller (ask.Issue p n) e is = refl
-changing caller (ask.Withdraw p n) e is = refl
-changing caller (ask.Adopt p n) e is = refl
-changing caller (ask.Hold p) e is = refl
-changing caller (ask.Release p) e is = refl
-changing caller (ask.Show p n) e is = absurd cc
-changing caller (ask.Sheet p n) e is = absurd cc
+changing caller (ask.ActOnRevision act p n) e is = refl
+changing caller (ask.ActOnProfile act p) e is = refl
+changing caller (ask.SeeRevision view p n) e is = absurd cc
 changing caller (ask.List team) e is = absurd cc
-changing caller (ask.Fetch p) e is = absurd cc
+changing caller (ask.SeeProfile view p) e is = absurd cc
 changing caller ask.Me e is = absurd cc
 changing caller (ask.Revisions p before) e is = absurd cc
-changing caller (ask.Issued p) e is = absurd cc
 
 -- what is answered of a revision that is there
 told_of : (h : History) (p : ProfileName) (n : ℕ) (tell : RevisionRow → Reply) (told : Reply) (e : Option Event)
@@ -94,18 +80,14 @@ done_seen : (h : History) (caller : Option UserRow) (a : Ask) (told : Reply) (e 
 done_seen h caller (ask.Enrol user team roles digest) told e done = tt
 done_seen h caller (ask.Submit p document) told e done = tt
 done_seen h caller (ask.Vote p n digest approve) told e done = tt
-done_seen h caller (ask.Issue p n) told e done = tt
-done_seen h caller (ask.Withdraw p n) told e done = tt
-done_seen h caller (ask.Adopt p n) told e done = tt
-done_seen h caller (ask.Show p n) told e done = told_of h p n (λ r. reply.Shown r.digest r.body r.state) told e done
-done_seen h caller (ask.Sheet p n) told e done = told_of h p n (λ r. reply.Sheet (sheet_text (sheet_of h p r))) told e done
+done_seen h caller (ask.ActOnRevision act p n) told e done = tt
+done_seen h caller (ask.SeeRevision Show p n) told e done = told_of h p n (seen_of h p Show) told e done
+done_seen h caller (ask.SeeRevision Sheet p n) told e done = told_of h p n (seen_of h p Sheet) told e done
 done_seen h caller (ask.List team) told e done = cc
-done_seen h caller (ask.Fetch p) told e done = tt
-done_seen h caller (ask.Hold p) told e done = tt
-done_seen h caller (ask.Release p) told e done = tt
+done_seen h caller (ask.ActOnProfile act p) told e done = tt
+done_seen h caller (ask.SeeProfile view p) told e done = tt
 done_seen h caller ask.Me told e done = tt
 done_seen h caller (ask.Revisions p before) told e done = cc
-done_seen h caller (ask.Issued p) told e done = tt
 
 pub seen_by : (h : History) (r : Request) (told : Reply) (e : Option Event) → verdict h r ≡ accepted told e → IsSeen h r.ask told
 seen_by h r told e is = done_seen h (user_showing h (digest_of r.token)) r.ask told e (carried_out h r r.ask told e refl is).done

@@ -13,18 +13,16 @@ use Rattle.review_policy.specs.declared.answer.Reply.{Reply}
 use Rattle.review_policy.specs.declared.answer.Reply.TheVariants as reply
 use Rattle.review_policy.specs.declared.denial.Rule.{Rule}
 use Rattle.review_policy.specs.Rules.{first_from, first_denial}
-use Rattle.review_sheet.specs.Sheet.{sheet_text}
 use Rattle.office_tables.specs.declared.row.UserRow.{UserRow}
-use Rattle.office_policy.specs.History.{Event, issued, History}
+use Rattle.office_policy.specs.History.{Event, on_revision, History}
 use Rattle.office_policy.specs.Users.{user_showing, name_of}
 use Rattle.office_policy.specs.Revisions.{revision_of, issued_revision}
-use Rattle.office_policy.specs.Sheets.{sheet_of}
-use Rattle.office_policy.specs.Verdict.{Verdict, accepted, denied, new_revision, rules_of, done_of, verdict}
+use Rattle.office_policy.specs.Verdict.{Verdict, accepted, denied, new_revision, rules_of, done_of, given_of, seen_of, verdict}
 use Rattle.office_policy.specs.Callers.{is_of_caller, of_caller, may_ask, caller_of, IsAskedBy, IsForCaller}
 use Rattle.office_policy.specs.CallerTable.{decided}
 use Rattle.office_policy.specs.Lawful.{IsAllowed}
 use Rattle.office_policy.proofs.UserFacts.{showing_is}
-use Rattle.office_policy.proofs.LawFacts.{of_revision_by, of_user_by}
+use Rattle.office_policy.proofs.LawFacts.{done_to_by, of_revision_by, of_user_by}
 use Rattle.office_policy.proofs.GivenOut.{IsCarriedOut, carried_out_of, carried_out}
 
 -- where no rule refuses, none of those that ask who the caller is does
@@ -57,19 +55,13 @@ done_by : (h : History) (caller : Option UserRow) (a : Ask) → IsDoneBy (name_o
 done_by h caller (ask.Enrol user team roles digest) = refl
 done_by h caller (ask.Submit p document) = new_by h caller p (reading_of document.items)
 done_by h caller (ask.Vote p n digest approve) = refl
-done_by h caller (ask.Issue p n) =
-    of_revision_by (IsDoneBy (name_of caller)) (revision_of h p n) (λ r. accepted (reply.Issued r.digest) (Some (issued (name_of caller) p n))) tt (λ r. refl)
-done_by h caller (ask.Withdraw p n) = refl
-done_by h caller (ask.Adopt p n) = refl
-done_by h caller (ask.Show p n) = of_revision_by (IsDoneBy (name_of caller)) (revision_of h p n) (λ r. accepted (reply.Shown r.digest r.body r.state) None) tt (λ r. tt)
-done_by h caller (ask.Sheet p n) = of_revision_by (IsDoneBy (name_of caller)) (revision_of h p n) (λ r. accepted (reply.Sheet (sheet_text (sheet_of h p r))) None) tt (λ r. tt)
+done_by h caller (ask.ActOnRevision act p n) = done_to_by (IsDoneBy (name_of caller)) (revision_of h p n) act (on_revision (name_of caller) act p n) tt (λ told. refl)
+done_by h caller (ask.SeeRevision view p n) = of_revision_by (IsDoneBy (name_of caller)) (revision_of h p n) (λ r. accepted (seen_of h p view r) None) tt (λ r. tt)
 done_by h caller (ask.List team) = tt
-done_by h caller (ask.Fetch p) = of_revision_by (IsDoneBy (name_of caller)) (issued_revision h p) (λ r. accepted (reply.Fetched r.digest r.body r.number) None) tt (λ r. tt)
-done_by h caller (ask.Hold p) = refl
-done_by h caller (ask.Release p) = refl
+done_by h caller (ask.ActOnProfile act p) = refl
+done_by h caller (ask.SeeProfile view p) = of_revision_by (IsDoneBy (name_of caller)) (issued_revision h p) (λ r. accepted (given_of view r) None) tt (λ r. tt)
 done_by h caller ask.Me = of_user_by (IsDoneBy (name_of caller)) caller (λ u. accepted (reply.Me u.name u.team u.roles) None) tt (λ u. tt)
 done_by h caller (ask.Revisions p before) = tt
-done_by h caller (ask.Issued p) = of_revision_by (IsDoneBy (name_of caller)) (issued_revision h p) (λ r. accepted (reply.IssuedNow r.digest r.number) None) tt (λ r. tt)
 
 -- nobody who is no user is let through
 stranger_out : (h : History) (a : Ask) → is_ok (decided h None a) ≡ false

@@ -6,7 +6,7 @@ use Rattle.review_policy.specs.declared.ask.ProfileName.{ProfileName}
 use Rattle.review_policy.specs.declared.revision.State.{State}
 use Rattle.review_policy.specs.Rules.{is_open}
 use Rattle.office_tables.specs.Tables.{is_profile}
-use Rattle.office_policy.specs.History.{Event, founded, enrolled, submitted, voted, issued, withdrawn, adopted, held, released, History}
+use Rattle.office_policy.specs.History.{Event, founded, enrolled, submitted, voted, on_revision, on_profile, History}
 use Rattle.office_policy.specs.Revisions.{submits, submission_of, revision_of, revision_count, is_author, state_in}
 use Rattle.office_policy.specs.Votes.{CastVote, vote_of}
 use Rattle.office_policy.specs.Lawful.{IsLawfulHistory}
@@ -77,11 +77,8 @@ voted_more h (voted c q m d a) is p n name v at before =
       | false ↦ λ other at. let b = before at in record { within = b.within; on_last = λ last. cast_before h (voted c q m d a) p n name v refl (b.on_last last) }
     ] refl at
 voted_more h (enrolled c x t r d) is p n name v at before = let b = before at in record { within = b.within; on_last = λ last. cast_before h (enrolled c x t r d) p n name v refl (b.on_last last) }
-voted_more h (issued c q k) is p n name v at before = let b = before at in record { within = b.within; on_last = λ last. cast_before h (issued c q k) p n name v refl (b.on_last last) }
-voted_more h (withdrawn c q k) is p n name v at before = let b = before at in record { within = b.within; on_last = λ last. cast_before h (withdrawn c q k) p n name v refl (b.on_last last) }
-voted_more h (adopted c q k) is p n name v at before = let b = before at in record { within = b.within; on_last = λ last. cast_before h (adopted c q k) p n name v refl (b.on_last last) }
-voted_more h (held c q) is p n name v at before = let b = before at in record { within = b.within; on_last = λ last. cast_before h (held c q) p n name v refl (b.on_last last) }
-voted_more h (released c q) is p n name v at before = let b = before at in record { within = b.within; on_last = λ last. cast_before h (released c q) p n name v refl (b.on_last last) }
+voted_more h (on_revision c act q k) is p n name v at before = let b = before at in record { within = b.within; on_last = λ last. cast_before h (on_revision c act q k) p n name v refl (b.on_last last) }
+voted_more h (on_profile c act q) is p n name v at before = let b = before at in record { within = b.within; on_last = λ last. cast_before h (on_profile c act q) p n name v refl (b.on_last last) }
 
 pub voted_on : (h : History) → IsLawfulHistory h → (p : ProfileName) (n : ℕ) (name : List ℕ) (v : CastVote) → vote_of h p n name ≡ Some v → IsVoted h p n name v
 voted_on [] lawful p n name v at = absurd lawful

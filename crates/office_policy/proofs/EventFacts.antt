@@ -3,6 +3,7 @@ use Rattle.std.proofs.Common.{◌≡◌, ◌==◌, ◌&&◌, ◌||◌, ℕ, List
 use Rattle.std.specs.Prelude.{option_map, nat_lt, bytes_eq}
 use Rattle.std.specs.List.{list_any}
 use Rattle.profile_text.specs.Digest.{digest_of}
+use Rattle.review_policy.specs.declared.act.ProfileAct.{ProfileAct}
 use Rattle.review_policy.specs.declared.ask.ProfileName.{ProfileName}
 use Rattle.review_policy.specs.declared.revision.State.TheVariants.{Withdrawn}
 use Rattle.review_policy.specs.declared.role.Role.TheVariants.{Security}
@@ -10,11 +11,12 @@ use Rattle.review_policy.specs.Rules.{is_open}
 use Rattle.office_tables.specs.declared.row.RevisionRow.{RevisionRow}
 use Rattle.office_tables.specs.Tables.{Tables, Vote, is_profile}
 use Rattle.office_tables.specs.Lists.{holds_role}
-use Rattle.office_tables.specs.Changes.{founded_tables, with_user, in_state, with_revision, with_vote, with_issued, with_withdrawn, with_baseline, with_hold, without_hold}
-use Rattle.office_policy.specs.History.{founded, enrolled, submitted, voted, issued, withdrawn, adopted, held, released, History}
+use Rattle.office_tables.specs.Changes.{founded_tables, with_user, in_state, with_revision, with_vote, with_issued, with_withdrawn, with_baseline}
+use Rattle.office_policy.specs.History.{founded, enrolled, submitted, voted, issued, withdrawn, adopted, on_profile, History}
 use Rattle.office_policy.specs.Users.{user_of}
 use Rattle.office_policy.specs.Revisions.{Submission, issues, withdraws, is_replaced, revision_count, submission_of, revision_of, state_in}
 use Rattle.office_policy.specs.Votes.{kept_vote, vote_of, kept_vote_of}
+use Rattle.office_policy.specs.Holds.{with_act}
 use Rattle.office_policy.specs.Lawful.{IsLawfulHistory}
 use Rattle.office_policy.specs.TablesOf.{tables_of}
 use Rattle.office_policy.proofs.UserFacts.{same_bytes}
@@ -34,11 +36,8 @@ enrolled_tables h c n t r d = refl
 pub adopted_tables : (h : History) (c : List ℕ) (p : ProfileName) (n : ℕ) → with_baseline p n (tables_of h) ≡ tables_of (adopted c p n ∷ h)
 adopted_tables h c p n = refl
 
-pub held_tables : (h : History) (c : List ℕ) (p : ProfileName) → with_hold p (tables_of h) ≡ tables_of (held c p ∷ h)
-held_tables h c p = refl
-
-pub released_tables : (h : History) (c : List ℕ) (p : ProfileName) → without_hold p (tables_of h) ≡ tables_of (released c p ∷ h)
-released_tables h c p = refl
+pub acted_tables : (h : History) (c : List ℕ) (act : ProfileAct) (p : ProfileName) → with_act act p (tables_of h) ≡ tables_of (on_profile c act p ∷ h)
+acted_tables h c act p = refl
 
 -- ---- votes
 

@@ -3,6 +3,10 @@ use Rattle.std.proofs.Common.{◌≡◌, ◌∙◌, ℕ, List, true, false, cond
 use Rattle.std.specs.Prelude.{Result, ⊤, option_map, option_and_then, nat_lt}
 use Rattle.std.specs.List.{list_any}
 use Rattle.profile_text.specs.Digest.{digest_of}
+use Rattle.review_policy.specs.declared.act.ProfileView.TheVariants.{Fetch}
+use Rattle.review_policy.specs.declared.act.ProfileView.TheVariants as views
+use Rattle.review_policy.specs.declared.act.RevisionAct.TheVariants.{Issue}
+use Rattle.review_policy.specs.declared.act.RevisionView.TheVariants.{Show}
 use Rattle.review_policy.specs.declared.ask.ProfileName.{ProfileName}
 use Rattle.review_policy.specs.declared.ask.Ask.{Ask}
 use Rattle.review_policy.specs.declared.ask.Ask.TheVariants as ask
@@ -47,16 +51,16 @@ carried_out h r a reply e asks is =
 
 -- ---- holds
 
-pub issued_free : (h : History) (r : Request) (p : ProfileName) (n : ℕ) (reply : Reply) (e : Option Event) → r.ask ≡ ask.Issue p n → verdict h r ≡ accepted reply e → is_held h p ≡ false
+pub issued_free : (h : History) (r : Request) (p : ProfileName) (n : ℕ) (reply : Reply) (e : Option Event) → r.ask ≡ ask.ActOnRevision Issue p n → verdict h r ≡ accepted reply e → is_held h p ≡ false
 issued_free h r p n reply e asks is =
     let caller = user_showing h (digest_of r.token) in
-    let done = carried_out h r (ask.Issue p n) reply e asks is in
+    let done = carried_out h r (ask.ActOnRevision Issue p n) reply e asks is in
     (none_refuses 1 (issue_rules (issue_facts caller (revision_of h p n) (is_author h p (name_of caller)) (tally_at h p n) (need_at h p n) (is_held h p))) done.none_refuses).1.1.1.1.1.1.1.1.0
 
-pub fetched_free : (h : History) (r : Request) (p : ProfileName) (reply : Reply) (e : Option Event) → r.ask ≡ ask.Fetch p → verdict h r ≡ accepted reply e → is_held h p ≡ false
+pub fetched_free : (h : History) (r : Request) (p : ProfileName) (reply : Reply) (e : Option Event) → r.ask ≡ ask.SeeProfile Fetch p → verdict h r ≡ accepted reply e → is_held h p ≡ false
 fetched_free h r p reply e asks is =
     let caller = user_showing h (digest_of r.token) in
-    let done = carried_out h r (ask.Fetch p) reply e asks is in
+    let done = carried_out h r (ask.SeeProfile Fetch p) reply e asks is in
     (none_refuses 1 (fetch_rules (fetch_facts caller p.team (issued_revision h p) (is_held h p))) done.none_refuses).1.1.1.1.0
 
 -- ---- texts
@@ -66,8 +70,8 @@ abbrev pub row_of : History → ProfileName → ℕ → Submission → RevisionR
 row_of h p n s = record { number = n; author = s.author; state = state_of h p n; body = s.text; digest = digest_of s.text }
 
 pub shown_text : (h : History) (r : Request) (p : ProfileName) (n : ℕ) (digest text : List ℕ) (state : State) (e : Option Event)
-    → r.ask ≡ ask.Show p n → verdict h r ≡ accepted (reply.Shown digest text state) e → IsTextOf h p n digest text
-shown_text h r p n digest text state e asks is = by_submission (submission_of h p n) refl (carried_out h r (ask.Show p n) (reply.Shown digest text state) e asks is).done
+    → r.ask ≡ ask.SeeRevision Show p n → verdict h r ≡ accepted (reply.Shown digest text state) e → IsTextOf h p n digest text
+shown_text h r p n digest text state e asks is = by_submission (submission_of h p n) refl (carried_out h r (ask.SeeRevision Show p n) (reply.Shown digest text state) e asks is).done
   where
     by_submission : (s : Option Submission) → submission_of h p n ≡ s
         → of_revision (option_map (row_of h p n) s) (λ r. accepted (reply.Shown r.digest r.body r.state) None) ≡ accepted (reply.Shown digest text state) e → IsTextOf h p n digest text
@@ -82,8 +86,8 @@ shown_text h r p n digest text state e asks is = by_submission (submission_of h 
         }
 
 pub issued_digest : (h : History) (r : Request) (p : ProfileName) (n : ℕ) (digest : List ℕ) (e : Option Event)
-    → r.ask ≡ ask.Issue p n → verdict h r ≡ accepted (reply.Issued digest) e → IsDigestOf h p n digest
-issued_digest h r p n digest e asks is = by_submission (submission_of h p n) refl (carried_out h r (ask.Issue p n) (reply.Issued digest) e asks is).done
+    → r.ask ≡ ask.ActOnRevision Issue p n → verdict h r ≡ accepted (reply.Issued digest) e → IsDigestOf h p n digest
+issued_digest h r p n digest e asks is = by_submission (submission_of h p n) refl (carried_out h r (ask.ActOnRevision Issue p n) (reply.Issued digest) e asks is).done
   where
     event : Event
     event = issued_event (name_of (user_showing h (digest_of r.token))) p n
@@ -103,8 +107,8 @@ issued_state Replaced is = absurd (cc)
 issued_state Withdrawn is = absurd (cc)
 
 pub fetched_text : (h : History) (r : Request) (p : ProfileName) (n : ℕ) (digest text : List ℕ) (e : Option Event)
-    → r.ask ≡ ask.Fetch p → verdict h r ≡ accepted (reply.Fetched digest text n) e → IsFetched h p n digest text
-fetched_text h r p n digest text e asks is = by_issue (last_issue h p) (carried_out h r (ask.Fetch p) (reply.Fetched digest text n) e asks is).done
+    → r.ask ≡ ask.SeeProfile Fetch p → verdict h r ≡ accepted (reply.Fetched digest text n) e → IsFetched h p n digest text
+fetched_text h r p n digest text e asks is = by_issue (last_issue h p) (carried_out h r (ask.SeeProfile Fetch p) (reply.Fetched digest text n) e asks is).done
   where
     tells : RevisionRow → Verdict
     tells r = accepted (reply.Fetched r.digest r.body r.number) None
@@ -138,8 +142,8 @@ fetched_text h r p n digest text e asks is = by_issue (last_issue h p) (carried_
     by_issue (Some k) done = by_submission k (submission_of h p k) refl done
 
 -- what is told of the issued revision is what a fetch comes to, without the text
-pub told_as_fetched : (h : History) (token : List ℕ) (p : ProfileName) → verdict h (record { token = token; ask = ask.Issued p }) ≡ without_text (verdict h (record { token = token; ask = ask.Fetch p }))
-told_as_fetched h token p = decided (first_denial (rules_of h caller (ask.Fetch p)))
+pub told_as_fetched : (h : History) (token : List ℕ) (p : ProfileName) → verdict h (record { token = token; ask = ask.SeeProfile views.Issued p }) ≡ without_text (verdict h (record { token = token; ask = ask.SeeProfile Fetch p }))
+told_as_fetched h token p = decided (first_denial (rules_of h caller (ask.SeeProfile Fetch p)))
   where
     caller : Option UserRow
     caller = user_showing h (digest_of token)
@@ -148,6 +152,6 @@ told_as_fetched h token p = decided (first_denial (rules_of h caller (ask.Fetch 
     issued_told None = refl
     issued_told (Some r) = refl
 
-    decided : (d : Result ⊤ Denial) → judged h caller (ask.Issued p) d ≡ without_text (judged h caller (ask.Fetch p) d)
+    decided : (d : Result ⊤ Denial) → judged h caller (ask.SeeProfile views.Issued p) d ≡ without_text (judged h caller (ask.SeeProfile Fetch p) d)
     decided (Ok u) = issued_told (issued_revision h p)
     decided (Err d) = refl

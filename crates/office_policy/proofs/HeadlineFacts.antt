@@ -3,6 +3,8 @@ use Rattle.std.proofs.Common.{◌≡◌, ◌∙◌, inl, inr, ◌<◌, ◌==◌,
 use Rattle.std.specs.Prelude.{filter, option_map}
 use Rattle.std.specs.List.{list_any}
 use Rattle.profile_text.specs.Digest.{digest_of}
+use Rattle.review_policy.specs.declared.act.ProfileView.TheVariants.{Fetch}
+use Rattle.review_policy.specs.declared.act.ProfileView.TheVariants as views
 use Rattle.review_policy.specs.declared.ask.ProfileName.{ProfileName}
 use Rattle.review_policy.specs.declared.ask.Ask.TheVariants as ask
 use Rattle.review_policy.specs.declared.ask.Request.{Request}
@@ -213,7 +215,7 @@ named_approved h r digest n e lawful is =
     p = asked.profile
 
     fetch : Request
-    fetch = record { token = r.token; ask = ask.Fetch p }
+    fetch = record { token = r.token; ask = ask.SeeProfile Fetch p }
 
     by_fetch : (v : Verdict) → verdict h fetch ≡ v → without_text v ≡ accepted (reply.IssuedNow digest n) e → NamesApproved h r.ask digest n
     by_fetch (accepted (reply.Fetched d text m) f) found told =
@@ -221,7 +223,7 @@ named_approved h r digest n e lawful is =
         record { profile = p; asked = asked.asked; text = text; was_approved = fetched_approved h fetch digest text n f lawful (found ∙ same) }
     by_fetch v found told =
         let it = replied_to h fetch (reply.IssuedNow digest n) e (found ∙ told) in
-        let never : ask.Fetch p ≡ ask.Issued it.profile = it.asked in
+        let never : ask.SeeProfile Fetch p ≡ ask.SeeProfile views.Issued it.profile = it.asked in
         absurd cc
 
 -- what an answer of the verdict gives out was approved

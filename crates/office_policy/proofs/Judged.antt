@@ -1,6 +1,7 @@
 -- Each request is refused by a rule, or carried out.
 use Rattle.std.proofs.Common.{◌≡◌, ◌≢◌, ◌≤◌, ℕ, suc, List, [], ◌∷◌, Bool, true, false, Some, None, Option, Ok, Err, refl, ap, arith}
 use Rattle.std.specs.Prelude.{Result, is_none, is_err}
+use Rattle.review_policy.specs.declared.act.RevisionAct.TheVariants.{Issue, Withdraw, Adopt}
 use Rattle.review_policy.specs.declared.ask.ProfileName.{ProfileName}
 use Rattle.review_policy.specs.declared.ask.Ask.{Ask}
 use Rattle.review_policy.specs.declared.ask.Ask.TheVariants as ask
@@ -9,25 +10,22 @@ use Rattle.review_policy.specs.declared.answer.Reply.TheVariants as reply
 use Rattle.review_policy.specs.declared.denial.Denial.{Denial}
 use Rattle.review_policy.specs.declared.denial.Rule.{Rule}
 use Rattle.review_policy.specs.declared.denial.Rule.TheVariants.{NoRevision}
-use Rattle.review_policy.specs.Rules.{submit_rules, issue_rules, read_rules, fetch_rules, me_rules, first_from, first_denial}
+use Rattle.review_policy.specs.Rules.{submit_rules, read_rules, fetch_rules, me_rules, first_from, first_denial}
 use Rattle.profile_text.specs.declared.profile.Profile.{Profile}
 use Rattle.profile_text.specs.declared.fault.DocFault.{DocFault}
 use Rattle.profile_text.specs.Reading.{reading_of}
 use Rattle.profile_text.specs.Digest.{digest_of}
 use Rattle.office_tables.specs.declared.row.UserRow.{UserRow}
 use Rattle.office_tables.specs.declared.row.RevisionRow.{RevisionRow}
-use Rattle.office_policy.specs.History.{issued, History}
+use Rattle.office_policy.specs.History.{on_revision, History}
 use Rattle.office_policy.specs.Users.{user_showing, name_of}
-use Rattle.office_policy.specs.Revisions.{revision_of, revision_count, last_revision, issued_revision, is_author, state_in}
-use Rattle.office_policy.specs.Votes.{tally_at}
+use Rattle.office_policy.specs.Revisions.{revision_of, revision_count, last_revision, issued_revision, state_in}
 use Rattle.office_policy.specs.Holds.{is_held}
-use Rattle.office_policy.specs.Need.{need_at}
-use Rattle.office_policy.specs.Sheets.{sheet_of}
-use Rattle.review_sheet.specs.Sheet.{sheet_text}
-use Rattle.office_policy.specs.Facts.{submit_facts, issue_facts, read_facts, fetch_facts}
-use Rattle.office_policy.specs.Verdict.{Verdict, accepted, denied, unreached, of_revision, of_user, new_revision, verdict_of, judged, rules_of, done_of, fault_beside}
+use Rattle.office_policy.specs.Facts.{submit_facts, read_facts, fetch_facts}
+use Rattle.office_policy.specs.Verdict.{Verdict, accepted, denied, unreached, of_revision, of_user, new_revision, given_of, seen_of, verdict_of, judged, rules_of, done_of, fault_beside}
 use Rattle.office_policy.specs.Laws.{IsDecided}
 use Rattle.office_policy.proofs.RuleFacts.{none_refuses}
+use Rattle.office_policy.proofs.LawFacts.{revision_there}
 
 -- a refusal has a number from that of the first rule on
 numbered : (n : ℕ) (rules : List (Rule × Bool)) (d : Denial) → first_from n rules ≡ Err d → n ≤ d.number
@@ -70,29 +68,22 @@ allowed_done h caller (ask.Enrol user team roles digest) none e = cc
 allowed_done h caller (ask.Submit p document) none e =
     read_done h caller p (reading_of document.items) (none_refuses 1 (submit_rules (submit_facts caller p.team (reading_of document.items) (last_revision h p) (revision_count h p))) none).1.1.1.0 e
 allowed_done h caller (ask.Vote p n digest approve) none e = cc
-allowed_done h caller (ask.Issue p n) none e =
-    there_done (revision_of h p n) (λ r. accepted (reply.Issued r.digest) (Some (issued (name_of caller) p n)))
-    (with_state (revision_of h p n) (none_refuses 1 (issue_rules (issue_facts caller (revision_of h p n) (is_author h p (name_of caller)) (tally_at h p n) (need_at h p n) (is_held h p))) none).1.1.0) (λ row same. cc) e
-allowed_done h caller (ask.Withdraw p n) none e = cc
-allowed_done h caller (ask.Adopt p n) none e = cc
-allowed_done h caller (ask.Show p n) none e =
-    there_done (revision_of h p n) (λ r. accepted (reply.Shown r.digest r.body r.state) None)
-    (none_refuses 1 (read_rules (read_facts caller p.team (is_none (revision_of h p n)))) none).1.1.1.0 (λ row same. cc) e
-allowed_done h caller (ask.Sheet p n) none e =
-    there_done (revision_of h p n) (λ r. accepted (reply.Sheet (sheet_text (sheet_of h p r))) None)
+allowed_done h caller (ask.ActOnRevision Issue p n) none e =
+    there_done (revision_of h p n) (λ r. accepted (reply.Issued r.digest) (Some (on_revision (name_of caller) Issue p n)))
+    (with_state (revision_of h p n) (revision_there h caller Issue p n none)) (λ row same. cc) e
+allowed_done h caller (ask.ActOnRevision Withdraw p n) none e = cc
+allowed_done h caller (ask.ActOnRevision Adopt p n) none e = cc
+allowed_done h caller (ask.SeeRevision view p n) none e =
+    there_done (revision_of h p n) (λ r. accepted (seen_of h p view r) None)
     (none_refuses 1 (read_rules (read_facts caller p.team (is_none (revision_of h p n)))) none).1.1.1.0 (λ row same. cc) e
 allowed_done h caller (ask.List team) none e = cc
-allowed_done h caller (ask.Fetch p) none e =
-    there_done (issued_revision h p) (λ r. accepted (reply.Fetched r.digest r.body r.number) None)
+allowed_done h caller (ask.ActOnProfile act p) none e = cc
+allowed_done h caller (ask.SeeProfile view p) none e =
+    there_done (issued_revision h p) (λ r. accepted (given_of view r) None)
     (none_refuses 1 (fetch_rules (fetch_facts caller p.team (issued_revision h p) (is_held h p))) none).1.1.1.0 (λ row same. cc) e
-allowed_done h caller (ask.Hold p) none e = cc
-allowed_done h caller (ask.Release p) none e = cc
 allowed_done h caller ask.Me none e =
     known_done caller (λ u. accepted (reply.Me u.name u.team u.roles) None) (none_refuses 1 (me_rules (is_none caller)) none).0 (λ user same. cc) e
 allowed_done h caller (ask.Revisions p before) none e = cc
-allowed_done h caller (ask.Issued p) none e =
-    there_done (issued_revision h p) (λ r. accepted (reply.IssuedNow r.digest r.number) None)
-    (none_refuses 1 (fetch_rules (fetch_facts caller p.team (issued_revision h p) (is_held h p))) none).1.1.1.0 (λ row same. cc) e
 
 -- the verdict on what is asked
 verdict_told : (h : History) (caller : Option UserRow) (a : Ask) → verdict_of h caller a ≢ unreached

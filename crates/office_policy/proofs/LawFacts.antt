@@ -1,6 +1,8 @@
 -- What a lawful history says of its events.
 use Rattle.std.proofs.Common.{◌≡◌, ◌∙◌, ◌&&◌, ◌==◌, ℕ, List, [], ◌∷◌, Bool, true, false, not, cond, Some, None, Option, Ok, Err, refl, sym, ap, subst}
 use Rattle.std.specs.Prelude.{Result, is_none, nat_lt, nat_le, bytes_eq}
+use Rattle.review_policy.specs.declared.act.RevisionAct.{RevisionAct}
+use Rattle.review_policy.specs.declared.act.RevisionAct.TheVariants.{Issue, Withdraw, Adopt}
 use Rattle.review_policy.specs.declared.ask.ProfileName.{ProfileName}
 use Rattle.review_policy.specs.declared.ask.Ask.{Ask}
 use Rattle.review_policy.specs.declared.ask.Ask.TheVariants as ask
@@ -16,19 +18,17 @@ use Rattle.profile_text.specs.Reading.{reading_of}
 use Rattle.profile_text.specs.Digest.{digest_of}
 use Rattle.profile_text.specs.Text.{text_of}
 use Rattle.profile_text.proofs.ReadBack.{read_again}
-use Rattle.review_sheet.specs.Sheet.{sheet_text}
 use Rattle.office_tables.specs.declared.row.UserRow.{UserRow}
 use Rattle.office_tables.specs.declared.row.RevisionRow.{RevisionRow}
 use Rattle.office_tables.specs.Lists.{holds_role}
-use Rattle.office_policy.specs.History.{Event, founded, enrolled, submitted, voted, issued, withdrawn, adopted, held, released, History}
+use Rattle.office_policy.specs.History.{Event, founded, enrolled, submitted, voted, issued, withdrawn, adopted, on_profile, History}
 use Rattle.office_policy.specs.Users.{user_of, user_showing, registrar_alone, name_of}
 use Rattle.office_policy.specs.Revisions.{revision_of, revision_count, last_revision, issued_revision, is_author, if_open, state_in}
 use Rattle.office_policy.specs.Votes.{tally_at}
 use Rattle.office_policy.specs.Holds.{is_held}
 use Rattle.office_policy.specs.Need.{need_at}
-use Rattle.office_policy.specs.Sheets.{sheet_of}
 use Rattle.office_policy.specs.Facts.{is_elsewhere, is_another, canonical, is_text_of, has_digest, enrol_facts, submit_facts, vote_facts, issue_facts, withdraw_facts, adopt_facts}
-use Rattle.office_policy.specs.Verdict.{Verdict, accepted, denied, unreached, of_revision, of_user, new_revision, verdict_of, verdict, judged, rules_of, done_of}
+use Rattle.office_policy.specs.Verdict.{Verdict, accepted, denied, unreached, of_revision, of_user, new_revision, done_to, given_of, seen_of, verdict_of, verdict, judged, rules_of, done_of}
 use Rattle.office_policy.specs.Lawful.{IsLawfulHistory, IsAllowed, IsRequested}
 use Rattle.office_policy.specs.Laws.{AreApart}
 use Rattle.office_policy.proofs.RuleFacts.{none_refuses}
@@ -87,8 +87,7 @@ Follows h (voted c p n d a) = VoteAllowed h c p n d
 Follows h (issued c p n) = IssueAllowed h c p n
 Follows h (withdrawn c p n) = WithdrawAllowed h p n
 Follows h (adopted c p n) = AdoptAllowed h c p n
-Follows h (held c p) = Unit {0}
-Follows h (released c p) = Unit {0}
+Follows h (on_profile c act p) = Unit {0}
 
 abbrev pub FollowsIn : History → Verdict → Type 0
 FollowsIn h (accepted r None) = Unit {0}
@@ -108,6 +107,20 @@ of_revision_by P (Some row) done none each = each row
 pub of_user_by : (P : Verdict → Type 0) (u : Option UserRow) (done : UserRow → Verdict) → P unreached → ((user : UserRow) → P (done user)) → P (of_user u done)
 of_user_by P None done none each = none
 of_user_by P (Some user) done none each = each user
+
+-- what holds of whatever an issue, a withdrawal or an adoption is told as, and of none
+pub done_to_by : (P : Verdict → Type 0) (r : Option RevisionRow) (act : RevisionAct) (e : Event) → P unreached → ((told : Reply) → P (accepted told (Some e))) → P (done_to r act e)
+done_to_by P r Issue e none each = of_revision_by P r (λ row. accepted (reply.Issued row.digest) (Some e)) none (λ row. each (reply.Issued row.digest))
+done_to_by P r Withdraw e none each = each reply.Nothing
+done_to_by P r Adopt e none each = each reply.Nothing
+
+-- the revision is there to which something is done
+pub revision_there : (h : History) (caller : Option UserRow) (act : RevisionAct) (p : ProfileName) (n : ℕ)
+    → first_denial (rules_of h caller (ask.ActOnRevision act p n)) ≡ Ok tt → is_none (state_in (revision_of h p n)) ≡ false
+revision_there h caller Issue p n e =
+    (none_refuses 1 (issue_rules (issue_facts caller (revision_of h p n) (is_author h p (name_of caller)) (tally_at h p n) (need_at h p n) (is_held h p))) e).1.1.0
+revision_there h caller Withdraw p n e = (none_refuses 1 (withdraw_rules (withdraw_facts caller p.team (revision_of h p n))) e).1.1.1.0
+revision_there h caller Adopt p n e = (none_refuses 1 (adopt_rules (adopt_facts caller (revision_of h p n) (is_author h p (name_of caller)))) e).1.1.0
 
 -- the caller is the user of that name
 known_caller : (h : History) (digest : List ℕ) → is_none (user_showing h digest) ≡ false → user_of h (name_of (user_showing h digest)) ≡ user_showing h digest
@@ -144,7 +157,7 @@ module _ (h : History) (caller : Option UserRow) (named : is_none caller ≡ fal
         still_open = not_false (is_open (state_in (revision_of h p n))) none.1.1.1.1.0;
         named = not_false (has_digest (revision_of h p n) digest) none.1.1.1.1.1.0;
       }
-  done_follows (ask.Issue p n) e =
+  done_follows (ask.ActOnRevision Issue p n) e =
       let none = none_refuses 1 (issue_rules (issue_facts caller (revision_of h p n) (is_author h p (name_of caller)) (tally_at h p n) (need_at h p n) (is_held h p))) e in
       of_revision_by (FollowsIn h) (revision_of h p n) (λ r. accepted (reply.Issued r.digest) (Some (issued (name_of caller) p n))) tt (λ r. record {
         issuer = role_held Issuer none.0 none.1.0;
@@ -156,10 +169,10 @@ module _ (h : History) (caller : Option UserRow) (named : is_none caller ≡ fal
         secured = none.1.1.1.1.1.1.1.0;
         free = none.1.1.1.1.1.1.1.1.0;
       })
-  done_follows (ask.Withdraw p n) e =
+  done_follows (ask.ActOnRevision Withdraw p n) e =
       let none = none_refuses 1 (withdraw_rules (withdraw_facts caller p.team (revision_of h p n))) e in
       record { there = none.1.1.1.0; standing = not_false (is_standing (state_in (revision_of h p n))) none.1.1.1.1.0 }
-  done_follows (ask.Adopt p n) e =
+  done_follows (ask.ActOnRevision Adopt p n) e =
       let none = none_refuses 1 (adopt_rules (adopt_facts caller (revision_of h p n) (is_author h p (name_of caller)))) e in
       record {
         security = role_held Security none.0 none.1.0;
@@ -167,15 +180,12 @@ module _ (h : History) (caller : Option UserRow) (named : is_none caller ≡ fal
         no_author = none.1.1.1.0;
         issued = not_false (is_issued (state_in (revision_of h p n))) none.1.1.1.1.0;
       }
-  done_follows (ask.Show p n) e = of_revision_by (FollowsIn h) (revision_of h p n) (λ r. accepted (reply.Shown r.digest r.body r.state) None) tt (λ r. tt)
-  done_follows (ask.Sheet p n) e = of_revision_by (FollowsIn h) (revision_of h p n) (λ r. accepted (reply.Sheet (sheet_text (sheet_of h p r))) None) tt (λ r. tt)
+  done_follows (ask.SeeRevision view p n) e = of_revision_by (FollowsIn h) (revision_of h p n) (λ r. accepted (seen_of h p view r) None) tt (λ r. tt)
   done_follows (ask.List team) e = tt
-  done_follows (ask.Fetch p) e = of_revision_by (FollowsIn h) (issued_revision h p) (λ r. accepted (reply.Fetched r.digest r.body r.number) None) tt (λ r. tt)
-  done_follows (ask.Hold p) e = tt
-  done_follows (ask.Release p) e = tt
+  done_follows (ask.ActOnProfile act p) e = tt
+  done_follows (ask.SeeProfile view p) e = of_revision_by (FollowsIn h) (issued_revision h p) (λ r. accepted (given_of view r) None) tt (λ r. tt)
   done_follows ask.Me e = of_user_by (FollowsIn h) caller (λ u. accepted (reply.Me u.name u.team u.roles) None) tt (λ u. tt)
   done_follows (ask.Revisions p before) e = tt
-  done_follows (ask.Issued p) e = of_revision_by (FollowsIn h) (issued_revision h p) (λ r. accepted (reply.IssuedNow r.digest r.number) None) tt (λ r. tt)
 
   -- the event of every verdict is one that the policy's leave speaks of
   verdict_of_follows : (a : Ask) → FollowsIn h (verdict_of h caller a)
@@ -204,18 +214,15 @@ stranger_denied : (h : History) (a : Ask) → IsDenied (verdict_of h None a)
 stranger_denied h (ask.Enrol user team roles digest) = tt
 stranger_denied h (ask.Submit p document) = tt
 stranger_denied h (ask.Vote p n digest approve) = tt
-stranger_denied h (ask.Issue p n) = tt
-stranger_denied h (ask.Withdraw p n) = tt
-stranger_denied h (ask.Adopt p n) = tt
-stranger_denied h (ask.Show p n) = tt
-stranger_denied h (ask.Sheet p n) = tt
+stranger_denied h (ask.ActOnRevision Issue p n) = tt
+stranger_denied h (ask.ActOnRevision Withdraw p n) = tt
+stranger_denied h (ask.ActOnRevision Adopt p n) = tt
+stranger_denied h (ask.SeeRevision view p n) = tt
 stranger_denied h (ask.List team) = tt
-stranger_denied h (ask.Fetch p) = tt
-stranger_denied h (ask.Hold p) = tt
-stranger_denied h (ask.Release p) = tt
+stranger_denied h (ask.ActOnProfile act p) = tt
+stranger_denied h (ask.SeeProfile view p) = tt
 stranger_denied h ask.Me = tt
 stranger_denied h (ask.Revisions p before) = tt
-stranger_denied h (ask.Issued p) = tt
 
 -- the event of an accepted request is allowed, to the user that shows its token
 pub requested_allowed : (h : History) (e : Event) → IsRequested h e → IsAllowed h e

@@ -8,8 +8,7 @@ use Rattle.review_policy.specs.declared.ask.Ask.TheVariants as ask
 use Rattle.review_policy.specs.declared.ask.Request.{Request}
 use Rattle.review_policy.specs.declared.answer.Reply.{Reply}
 use Rattle.review_policy.specs.declared.answer.Reply.TheVariants as reply
-use Rattle.review_policy.specs.Rules.{max_revisions, vote_rules, issue_rules, withdraw_rules, adopt_rules, first_denial}
-use Rattle.review_sheet.specs.Sheet.{sheet_text}
+use Rattle.review_policy.specs.Rules.{max_revisions, vote_rules, first_denial}
 use Rattle.profile_text.specs.Digest.{digest_of}
 use Rattle.profile_text.specs.Reading.{reading_of}
 use Rattle.profile_text.specs.declared.profile.Profile.{Profile}
@@ -17,21 +16,17 @@ use Rattle.profile_text.specs.declared.fault.DocFault.{DocFault}
 use Rattle.office_tables.specs.declared.row.UserRow.{UserRow}
 use Rattle.office_tables.specs.declared.row.RevisionRow.{RevisionRow}
 use Rattle.office_tables.specs.Tables.{is_profile}
-use Rattle.office_policy.specs.History.{Event, founded, submitted, issued, History}
+use Rattle.office_policy.specs.History.{Event, founded, submitted, on_revision, History}
 use Rattle.office_policy.specs.Users.{user_showing, name_of}
 use Rattle.office_policy.specs.Revisions.{Submission, revision_of, revision_count, submission_of, issued_revision, is_author, state_in}
-use Rattle.office_policy.specs.Votes.{tally_at}
-use Rattle.office_policy.specs.Holds.{is_held}
-use Rattle.office_policy.specs.Need.{need_at}
-use Rattle.office_policy.specs.Sheets.{sheet_of}
-use Rattle.office_policy.specs.Facts.{vote_facts, issue_facts, withdraw_facts, adopt_facts}
-use Rattle.office_policy.specs.Verdict.{Verdict, accepted, denied, new_revision, verdict_of, verdict, judged, rules_of, done_of}
+use Rattle.office_policy.specs.Facts.{vote_facts}
+use Rattle.office_policy.specs.Verdict.{Verdict, accepted, denied, new_revision, given_of, seen_of, verdict_of, verdict, judged, rules_of, done_of}
 use Rattle.office_policy.specs.Formed.{IsNumber, HasNumber}
 use Rattle.office_policy.specs.Lawful.{IsLawfulHistory}
 use Rattle.office_policy.proofs.RuleFacts.{none_refuses}
 use Rattle.office_policy.proofs.RevisionFacts.{count_more}
 use Rattle.office_policy.proofs.StateFacts.{same_profile}
-use Rattle.office_policy.proofs.LawFacts.{Follows, allowed_follows, of_revision_by, of_user_by}
+use Rattle.office_policy.proofs.LawFacts.{Follows, allowed_follows, done_to_by, of_revision_by, of_user_by, revision_there}
 use Rattle.office_policy.proofs.Histories.{numbers}
 
 -- a submission is allowed below the greatest number
@@ -81,22 +76,15 @@ done_numbered h lawful caller (ask.Enrol user team roles digest) e = tt
 done_numbered h lawful caller (ask.Submit p document) e = new_numbered h caller p (ask.Submit p document) (reading_of document.items) tt
 done_numbered h lawful caller (ask.Vote p n digest approve) e =
     number_there h lawful p n (none_refuses 1 (vote_rules (vote_facts caller (revision_of h p n) (is_author h p (name_of caller)) digest)) e).1.1.0
-done_numbered h lawful caller (ask.Issue p n) e =
-    let none = none_refuses 1 (issue_rules (issue_facts caller (revision_of h p n) (is_author h p (name_of caller)) (tally_at h p n) (need_at h p n) (is_held h p))) e in
-    of_revision_by (NumberedIn (ask.Issue p n)) (revision_of h p n) (λ r. accepted (reply.Issued r.digest) (Some (issued (name_of caller) p n))) tt (λ r. number_there h lawful p n none.1.1.0)
-done_numbered h lawful caller (ask.Withdraw p n) e =
-    number_there h lawful p n (none_refuses 1 (withdraw_rules (withdraw_facts caller p.team (revision_of h p n))) e).1.1.1.0
-done_numbered h lawful caller (ask.Adopt p n) e =
-    number_there h lawful p n (none_refuses 1 (adopt_rules (adopt_facts caller (revision_of h p n) (is_author h p (name_of caller)))) e).1.1.0
-done_numbered h lawful caller (ask.Show p n) e = of_revision_by (NumberedIn (ask.Show p n)) (revision_of h p n) (λ r. accepted (reply.Shown r.digest r.body r.state) None) tt (λ r. tt)
-done_numbered h lawful caller (ask.Sheet p n) e = of_revision_by (NumberedIn (ask.Sheet p n)) (revision_of h p n) (λ r. accepted (reply.Sheet (sheet_text (sheet_of h p r))) None) tt (λ r. tt)
+done_numbered h lawful caller (ask.ActOnRevision act p n) e =
+    let number = number_there h lawful p n (revision_there h caller act p n e) in
+    done_to_by (NumberedIn (ask.ActOnRevision act p n)) (revision_of h p n) act (on_revision (name_of caller) act p n) tt (λ told. number)
+done_numbered h lawful caller (ask.SeeRevision view p n) e = of_revision_by (NumberedIn (ask.SeeRevision view p n)) (revision_of h p n) (λ r. accepted (seen_of h p view r) None) tt (λ r. tt)
 done_numbered h lawful caller (ask.List team) e = tt
-done_numbered h lawful caller (ask.Fetch p) e = of_revision_by (NumberedIn (ask.Fetch p)) (issued_revision h p) (λ r. accepted (reply.Fetched r.digest r.body r.number) None) tt (λ r. tt)
-done_numbered h lawful caller (ask.Hold p) e = tt
-done_numbered h lawful caller (ask.Release p) e = tt
+done_numbered h lawful caller (ask.ActOnProfile act p) e = tt
+done_numbered h lawful caller (ask.SeeProfile view p) e = of_revision_by (NumberedIn (ask.SeeProfile view p)) (issued_revision h p) (λ r. accepted (given_of view r) None) tt (λ r. tt)
 done_numbered h lawful caller ask.Me e = of_user_by (NumberedIn ask.Me) caller (λ u. accepted (reply.Me u.name u.team u.roles) None) tt (λ u. tt)
 done_numbered h lawful caller (ask.Revisions p before) e = tt
-done_numbered h lawful caller (ask.Issued p) e = of_revision_by (NumberedIn (ask.Issued p)) (issued_revision h p) (λ r. accepted (reply.IssuedNow r.digest r.number) None) tt (λ r. tt)
 
 verdict_numbered : (h : History) → IsLawfulHistory h → (caller : Option UserRow) (a : Ask) → NumberedIn a (verdict_of h caller a)
 verdict_numbered h lawful caller a =

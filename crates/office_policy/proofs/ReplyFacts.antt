@@ -5,19 +5,23 @@ use Rattle.profile_text.specs.Digest.{digest_of}
 use Rattle.profile_text.specs.Reading.{reading_of}
 use Rattle.profile_text.specs.declared.profile.Profile.{Profile}
 use Rattle.profile_text.specs.declared.fault.DocFault.{DocFault}
+use Rattle.review_policy.specs.declared.act.ProfileView.{ProfileView}
+use Rattle.review_policy.specs.declared.act.ProfileView.TheVariants.{Fetch, Issued}
+use Rattle.review_policy.specs.declared.act.RevisionAct.TheVariants.{Issue}
+use Rattle.review_policy.specs.declared.act.RevisionView.{RevisionView}
+use Rattle.review_policy.specs.declared.act.RevisionView.TheVariants.{Show, Sheet}
 use Rattle.review_policy.specs.declared.ask.ProfileName.{ProfileName}
 use Rattle.review_policy.specs.declared.ask.Ask.{Ask}
 use Rattle.review_policy.specs.declared.ask.Ask.TheVariants as ask
 use Rattle.review_policy.specs.declared.ask.Request.{Request}
 use Rattle.review_policy.specs.declared.answer.Reply.{Reply}
 use Rattle.review_policy.specs.declared.answer.Reply.TheVariants as reply
-use Rattle.review_sheet.specs.Sheet.{sheet_text}
+use Rattle.office_tables.specs.declared.row.RevisionRow.{RevisionRow}
 use Rattle.office_tables.specs.declared.row.UserRow.{UserRow}
 use Rattle.office_policy.specs.History.{Event, issued, History}
 use Rattle.office_policy.specs.Users.{user_showing, name_of}
 use Rattle.office_policy.specs.Revisions.{revision_of, issued_revision}
-use Rattle.office_policy.specs.Sheets.{sheet_of}
-use Rattle.office_policy.specs.Verdict.{Verdict, accepted, denied, new_revision, done_of, verdict}
+use Rattle.office_policy.specs.Verdict.{Verdict, accepted, denied, new_revision, done_of, given_of, seen_of, verdict}
 use Rattle.office_policy.specs.Duty.{IsSubmission}
 use Rattle.office_policy.proofs.LawFacts.{of_revision_by, of_user_by}
 use Rattle.office_policy.proofs.GivenOut.{carried_out}
@@ -26,18 +30,18 @@ use Rattle.office_policy.proofs.GivenOut.{carried_out}
 pub record IsIssuing (caller : List ℕ) (a : Ask) (e : Option Event) : Type 0 where
   pub profile : ProfileName
   pub number : ℕ
-  pub asked : a ≡ ask.Issue profile number
+  pub asked : a ≡ ask.ActOnRevision Issue profile number
   pub happened : e ≡ Some (issued caller profile number)
 
 -- a fetch is asked for
 pub record IsFetching (a : Ask) : Type 0 where
   pub profile : ProfileName
-  pub asked : a ≡ ask.Fetch profile
+  pub asked : a ≡ ask.SeeProfile Fetch profile
 
 -- which revision is issued is asked for
 pub record IsAskingIssued (a : Ask) : Type 0 where
   pub profile : ProfileName
-  pub asked : a ≡ ask.Issued profile
+  pub asked : a ≡ ask.SeeProfile Issued profile
 
 -- a reply that speaks of a text is to the request that asks for it
 abbrev pub IsReplyTo : History → (caller : List ℕ) → Ask → Reply → Option Event → Type 0
@@ -59,23 +63,25 @@ new_fits h caller p document (Err f) reads = tt
 
 done_fits : (h : History) (caller : Option UserRow) (a : Ask) → Fits h (name_of caller) a (done_of h caller a)
 done_fits h caller (ask.Submit p document) = new_fits h caller p document (reading_of document.items) refl
-done_fits h caller (ask.Issue p n) =
-    of_revision_by (Fits h (name_of caller) (ask.Issue p n)) (revision_of h p n) (λ r. accepted (reply.Issued r.digest) (Some (issued (name_of caller) p n))) tt (λ r. record { profile = p; number = n; asked = refl; happened = refl })
-done_fits h caller (ask.Show p n) = of_revision_by (Fits h (name_of caller) (ask.Show p n)) (revision_of h p n) (λ r. accepted (reply.Shown r.digest r.body r.state) None) tt (λ r. tt)
-done_fits h caller (ask.Sheet p n) = of_revision_by (Fits h (name_of caller) (ask.Sheet p n)) (revision_of h p n) (λ r. accepted (reply.Sheet (sheet_text (sheet_of h p r))) None) tt (λ r. tt)
-done_fits h caller (ask.Fetch p) =
-    of_revision_by (Fits h (name_of caller) (ask.Fetch p)) (issued_revision h p) (λ r. accepted (reply.Fetched r.digest r.body r.number) None) tt (λ r. record { profile = p; asked = refl })
+done_fits h caller (ask.ActOnRevision Issue p n) =
+    of_revision_by (Fits h (name_of caller) (ask.ActOnRevision Issue p n)) (revision_of h p n) (λ r. accepted (reply.Issued r.digest) (Some (issued (name_of caller) p n))) tt (λ r. record { profile = p; number = n; asked = refl; happened = refl })
+done_fits h caller (ask.ActOnRevision _ p n) = tt
+done_fits h caller (ask.SeeRevision view p n) = of_revision_by (Fits h (name_of caller) (ask.SeeRevision view p n)) (revision_of h p n) (λ r. accepted (seen_of h p view r) None) tt (seen_fits view)
+  where
+    seen_fits : (view : RevisionView) (r : RevisionRow) → IsReplyTo h (name_of caller) (ask.SeeRevision view p n) (seen_of h p view r) None
+    seen_fits Show r = tt
+    seen_fits Sheet r = tt
+done_fits h caller (ask.SeeProfile view p) = of_revision_by (Fits h (name_of caller) (ask.SeeProfile view p)) (issued_revision h p) (λ r. accepted (given_of view r) None) tt (given_fits view)
+  where
+    given_fits : (view : ProfileView) (r : RevisionRow) → IsReplyTo h (name_of caller) (ask.SeeProfile view p) (given_of view r) None
+    given_fits Fetch r = record { profile = p; asked = refl }
+    given_fits Issued r = record { profile = p; asked = refl }
 done_fits h caller (ask.Enrol user team roles digest) = tt
 done_fits h caller (ask.Vote p n digest approve) = tt
-done_fits h caller (ask.Withdraw p n) = tt
-done_fits h caller (ask.Adopt p n) = tt
 done_fits h caller (ask.List team) = tt
-done_fits h caller (ask.Hold p) = tt
-done_fits h caller (ask.Release p) = tt
+done_fits h caller (ask.ActOnProfile act p) = tt
 done_fits h caller ask.Me = of_user_by (Fits h (name_of caller) ask.Me) caller (λ u. accepted (reply.Me u.name u.team u.roles) None) tt (λ u. tt)
 done_fits h caller (ask.Revisions p before) = tt
-done_fits h caller (ask.Issued p) =
-    of_revision_by (Fits h (name_of caller) (ask.Issued p)) (issued_revision h p) (λ r. accepted (reply.IssuedNow r.digest r.number) None) tt (λ r. record { profile = p; asked = refl })
 
 -- who shows the token of a request
 abbrev pub caller_in : History → Request → List ℕ

@@ -5,13 +5,14 @@ use Rattle.review_policy.specs.declared.ask.ProfileName.{ProfileName}
 use Rattle.review_policy.specs.declared.revision.State.{State}
 use Rattle.review_policy.specs.declared.revision.State.TheVariants.{Open, Issued, Withdrawn}
 use Rattle.review_policy.specs.declared.role.Role.TheVariants.{Security}
+use Rattle.review_policy.specs.Acts.{holds}
 use Rattle.review_policy.specs.Rules.{is_open, is_standing}
 use Rattle.office_tables.specs.declared.row.UserRow.{UserRow}
 use Rattle.office_tables.specs.declared.row.RevisionRow.{RevisionRow}
 use Rattle.office_tables.specs.Tables.{Tables, Vote, Baseline, is_profile}
 use Rattle.office_tables.specs.Lists.{holds_role}
 use Rattle.office_tables.specs.Changes.{in_state, after_submission, after_issue, with_revision, with_issued, with_withdrawn}
-use Rattle.office_policy.specs.History.{Event, founded, enrolled, submitted, voted, issued, withdrawn, adopted, held, released, History}
+use Rattle.office_policy.specs.History.{Event, founded, enrolled, submitted, voted, issued, withdrawn, adopted, on_profile, History}
 use Rattle.office_policy.specs.Users.{user_of}
 use Rattle.office_policy.specs.Revisions.{revision_of, revision_count, last_revision, if_open, state_in}
 use Rattle.office_policy.specs.Votes.{kept_vote, vote_of, kept_vote_of}
@@ -101,8 +102,7 @@ shown_after h lawful (voted c p n d a) is = new_is_kept h c p n d a
 shown_after h lawful (issued c p n) is = subst (λ x. Shows x (issued c p n)) (issued_tables h c p n is.still_open) (issue_is_shown h c p n is.there)
 shown_after h lawful (withdrawn c p n) is = subst (λ x. Shows x (withdrawn c p n)) (withdrawn_tables h c p n) (withdrawal_is_shown h c p n is.there)
 shown_after h lawful (adopted c p n) is = put_at (bytes_eq p.team p.team) _ _ (bytes_same p.team p.team refl)
-shown_after h lawful (held c p) is = put_at (is_profile p p) true (is_held h p) (profile_itself p)
-shown_after h lawful (released c p) is = put_at (is_profile p p) false (is_held h p) (profile_itself p)
+shown_after h lawful (on_profile c act p) is = put_at (is_profile p p) (holds act) (is_held h p) (profile_itself p)
 
 pub last_shown : (h : History) (e : Event) → IsLawfulHistory (e ∷ h) → Shows (tables_of (e ∷ h)) e
 last_shown [] (founded n t d l) lawful = (put_at (bytes_eq n n) _ _ (bytes_same n n refl), refl)
@@ -178,8 +178,7 @@ unchanged h (voted c p n d a) is shown = same_votes h c p n d a shown
 unchanged h (issued c p n) is shown = absurd (false_is_true (sym (ap is_open shown) ∙ is.still_open))
 unchanged h (withdrawn c p n) is shown = absurd (false_is_true (sym (ap is_standing shown) ∙ is.standing))
 unchanged h (adopted c p n) is shown = same_baselines h c p n shown
-unchanged h (held c p) is shown = λ i. record (tables_of h) { holds = λ q. same_holds h p true shown q i }
-unchanged h (released c p) is shown = λ i. record (tables_of h) { holds = λ q. same_holds h p false shown q i }
+unchanged h (on_profile c act p) is shown = λ i. record (tables_of h) { holds = λ q. same_holds h p (holds act) shown q i }
 
 pub shown_unchanged : (h : History) (e : Event) → IsLawfulHistory (e ∷ h) → Shows (tables_of h) e → tables_of (e ∷ h) ≡ tables_of h
 shown_unchanged [] (founded n t d l) lawful shown = absurd (nobody n _ shown.0)

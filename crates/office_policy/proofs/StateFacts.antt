@@ -10,7 +10,7 @@ use Rattle.review_policy.specs.declared.revision.State.TheVariants.{Open, Closed
 use Rattle.office_tables.specs.declared.row.RevisionRow.{RevisionRow}
 use Rattle.office_tables.specs.Tables.{is_profile}
 use Rattle.office_tables.specs.Changes.{after_submission}
-use Rattle.office_policy.specs.History.{Event, founded, enrolled, submitted, voted, issued, withdrawn, adopted, held, released, History}
+use Rattle.office_policy.specs.History.{Event, founded, enrolled, submitted, voted, issued, withdrawn, adopted, on_profile, History}
 use Rattle.office_policy.specs.Revisions.{Submission, submits, issues, withdraws, is_replaced, revision_count, submission_of, revision_of}
 use Rattle.office_policy.specs.Lawful.{IsLawfulHistory}
 use Rattle.office_policy.proofs.UserFacts.{same_bytes}
@@ -59,8 +59,7 @@ unnamed_more h (issued c q k) is p n above before =
 unnamed_more h (withdrawn c q k) is p n above before =
     let u = before above in record { issues = u.issues; withdrawals = rw (unlike h p q n k above (standing_within h q k is.there)) u.withdrawals }
 unnamed_more h (adopted c q k) is p n above before = let u = before above in record { issues = u.issues; withdrawals = u.withdrawals }
-unnamed_more h (held c q) is p n above before = let u = before above in record { issues = u.issues; withdrawals = u.withdrawals }
-unnamed_more h (released c q) is p n above before = let u = before above in record { issues = u.issues; withdrawals = u.withdrawals }
+unnamed_more h (on_profile c act q) is p n above before = let u = before above in record { issues = u.issues; withdrawals = u.withdrawals }
 
 -- no issue and no withdrawal names a revision above the last
 pub unnamed_above : (h : History) → IsLawfulHistory h → (p : ProfileName) (n : ℕ) → revision_count h p < n → IsUnnamed h p n

@@ -7,6 +7,8 @@ use Rattle.profile_text.specs.Reading.{reading_of}
 use Rattle.profile_text.specs.Text.{text_of}
 use Rattle.profile_text.specs.declared.profile.Profile.{Profile}
 use Rattle.profile_text.specs.declared.fault.DocFault.{DocFault}
+use Rattle.review_policy.specs.declared.act.RevisionAct.TheVariants.{Issue, Withdraw, Adopt}
+use Rattle.review_policy.specs.declared.act.RevisionView.TheVariants.{Show, Sheet}
 use Rattle.review_policy.specs.declared.ask.ProfileName.{ProfileName}
 use Rattle.review_policy.specs.declared.ask.Ask.{Ask}
 use Rattle.review_policy.specs.declared.ask.Ask.TheVariants as ask
@@ -14,13 +16,14 @@ use Rattle.review_policy.specs.declared.ask.Request.{Request}
 use Rattle.review_policy.specs.declared.answer.Reply.TheVariants as reply
 use Rattle.review_policy.specs.declared.denial.Denial.{Denial}
 use Rattle.review_policy.specs.declared.role.Role.TheVariants.{Security}
-use Rattle.review_policy.specs.Rules.{first_denial, enrol_rules, submit_rules, vote_rules, issue_rules, withdraw_rules, adopt_rules, read_rules, fetch_rules, hold_rules, release_rules, revisions_rules}
+use Rattle.review_policy.specs.Acts.{holds}
+use Rattle.review_policy.specs.Rules.{first_denial, enrol_rules, submit_rules, vote_rules, issue_rules, withdraw_rules, adopt_rules, read_rules, fetch_rules, hold_rules, revisions_rules}
 use Rattle.review_sheet.specs.Sheet.{sheet_text}
 use Rattle.office_tables.specs.declared.row.UserRow.{UserRow}
 use Rattle.office_tables.specs.declared.row.RevisionRow.{RevisionRow}
 use Rattle.office_tables.specs.Lists.{holds_role, standing_vote}
 use Rattle.office_tables.specs.Tables.{Baseline, is_profile}
-use Rattle.office_policy.specs.History.{Event, founded, enrolled, submitted, voted, issued, withdrawn, adopted, held, released, History}
+use Rattle.office_policy.specs.History.{Event, founded, enrolled, submitted, voted, issued, withdrawn, adopted, on_profile, on_revision, History}
 use Rattle.office_policy.specs.Users.{registrar_alone, user_of, names_of, shows_digest, user_showing, name_of}
 use Rattle.office_policy.specs.Names.{with_name}
 use Rattle.office_policy.specs.Revisions.{submits, issues_profile, issues, withdraws, revision_count, submission_of, is_replaced, state_of, revision_of, last_revision, is_submission_by, is_author, number_of, last_issue, if_issued, issued_revision}
@@ -31,9 +34,9 @@ use Rattle.office_policy.specs.Baseline.{listed_of, adoption_of, unless_withdraw
 use Rattle.office_policy.specs.Need.{need_against, need_of_row, need_at}
 use Rattle.office_policy.specs.Listing.{profiles_of, listing_of}
 use Rattle.office_policy.specs.Sheets.{sheet_of}
-use Rattle.office_policy.specs.Facts.{enrol_facts, submit_facts, vote_facts, issue_facts, withdraw_facts, adopt_facts, read_facts, fetch_facts, hold_facts, release_facts, revisions_facts}
+use Rattle.office_policy.specs.Facts.{enrol_facts, submit_facts, vote_facts, issue_facts, withdraw_facts, adopt_facts, read_facts, fetch_facts, hold_facts, revisions_facts}
 use Rattle.office_policy.specs.Newest.{revisions_among, revisions_of, is_before, revisions_before, newest_told}
-use Rattle.office_policy.specs.Verdict.{accepted, of_revision, new_revision, rules_of, done_of, judged, verdict_of, verdict}
+use Rattle.office_policy.specs.Verdict.{accepted, of_revision, new_revision, done_to, given_of, rules_of, done_of, judged, verdict_of, verdict}
 use Rattle.office_policy.specs.Teams.{concerns, team_of}
 use Rattle.office_policy.proofs.RevisionFacts.{count_more}
 use Rattle.office_policy.proofs.StateFacts.{state_by}
@@ -205,13 +208,11 @@ module _ (p : ProfileName) where
   held_alone = alone p.team (λ h. is_held h p) past more
     where
       past : (h : History) (e : Event) → concerns p.team e ≡ false → is_held (e ∷ h) p ≡ is_held h p
-      past h (held c q) other = rw other refl
-      past h (released c q) other = rw other refl
+      past h (on_profile c act q) other = rw other refl
       past h _ other = refl
 
       more : (h : History) (e : Event) → is_held (filter (concerns p.team) h) p ≡ is_held h p → is_held (e ∷ filter (concerns p.team) h) p ≡ is_held (e ∷ h) p
-      more h (held c q) same = ap (λ b. cond (is_profile p q) true b) same
-      more h (released c q) same = ap (λ b. cond (is_profile p q) false b) same
+      more h (on_profile c act q) same = ap (λ b. cond (is_profile p q) (holds act) b) same
       more h _ same = same
 
   kept_alone : (n : ℕ) (name : List ℕ) (h : History) → kept_vote_of (filter (concerns p.team) h) p n name ≡ kept_vote_of h p n name
@@ -324,19 +325,16 @@ rules_alone : (h : History) (caller : Option UserRow) (a : Ask) → rules_of (fi
 rules_alone h caller (ask.Enrol user team roles digest) = λ i. enrol_rules (enrol_facts caller (user_alone team user h i) (showing_alone team digest h i) user team)
 rules_alone h caller (ask.Submit p document) = λ i. submit_rules (submit_facts caller p.team (reading_of document.items) (last_alone p h i) (count_alone p h i))
 rules_alone h caller (ask.Vote p n digest approve) = λ i. vote_rules (vote_facts caller (revision_alone p n h i) (author_alone p (name_of caller) h i) digest)
-rules_alone h caller (ask.Issue p n) =
+rules_alone h caller (ask.ActOnRevision Issue p n) =
     λ i. issue_rules (issue_facts caller (revision_alone p n h i) (author_alone p (name_of caller) h i) (tally_alone p n h i) (need_at_alone p n h i) (held_alone p h i))
-rules_alone h caller (ask.Withdraw p n) = λ i. withdraw_rules (withdraw_facts caller p.team (revision_alone p n h i))
-rules_alone h caller (ask.Adopt p n) = λ i. adopt_rules (adopt_facts caller (revision_alone p n h i) (author_alone p (name_of caller) h i))
-rules_alone h caller (ask.Show p n) = λ i. read_rules (read_facts caller p.team (is_none (revision_alone p n h i)))
-rules_alone h caller (ask.Sheet p n) = λ i. read_rules (read_facts caller p.team (is_none (revision_alone p n h i)))
+rules_alone h caller (ask.ActOnRevision Withdraw p n) = λ i. withdraw_rules (withdraw_facts caller p.team (revision_alone p n h i))
+rules_alone h caller (ask.ActOnRevision Adopt p n) = λ i. adopt_rules (adopt_facts caller (revision_alone p n h i) (author_alone p (name_of caller) h i))
+rules_alone h caller (ask.SeeRevision view p n) = λ i. read_rules (read_facts caller p.team (is_none (revision_alone p n h i)))
 rules_alone h caller (ask.List team) = refl
-rules_alone h caller (ask.Fetch p) = λ i. fetch_rules (fetch_facts caller p.team (issued_alone p h i) (held_alone p h i))
-rules_alone h caller (ask.Hold p) = λ i. hold_rules (hold_facts caller (count_alone p h i == 0) (held_alone p h i))
-rules_alone h caller (ask.Release p) = λ i. release_rules (release_facts caller (count_alone p h i == 0) (held_alone p h i))
+rules_alone h caller (ask.SeeProfile view p) = λ i. fetch_rules (fetch_facts caller p.team (issued_alone p h i) (held_alone p h i))
+rules_alone h caller (ask.ActOnProfile act p) = λ i. hold_rules act (hold_facts caller (count_alone p h i == 0) (held_alone p h i))
 rules_alone h caller ask.Me = refl
 rules_alone h caller (ask.Revisions p before) = λ i. revisions_rules (revisions_facts caller p.team (count_alone p h i == 0))
-rules_alone h caller (ask.Issued p) = λ i. fetch_rules (fetch_facts caller p.team (issued_alone p h i) (held_alone p h i))
 
 new_alone : (h : History) (caller : Option UserRow) (p : ProfileName) (reading : Result Profile DocFault) → new_revision (filter (concerns p.team) h) caller p reading ≡ new_revision h caller p reading
 new_alone h caller p (Err f) = refl
@@ -346,18 +344,14 @@ done_alone : (h : History) (caller : Option UserRow) (a : Ask) → done_of (filt
 done_alone h caller (ask.Enrol user team roles digest) = refl
 done_alone h caller (ask.Submit p document) = new_alone h caller p (reading_of document.items)
 done_alone h caller (ask.Vote p n digest approve) = refl
-done_alone h caller (ask.Issue p n) = λ i. of_revision (revision_alone p n h i) (λ r. accepted (reply.Issued r.digest) (Some (issued (name_of caller) p n)))
-done_alone h caller (ask.Withdraw p n) = refl
-done_alone h caller (ask.Adopt p n) = refl
-done_alone h caller (ask.Show p n) = λ i. of_revision (revision_alone p n h i) (λ r. accepted (reply.Shown r.digest r.body r.state) None)
-done_alone h caller (ask.Sheet p n) = λ i. of_revision (revision_alone p n h i) (λ r. accepted (reply.Sheet (sheet_text (sheet_alone p r h i))) None)
+done_alone h caller (ask.ActOnRevision act p n) = λ i. done_to (revision_alone p n h i) act (on_revision (name_of caller) act p n)
+done_alone h caller (ask.SeeRevision Show p n) = λ i. of_revision (revision_alone p n h i) (λ r. accepted (reply.Shown r.digest r.body r.state) None)
+done_alone h caller (ask.SeeRevision Sheet p n) = λ i. of_revision (revision_alone p n h i) (λ r. accepted (reply.Sheet (sheet_text (sheet_alone p r h i))) None)
 done_alone h caller (ask.List team) = λ i. accepted (reply.Listed (listing_alone team h i)) None
-done_alone h caller (ask.Fetch p) = λ i. of_revision (issued_alone p h i) (λ r. accepted (reply.Fetched r.digest r.body r.number) None)
-done_alone h caller (ask.Hold p) = refl
-done_alone h caller (ask.Release p) = refl
+done_alone h caller (ask.ActOnProfile act p) = refl
+done_alone h caller (ask.SeeProfile view p) = λ i. of_revision (issued_alone p h i) (λ r. accepted (given_of view r) None)
 done_alone h caller ask.Me = refl
 done_alone h caller (ask.Revisions p before) = λ i. accepted (newest_told (before_alone p before h i)) None
-done_alone h caller (ask.Issued p) = λ i. of_revision (issued_alone p h i) (λ r. accepted (reply.IssuedNow r.digest r.number) None)
 
 judged_alone : (h : History) (caller : Option UserRow) (a : Ask) (decided : Result ⊤ Denial) → judged (filter (concerns (team_of a)) h) caller a decided ≡ judged h caller a decided
 judged_alone h caller a (Ok u) = done_alone h caller a

@@ -5,6 +5,7 @@ use Rattle.profile_text.specs.Digest.{digest_of}
 use Rattle.profile_text.specs.declared.profile.Profile.{Profile}
 use Rattle.profile_text.specs.Reading.{reading_of}
 use Rattle.profile_text.specs.Text.{text_of}
+use Rattle.review_policy.specs.declared.act.RevisionView.TheVariants.{Show, Sheet}
 use Rattle.review_policy.specs.declared.ask.ProfileName.{ProfileName}
 use Rattle.review_policy.specs.declared.ask.Ask.{Ask}
 use Rattle.review_policy.specs.declared.ask.Ask.TheVariants as ask
@@ -14,8 +15,8 @@ use Rattle.review_policy.specs.declared.answer.Reply.TheVariants as reply
 use Rattle.review_sheet.specs.Sheet.{sheet_text}
 use Rattle.office_tables.specs.declared.row.RevisionRow.{RevisionRow}
 use Rattle.office_tables.specs.declared.row.UserRow.{UserRow}
-use Rattle.office_policy.specs.History.{Event, enrolled, submitted, voted, issued, withdrawn}
-use Rattle.office_policy.specs.History.{adopted, held, released, History}
+use Rattle.office_policy.specs.History.{Event, enrolled, submitted, voted, on_revision}
+use Rattle.office_policy.specs.History.{on_profile, History}
 use Rattle.office_policy.specs.Revisions.{revision_of}
 use Rattle.office_policy.specs.Users.{user_of}
 use Rattle.office_policy.specs.Listing.{listing_of}
@@ -35,18 +36,13 @@ IsAsked caller (ask.Enrol user team roles digest) e =
     e ≡ Some (enrolled caller user team roles digest)
 IsAsked caller (ask.Submit p document) e = IsHandedIn caller p document.items e
 IsAsked caller (ask.Vote p n digest approves) e = e ≡ Some (voted caller p n digest approves)
-IsAsked caller (ask.Issue p n) e = e ≡ Some (issued caller p n)
-IsAsked caller (ask.Withdraw p n) e = e ≡ Some (withdrawn caller p n)
-IsAsked caller (ask.Adopt p n) e = e ≡ Some (adopted caller p n)
-IsAsked caller (ask.Show p n) e = e ≡ None
-IsAsked caller (ask.Sheet p n) e = e ≡ None
+IsAsked caller (ask.ActOnRevision act p n) e = e ≡ Some (on_revision caller act p n)
+IsAsked caller (ask.SeeRevision view p n) e = e ≡ None
 IsAsked caller (ask.List team) e = e ≡ None
-IsAsked caller (ask.Fetch p) e = e ≡ None
-IsAsked caller (ask.Hold p) e = e ≡ Some (held caller p)
-IsAsked caller (ask.Release p) e = e ≡ Some (released caller p)
+IsAsked caller (ask.ActOnProfile act p) e = e ≡ Some (on_profile caller act p)
+IsAsked caller (ask.SeeProfile view p) e = e ≡ None
 IsAsked caller ask.Me e = e ≡ None
 IsAsked caller (ask.Revisions p before) e = e ≡ None
-IsAsked caller (ask.Issued p) e = e ≡ None
 
 -- the revision of that number is there, and this holds of it
 abbrev pub OfRevision : History → ProfileName → ℕ → (RevisionRow → Type 0) → Type 0
@@ -55,9 +51,9 @@ OfRevision h p n Holds = (row : RevisionRow) × (revision_of h p n ≡ Some row)
 -- what is answered is what the caller looks at: a revision, its sheet, the profiles of a team, or
 -- the newest revisions of a profile
 abbrev pub IsSeen : History → Ask → Reply → Type 0
-IsSeen h (ask.Show p n) told =
+IsSeen h (ask.SeeRevision Show p n) told =
     OfRevision h p n (λ row. told ≡ reply.Shown row.digest row.body row.state)
-IsSeen h (ask.Sheet p n) told =
+IsSeen h (ask.SeeRevision Sheet p n) told =
     OfRevision h p n (λ row. told ≡ reply.Sheet (sheet_text (sheet_of h p row)))
 IsSeen h (ask.List team) told = told ≡ reply.Listed (listing_of h team)
 IsSeen h (ask.Revisions p before) told = told ≡ newest_told (revisions_before h p before)

@@ -3,6 +3,10 @@
 use Rattle.std.specs.Prelude.{ℕ, List, [], ◌∷◌, true, Option, Some, None, codes, map, Result, Ok}
 use Rattle.std.specs.Prelude.{Vec, ⊤}
 use Rattle.std.specs.declared.alloc.Global.{Global}
+use Rattle.review_policy.specs.declared.act.RevisionAct.TheVariants.{Issue, Withdraw, Adopt}
+use Rattle.review_policy.specs.declared.act.RevisionView.TheVariants.{Show, Sheet}
+use Rattle.review_policy.specs.declared.act.ProfileAct.TheVariants.{Hold, Release}
+use Rattle.review_policy.specs.declared.act.ProfileView.TheVariants.{Fetch, Issued}
 use Rattle.review_policy.specs.declared.ask.Ask.{Ask}
 use Rattle.review_policy.specs.declared.ask.Ask.TheVariants as ask
 use Rattle.review_policy.specs.declared.denial.Denial.{Denial}
@@ -20,18 +24,18 @@ each_kind document =
     ask.Enrol (codes "new") blue 0 (1 ∷ [])
     ∷ ask.Submit web document
     ∷ ask.Vote web 1 (9 ∷ []) true
-    ∷ ask.Issue web 1
-    ∷ ask.Withdraw web 1
-    ∷ ask.Adopt web 1
-    ∷ ask.Show web 1
-    ∷ ask.Sheet web 1
+    ∷ ask.ActOnRevision Issue web 1
+    ∷ ask.ActOnRevision Withdraw web 1
+    ∷ ask.ActOnRevision Adopt web 1
+    ∷ ask.SeeRevision Show web 1
+    ∷ ask.SeeRevision Sheet web 1
     ∷ ask.List blue
-    ∷ ask.Fetch web
-    ∷ ask.Hold web
-    ∷ ask.Release web
+    ∷ ask.SeeProfile Fetch web
+    ∷ ask.ActOnProfile Hold web
+    ∷ ask.ActOnProfile Release web
     ∷ ask.Me
     ∷ ask.Revisions web None
-    ∷ ask.Issued web
+    ∷ ask.SeeProfile Issued web
     ∷ []
 
 -- a user of a team with these roles

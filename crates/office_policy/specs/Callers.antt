@@ -3,6 +3,7 @@ use Rattle.std.specs.Prelude.{◌≡◌, ℕ, List, [], ◌∷◌, Bool, true, f
 use Rattle.std.specs.Prelude.{None, map, bytes_eq}
 use Rattle.std.specs.List.{list_any}
 use Rattle.profile_text.specs.Digest.{digest_of}
+use Rattle.review_policy.specs.declared.act.RevisionAct.TheVariants.{Issue, Withdraw, Adopt}
 use Rattle.review_policy.specs.declared.ask.Ask.{Ask}
 use Rattle.review_policy.specs.declared.ask.Ask.TheVariants as ask
 use Rattle.review_policy.specs.declared.ask.Request.{Request}
@@ -14,8 +15,7 @@ use Rattle.review_policy.specs.declared.role.Role.TheVariants.{Registrar, Author
 use Rattle.review_policy.specs.declared.role.Role.TheVariants.{Security, Issuer, Machine}
 use Rattle.office_tables.specs.declared.row.UserRow.{UserRow}
 use Rattle.office_tables.specs.Lists.{holds_role}
-use Rattle.office_policy.specs.History.{Event, founded, enrolled, submitted, voted, issued}
-use Rattle.office_policy.specs.History.{withdrawn, adopted, held, released, History}
+use Rattle.office_policy.specs.History.{Event, founded, did, History}
 use Rattle.office_policy.specs.Users.{user_of}
 use Rattle.office_policy.specs.Teams.{team_of}
 
@@ -30,29 +30,24 @@ abbrev pub roles_for_any_team : Ask → List Role
 roles_for_any_team (ask.Enrol user team roles digest) = Registrar ∷ []
 roles_for_any_team (ask.Submit p document) = []
 roles_for_any_team (ask.Vote p n digest approve) = Reviewer ∷ []
-roles_for_any_team (ask.Issue p n) = Issuer ∷ []
-roles_for_any_team (ask.Withdraw p n) = Security ∷ []
-roles_for_any_team (ask.Adopt p n) = Security ∷ []
-roles_for_any_team (ask.Show p n) = onlookers
-roles_for_any_team (ask.Sheet p n) = onlookers
+roles_for_any_team (ask.ActOnRevision Issue p n) = Issuer ∷ []
+roles_for_any_team (ask.ActOnRevision Withdraw p n) = Security ∷ []
+roles_for_any_team (ask.ActOnRevision Adopt p n) = Security ∷ []
+roles_for_any_team (ask.SeeRevision view p n) = onlookers
 roles_for_any_team (ask.List team) = onlookers
-roles_for_any_team (ask.Fetch p) = []
-roles_for_any_team (ask.Hold p) = Security ∷ []
-roles_for_any_team (ask.Release p) = Security ∷ []
+roles_for_any_team (ask.ActOnProfile act p) = Security ∷ []
+roles_for_any_team (ask.SeeProfile view p) = []
 roles_for_any_team ask.Me = []
 roles_for_any_team (ask.Revisions p before) = onlookers
-roles_for_any_team (ask.Issued p) = []
 
 -- the roles that may ask it of the own team alone
 abbrev pub roles_for_own_team : Ask → List Role
 roles_for_own_team (ask.Submit p document) = Author ∷ []
-roles_for_own_team (ask.Withdraw p n) = Author ∷ []
-roles_for_own_team (ask.Show p n) = Author ∷ []
-roles_for_own_team (ask.Sheet p n) = Author ∷ []
+roles_for_own_team (ask.ActOnRevision Withdraw p n) = Author ∷ []
+roles_for_own_team (ask.SeeRevision view p n) = Author ∷ []
 roles_for_own_team (ask.List team) = Author ∷ []
-roles_for_own_team (ask.Fetch p) = Machine ∷ []
+roles_for_own_team (ask.SeeProfile view p) = Machine ∷ []
 roles_for_own_team (ask.Revisions p before) = Author ∷ []
-roles_for_own_team (ask.Issued p) = Machine ∷ []
 roles_for_own_team _ = []
 
 -- whether every user may ask it, whatever the roles
@@ -89,14 +84,12 @@ of_caller rules = map (λ r. (r.0, is_of_caller r.0 && r.1)) rules
 -- the name of the user who asked for what happened; nobody asks for a founding
 abbrev pub caller_of : Event → Option (List ℕ)
 caller_of (founded name team digest listed) = None
-caller_of (enrolled caller name team roles digest) = Some caller
-caller_of (submitted caller p text) = Some caller
-caller_of (voted caller p n digest approves) = Some caller
-caller_of (issued caller p n) = Some caller
-caller_of (withdrawn caller p n) = Some caller
-caller_of (adopted caller p n) = Some caller
-caller_of (held caller p) = Some caller
-caller_of (released caller p) = Some caller
+caller_of (did caller deed) = Some caller
+
+-- the name of who did it: the caller, or who was founded
+abbrev pub doer_of : Event → List ℕ
+doer_of (founded name team digest listed) = name
+doer_of (did caller deed) = caller
 
 -- what happened, if anything did, was asked for by the user of this name
 abbrev pub IsAskedBy : List ℕ → Option Event → Type 0

@@ -7,6 +7,7 @@ use Rattle.profile_text.specs.declared.fault.DocFault.TheVariants.{TooLong}
 use Rattle.profile_text.specs.declared.profile.Profile.{Profile}
 use Rattle.profile_text.specs.Digest.{digest_of}
 use Rattle.profile_text.specs.Profile.{no_caps}
+use Rattle.review_policy.specs.declared.act.ProfileAct.TheVariants.{Hold, Release}
 use Rattle.review_policy.specs.declared.answer.ProfileRevision.{ProfileRevision}
 use Rattle.review_policy.specs.declared.ask.ProfileName.{ProfileName}
 use Rattle.review_policy.specs.declared.ask.Ask.{Ask}
@@ -19,7 +20,7 @@ use Rattle.review_policy.specs.declared.revision.State.TheVariants.{Open}
 use Rattle.review_policy.specs.Rules.{first_denial, submit_rules, vote_rules, issue_rules}
 use Rattle.office_tables.specs.declared.row.RevisionRow.{RevisionRow}
 use Rattle.office_policy.specs.History.{Event, founded, enrolled, submitted, voted, issued}
-use Rattle.office_policy.specs.History.{withdrawn, adopted, held, released, History}
+use Rattle.office_policy.specs.History.{withdrawn, adopted, on_profile, History}
 use Rattle.office_policy.specs.Users.{user_of}
 use Rattle.office_policy.specs.Revisions.{revision_of, is_author}
 use Rattle.office_policy.specs.Votes.{tally_at}
@@ -114,10 +115,10 @@ abbrev pub adopts : ℕ → Event
 adopts n = adopted sue web n
 
 abbrev pub holds : Event
-holds = held sue web
+holds = on_profile sue Hold web
 
 abbrev pub releases : Event
-releases = released sue web
+releases = on_profile sue Release web
 
 -- root gives a user of the desk's team other roles
 abbrev pub has_roles : List ℕ → ℕ → (digest : List ℕ) → Event

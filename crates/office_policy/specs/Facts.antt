@@ -13,7 +13,6 @@ use Rattle.review_policy.specs.declared.facts.AdoptFacts.{AdoptFacts}
 use Rattle.review_policy.specs.declared.facts.ReadFacts.{ReadFacts}
 use Rattle.review_policy.specs.declared.facts.FetchFacts.{FetchFacts}
 use Rattle.review_policy.specs.declared.facts.HoldFacts.{HoldFacts}
-use Rattle.review_policy.specs.declared.facts.ReleaseFacts.{ReleaseFacts}
 use Rattle.review_policy.specs.declared.facts.RevisionsFacts.{RevisionsFacts}
 use Rattle.profile_text.specs.declared.profile.Profile.{Profile}
 use Rattle.profile_text.specs.declared.fault.DocFault.{DocFault}
@@ -142,21 +141,13 @@ module _ (caller : Option UserRow) where
     held = held;
   }
 
-  -- of a hold, and of a release: whether the profile has no revision, and whether it is held
+  -- of an act on a profile: whether that has no revision, and whether it is held
   abbrev pub hold_facts : (no_profile held : Bool) → HoldFacts
   hold_facts no_profile held = record {
     caller_unknown = is_none caller;
     role_missing = not (holds_role caller Security);
     no_profile = no_profile;
-    already_held = held;
-  }
-
-  abbrev pub release_facts : (no_profile held : Bool) → ReleaseFacts
-  release_facts no_profile held = record {
-    caller_unknown = is_none caller;
-    role_missing = not (holds_role caller Security);
-    no_profile = no_profile;
-    not_held = not held;
+    held = held;
   }
 
   -- of the revisions of a team's profile: whether it has none

@@ -28,18 +28,13 @@ HasForms (ask.Enrol user team roles digest) =
     IsWord user × IsWord team × IsRoles roles × IsDigest digest
 HasForms (ask.Submit p document) = IsName p
 HasForms (ask.Vote p n digest approve) = IsName p × IsDigest digest
-HasForms (ask.Issue p n) = IsName p
-HasForms (ask.Withdraw p n) = IsName p
-HasForms (ask.Adopt p n) = IsName p
-HasForms (ask.Show p n) = IsName p
-HasForms (ask.Sheet p n) = IsName p
+HasForms (ask.ActOnRevision act p n) = IsName p
+HasForms (ask.SeeRevision view p n) = IsName p
 HasForms (ask.List team) = IsWord team
-HasForms (ask.Fetch p) = IsName p
-HasForms (ask.Hold p) = IsName p
-HasForms (ask.Release p) = IsName p
+HasForms (ask.ActOnProfile act p) = IsName p
+HasForms (ask.SeeProfile view p) = IsName p
 HasForms ask.Me = Unit {0}
 HasForms (ask.Revisions p before) = IsName p
-HasForms (ask.Issued p) = IsName p
 
 abbrev pub IsNumber : ℕ → Type 0
 IsNumber n = (1 ≤ n) × (n ≤ max_revisions)
@@ -47,11 +42,8 @@ IsNumber n = (1 ≤ n) × (n ≤ max_revisions)
 -- the revision that is asked for has a number from 1 to 9,999, where one is
 abbrev pub HasNumber : Ask → Type 0
 HasNumber (ask.Vote p n digest approve) = IsNumber n
-HasNumber (ask.Issue p n) = IsNumber n
-HasNumber (ask.Withdraw p n) = IsNumber n
-HasNumber (ask.Adopt p n) = IsNumber n
-HasNumber (ask.Show p n) = IsNumber n
-HasNumber (ask.Sheet p n) = IsNumber n
+HasNumber (ask.ActOnRevision act p n) = IsNumber n
+HasNumber (ask.SeeRevision view p n) = IsNumber n
 HasNumber (ask.Revisions p (Some n)) = IsNumber n
 HasNumber _ = Unit {0}
 

@@ -17,13 +17,11 @@ use Rattle.no_memory.specs.Witness.{witness}
 
 -- whether what is asked changes nothing, whatever it is answered
 abbrev pub only_reads : Ask → Bool
-only_reads (ask.Show p n) = true
-only_reads (ask.Sheet p n) = true
+only_reads (ask.SeeRevision view p n) = true
 only_reads (ask.List team) = true
-only_reads (ask.Fetch p) = true
+only_reads (ask.SeeProfile view p) = true
 only_reads ask.Me = true
 only_reads (ask.Revisions p before) = true
-only_reads (ask.Issued p) = true
 only_reads _ = false
 
 -- a fact holds where nothing was changed: what was asked was refused, met a fault, or only reads

@@ -3,6 +3,8 @@
 use Rattle.std.specs.Prelude.{◌≡◌, ◌≢◌, ◌≤◌, ℕ, List, ◌∷◌, ◌++◌, true, false, Some, length}
 use Rattle.std.specs.Prelude.{AllPairs, Contains}
 use Rattle.profile_text.specs.Digest.{digest_of}
+use Rattle.review_policy.specs.declared.act.ProfileView.TheVariants.{Fetch, Issued}
+use Rattle.review_policy.specs.declared.act.RevisionAct.TheVariants.{Issue}
 use Rattle.review_policy.specs.declared.ask.ProfileName.{ProfileName}
 use Rattle.review_policy.specs.declared.ask.Ask.{Ask}
 use Rattle.review_policy.specs.declared.ask.Ask.TheVariants as ask
@@ -56,7 +58,7 @@ pub record IsApproved
 pub record IsOfApproved (h : History) (r : Request) (digest : List ℕ) : Type 0 where
   pub profile : ProfileName
   pub number : ℕ
-  pub asked : r.ask ≡ ask.Issue profile number
+  pub asked : r.ask ≡ ask.ActOnRevision Issue profile number
   pub text : List ℕ
   pub of_its_text : digest ≡ digest_of text
   pub approved : IsApproved h (name_of (user_showing h (digest_of r.token))) profile number text
@@ -65,7 +67,7 @@ pub record IsOfApproved (h : History) (r : Request) (digest : List ℕ) : Type 0
 -- issue of the revision
 pub record WasApproved (h : History) (a : Ask) (digest text : List ℕ) (n : ℕ) : Type 0 where
   pub profile : ProfileName
-  pub asked : a ≡ ask.Fetch profile
+  pub asked : a ≡ ask.SeeProfile Fetch profile
   pub of_its_text : digest ≡ digest_of text
   pub issuer : List ℕ
   pub since : History
@@ -77,9 +79,9 @@ pub record WasApproved (h : History) (a : Ask) (digest text : List ℕ) (n : ℕ
 -- approved, on the events before an earlier issue of the revision
 pub record NamesApproved (h : History) (a : Ask) (digest : List ℕ) (n : ℕ) : Type 0 where
   pub profile : ProfileName
-  pub asked : a ≡ ask.Issued profile
+  pub asked : a ≡ ask.SeeProfile Issued profile
   pub text : List ℕ
-  pub was_approved : WasApproved h (ask.Fetch profile) digest text n
+  pub was_approved : WasApproved h (ask.SeeProfile Fetch profile) digest text n
 
 -- what an answer gives out was approved
 abbrev pub GivesOutApproved : History → Request → Answer → Type 0

@@ -2,12 +2,13 @@
 use Rattle.std.specs.Prelude.{ℕ, List, [], ◌∷◌, true, codes}
 use Rattle.profile_text.specs.Digest.{digest_of}
 use Rattle.review_policy.specs.declared.answer.ListedProfile.{ListedProfile}
+use Rattle.review_policy.specs.declared.act.ProfileAct.TheVariants.{Hold, Release}
 use Rattle.review_policy.specs.declared.ask.Ask.TheVariants as ask
 use Rattle.review_policy.specs.declared.ask.Request.{Request}
 use Rattle.review_policy.specs.declared.revision.State.TheVariants.{Open}
 use Rattle.review_policy.specs.declared.ask.ProfileName.{ProfileName}
 use Rattle.office_policy.specs.History.{Event, History, founded, enrolled, submitted, voted}
-use Rattle.office_policy.specs.History.{issued, withdrawn, adopted, held, released}
+use Rattle.office_policy.specs.History.{issued, withdrawn, adopted, on_profile}
 use Rattle.office_policy.specs.Examples.{red, desk, root, ann, ben, rev, ray, sue, iss, web}
 use Rattle.office_policy.specs.Examples.{listed, text, office, has_roles, submits, one_submitted}
 
@@ -21,8 +22,8 @@ each_event p =
     ∷ issued iss p 1
     ∷ withdrawn sue p 1
     ∷ adopted sue p 1
-    ∷ held sue p
-    ∷ released sue p
+    ∷ on_profile sue Hold p
+    ∷ on_profile sue Release p
     ∷ []
 
 -- ---- approvals by the digest of the text
@@ -55,7 +56,7 @@ sue_shows roles token = has_roles sue roles (digest_of token) ∷ office
 
 -- the request, with this token, that the profile is held
 abbrev pub asks_hold : (token : List ℕ) → Request
-asks_hold token = record { token = token; ask = ask.Hold web }
+asks_hold token = record { token = token; ask = ask.ActOnProfile Hold web }
 
 -- ---- lists
 

@@ -14,6 +14,7 @@ pub mod Sheets
 pub mod Facts
 pub mod Verdict
 pub mod Formed
+pub mod EventForms
 pub mod Lawful
 pub mod TablesOf
 pub mod ShowsEvent

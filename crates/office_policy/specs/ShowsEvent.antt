@@ -1,14 +1,17 @@
 -- What the tables show of an event, by which one sees whether it has reached them.
-use Rattle.std.specs.Prelude.{◌≡◌, ℕ, List, true, false, Some}
+use Rattle.std.specs.Prelude.{◌≡◌, ℕ, List, Some}
+use Rattle.review_policy.specs.declared.act.RevisionAct.{RevisionAct}
+use Rattle.review_policy.specs.declared.act.RevisionAct.TheVariants.{Issue, Withdraw, Adopt}
 use Rattle.review_policy.specs.declared.ask.ProfileName.{ProfileName}
 use Rattle.review_policy.specs.declared.revision.State.TheVariants.{Open, Issued, Withdrawn}
 use Rattle.review_policy.specs.declared.role.Role.TheVariants.{Security}
+use Rattle.review_policy.specs.Acts.{holds}
 use Rattle.office_tables.specs.declared.row.RevisionRow.{RevisionRow}
 use Rattle.office_tables.specs.Lists.{holds_role}
 use Rattle.office_tables.specs.Reads.{IsLast}
 use Rattle.office_tables.specs.Tables.{Tables}
-use Rattle.office_policy.specs.History.{Event, founded, enrolled, submitted, voted, issued}
-use Rattle.office_policy.specs.History.{withdrawn, adopted, held, released}
+use Rattle.office_policy.specs.History.{Event, founded, enrolled, submitted, voted}
+use Rattle.office_policy.specs.History.{on_revision, on_profile}
 use Rattle.office_policy.specs.Users.{registrar_alone}
 use Rattle.office_policy.specs.Revisions.{state_in}
 
@@ -25,6 +28,12 @@ pub record LastIsOpen (t : Tables) (p : ProfileName) (caller bytes : List ℕ) :
   pub author : row.author ≡ caller
   pub text : row.body ≡ bytes
 
+-- the tables have what is done to a revision
+abbrev pub ShowsAct : Tables → RevisionAct → ProfileName → ℕ → Type 0
+ShowsAct t Issue p n = state_in (t.revisions p n) ≡ Some Issued
+ShowsAct t Withdraw p n = state_in (t.revisions p n) ≡ Some Withdrawn
+ShowsAct t Adopt p n = t.baselines p.team ≡ Some (record { profile = p.profile; number = n })
+
 -- the tables have what the event puts into them. A vote's security is that of the voter's present
 -- row; the caller stands in the tables of a submission and of a vote alone
 abbrev pub Shows : Tables → Event → Type 0
@@ -35,9 +44,5 @@ Shows t (submitted caller p text) = LastIsOpen t p caller text
 Shows t (voted caller p n digest approves) =
     t.votes p n caller
     ≡ Some (record { approves = approves; security = holds_role (t.users caller) Security })
-Shows t (issued caller p n) = state_in (t.revisions p n) ≡ Some Issued
-Shows t (withdrawn caller p n) = state_in (t.revisions p n) ≡ Some Withdrawn
-Shows t (adopted caller p n) =
-    t.baselines p.team ≡ Some (record { profile = p.profile; number = n })
-Shows t (held caller p) = t.holds p ≡ true
-Shows t (released caller p) = t.holds p ≡ false
+Shows t (on_revision caller act p n) = ShowsAct t act p n
+Shows t (on_profile caller act p) = t.holds p ≡ holds act

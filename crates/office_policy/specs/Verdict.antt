@@ -2,6 +2,12 @@
 use Rattle.std.specs.Prelude.{ℕ, suc, List, Bool, false, ⊤, ◌==◌, Option, Some, None, is_none}
 use Rattle.std.specs.Prelude.{Result, Ok, Err}
 use Rattle.profile_text.specs.Digest.{digest_of}
+use Rattle.review_policy.specs.declared.act.ProfileView.{ProfileView}
+use Rattle.review_policy.specs.declared.act.ProfileView.TheVariants.{Fetch, Issued}
+use Rattle.review_policy.specs.declared.act.RevisionAct.{RevisionAct}
+use Rattle.review_policy.specs.declared.act.RevisionAct.TheVariants.{Issue, Withdraw, Adopt}
+use Rattle.review_policy.specs.declared.act.RevisionView.{RevisionView}
+use Rattle.review_policy.specs.declared.act.RevisionView.TheVariants.{Show, Sheet}
 use Rattle.review_policy.specs.declared.ask.ProfileName.{ProfileName}
 use Rattle.review_policy.specs.declared.ask.Ask.{Ask}
 use Rattle.review_policy.specs.declared.ask.Ask.TheVariants as ask
@@ -13,7 +19,7 @@ use Rattle.review_policy.specs.declared.denial.Rule.{Rule}
 use Rattle.review_policy.specs.declared.denial.Rule.TheVariants.{Document, NoRevision}
 use Rattle.review_policy.specs.Rules.{first_denial, enrol_rules, submit_rules, vote_rules}
 use Rattle.review_policy.specs.Rules.{issue_rules, withdraw_rules, adopt_rules, read_rules}
-use Rattle.review_policy.specs.Rules.{fetch_rules, hold_rules, release_rules, me_rules}
+use Rattle.review_policy.specs.Rules.{fetch_rules, hold_rules, me_rules}
 use Rattle.review_policy.specs.Rules.{revisions_rules}
 use Rattle.profile_text.specs.declared.profile.Profile.{Profile}
 use Rattle.profile_text.specs.declared.fault.DocFault.{DocFault}
@@ -23,8 +29,8 @@ use Rattle.profile_text.specs.FaultText.{fault_text_of}
 use Rattle.review_sheet.specs.Sheet.{sheet_text}
 use Rattle.office_tables.specs.declared.row.UserRow.{UserRow}
 use Rattle.office_tables.specs.declared.row.RevisionRow.{RevisionRow}
-use Rattle.office_policy.specs.History.{Event, enrolled, submitted, voted, issued, withdrawn}
-use Rattle.office_policy.specs.History.{adopted, held, released, History}
+use Rattle.office_policy.specs.History.{Event, enrolled, submitted, voted, on_revision}
+use Rattle.office_policy.specs.History.{on_profile, History}
 use Rattle.office_policy.specs.Users.{user_of, user_showing, name_of}
 use Rattle.office_policy.specs.Revisions.{revision_of, revision_count, last_revision}
 use Rattle.office_policy.specs.Revisions.{issued_revision, is_author}
@@ -35,7 +41,7 @@ use Rattle.office_policy.specs.Sheets.{sheet_of}
 use Rattle.office_policy.specs.Listing.{listing_of}
 use Rattle.office_policy.specs.Facts.{enrol_facts, submit_facts, vote_facts, issue_facts}
 use Rattle.office_policy.specs.Facts.{withdraw_facts, adopt_facts, read_facts, fetch_facts}
-use Rattle.office_policy.specs.Facts.{hold_facts, release_facts, revisions_facts}
+use Rattle.office_policy.specs.Facts.{hold_facts, revisions_facts}
 use Rattle.office_policy.specs.Newest.{revisions_before, newest_told}
 
 -- a request is carried out, with its reply and, where its kind changes something, its event, or a
@@ -70,6 +76,22 @@ new_revision h caller p (Ok profile) =
     accepted (reply.Submitted (digest_of (text_of profile)) (suc (revision_count h p)))
     (Some (submitted (name_of caller) p (text_of profile)))
 
+-- of what is done to a revision an issue tells the digest of what hosts fetch
+abbrev pub done_to : Option RevisionRow → RevisionAct → Event → Verdict
+done_to revision Issue e = of_revision revision (λ r. accepted (reply.Issued r.digest) (Some e))
+done_to revision Withdraw e = accepted reply.Nothing (Some e)
+done_to revision Adopt e = accepted reply.Nothing (Some e)
+
+-- what is seen of a revision
+abbrev pub seen_of : History → ProfileName → RevisionView → RevisionRow → Reply
+seen_of h p Show r = reply.Shown r.digest r.body r.state
+seen_of h p Sheet r = reply.Sheet (sheet_text (sheet_of h p r))
+
+-- what is seen of a profile's issued revision
+abbrev pub given_of : ProfileView → RevisionRow → Reply
+given_of Fetch r = reply.Fetched r.digest r.body r.number
+given_of Issued r = reply.IssuedNow r.digest r.number
+
 module _ (h : History) where
   -- the rules of a request, in order, each with whether it refuses
   abbrev pub rules_of : Option UserRow → Ask → List (Rule × Bool)
@@ -81,60 +103,44 @@ module _ (h : History) where
       (revision_count h p))
   rules_of caller (ask.Vote p n digest approve) =
       vote_rules (vote_facts caller (revision_of h p n) (is_author h p (name_of caller)) digest)
-  rules_of caller (ask.Issue p n) =
+  rules_of caller (ask.ActOnRevision Issue p n) =
       issue_rules
       (issue_facts caller (revision_of h p n) (is_author h p (name_of caller)) (tally_at h p n)
       (need_at h p n) (is_held h p))
-  rules_of caller (ask.Withdraw p n) =
+  rules_of caller (ask.ActOnRevision Withdraw p n) =
       withdraw_rules (withdraw_facts caller p.team (revision_of h p n))
-  rules_of caller (ask.Adopt p n) =
+  rules_of caller (ask.ActOnRevision Adopt p n) =
       adopt_rules (adopt_facts caller (revision_of h p n) (is_author h p (name_of caller)))
-  rules_of caller (ask.Show p n) =
-      read_rules (read_facts caller p.team (is_none (revision_of h p n)))
-  rules_of caller (ask.Sheet p n) =
+  rules_of caller (ask.SeeRevision view p n) =
       read_rules (read_facts caller p.team (is_none (revision_of h p n)))
   rules_of caller (ask.List team) = read_rules (read_facts caller team false)
-  rules_of caller (ask.Fetch p) =
+  rules_of caller (ask.SeeProfile view p) =
       fetch_rules (fetch_facts caller p.team (issued_revision h p) (is_held h p))
-  rules_of caller (ask.Hold p) =
-      hold_rules (hold_facts caller (revision_count h p == 0) (is_held h p))
-  rules_of caller (ask.Release p) =
-      release_rules (release_facts caller (revision_count h p == 0) (is_held h p))
+  rules_of caller (ask.ActOnProfile act p) =
+      hold_rules act (hold_facts caller (revision_count h p == 0) (is_held h p))
   rules_of caller ask.Me = me_rules (is_none caller)
   rules_of caller (ask.Revisions p before) =
       revisions_rules (revisions_facts caller p.team (revision_count h p == 0))
-  rules_of caller (ask.Issued p) =
-      fetch_rules (fetch_facts caller p.team (issued_revision h p) (is_held h p))
 
   -- what is done where none refuses
   abbrev pub done_of : Option UserRow → Ask → Verdict
   done_of caller (ask.Enrol user team roles digest) =
-      accepted reply.Enrolled (Some (enrolled (name_of caller) user team roles digest))
+      accepted reply.Nothing (Some (enrolled (name_of caller) user team roles digest))
   done_of caller (ask.Submit p document) = new_revision h caller p (reading_of document.items)
   done_of caller (ask.Vote p n digest approve) =
-      accepted reply.Voted (Some (voted (name_of caller) p n digest approve))
-  done_of caller (ask.Issue p n) =
-      of_revision (revision_of h p n)
-      (λ r. accepted (reply.Issued r.digest) (Some (issued (name_of caller) p n)))
-  done_of caller (ask.Withdraw p n) =
-      accepted reply.Withdrawn (Some (withdrawn (name_of caller) p n))
-  done_of caller (ask.Adopt p n) = accepted reply.Adopted (Some (adopted (name_of caller) p n))
-  done_of caller (ask.Show p n) =
-      of_revision (revision_of h p n) (λ r. accepted (reply.Shown r.digest r.body r.state) None)
-  done_of caller (ask.Sheet p n) =
-      of_revision (revision_of h p n)
-      (λ r. accepted (reply.Sheet (sheet_text (sheet_of h p r))) None)
+      accepted reply.Nothing (Some (voted (name_of caller) p n digest approve))
+  done_of caller (ask.ActOnRevision act p n) =
+      done_to (revision_of h p n) act (on_revision (name_of caller) act p n)
+  done_of caller (ask.SeeRevision view p n) =
+      of_revision (revision_of h p n) (λ r. accepted (seen_of h p view r) None)
   done_of caller (ask.List team) = accepted (reply.Listed (listing_of h team)) None
-  done_of caller (ask.Fetch p) =
-      of_revision (issued_revision h p)
-      (λ r. accepted (reply.Fetched r.digest r.body r.number) None)
-  done_of caller (ask.Hold p) = accepted reply.Held (Some (held (name_of caller) p))
-  done_of caller (ask.Release p) = accepted reply.Released (Some (released (name_of caller) p))
+  done_of caller (ask.ActOnProfile act p) =
+      accepted reply.Nothing (Some (on_profile (name_of caller) act p))
+  done_of caller (ask.SeeProfile view p) =
+      of_revision (issued_revision h p) (λ r. accepted (given_of view r) None)
   done_of caller ask.Me = of_user caller (λ u. accepted (reply.Me u.name u.team u.roles) None)
   done_of caller (ask.Revisions p before) =
       accepted (newest_told (revisions_before h p before)) None
-  done_of caller (ask.Issued p) =
-      of_revision (issued_revision h p) (λ r. accepted (reply.IssuedNow r.digest r.number) None)
 
   -- what is answered of a refusal besides its rule: why a document doesn't read
   abbrev pub fault_beside : Ask → Rule → Option (List ℕ)

@@ -1,9 +1,9 @@
 //! What requests change, as values of a program.
 
 use office_tables::{RevisionRow, UserRow};
-use review_policy::ProfileName;
+use review_policy::{ProfileAct, ProfileName, RevisionAct};
 
-/// What is to happen by a request of a changing kind, with the row that is written where it adds
+/// What is to be done by a request of a changing kind, with the row that is written where it adds
 /// one. Digests are of SHA-256; revisions are numbered from 1.
 #[derive(Debug, Drop)]
 pub enum Change {
@@ -23,27 +23,15 @@ pub enum Change {
         digest: [u8; 32],
         approves: bool,
     },
-    /// A revision is issued.
-    Issue {
+    /// This is done to a revision.
+    ActOnRevision {
+        act: RevisionAct,
         name: ProfileName,
         revision: u32,
     },
-    /// A revision is taken back.
-    Withdraw {
-        name: ProfileName,
-        revision: u32,
-    },
-    /// A revision becomes the baseline of its team.
-    Adopt {
-        name: ProfileName,
-        revision: u32,
-    },
-    /// A profile is held.
-    Hold {
-        name: ProfileName,
-    },
-    /// A held profile is released.
-    Release {
+    /// This is done to a profile.
+    ActOnProfile {
+        act: ProfileAct,
         name: ProfileName,
     },
 }

@@ -3,6 +3,10 @@
 
 ghost use Rattle.std.specs.Prelude.{◌≡◌, ◌∷◌, false, List, ℕ, Option, filter};
 ghost use Rattle.profile_text.specs.Digest.{digest_of};
+ghost use Rattle.review_policy.specs.declared.act.ProfileView.TheVariants.{Fetch};
+ghost use Rattle.review_policy.specs.declared.act.ProfileView.TheVariants as views;
+ghost use Rattle.review_policy.specs.declared.act.RevisionAct.TheVariants.{Issue};
+ghost use Rattle.review_policy.specs.declared.act.RevisionView.TheVariants.{Show};
 ghost use Rattle.review_policy.specs.declared.ask.Ask.TheVariants as ask;
 ghost use Rattle.review_policy.specs.declared.ask.ProfileName.{ProfileName};
 ghost use Rattle.review_policy.specs.declared.ask.Request.{Request};
@@ -31,7 +35,7 @@ pub fn what_is_submitted_is_told()
 /// What is shown is the text that the submission of that number carried.
 pub fn what_is_shown_was_submitted()
     ensures { (h : History) (r : Request) (p : ProfileName) (n : ℕ) (digest text : List ℕ)
-        (state : State) (e : Option Event) → r.ask ≡ ask.Show p n
+        (state : State) (e : Option Event) → r.ask ≡ ask.SeeRevision Show p n
         → verdict h r ≡ accepted (reply.Shown digest text state) e → IsTextOf h p n digest text }
 {}
 
@@ -39,7 +43,7 @@ pub fn what_is_shown_was_submitted()
 /// issued now.
 pub fn what_is_fetched_was_issued()
     ensures { (h : History) (r : Request) (p : ProfileName) (n : ℕ) (digest text : List ℕ)
-        (e : Option Event) → r.ask ≡ ask.Fetch p
+        (e : Option Event) → r.ask ≡ ask.SeeProfile Fetch p
         → verdict h r ≡ accepted (reply.Fetched digest text n) e → IsFetched h p n digest text }
 {}
 
@@ -47,24 +51,24 @@ pub fn what_is_fetched_was_issued()
 /// text: the digest of what would be fetched and its number, or the rule that would refuse it.
 pub fn what_is_issued_now_is_what_is_fetched()
     ensures { (h : History) (token : List ℕ) (p : ProfileName)
-        → verdict h (record { token = token; ask = ask.Issued p })
-        ≡ without_text (verdict h (record { token = token; ask = ask.Fetch p })) }
+        → verdict h (record { token = token; ask = ask.SeeProfile views.Issued p })
+        ≡ without_text (verdict h (record { token = token; ask = ask.SeeProfile Fetch p })) }
 {}
 
 /// What is issued is known by the digest of the text that the submission of that number carried.
 pub fn what_is_issued_was_submitted()
     ensures { (h : History) (r : Request) (p : ProfileName) (n : ℕ) (digest : List ℕ)
-        (e : Option Event) → r.ask ≡ ask.Issue p n
+        (e : Option Event) → r.ask ≡ ask.ActOnRevision Issue p n
         → verdict h r ≡ accepted (reply.Issued digest) e → IsDigestOf h p n digest }
 {}
 
 /// Nothing of a held profile is issued or fetched.
 pub fn nothing_is_given_out_while_it_is_held()
     ensures issued { (h : History) (r : Request) (p : ProfileName) (n : ℕ) (reply : Reply)
-        (e : Option Event) → r.ask ≡ ask.Issue p n → verdict h r ≡ accepted reply e
+        (e : Option Event) → r.ask ≡ ask.ActOnRevision Issue p n → verdict h r ≡ accepted reply e
         → is_held h p ≡ false }
     ensures fetched { (h : History) (r : Request) (p : ProfileName) (reply : Reply)
-        (e : Option Event) → r.ask ≡ ask.Fetch p → verdict h r ≡ accepted reply e
+        (e : Option Event) → r.ask ≡ ask.SeeProfile Fetch p → verdict h r ≡ accepted reply e
         → is_held h p ≡ false }
 {}
 

@@ -1,10 +1,14 @@
 //! What happens in an office, as values of a program.
 
-use cap_sets::Caps;
-use review_policy::{ProfileName, Roles, Text, Word};
+ghost use Rattle.std.specs.Prelude.{◌≡◌, option_map};
+ghost use Rattle.office_policy.specs.Callers.{caller_of, doer_of};
+ghost use Rattle.office_policy.specs.Happened.{event_meant};
 
-/// What happened in an office: its founding, and each request of a changing kind that was carried
-/// out. Digests are of SHA-256; revisions are numbered from 1.
+use crate::deed::Deed;
+use cap_sets::Caps;
+use review_policy::Word;
+
+/// What happened in an office: its founding, and what users did. Digests are of SHA-256.
 #[derive(Debug, Drop)]
 pub enum Event {
     /// The office was founded, with its first user, the digest of that user's token, and the
@@ -15,54 +19,31 @@ pub enum Event {
         digest: [u8; 32],
         listed: Caps,
     },
-    /// A user was enrolled, or given these roles and the token of this digest.
-    Enrolled {
+    /// The user of this name did this.
+    Did {
         caller: Word,
-        user: Word,
-        team: Word,
-        roles: Roles,
-        digest: [u8; 32],
+        deed: Deed,
     },
-    /// A document was handed in; its canonical text.
-    Submitted {
-        caller: Word,
-        name: ProfileName,
-        text: Text,
-    },
-    /// A vote was cast on a revision; the digest that it named.
-    Voted {
-        caller: Word,
-        name: ProfileName,
-        revision: u32,
-        digest: [u8; 32],
-        approves: bool,
-    },
-    /// A revision was issued.
-    Issued {
-        caller: Word,
-        name: ProfileName,
-        revision: u32,
-    },
-    /// A revision was taken back.
-    Withdrawn {
-        caller: Word,
-        name: ProfileName,
-        revision: u32,
-    },
-    /// A revision became the baseline of its team.
-    Adopted {
-        caller: Word,
-        name: ProfileName,
-        revision: u32,
-    },
-    /// A profile was held.
-    Held {
-        caller: Word,
-        name: ProfileName,
-    },
-    /// A held profile was released.
-    Released {
-        caller: Word,
-        name: ProfileName,
-    },
+}
+
+impl Event {
+    /// The name of who asked for it; nobody asks for a founding.
+    pub fn caller(&self) -> Option<&Word>
+        ensures { option_map (λ name. name.now) result ≡ caller_of (event_meant self.now) }
+    {
+        match self {
+            Event::Founded { .. } => None,
+            Event::Did { caller, .. } => Some(caller),
+        }
+    }
+
+    /// The name of who did it: the caller, or who was founded.
+    pub fn doer(&self) -> &Word
+        ensures { result.now ≡ doer_of (event_meant self.now) }
+    {
+        match self {
+            Event::Founded { user, .. } => user,
+            Event::Did { caller, .. } => caller,
+        }
+    }
 }

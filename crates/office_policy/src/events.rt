@@ -4,6 +4,8 @@
 
 ghost use Rattle.std.specs.Prelude.{◌≡◌, ◌∷◌, [], List, ℕ, Bool, true, suc, None};
 ghost use Rattle.profile_text.specs.Digest.{digest_of};
+ghost use Rattle.review_policy.specs.declared.act.ProfileAct.{ProfileAct};
+ghost use Rattle.review_policy.specs.declared.act.ProfileAct.TheVariants.{Hold, Release};
 ghost use Rattle.review_policy.specs.declared.ask.ProfileName.{ProfileName};
 ghost use Rattle.review_policy.specs.declared.role.Role.TheVariants.{Security};
 ghost use Rattle.review_policy.specs.Rules.{is_open};
@@ -12,8 +14,10 @@ ghost use Rattle.office_tables.specs.Changes.{founded_tables, with_user, with_re
 ghost use Rattle.office_tables.specs.Changes.{with_issued, with_withdrawn, with_baseline};
 ghost use Rattle.office_tables.specs.Changes.{with_hold, without_hold};
 ghost use Rattle.office_tables.specs.Reads.{submitted as new_revision};
+ghost use Rattle.office_tables.specs.Tables.{Tables};
 ghost use Rattle.office_policy.specs.History.{History, founded, enrolled, submitted, voted, issued};
-ghost use Rattle.office_policy.specs.History.{withdrawn, adopted, held, released};
+ghost use Rattle.office_policy.specs.History.{withdrawn, adopted, on_profile};
+ghost use Rattle.office_policy.specs.Holds.{with_act};
 ghost use Rattle.office_policy.specs.Users.{user_of, registrar_alone};
 ghost use Rattle.office_policy.specs.Revisions.{revision_of, revision_count, state_in};
 ghost use Rattle.office_policy.specs.TablesOf.{tables_of};
@@ -79,14 +83,10 @@ pub fn an_adoption_puts_the_baseline()
         → with_baseline p n (tables_of h) ≡ tables_of (adopted caller p n ∷ h) }
 {}
 
-/// A hold holds its profile, and no other.
-pub fn a_hold_holds_the_profile()
-    ensures { (h : History) (caller : List ℕ) (p : ProfileName) → with_hold p (tables_of h)
-        ≡ tables_of (held caller p ∷ h) }
-{}
-
-/// A release ends the hold of its profile, and no other.
-pub fn a_release_ends_the_hold()
-    ensures { (h : History) (caller : List ℕ) (p : ProfileName) → without_hold p (tables_of h)
-        ≡ tables_of (released caller p ∷ h) }
+/// An act on a profile holds it or releases it, and no other.
+pub fn an_act_on_a_profile_is_of_its_hold()
+    ensures put { (h : History) (caller : List ℕ) (act : ProfileAct) (p : ProfileName)
+        → with_act act p (tables_of h) ≡ tables_of (on_profile caller act p ∷ h) }
+    ensures hold { (p : ProfileName) (t : Tables) → with_act Hold p t ≡ with_hold p t }
+    ensures release { (p : ProfileName) (t : Tables) → with_act Release p t ≡ without_hold p t }
 {}

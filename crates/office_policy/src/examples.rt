@@ -3,6 +3,10 @@
 ghost use Rattle.std.specs.Prelude.{◌≡◌, ◌∷◌, [], Ok, Some, None, codes, true, false, List, ℕ};
 ghost use Rattle.profile_text.specs.Digest.{digest_of};
 ghost use Rattle.profile_text.specs.Profile.{closed_profile, no_caps};
+ghost use Rattle.review_policy.specs.declared.act.ProfileAct.TheVariants.{Hold, Release};
+ghost use Rattle.review_policy.specs.declared.act.ProfileView.TheVariants.{Fetch};
+ghost use Rattle.review_policy.specs.declared.act.RevisionAct.TheVariants.{Adopt, Withdraw};
+ghost use Rattle.review_policy.specs.declared.act.RevisionView.TheVariants.{Sheet, Show};
 ghost use Rattle.review_policy.specs.declared.ask.Ask.TheVariants as ask;
 ghost use Rattle.review_policy.specs.declared.answer.Reply.TheVariants as reply;
 ghost use Rattle.review_policy.specs.declared.denial.Need.TheVariants.{One, TwoWithSecurity};
@@ -10,7 +14,7 @@ ghost use Rattle.review_policy.specs.declared.denial.Rule.TheVariants as rule;
 ghost use Rattle.review_policy.specs.declared.revision.State.TheVariants.{Open, Closed, Issued};
 ghost use Rattle.review_policy.specs.declared.revision.State.TheVariants.{Replaced, Withdrawn};
 ghost use Rattle.office_policy.specs.History.{enrolled, submitted, issued, withdrawn, adopted};
-ghost use Rattle.office_policy.specs.History.{held, released};
+ghost use Rattle.office_policy.specs.History.{on_profile};
 ghost use Rattle.office_policy.specs.Users.{user_of, user_showing};
 ghost use Rattle.office_policy.specs.Revisions.{state_of, last_revision, issued_revision};
 ghost use Rattle.office_policy.specs.Revisions.{number_of};
@@ -130,42 +134,42 @@ pub fn examples_of_issues()
 
 /// Machines of the team fetch the issued revision, as it was submitted.
 pub fn examples_of_fetches()
-    ensures newest { told second_issued blue_machine (ask.Fetch web)
+    ensures newest { told second_issued blue_machine (ask.SeeProfile Fetch web)
         ≡ accepted (reply.Fetched (digest_of text) text 2) None }
     ensures text { (bytes : List ℕ)
-        → told (issues 1 ∷ submitted ann web bytes ∷ office) blue_machine (ask.Fetch web)
+        → told (issues 1 ∷ submitted ann web bytes ∷ office) blue_machine (ask.SeeProfile Fetch web)
         ≡ accepted (reply.Fetched (digest_of bytes) bytes 1) None }
     ensures closed_is_issued_still { number_of (issued_revision second_approved web) ≡ 1 }
-    ensures replaced_does_not_come_back { decision second_withdrawn blue_machine (ask.Fetch web)
+    ensures replaced_does_not_come_back { decision second_withdrawn blue_machine (ask.SeeProfile Fetch web)
         ≡ refused 4 rule.NothingIssued }
-    ensures other_team { decision second_withdrawn red_machine (ask.Fetch web)
+    ensures other_team { decision second_withdrawn red_machine (ask.SeeProfile Fetch web)
         ≡ refused 3 rule.OtherTeam }
     ensures other_team_of_nothing { decision second_withdrawn red_machine
-        (ask.Fetch unknown_profile) ≡ refused 3 rule.OtherTeam }
-    ensures no_machine { decision second_issued ann (ask.Fetch web) ≡ refused 2 rule.RoleMissing }
-    ensures open_is_not_fetched { decision one_submitted blue_machine (ask.Fetch web)
+        (ask.SeeProfile Fetch unknown_profile) ≡ refused 3 rule.OtherTeam }
+    ensures no_machine { decision second_issued ann (ask.SeeProfile Fetch web) ≡ refused 2 rule.RoleMissing }
+    ensures open_is_not_fetched { decision one_submitted blue_machine (ask.SeeProfile Fetch web)
         ≡ refused 4 rule.NothingIssued }
 {}
 
 /// An author of the team or security takes back a revision that is open or issued.
 pub fn examples_of_withdrawals()
-    ensures by_security { told first_issued sue (ask.Withdraw web 1)
-        ≡ accepted reply.Withdrawn (Some (withdrawn sue web 1)) }
-    ensures by_another_author { told first_issued ben (ask.Withdraw web 1)
-        ≡ accepted reply.Withdrawn (Some (withdrawn ben web 1)) }
-    ensures of_the_open { told one_submitted ann (ask.Withdraw web 1)
-        ≡ accepted reply.Withdrawn (Some (withdrawn ann web 1)) }
-    ensures twice { decision (withdraws 1 ∷ first_issued) sue (ask.Withdraw web 1)
+    ensures by_security { told first_issued sue (ask.ActOnRevision Withdraw web 1)
+        ≡ accepted reply.Nothing (Some (withdrawn sue web 1)) }
+    ensures by_another_author { told first_issued ben (ask.ActOnRevision Withdraw web 1)
+        ≡ accepted reply.Nothing (Some (withdrawn ben web 1)) }
+    ensures of_the_open { told one_submitted ann (ask.ActOnRevision Withdraw web 1)
+        ≡ accepted reply.Nothing (Some (withdrawn ann web 1)) }
+    ensures twice { decision (withdraws 1 ∷ first_issued) sue (ask.ActOnRevision Withdraw web 1)
         ≡ refused 5 rule.NotStanding }
-    ensures of_the_closed { decision (submits ann ∷ one_submitted) sue (ask.Withdraw web 1)
+    ensures of_the_closed { decision (submits ann ∷ one_submitted) sue (ask.ActOnRevision Withdraw web 1)
         ≡ refused 5 rule.NotStanding }
-    ensures of_the_replaced { decision second_issued sue (ask.Withdraw web 1)
+    ensures of_the_replaced { decision second_issued sue (ask.ActOnRevision Withdraw web 1)
         ≡ refused 5 rule.NotStanding }
-    ensures other_team { decision (enrols_rob 2 ∷ first_issued) rob (ask.Withdraw web 1)
+    ensures other_team { decision (enrols_rob 2 ∷ first_issued) rob (ask.ActOnRevision Withdraw web 1)
         ≡ refused 3 rule.OtherTeam }
-    ensures no_revision { decision first_issued sue (ask.Withdraw web 2)
+    ensures no_revision { decision first_issued sue (ask.ActOnRevision Withdraw web 2)
         ≡ refused 4 rule.NoRevision }
-    ensures no_role { decision first_issued rev (ask.Withdraw web 1) ≡ refused 2 rule.RoleMissing }
+    ensures no_role { decision first_issued rev (ask.ActOnRevision Withdraw web 1) ≡ refused 2 rule.RoleMissing }
     ensures state { state_of (withdraws 1 ∷ first_issued) web 1 ≡ Withdrawn }
     ensures of_the_withdrawn { state_of
         (withdraws 2 ∷ submits ann ∷ withdraws 1 ∷ first_issued) web 1 ≡ Withdrawn }
@@ -174,13 +178,13 @@ pub fn examples_of_withdrawals()
 /// Security that is no author adopts an issued revision; a team's revisions are compared with what
 /// it adopted last, unless that was withdrawn.
 pub fn examples_of_adoption()
-    ensures adopted { told first_issued sue (ask.Adopt web 1)
-        ≡ accepted reply.Adopted (Some (adopted sue web 1)) }
-    ensures not_issued { decision both_approve sue (ask.Adopt web 1) ≡ refused 5 rule.NotIssued }
-    ensures author_adopts { decision (submits ann ∷ with_trusted_ann) ann (ask.Adopt web 1)
+    ensures adopted { told first_issued sue (ask.ActOnRevision Adopt web 1)
+        ≡ accepted reply.Nothing (Some (adopted sue web 1)) }
+    ensures not_issued { decision both_approve sue (ask.ActOnRevision Adopt web 1) ≡ refused 5 rule.NotIssued }
+    ensures author_adopts { decision (submits ann ∷ with_trusted_ann) ann (ask.ActOnRevision Adopt web 1)
         ≡ refused 4 rule.AuthorAdopts }
-    ensures no_revision { decision first_issued sue (ask.Adopt web 2) ≡ refused 3 rule.NoRevision }
-    ensures no_security { decision first_issued rev (ask.Adopt web 1) ≡ refused 2 rule.RoleMissing }
+    ensures no_revision { decision first_issued sue (ask.ActOnRevision Adopt web 2) ≡ refused 3 rule.NoRevision }
+    ensures no_security { decision first_issued rev (ask.ActOnRevision Adopt web 1) ≡ refused 2 rule.RoleMissing }
     ensures nothing_adopted { baseline_of first_issued blue ≡ closed_profile }
     ensures adopted_document { (bytes : List ℕ) → baseline_of (adopts_first bytes) blue
         ≡ document_of bytes }
@@ -238,41 +242,41 @@ pub fn examples_of_wider_profiles()
 /// A held profile is neither issued nor fetched until it is released; it is shown, listed and
 /// reviewed as before.
 pub fn examples_of_holds()
-    ensures held { told (issues 1 ∷ approves rev 1 ∷ one_submitted) sue (ask.Hold web)
-        ≡ accepted reply.Held (Some (held sue web)) }
-    ensures held_already { decision held_when_issued sue (ask.Hold web)
+    ensures held { told (issues 1 ∷ approves rev 1 ∷ one_submitted) sue (ask.ActOnProfile Hold web)
+        ≡ accepted reply.Nothing (Some (on_profile sue Hold web)) }
+    ensures held_already { decision held_when_issued sue (ask.ActOnProfile Hold web)
         ≡ refused 4 rule.AlreadyHeld }
-    ensures shown { told held_when_issued rev (ask.Show web 1)
+    ensures shown { told held_when_issued rev (ask.SeeRevision Show web 1)
         ≡ accepted (reply.Shown (digest_of text) text Issued) None }
-    ensures not_fetched { decision held_when_issued blue_machine (ask.Fetch web)
+    ensures not_fetched { decision held_when_issued blue_machine (ask.SeeProfile Fetch web)
         ≡ refused 5 rule.Held }
     ensures not_issued { issue approved_while_held TwoWithSecurity 2 ≡ refused 9 rule.Held }
     ensures short_before_held { issue (submits ann ∷ held_when_issued) One 2
         ≡ refused 7 (rule.ApprovalsShort 0 One) }
-    ensures no_security { decision approved_while_held rev (ask.Hold web)
+    ensures no_security { decision approved_while_held rev (ask.ActOnProfile Hold web)
         ≡ refused 2 rule.RoleMissing }
-    ensures no_profile { decision approved_while_held sue (ask.Hold unknown_profile)
+    ensures no_profile { decision approved_while_held sue (ask.ActOnProfile Hold unknown_profile)
         ≡ refused 3 rule.NoProfile }
-    ensures released { told approved_while_held sue (ask.Release web)
-        ≡ accepted reply.Released (Some (released sue web)) }
+    ensures released { told approved_while_held sue (ask.ActOnProfile Release web)
+        ≡ accepted reply.Nothing (Some (on_profile sue Release web)) }
     ensures issued_when_released { issue released_then TwoWithSecurity 2 ≡ Ok tt }
-    ensures fetched_when_released { told issued_then blue_machine (ask.Fetch web)
+    ensures fetched_when_released { told issued_then blue_machine (ask.SeeProfile Fetch web)
         ≡ accepted (reply.Fetched (digest_of text) text 2) None }
-    ensures not_held { decision issued_then sue (ask.Release web) ≡ refused 4 rule.NotHeld }
+    ensures not_held { decision issued_then sue (ask.ActOnProfile Release web) ≡ refused 4 rule.NotHeld }
     ensures nothing_issued_before_held { decision (holds ∷ one_submitted) blue_machine
-        (ask.Fetch web) ≡ refused 4 rule.NothingIssued }
+        (ask.SeeProfile Fetch web) ≡ refused 4 rule.NothingIssued }
 {}
 
 /// Security releases a profile that has a revision and is held.
 pub fn examples_of_releases()
-    ensures stranger { decision held_when_issued (codes "nobody") (ask.Release web)
+    ensures stranger { decision held_when_issued (codes "nobody") (ask.ActOnProfile Release web)
         ≡ refused 1 rule.CallerUnknown }
-    ensures no_security { decision held_when_issued rev (ask.Release web)
+    ensures no_security { decision held_when_issued rev (ask.ActOnProfile Release web)
         ≡ refused 2 rule.RoleMissing }
-    ensures no_profile { decision held_when_issued sue (ask.Release unknown_profile)
+    ensures no_profile { decision held_when_issued sue (ask.ActOnProfile Release unknown_profile)
         ≡ refused 3 rule.NoProfile }
-    ensures never_held { decision first_issued sue (ask.Release web) ≡ refused 4 rule.NotHeld }
-    ensures of_other_team { decision (enrols_rob 8 ∷ held_when_issued) rob (ask.Release web)
+    ensures never_held { decision first_issued sue (ask.ActOnProfile Release web) ≡ refused 4 rule.NotHeld }
+    ensures of_other_team { decision (enrols_rob 8 ∷ held_when_issued) rob (ask.ActOnProfile Release web)
         ≡ Ok tt }
 {}
 
@@ -283,14 +287,14 @@ pub fn examples_of_foundings()
     ensures nobody_else { user_of founding ann ≡ None }
     ensures shown { user_showing founding (0 ∷ []) ≡ user_of founding root }
     ensures enrols { decision founding root (ask.Enrol ann blue 2 (1 ∷ [])) ≡ Ok tt }
-    ensures holds_nothing { decision founding root (ask.Hold web) ≡ refused 2 rule.RoleMissing }
+    ensures holds_nothing { decision founding root (ask.ActOnProfile Hold web) ≡ refused 2 rule.RoleMissing }
     ensures listed_then { listed_of founding ≡ 2097152 }
 {}
 
 /// A registrar enrols; a name keeps its team, and a token is of one user.
 pub fn examples_of_enrolments()
     ensures enrolled_anew { told office root (ask.Enrol ann blue 0 (1 ∷ []))
-        ≡ accepted reply.Enrolled (Some (enrolled root ann blue 0 (1 ∷ []))) }
+        ≡ accepted reply.Nothing (Some (enrolled root ann blue 0 (1 ∷ []))) }
     ensures own_row { decision office root (ask.Enrol root desk 63 (0 ∷ []))
         ≡ refused 3 rule.OwnRow }
     ensures team_fixed { decision office root (ask.Enrol ann red 2 (1 ∷ []))
@@ -314,26 +318,26 @@ pub fn examples_of_enrolments()
 /// Authors of the team, and reviewers, security and issuers of any, are shown a revision that is
 /// there, and its sheet.
 pub fn examples_of_shows()
-    ensures to_an_author { told first_issued ann (ask.Show web 1)
+    ensures to_an_author { told first_issued ann (ask.SeeRevision Show web 1)
         ≡ accepted (reply.Shown (digest_of text) text Issued) None }
-    ensures stranger { decision first_issued (codes "nobody") (ask.Show web 1)
+    ensures stranger { decision first_issued (codes "nobody") (ask.SeeRevision Show web 1)
         ≡ refused 1 rule.CallerUnknown }
-    ensures no_reader { decision first_issued root (ask.Show web 1) ≡ refused 2 rule.RoleMissing }
-    ensures other_team { decision (enrols_rob 2 ∷ first_issued) rob (ask.Show web 1)
+    ensures no_reader { decision first_issued root (ask.SeeRevision Show web 1) ≡ refused 2 rule.RoleMissing }
+    ensures other_team { decision (enrols_rob 2 ∷ first_issued) rob (ask.SeeRevision Show web 1)
         ≡ refused 3 rule.OtherTeam }
-    ensures other_team_of_nothing { decision (enrols_rob 2 ∷ office) rob (ask.Show web 1)
+    ensures other_team_of_nothing { decision (enrols_rob 2 ∷ office) rob (ask.SeeRevision Show web 1)
         ≡ refused 3 rule.OtherTeam }
-    ensures reviewer_of_another_team { decision (enrols_rob 6 ∷ first_issued) rob (ask.Show web 1)
+    ensures reviewer_of_another_team { decision (enrols_rob 6 ∷ first_issued) rob (ask.SeeRevision Show web 1)
         ≡ Ok tt }
-    ensures machine_that_is_author { decision (enrols_rob 34 ∷ first_issued) rob (ask.Show web 1)
+    ensures machine_that_is_author { decision (enrols_rob 34 ∷ first_issued) rob (ask.SeeRevision Show web 1)
         ≡ refused 3 rule.OtherTeam }
-    ensures no_revision { decision first_issued rev (ask.Show web 2) ≡ refused 4 rule.NoRevision }
-    ensures number_zero { decision first_issued rev (ask.Show web 0) ≡ refused 4 rule.NoRevision }
-    ensures no_profile { decision first_issued rev (ask.Show unknown_profile 1)
+    ensures no_revision { decision first_issued rev (ask.SeeRevision Show web 2) ≡ refused 4 rule.NoRevision }
+    ensures number_zero { decision first_issued rev (ask.SeeRevision Show web 0) ≡ refused 4 rule.NoRevision }
+    ensures no_profile { decision first_issued rev (ask.SeeRevision Show unknown_profile 1)
         ≡ refused 4 rule.NoRevision }
-    ensures sheet_of_no_revision { decision first_issued rev (ask.Sheet web 2)
+    ensures sheet_of_no_revision { decision first_issued rev (ask.SeeRevision Sheet web 2)
         ≡ refused 4 rule.NoRevision }
-    ensures sheet_of_another_team { decision (enrols_rob 2 ∷ first_issued) rob (ask.Sheet web 2)
+    ensures sheet_of_another_team { decision (enrols_rob 2 ∷ first_issued) rob (ask.SeeRevision Sheet web 2)
         ≡ refused 3 rule.OtherTeam }
 {}
 
@@ -364,7 +368,7 @@ pub fn examples_of_listings()
         ≡ accepted (reply.Listed []) None }
     ensures team_of_nobody { told first_issued sue (ask.List (codes "green"))
         ≡ accepted (reply.Listed []) None }
-    ensures no_machine_shows { decision first_issued blue_machine (ask.Show web 1)
+    ensures no_machine_shows { decision first_issued blue_machine (ask.SeeRevision Show web 1)
         ≡ refused 2 rule.RoleMissing }
 {}
 

@@ -4,7 +4,9 @@ ghost use Rattle.std.specs.Prelude.{◌≡◌, ◌↔◌, [], ◌∷◌, ◌++�
 ghost use Rattle.std.specs.Prelude.{Option, Some, List, ℕ, Vec};
 ghost use Rattle.std.specs.declared.alloc.Global.{Global};
 ghost use Rattle.profile_text.specs.Digest.{digest_of};
+ghost use Rattle.review_policy.specs.declared.act.RevisionView.TheVariants.{Show};
 ghost use Rattle.review_policy.specs.FirstRefusal.{IsFirstRefusal};
+ghost use Rattle.review_policy.specs.declared.act.ProfileAct.TheVariants.{Hold};
 ghost use Rattle.review_policy.specs.declared.ask.Ask.TheVariants as ask;
 ghost use Rattle.review_policy.specs.declared.ask.Request.{Request};
 ghost use Rattle.review_policy.specs.declared.answer.Answer.TheVariants.{Done, Denied, Fault};
@@ -22,7 +24,7 @@ ghost use Rattle.office_policy.specs.Callers.{IsForCaller};
 ghost use Rattle.office_policy.specs.Handled.{only_reads};
 ghost use Rattle.office_policy.specs.Headline.{IsApproved};
 ghost use Rattle.office_policy.specs.History.{Event, History, founded, enrolled, voted, issued};
-ghost use Rattle.office_policy.specs.History.{held};
+ghost use Rattle.office_policy.specs.History.{on_profile};
 ghost use Rattle.office_policy.specs.Lawful.{IsAllowed};
 ghost use Rattle.office_policy.specs.Laws.{KeepsTeams};
 ghost use Rattle.office_policy.specs.Need.{need_at};
@@ -139,13 +141,13 @@ pub fn examples_of_approved_texts()
 /// without such a role, for one who shows another token, or for one who didn't ask.
 pub fn examples_of_callers()
     ensures security { (token : List ℕ) → IsForCaller (sue_shows 8 token) (asks_hold token)
-        (Some (held sue web)) }
+        (Some (on_profile sue Hold web)) }
     ensures other_role { (token : List ℕ) → IsForCaller (sue_shows 4 token) (asks_hold token)
-        (Some (held sue web)) → ⊥ }
+        (Some (on_profile sue Hold web)) → ⊥ }
     ensures other_token { (token : List ℕ) → IsForCaller office (asks_hold token)
-        (Some (held sue web)) → ⊥ }
+        (Some (on_profile sue Hold web)) → ⊥ }
     ensures other_caller { (token : List ℕ) → IsForCaller (sue_shows 8 token) (asks_hold token)
-        (Some (held ann web)) → ⊥ }
+        (Some (on_profile ann Hold web)) → ⊥ }
 {}
 
 /// What is seen is all that there is of the team, and the revision as it stands.
@@ -155,17 +157,17 @@ pub fn examples_of_what_is_seen()
     ensures other_team { IsSeen one_submitted (ask.List red) (reply.Listed []) }
     ensures other_profiles { IsSeen one_submitted (ask.List red)
         (reply.Listed (open_profile ∷ [])) → ⊥ }
-    ensures revision { IsSeen one_submitted (ask.Show web 1)
+    ensures revision { IsSeen one_submitted (ask.SeeRevision Show web 1)
         (reply.Shown (digest_of text) text states.Open) }
-    ensures other_state { IsSeen one_submitted (ask.Show web 1)
+    ensures other_state { IsSeen one_submitted (ask.SeeRevision Show web 1)
         (reply.Shown (digest_of text) text states.Issued) → ⊥ }
-    ensures no_revision { (told : Reply) → IsSeen one_submitted (ask.Show web 2) told → ⊥ }
+    ensures no_revision { (told : Reply) → IsSeen one_submitted (ask.SeeRevision Show web 2) told → ⊥ }
 {}
 
 /// A user's team stays the same where something else happens, and doesn't where the user is enrolled
 /// with another.
 pub fn examples_of_kept_teams()
-    ensures kept { KeepsTeams office (held sue web) }
+    ensures kept { KeepsTeams office (on_profile sue Hold web) }
     ensures other_roles { KeepsTeams founding (enrolled root root desk 3 (0 ∷ [])) }
     ensures other_team { KeepsTeams office (enrolled root ann red 2 (1 ∷ [])) → ⊥ }
 {}

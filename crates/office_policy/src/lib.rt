@@ -4,10 +4,12 @@
 
 pub mod callers;
 pub mod change;
+pub mod deed;
 pub mod duty;
 pub mod event;
 pub mod events;
 pub mod examples;
+mod forms;
 mod handler;
 pub mod issued;
 mod judge;
@@ -21,6 +23,8 @@ pub mod standing;
 pub mod submission_examples;
 
 pub use change::Change;
+pub use deed::Deed;
 pub use event::Event;
+pub use forms::{ask_forms, change_forms, event_forms, founding_forms, request_forms};
 pub use handler::Handler;
 pub use judge::{Allowed, Judge, Judgement};

@@ -3,6 +3,7 @@
 
 ghost use Rattle.std.specs.Prelude.{◌≡◌, ◌∷◌, [], Ok, Some, None, codes, true, false, replicate};
 ghost use Rattle.profile_text.specs.Digest.{digest_of};
+ghost use Rattle.review_policy.specs.declared.act.ProfileView.TheVariants as views;
 ghost use Rattle.review_policy.specs.declared.ask.Ask.TheVariants as ask;
 ghost use Rattle.review_policy.specs.declared.answer.Reply.TheVariants as reply;
 ghost use Rattle.review_policy.specs.declared.denial.Rule.TheVariants as rule;
@@ -80,14 +81,14 @@ pub fn examples_of_revisions_refused()
 
 /// Machines of the team are told which revision a fetch would give, and are refused as it would be.
 pub fn examples_of_the_issued_told()
-    ensures newest { told second_issued blue_machine (ask.Issued web)
+    ensures newest { told second_issued blue_machine (ask.SeeProfile views.Issued web)
         ≡ accepted (reply.IssuedNow (digest_of text) 2) None }
-    ensures stranger { decision second_issued (codes "nobody") (ask.Issued web)
+    ensures stranger { decision second_issued (codes "nobody") (ask.SeeProfile views.Issued web)
         ≡ refused 1 rule.CallerUnknown }
-    ensures no_machine { decision second_issued ann (ask.Issued web) ≡ refused 2 rule.RoleMissing }
-    ensures other_team { decision second_withdrawn red_machine (ask.Issued web)
+    ensures no_machine { decision second_issued ann (ask.SeeProfile views.Issued web) ≡ refused 2 rule.RoleMissing }
+    ensures other_team { decision second_withdrawn red_machine (ask.SeeProfile views.Issued web)
         ≡ refused 3 rule.OtherTeam }
-    ensures withdrawn { decision second_withdrawn blue_machine (ask.Issued web)
+    ensures withdrawn { decision second_withdrawn blue_machine (ask.SeeProfile views.Issued web)
         ≡ refused 4 rule.NothingIssued }
-    ensures held { decision held_when_issued blue_machine (ask.Issued web) ≡ refused 5 rule.Held }
+    ensures held { decision held_when_issued blue_machine (ask.SeeProfile views.Issued web) ≡ refused 5 rule.Held }
 {}

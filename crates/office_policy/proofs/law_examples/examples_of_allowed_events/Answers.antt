@@ -1,6 +1,7 @@
 use Rattle.std.proofs.Common.{◌≡◌, ◌<◌, ◌^◌, ℕ, [], ◌∷◌, true, false, codes, replicate, refl, lit<}
 use Rattle.std.proofs.lemmas.List.Elements.{All-replicate}
 use Rattle.review_policy.specs.Words.{is_word}
+use Rattle.review_policy.specs.declared.act.ProfileAct.TheVariants.{Hold}
 use Rattle.review_policy.specs.declared.ask.Ask.TheVariants as asks
 use Rattle.review_policy.specs.declared.answer.Reply.TheVariants as replies
 use Rattle.office_policy.specs.History.{founded, voted, issued}
@@ -13,7 +14,7 @@ enrol_forms : HasForms (asks.Enrol ann blue 2 (replicate 32 1))
 unfolding is_word
 enrol_forms = (refl, refl, lit< tt, (refl, All-replicate (λ (byte : ℕ). byte < 2 ^ 8) 32 1 (lit< tt)))
 
-hold_forms : HasForms (asks.Hold web)
+hold_forms : HasForms (asks.ActOnProfile Hold web)
 unfolding is_word
 hold_forms = (refl, refl)
 
@@ -30,7 +31,7 @@ returns-clause-enrolment c = record {
   ask = asks.Enrol ann blue 2 (replicate 32 1);
   forms = enrol_forms;
   number = tt;
-  reply = replies.Enrolled;
+  reply = replies.Nothing;
   allowed = refl;
 }
 
@@ -38,10 +39,10 @@ pub returns-clause-hold : goal.returns-clause-hold
 returns-clause-hold c = record {
   caller = record { name = sue; team = desk; roles = 12; digest = 5 ∷ [] };
   enrolled = refl;
-  ask = asks.Hold web;
+  ask = asks.ActOnProfile Hold web;
   forms = hold_forms;
   number = tt;
-  reply = replies.Held;
+  reply = replies.Nothing;
   allowed = refl;
 }
 
