@@ -1,6 +1,10 @@
 -- The kind of a word.
 use Rattle.std.proofs.Common.{◌≡◌, ℕ, List, Some, refl, subst}
 use Rattle.std.specs.Prelude.{IfSome}
+use Rattle.review_policy.specs.declared.act.ProfileAct.TheVariants.{Hold, Release}
+use Rattle.review_policy.specs.declared.act.ProfileView.TheVariants.{Fetch, Issued}
+use Rattle.review_policy.specs.declared.act.RevisionAct.TheVariants.{Issue, Withdraw, Adopt}
+use Rattle.review_policy.specs.declared.act.RevisionView.TheVariants.{Show, Sheet}
 use Rattle.review_policy.proofs.WordFacts.{found_by_word}
 use Rattle.json_requests.specs.declared.kind.Kind.{Kind}
 use Rattle.json_requests.specs.declared.kind.Kind.TheVariants as kinds
@@ -14,18 +18,18 @@ each_found : (kind : Kind) → kind_of (kind_word kind) ≡ Some kind
 each_found kinds.Enrol = refl
 each_found kinds.Submit = refl
 each_found kinds.Vote = refl
-each_found kinds.Issue = refl
-each_found kinds.Withdraw = refl
-each_found kinds.Adopt = refl
-each_found kinds.Show = refl
-each_found kinds.Sheet = refl
+each_found (kinds.ActOnRevision Issue) = refl
+each_found (kinds.ActOnRevision Withdraw) = refl
+each_found (kinds.ActOnRevision Adopt) = refl
+each_found (kinds.SeeRevision Show) = refl
+each_found (kinds.SeeRevision Sheet) = refl
 each_found kinds.List = refl
-each_found kinds.Fetch = refl
-each_found kinds.Hold = refl
-each_found kinds.Release = refl
+each_found (kinds.ActOnProfile Hold) = refl
+each_found (kinds.ActOnProfile Release) = refl
+each_found (kinds.SeeProfile Fetch) = refl
+each_found (kinds.SeeProfile Issued) = refl
 each_found kinds.Me = refl
 each_found kinds.Revisions = refl
-each_found kinds.Issued = refl
 
 -- and each kind is found by its word
 pub known_kind : (text : List ℕ) (kind : Kind) → kind_word kind ≡ text → kind_of text ≡ Some kind

@@ -68,13 +68,10 @@ roles_data roles = array (items_of (map string (words_among roles all_roles)))
 
 -- the members of an answer that a request is done, besides `answer`
 abbrev pub reply_members : Reply → Members
-reply_members reply.Enrolled = no_members
+reply_members reply.Nothing = no_members
 reply_members (reply.Submitted digest revision) =
     digest_member digest (number_member (codes "revision") revision no_members)
-reply_members reply.Voted = no_members
 reply_members (reply.Issued digest) = digest_member digest no_members
-reply_members reply.Withdrawn = no_members
-reply_members reply.Adopted = no_members
 reply_members (reply.Shown digest document state) =
     digest_member digest
     (text_member (codes "document") document
@@ -85,8 +82,6 @@ reply_members (reply.Fetched digest document revision) =
     digest_member digest
     (text_member (codes "document") document
     (number_member (codes "revision") revision no_members))
-reply_members reply.Held = no_members
-reply_members reply.Released = no_members
 reply_members (reply.Me user team roles) =
     member (codes "roles") (roles_data roles)
     (text_member (codes "team") team

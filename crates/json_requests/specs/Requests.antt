@@ -15,9 +15,9 @@ use Rattle.json_requests.specs.Members.{◌>>=◌, text_at, word_at, token_at, n
 use Rattle.json_requests.specs.Members.{digest_at, vote_at, roles_at, before_at}
 use Rattle.json_requests.specs.Shapes.{has_no_other}
 use Rattle.json_requests.specs.declared.shape.Shape.TheVariants.{Line}
-use Rattle.json_requests.specs.Plain.{PlainAsk, PlainRequest, plain, enrol, submit, vote, issue}
-use Rattle.json_requests.specs.Plain.{withdraw, adopt, show, sheet, list, fetch, hold, release}
-use Rattle.json_requests.specs.Plain.{me, revisions, issued}
+use Rattle.json_requests.specs.Plain.{PlainAsk, PlainRequest, plain, enrol, submit, vote, list}
+use Rattle.json_requests.specs.Plain.{act_on_revision, see_revision, act_on_profile, see_profile}
+use Rattle.json_requests.specs.Plain.{me, revisions}
 
 -- ---- by kind, from the members of the kind
 
@@ -72,18 +72,13 @@ abbrev pub ask_at : Kind → Data → Option PlainAsk
 ask_at kinds.Enrol d = enrol_at d
 ask_at kinds.Submit d = submit_at d
 ask_at kinds.Vote d = vote_on d
-ask_at kinds.Issue d = of_revision issue d
-ask_at kinds.Withdraw d = of_revision withdraw d
-ask_at kinds.Adopt d = of_revision adopt d
-ask_at kinds.Show d = of_revision show d
-ask_at kinds.Sheet d = of_revision sheet d
+ask_at (kinds.ActOnRevision act) d = of_revision (act_on_revision act) d
+ask_at (kinds.SeeRevision view) d = of_revision (see_revision view) d
 ask_at kinds.List d = list_at d
-ask_at kinds.Fetch d = of_profile fetch d
-ask_at kinds.Hold d = of_profile hold d
-ask_at kinds.Release d = of_profile release d
+ask_at (kinds.ActOnProfile act) d = of_profile (act_on_profile act) d
+ask_at (kinds.SeeProfile view) d = of_profile (see_profile view) d
 ask_at kinds.Me d = Some me
 ask_at kinds.Revisions d = revisions_at d
-ask_at kinds.Issued d = of_profile issued d
 
 -- ---- a whole line
 

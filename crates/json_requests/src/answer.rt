@@ -101,12 +101,7 @@ fn write_reply(out: &mut Writer, alloc: Global, reply: &Reply) -> Result<(), All
             write_revisions(out, alloc, revisions.revisions(), *more)
         }
         Reply::IssuedNow { digest, revision } => write_numbered(out, alloc, digest, *revision),
-        Reply::Enrolled
-        | Reply::Voted
-        | Reply::Withdrawn
-        | Reply::Adopted
-        | Reply::Held
-        | Reply::Released => Ok(()),
+        Reply::Nothing => Ok(()),
     }
 }
 

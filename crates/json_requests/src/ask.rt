@@ -4,8 +4,8 @@ ghost use Rattle.std.specs.Prelude.{ℕ};
 ghost use Rattle.json_tree.specs.View.{view};
 ghost use Rattle.review_policy.specs.declared.ask.ProfileName.{ProfileName};
 ghost use Rattle.json_requests.specs.Faults.{Gives};
-ghost use Rattle.json_requests.specs.Plain.{PlainAsk, plain_ask, issue, withdraw, adopt, show};
-ghost use Rattle.json_requests.specs.Plain.{sheet, fetch, hold, release, issued};
+ghost use Rattle.json_requests.specs.Plain.{PlainAsk, plain_ask, act_on_profile, act_on_revision};
+ghost use Rattle.json_requests.specs.Plain.{see_profile, see_revision};
 ghost use Rattle.json_requests.specs.Requests.{ask_at, enrol_at, submit_at, vote_on, of_revision};
 ghost use Rattle.json_requests.specs.Requests.{list_at, of_profile, revisions_at};
 
@@ -15,7 +15,7 @@ use crate::member::{
     before_of, digest_of, document_of, name_of, revision_of, roles_of, vote_of, word_of,
 };
 use json_tree::Tree;
-use review_policy::{Ask, ProfileName};
+use review_policy::{Ask, ProfileAct, ProfileName, ProfileView, RevisionAct, RevisionView};
 use std::alloc::Global;
 
 /// What a line of this kind asks for.
@@ -26,18 +26,13 @@ pub(crate) fn ask_of(alloc: Global, kind: Kind, value: &Tree<'_>) -> Result<Ask,
         Kind::Enrol => enrol_of(alloc, value),
         Kind::Submit => submit_of(alloc, value),
         Kind::Vote => vote_on(alloc, value),
-        Kind::Issue => issue_of(alloc, value),
-        Kind::Withdraw => withdraw_of(alloc, value),
-        Kind::Adopt => adopt_of(alloc, value),
-        Kind::Show => show_of(alloc, value),
-        Kind::Sheet => sheet_of(alloc, value),
+        Kind::ActOnRevision(act) => act_on_revision(alloc, act, value),
+        Kind::SeeRevision(view) => see_revision(alloc, view, value),
         Kind::List => list_of(alloc, value),
-        Kind::Fetch => fetch_of(alloc, value),
-        Kind::Hold => hold_of(alloc, value),
-        Kind::Release => release_of(alloc, value),
+        Kind::ActOnProfile(act) => act_on_profile(alloc, act, value),
+        Kind::SeeProfile(view) => see_profile(alloc, view, value),
         Kind::Me => Ok(Ask::Me),
         Kind::Revisions => revisions_of(alloc, value),
-        Kind::Issued => issued_of(alloc, value),
     }
 }
 
@@ -101,63 +96,42 @@ fn revision_named(alloc: Global, value: &Tree<'_>) -> Result<(ProfileName, u32),
     Ok((name, revision))
 }
 
-fn issue_of(alloc: Global, value: &Tree<'_>) -> Result<Ask, LineFault>
-    ensures { Gives plain_ask result (of_revision issue (view value.now)) }
+fn act_on_revision(alloc: Global, act: RevisionAct, value: &Tree<'_>) -> Result<Ask, LineFault>
+    ensures { Gives plain_ask result (of_revision (act_on_revision act) (view value.now)) }
 {
     let (name, revision) = revision_named(alloc, value)?;
-    Ok(Ask::Issue { name, revision })
+    Ok(Ask::ActOnRevision {
+        act,
+        name,
+        revision,
+    })
 }
 
-fn withdraw_of(alloc: Global, value: &Tree<'_>) -> Result<Ask, LineFault>
-    ensures { Gives plain_ask result (of_revision withdraw (view value.now)) }
+fn see_revision(alloc: Global, seen: RevisionView, value: &Tree<'_>) -> Result<Ask, LineFault>
+    ensures { Gives plain_ask result (of_revision (see_revision seen) (view value.now)) }
 {
     let (name, revision) = revision_named(alloc, value)?;
-    Ok(Ask::Withdraw { name, revision })
-}
-
-fn adopt_of(alloc: Global, value: &Tree<'_>) -> Result<Ask, LineFault>
-    ensures { Gives plain_ask result (of_revision adopt (view value.now)) }
-{
-    let (name, revision) = revision_named(alloc, value)?;
-    Ok(Ask::Adopt { name, revision })
-}
-
-fn show_of(alloc: Global, value: &Tree<'_>) -> Result<Ask, LineFault>
-    ensures { Gives plain_ask result (of_revision show (view value.now)) }
-{
-    let (name, revision) = revision_named(alloc, value)?;
-    Ok(Ask::Show { name, revision })
-}
-
-fn sheet_of(alloc: Global, value: &Tree<'_>) -> Result<Ask, LineFault>
-    ensures { Gives plain_ask result (of_revision sheet (view value.now)) }
-{
-    let (name, revision) = revision_named(alloc, value)?;
-    Ok(Ask::Sheet { name, revision })
+    Ok(Ask::SeeRevision {
+        view: seen,
+        name,
+        revision,
+    })
 }
 
 #[tactic(auto, unfolding(crate::specs::Requests::of_profile))]
-fn fetch_of(alloc: Global, value: &Tree<'_>) -> Result<Ask, LineFault>
-    ensures { Gives plain_ask result (of_profile fetch (view value.now)) }
+fn act_on_profile(alloc: Global, act: ProfileAct, value: &Tree<'_>) -> Result<Ask, LineFault>
+    ensures { Gives plain_ask result (of_profile (act_on_profile act) (view value.now)) }
 {
     let name = name_of(alloc, value)?;
-    Ok(Ask::Fetch { name })
+    Ok(Ask::ActOnProfile { act, name })
 }
 
 #[tactic(auto, unfolding(crate::specs::Requests::of_profile))]
-fn hold_of(alloc: Global, value: &Tree<'_>) -> Result<Ask, LineFault>
-    ensures { Gives plain_ask result (of_profile hold (view value.now)) }
+fn see_profile(alloc: Global, seen: ProfileView, value: &Tree<'_>) -> Result<Ask, LineFault>
+    ensures { Gives plain_ask result (of_profile (see_profile seen) (view value.now)) }
 {
     let name = name_of(alloc, value)?;
-    Ok(Ask::Hold { name })
-}
-
-#[tactic(auto, unfolding(crate::specs::Requests::of_profile))]
-fn release_of(alloc: Global, value: &Tree<'_>) -> Result<Ask, LineFault>
-    ensures { Gives plain_ask result (of_profile release (view value.now)) }
-{
-    let name = name_of(alloc, value)?;
-    Ok(Ask::Release { name })
+    Ok(Ask::SeeProfile { view: seen, name })
 }
 
 #[tactic(auto, unfolding(crate::specs::Requests::revisions_at))]
@@ -167,12 +141,4 @@ fn revisions_of(alloc: Global, value: &Tree<'_>) -> Result<Ask, LineFault>
     let name = name_of(alloc, value)?;
     let before = before_of(value)?;
     Ok(Ask::Revisions { name, before })
-}
-
-#[tactic(auto, unfolding(crate::specs::Requests::of_profile))]
-fn issued_of(alloc: Global, value: &Tree<'_>) -> Result<Ask, LineFault>
-    ensures { Gives plain_ask result (of_profile issued (view value.now)) }
-{
-    let name = name_of(alloc, value)?;
-    Ok(Ask::Issued { name })
 }

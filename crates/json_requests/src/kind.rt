@@ -1,9 +1,15 @@
 //! The kinds of request, and the members that a line of each kind has.
 
 ghost use Rattle.std.specs.Prelude.{◌≡◌, Some, IfSome};
-ghost use Rattle.json_requests.specs.Kinds.{kind_of, kind_word, has_member, has_own_member};
+ghost use Rattle.std.specs.List.{list_any};
+ghost use Rattle.std.specs.Str.{bytes_eq};
+ghost use Rattle.json_requests.specs.Kinds.{kind_among, kind_of, kind_word, has_member};
+ghost use Rattle.json_requests.specs.Kinds.{has_own_member, profile_kinds, profile_members};
+ghost use Rattle.json_requests.specs.Kinds.{revision_members, subject_kinds};
 ghost use Rattle.json_requests.specs.declared.kind.Kind.{Kind};
-ghost use Rattle.json_requests.specs.declared.kind.Kind.TheVariants.{Enrol, Fetch, Issue};
+ghost use Rattle.json_requests.specs.declared.kind.Kind.TheVariants.{Enrol};
+
+use review_policy::{ProfileAct, ProfileView, RevisionAct, RevisionView};
 
 /// The kinds of request.
 #[derive(Clone, Copy)]
@@ -11,18 +17,39 @@ pub enum Kind {
     Enrol,
     Submit,
     Vote,
-    Issue,
-    Withdraw,
-    Adopt,
-    Show,
-    Sheet,
+    ActOnRevision(RevisionAct),
+    SeeRevision(RevisionView),
     List,
-    Fetch,
-    Hold,
-    Release,
+    ActOnProfile(ProfileAct),
+    SeeProfile(ProfileView),
     Me,
     Revisions,
-    Issued,
+}
+
+// The act or the view of a profile that has this word.
+fn profile_kind_named(text: &str) -> Option<Kind>
+    ensures { result ≡ kind_among profile_kinds text.now }
+{
+    if let Some(act) = ProfileAct::from_word(text) {
+        return Some(Kind::ActOnProfile(act));
+    }
+    match ProfileView::from_word(text) {
+        Some(view) => Some(Kind::SeeProfile(view)),
+        None => None,
+    }
+}
+
+// The act or the view that has this word.
+fn subject_kind_named(text: &str) -> Option<Kind>
+    ensures { result ≡ kind_among subject_kinds text.now }
+{
+    if let Some(act) = RevisionAct::from_word(text) {
+        return Some(Kind::ActOnRevision(act));
+    }
+    match RevisionView::from_word(text) {
+        Some(view) => Some(Kind::SeeRevision(view)),
+        None => profile_kind_named(text),
+    }
 }
 
 // The kind of this word, by a comparison with each.
@@ -33,19 +60,10 @@ fn kind_named(text: &str) -> Option<Kind>
         "enrol" => Some(Kind::Enrol),
         "submit" => Some(Kind::Submit),
         "vote" => Some(Kind::Vote),
-        "issue" => Some(Kind::Issue),
-        "withdraw" => Some(Kind::Withdraw),
-        "adopt" => Some(Kind::Adopt),
-        "show" => Some(Kind::Show),
-        "sheet" => Some(Kind::Sheet),
         "list" => Some(Kind::List),
-        "fetch" => Some(Kind::Fetch),
-        "hold" => Some(Kind::Hold),
-        "release" => Some(Kind::Release),
         "me" => Some(Kind::Me),
         "revisions" => Some(Kind::Revisions),
-        "issued" => Some(Kind::Issued),
-        _ => None,
+        _ => subject_kind_named(text),
     }
 }
 
@@ -58,14 +76,14 @@ fn is_of_enrolment(name: &str) -> bool
 
 // Whether it is a member that names a profile.
 fn names_profile(name: &str) -> bool
-    ensures { result ≡ has_own_member Fetch name.now }
+    ensures { result ≡ list_any (bytes_eq name.now) profile_members }
 {
     matches!(name, "team" | "profile")
 }
 
 // Whether it is a member that names a revision.
 fn names_revision(name: &str) -> bool
-    ensures { result ≡ has_own_member Issue name.now }
+    ensures { result ≡ list_any (bytes_eq name.now) revision_members }
 {
     matches!(name, "team" | "profile" | "revision")
 }
@@ -95,11 +113,9 @@ impl Kind {
             Kind::Enrol => is_of_enrolment(name),
             Kind::Submit => names_profile(name) || name == "document",
             Kind::Vote => names_revision(name) || matches!(name, "digest" | "vote"),
-            Kind::Issue | Kind::Withdraw | Kind::Adopt | Kind::Show | Kind::Sheet => {
-                names_revision(name)
-            }
+            Kind::ActOnRevision(_) | Kind::SeeRevision(_) => names_revision(name),
             Kind::List => name == "team",
-            Kind::Fetch | Kind::Hold | Kind::Release | Kind::Issued => names_profile(name),
+            Kind::ActOnProfile(_) | Kind::SeeProfile(_) => names_profile(name),
             Kind::Me => false,
             Kind::Revisions => names_profile(name) || name == "before",
         }
