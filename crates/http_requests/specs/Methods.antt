@@ -10,11 +10,10 @@ use Rattle.http_requests.specs.declared.refusal.Refusal.{Refusal}
 use Rattle.http_requests.specs.declared.refusal.Refusal.TheVariants.{WrongMethod}
 use Rattle.http_requests.specs.declared.resource.Resource.{Resource}
 use Rattle.http_requests.specs.declared.resource.Resource.TheVariants as resources
-use Rattle.http_requests.specs.declared.route.ProfileAct.{ProfileAct}
-use Rattle.http_requests.specs.declared.route.ProfileAct.TheVariants.{Fetch, Issued, Hold, Release}
-use Rattle.http_requests.specs.declared.route.RevisionAct.{RevisionAct}
-use Rattle.http_requests.specs.declared.route.RevisionAct.TheVariants.{Show, Sheet, Vote, Issue}
-use Rattle.http_requests.specs.declared.route.RevisionAct.TheVariants.{Withdraw, Adopt}
+use Rattle.http_requests.specs.declared.route.ProfileAsk.{ProfileAsk}
+use Rattle.http_requests.specs.declared.route.ProfileAsk.TheVariants as profiles
+use Rattle.http_requests.specs.declared.route.RevisionAsk.{RevisionAsk}
+use Rattle.http_requests.specs.declared.route.RevisionAsk.TheVariants as revisions
 use Rattle.http_requests.specs.declared.route.Route.{Route}
 use Rattle.http_requests.specs.declared.route.Route.TheVariants.{Users, Me, Team, Revisions, Submit}
 use Rattle.http_requests.specs.declared.route.Route.TheVariants.{Profile, Revision}
@@ -26,20 +25,15 @@ method_named name =
     else if bytes_eq name (method_text Post) then Some Post else None
 
 -- the method of what is asked of a profile
-abbrev pub profile_method : ProfileAct → Method
-profile_method Fetch = Get
-profile_method Issued = Get
-profile_method Hold = Post
-profile_method Release = Post
+abbrev pub profile_method : ProfileAsk → Method
+profile_method (profiles.Act act) = Post
+profile_method (profiles.See view) = Get
 
 -- the method of what is asked of a revision
-abbrev pub revision_method : RevisionAct → Method
-revision_method Show = Get
-revision_method Sheet = Get
-revision_method Vote = Post
-revision_method Issue = Post
-revision_method Withdraw = Post
-revision_method Adopt = Post
+abbrev pub revision_method : RevisionAsk → Method
+revision_method revisions.Vote = Post
+revision_method (revisions.Act act) = Post
+revision_method (revisions.See view) = Get
 
 -- the method of each route
 abbrev pub method_of : Route → Method
@@ -48,8 +42,8 @@ method_of Me = Get
 method_of (Team team) = Get
 method_of (Revisions name before) = Get
 method_of (Submit name) = Post
-method_of (Profile act name) = profile_method act
-method_of (Revision act name number) = revision_method act
+method_of (Profile asked name) = profile_method asked
+method_of (Revision asked name number) = revision_method asked
 
 -- just one method
 abbrev pub only : Method → Methods

@@ -2,12 +2,15 @@
 use Rattle.std.specs.Prelude.{ℕ, ◌==◌, ◌&&◌, Bool, true, false, List, [], ◌∷◌, Option, None}
 use Rattle.std.specs.Prelude.{option_map, find, codes, get_or, if◌then◌else◌}
 use Rattle.matchit.specs.Seek.{same_text}
+use Rattle.review_policy.specs.declared.act.ProfileAct.TheVariants.{Hold, Release}
+use Rattle.review_policy.specs.declared.act.ProfileView.TheVariants.{Fetch, Issued}
+use Rattle.review_policy.specs.declared.act.RevisionAct.TheVariants.{Issue, Withdraw, Adopt}
+use Rattle.review_policy.specs.declared.act.RevisionView.TheVariants.{Show, Sheet}
 use Rattle.http_requests.specs.declared.form.Form.{Form}
 use Rattle.http_requests.specs.declared.form.Form.TheVariants.{OfUsers, OfMe, OfTeam, OfRevisions}
 use Rattle.http_requests.specs.declared.form.Form.TheVariants.{OfProfile, OfRevision}
-use Rattle.http_requests.specs.declared.route.ProfileAct.TheVariants.{Fetch, Issued, Hold, Release}
-use Rattle.http_requests.specs.declared.route.RevisionAct.TheVariants.{Show, Sheet, Vote, Issue}
-use Rattle.http_requests.specs.declared.route.RevisionAct.TheVariants.{Withdraw, Adopt}
+use Rattle.http_requests.specs.declared.route.ProfileAsk.TheVariants as profiles
+use Rattle.http_requests.specs.declared.route.RevisionAsk.TheVariants as revisions
 
 -- a part of a route: just this text, or any that is not empty
 pub data Part : Type 0 where
@@ -39,16 +42,16 @@ shapes = (word (codes "users") ∷ [], OfUsers)
     ∷ (word (codes "me") ∷ [], OfMe)
     ∷ (word (codes "p") ∷ any ∷ [], OfTeam)
     ∷ (word (codes "p") ∷ any ∷ any ∷ [], OfRevisions)
-    ∷ (word (codes "p") ∷ any ∷ any ∷ any ∷ [], OfRevision Show)
-    ∷ (word (codes "p") ∷ any ∷ any ∷ any ∷ word (codes "adopt") ∷ [], OfRevision Adopt)
-    ∷ (word (codes "p") ∷ any ∷ any ∷ any ∷ word (codes "issue") ∷ [], OfRevision Issue)
-    ∷ (word (codes "p") ∷ any ∷ any ∷ any ∷ word (codes "sheet") ∷ [], OfRevision Sheet)
-    ∷ (word (codes "p") ∷ any ∷ any ∷ any ∷ word (codes "vote") ∷ [], OfRevision Vote)
-    ∷ (word (codes "p") ∷ any ∷ any ∷ any ∷ word (codes "withdraw") ∷ [], OfRevision Withdraw)
-    ∷ (word (codes "issued") ∷ any ∷ any ∷ [], OfProfile Fetch)
-    ∷ (word (codes "issued") ∷ any ∷ any ∷ word (codes "digest") ∷ [], OfProfile Issued)
-    ∷ (word (codes "hold") ∷ any ∷ any ∷ [], OfProfile Hold)
-    ∷ (word (codes "release") ∷ any ∷ any ∷ [], OfProfile Release) ∷ []
+    ∷ (word (codes "p") ∷ any ∷ any ∷ any ∷ [], OfRevision (revisions.See Show))
+    ∷ (word (codes "p") ∷ any ∷ any ∷ any ∷ word (codes "adopt") ∷ [], OfRevision (revisions.Act Adopt))
+    ∷ (word (codes "p") ∷ any ∷ any ∷ any ∷ word (codes "issue") ∷ [], OfRevision (revisions.Act Issue))
+    ∷ (word (codes "p") ∷ any ∷ any ∷ any ∷ word (codes "sheet") ∷ [], OfRevision (revisions.See Sheet))
+    ∷ (word (codes "p") ∷ any ∷ any ∷ any ∷ word (codes "vote") ∷ [], OfRevision revisions.Vote)
+    ∷ (word (codes "p") ∷ any ∷ any ∷ any ∷ word (codes "withdraw") ∷ [], OfRevision (revisions.Act Withdraw))
+    ∷ (word (codes "issued") ∷ any ∷ any ∷ [], OfProfile (profiles.See Fetch))
+    ∷ (word (codes "issued") ∷ any ∷ any ∷ word (codes "digest") ∷ [], OfProfile (profiles.See Issued))
+    ∷ (word (codes "hold") ∷ any ∷ any ∷ [], OfProfile (profiles.Act Hold))
+    ∷ (word (codes "release") ∷ any ∷ any ∷ [], OfProfile (profiles.Act Release)) ∷ []
 
 -- one byte more at the front of the first part
 abbrev pub onto_first : ℕ → List (List ℕ) → List (List ℕ)

@@ -6,12 +6,15 @@ use Rattle.matchit.specs.Order.{placed}
 use Rattle.matchit.specs.Route.{Scan, parse_route}
 use Rattle.matchit.specs.Router.{RouteOf, nearest, route_from}
 use Rattle.matchit.specs.declared.error.InsertError.{InsertError}
+use Rattle.review_policy.specs.declared.act.ProfileAct.TheVariants.{Hold, Release}
+use Rattle.review_policy.specs.declared.act.ProfileView.TheVariants.{Fetch, Issued}
+use Rattle.review_policy.specs.declared.act.RevisionAct.TheVariants.{Issue, Withdraw, Adopt}
+use Rattle.review_policy.specs.declared.act.RevisionView.TheVariants.{Show, Sheet}
 use Rattle.http_requests.specs.declared.form.Form.{Form}
 use Rattle.http_requests.specs.declared.form.Form.TheVariants.{OfUsers, OfMe, OfTeam, OfRevisions}
 use Rattle.http_requests.specs.declared.form.Form.TheVariants.{OfProfile, OfRevision}
-use Rattle.http_requests.specs.declared.route.ProfileAct.TheVariants.{Fetch, Issued, Hold, Release}
-use Rattle.http_requests.specs.declared.route.RevisionAct.TheVariants.{Show, Sheet, Vote, Issue}
-use Rattle.http_requests.specs.declared.route.RevisionAct.TheVariants.{Withdraw, Adopt}
+use Rattle.http_requests.specs.declared.route.ProfileAsk.TheVariants as profiles
+use Rattle.http_requests.specs.declared.route.RevisionAsk.TheVariants as revisions
 
 abbrev pub Routes : Type 0
 Routes = RowsOf (RouteOf Form)
@@ -39,16 +42,16 @@ table = (codes "/users", OfUsers)
     ∷ (codes "/me", OfMe)
     ∷ (codes "/p/{team}/{profile}", OfRevisions)
     ∷ (codes "/p/{team}", OfTeam)
-    ∷ (codes "/p/{team}/{profile}/{n}", OfRevision Show)
-    ∷ (codes "/p/{team}/{profile}/{n}/sheet", OfRevision Sheet)
-    ∷ (codes "/p/{team}/{profile}/{n}/vote", OfRevision Vote)
-    ∷ (codes "/p/{team}/{profile}/{n}/issue", OfRevision Issue)
-    ∷ (codes "/p/{team}/{profile}/{n}/withdraw", OfRevision Withdraw)
-    ∷ (codes "/p/{team}/{profile}/{n}/adopt", OfRevision Adopt)
-    ∷ (codes "/issued/{team}/{profile}", OfProfile Fetch)
-    ∷ (codes "/issued/{team}/{profile}/digest", OfProfile Issued)
-    ∷ (codes "/hold/{team}/{profile}", OfProfile Hold)
-    ∷ (codes "/release/{team}/{profile}", OfProfile Release) ∷ []
+    ∷ (codes "/p/{team}/{profile}/{n}", OfRevision (revisions.See Show))
+    ∷ (codes "/p/{team}/{profile}/{n}/sheet", OfRevision (revisions.See Sheet))
+    ∷ (codes "/p/{team}/{profile}/{n}/vote", OfRevision revisions.Vote)
+    ∷ (codes "/p/{team}/{profile}/{n}/issue", OfRevision (revisions.Act Issue))
+    ∷ (codes "/p/{team}/{profile}/{n}/withdraw", OfRevision (revisions.Act Withdraw))
+    ∷ (codes "/p/{team}/{profile}/{n}/adopt", OfRevision (revisions.Act Adopt))
+    ∷ (codes "/issued/{team}/{profile}", OfProfile (profiles.See Fetch))
+    ∷ (codes "/issued/{team}/{profile}/digest", OfProfile (profiles.See Issued))
+    ∷ (codes "/hold/{team}/{profile}", OfProfile (profiles.Act Hold))
+    ∷ (codes "/release/{team}/{profile}", OfProfile (profiles.Act Release)) ∷ []
 
 unfoldable pub office_rows : Routes
 office_rows = fold with_route [] table

@@ -16,8 +16,8 @@ use Rattle.http_requests.specs.declared.refusal.Refusal.TheVariants.{NoRoute}
 use Rattle.http_requests.specs.declared.resource.Resource.{Resource}
 use Rattle.http_requests.specs.declared.resource.Resource.TheVariants as resources
 use Rattle.http_requests.specs.declared.resource.Resource.TheVariants.{One}
-use Rattle.http_requests.specs.declared.route.ProfileAct.{ProfileAct}
-use Rattle.http_requests.specs.declared.route.RevisionAct.{RevisionAct}
+use Rattle.http_requests.specs.declared.route.ProfileAsk.{ProfileAsk}
+use Rattle.http_requests.specs.declared.route.RevisionAsk.{RevisionAsk}
 use Rattle.http_requests.specs.declared.route.Route.{Route}
 use Rattle.http_requests.specs.declared.route.Route.TheVariants.{Users, Me, Team, Revisions}
 use Rattle.http_requests.specs.declared.route.Route.TheVariants.{Profile, Revision}
@@ -48,10 +48,10 @@ of_before team profile query = do
   name ← name_of team profile
   Some (One (Revisions name (Some n)))
 
-abbrev pub of_profile : ProfileAct → List ℕ → List ℕ → Option Resource
+abbrev pub of_profile : ProfileAsk → List ℕ → List ℕ → Option Resource
 of_profile act team profile = option_map (λ name. One (Profile act name)) (name_of team profile)
 
-abbrev pub of_revision : RevisionAct → List ℕ → List ℕ → List ℕ → Option Resource
+abbrev pub of_revision : RevisionAsk → List ℕ → List ℕ → List ℕ → Option Resource
 of_revision act team profile number = do
   n ← revision_number_of number
   name ← name_of team profile

@@ -4,7 +4,7 @@ ghost use Rattle.json_requests.specs.Faults.{Gives};
 ghost use Rattle.json_requests.specs.Plain.{plain_ask};
 ghost use Rattle.http_requests.specs.Asks.{asked_of, of_profile, of_revision, without_body};
 
-use crate::route::{ProfileAct, RevisionAct, Route};
+use crate::route::{ProfileAsk, RevisionAsk, Route};
 use json_requests::{LineFault, read_enrol, read_vote};
 use review_policy::{Ask, ProfileName};
 use std::alloc::Global;
@@ -21,34 +21,43 @@ fn without_body(ask: Ask, body: &[u8]) -> Result<Ask, LineFault>
 }
 
 // What is asked of a profile.
-fn of_profile(act: ProfileAct, name: ProfileName, body: &[u8]) -> Result<Ask, LineFault>
-    ensures { Gives plain_ask result (of_profile act name body.now) }
+fn of_profile(asked: ProfileAsk, name: ProfileName, body: &[u8]) -> Result<Ask, LineFault>
+    ensures { Gives plain_ask result (of_profile asked name body.now) }
 {
-    match act {
-        ProfileAct::Fetch => without_body(Ask::Fetch { name }, body),
-        ProfileAct::Issued => without_body(Ask::Issued { name }, body),
-        ProfileAct::Hold => without_body(Ask::Hold { name }, body),
-        ProfileAct::Release => without_body(Ask::Release { name }, body),
+    match asked {
+        ProfileAsk::Act(act) => without_body(Ask::ActOnProfile { act, name }, body),
+        ProfileAsk::See(view) => without_body(Ask::SeeProfile { view, name }, body),
     }
 }
 
 // What is asked of a revision.
 fn of_revision(
     alloc: Global,
-    act: RevisionAct,
+    asked: RevisionAsk,
     name: ProfileName,
     revision: u32,
     body: &[u8],
 ) -> Result<Ask, LineFault>
-    ensures { Gives plain_ask result (of_revision act name revision body.now) }
+    ensures { Gives plain_ask result (of_revision asked name revision body.now) }
 {
-    match act {
-        RevisionAct::Vote => read_vote(alloc, name, revision, body),
-        RevisionAct::Show => without_body(Ask::Show { name, revision }, body),
-        RevisionAct::Sheet => without_body(Ask::Sheet { name, revision }, body),
-        RevisionAct::Issue => without_body(Ask::Issue { name, revision }, body),
-        RevisionAct::Withdraw => without_body(Ask::Withdraw { name, revision }, body),
-        RevisionAct::Adopt => without_body(Ask::Adopt { name, revision }, body),
+    match asked {
+        RevisionAsk::Vote => read_vote(alloc, name, revision, body),
+        RevisionAsk::Act(act) => {
+            let ask = Ask::ActOnRevision {
+                act,
+                name,
+                revision,
+            };
+            without_body(ask, body)
+        }
+        RevisionAsk::See(view) => {
+            let ask = Ask::SeeRevision {
+                view,
+                name,
+                revision,
+            };
+            without_body(ask, body)
+        }
     }
 }
 
@@ -71,7 +80,7 @@ pub(crate) fn ask_of(alloc: Global, route: Route, body: Vec<u8>) -> Result<Ask, 
             name,
             document: body,
         }),
-        Route::Profile(act, name) => of_profile(act, name, &body),
-        Route::Revision(act, name, number) => of_revision(alloc, act, name, number, &body),
+        Route::Profile(asked, name) => of_profile(asked, name, &body),
+        Route::Revision(asked, name, number) => of_revision(alloc, asked, name, number, &body),
     }
 }

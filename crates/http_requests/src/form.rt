@@ -1,6 +1,6 @@
 //! The forms of routes.
 
-use crate::route::{ProfileAct, RevisionAct};
+use crate::route::{ProfileAsk, RevisionAsk};
 
 /// What a route asks for, before its parameters are looked at.
 #[derive(Clone, Copy, Debug, PartialEq, Eq)]
@@ -14,7 +14,7 @@ pub(crate) enum Form {
     /// To see the revisions of a profile, or to hand one in.
     OfRevisions,
     /// This of a profile.
-    OfProfile(ProfileAct),
+    OfProfile(ProfileAsk),
     /// This of a revision.
-    OfRevision(RevisionAct),
+    OfRevision(RevisionAsk),
 }

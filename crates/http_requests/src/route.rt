@@ -4,7 +4,7 @@ ghost use Rattle.std.specs.Prelude.{◌≡◌};
 ghost use Rattle.http_requests.specs.Methods.{method_of, profile_method, revision_method};
 
 use crate::method::Method;
-use review_policy::{ProfileName, Word};
+use review_policy::{ProfileAct, ProfileName, ProfileView, RevisionAct, RevisionView, Word};
 
 /// What a target and a method ask for.
 #[derive(Debug, Drop)]
@@ -20,39 +20,29 @@ pub(crate) enum Route {
     /// To hand in a document for this profile.
     Submit(ProfileName),
     /// This of a profile.
-    Profile(ProfileAct, ProfileName),
+    Profile(ProfileAsk, ProfileName),
     /// This of the revision of a profile with this number, from 1 to 9,999.
-    Revision(RevisionAct, ProfileName, u32),
+    Revision(RevisionAsk, ProfileName, u32),
 }
 
 /// What may be asked of a profile.
 #[derive(Clone, Copy, Debug, PartialEq, Eq)]
-pub(crate) enum ProfileAct {
-    /// To fetch what was issued.
-    Fetch,
-    /// To see which revision a fetch would give.
-    Issued,
-    /// To hold it back from being issued and fetched.
-    Hold,
-    /// To release it.
-    Release,
+pub(crate) enum ProfileAsk {
+    /// To have this done to it.
+    Act(ProfileAct),
+    /// To see this of it.
+    See(ProfileView),
 }
 
 /// What may be asked of a revision.
 #[derive(Clone, Copy, Debug, PartialEq, Eq)]
-pub(crate) enum RevisionAct {
-    /// To see it.
-    Show,
-    /// To see its review sheet.
-    Sheet,
+pub(crate) enum RevisionAsk {
     /// To vote on it.
     Vote,
-    /// To issue it to hosts.
-    Issue,
-    /// To take it back.
-    Withdraw,
-    /// To make it the baseline of its team.
-    Adopt,
+    /// To have this done to it.
+    Act(RevisionAct),
+    /// To see this of it.
+    See(RevisionView),
 }
 
 impl Route {
@@ -63,31 +53,30 @@ impl Route {
         match self {
             Route::Users | Route::Submit(_) => Method::Post,
             Route::Me | Route::Team(_) | Route::Revisions(_, _) => Method::Get,
-            Route::Profile(act, _) => act.method(),
-            Route::Revision(act, _, _) => act.method(),
+            Route::Profile(asked, _) => asked.method(),
+            Route::Revision(asked, _, _) => asked.method(),
         }
     }
 }
 
-impl ProfileAct {
+impl ProfileAsk {
     fn method(self) -> Method
         ensures { result ≡ profile_method self }
     {
         match self {
-            ProfileAct::Fetch | ProfileAct::Issued => Method::Get,
-            ProfileAct::Hold | ProfileAct::Release => Method::Post,
+            ProfileAsk::Act(_) => Method::Post,
+            ProfileAsk::See(_) => Method::Get,
         }
     }
 }
 
-impl RevisionAct {
+impl RevisionAsk {
     fn method(self) -> Method
         ensures { result ≡ revision_method self }
     {
         match self {
-            RevisionAct::Show | RevisionAct::Sheet => Method::Get,
-            RevisionAct::Vote | RevisionAct::Issue | RevisionAct::Withdraw | RevisionAct::Adopt =>
-                Method::Post,
+            RevisionAsk::Vote | RevisionAsk::Act(_) => Method::Post,
+            RevisionAsk::See(_) => Method::Get,
         }
     }
 }

@@ -6,9 +6,10 @@ ghost use Rattle.http_requests.specs.Parts.{form_of};
 ghost use Rattle.http_requests.specs.Table.{fits, office_rows, with_route};
 
 use crate::form::Form;
-use crate::route::{ProfileAct, RevisionAct};
+use crate::route::{ProfileAsk, RevisionAsk};
 use matchit::{InsertError, Router};
 use no_memory::NoMemory;
+use review_policy::{ProfileAct, ProfileView, RevisionAct, RevisionView};
 use std::alloc::{AllocError, Global};
 
 // The routes, with what each asks for.
@@ -19,40 +20,43 @@ static ROUTES: [(&str, Form); 14] = [
     ("/p/{team}", Form::OfTeam),
     (
         "/p/{team}/{profile}/{n}",
-        Form::OfRevision(RevisionAct::Show),
+        Form::OfRevision(RevisionAsk::See(RevisionView::Show)),
     ),
     (
         "/p/{team}/{profile}/{n}/sheet",
-        Form::OfRevision(RevisionAct::Sheet),
+        Form::OfRevision(RevisionAsk::See(RevisionView::Sheet)),
     ),
     (
         "/p/{team}/{profile}/{n}/vote",
-        Form::OfRevision(RevisionAct::Vote),
+        Form::OfRevision(RevisionAsk::Vote),
     ),
     (
         "/p/{team}/{profile}/{n}/issue",
-        Form::OfRevision(RevisionAct::Issue),
+        Form::OfRevision(RevisionAsk::Act(RevisionAct::Issue)),
     ),
     (
         "/p/{team}/{profile}/{n}/withdraw",
-        Form::OfRevision(RevisionAct::Withdraw),
+        Form::OfRevision(RevisionAsk::Act(RevisionAct::Withdraw)),
     ),
     (
         "/p/{team}/{profile}/{n}/adopt",
-        Form::OfRevision(RevisionAct::Adopt),
+        Form::OfRevision(RevisionAsk::Act(RevisionAct::Adopt)),
     ),
     (
         "/issued/{team}/{profile}",
-        Form::OfProfile(ProfileAct::Fetch),
+        Form::OfProfile(ProfileAsk::See(ProfileView::Fetch)),
     ),
     (
         "/issued/{team}/{profile}/digest",
-        Form::OfProfile(ProfileAct::Issued),
+        Form::OfProfile(ProfileAsk::See(ProfileView::Issued)),
     ),
-    ("/hold/{team}/{profile}", Form::OfProfile(ProfileAct::Hold)),
+    (
+        "/hold/{team}/{profile}",
+        Form::OfProfile(ProfileAsk::Act(ProfileAct::Hold)),
+    ),
     (
         "/release/{team}/{profile}",
-        Form::OfProfile(ProfileAct::Release),
+        Form::OfProfile(ProfileAsk::Act(ProfileAct::Release)),
     ),
 ];
 

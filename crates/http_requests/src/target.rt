@@ -14,7 +14,7 @@ use crate::part::split_part;
 use crate::query::{before_of, split_query};
 use crate::refusal::Refusal;
 use crate::resource::Resource;
-use crate::route::{ProfileAct, RevisionAct, Route};
+use crate::route::{ProfileAsk, RevisionAsk, Route};
 use crate::router::OfficeRouter;
 use crate::unheard::Unheard;
 use std::alloc::{AllocError, Global};
@@ -180,7 +180,7 @@ fn of_before(
 // A profile.
 fn of_profile(
     alloc: Global,
-    act: ProfileAct,
+    act: ProfileAsk,
     team: &[u8],
     profile: &[u8],
 ) -> Result<Option<Resource>, AllocError>
@@ -195,7 +195,7 @@ fn of_profile(
 // A revision.
 fn of_revision(
     alloc: Global,
-    act: RevisionAct,
+    act: RevisionAsk,
     team: &[u8],
     profile: &[u8],
     number: &[u8],
