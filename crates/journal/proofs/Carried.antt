@@ -18,7 +18,7 @@ use Rattle.office_policy.proofs.SurvivalFacts.{closes_all, closes_by_fault, rise
 use Rattle.office_policy.proofs.CauseFacts.{cause_before}
 use Rattle.sealed_log.specs.Sealed.{IsBody, no_seal, seal_of, sealed_line, sealed_text}
 use Rattle.sealed_log.proofs.SealFacts.{sealed_lines-push}
-use Rattle.journal.specs.Forms.{HasForms, HasNumber}
+use Rattle.office_policy.specs.EventForms.{HasForms, HasNumber}
 use Rattle.journal.specs.Journal.{EndsWithEvent, IsEntry, IsJournalOf, Says}
 use Rattle.journal.specs.Lines.{happened, strike, text_of}
 use Rattle.journal.proofs.Lengths.{allowed_entry}

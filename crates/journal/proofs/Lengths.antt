@@ -25,15 +25,16 @@ use Rattle.sealed_log.proofs.SealFacts.{length-sealed_line}
 use Rattle.office_policy.proofs.LawFacts.{allowed_follows}
 use Rattle.review_policy.specs.declared.ask.ProfileName.{ProfileName}
 use Rattle.office_policy.specs.Formed.{IsName, IsNumber, IsWord}
-use Rattle.office_policy.specs.History.{Event, History, founded, enrolled, submitted, voted, issued, withdrawn, adopted, held, released}
+use Rattle.office_policy.specs.History.{Event, History, did, founded, enrolled, submitted, voted, on_revision, on_profile}
 use Rattle.office_policy.specs.Lawful.{IsAllowed, IsFounding}
 use Rattle.journal.specs.declared.kind.Kind.{Kind}
 use Rattle.journal.specs.declared.kind.Kind.TheVariants as kinds
-use Rattle.journal.specs.Kinds.{kind_word}
-use Rattle.journal.specs.Forms.{HasForms, IsFormed}
+use Rattle.office_policy.specs.EventForms.{HasForms}
+use Rattle.journal.specs.Forms.{IsFormed}
 use Rattle.journal.specs.Journal.{IsEntry}
 use Rattle.review_sheet.specs.Review.{vote_word}
 use Rattle.journal.specs.Lines.{Line, happened, strike, done, line_data, of_profile, of_revision, role_words, text_of, words_among}
+use Rattle.journal.proofs.KindFacts.{kind_room}
 use Rattle.journal.proofs.NoFeeds.{HasSmall, ItemsHaveSmall, MembersHaveSmall, line_small, no_feed}
 use Rattle.journal.proofs.Tables.{holds_below, each_below}
 
@@ -175,19 +176,6 @@ vote_room : (approves : Bool) → length (vote_word approves) ≤ 7
 vote_room true = lit≤ tt
 vote_room false = lit≤ tt
 
-kind_room : (kind : Kind) → length (kind_word kind) ≤ 8
-kind_room kinds.Found = lit≤ tt
-kind_room kinds.Enrol = lit≤ tt
-kind_room kinds.Submit = lit≤ tt
-kind_room kinds.Vote = lit≤ tt
-kind_room kinds.Issue = lit≤ tt
-kind_room kinds.Withdraw = lit≤ tt
-kind_room kinds.Adopt = lit≤ tt
-kind_room kinds.Hold = lit≤ tt
-kind_room kinds.Release = lit≤ tt
-kind_room kinds.Strike = lit≤ tt
-kind_room kinds.Done = lit≤ tt
-
 by_key : length (codes "by") ≡ 2
 by_key = refl
 
@@ -323,11 +311,8 @@ fits (voted caller p n digest approves) h short =
       team_key,
       vote_key,
     )
-fits (issued caller p n) h short = let most = of_revision_fits kinds.Issue caller p n h.0 h.1 h.2 in omega (arith, most)
-fits (withdrawn caller p n) h short = let most = of_revision_fits kinds.Withdraw caller p n h.0 h.1 h.2 in omega (arith, most)
-fits (adopted caller p n) h short = let most = of_revision_fits kinds.Adopt caller p n h.0 h.1 h.2 in omega (arith, most)
-fits (held caller p) h short = let most = of_profile_fits kinds.Hold caller p h.0 h.1 in omega (arith, most)
-fits (released caller p) h short = let most = of_profile_fits kinds.Release caller p h.0 h.1 in omega (arith, most)
+fits (on_revision caller act p n) h short = let most = of_revision_fits (kinds.ActOnRevision act) caller p n h.0 h.1 h.2 in omega (arith, most)
+fits (on_profile caller act p) h short = let most = of_profile_fits (kinds.ActOnProfile act) caller p h.0 h.1 in omega (arith, most)
 
 -- ---- lines
 
@@ -360,11 +345,8 @@ allowed_text h (submitted caller p text) is =
     let follows = allowed_follows h (submitted caller p text) is in
     short_document text follows.profile follows.reads
 allowed_text h (voted caller p n digest approves) is = tt
-allowed_text h (issued caller p n) is = tt
-allowed_text h (withdrawn caller p n) is = tt
-allowed_text h (adopted caller p n) is = tt
-allowed_text h (held caller p) is = tt
-allowed_text h (released caller p) is = tt
+allowed_text h (on_revision caller act p n) is = tt
+allowed_text h (on_profile caller act p) is = tt
 
 pub allowed_entry : (h : History) (e : Event) → IsAllowed h e → HasForms e → IsEntry (happened e)
 allowed_entry h e is forms = event_entry e forms (allowed_text h e is)
@@ -372,14 +354,7 @@ allowed_entry h e is forms = event_entry e forms (allowed_text h e is)
 pub founding_entry : (e : Event) → IsFounding e → HasForms e → IsEntry (happened e)
 founding_entry (founded name team digest listed) is forms =
     event_entry (founded name team digest listed) forms tt
-founding_entry (enrolled caller name team roles digest) is forms = absurd is
-founding_entry (submitted caller p text) is forms = absurd is
-founding_entry (voted caller p n digest approves) is forms = absurd is
-founding_entry (issued caller p n) is forms = absurd is
-founding_entry (withdrawn caller p n) is forms = absurd is
-founding_entry (adopted caller p n) is forms = absurd is
-founding_entry (held caller p) is forms = absurd is
-founding_entry (released caller p) is forms = absurd is
+founding_entry (did caller deed) is forms = absurd is
 
 -- nor are the line of an event and the one that goes before it, together
 done_room : (n : ℕ) → room (line_data (done n)) + 84 ≤ 1024

@@ -11,7 +11,7 @@ use Rattle.serde_json.specs.Data.{unsigned, negative, float, Data, null, boolean
 use Rattle.serde_json.specs.View.{items_of}
 use Rattle.serde_json.specs.Written.{comma_if, compact_text, items_text, members_text}
 use Rattle.cap_sets.specs.Capability.{names_of}
-use Rattle.office_policy.specs.History.{founded, enrolled, submitted, voted, issued, withdrawn, adopted, held, released}
+use Rattle.office_policy.specs.History.{founded, enrolled, submitted, voted, on_revision, on_profile}
 use Rattle.office_policy.specs.Formed.{IsNumber}
 use Rattle.streams.specs.Lines.{NoFeed}
 use Rattle.journal.specs.Forms.{IsFormed}
@@ -111,11 +111,8 @@ line_small (happened (founded name team digest listed)) h = (tt, (tt, (texts_sma
 line_small (happened (enrolled caller name team roles digest)) h = (tt, (tt, (tt, (texts_small (role_words roles), (tt, (tt, tt))))))
 line_small (happened (submitted caller p text)) h = (tt, (tt, (tt, (tt, (tt, tt)))))
 line_small (happened (voted caller p n digest approves)) h = (tt, (tt, (tt, (tt, (number_small n h.2, (tt, (tt, tt)))))))
-line_small (happened (issued caller p n)) h = (tt, (tt, (tt, (number_small n h.2, (tt, tt)))))
-line_small (happened (withdrawn caller p n)) h = (tt, (tt, (tt, (number_small n h.2, (tt, tt)))))
-line_small (happened (adopted caller p n)) h = (tt, (tt, (tt, (number_small n h.2, (tt, tt)))))
-line_small (happened (held caller p)) h = (tt, (tt, (tt, (tt, tt))))
-line_small (happened (released caller p)) h = (tt, (tt, (tt, (tt, tt))))
+line_small (happened (on_revision caller act p n)) h = (tt, (tt, (tt, (number_small n h.2, (tt, tt)))))
+line_small (happened (on_profile caller act p)) h = (tt, (tt, (tt, (tt, tt))))
 line_small strike h = (tt, tt)
 line_small (done n) h = (tt, (h, tt))
 

@@ -3,17 +3,18 @@ use Rattle.std.proofs.Common.{◌≡◌, ℕ, List, Option, Some, None, Bool, tr
 use Rattle.std.specs.Prelude.{◌&&◌, codes, nat_le, option_and_then}
 use Rattle.std.proofs.lemmas.Bool.{and_parts}
 use Rattle.serde_json.specs.Data.{Data}
-use Rattle.review_policy.specs.declared.ask.ProfileName.{ProfileName}
+use Rattle.review_policy.specs.declared.act.ProfileAct.{ProfileAct}
+use Rattle.review_policy.specs.declared.act.RevisionAct.{RevisionAct}
 use Rattle.json_requests.specs.Members.{◌>>=◌, digest_at, if_revision, name_at, revision_at, roles_at, text_at, vote_at, whole_at, word_at}
 use Rattle.json_requests.specs.Requests.{value_of}
 use Rattle.office_policy.specs.Formed.{IsNumber}
-use Rattle.office_policy.specs.History.{Event, issued, withdrawn, adopted, held, released}
 use Rattle.journal.specs.declared.kind.Kind.{Kind}
 use Rattle.journal.specs.declared.kind.Kind.TheVariants as kinds
-use Rattle.journal.specs.Forms.{HasNumber, IsNumbered}
+use Rattle.office_policy.specs.EventForms.{HasNumber}
+use Rattle.journal.specs.Forms.{IsNumbered}
 use Rattle.journal.specs.Kinds.{kind_of}
 use Rattle.journal.specs.Lines.{Line, strike}
-use Rattle.journal.specs.Read.{caller_at, candidate_at, candidate_in, done_at, enrolled_at, founded_at, line_at, listed_at, profile_event_at, revision_event_at, submitted_at, voted_at}
+use Rattle.journal.specs.Read.{acted_on_profile_at, acted_on_revision_at, caller_at, candidate_at, candidate_in, done_at, enrolled_at, founded_at, line_at, listed_at, submitted_at, voted_at}
 
 in_range : (m n : ℕ) → if_revision m ≡ Some n → IsNumber n
 in_range m n found = by_test (nat_le 1 m && nat_le m 9999) refl found
@@ -72,18 +73,14 @@ vote d =
     after (caller_at d) _ (λ caller is. after (name_at d) _ (λ name is. after (revision_at d) _ (λ n found.
     after (digest_at d) _ (λ digest is. after (vote_at d) _ (λ approves is. one_found _ (number_is d n found))))))
 
-on_revision : (event : List ℕ → ProfileName → ℕ → Event) → ((caller : List ℕ) (p : ProfileName) (n : ℕ) → IsNumber n → HasNumber (event caller p n))
-    → (d : Data) → AllNumbered (revision_event_at event d)
-unfolding revision_event_at
-on_revision event numbered d =
-    after (caller_at d) _ (λ caller is. after (name_at d) _ (λ name is.
-    after (revision_at d) _ (λ n found. one_found _ (numbered caller name n (number_is d n found)))))
+on_revision : (act : RevisionAct) (d : Data) → AllNumbered (acted_on_revision_at act d)
+unfolding acted_on_revision_at
+on_revision act d =
+    after (caller_at d) _ (λ caller is. after (name_at d) _ (λ name is. after (revision_at d) _ (λ n found. one_found _ (number_is d n found))))
 
-on_profile : (event : List ℕ → ProfileName → Event) → ((caller : List ℕ) (p : ProfileName) → HasNumber (event caller p))
-    → (d : Data) → AllNumbered (profile_event_at event d)
-unfolding profile_event_at
-on_profile event numbered d =
-    after (caller_at d) _ (λ caller is. after (name_at d) _ (λ name is. one_found _ (numbered caller name)))
+on_profile : (act : ProfileAct) (d : Data) → AllNumbered (acted_on_profile_at act d)
+unfolding acted_on_profile_at
+on_profile act d = after (caller_at d) _ (λ caller is. after (name_at d) _ (λ name is. one_found _ tt))
 
 settled : (d : Data) → AllNumbered (done_at d)
 unfolding done_at
@@ -94,11 +91,8 @@ by_kind kinds.Found d = founding d
 by_kind kinds.Enrol d = enrolment d
 by_kind kinds.Submit d = submission d
 by_kind kinds.Vote d = vote d
-by_kind kinds.Issue d = on_revision issued (λ caller p n h. h) d
-by_kind kinds.Withdraw d = on_revision withdrawn (λ caller p n h. h) d
-by_kind kinds.Adopt d = on_revision adopted (λ caller p n h. h) d
-by_kind kinds.Hold d = on_profile held (λ caller p. tt) d
-by_kind kinds.Release d = on_profile released (λ caller p. tt) d
+by_kind (kinds.ActOnRevision act) d = on_revision act d
+by_kind (kinds.ActOnProfile act) d = on_profile act d
 by_kind kinds.Strike d = one_found strike tt
 by_kind kinds.Done d = settled d
 

@@ -25,13 +25,14 @@ use Rattle.review_policy.specs.declared.ask.ProfileName.{ProfileName}
 use Rattle.review_policy.specs.declared.role.Role.{Role}
 use Rattle.review_policy.specs.declared.role.Role.TheVariants.{Registrar, Author, Reviewer, Security, Issuer, Machine}
 use Rattle.office_policy.specs.Formed.{IsWord, IsName, IsNumber}
-use Rattle.office_policy.specs.History.{founded, enrolled, submitted, voted, issued, withdrawn, adopted, held, released}
+use Rattle.office_policy.specs.History.{founded, enrolled, submitted, voted, on_revision, on_profile}
 use Rattle.journal.specs.declared.kind.Kind.{Kind}
 use Rattle.journal.specs.declared.kind.Kind.TheVariants as kinds
 use Rattle.journal.specs.Forms.{IsFormed}
 use Rattle.journal.specs.Kinds.{kind_word}
 use Rattle.review_sheet.specs.Review.{vote_word}
 use Rattle.journal.specs.Lines.{Line, happened, strike, done, line_data, of_profile, of_revision, role_words, words_among}
+use Rattle.journal.proofs.KindFacts.{kind_ascii}
 
 -- ---- parts
 
@@ -56,20 +57,7 @@ digest_utf8 : (digest : List ℕ) → IsUtf8 (encode_lower digest)
 digest_utf8 digest = IsUtf8-from_ascii (encode_lower digest) (IsAscii-encode_with lower_digits digest (ascii_from lower_digits refl))
 
 kind_utf8 : (kind : Kind) → IsUtf8 (kind_word kind)
-kind_utf8 kind = IsUtf8-are_ascii (kind_word kind) (ascii kind)
-  where
-    ascii : (kind : Kind) → are_ascii (kind_word kind) ≡ true
-    ascii kinds.Found = refl
-    ascii kinds.Enrol = refl
-    ascii kinds.Submit = refl
-    ascii kinds.Vote = refl
-    ascii kinds.Issue = refl
-    ascii kinds.Withdraw = refl
-    ascii kinds.Adopt = refl
-    ascii kinds.Hold = refl
-    ascii kinds.Release = refl
-    ascii kinds.Strike = refl
-    ascii kinds.Done = refl
+kind_utf8 kind = IsUtf8-are_ascii (kind_word kind) (kind_ascii kind)
 
 vote_utf8 : (approves : Bool) → IsUtf8 (vote_word approves)
 vote_utf8 true = IsUtf8-are_ascii (vote_word true) refl
@@ -215,11 +203,8 @@ line_prints (happened (voted caller p n digest approves)) h =
     (text_part (codes "team") p.team _ refl (word_utf8 p.team h.1.0)
     (text_part (codes "vote") (vote_word approves) no_members refl (vote_utf8 approves) (end_prints 1))))))))
     (voted_back _ _ _ _ _ _ (revision_prints n h.2).back)
-line_prints (happened (issued caller p n)) h = of_revision_prints kinds.Issue caller p n h.0 h.1 h.2
-line_prints (happened (withdrawn caller p n)) h = of_revision_prints kinds.Withdraw caller p n h.0 h.1 h.2
-line_prints (happened (adopted caller p n)) h = of_revision_prints kinds.Adopt caller p n h.0 h.1 h.2
-line_prints (happened (held caller p)) h = profile_prints kinds.Hold caller p h.0 h.1
-line_prints (happened (released caller p)) h = profile_prints kinds.Release caller p h.0 h.1
+line_prints (happened (on_revision caller act p n)) h = of_revision_prints (kinds.ActOnRevision act) caller p n h.0 h.1 h.2
+line_prints (happened (on_profile caller act p)) h = profile_prints (kinds.ActOnProfile act) caller p h.0 h.1
 line_prints strike h = object_prints 1 _ (text_part (codes "event") (kind_word kinds.Strike) no_members refl (kind_utf8 kinds.Strike) (end_prints 1)) refl
 line_prints (done n) h =
     object_prints 1 _

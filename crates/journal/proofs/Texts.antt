@@ -9,9 +9,9 @@ use Rattle.review_policy.specs.declared.ask.Ask.TheVariants as ask
 use Rattle.profile_text.specs.Text.{text_of as profile_text}
 use Rattle.office_policy.specs.Asked.{IsAsked}
 use Rattle.office_policy.specs.Formed.{HasNumber as AskHasNumber}
-use Rattle.office_policy.specs.History.{Event, enrolled, submitted, voted, issued, withdrawn, adopted, held, released, History}
+use Rattle.office_policy.specs.History.{Event, enrolled, submitted, voted, on_revision, on_profile, History}
 use Rattle.office_policy.specs.Runs.{with_event as with_was}
-use Rattle.journal.specs.Forms.{HasNumber}
+use Rattle.office_policy.specs.EventForms.{HasNumber}
 use Rattle.journal.specs.Journal.{EndsWithEvent, IsEntry, Says, history_from, history_in, settled_if, taken}
 use Rattle.journal.specs.Lines.{Line, done, happened, strike, text_of}
 use Rattle.sealed_log.specs.Sealed.{IsBody}
@@ -157,15 +157,10 @@ pub numbered_by : (caller : List ℕ) (a : Ask) (e : Event) → IsAsked caller a
 numbered_by caller (ask.Enrol user team roles digest) e is number = subst HasNumber (sym (same_event e (enrolled caller user team roles digest) is)) tt
 numbered_by caller (ask.Submit p document) e is number = subst HasNumber (sym (same_event e (submitted caller p (profile_text is.read)) is.happened)) tt
 numbered_by caller (ask.Vote p n digest approve) e is number = subst HasNumber (sym (same_event e (voted caller p n digest approve) is)) number
-numbered_by caller (ask.Issue p n) e is number = subst HasNumber (sym (same_event e (issued caller p n) is)) number
-numbered_by caller (ask.Withdraw p n) e is number = subst HasNumber (sym (same_event e (withdrawn caller p n) is)) number
-numbered_by caller (ask.Adopt p n) e is number = subst HasNumber (sym (same_event e (adopted caller p n) is)) number
-numbered_by caller (ask.Show p n) e is number = absurd cc
-numbered_by caller (ask.Sheet p n) e is number = absurd cc
+numbered_by caller (ask.ActOnRevision act p n) e is number = subst HasNumber (sym (same_event e (on_revision caller act p n) is)) number
+numbered_by caller (ask.SeeRevision view p n) e is number = absurd cc
 numbered_by caller (ask.List team) e is number = absurd cc
-numbered_by caller (ask.Fetch p) e is number = absurd cc
-numbered_by caller (ask.Hold p) e is number = subst HasNumber (sym (same_event e (held caller p) is)) tt
-numbered_by caller (ask.Release p) e is number = subst HasNumber (sym (same_event e (released caller p) is)) tt
+numbered_by caller (ask.ActOnProfile act p) e is number = subst HasNumber (sym (same_event e (on_profile caller act p) is)) tt
+numbered_by caller (ask.SeeProfile view p) e is number = absurd cc
 numbered_by caller ask.Me e is number = absurd cc
 numbered_by caller (ask.Revisions p before) e is number = absurd cc
-numbered_by caller (ask.Issued p) e is number = absurd cc

@@ -2,7 +2,7 @@
 use Rattle.std.specs.Prelude.{◌⊎◌, ℕ, List, [], ◌∷◌, ◌++◌, Option, Some, None}
 use Rattle.office_policy.specs.History.{Event, History}
 use Rattle.office_policy.specs.Lawful.{IsAllowed}
-use Rattle.journal.specs.Forms.{HasForms}
+use Rattle.office_policy.specs.EventForms.{HasForms}
 use Rattle.journal.specs.Journal.{IsJournalOf, Says}
 use Rattle.journal.specs.Lines.{happened, strike, done, text_of}
 use Rattle.journal.specs.Writing.{IsLeftIn}

@@ -1,9 +1,10 @@
 -- A line of each kind, with its text written out: as a printer of JSON writes it that sorts the
 -- members of an object and leaves out spaces.
 use Rattle.std.specs.Prelude.{ℕ, ◌+◌, ◌^◌, List, [], ◌∷◌, ◌++◌, false, codes, replicate}
+use Rattle.review_policy.specs.declared.act.ProfileAct.TheVariants.{Hold, Release}
 use Rattle.review_policy.specs.declared.ask.ProfileName.{ProfileName}
 use Rattle.office_policy.specs.History.{founded, enrolled, submitted, voted, issued, withdrawn}
-use Rattle.office_policy.specs.History.{adopted, held, released}
+use Rattle.office_policy.specs.History.{adopted, on_profile}
 use Rattle.journal.specs.Lines.{Line, done, happened}
 
 abbrev pub web : ProfileName
@@ -39,10 +40,10 @@ abbrev pub adoption : Line
 adoption = happened (adopted (codes "sec") web 10)
 
 abbrev pub hold : Line
-hold = happened (held (codes "sec") web)
+hold = happened (on_profile (codes "sec") Hold web)
 
 abbrev pub release : Line
-release = happened (released (codes "sec") web)
+release = happened (on_profile (codes "sec") Release web)
 
 abbrev pub settlement : Line
 settlement = done 1234

@@ -4,7 +4,8 @@ use Rattle.std.specs.Prelude.{Some, None, option_and_then, map, All}
 use Rattle.sealed_log.specs.Sealed.{IsBody, sealed_text, seal_of}
 use Rattle.office_policy.specs.History.{Event, History}
 use Rattle.office_policy.specs.Runs.{with_event}
-use Rattle.journal.specs.Forms.{HasForms, IsFormed}
+use Rattle.office_policy.specs.EventForms.{HasForms}
+use Rattle.journal.specs.Forms.{IsFormed}
 use Rattle.journal.specs.Lines.{Line, happened, strike, done, text_of}
 
 -- the event before stands from then on, where the number is its line's

@@ -12,12 +12,11 @@ use Rattle.review_policy.specs.declared.ask.ProfileName.{ProfileName}
 use Rattle.review_policy.specs.declared.role.Role.{Role}
 use Rattle.review_sheet.specs.Review.{vote_word}
 use Rattle.json_requests.specs.Answers.{text_member, number_member, digest_member}
-use Rattle.office_policy.specs.History.{Event, founded, enrolled, submitted, voted, issued}
-use Rattle.office_policy.specs.History.{withdrawn, adopted, held, released}
+use Rattle.office_policy.specs.History.{Event, founded, enrolled, submitted, voted}
+use Rattle.office_policy.specs.History.{on_revision, on_profile}
 use Rattle.journal.specs.declared.kind.Kind.{Kind}
-use Rattle.journal.specs.declared.kind.Kind.TheVariants.{Found, Enrol, Submit, Vote, Issue}
-use Rattle.journal.specs.declared.kind.Kind.TheVariants.{Withdraw, Adopt, Hold, Release}
-use Rattle.journal.specs.declared.kind.Kind.TheVariants.{Strike, Done}
+use Rattle.journal.specs.declared.kind.Kind.TheVariants.{Found, Enrol, Submit, Vote}
+use Rattle.journal.specs.declared.kind.Kind.TheVariants.{ActOnRevision, ActOnProfile, Strike, Done}
 use Rattle.journal.specs.Kinds.{kind_word}
 
 -- a line says what happened, or strikes out the event of the line before it, which didn't happen, or
@@ -103,11 +102,8 @@ event_data (submitted caller p text) =
     (text_member (codes "document") text
     (kind_members Submit None (profile_members p no_members))))
 event_data (voted caller p n digest approves) = vote_data None caller p n digest approves
-event_data (issued caller p n) = of_revision None Issue caller p n None
-event_data (withdrawn caller p n) = of_revision None Withdraw caller p n None
-event_data (adopted caller p n) = of_revision None Adopt caller p n None
-event_data (held caller p) = of_profile None Hold caller p
-event_data (released caller p) = of_profile None Release caller p
+event_data (on_revision caller act p n) = of_revision None (ActOnRevision act) caller p n None
+event_data (on_profile caller act p) = of_profile None (ActOnProfile act) caller p
 
 -- a line, as JSON
 abbrev pub line_data : Line → Data

@@ -4,16 +4,16 @@ use Rattle.std.specs.Prelude.{ℕ, List, Option, Some, option_and_then, codes}
 use Rattle.serde_json.specs.Data.{Data}
 use Rattle.serde_json.specs.Find.{get, as_array}
 use Rattle.profile_text.specs.Sets.{caps_of}
-use Rattle.review_policy.specs.declared.ask.ProfileName.{ProfileName}
+use Rattle.review_policy.specs.declared.act.ProfileAct.{ProfileAct}
+use Rattle.review_policy.specs.declared.act.RevisionAct.{RevisionAct}
 use Rattle.json_requests.specs.Members.{◌>>=◌, text_at, word_at, name_at, revision_at, digest_at}
 use Rattle.json_requests.specs.Members.{vote_at, roles_at, whole_at}
 use Rattle.json_requests.specs.Requests.{value_of}
-use Rattle.office_policy.specs.History.{Event, founded, enrolled, submitted, voted, issued}
-use Rattle.office_policy.specs.History.{withdrawn, adopted, held, released}
+use Rattle.office_policy.specs.History.{Event, founded, enrolled, submitted, voted}
+use Rattle.office_policy.specs.History.{on_revision, on_profile}
 use Rattle.journal.specs.declared.kind.Kind.{Kind}
-use Rattle.journal.specs.declared.kind.Kind.TheVariants.{Found, Enrol, Submit, Vote, Issue}
-use Rattle.journal.specs.declared.kind.Kind.TheVariants.{Withdraw, Adopt, Hold, Release}
-use Rattle.journal.specs.declared.kind.Kind.TheVariants.{Strike, Done}
+use Rattle.journal.specs.declared.kind.Kind.TheVariants.{Found, Enrol, Submit, Vote}
+use Rattle.journal.specs.declared.kind.Kind.TheVariants.{ActOnRevision, ActOnProfile, Strike, Done}
 use Rattle.journal.specs.Kinds.{kind_of}
 use Rattle.journal.specs.Lines.{Line, happened, strike, done}
 
@@ -60,20 +60,20 @@ voted_at d = do
   approves ← vote_at d
   Some (happened (voted caller name revision digest approves))
 
--- an event that names a revision
-unfoldable pub revision_event_at : (List ℕ → ProfileName → ℕ → Event) → Data → Option Line
-revision_event_at event d = do
+-- an act on a revision
+unfoldable pub acted_on_revision_at : RevisionAct → Data → Option Line
+acted_on_revision_at act d = do
   caller ← caller_at d
   name ← name_at d
   revision ← revision_at d
-  Some (happened (event caller name revision))
+  Some (happened (on_revision caller act name revision))
 
--- an event that names a profile
-unfoldable pub profile_event_at : (List ℕ → ProfileName → Event) → Data → Option Line
-profile_event_at event d = do
+-- an act on a profile
+unfoldable pub acted_on_profile_at : ProfileAct → Data → Option Line
+acted_on_profile_at act d = do
   caller ← caller_at d
   name ← name_at d
-  Some (happened (event caller name))
+  Some (happened (on_profile caller act name))
 
 -- the line that says that the one before it is carried out
 unfoldable pub done_at : Data → Option Line
@@ -86,11 +86,8 @@ line_at Found d = founded_at d
 line_at Enrol d = enrolled_at d
 line_at Submit d = submitted_at d
 line_at Vote d = voted_at d
-line_at Issue d = revision_event_at issued d
-line_at Withdraw d = revision_event_at withdrawn d
-line_at Adopt d = revision_event_at adopted d
-line_at Hold d = profile_event_at held d
-line_at Release d = profile_event_at released d
+line_at (ActOnRevision act) d = acted_on_revision_at act d
+line_at (ActOnProfile act) d = acted_on_profile_at act d
 line_at Strike d = Some strike
 line_at Done d = done_at d
 

@@ -2,10 +2,12 @@
 -- are those of a history.
 use Rattle.std.specs.Prelude.{[], ◌∷◌, Box, Option, Some, None, option_map}
 use Rattle.std.specs.declared.alloc.Global.{Global}
+use Rattle.review_policy.specs.declared.act.RevisionAct.{RevisionAct}
+use Rattle.review_policy.specs.declared.act.RevisionAct.TheVariants.{Issue, Withdraw, Adopt}
 use Rattle.office_tables.specs.Tables.{Tables}
 use Rattle.office_policy.specs.Happened.{event_meant}
-use Rattle.office_policy.specs.History.{Event, History, founded, enrolled, submitted, voted, issued}
-use Rattle.office_policy.specs.History.{withdrawn, adopted, held, released}
+use Rattle.office_policy.specs.History.{Event, History, founded, enrolled, submitted, voted}
+use Rattle.office_policy.specs.History.{on_revision, on_profile}
 use Rattle.office_policy.specs.ShowsEvent.{Shows}
 use Rattle.office_policy.specs.declared.event.Event as values
 use Rattle.journal.specs.declared.writers.Table.{Table}
@@ -25,17 +27,20 @@ abbrev pub no_writers : Writers
 no_writers =
     record { users = None; revisions = None; votes = None; baselines = None; holds = None }
 
+-- the table that an act on a revision writes to
+abbrev pub table_of_act : RevisionAct → Table
+table_of_act Issue = Revisions
+table_of_act Withdraw = Revisions
+table_of_act Adopt = Baselines
+
 -- the table that an event writes to
 abbrev pub table_of : Event → Table
 table_of (founded name team digest listed) = Users
 table_of (enrolled caller name team roles digest) = Users
 table_of (submitted caller p text) = Revisions
 table_of (voted caller p n digest approves) = Votes
-table_of (issued caller p n) = Revisions
-table_of (withdrawn caller p n) = Revisions
-table_of (adopted caller p n) = Baselines
-table_of (held caller p) = Holds
-table_of (released caller p) = Holds
+table_of (on_revision caller act p n) = table_of_act act
+table_of (on_profile caller act p) = Holds
 
 -- An event comes behind these, that writes to this table. What a vote shows depends on its voter's
 -- roles, so a vote before an enrolment is passed over.

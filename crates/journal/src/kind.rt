@@ -1,7 +1,9 @@
 //! The words by which lines name what happened.
 
 ghost use Rattle.std.specs.Prelude.{◌≡◌};
-ghost use Rattle.journal.specs.Kinds.{kind_of, kind_word};
+ghost use Rattle.journal.specs.Kinds.{act_kinds, kind_among, kind_of, kind_word};
+
+use review_policy::{ProfileAct, RevisionAct};
 
 /// What a line says that happened, or what it says of the line before it.
 #[derive(Clone, Copy)]
@@ -10,13 +12,23 @@ pub enum Kind {
     Enrol,
     Submit,
     Vote,
-    Issue,
-    Withdraw,
-    Adopt,
-    Hold,
-    Release,
+    ActOnRevision(RevisionAct),
+    ActOnProfile(ProfileAct),
     Strike,
     Done,
+}
+
+// The act that has this word.
+fn act_named(text: &str) -> Option<Kind>
+    ensures { result ≡ kind_among act_kinds text.now }
+{
+    if let Some(act) = RevisionAct::from_word(text) {
+        return Some(Kind::ActOnRevision(act));
+    }
+    match ProfileAct::from_word(text) {
+        Some(act) => Some(Kind::ActOnProfile(act)),
+        None => None,
+    }
 }
 
 impl Kind {
@@ -29,11 +41,8 @@ impl Kind {
             Kind::Enrol => "enrol",
             Kind::Submit => "submit",
             Kind::Vote => "vote",
-            Kind::Issue => "issue",
-            Kind::Withdraw => "withdraw",
-            Kind::Adopt => "adopt",
-            Kind::Hold => "hold",
-            Kind::Release => "release",
+            Kind::ActOnRevision(act) => act.word(),
+            Kind::ActOnProfile(act) => act.word(),
             Kind::Strike => "strike",
             Kind::Done => "done",
         }
@@ -48,14 +57,9 @@ impl Kind {
             "enrol" => Some(Kind::Enrol),
             "submit" => Some(Kind::Submit),
             "vote" => Some(Kind::Vote),
-            "issue" => Some(Kind::Issue),
-            "withdraw" => Some(Kind::Withdraw),
-            "adopt" => Some(Kind::Adopt),
-            "hold" => Some(Kind::Hold),
-            "release" => Some(Kind::Release),
             "strike" => Some(Kind::Strike),
             "done" => Some(Kind::Done),
-            _ => None,
+            _ => act_named(text),
         }
     }
 }

@@ -18,7 +18,8 @@ ghost use Rattle.journal.specs.Examples.{withdrawal, adoption, hold, release, fo
 ghost use Rattle.journal.specs.Examples.{enrolment_text, submission_text, vote_text};
 ghost use Rattle.journal.specs.Examples.{issue_text, withdrawal_text, adoption_text};
 ghost use Rattle.journal.specs.Examples.{hold_text, release_text, settlement, strike_text, done_text};
-ghost use Rattle.journal.specs.Forms.{HasForms, IsFormed};
+ghost use Rattle.office_policy.specs.EventForms.{HasForms};
+ghost use Rattle.journal.specs.Forms.{IsFormed};
 ghost use Rattle.journal.specs.Journal.{EndsWithEvent, IsEntry, IsJournalOf, IsSealedJournal};
 ghost use Rattle.journal.specs.Journal.{Says, history_in};
 ghost use Rattle.journal.specs.Journals.{Grows, IsSettled, is_clean, journaled};

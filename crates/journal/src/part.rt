@@ -1,17 +1,13 @@
 //! What an object may be the line of.
 
-ghost use Rattle.std.specs.Prelude.{◌≡◌, ℕ, List, codes};
+ghost use Rattle.std.specs.Prelude.{◌≡◌, codes};
 ghost use Rattle.json_tree.specs.View.{view, items_view};
 ghost use Rattle.profile_text.specs.Sets.{cap_of, caps_of};
-ghost use Rattle.review_policy.specs.declared.ask.ProfileName.{ProfileName};
 ghost use Rattle.json_requests.specs.Faults.{Gives};
 ghost use Rattle.json_requests.specs.Members.{text_at};
-ghost use Rattle.office_policy.specs.History.{Event as Happening, issued, withdrawn, adopted, held};
-ghost use Rattle.office_policy.specs.History.{released};
-ghost use Rattle.journal.specs.Lines.{happened};
-ghost use Rattle.journal.specs.Read.{caller_at, candidate_at, done_at, enrolled_at, founded_at};
-ghost use Rattle.journal.specs.Read.{line_at, listed_at, profile_event_at, revision_event_at};
-ghost use Rattle.journal.specs.Read.{submitted_at, voted_at};
+ghost use Rattle.journal.specs.Read.{acted_on_profile_at, acted_on_revision_at, caller_at};
+ghost use Rattle.journal.specs.Read.{candidate_at, done_at, enrolled_at, founded_at, line_at};
+ghost use Rattle.journal.specs.Read.{listed_at, submitted_at, voted_at};
 ghost use Rattle.journal.specs.Shown.{shown};
 
 use crate::kind::Kind;
@@ -20,8 +16,8 @@ use cap_sets::Caps;
 use json_requests::LineFault;
 use json_requests::member::{digest_of, name_of, revision_of, roles_of, text_of, vote_of, word_of};
 use json_tree::Tree;
-use office_policy::Event;
-use review_policy::{ProfileName, Text, Word};
+use office_policy::{Deed, Event};
+use review_policy::{ProfileAct, RevisionAct, Text, Word};
 use std::alloc::Global;
 
 // The capability that a value names, alone; no other value names one.
@@ -99,13 +95,13 @@ fn enrolled_of(alloc: Global, value: &Tree<'_>) -> Result<Line, LineFault>
     let team = word_of(alloc, value, "team")?;
     let roles = roles_of(value)?;
     let digest = digest_of(value)?;
-    Ok(Line::Event(Event::Enrolled {
-        caller,
+    let deed = Deed::Enrol {
         user,
         team,
         roles,
         digest,
-    }))
+    };
+    Ok(Line::Event(Event::Did { caller, deed }))
 }
 
 #[tactic(auto, unfolding(crate::specs::Read::submitted_at))]
@@ -115,7 +111,8 @@ fn submitted_of(alloc: Global, value: &Tree<'_>) -> Result<Line, LineFault>
     let caller = caller_of(alloc, value)?;
     let name = name_of(alloc, value)?;
     let text = document_of(alloc, value)?;
-    Ok(Line::Event(Event::Submitted { caller, name, text }))
+    let deed = Deed::Submit { name, text };
+    Ok(Line::Event(Event::Did { caller, deed }))
 }
 
 #[tactic(auto, unfolding(crate::specs::Read::voted_at))]
@@ -127,85 +124,38 @@ fn voted_of(alloc: Global, value: &Tree<'_>) -> Result<Line, LineFault>
     let revision = revision_of(value)?;
     let digest = digest_of(value)?;
     let approves = vote_of(value)?;
-    Ok(Line::Event(Event::Voted {
-        caller,
+    let deed = Deed::Vote {
         name,
         revision,
         digest,
         approves,
-    }))
+    };
+    Ok(Line::Event(Event::Did { caller, deed }))
 }
 
-// The caller, the profile and the number that an event on a revision names.
-#[tactic(auto, unfolding(crate::specs::Read::revision_event_at))]
-fn on_revision(alloc: Global, value: &Tree<'_>) -> Result<(Word, ProfileName, u32), LineFault>
-    ensures { (event : List ℕ → ProfileName → ℕ → Happening)
-        → Gives (λ on. happened (event on.0 on.1 on.2)) result
-        (revision_event_at event (view value.now)) }
+#[tactic(auto, unfolding(crate::specs::Read::acted_on_revision_at))]
+fn acted_on_revision(alloc: Global, act: RevisionAct, value: &Tree<'_>) -> Result<Line, LineFault>
+    ensures { Gives shown result (acted_on_revision_at act (view value.now)) }
 {
     let caller = caller_of(alloc, value)?;
     let name = name_of(alloc, value)?;
     let revision = revision_of(value)?;
-    Ok((caller, name, revision))
+    let deed = Deed::ActOnRevision {
+        act,
+        name,
+        revision,
+    };
+    Ok(Line::Event(Event::Did { caller, deed }))
 }
 
-// The caller and the profile that an event on a profile names.
-#[tactic(auto, unfolding(crate::specs::Read::profile_event_at))]
-fn on_profile(alloc: Global, value: &Tree<'_>) -> Result<(Word, ProfileName), LineFault>
-    ensures { (event : List ℕ → ProfileName → Happening)
-        → Gives (λ on. happened (event on.0 on.1)) result
-        (profile_event_at event (view value.now)) }
+#[tactic(auto, unfolding(crate::specs::Read::acted_on_profile_at))]
+fn acted_on_profile(alloc: Global, act: ProfileAct, value: &Tree<'_>) -> Result<Line, LineFault>
+    ensures { Gives shown result (acted_on_profile_at act (view value.now)) }
 {
     let caller = caller_of(alloc, value)?;
     let name = name_of(alloc, value)?;
-    Ok((caller, name))
-}
-
-fn issued_of(alloc: Global, value: &Tree<'_>) -> Result<Line, LineFault>
-    ensures { Gives shown result (revision_event_at issued (view value.now)) }
-{
-    let (caller, name, revision) = on_revision(alloc, value)?;
-    Ok(Line::Event(Event::Issued {
-        caller,
-        name,
-        revision,
-    }))
-}
-
-fn withdrawn_of(alloc: Global, value: &Tree<'_>) -> Result<Line, LineFault>
-    ensures { Gives shown result (revision_event_at withdrawn (view value.now)) }
-{
-    let (caller, name, revision) = on_revision(alloc, value)?;
-    Ok(Line::Event(Event::Withdrawn {
-        caller,
-        name,
-        revision,
-    }))
-}
-
-fn adopted_of(alloc: Global, value: &Tree<'_>) -> Result<Line, LineFault>
-    ensures { Gives shown result (revision_event_at adopted (view value.now)) }
-{
-    let (caller, name, revision) = on_revision(alloc, value)?;
-    Ok(Line::Event(Event::Adopted {
-        caller,
-        name,
-        revision,
-    }))
-}
-
-fn held_of(alloc: Global, value: &Tree<'_>) -> Result<Line, LineFault>
-    ensures { Gives shown result (profile_event_at held (view value.now)) }
-{
-    let (caller, name) = on_profile(alloc, value)?;
-    Ok(Line::Event(Event::Held { caller, name }))
-}
-
-fn released_of(alloc: Global, value: &Tree<'_>) -> Result<Line, LineFault>
-    ensures { Gives shown result (profile_event_at released (view value.now)) }
-{
-    let (caller, name) = on_profile(alloc, value)?;
-    Ok(Line::Event(Event::Released { caller, name }))
+    let deed = Deed::ActOnProfile { act, name };
+    Ok(Line::Event(Event::Did { caller, deed }))
 }
 
 #[tactic(auto, unfolding(crate::specs::Read::done_at))]
@@ -227,11 +177,8 @@ fn line_of(alloc: Global, kind: Kind, value: &Tree<'_>) -> Result<Line, LineFaul
         Kind::Enrol => enrolled_of(alloc, value),
         Kind::Submit => submitted_of(alloc, value),
         Kind::Vote => voted_of(alloc, value),
-        Kind::Issue => issued_of(alloc, value),
-        Kind::Withdraw => withdrawn_of(alloc, value),
-        Kind::Adopt => adopted_of(alloc, value),
-        Kind::Hold => held_of(alloc, value),
-        Kind::Release => released_of(alloc, value),
+        Kind::ActOnRevision(act) => acted_on_revision(alloc, act, value),
+        Kind::ActOnProfile(act) => acted_on_profile(alloc, act, value),
         Kind::Strike => Ok(Line::Strike),
         Kind::Done => done_of(value),
     }

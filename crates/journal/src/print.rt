@@ -2,15 +2,13 @@
 
 ghost use Rattle.std.specs.Prelude.{◌≡◌, IfOk, None, OnOk, string_bytes};
 ghost use Rattle.json_tree.specs.Tokens.{Appends, tokens_of};
-ghost use Rattle.office_policy.specs.History.{submitted};
+ghost use Rattle.office_policy.specs.History.{did, on_profile, on_revision, submitted};
 ghost use Rattle.office_policy.specs.Happened.{event_by, event_meant};
-ghost use Rattle.journal.specs.Forms.{HasForms, HasNumber};
+ghost use Rattle.office_policy.specs.EventForms.{HasForms, HasNumber};
 ghost use Rattle.journal.specs.Journal.{IsEntry};
-ghost use Rattle.journal.specs.Lines.{done, event_data, happened, line_data, of_revision, strike};
-ghost use Rattle.journal.specs.Lines.{text_of};
+ghost use Rattle.journal.specs.Lines.{done, event_data, happened, line_data, strike, text_of};
 ghost use Rattle.journal.specs.Shown.{shown};
 
-use crate::forms::change_forms;
 use crate::kind::Kind;
 use crate::line::Line;
 use crate::members::{
@@ -19,8 +17,8 @@ use crate::members::{
 };
 use json_requests::write::{write_number, write_text};
 use json_tree::{Writer, written_text};
-use office_policy::{Change, Event};
-use review_policy::{ProfileName, Text, Word};
+use office_policy::{Change, Deed, Event, change_forms};
+use review_policy::{ProfileAct, ProfileName, RevisionAct, Text, Word};
 use std::alloc::{AllocError, Global};
 
 // How many bytes a text has room for before it grows.
@@ -45,21 +43,66 @@ fn write_submission(
 }
 
 // What was done to a revision.
-fn write_of_revision(
+fn write_act_on_revision(
     out: &mut Writer,
     alloc: Global,
-    kind: Kind,
+    act: RevisionAct,
     caller: &Word,
     name: &ProfileName,
     revision: u32,
 ) -> Result<(), AllocError>
     ensures { OnOk result (Appends out.old out.new
-        (tokens_of (of_revision None kind caller.now name.now revision None))) }
+        (tokens_of (event_data (on_revision caller.now act name.now revision)))) }
 {
+    let kind = Kind::ActOnRevision(act);
     write_on_revision(out, alloc, None, kind, caller, name, revision as u64, None)
 }
 
-// What happened, by its kind.
+// What was done to a profile.
+fn write_act_on_profile(
+    out: &mut Writer,
+    act: ProfileAct,
+    caller: &Word,
+    name: &ProfileName,
+) -> Result<(), AllocError>
+    ensures { OnOk result (Appends out.old out.new
+        (tokens_of (event_data (on_profile caller.now act name.now)))) }
+{
+    write_on_profile(out, None, Kind::ActOnProfile(act), caller, name)
+}
+
+// What a user did, by its kind.
+fn write_deed(out: &mut Writer, alloc: Global, caller: &Word, deed: &Deed) -> Result<(), AllocError>
+    ensures { OnOk result (Appends out.old out.new
+        (tokens_of (event_data (did caller.now deed.now)))) }
+{
+    match deed {
+        Deed::Enrol {
+            user,
+            team,
+            roles,
+            digest,
+        } => write_enrolment(out, alloc, None, caller, user, team, *roles, digest),
+        Deed::Submit { name, text } => write_submission(out, caller, name, text),
+        Deed::Vote {
+            name,
+            revision,
+            digest,
+            approves,
+        } => {
+            let number = *revision as u64;
+            write_vote(out, alloc, None, caller, name, number, digest, *approves)
+        }
+        Deed::ActOnRevision {
+            act,
+            name,
+            revision,
+        } => write_act_on_revision(out, alloc, *act, caller, name, *revision),
+        Deed::ActOnProfile { act, name } => write_act_on_profile(out, *act, caller, name),
+    }
+}
+
+// What happened.
 fn write_event(out: &mut Writer, alloc: Global, event: &Event) -> Result<(), AllocError>
     ensures { OnOk result (Appends out.old out.new (tokens_of (event_data (event_meant event.now)))) }
 {
@@ -70,43 +113,7 @@ fn write_event(out: &mut Writer, alloc: Global, event: &Event) -> Result<(), All
             digest,
             listed,
         } => write_founding(out, alloc, None, user, team, digest, *listed),
-        Event::Enrolled {
-            caller,
-            user,
-            team,
-            roles,
-            digest,
-        } => write_enrolment(out, alloc, None, caller, user, team, *roles, digest),
-        Event::Submitted { caller, name, text } => write_submission(out, caller, name, text),
-        Event::Voted {
-            caller,
-            name,
-            revision,
-            digest,
-            approves,
-        } => {
-            let number = *revision as u64;
-            write_vote(out, alloc, None, caller, name, number, digest, *approves)
-        }
-        Event::Issued {
-            caller,
-            name,
-            revision,
-        } => write_of_revision(out, alloc, Kind::Issue, caller, name, *revision),
-        Event::Withdrawn {
-            caller,
-            name,
-            revision,
-        } => write_of_revision(out, alloc, Kind::Withdraw, caller, name, *revision),
-        Event::Adopted {
-            caller,
-            name,
-            revision,
-        } => write_of_revision(out, alloc, Kind::Adopt, caller, name, *revision),
-        Event::Held { caller, name } => write_on_profile(out, None, Kind::Hold, caller, name),
-        Event::Released { caller, name } => {
-            write_on_profile(out, None, Kind::Release, caller, name)
-        }
+        Event::Did { caller, deed } => write_deed(out, alloc, caller, deed),
     }
 }
 
@@ -141,17 +148,12 @@ fn write_change(
             let number = *revision as u64;
             write_vote(out, alloc, None, caller, name, number, digest, *approves)
         }
-        Change::Issue { name, revision } => {
-            write_of_revision(out, alloc, Kind::Issue, caller, name, *revision)
-        }
-        Change::Withdraw { name, revision } => {
-            write_of_revision(out, alloc, Kind::Withdraw, caller, name, *revision)
-        }
-        Change::Adopt { name, revision } => {
-            write_of_revision(out, alloc, Kind::Adopt, caller, name, *revision)
-        }
-        Change::Hold { name } => write_on_profile(out, None, Kind::Hold, caller, name),
-        Change::Release { name } => write_on_profile(out, None, Kind::Release, caller, name),
+        Change::ActOnRevision {
+            act,
+            name,
+            revision,
+        } => write_act_on_revision(out, alloc, *act, caller, name, *revision),
+        Change::ActOnProfile { act, name } => write_act_on_profile(out, *act, caller, name),
     }
 }
 

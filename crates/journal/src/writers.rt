@@ -1,10 +1,13 @@
 //! Of each table the newest event that wrote to it.
 
-ghost use Rattle.std.specs.Prelude.{◌≡◌, IfOk};
+ghost use Rattle.std.specs.Prelude.{◌≡◌, ℕ, IfOk, List};
 ghost use Rattle.office_policy.specs.Happened.{event_meant};
-ghost use Rattle.journal.specs.Writers.{no_writers, table_of, with_writer, writers_meant};
+ghost use Rattle.office_policy.specs.History.{did};
+ghost use Rattle.journal.specs.Writers.{no_writers, table_of, table_of_act, with_writer};
+ghost use Rattle.journal.specs.Writers.{writers_meant};
 
-use office_policy::Event;
+use office_policy::{Deed, Event};
+use review_policy::RevisionAct;
 use std::alloc::{AllocError, Global};
 
 // A table of an office.
@@ -17,17 +20,36 @@ enum Table {
     Holds,
 }
 
+// The table that an act on a revision writes to.
+fn table_of_act(act: RevisionAct) -> Table
+    ensures { result ≡ table_of_act act }
+{
+    match act {
+        RevisionAct::Issue | RevisionAct::Withdraw => Table::Revisions,
+        RevisionAct::Adopt => Table::Baselines,
+    }
+}
+
+// The table that what a user did writes to.
+fn table_of_deed(deed: &Deed) -> Table
+    ensures { (caller : List ℕ) → result ≡ table_of (did caller deed.now) }
+{
+    match deed {
+        Deed::Enrol { .. } => Table::Users,
+        Deed::Submit { .. } => Table::Revisions,
+        Deed::Vote { .. } => Table::Votes,
+        Deed::ActOnRevision { act, .. } => table_of_act(*act),
+        Deed::ActOnProfile { .. } => Table::Holds,
+    }
+}
+
 // The table that an event writes to.
 fn table_of(event: &Event) -> Table
     ensures { result ≡ table_of (event_meant event.now) }
 {
     match event {
-        Event::Founded { .. } | Event::Enrolled { .. } => Table::Users,
-        Event::Submitted { .. } | Event::Issued { .. } | Event::Withdrawn { .. } =>
-            Table::Revisions,
-        Event::Voted { .. } => Table::Votes,
-        Event::Adopted { .. } => Table::Baselines,
-        Event::Held { .. } | Event::Released { .. } => Table::Holds,
+        Event::Founded { .. } => Table::Users,
+        Event::Did { deed, .. } => table_of_deed(deed),
     }
 }
 
