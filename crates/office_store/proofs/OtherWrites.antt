@@ -207,8 +207,8 @@ module _ {S : Type 0} (g : Ghosts S) where
     err = λ old new x o failed. insert_failed INSERT_HOLD.now (hold_row p) 5 _ office_schema (state g old) (state g new) x o.schema insert_hold_means failed;
   }
 
-  pub release_steps : (p : ProfileName) (t : Tables) → AreSteps g (delete_hold p ∷ []) t (without_hold p t)
-  release_steps p t = (without_hold p t, delete_hold_step p t, refl)
+  pub unhold_steps : (p : ProfileName) (t : Tables) → AreSteps g (delete_hold p ∷ []) t (without_hold p t)
+  unhold_steps p t = (without_hold p t, delete_hold_step p t, refl)
 
   pub hold_steps : (p : ProfileName) (t : Tables) → IsProfileName p → AreSteps g (delete_hold p ∷ insert_hold p ∷ []) t (with_hold p t)
   hold_steps p t formed =

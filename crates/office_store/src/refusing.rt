@@ -39,7 +39,7 @@ pub fn only_a_revision_is_too_big()
         → IsBaseline (baseline_entry p n) → LacksPlace (puts_baseline p n) db Full → ⊥ }
     ensures hold { (p : ProfileName) (db : Database) → IsProfileName p
         → LacksPlace (puts_hold p) db Full → ⊥ }
-    ensures release { (p : ProfileName) (db : Database) (f : TheFault)
+    ensures end_of_hold { (p : ProfileName) (db : Database) (f : TheFault)
         → LacksPlace (deletes_hold p) db f → ⊥ }
     ensures form { (w : Write) (db : Database) → LacksPlace w db NotAnOffice → ⊥ }
 {}

@@ -42,8 +42,8 @@ returns-clause-baseline c = λ p n db formed lacks. omega (arith, word_short p.t
 pub returns-clause-hold : goal.returns-clause-hold
 returns-clause-hold c = λ p db formed lacks. omega (arith, word_short p.team formed.team, word_short p.profile formed.profile, alone (Null ∷ hold_row p) lacks)
 
-pub returns-clause-release : goal.returns-clause-release
-returns-clause-release c = λ p db f lacks. never p db f lacks
+pub returns-clause-end_of_hold : goal.returns-clause-end_of_hold
+returns-clause-end_of_hold c = λ p db f lacks. never p db f lacks
   where
     never : (p : ProfileName) (db : Database) (f : Fault) → LacksPlace (deletes_hold p) db f → ⊥
     never p db (NoMemory _) lacks = lacks
