@@ -1,6 +1,7 @@
 -- What adoptions are decided by.
 use Rattle.std.proofs.Common.{◌≡◌, ℕ, Bool, true, false, not, Option, None, Some, Err, refl, ap}
 use Rattle.std.specs.Prelude.{option_map}
+use Rattle.review_policy.specs.declared.act.RevisionAct.TheVariants.{Adopt}
 use Rattle.review_policy.specs.declared.ask.Ask.TheVariants as ask
 use Rattle.review_policy.specs.declared.ask.ProfileName.{ProfileName}
 use Rattle.review_policy.specs.declared.denial.Denial.{Denial}
@@ -20,7 +21,7 @@ use Rattle.office_judging.specs.Summarized.{as_asked}
 use Rattle.office_judging.proofs.Deciding.{Kind}
 
 pub adopting : (caller : UserRow) (p : ProfileName) (n : ℕ)
-    → Kind (Some caller) (ask.Adopt p n) (authored_at p n caller.name) (λ x. adopt_rules (adopt_facts (Some caller) (as_asked x.0) x.1))
+    → Kind (Some caller) (ask.ActOnRevision Adopt p n) (authored_at p n caller.name) (λ x. adopt_rules (adopt_facts (Some caller) (as_asked x.0) x.1))
 adopting caller p n = record { plain = λ h rule. refl; asked = λ h. ap adopt_rules (by_summary (revision_of h p n) (is_author h p caller.name)) }
   where
     by_summary : (r : Option RevisionRow) (author : Bool) → adopt_facts (Some caller) r author ≡ adopt_facts (Some caller) (as_asked (option_map summary_of r)) author

@@ -2,7 +2,7 @@
 use Rattle.std.proofs.Common.{◌≡◌, ◌∙◌, ℕ, List, Bool, true, false, not, Option, Some, None, Err, Ok, IfSome, sym, ap, subst}
 use Rattle.std.specs.Prelude.{Result, ⊤, is_some}
 use Rattle.review_policy.specs.declared.ask.Ask.TheVariants as ask
-use Rattle.review_policy.specs.declared.answer.Reply.TheVariants.{Enrolled}
+use Rattle.review_policy.specs.declared.answer.Reply.TheVariants.{Nothing}
 use Rattle.review_policy.specs.declared.denial.Denial.{Denial}
 use Rattle.review_policy.specs.declared.facts.TheConstants.EnrolFacts.{PASSING}
 use Rattle.review_policy.specs.declared.role.Role.TheVariants.{Registrar}
@@ -73,5 +73,5 @@ module _ (h : History) (caller : UserRow) (user team : List ℕ) (roles : ℕ) (
 
     -- none refuses it
     pub accepts : Decides caller user team found (Ok tt)
-        → verdict_of h (Some caller) (ask.Enrol user team roles digest) ≡ accepted Enrolled (Some (enrolled caller.name user team roles digest))
+        → verdict_of h (Some caller) (ask.Enrol user team roles digest) ≡ accepted Nothing (Some (enrolled caller.name user team roles digest))
     accepts e = allowed_is h (Some caller) (ask.Enrol user team roles digest) (subst (λ f. Decides caller user team f (Ok tt)) is e)

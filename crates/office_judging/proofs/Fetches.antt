@@ -1,6 +1,8 @@
 -- What fetches are decided by.
 use Rattle.std.proofs.Common.{◌≡◌, ◌∙◌, Bool, true, false, not, Option, Some, None, Err, refl, sym, ap}
 use Rattle.std.specs.Prelude.{is_none, is_some, option_map}
+use Rattle.review_policy.specs.declared.act.ProfileView.TheVariants.{Fetch}
+use Rattle.review_policy.specs.declared.act.ProfileView.TheVariants as views
 use Rattle.review_policy.specs.declared.ask.Ask.TheVariants as ask
 use Rattle.review_policy.specs.declared.ask.ProfileName.{ProfileName}
 use Rattle.review_policy.specs.declared.answer.Reply.TheVariants.{Fetched, IssuedNow}
@@ -24,7 +26,7 @@ use Rattle.office_judging.specs.Looked.{issued_at, brief_at}
 use Rattle.office_judging.proofs.Deciding.{Kind}
 
 pub fetching : (caller : UserRow) (p : ProfileName)
-    → Kind (Some caller) (ask.Fetch p) (issued_at p) (λ x. fetch_rules (fetch_facts (Some caller) p.team x.0 x.1))
+    → Kind (Some caller) (ask.SeeProfile Fetch p) (issued_at p) (λ x. fetch_rules (fetch_facts (Some caller) p.team x.0 x.1))
 fetching caller p = record { plain = λ h rule. refl; asked = λ h. refl }
 
 by_caller : (missing other nothing held : Bool) (d : Denial)
@@ -45,7 +47,7 @@ fetch_early caller p d e x = by_caller (not (holds_role (Some caller) Machine)) 
 
 -- the issued revision is answered
 pub fetch_done : (caller : UserRow) (p : ProfileName) (x : Option RevisionRow × Bool) (r : RevisionRow) → x.0 ≡ Some r → (h : History) → x ≡ issued_at p h
-    → done_of h (Some caller) (ask.Fetch p) ≡ accepted (Fetched r.digest r.body r.number) None
+    → done_of h (Some caller) (ask.SeeProfile Fetch p) ≡ accepted (Fetched r.digest r.body r.number) None
 fetch_done caller p x r is h same =
     ap (λ found. of_revision found (λ r. accepted (Fetched r.digest r.body r.number) None)) (sym (ap (λ y. y.0) same) ∙ is)
 
@@ -59,7 +61,7 @@ none_mapped None = refl
 none_mapped (Some r) = refl
 
 pub telling_issued : (caller : UserRow) (p : ProfileName)
-    → Kind (Some caller) (ask.Issued p) (brief_at p) (λ x. fetch_rules (brief_facts caller p x))
+    → Kind (Some caller) (ask.SeeProfile views.Issued p) (brief_at p) (λ x. fetch_rules (brief_facts caller p x))
 telling_issued caller p = record {
   plain = λ h rule. refl;
   asked = λ h. ap (λ none. fetch_rules (record (fetch_facts (Some caller) p.team None (is_held h p)) { nothing_issued = none })) (none_mapped (issued_revision h p));
@@ -79,7 +81,7 @@ none_brief false found e = rw e refl
 
 -- the number and the digest of the issued revision are answered
 pub brief_done : (caller : UserRow) (p : ProfileName) (x : Option Brief × Bool) (b : Brief) → x.0 ≡ Some b → (h : History) → x ≡ brief_at p h
-    → done_of h (Some caller) (ask.Issued p) ≡ accepted (IssuedNow b.digest b.number) None
+    → done_of h (Some caller) (ask.SeeProfile views.Issued p) ≡ accepted (IssuedNow b.digest b.number) None
 brief_done caller p x b is h same = of_row (issued_revision h p) (sym (ap (λ y. y.0) same) ∙ is)
   where
     of_row : (r : Option RevisionRow) → option_map brief_of r ≡ Some b → of_revision r (λ r. accepted (IssuedNow r.digest r.number) None) ≡ accepted (IssuedNow b.digest b.number) None

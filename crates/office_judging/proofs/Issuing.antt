@@ -1,6 +1,7 @@
 -- How an issue meets its verdict.
 use Rattle.std.proofs.Common.{arith, ◌≡◌, ◌∙◌, ◌↔◌, ℕ, List, Bool, true, false, not, ◌&&◌, Option, Some, None, Ok, Err, take, drop, refl, sym, ap, subst}
 use Rattle.std.specs.Prelude.{nat_lt, ◌==◌}
+use Rattle.review_policy.specs.declared.act.RevisionAct.TheVariants.{Issue}
 use Rattle.review_policy.specs.declared.ask.Ask.TheVariants as ask
 use Rattle.review_policy.specs.declared.ask.ProfileName.{ProfileName}
 use Rattle.review_policy.specs.declared.answer.Reply.TheVariants as reply
@@ -103,21 +104,21 @@ need_decides team tally body t c need few is looks h lawful same = rw few (is �
 module _ (h : History) (caller : UserRow) (p : ProfileName) (n : ℕ) where
   -- a caller without the role is refused whatever the revision
   pub caller_refused : (d : Denial) → first_denial (issue_rules (facts_of_caller caller)) ≡ Err d
-      → verdict_of h (Some caller) (ask.Issue p n) ≡ denied d None
+      → verdict_of h (Some caller) (ask.ActOnRevision Issue p n) ≡ denied d None
   caller_refused d e =
       let all = issue_rules (facts_by caller (looked_at h p n caller.name) (need_at h p n)) in
-      denied_is h (Some caller) (ask.Issue p n) d (refused_early (take 2 all) (drop 2 (issue_rules (facts_of_caller caller))) (drop 2 all) d refl e)
+      denied_is h (Some caller) (ask.ActOnRevision Issue p n) d (refused_early (take 2 all) (drop 2 (issue_rules (facts_of_caller caller))) (drop 2 all) d refl e)
 
   module _ (l : Looked) (is : l ≡ looked_at h p n caller.name) where
     denied_by : (d : Denial) → first_denial (issue_rules (facts_by caller l (need_at h p n))) ≡ Err d
-        → verdict_of h (Some caller) (ask.Issue p n) ≡ denied d None
+        → verdict_of h (Some caller) (ask.ActOnRevision Issue p n) ≡ denied d None
     denied_by d e =
-        denied_is h (Some caller) (ask.Issue p n) d
+        denied_is h (Some caller) (ask.ActOnRevision Issue p n) d
         (subst (λ k. first_denial (issue_rules (facts_by caller k (need_at h p n))) ≡ Err d) is e)
 
     -- what refuses whatever is needed
     pub refused_early_on : (d : Denial) → first_denial (issue_rules (facts_early caller l)) ≡ Err d
-        → verdict_of h (Some caller) (ask.Issue p n) ≡ denied d None
+        → verdict_of h (Some caller) (ask.ActOnRevision Issue p n) ≡ denied d None
     refused_early_on d e =
         let all = issue_rules (facts_by caller l (need_at h p n)) in
         denied_by d (refused_early (take 6 all) (drop 6 (issue_rules (facts_early caller l))) (drop 6 all) d refl e)
@@ -141,13 +142,13 @@ module _ (h : History) (caller : UserRow) (p : ProfileName) (n : ℕ) where
           ∙ ap (λ k. first_denial (issue_rules (facts_by caller l k))) need_is)
 
       pub refused_by_need : (d : Denial) → first_denial (issue_rules (facts_by caller l asked)) ≡ Err d
-          → verdict_of h (Some caller) (ask.Issue p n) ≡ denied d None
+          → verdict_of h (Some caller) (ask.ActOnRevision Issue p n) ≡ denied d None
       refused_by_need d e = denied_by d (decides ∙ e)
 
       -- none refuses it
       pub accepts : first_denial (issue_rules (facts_by caller l asked)) ≡ Ok tt
-          → verdict_of h (Some caller) (ask.Issue p n) ≡ accepted (reply.Issued r.digest) (Some (issued caller.name p n))
+          → verdict_of h (Some caller) (ask.ActOnRevision Issue p n) ≡ accepted (reply.Issued r.digest) (Some (issued caller.name p n))
       accepts e =
-          allowed_is h (Some caller) (ask.Issue p n)
+          allowed_is h (Some caller) (ask.ActOnRevision Issue p n)
           (subst (λ k. first_denial (issue_rules (facts_by caller k (need_at h p n))) ≡ Ok tt) is (decides ∙ e))
           ∙ ap (λ o. of_revision o (λ r. accepted (reply.Issued r.digest) (Some (issued caller.name p n)))) row_is

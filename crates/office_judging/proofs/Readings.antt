@@ -3,6 +3,7 @@ use Rattle.std.proofs.Common.{◌≡◌, ◌∙◌, ℕ, List, Bool, true, false
 use Rattle.std.specs.Prelude.{is_some, is_none, nat_lt}
 use Rattle.std.proofs.lemmas.Bool.Decides.{nat_tests}
 use Rattle.std.proofs.lemmas.List.{length-map, length-take, take-map, take-take}
+use Rattle.review_policy.specs.declared.act.RevisionView.TheVariants.{Sheet, Show}
 use Rattle.review_policy.specs.declared.ask.Ask.TheVariants as ask
 use Rattle.review_policy.specs.declared.ask.ProfileName.{ProfileName}
 use Rattle.review_policy.specs.declared.answer.ProfileRevision.{ProfileRevision}
@@ -23,11 +24,11 @@ use Rattle.office_judging.specs.Looked.{none_at}
 use Rattle.office_judging.proofs.Deciding.{Kind}
 
 pub showing : (caller : UserRow) (p : ProfileName) (n : ℕ)
-    → Kind (Some caller) (ask.Show p n) (λ h. revision_of h p n) (λ found. read_rules (read_facts (Some caller) p.team (is_none found)))
+    → Kind (Some caller) (ask.SeeRevision Show p n) (λ h. revision_of h p n) (λ found. read_rules (read_facts (Some caller) p.team (is_none found)))
 showing caller p n = record { plain = λ h rule. refl; asked = λ h. refl }
 
 pub showing_sheet : (caller : UserRow) (p : ProfileName) (n : ℕ)
-    → Kind (Some caller) (ask.Sheet p n) (λ h. revision_of h p n) (λ found. read_rules (read_facts (Some caller) p.team (is_none found)))
+    → Kind (Some caller) (ask.SeeRevision Sheet p n) (λ h. revision_of h p n) (λ found. read_rules (read_facts (Some caller) p.team (is_none found)))
 showing_sheet caller p n = record { plain = λ h rule. refl; asked = λ h. refl }
 
 pub listing : (caller : UserRow) (team : List ℕ) → Kind (Some caller) (ask.List team) (λ h. listing_of h team) (λ found. read_rules (read_facts (Some caller) team false))

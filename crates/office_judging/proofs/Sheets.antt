@@ -1,6 +1,7 @@
 -- What is read for a sheet is the sheet of looking back, and what is answered of it.
 use Rattle.std.proofs.Common.{◌≡◌, ◌∙◌, ℕ, List, Option, Some, None, sym, ap, subst}
 use Rattle.std.specs.Prelude.{option_map}
+use Rattle.review_policy.specs.declared.act.RevisionView.TheVariants.{Sheet}
 use Rattle.review_policy.specs.declared.ask.Ask.TheVariants as ask
 use Rattle.review_policy.specs.declared.ask.ProfileName.{ProfileName}
 use Rattle.review_policy.specs.declared.answer.Reply.TheVariants as reply
@@ -41,7 +42,7 @@ no_sheet p n t there h lawful same = ap (option_map (λ r. sheet_text_of p r h))
 
 -- the answer to who may see it
 pub sheet_told : (h : History) (caller : Option UserRow) (p : ProfileName) (n : ℕ) (r : RevisionRow) (text : List ℕ)
-    → revision_of h p n ≡ Some r → text ≡ sheet_text_of p r h → done_of h caller (ask.Sheet p n) ≡ accepted (reply.Sheet text) None
+    → revision_of h p n ≡ Some r → text ≡ sheet_text_of p r h → done_of h caller (ask.SeeRevision Sheet p n) ≡ accepted (reply.Sheet text) None
 sheet_told h caller p n r text there same =
     ap (λ o. of_revision o (λ r. accepted (reply.Sheet (sheet_text (sheet_of h p r))) None)) there
     ∙ ap (λ t. accepted (reply.Sheet t) None) (sym same)

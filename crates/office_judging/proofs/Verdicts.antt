@@ -1,6 +1,7 @@
 -- How a request meets its verdict, and what it comes to by its kind.
 use Rattle.std.proofs.Common.{◌≡◌, ◌∙◌, List, ℕ, true, Option, Some, None, Result, Ok, Err, IfOk, refl, sym, ap, subst}
 use Rattle.sqlite.specs.State.{State}
+use Rattle.review_policy.specs.declared.act.RevisionAct.TheVariants.{Issue, Withdraw, Adopt}
 use Rattle.review_policy.specs.Rules.{first_denial}
 use Rattle.review_policy.specs.declared.ask.Ask.{Ask}
 use Rattle.review_policy.specs.declared.ask.Ask.TheVariants as ask
@@ -44,18 +45,15 @@ pub stranger : (h : History) (a : Ask) → verdict_of h None a ≡ denied (recor
 stranger h (ask.Enrol user team roles digest) = refl
 stranger h (ask.Submit p document) = refl
 stranger h (ask.Vote p n digest approve) = refl
-stranger h (ask.Issue p n) = refl
-stranger h (ask.Withdraw p n) = refl
-stranger h (ask.Adopt p n) = refl
-stranger h (ask.Show p n) = refl
-stranger h (ask.Sheet p n) = refl
+stranger h (ask.ActOnRevision Issue p n) = refl
+stranger h (ask.ActOnRevision Withdraw p n) = refl
+stranger h (ask.ActOnRevision Adopt p n) = refl
+stranger h (ask.SeeRevision view p n) = refl
 stranger h (ask.List team) = refl
-stranger h (ask.Fetch p) = refl
-stranger h (ask.Hold p) = refl
-stranger h (ask.Release p) = refl
+stranger h (ask.ActOnProfile act p) = refl
+stranger h (ask.SeeProfile view p) = refl
 stranger h ask.Me = refl
 stranger h (ask.Revisions p before) = refl
-stranger h (ask.Issued p) = refl
 
 -- the caller is the user who was found by the token's digest
 pub called : (h : History) → IsLawfulHistory h → (r : Request) (digest : List ℕ) (user : Option UserRow) → digest ≡ digest_of r.token → IsUserShowing (tables_of h) digest user

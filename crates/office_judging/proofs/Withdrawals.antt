@@ -1,6 +1,7 @@
 -- What withdrawals are decided by.
 use Rattle.std.proofs.Common.{◌≡◌, ℕ, Bool, true, false, not, ◌||◌, Option, None, Some, Err, refl, ap}
 use Rattle.std.specs.Prelude.{option_map}
+use Rattle.review_policy.specs.declared.act.RevisionAct.TheVariants.{Withdraw}
 use Rattle.review_policy.specs.declared.ask.Ask.TheVariants as ask
 use Rattle.review_policy.specs.declared.ask.ProfileName.{ProfileName}
 use Rattle.review_policy.specs.declared.denial.Denial.{Denial}
@@ -21,7 +22,7 @@ use Rattle.office_judging.specs.Summarized.{as_asked}
 use Rattle.office_judging.proofs.Deciding.{Kind}
 
 pub withdrawing : (caller : UserRow) (p : ProfileName) (n : ℕ)
-    → Kind (Some caller) (ask.Withdraw p n) (summary_at p n) (λ found. withdraw_rules (withdraw_facts (Some caller) p.team (as_asked found)))
+    → Kind (Some caller) (ask.ActOnRevision Withdraw p n) (summary_at p n) (λ found. withdraw_rules (withdraw_facts (Some caller) p.team (as_asked found)))
 withdrawing caller p n = record { plain = λ h rule. refl; asked = λ h. ap withdraw_rules (by_summary (revision_of h p n)) }
   where
     by_summary : (r : Option RevisionRow) → withdraw_facts (Some caller) p.team r ≡ withdraw_facts (Some caller) p.team (as_asked (option_map summary_of r))

@@ -2,6 +2,7 @@
 
 ghost use Rattle.std.specs.Prelude.{◌≡◌, IfOk, Some, not};
 ghost use Rattle.sqlite.specs.Held.{state};
+ghost use Rattle.review_policy.specs.declared.act.RevisionAct.TheVariants.{Adopt};
 ghost use Rattle.review_policy.specs.declared.ask.Ask.TheVariants as ask;
 ghost use Rattle.review_policy.specs.declared.facts.TheConstants.AdoptFacts.{PASSING};
 ghost use Rattle.office_store.specs.Shown.{IsIdle};
@@ -15,7 +16,7 @@ use crate::revisions::{authored, state_of};
 use office_policy::{Allowed, Change};
 use office_store::Summary;
 use office_tables::UserRow;
-use review_policy::{AdoptFacts, ProfileName, Reply, Role, decide_adopt};
+use review_policy::{AdoptFacts, ProfileName, Reply, RevisionAct, Role, decide_adopt};
 use sqlite::{Alter, Connection};
 
 // What the rules ask of a caller.
@@ -50,19 +51,20 @@ pub(crate) fn judge_adoption<S: Alter>(
 ) -> Result<Allowed, Refusal>
     requires { IsIdle (state S.Store conn.old) }
     ensures judged { JudgesChange (state S.Store conn.old) (state S.Store conn.new) result
-        caller (ask.Adopt name.now number) }
-    ensures asked { IfOk result (IsAskedBy (ask.Adopt name.now number)) }
+        caller (ask.ActOnRevision Adopt name.now number) }
+    ensures asked { IfOk result (IsAskedBy (ask.ActOnRevision Adopt name.now number)) }
 {
     decide_adopt(&facts_of_caller(&caller))?;
     let (found, is_author) = authored(conn, name, number, &caller.name)?;
     decide_adopt(&all_facts(&caller, &found, is_author))?;
-    let change = Change::Adopt {
+    let change = Change::ActOnRevision {
+        act: RevisionAct::Adopt,
         name: name.clone()?,
         revision: number,
     };
     Ok(Allowed {
         caller,
         change,
-        reply: Reply::Adopted,
+        reply: Reply::Nothing,
     })
 }

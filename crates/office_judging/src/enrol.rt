@@ -143,6 +143,6 @@ pub(crate) fn judge_enrolment<S: Alter>(
     Ok(Allowed {
         caller,
         change,
-        reply: Reply::Enrolled,
+        reply: Reply::Nothing,
     })
 }

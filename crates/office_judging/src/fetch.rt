@@ -2,6 +2,7 @@
 
 ghost use Rattle.std.specs.Prelude.{◌≡◌, Some, not};
 ghost use Rattle.sqlite.specs.Held.{state};
+ghost use Rattle.review_policy.specs.declared.act.ProfileView.TheVariants.{Fetch};
 ghost use Rattle.review_policy.specs.declared.ask.Ask.TheVariants as ask;
 ghost use Rattle.review_policy.specs.declared.facts.TheConstants.FetchFacts.{PASSING};
 ghost use Rattle.office_tables.specs.Lists.{holds_role};
@@ -74,7 +75,7 @@ pub(crate) fn fetch<S: Alter>(
 ) -> Result<Reply, Refusal>
     requires { IsIdle (state S.Store conn.old) }
     ensures { JudgesRead (state S.Store conn.old) (state S.Store conn.new) result
-        caller.now (ask.Fetch name.now) }
+        caller.now (ask.SeeProfile Fetch name.now) }
 {
     decide_fetch(&facts_of_caller(caller, &name.team))?;
     let (found, is_held) = look_at(alloc, conn, name)?;

@@ -1,4 +1,4 @@
-//! Holds of profiles, and their release.
+//! Acts on profiles.
 
 ghost use Rattle.std.specs.Prelude.{IfOk};
 ghost use Rattle.sqlite.specs.Held.{state};
@@ -13,9 +13,7 @@ use crate::refusal::Refusal;
 use office_policy::{Allowed, Change};
 use office_store::{has_revision, held};
 use office_tables::UserRow;
-use review_policy::{
-    Fault, HoldFacts, ProfileName, ReleaseFacts, Reply, Role, decide_hold, decide_release,
-};
+use review_policy::{Fault, HoldFacts, ProfileAct, ProfileName, Reply, Role, decide_hold};
 use sqlite::{Alter, Connection};
 
 // Whether a profile has no revision, and whether it is held.
@@ -29,66 +27,40 @@ fn look_at<S: Alter>(conn: &mut Connection<S>, name: &ProfileName) -> Result<(bo
     Ok((!is_there, is_held))
 }
 
-// Judges a hold.
+// Judges an act on a profile.
 pub(crate) fn judge_hold<S: Alter>(
     conn: &mut Connection<S>,
     caller: UserRow,
+    act: ProfileAct,
     name: &ProfileName,
 ) -> Result<Allowed, Refusal>
     requires { IsIdle (state S.Store conn.old) }
     ensures judged { JudgesChange (state S.Store conn.old) (state S.Store conn.new) result
-        caller (ask.Hold name.now) }
-    ensures asked { IfOk result (IsAskedBy (ask.Hold name.now)) }
+        caller (ask.ActOnProfile act name.now) }
+    ensures asked { IfOk result (IsAskedBy (ask.ActOnProfile act name.now)) }
 {
     let asked = HoldFacts {
         role_missing: !caller.roles.has(Role::Security),
+        held: !act.holds(),
         ..HoldFacts::PASSING
     };
-    decide_hold(&asked)?;
-    let (no_profile, already_held) = look_at(conn, name)?;
-    decide_hold(&HoldFacts {
-        no_profile,
-        already_held,
-        ..asked
-    })?;
-    let change = Change::Hold {
+    decide_hold(act, &asked)?;
+    let (no_profile, held) = look_at(conn, name)?;
+    decide_hold(
+        act,
+        &HoldFacts {
+            no_profile,
+            held,
+            ..asked
+        },
+    )?;
+    let change = Change::ActOnProfile {
+        act,
         name: name.clone()?,
     };
     Ok(Allowed {
         caller,
         change,
-        reply: Reply::Held,
-    })
-}
-
-// Judges a release.
-pub(crate) fn judge_release<S: Alter>(
-    conn: &mut Connection<S>,
-    caller: UserRow,
-    name: &ProfileName,
-) -> Result<Allowed, Refusal>
-    requires { IsIdle (state S.Store conn.old) }
-    ensures judged { JudgesChange (state S.Store conn.old) (state S.Store conn.new) result
-        caller (ask.Release name.now) }
-    ensures asked { IfOk result (IsAskedBy (ask.Release name.now)) }
-{
-    let asked = ReleaseFacts {
-        role_missing: !caller.roles.has(Role::Security),
-        ..ReleaseFacts::PASSING
-    };
-    decide_release(&asked)?;
-    let (no_profile, is_held) = look_at(conn, name)?;
-    decide_release(&ReleaseFacts {
-        no_profile,
-        not_held: !is_held,
-        ..asked
-    })?;
-    let change = Change::Release {
-        name: name.clone()?,
-    };
-    Ok(Allowed {
-        caller,
-        change,
-        reply: Reply::Released,
+        reply: Reply::Nothing,
     })
 }

@@ -3,6 +3,7 @@
 ghost use Rattle.std.specs.Prelude.{◌≡◌, Some, false, not, IfOk, IsTrue};
 ghost use Rattle.sqlite.specs.Held.{state};
 ghost use Rattle.sqlite.specs.State.{HasCleanDisk};
+ghost use Rattle.review_policy.specs.declared.act.RevisionAct.TheVariants.{Issue};
 ghost use Rattle.review_policy.specs.declared.ask.Ask.TheVariants as ask;
 ghost use Rattle.review_policy.specs.declared.denial.Need.TheVariants as needs;
 ghost use Rattle.review_policy.specs.declared.facts.TheConstants.IssueFacts.{PASSING};
@@ -22,7 +23,9 @@ use crate::revisions::state_in;
 use office_policy::{Allowed, Change};
 use office_store::{held, is_author, revision, tally};
 use office_tables::{RevisionRow, Tally, UserRow};
-use review_policy::{Fault, IssueFacts, Need, ProfileName, Reply, Role, Text, Word, decide_issue};
+use review_policy::{
+    Fault, IssueFacts, Need, ProfileName, Reply, RevisionAct, Role, Text, Word, decide_issue,
+};
 use sqlite::{Alter, Connection};
 use std::alloc::Global;
 
@@ -138,8 +141,8 @@ pub(crate) fn judge_issue<S: Alter>(
 ) -> Result<Allowed, Refusal>
     requires { IsIdle (state S.Store conn.old) }
     ensures judged { JudgesChange (state S.Store conn.old) (state S.Store conn.new) result
-        caller (ask.Issue name.now number) }
-    ensures asked { IfOk result (IsAskedBy (ask.Issue name.now number)) }
+        caller (ask.ActOnRevision Issue name.now number) }
+    ensures asked { IfOk result (IsAskedBy (ask.ActOnRevision Issue name.now number)) }
 {
     decide_issue(&facts_of_caller(&caller))?;
     let looked = look_up(alloc, conn, &caller, name, number)?;
@@ -149,7 +152,8 @@ pub(crate) fn judge_issue<S: Alter>(
     };
     let need = deciding_need(alloc, conn, &name.team, &looked.tally, &row.body)?;
     decide_issue(&all_facts(&caller, &looked, need))?;
-    let change = Change::Issue {
+    let change = Change::ActOnRevision {
+        act: RevisionAct::Issue,
         name: name.clone()?,
         revision: number,
     };

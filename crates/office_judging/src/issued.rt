@@ -2,6 +2,7 @@
 
 ghost use Rattle.std.specs.Prelude.{◌≡◌, Some, None};
 ghost use Rattle.sqlite.specs.Held.{state};
+ghost use Rattle.review_policy.specs.declared.act.ProfileView.TheVariants as views;
 ghost use Rattle.review_policy.specs.declared.ask.Ask.TheVariants as ask;
 ghost use Rattle.office_store.specs.Calls.{IsRead};
 ghost use Rattle.office_store.specs.Shown.{IsIdle};
@@ -52,7 +53,7 @@ pub(crate) fn issued_now<S: Alter>(
 ) -> Result<Reply, Refusal>
     requires { IsIdle (state S.Store conn.old) }
     ensures { JudgesRead (state S.Store conn.old) (state S.Store conn.new) result
-        caller.now (ask.Issued name.now) }
+        caller.now (ask.SeeProfile views.Issued name.now) }
 {
     decide_fetch(&facts_of_caller(caller, &name.team))?;
     let (found, is_held) = look_at(conn, name)?;

@@ -1,18 +1,20 @@
 //! What each kind of request comes to, before anything is changed.
 
-ghost use Rattle.std.specs.Prelude.{◌≡◌, Some, IsTrue};
+ghost use Rattle.std.specs.Prelude.{◌≡◌, Some, IfOk, IsTrue};
 ghost use Rattle.sqlite.specs.Held.{state};
 ghost use Rattle.sqlite.specs.State.{HasCleanDisk};
+ghost use Rattle.review_policy.specs.declared.ask.Ask.TheVariants as ask;
 ghost use Rattle.office_store.specs.Shown.{IsIdle};
 ghost use Rattle.office_judging.specs.Judged.{IsAskedIfAllowed, IsSettled, JudgesFor, JudgesRequest};
-ghost use Rattle.office_judging.specs.Judged.{JudgesNamed, ReadsIfAnswered, UnlessFault};
+ghost use Rattle.office_judging.specs.Judged.{IsAskedBy, JudgesChange, JudgesNamed, JudgesRead};
+ghost use Rattle.office_judging.specs.Judged.{ReadsIfAnswered, UnlessFault};
 ghost use Rattle.office_judging.specs.Steps.{allowed_of, answered_of};
 
 use crate::adopt::judge_adoption;
 use crate::caller::me;
 use crate::enrol::judge_enrolment;
 use crate::fetch::fetch;
-use crate::hold::{judge_hold, judge_release};
+use crate::hold::judge_hold;
 use crate::issue::judge_issue;
 use crate::issued::issued_now;
 use crate::list::list;
@@ -27,7 +29,10 @@ use office_policy::{Allowed, Judgement};
 use office_store::{user_by_name, user_by_token};
 use office_tables::UserRow;
 use profile_text::digest;
-use review_policy::{Answer, Ask, Denial, Reply, Request, Rule, Word};
+use review_policy::{
+    Answer, Ask, Denial, ProfileName, ProfileView, Reply, Request, RevisionAct, RevisionView, Rule,
+    Word,
+};
 use sqlite::{Alter, Connection};
 use std::alloc::Global;
 
@@ -43,6 +48,64 @@ fn allowed(judged: Result<Allowed, Refusal>) -> Result<Judgement, Refusal>
     ensures { result ≡ allowed_of judged }
 {
     Ok(Judgement::Allowed(judged?))
+}
+
+// Judges an act on a revision.
+fn judge_act<S: Alter>(
+    alloc: Global,
+    conn: &mut Connection<S>,
+    caller: UserRow,
+    act: RevisionAct,
+    name: &ProfileName,
+    number: u32,
+) -> Result<Allowed, Refusal>
+    requires { IsIdle (state S.Store conn.old) }
+    ensures judged { JudgesChange (state S.Store conn.old) (state S.Store conn.new) result
+        caller (ask.ActOnRevision act name.now number) }
+    ensures asked { IfOk result (IsAskedBy (ask.ActOnRevision act name.now number)) }
+{
+    match act {
+        RevisionAct::Issue => judge_issue(alloc, conn, caller, name, number),
+        RevisionAct::Withdraw => judge_withdrawal(conn, caller, name, number),
+        RevisionAct::Adopt => judge_adoption(conn, caller, name, number),
+    }
+}
+
+// Shows what is asked for of a revision.
+fn see_revision<S: Alter>(
+    alloc: Global,
+    conn: &mut Connection<S>,
+    caller: &UserRow,
+    view: RevisionView,
+    name: &ProfileName,
+    number: u32,
+) -> Result<Reply, Refusal>
+    requires { IsIdle (state S.Store conn.old) }
+    ensures { JudgesRead (state S.Store conn.old) (state S.Store conn.new) result
+        caller.now (ask.SeeRevision view name.now number) }
+{
+    match view {
+        RevisionView::Show => show(alloc, conn, caller, name, number),
+        RevisionView::Sheet => sheet(alloc, conn, caller, name, number),
+    }
+}
+
+// Shows what is asked for of a profile.
+fn see_profile<S: Alter>(
+    alloc: Global,
+    conn: &mut Connection<S>,
+    caller: &UserRow,
+    view: ProfileView,
+    name: &ProfileName,
+) -> Result<Reply, Refusal>
+    requires { IsIdle (state S.Store conn.old) }
+    ensures { JudgesRead (state S.Store conn.old) (state S.Store conn.new) result
+        caller.now (ask.SeeProfile view name.now) }
+{
+    match view {
+        ProfileView::Fetch => fetch(alloc, conn, caller, name),
+        ProfileView::Issued => issued_now(conn, caller, name),
+    }
 }
 
 // Judges what a known caller asks, by its kind.
@@ -73,24 +136,23 @@ fn judge_for<S: Alter>(
             digest,
             approve,
         } => allowed(judge_vote(conn, caller, name, *revision, digest, *approve)),
-        Ask::Issue { name, revision } => {
-            allowed(judge_issue(alloc, conn, caller, name, *revision))
-        }
-        Ask::Withdraw { name, revision } => {
-            allowed(judge_withdrawal(conn, caller, name, *revision))
-        }
-        Ask::Adopt { name, revision } => allowed(judge_adoption(conn, caller, name, *revision)),
-        Ask::Show { name, revision } => answered(show(alloc, conn, &caller, name, *revision)),
-        Ask::Sheet { name, revision } => answered(sheet(alloc, conn, &caller, name, *revision)),
+        Ask::ActOnRevision {
+            act,
+            name,
+            revision,
+        } => allowed(judge_act(alloc, conn, caller, *act, name, *revision)),
+        Ask::SeeRevision {
+            view,
+            name,
+            revision,
+        } => answered(see_revision(alloc, conn, &caller, *view, name, *revision)),
         Ask::List { team } => answered(list(alloc, conn, &caller, team)),
-        Ask::Fetch { name } => answered(fetch(alloc, conn, &caller, name)),
-        Ask::Hold { name } => allowed(judge_hold(conn, caller, name)),
-        Ask::Release { name } => allowed(judge_release(conn, caller, name)),
+        Ask::ActOnProfile { act, name } => allowed(judge_hold(conn, caller, *act, name)),
+        Ask::SeeProfile { view, name } => answered(see_profile(alloc, conn, &caller, *view, name)),
         Ask::Me => answered(Ok(me(caller))),
         Ask::Revisions { name, before } => {
             answered(revisions(alloc, conn, &caller, name, *before))
         }
-        Ask::Issued { name } => answered(issued_now(conn, &caller, name)),
     }
 }
 

@@ -2,6 +2,7 @@
 
 ghost use Rattle.std.specs.Prelude.{◌≡◌, Some, IfOk, option_map};
 ghost use Rattle.sqlite.specs.Held.{state};
+ghost use Rattle.review_policy.specs.declared.act.RevisionView.TheVariants.{Sheet};
 ghost use Rattle.review_policy.specs.declared.ask.Ask.TheVariants as ask;
 ghost use Rattle.review_sheet.specs.Sheet.{sheet_text};
 ghost use Rattle.office_store.specs.Connections.{Reads};
@@ -107,7 +108,7 @@ pub(crate) fn sheet<S: Alter>(
 ) -> Result<Reply, Refusal>
     requires { IsIdle (state S.Store conn.old) }
     ensures { JudgesRead (state S.Store conn.old) (state S.Store conn.new) result
-        caller.now (ask.Sheet name.now number) }
+        caller.now (ask.SeeRevision Sheet name.now number) }
 {
     decide_read(&read_facts(caller, &name.team, false))?;
     let found = revision(alloc, conn, name, number)?;

@@ -2,6 +2,7 @@
 
 ghost use Rattle.std.specs.Prelude.{◌≡◌, Some};
 ghost use Rattle.sqlite.specs.Held.{state};
+ghost use Rattle.review_policy.specs.declared.act.RevisionView.TheVariants.{Show};
 ghost use Rattle.review_policy.specs.declared.ask.Ask.TheVariants as ask;
 ghost use Rattle.office_store.specs.Shown.{IsIdle};
 ghost use Rattle.office_judging.specs.Judged.{JudgesRead};
@@ -24,7 +25,7 @@ pub(crate) fn show<S: Alter>(
 ) -> Result<Reply, Refusal>
     requires { IsIdle (state S.Store conn.old) }
     ensures { JudgesRead (state S.Store conn.old) (state S.Store conn.new) result
-        caller.now (ask.Show name.now number) }
+        caller.now (ask.SeeRevision Show name.now number) }
 {
     decide_read(&read_facts(caller, &name.team, false))?;
     let found = revision(alloc, conn, name, number)?;

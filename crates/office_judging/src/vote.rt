@@ -83,6 +83,6 @@ pub(crate) fn judge_vote<S: Alter>(
     Ok(Allowed {
         caller,
         change,
-        reply: Reply::Voted,
+        reply: Reply::Nothing,
     })
 }

@@ -2,6 +2,7 @@
 
 ghost use Rattle.std.specs.Prelude.{◌≡◌, IfOk, Some, not, ◌||◌};
 ghost use Rattle.sqlite.specs.Held.{state};
+ghost use Rattle.review_policy.specs.declared.act.RevisionAct.TheVariants.{Withdraw};
 ghost use Rattle.review_policy.specs.declared.ask.Ask.TheVariants as ask;
 ghost use Rattle.review_policy.specs.declared.facts.TheConstants.WithdrawFacts.{PASSING};
 ghost use Rattle.office_store.specs.Shown.{IsIdle};
@@ -16,7 +17,7 @@ use crate::revisions::state_of;
 use office_policy::{Allowed, Change};
 use office_store::{Summary, summary_at};
 use office_tables::UserRow;
-use review_policy::{ProfileName, Reply, Role, WithdrawFacts, Word, decide_withdraw};
+use review_policy::{ProfileName, Reply, RevisionAct, Role, WithdrawFacts, Word, decide_withdraw};
 use sqlite::{Alter, Connection};
 
 // What the rules ask of a caller and a team.
@@ -54,19 +55,20 @@ pub(crate) fn judge_withdrawal<S: Alter>(
 ) -> Result<Allowed, Refusal>
     requires { IsIdle (state S.Store conn.old) }
     ensures judged { JudgesChange (state S.Store conn.old) (state S.Store conn.new) result
-        caller (ask.Withdraw name.now number) }
-    ensures asked { IfOk result (IsAskedBy (ask.Withdraw name.now number)) }
+        caller (ask.ActOnRevision Withdraw name.now number) }
+    ensures asked { IfOk result (IsAskedBy (ask.ActOnRevision Withdraw name.now number)) }
 {
     decide_withdraw(&facts_of_caller(&caller, &name.team))?;
     let found = summary_at(conn, name, number)?;
     decide_withdraw(&all_facts(&caller, &name.team, &found))?;
-    let change = Change::Withdraw {
+    let change = Change::ActOnRevision {
+        act: RevisionAct::Withdraw,
         name: name.clone()?,
         revision: number,
     };
     Ok(Allowed {
         caller,
         change,
-        reply: Reply::Withdrawn,
+        reply: Reply::Nothing,
     })
 }

@@ -1,5 +1,6 @@
 use Rattle.std.proofs.Common.{rules, ◌≡◌, ◌∙◌, None, refl, sym, ap, Some}
 use Rattle.sqlite.specs.Held.{state}
+use Rattle.review_policy.specs.declared.act.RevisionAct.TheVariants.{Adopt}
 use Rattle.review_policy.specs.declared.answer.Reply.TheVariants as reply
 use Rattle.review_policy.specs.Rules.{first_denial, adopt_rules}
 use Rattle.review_policy.specs.declared.fault.Fault.TheVariants.{NoMemory}
@@ -46,6 +47,6 @@ returns-clause-judged g c =
     (state g.S.Store c.args.conn.now) (state g.S.Store c.authored.new.conn)
     (c.in_ok-found.found, c.in_ok-found.is_author) c.in_ok-found.ensures
     (ap (λ f. first_denial (adopt_rules f)) (sym c.all_facts.ensures) ∙ sym c.in_ok-decide_adopt-2.ensures)
-    (changes.Adopt c.in_ok-clone.field-0 c.args.number) reply.Adopted
-    (λ h. ap (λ p. accepted reply.Adopted (Some (adopted c.args.caller.name p c.args.number))) (sym same))
+    (changes.ActOnRevision Adopt c.in_ok-clone.field-0 c.args.number) reply.Nothing
+    (λ h. ap (λ p. accepted reply.Nothing (Some (adopted c.args.caller.name p c.args.number))) (sym same))
     (λ h. tt)

@@ -1,6 +1,6 @@
 use Rattle.std.proofs.Common.{◌∙◌, Some, None, refl, sym, ap}
 use Rattle.sqlite.specs.Held.{state}
-use Rattle.review_policy.specs.declared.answer.Reply.TheVariants.{Enrolled}
+use Rattle.review_policy.specs.declared.answer.Reply.TheVariants.{Nothing}
 use Rattle.review_policy.specs.Rules.{first_denial, enrol_rules}
 use Rattle.review_policy.specs.declared.fault.Fault.TheVariants.{NoMemory}
 use Rattle.office_tables.specs.declared.row.UserRow.{UserRow}
@@ -42,12 +42,12 @@ returns-in_err-row_of-clause-judged g c =
 pub returns-clause-judged : goal.returns-clause-judged
 returns-clause-judged g c =
     found_after _ (state g.S.Store c.args.conn.now) (state g.S.Store c.users_of.new.conn) _
-    (c.in_ok-known.known, c.in_ok-known.shower) c.in_ok-known.ensures (record { caller = c.args.caller; change = changes.Enrol c.in_ok-row_of.field-0; reply = Enrolled })
+    (c.in_ok-known.known, c.in_ok-known.shower) c.in_ok-known.ensures (record { caller = c.args.caller; change = changes.Enrol c.in_ok-row_of.field-0; reply = Nothing })
     (λ h lawful is. record {
       caller = refl;
       verdict = accepts h c.args.caller c.args.user.now c.args.team.now c.args.roles c.args.digest.now
           (c.in_ok-known.known, c.in_ok-known.shower) (is h lawful refl)
           (ap (λ f. first_denial (enrol_rules f)) (sym c.all_facts.ensures) ∙ sym c.in_ok-decide_enrol-2.ensures)
-          ∙ ap (λ (u : UserRow). accepted Enrolled (Some (enrolled c.args.caller.name u.name u.team u.roles u.digest))) (sym c.in_ok-row_of.ensures);
+          ∙ ap (λ (u : UserRow). accepted Nothing (Some (enrolled c.args.caller.name u.name u.team u.roles u.digest))) (sym c.in_ok-row_of.ensures);
       next = tt;
     })

@@ -1,5 +1,6 @@
 use Rattle.std.proofs.Common.{rules, ◌≡◌, ◌∙◌, Some, None, sym, ap, refl}
 use Rattle.sqlite.specs.Held.{state}
+use Rattle.review_policy.specs.declared.act.RevisionAct.TheVariants.{Issue}
 use Rattle.review_policy.specs.declared.answer.Reply.TheVariants.{Issued}
 use Rattle.review_policy.specs.Rules.{first_denial, issue_rules}
 use Rattle.review_policy.specs.declared.fault.Fault.TheVariants.{NoMemory}
@@ -84,7 +85,7 @@ returns-clause-judged g c =
     let need = c.in_ok-need.need in
     let both = read_pair old mid new _ _ looked need c.in_ok-looked.ensures c.in_ok-need.ensures in
     found_after _ old new _ (looked, need) both
-    (record { caller = c.args.caller; change = changes.Issue c.in_ok-clone.field-0 c.args.number; reply = Issued c.in-Some.row.digest })
+    (record { caller = c.args.caller; change = changes.ActOnRevision Issue c.in_ok-clone.field-0 c.args.number; reply = Issued c.in-Some.row.digest })
     (λ h lawful looks. record {
       caller = refl;
       verdict = accepts h c.args.caller c.args.name.now c.args.number looked (looks.0 h lawful refl) c.in-Some.row c.in-Some.is

@@ -22,50 +22,30 @@ returns-in-Vote-clause-judged g c =
     changes (state g.S.Store c.args.conn.now) (state g.S.Store c.judge_vote.new.conn) c.args.caller (ask.Vote c.in-Vote.name c.in-Vote.revision c.in-Vote.digest c.in-Vote.approve) c.args.ask.now c.in-Vote.is
     c.judge_vote.result c.judge_vote.ensures.judged c.judge_vote.ensures.asked c.allowed-in-Vote.result c.allowed-in-Vote.ensures
 
-pub returns-in-Issue-clause-judged : goal.returns-in-Issue-clause-judged
-returns-in-Issue-clause-judged g c =
-    changes (state g.S.Store c.args.conn.now) (state g.S.Store c.judge_issue.new.conn) c.args.caller (ask.Issue c.in-Issue.name c.in-Issue.revision) c.args.ask.now c.in-Issue.is
-    c.judge_issue.result c.judge_issue.ensures.judged c.judge_issue.ensures.asked c.allowed-in-Issue.result c.allowed-in-Issue.ensures
+pub returns-in-ActOnRevision-clause-judged : goal.returns-in-ActOnRevision-clause-judged
+returns-in-ActOnRevision-clause-judged g c =
+    changes (state g.S.Store c.args.conn.now) (state g.S.Store c.judge_act.new.conn) c.args.caller (ask.ActOnRevision c.in-ActOnRevision.act c.in-ActOnRevision.name c.in-ActOnRevision.revision) c.args.ask.now c.in-ActOnRevision.is
+    c.judge_act.result c.judge_act.ensures.judged c.judge_act.ensures.asked c.allowed-in-ActOnRevision.result c.allowed-in-ActOnRevision.ensures
 
-pub returns-in-Withdraw-clause-judged : goal.returns-in-Withdraw-clause-judged
-returns-in-Withdraw-clause-judged g c =
-    changes (state g.S.Store c.args.conn.now) (state g.S.Store c.judge_withdrawal.new.conn) c.args.caller (ask.Withdraw c.in-Withdraw.name c.in-Withdraw.revision) c.args.ask.now c.in-Withdraw.is
-    c.judge_withdrawal.result c.judge_withdrawal.ensures.judged c.judge_withdrawal.ensures.asked c.allowed-in-Withdraw.result c.allowed-in-Withdraw.ensures
+pub returns-in-ActOnProfile-clause-judged : goal.returns-in-ActOnProfile-clause-judged
+returns-in-ActOnProfile-clause-judged g c =
+    changes (state g.S.Store c.args.conn.now) (state g.S.Store c.judge_hold.new.conn) c.args.caller (ask.ActOnProfile c.in-ActOnProfile.act c.in-ActOnProfile.name) c.args.ask.now c.in-ActOnProfile.is
+    c.judge_hold.result c.judge_hold.ensures.judged c.judge_hold.ensures.asked c.allowed-in-ActOnProfile.result c.allowed-in-ActOnProfile.ensures
 
-pub returns-in-Adopt-clause-judged : goal.returns-in-Adopt-clause-judged
-returns-in-Adopt-clause-judged g c =
-    changes (state g.S.Store c.args.conn.now) (state g.S.Store c.judge_adoption.new.conn) c.args.caller (ask.Adopt c.in-Adopt.name c.in-Adopt.revision) c.args.ask.now c.in-Adopt.is
-    c.judge_adoption.result c.judge_adoption.ensures.judged c.judge_adoption.ensures.asked c.allowed-in-Adopt.result c.allowed-in-Adopt.ensures
-
-pub returns-in-Hold-clause-judged : goal.returns-in-Hold-clause-judged
-returns-in-Hold-clause-judged g c =
-    changes (state g.S.Store c.args.conn.now) (state g.S.Store c.judge_hold.new.conn) c.args.caller (ask.Hold c.in-Hold.name) c.args.ask.now c.in-Hold.is
-    c.judge_hold.result c.judge_hold.ensures.judged c.judge_hold.ensures.asked c.allowed-in-Hold.result c.allowed-in-Hold.ensures
-
-pub returns-in-Release-clause-judged : goal.returns-in-Release-clause-judged
-returns-in-Release-clause-judged g c =
-    changes (state g.S.Store c.args.conn.now) (state g.S.Store c.judge_release.new.conn) c.args.caller (ask.Release c.in-Release.name) c.args.ask.now c.in-Release.is
-    c.judge_release.result c.judge_release.ensures.judged c.judge_release.ensures.asked c.allowed-in-Release.result c.allowed-in-Release.ensures
-
-pub returns-in-Show-clause-judged : goal.returns-in-Show-clause-judged
-returns-in-Show-clause-judged g c =
-    reads (state g.S.Store c.args.conn.now) (state g.S.Store c.show.new.conn) c.args.caller (ask.Show c.in-Show.name c.in-Show.revision) c.args.ask.now c.in-Show.is
-    c.show.result c.show.ensures c.answered.result c.answered.ensures
-
-pub returns-in-Sheet-clause-judged : goal.returns-in-Sheet-clause-judged
-returns-in-Sheet-clause-judged g c =
-    reads (state g.S.Store c.args.conn.now) (state g.S.Store c.sheet.new.conn) c.args.caller (ask.Sheet c.in-Sheet.name c.in-Sheet.revision) c.args.ask.now c.in-Sheet.is
-    c.sheet.result c.sheet.ensures c.answered-in-Sheet.result c.answered-in-Sheet.ensures
+pub returns-in-SeeRevision-clause-judged : goal.returns-in-SeeRevision-clause-judged
+returns-in-SeeRevision-clause-judged g c =
+    reads (state g.S.Store c.args.conn.now) (state g.S.Store c.see_revision.new.conn) c.args.caller (ask.SeeRevision c.in-SeeRevision.view c.in-SeeRevision.name c.in-SeeRevision.revision) c.args.ask.now c.in-SeeRevision.is
+    c.see_revision.result c.see_revision.ensures c.answered.result c.answered.ensures
 
 pub returns-in-List-clause-judged : goal.returns-in-List-clause-judged
 returns-in-List-clause-judged g c =
     reads (state g.S.Store c.args.conn.now) (state g.S.Store c.list.new.conn) c.args.caller (ask.List c.in-List.team) c.args.ask.now c.in-List.is
     c.list.result c.list.ensures c.answered-in-List.result c.answered-in-List.ensures
 
-pub returns-in-Fetch-clause-judged : goal.returns-in-Fetch-clause-judged
-returns-in-Fetch-clause-judged g c =
-    reads (state g.S.Store c.args.conn.now) (state g.S.Store c.fetch.new.conn) c.args.caller (ask.Fetch c.in-Fetch.name) c.args.ask.now c.in-Fetch.is
-    c.fetch.result c.fetch.ensures c.answered-in-Fetch.result c.answered-in-Fetch.ensures
+pub returns-in-SeeProfile-clause-judged : goal.returns-in-SeeProfile-clause-judged
+returns-in-SeeProfile-clause-judged g c =
+    reads (state g.S.Store c.args.conn.now) (state g.S.Store c.see_profile.new.conn) c.args.caller (ask.SeeProfile c.in-SeeProfile.view c.in-SeeProfile.name) c.args.ask.now c.in-SeeProfile.is
+    c.see_profile.result c.see_profile.ensures c.answered-in-SeeProfile.result c.answered-in-SeeProfile.ensures
 
 pub returns-in-Me-clause-judged : goal.returns-in-Me-clause-judged
 returns-in-Me-clause-judged g c =
@@ -79,11 +59,6 @@ returns-in-Revisions-clause-judged g c =
     reads (state g.S.Store c.args.conn.now) (state g.S.Store c.revisions.new.conn) c.args.caller (ask.Revisions c.in-Revisions.name c.in-Revisions.before) c.args.ask.now c.in-Revisions.is
     c.revisions.result c.revisions.ensures c.answered-in-Revisions.result c.answered-in-Revisions.ensures
 
-pub returns-in-Issued-clause-judged : goal.returns-in-Issued-clause-judged
-returns-in-Issued-clause-judged g c =
-    reads (state g.S.Store c.args.conn.now) (state g.S.Store c.issued_now.new.conn) c.args.caller (ask.Issued c.in-Issued.name) c.args.ask.now c.in-Issued.is
-    c.issued_now.result c.issued_now.ensures c.answered-in-Issued.result c.answered-in-Issued.ensures
-
 pub returns-in-Submit-clause-reads : goal.returns-in-Submit-clause-reads
 returns-in-Submit-clause-reads g c = answers_none c.args.ask.now c.judge_submission.result c.allowed-in-Submit.result c.allowed-in-Submit.ensures
 
@@ -93,38 +68,23 @@ returns-in-Enrol-clause-reads g c = answers_none c.args.ask.now c.judge_enrolmen
 pub returns-in-Vote-clause-reads : goal.returns-in-Vote-clause-reads
 returns-in-Vote-clause-reads g c = answers_none c.args.ask.now c.judge_vote.result c.allowed-in-Vote.result c.allowed-in-Vote.ensures
 
-pub returns-in-Issue-clause-reads : goal.returns-in-Issue-clause-reads
-returns-in-Issue-clause-reads g c = answers_none c.args.ask.now c.judge_issue.result c.allowed-in-Issue.result c.allowed-in-Issue.ensures
+pub returns-in-ActOnRevision-clause-reads : goal.returns-in-ActOnRevision-clause-reads
+returns-in-ActOnRevision-clause-reads g c = answers_none c.args.ask.now c.judge_act.result c.allowed-in-ActOnRevision.result c.allowed-in-ActOnRevision.ensures
 
-pub returns-in-Withdraw-clause-reads : goal.returns-in-Withdraw-clause-reads
-returns-in-Withdraw-clause-reads g c = answers_none c.args.ask.now c.judge_withdrawal.result c.allowed-in-Withdraw.result c.allowed-in-Withdraw.ensures
+pub returns-in-ActOnProfile-clause-reads : goal.returns-in-ActOnProfile-clause-reads
+returns-in-ActOnProfile-clause-reads g c = answers_none c.args.ask.now c.judge_hold.result c.allowed-in-ActOnProfile.result c.allowed-in-ActOnProfile.ensures
 
-pub returns-in-Adopt-clause-reads : goal.returns-in-Adopt-clause-reads
-returns-in-Adopt-clause-reads g c = answers_none c.args.ask.now c.judge_adoption.result c.allowed-in-Adopt.result c.allowed-in-Adopt.ensures
-
-pub returns-in-Hold-clause-reads : goal.returns-in-Hold-clause-reads
-returns-in-Hold-clause-reads g c = answers_none c.args.ask.now c.judge_hold.result c.allowed-in-Hold.result c.allowed-in-Hold.ensures
-
-pub returns-in-Release-clause-reads : goal.returns-in-Release-clause-reads
-returns-in-Release-clause-reads g c = answers_none c.args.ask.now c.judge_release.result c.allowed-in-Release.result c.allowed-in-Release.ensures
-
-pub returns-in-Show-clause-reads : goal.returns-in-Show-clause-reads
-returns-in-Show-clause-reads g c = answers_reads c.args.ask.now (ap only_reads c.in-Show.is) c.show.result c.answered.result c.answered.ensures
-
-pub returns-in-Sheet-clause-reads : goal.returns-in-Sheet-clause-reads
-returns-in-Sheet-clause-reads g c = answers_reads c.args.ask.now (ap only_reads c.in-Sheet.is) c.sheet.result c.answered-in-Sheet.result c.answered-in-Sheet.ensures
+pub returns-in-SeeRevision-clause-reads : goal.returns-in-SeeRevision-clause-reads
+returns-in-SeeRevision-clause-reads g c = answers_reads c.args.ask.now (ap only_reads c.in-SeeRevision.is) c.see_revision.result c.answered.result c.answered.ensures
 
 pub returns-in-List-clause-reads : goal.returns-in-List-clause-reads
 returns-in-List-clause-reads g c = answers_reads c.args.ask.now (ap only_reads c.in-List.is) c.list.result c.answered-in-List.result c.answered-in-List.ensures
 
-pub returns-in-Fetch-clause-reads : goal.returns-in-Fetch-clause-reads
-returns-in-Fetch-clause-reads g c = answers_reads c.args.ask.now (ap only_reads c.in-Fetch.is) c.fetch.result c.answered-in-Fetch.result c.answered-in-Fetch.ensures
+pub returns-in-SeeProfile-clause-reads : goal.returns-in-SeeProfile-clause-reads
+returns-in-SeeProfile-clause-reads g c = answers_reads c.args.ask.now (ap only_reads c.in-SeeProfile.is) c.see_profile.result c.answered-in-SeeProfile.result c.answered-in-SeeProfile.ensures
 
 pub returns-in-Me-clause-reads : goal.returns-in-Me-clause-reads
 returns-in-Me-clause-reads g c = answers_reads c.args.ask.now (ap only_reads c.in-Me.is) (Ok c.me.result) c.answered-in-Me.result c.answered-in-Me.ensures
 
 pub returns-in-Revisions-clause-reads : goal.returns-in-Revisions-clause-reads
 returns-in-Revisions-clause-reads g c = answers_reads c.args.ask.now (ap only_reads c.in-Revisions.is) c.revisions.result c.answered-in-Revisions.result c.answered-in-Revisions.ensures
-
-pub returns-in-Issued-clause-reads : goal.returns-in-Issued-clause-reads
-returns-in-Issued-clause-reads g c = answers_reads c.args.ask.now (ap only_reads c.in-Issued.is) c.issued_now.result c.answered-in-Issued.result c.answered-in-Issued.ensures

@@ -46,6 +46,6 @@ returns-clause-judged g c =
     (state g.S.Store c.args.conn.now) (state g.S.Store c.authored.new.conn)
     (c.in_ok-found.found, c.in_ok-found.is_author) c.in_ok-found.ensures
     (ap (λ f. first_denial (vote_rules f)) (sym c.all_facts.ensures) ∙ sym c.in_ok-decide_vote-2.ensures)
-    (changes.Vote c.in_ok-clone.field-0 c.args.number c.args.digest.now c.args.approves) reply.Voted
-    (λ h. ap (λ p. accepted reply.Voted (Some (voted c.args.caller.name p c.args.number c.args.digest.now c.args.approves))) (sym same))
+    (changes.Vote c.in_ok-clone.field-0 c.args.number c.args.digest.now c.args.approves) reply.Nothing
+    (λ h. ap (λ p. accepted reply.Nothing (Some (voted c.args.caller.name p c.args.number c.args.digest.now c.args.approves))) (sym same))
     (λ h. tt)

@@ -1,5 +1,6 @@
 use Rattle.std.proofs.Common.{rules, ◌≡◌, ◌∙◌, None, refl, sym, ap, Some}
 use Rattle.sqlite.specs.Held.{state}
+use Rattle.review_policy.specs.declared.act.RevisionAct.TheVariants.{Withdraw}
 use Rattle.review_policy.specs.declared.answer.Reply.TheVariants as reply
 use Rattle.review_policy.specs.Rules.{first_denial, withdraw_rules}
 use Rattle.review_policy.specs.declared.fault.Fault.TheVariants.{NoMemory}
@@ -51,6 +52,6 @@ returns-clause-judged g c =
     allows (withdrawing c.args.caller c.args.name.now c.args.number) old mid found
     (one_summary old mid c.args.name.now c.args.number found c.in_ok-found.ensures.read)
     (ap (λ f. first_denial (withdraw_rules f)) (sym c.all_facts.ensures) ∙ sym c.in_ok-decide_withdraw-2.ensures)
-    (changes.Withdraw c.in_ok-clone.field-0 c.args.number) reply.Withdrawn
-    (λ h. ap (λ p. accepted reply.Withdrawn (Some (withdrawn c.args.caller.name p c.args.number))) (sym same))
+    (changes.ActOnRevision Withdraw c.in_ok-clone.field-0 c.args.number) reply.Nothing
+    (λ h. ap (λ p. accepted reply.Nothing (Some (withdrawn c.args.caller.name p c.args.number))) (sym same))
     (λ h. tt)
